@@ -1,29 +1,29 @@
-# make try:     runs the first script at once, without proving anything
-# make run:     proves the program and all that it stands on, its libraries side by side (prove.py), builds it, and runs the
-#               first script
-# make checker: the same of thpcheck, which checks journals of any length; make drawer: of thpdraw, which draws them
-# make install: puts the proved programs and thpwhatif, their manual pages and completions below PREFIX (default /usr/local;
-#               DESTDIR as usual); make uninstall takes them away
-# make deb:     the Debian packages of the proved programs with thpwhatif, and of the library for C, into DEBS (default out; wants
-#               dpkg-dev, debhelper)
-# make test:    every check (proofs from nothing, the must-fail edits in crates/NAME/must-fail, tests, stored runs, examples,
-#               documents); ends in 'N passed, M failed'. What a machine lacks is named and counted neither way, or as failed
-#               with STRICT=1
-# make outside: examples and documents alone; PROGRAM=path: by that program, and all that is asked of it from outside:
-#               each status and stream, large inputs, and wrong programs, which are refused
-# make fuzz:    random scripts, journals and words on the built program and on a plain reading of the model in Python:
+# make try:     builds thpsplit without proofs and runs the first script (SCRIPT=file: another)
+# make run:     proves thpsplit and every library below it, several at a time (prove.py), builds it, and runs the first script
+# make checker: the same for thpcheck, which checks journals of any length; make drawer: for thpdraw, which draws them
+# make install: proves and installs the programs, the tools for the running kernel (thpreplay, thprecord, thpwhatif), manual
+#               pages and completions, below PREFIX (default /usr/local; DESTDIR as usual); SYSTEMD=1 also installs
+#               thpwhatif.service and thpwhatif.timer. make uninstall removes them all
+# make deb:     Debian packages of these and of the library for C, in DEBS (default: out); needs dpkg-dev and debhelper
+# make test:    every check: proofs from scratch, the must-fail edits in crates/NAME/must-fail, tests, stored runs, examples,
+#               documents; ends in 'N passed, M failed'. A check whose tool is missing is named and not counted; STRICT=1
+#               counts it as failed
+# make outside: examples and documents only; with PROGRAM=path that program's statuses and outputs, large inputs, and wrong
+#               programs, which the tests must detect
+# make fuzz:    random scripts, journals and words: the program against a second implementation of the model in Python;
 #               CASES=n SEED=s; ends in a table of what was covered
-# make memory:  each growth of memory and each start of a thread refused in turn (wants Python 3 and a C compiler)
-# make c:       proves and builds the library for C and for Rust (docs/C.md) and tests it; PROGRAM=path: on CASES random
-#               scripts against that program, too
-# make edits:   all must-fail edits: the wrong bodies in tests/edits, and those in crates/NAME/must-fail, which make test tries
-#               as well. The prover must refuse each at a clause; ends in a count of each kind. CRATES=names: of these only
-# make linux:   random scripts on the running kernel and on the built program: CASES=n SEED=s PROGRAM=path (wants root;
-#               status 77 where this machine can't compare anything)
-# make root-tests: attacks on the tools that run as root, and what they leave after any end (wants root, some 10 minutes)
-# make bench:   times on large scripts, beside plain Rust, and of single calls (docs/PROOFS.md has the figures)
+# make memory:  makes each allocation and each start of a thread fail in turn (needs a C compiler)
+# make c:       proves, builds and tests the library for C and Rust (docs/C.md); with PROGRAM=path also on CASES random
+#               scripts against that program
+# make edits:   all must-fail edits, in tests/edits and in crates/NAME/must-fail. The prover must refuse each at a clause; ends
+#               in a count of each kind. CRATES=names: only of these crates
+# make believe: counts the definitions and lines below the contracts that docs/PROVED.md names
+# make linux:   random scripts on the running kernel and on the program: CASES=n SEED=s PROGRAM=path (needs root; status 77
+#               if this machine can compare nothing)
+# make root-tests: attacks on the tools that run as root, and what these leave after any end (needs root; about 10 minutes)
+# make bench:   times on large scripts, beside plain Rust, and of single calls (docs/PERFORMANCE.md has the figures)
 # make help:    these lines
-# How long each takes: README.md, "First minutes".
+# README.md, "Commands", has the time that each takes.
 PREFIX ?= /usr/local
 PROGRAM = crates/thpsplit/out/thpsplit
 CHECKER = crates/thpcheck/out/thpcheck
@@ -34,12 +34,12 @@ DEBS ?= out
 CASES ?= 2000
 SEED ?= 1
 
-.PHONY: help try run checker drawer install put put-whatif uninstall deb test outside toolchain fuzz memory c edits linux root-tests bench
+.PHONY: help try run checker drawer install put put-tools uninstall deb test outside toolchain fuzz memory c edits believe linux root-tests bench
 
 help:
 	@sed -n '/^[^#]/q; s/^# //p' Makefile
 
-# tells by a line where another toolchain is installed than everything was proved with
+# reports if the installed toolchain is not the one that everything was proved with
 toolchain:
 	@python3 tests/docs.py toolchain
 
@@ -50,17 +50,17 @@ run: toolchain
 	@python3 prove.py thpsplit
 	@cd crates/thpsplit && rt run < ../../$(SCRIPT)
 
-# the second program, for journals of any length: proved and built, and run on an example
+# the second program, for journals of any length: proves it, builds it, and runs it on an example
 checker: toolchain
 	@python3 prove.py thpcheck
 	@cd crates/thpcheck && rt run < ../../examples/two_workers.journal
 
-# the third one, which draws such journals: proved and built, and the table of an example
+# the third one, which draws such journals: proves it, builds it, and prints the table of an example
 drawer: toolchain
 	@python3 prove.py thpdraw
 	@cd crates/thpdraw && rt run -- --table < ../../examples/two_workers.journal
 
-# what is installed: its place below the prefix, and the file
+# what is installed: the path below the prefix, and the file
 INSTALLED = bin/thpsplit=$(PROGRAM) share/man/man1/thpsplit.1=docs/thpsplit.1 share/man/man5/thpsplit.5=docs/thpsplit.5 \
 	share/bash-completion/completions/thpsplit=completions/thpsplit.bash \
 	share/zsh/site-functions/_thpsplit=completions/_thpsplit \
@@ -74,9 +74,9 @@ INSTALLED = bin/thpsplit=$(PROGRAM) share/man/man1/thpsplit.1=docs/thpsplit.1 sh
 	share/zsh/site-functions/_thpdraw=completions/_thpdraw \
 	share/fish/vendor_completions.d/thpdraw.fish=completions/thpdraw.fish
 
-install: run checker drawer put put-whatif
+install: run checker drawer put put-tools
 
-# puts the files into place, as they are
+# installs the files as they are
 put:
 	@for pair in $(INSTALLED); do \
 		case $$pair in bin/*) mode=755 ;; *) mode=644 ;; esac; \
@@ -84,16 +84,17 @@ put:
 		echo "$(DESTDIR)$(PREFIX)/$${pair%%=*}" || exit 1; \
 	done
 
-# thpwhatif beside it; its helper is compiled
-put-whatif:
+# installs the tools for the running kernel, and compiles their helpers
+TOOLS = thpreplay thprecord thpwhatif
+put-tools:
 	@if command -v $(CC) > /dev/null; then \
-		$(MAKE) --no-print-directory -s -C linux/whatif install PREFIX="$(PREFIX)" DESTDIR="$(abspath $(DESTDIR))" && \
-		echo "$(abspath $(DESTDIR))$(PREFIX)/bin/thpwhatif"; \
-	else echo "thpwhatif isn't installed: no C compiler ($(CC))"; fi
+		$(MAKE) --no-print-directory -s -C linux install PREFIX="$(PREFIX)" DESTDIR="$(abspath $(DESTDIR))" && \
+		for tool in $(TOOLS); do echo "$(abspath $(DESTDIR))$(PREFIX)/bin/$$tool"; done; \
+	else echo "$(TOOLS) aren't installed: no C compiler ($(CC))"; fi
 
 uninstall:
 	@for pair in $(INSTALLED); do rm -f "$(DESTDIR)$(PREFIX)/$${pair%%=*}"; done
-	@$(MAKE) --no-print-directory -s -C linux/whatif uninstall PREFIX="$(PREFIX)" DESTDIR="$(abspath $(DESTDIR))"
+	@$(MAKE) --no-print-directory -s -C linux uninstall PREFIX="$(PREFIX)" DESTDIR="$(abspath $(DESTDIR))"
 
 deb: run checker drawer $(ARCHIVE)
 	@python3 debian/build.py $(PROGRAM) $(CHECKER) $(DRAWER) $(ARCHIVE) $(DEBS)
@@ -101,7 +102,7 @@ deb: run checker drawer $(ARCHIVE)
 test: toolchain
 	@python3 tests/gate.py
 
-# PROGRAM on the command line names any program; without it the code as it stands is built by `rt try`
+# PROGRAM on the command line names any program; without it `rt try` builds the code as it is
 GIVEN = $(if $(filter command% environment%,$(origin PROGRAM)),$(PROGRAM))
 
 outside:
@@ -134,7 +135,7 @@ $(ARCHIVE):
 	@python3 prove.py thp_c
 	@cd crates/thp_c && rt lib
 
-# always anew: `rt lib` knows what has changed
+# always run: `rt lib` knows what has changed
 .PHONY: $(ARCHIVE)
 
 c: toolchain $(ARCHIVE)
@@ -142,6 +143,9 @@ c: toolchain $(ARCHIVE)
 
 edits:
 	@bash tests/edits/run $(CRATES)
+
+believe:
+	@python3 tests/believe.py
 
 linux:
 	@python3 -m linux.replay --program $(PROGRAM) --random $(CASES) --seed $(SEED) --quiet

@@ -1,14 +1,16 @@
 #!/usr/bin/env python3
-"""Proves the libraries that a crate stands on side by side, each once those that it uses stand.
+"""Proves the libraries that a crate depends on, several at a time, each after those that it uses.
 
     prove.py CRATE
 
-`rt` proves one library after the other, and lets no second run into a crate or into those below it. So each library is
-proved by `rt lib` in a folder of its own, with those that it uses beside it as they were built; what it made then goes into
-the tree, where the next `rt` finds it. At each time the library with the most work behind it gets as many processes as `rt`
-chooses; others fill what it leaves. What stands already is left as it is: `rt` itself judges that in the end.
+`rt` proves one library after the other, and allows only one run in a crate and the crates below it. This program therefore
+runs `rt lib` for each library in a folder of its own, with the built libraries that it uses next to it, and then moves the
+result to the tree, where the next `rt` finds it. The library with the longest chain of remaining work gets as many processes
+as `rt` chooses; other libraries use the rest of the machine. Libraries that are already proved are left alone: `rt` itself
+checks them at the end.
 
-On standard error a line for each library. The status is 1 where one isn't proved, and then what `rt` said of it is shown.
+Writes a line for each library on standard error. The status is 1 if a library is not proved, and then the output of its `rt`
+is shown.
 """
 
 from __future__ import annotations
@@ -32,15 +34,15 @@ PARTS = ("src", "specs", "proofs")
 """The folders of a crate that a proof reads."""
 
 AT_ONCE, EACH = 4, 4
-"""The most that are proved side by side, and the free memory in GiB that each is to find."""
+"""The greatest number of concurrent proofs, and the free memory in GiB that each needs."""
 
 ENDING = threading.Event()
-"""That the run comes to an end, since a library isn't proved."""
+"""Set when the run must end because a library is not proved."""
 
 
 @cache
 def listed() -> dict[str, tuple[str, list[str]]]:
-    """Each crate of crates.txt: its line, and those of the tree that it uses."""
+    """Each crate of crates.txt: its line, and the crates of the tree that it uses."""
     lines = [line for line in (ROOT / "crates.txt").read_text().splitlines() if re.match(r"\w", line)]
     named = {line.split(":")[0].split()[0]: line for line in lines}
     return {name: (line, [it for it in line.split(":")[1].split() if it in named]) for name, line in named.items()}
@@ -48,18 +50,19 @@ def listed() -> dict[str, tuple[str, list[str]]]:
 
 @cache
 def below(name: str) -> tuple[str, ...]:
-    """The libraries of the tree that a crate stands on, each behind those that it uses."""
+    """The libraries of the tree that a crate depends on, each after those that it uses."""
     found = [at for it in listed()[name][1] for at in (*below(it), it)]
     return tuple(dict.fromkeys(found))
 
 
 def files(name: str) -> list[Path]:
-    """What the proof of a crate reads of it."""
+    """The files of a crate that its proof reads."""
     return [it for part in PARTS for it in (CRATES / name / part).rglob("*") if it.is_file()]
 
 
-def works_behind(target: str) -> dict[str, int]:
-    """For each library below the crate how many lines have to be proved one after the other from it on, itself with them."""
+def works_after(target: str) -> dict[str, int]:
+    """For each library below the crate, the number of lines that must be proved one after the other from it on, itself
+    included."""
     behind: dict[str, int] = {}
     for name in reversed(below(target)):
         above = [behind[it] for it in below(target) if name in listed()[it][1]]
@@ -68,7 +71,7 @@ def works_behind(target: str) -> dict[str, int]:
 
 
 def stands(name: str) -> bool:
-    """Whether a library was built after all that it is made from was last written."""
+    """Whether a library was built after its last source was written."""
     stamps = [CRATES / it / "out/rlib/stamp" for it in (name, *listed()[name][1])]
     if not all(it.is_file() for it in stamps):
         return False
@@ -78,7 +81,7 @@ def stands(name: str) -> bool:
 
 
 def link(one: str, other: str) -> None:
-    """Gives a built file a second name, or copies it where that can't be. `rt` never writes into such a file."""
+    """Links a built file to a second name, or copies it if that is not possible. `rt` never writes to such a file."""
     try:
         os.link(one, other)
     except OSError:
@@ -86,7 +89,7 @@ def link(one: str, other: str) -> None:
 
 
 def set_up(room: Path, name: str) -> None:
-    """Lays a tree of the library and of those below it, which are built."""
+    """Creates a tree of the library and the built libraries below it."""
     (room / "crates.txt").write_text("".join(f"{listed()[it][0]}\n" for it in (*below(name), name)))
     for it in (*below(name), name):
         for part in PARTS:
@@ -97,7 +100,7 @@ def set_up(room: Path, name: str) -> None:
 
 
 def hand_in(made: Path, name: str) -> None:
-    """Puts what a proof left into the tree, while no other `rt` works in the crate: each locks the crate's folder."""
+    """Moves the result of a proof to the tree while no other `rt` runs in the crate: each locks the crate's folder."""
     out = CRATES / name / "out"
     folder = os.open(CRATES / name, os.O_RDONLY)
     try:
@@ -107,7 +110,7 @@ def hand_in(made: Path, name: str) -> None:
             if (made / part).is_dir():
                 shutil.rmtree(out / part, ignore_errors=True)
                 shutil.move(made / part, out / part)
-        # written anew, so that it is younger than the sources: `rt` may have taken the file from another checkout
+        # written again, so that it is younger than the sources: `rt` may have taken the file from another checkout
         stamp = out / "rlib/stamp"
         text = stamp.read_text()
         stamp.unlink()
@@ -117,7 +120,7 @@ def hand_in(made: Path, name: str) -> None:
 
 
 def prove(name: str, is_first: bool, started: list[subprocess.Popen[str]]) -> str | None:
-    """Proves a library, and answers what `rt` said where it isn't proved."""
+    """Proves a library, and returns the output of `rt` if it is not proved."""
     began = time.monotonic()
     with tempfile.TemporaryDirectory(prefix="thp-prove-") as top:
         set_up(Path(top), name)
@@ -137,19 +140,19 @@ def prove(name: str, is_first: bool, started: list[subprocess.Popen[str]]) -> st
 
 
 def lanes() -> int:
-    """How many libraries are proved side by side here."""
+    """The number of libraries to prove concurrently on this machine."""
     found = re.search(r"MemAvailable:\s+(\d+)", Path("/proc/meminfo").read_text())
     free = int(found[1]) >> 20 if found else EACH
     return max(1, min(AT_ONCE, len(os.sched_getaffinity(0)), free // EACH))
 
 
 def prove_all(target: str, most: int, started: list[subprocess.Popen[str]]) -> bool:
-    """Proves what doesn't stand below a crate, and tells whether all of it is proved."""
+    """Proves the unproved libraries below a crate, and returns whether all are proved."""
     left: list[str] = []
     for name in below(target):
         if not stands(name) or {*left} & {*listed()[name][1]}:
             left.append(name)
-    behind = works_behind(target)
+    behind = works_after(target)
     left.sort(key=lambda it: -behind[it])
     running: dict[Future[str | None], str] = {}
     with ThreadPoolExecutor(most) as pool:
@@ -170,7 +173,7 @@ def prove_all(target: str, most: int, started: list[subprocess.Popen[str]]) -> b
 
 
 def end(started: list[subprocess.Popen[str]]) -> None:
-    """Ends what is still running."""
+    """Ends the processes that are still running."""
     ENDING.set()
     for it in started:
         if it.poll() is None:

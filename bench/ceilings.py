@@ -5,8 +5,8 @@
 
 Scripts of bench/generate.py (700,000 bytes, 16 blocks; `clash` with 4,096) of each kind, by each report, and the check of the
 journal that the program writes. Instructions are counted by `valgrind --tool=callgrind`, the whole program's; memory is the
-greatest resident size that the kernel tells of it (wait4), by a script of 4,200,000 bytes. A command of `clash` is also held to
-1.1 of the instructions of one of `middle`. `--store` writes bench/ceilings.json anew. The last line is `N passed, M failed`;
+greatest resident size that the kernel reports of it (wait4), by a script of 4,200,000 bytes. A command of `clash` is also held to
+1.1 of the instructions of one of `middle`. `--store` writes a new bench/ceilings.json. The last line is `N passed, M failed`;
 status 1 where something takes more. `--kinds` looks at scripts of these kinds alone; the gate does so with three. Without
 valgrind the instructions are named as skipped, and counted neither way.
 """
@@ -32,8 +32,10 @@ STORED = ROOT / "bench/ceilings.json"
 BLOCKS = {"churn": 16, "middle": 16, "maps": 16, "counts": 16, "clash": 4096}
 """The kinds of scripts, and how many blocks a node has. Pages clash in numbers: with few of them nothing would show."""
 
-WAYS: dict[str, list[str]] = {"totals": [], "answers": ["--report", "answers"], "journal": ["--report", "journal"], "check": ["--check"]}
-"""What the program is asked for, and by which words. The check reads what `journal` wrote."""
+WAYS: dict[str, list[str]] = {
+    "totals": [], "answers": ["--report", "answers"], "journal": ["--report", "journal"], "check": ["--check"],
+}
+"""The options of each run. The check reads the output of `journal`."""
 
 COUNTED, HELD = 700_000, 4_200_000
 """Bytes of a script whose instructions are counted, and of one whose memory is looked at."""
@@ -78,7 +80,7 @@ def memory(words: list[str], given: Path) -> float:
     return float(usage.ru_maxrss) / 1024
 
 
-def measured(program: str, folder: Path, kind: str, way: str) -> dict[str, float]:
+def measure(program: str, folder: Path, kind: str, way: str) -> dict[str, float]:
     """What one run takes; without valgrind its memory alone."""
     words = [program, *([] if way == "check" else ["--blocks", str(BLOCKS[kind])]), *WAYS[way]]
     figures: dict[str, float] = {}
@@ -91,12 +93,12 @@ def measured(program: str, folder: Path, kind: str, way: str) -> dict[str, float
 
 
 def least_memory() -> float:
-    """The memory that the kernel reports of a run that takes almost none, in MiB: a child counts as large as its parent was at the start."""
+    """The memory, in MiB, that the kernel reports of a run that takes almost none: a child counts as large as its parent was."""
     return memory(["true"], Path(os.devnull))
 
 
-def compared(name: str, took: dict[str, float], stored: dict[str, float], tally: Tally) -> None:
-    """Counts each figure of a run against the stored one, of memory against the least that the kernel reports here, if that is more."""
+def compare(name: str, took: dict[str, float], stored: dict[str, float], tally: Tally) -> None:
+    """Compares each figure of a run with the stored one; memory with the least that the kernel reports here, if that is more."""
     for what, before in stored.items():
         if what.startswith("memory"):
             before = max(before, round(least_memory(), 1))
@@ -139,8 +141,8 @@ def main() -> None:
     """Looks at the program of the command line."""
     parser = argparse.ArgumentParser(description="compares what a built program takes with what is stored")
     parser.add_argument("program")
-    parser.add_argument("--store", action="store_true", help="write what it takes in place of what is stored")
-    parser.add_argument("--kinds", type=kinds_in, default=list(BLOCKS), help="the kinds of scripts, joined by commas (default: all)")
+    parser.add_argument("--store", action="store_true", help="store what it takes as the new figures")
+    parser.add_argument("--kinds", type=kinds_in, default=list(BLOCKS), help="kinds of scripts, joined by commas (default: all)")
     asked = parser.parse_args()
     if asked.store and asked.kinds != list(BLOCKS):
         parser.error("--store stores all kinds")
@@ -151,9 +153,9 @@ def main() -> None:
     with tempfile.TemporaryDirectory() as name:
         for kind in asked.kinds:
             for way in WAYS:
-                took = measured(program, Path(name), kind, way)
+                took = measure(program, Path(name), kind, way)
                 figures[f"{kind}, {way}"] = took
-                compared(f"{kind}, {way}", took, stored.get(f"{kind}, {way}", {}), tally)
+                compare(f"{kind}, {way}", took, stored.get(f"{kind}, {way}", {}), tally)
         if {"clash", "middle"} <= set(asked.kinds):
             tally.run("a command of clash, beside middle", lambda: clash_is_no_cliff(Path(name), figures))
     if asked.store:

@@ -7,7 +7,7 @@ KIND   churn   pages are allocated, partly unmapped (so queued), scanned eight a
        middle  the queue is kept as long as the node has blocks, and pages are freed from its middle
        maps    ranges of subpages and whole pages are mapped and unmapped on four pages, beside as many pages as the
                node has blocks
-       counts  short commands: pins come and go on four pages, and the length of the queue is asked for
+       counts  short commands: four pages are pinned and unpinned, and the queue's length is read
        clash   subpages are unmapped and mapped again on as many pages as the node has blocks, all queued; the numbers of one
                half of them share their low 13 bits with those of the other half
 BLOCKS how many blocks the node has, so how long the queue grows
@@ -59,7 +59,7 @@ def maps(blocks):
 
 
 def counts(blocks):
-    """Pins on and off four of the node's pages, and a count behind each pair."""
+    """Pins and unpins of four of the node's pages, with a count after each pair."""
     for _ in range(blocks):
         yield "alloc 0\n"
     for page in itertools.cycle(range(4)):
@@ -67,7 +67,7 @@ def counts(blocks):
 
 
 def clash(blocks):
-    """Unmaps and maps of one subpage on pages half of which came 8,192 allocations behind the others."""
+    """Unmaps and maps of one subpage, on pages half of which were allocated 8,192 allocations after the others."""
     half, apart = blocks // 2, 1 << 13
     for page in range(apart + half):
         is_kept = page < half or page >= apart

@@ -3,8 +3,8 @@
 
 usage: generate_shared.py WORKERS NODES BYTES
 
-Each worker maps, unmaps and pins a page of its own on each node in turn, counts the node's queue and scans it. Of each
-worker a page stands in each queue, pinned, so that scans put it back.
+Each worker maps, unmaps and pins a page of its own on each node in turn, counts the node's queue and scans it. Each
+worker also has a pinned page in each queue, which scans put back.
 
 BYTES is about how long the script is; below 16,777,216
 """
@@ -36,7 +36,7 @@ def calls(worker, nodes):
 
 
 def section(heading, lines, limit):
-    """Writes a section of about so many bytes, and tells how many they are."""
+    """Writes a section of about so many bytes, and returns how many it wrote."""
     written = sys.stdout.write(heading)
     for line in lines:
         if written + len(line) > limit:

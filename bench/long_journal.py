@@ -1,10 +1,10 @@
-"""How fast a program checks a long journal, and in how much memory. The journal is piped and stored nowhere.
+"""Measures how fast a program checks a long journal, and its memory. The journal is piped and stored nowhere.
 
     bench/long_journal.py PROGRAM [MEBIBYTES]
 
-The program reads standard input and takes no words (`thpcheck`); the journal has 1,024 MiB where nothing else is asked for.
-It says rounds of a node that works: beside pages that stay, pages are allocated, mapped, unmapped in part, queued, taken, split
-and freed. The status is 0 where the journal was called legal.
+The program reads standard input and takes no options (`thpcheck`); the journal has 1,024 MiB by default. It holds rounds of a
+busy node: beside pages that stay, pages are allocated, mapped, partly unmapped, queued, taken, split and freed. The status is 0
+if the program finds the journal legal.
 """
 
 from __future__ import annotations
@@ -60,7 +60,7 @@ def peak(child: subprocess.Popen) -> float:
 
 
 def main() -> None:
-    """Pipes the journal into the program, and tells how it went."""
+    """Pipes the journal into the program, and prints the time, the memory and the verdict."""
     program = sys.argv[1]
     most = int(sys.argv[2] if len(sys.argv) > 2 else 1024) << 20
     began = time.monotonic()

@@ -3,9 +3,9 @@
 
     bench/worker_table.py PROGRAM PLAIN [--runs N]
 
-PROGRAM is thpsplit; PLAIN is the plain program of bench/plain, which runs each script twice: with a mutex that a worker waits for,
-and with 64 tries behind which the rest of a section is postponed, as thpsplit has it. Each figure is the median of N runs (default
-9), the programs in turn: milliseconds by the clock, and behind them milliseconds of processor time of all threads.
+PROGRAM is thpsplit. PLAIN is the plain program of bench/plain, which runs each script twice: once with a mutex that a worker
+waits for, and once with 64 tries, after which the rest of a section is postponed, as in thpsplit. Each figure is the median of
+N runs (default 9), the programs in turn: milliseconds by the clock, then milliseconds of processor time of all threads.
 """
 
 from __future__ import annotations
@@ -25,7 +25,7 @@ NODES = (1, 2, 8)
 BYTES = 16_700_000
 
 
-def timed(command: list[str], script: Path) -> tuple[float, float]:
+def time_run(command: list[str], script: Path) -> tuple[float, float]:
     """The seconds that a run took: by the clock, and of processor time. The run has to end well."""
     with script.open("rb") as text:
         before, began = os.times(), time.monotonic()
@@ -40,7 +40,7 @@ def row(commands: list[list[str]], script: Path, runs: int) -> str:
     seen: list[list[tuple[float, float]]] = [[] for _ in commands]
     for _ in range(runs):
         for of, command in zip(seen, commands):
-            of.append(timed(command, script))
+            of.append(time_run(command, script))
     medians = ([1000 * statistics.median(column) for column in zip(*of)] for of in seen)
     return " | ".join(f"{clock:.0f} ({used:.0f})" for clock, used in medians)
 

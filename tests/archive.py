@@ -1,7 +1,9 @@
-"""Builds the archive of the library for C from the libraries that `rt ci` has proved and left: `rt ci` proves crates/thp_c from
-nothing, but builds nothing of it, and `rt lib` would prove all libraries below it once more. The crate has the exports alone, so
-that the second proof is short. The build begins with what `rt check`, or a build before, kept in the crate's folder: so where
-nothing changed since it proves nothing twice. The gate's word on the crate's proof is `rt ci`'s alone.
+"""Builds the archive of the library for C from the libraries that `rt ci` has proved and kept.
+
+`rt ci` proves crates/thp_c from scratch, but builds nothing of it, and `rt lib` would prove all libraries below it again. The
+crate only has the exports, so the second proof is short. The build begins with the work that `rt check`, or an earlier build,
+kept in the crate's folder, so it proves nothing again that has not changed. The verdict on the crate's proof is that of `rt ci`
+only.
 
     python3 tests/archive.py TO
 """
@@ -24,12 +26,12 @@ NAME = "thp_c"
 
 
 def of_kit(name: str) -> list[str]:
-    """The kit's libraries that a crate names, and std."""
+    """The toolchain's libraries that a crate names, and std."""
     return ["std", *(it for it in listed()[name][0].split(":")[1].split() if it not in listed())]
 
 
 def words(kit: Path, to: Path) -> list[str]:
-    """The compiler's words: the crate, the libraries that it names and those below them, and how it is built."""
+    """The arguments of the compiler: the crate, the libraries that it names and those below them, and the build options."""
     built = {name: ROOT / "crates" / name / "out/rlib" / f"{name}.rlib" for name in below(NAME)}
     found = ["--crate-name", NAME, "src/lib.rt", "--crate-type", "staticlib"]
     for name in of_kit(NAME):
@@ -45,7 +47,7 @@ def words(kit: Path, to: Path) -> list[str]:
 
 
 def build(to: Path) -> str | None:
-    """The archive is proved and built; or what the compiler said."""
+    """Proves and builds the archive; returns the compiler's output if that fails."""
     rt = shutil.which("rt")
     if rt is None:
         raise Missing("rt isn't on the path")

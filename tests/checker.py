@@ -1,8 +1,8 @@
-"""The built program `thpcheck` from outside: each exit status, with each stream's exact bytes.
+"""The built program `thpcheck` from outside: each exit status, with the exact bytes of each stream.
 
     tests/checker.py PROGRAM
 
-What `thpsplit --check` tells of a journal is told of it here, too, but that a journal may have any length.
+Its verdicts on journals are compared with those of `thpsplit --check`, for journals of any length.
 """
 
 from __future__ import annotations
@@ -34,10 +34,10 @@ WRITE_FAILED = Ended(3, b"", b"thpcheck: write failed\n")
 NO_MEMORY = Ended(3, b"", b"thpcheck: out of memory\n")
 HEAD = b"thp-journal 1\nnode 0 blocks 16\n0 alloc 0\n"
 ROUND = b"0 pin 0\n0 unpin 0 stays -\n"
-"""Two events that leave the page as it is."""
+"""Two events that leave the page unchanged."""
 
 ROUNDS = MOST_BYTES // len(ROUND) + 1
-"""So many of them have more bytes than `thpsplit --check` reads."""
+"""The number of rounds with more bytes than `thpsplit --check` reads."""
 
 LONG = HEAD + ROUND * ROUNDS
 ONE_PAGE = (
@@ -52,10 +52,10 @@ SEVERAL = (
     b"node 2 blocks 2 order 3 underused off\n0 alloc 0\n0 unmapwhole 0 freed 0-7\n0 pin 0\n0 alloc 1\n"
     b"node 3 blocks 1 order 9 underused off\nend\n"
 )
-"""Four nodes: two have an illegal event with others behind it, one splits an underused page, one has no event."""
+"""Four nodes: two have an illegal event with others after it, one splits an underused page, one has no event."""
 
 BEHIND = 3 + 2 * ROUNDS + 1
-"""The line behind the long journal's last event."""
+"""The line after the long journal's last event."""
 
 
 EXPLAIN = ("--explain",)
@@ -64,12 +64,12 @@ FLAGS = ("--explain", "--summary", "--progress")
 
 
 def is_illegal(line: int, errors: bytes = b"") -> Ended:
-    """The verdict on a journal whose first illegal event stands on this line, and what else is told of that."""
+    """The verdict on a journal whose first illegal event is on this line, and further expected output."""
     return Ended(1, f"illegal line {line}\n".encode(), errors)
 
 
 def fault(line: int, word: str) -> Ended:
-    """A text at fault."""
+    """A text with an error."""
     return Ended(2, b"", f"thpcheck: line {line}: {word}\n".encode())
 
 
@@ -84,7 +84,7 @@ def verdicts() -> Iterator[Row]:
 
 
 def explanations() -> Iterator[Row]:
-    """Each illegal event explained, the first of the text alone; of other journals nothing is said."""
+    """Each illegal event explained, the first of the text only; other journals have no explanation."""
     for row in EXPLAINED:
         line = row.text.count(b"\n")
         yield Row("explain", repr(row.text[-60:]), Call(EXPLAIN, row.text + b"end\n"), is_illegal(line, row.lines()))
@@ -106,7 +106,7 @@ def explanations() -> Iterator[Row]:
 
 
 def summaries() -> Iterator[Row]:
-    """The totals of each node up to its first illegal event, behind the verdict."""
+    """The totals of each node up to its first illegal event, after the verdict."""
     totals = IS_LEGAL.output + FIRST_TOTALS
     for source in (Source.FILE, Source.PIPE):
         yield Row("summary", f"the first script's journal, {source.name.lower()}", Call(SUMMARY, FIRST_JOURNAL, source), Ended(0, totals))
@@ -123,7 +123,7 @@ def summaries() -> Iterator[Row]:
 
 
 def summed(text: bytes) -> Ended:
-    """The verdict on a journal without a fault, and the totals of its nodes, by a plain reading of the model."""
+    """The verdict on a journal without an error, and the totals of its nodes, by a plain reading of the model."""
     lines = text.decode().splitlines()
     line = first_illegal(lines)
     totals = "".join(f"{it}\n" for it in summary(lines)).encode()
@@ -131,7 +131,7 @@ def summed(text: bytes) -> Ended:
 
 
 def faults() -> Iterator[Row]:
-    """Each fault of a journal, also behind an illegal event; and a script is no journal."""
+    """Each error of a journal, also after an illegal event; and a script is not a journal."""
     for text, line, word in faulty_texts.JOURNALS:
         yield Row("faults", repr(text[-60:]), Call((), text), fault(line, word))
     for text, line in faulty_texts.ILLEGAL:
@@ -142,7 +142,7 @@ def faults() -> Iterator[Row]:
 
 
 def long_journals() -> Iterator[Row]:
-    """Journals of more than 16 MiB, in memory that doesn't grow with them."""
+    """Journals of more than 16 MiB, in memory that does not grow with them."""
     for source in (Source.FILE, Source.PIPE):
         call = Call((), LONG + b"end\n", source, memory=FEW_BYTES)
         yield Row("long", f"legal, {source.name.lower()}", call, IS_LEGAL)
@@ -188,7 +188,7 @@ def many_nodes() -> Iterator[Row]:
 
 
 def requests() -> Iterator[Row]:
-    """Help, version, and words at fault: no input is read."""
+    """Help, version, and words with errors: no input is read."""
     for word, output in {"--help": HELP, "-h": HELP, "--version": VERSION, "-V": VERSION}.items():
         yield Row("words", word, Call((word,), b"fly\n", untouched=True), Ended(0, output))
         yield Row("words", f"{word}, /dev/full", Call((word,), output=Sink.FULL), WRITE_FAILED)
@@ -202,7 +202,7 @@ def requests() -> Iterator[Row]:
 
 
 def at_fault(words: tuple[str, ...], fault: str, named: str = "[OPTIONS]") -> Row:
-    """Words that the command doesn't take, and what `clap` says of them."""
+    """Words that the command does not accept, and the messages of `clap` about them."""
     text = f"error: {fault}\n\nUsage: thpcheck {named}{usage.TRY}".encode()
     return Row("words", " ".join(words) or repr(""), Call(words, b"fly\n", untouched=True), told(text))
 
@@ -220,7 +220,7 @@ def failures() -> Iterator[Row]:
 
 
 def shown() -> Iterator[progress.Shown | progress.Slow]:
-    """How far it is, on standard error."""
+    """The progress, on standard error."""
     row = Explained(ONE + b"0 alloc 0\n" + b"0 pin 0\n" * 3 + b"0 alloc 1\n", (), b"page 1 has no free block")
     yield from progress.rows(LEGAL, LONG + b"end\n", row.text + b"end\n", row.lines())
 

@@ -1,9 +1,9 @@
-"""The built program `thpdraw` from outside: each exit status, with each stream's exact bytes.
+"""The built program `thpdraw` from outside: each exit status, with the exact bytes of each stream.
 
     tests/drawer.py PROGRAM
 
-Tables are those that tests/tables.py makes by a plain reading of the model. Of pictures it is looked at that they are well-formed, of
-elements and letters that are known, and name each illegal event; those in docs/pictures are compared byte for byte.
+Tables are compared with those of tests/tables.py, a plain reading of the model. Pictures must be well-formed, contain only known
+elements and letters, and name each illegal event; those in docs/pictures are compared byte for byte.
 """
 
 from __future__ import annotations
@@ -40,12 +40,12 @@ NAME = b"thpdraw"
 
 
 def fault(line: int, word: str) -> Ended:
-    """A text at fault."""
+    """A text with an error."""
     return Ended(2, b"", f"thpdraw: line {line}: {word}\n".encode())
 
 
 def drawn() -> Iterator[Row]:
-    """Tables of legal and illegal journals: of those in examples/, of several nodes, and of single illegal events."""
+    """Tables of legal and illegal journals: those in examples/, of several nodes, and of single illegal events."""
     for path in sorted((ROOT / "examples").glob("*.journal")):
         text = path.read_bytes()
         for source in (Source.FILE, Source.PIPE):
@@ -59,7 +59,7 @@ def drawn() -> Iterator[Row]:
 
 
 def long_table() -> Ended:
-    """The table of the long journal: a page is allocated, and the rounds of two events leave all numbers as they are."""
+    """The table of the long journal: a page is allocated, and the rounds of two events leave all numbers unchanged."""
     node, waits = Node(16), Waits()
     first = numbers(node, waits)
     node.alloc(0)
@@ -71,20 +71,20 @@ ELEMENTS = {f"{SVG}{name}" for name in ("svg", "style", "g", "rect", "path", "te
 """The elements of pictures: nothing that runs, loads or links."""
 
 WIDE = 7200
-"""How wide a picture is, in its own units."""
+"""The width of a picture, in its own units."""
 
 
 def shortened(event: str) -> str:
-    """An event as a picture says it: of one that is longer than 70 letters the front."""
+    """An event as a picture shows it: the beginning of one that is longer than 70 letters."""
     return event if len(event) <= 70 else f"{event[:67]} .."
 
 
 FEW_ROWS, MOST_ROWS, MOST_TURNS = 24, 60, 4000
-"""Up to so many rows of pages are far apart; more rows, and bars that begin and end more often, aren't drawn."""
+"""Up to this many rows of pages are spaced widely; more rows, and bars that begin and end more often, are not drawn."""
 
 
 def bars(drawn: Drawn) -> list[str]:
-    """The paths of the bars in a node's rows, a stage after the other, by what its table tells; none where it has no rows."""
+    """The paths of the bars in a node's rows, stage by stage, according to its table; none if it has no rows."""
     width, end = drawn.width(), len(drawn.prefixes)
     letters = [drawn.prefixes[min(first + width, end) - 1].letters for first in range(0, end, width)]
     count = drawn.node.allocated
@@ -106,7 +106,7 @@ def bars(drawn: Drawn) -> list[str]:
 
 @dataclass(frozen=True)
 class Picture:
-    """A journal, whose picture is looked at."""
+    """A journal, whose picture is checked."""
 
     name: str
     text: bytes
@@ -187,15 +187,17 @@ def wide(pages: int = 240) -> bytes:
 
 
 def stored() -> Iterator[Row]:
-    """The pictures in docs/, byte for byte, of the journals that they are of."""
+    """The pictures in docs/, byte for byte, with the journals that they show."""
     of = {"first": FIRST_JOURNAL, "wide": wide()}
     for path in sorted((ROOT / "docs/pictures").glob("*.svg")):
+        if path.with_suffix(".py").exists():
+            continue  # drawn by a script of its own, and no journal's
         text = of.get(path.stem) or (ROOT / "examples" / f"{path.stem}.journal").read_bytes()
         yield Row("stored pictures", path.name, Call((), text), Ended(table(text).status, path.read_bytes()))
 
 
 def faults() -> Iterator[Row]:
-    """Each fault of a journal, also behind an illegal event: nothing is written. And a script is no journal."""
+    """Each error of a journal, also after an illegal event: nothing is written. And a script is not a journal."""
     for words in ((), TABLE):
         for text, number, word in faulty_texts.JOURNALS:
             yield Row("faults", repr(text[-60:]), Call(words, text), fault(number, word))
@@ -208,7 +210,7 @@ def faults() -> Iterator[Row]:
 
 
 def requests() -> Iterator[Row]:
-    """Help, version, and words at fault: no input is read."""
+    """Help, version, and words with errors: no input is read."""
     for word, output in {"--help": HELP, "-h": HELP, "--version": VERSION, "-V": VERSION}.items():
         yield Row("words", word, Call((word,), b"fly\n", untouched=True), Ended(0, output))
         yield Row("words", f"{word}, /dev/full", Call((word,), output=Sink.FULL), WRITE_FAILED)
@@ -222,7 +224,7 @@ def requests() -> Iterator[Row]:
 
 
 def at_fault(words: tuple[str, ...], what: str, named: str = "[OPTIONS]") -> Row:
-    """Words that the command doesn't take, and what `clap` says of them."""
+    """Words that the command does not accept, and the messages of `clap` about them."""
     text = f"error: {what}\n\nUsage: thpdraw {named}{usage.TRY}".encode()
     return Row("words", " ".join(words) or repr(""), Call(words, b"fly\n", untouched=True), told(text))
 
@@ -241,7 +243,7 @@ def failures() -> Iterator[Row]:
 
 
 def shown() -> Iterator[Shown]:
-    """How far it is, on standard error."""
+    """The progress, on standard error."""
     words = (*ASKED, *TABLE)
     for text in (LEGAL, ILLEGAL):
         wanted = table(text)

@@ -1,10 +1,10 @@
-"""The scripts and journals of `examples/`, run by the program, and what README.md shows of it.
+"""The scripts and journals of `examples/`, run by the program, and what README.md shows of them.
 
     python3 tests/examples.py [PROGRAM]
 
-`NAME.args` has the words of the command line, one a line; `NAME.stdout`, `NAME.stderr` and `NAME.status` are what is
-wanted (no file: nothing, nothing, 0). With no program `rt try` builds one from the code as it stands, which tells
-standard output and the status alone.
+`NAME.args` contains the words of the command line, one a line; `NAME.stdout`, `NAME.stderr` and `NAME.status` contain the
+expected results (no file: nothing, nothing, 0). Without a program, `rt try` builds one from the current code and reports
+standard output and the status only.
 """
 
 from __future__ import annotations
@@ -22,7 +22,7 @@ from tally import Missing, Tally
 ROOT = Path(__file__).resolve().parent.parent
 EXAMPLES = ROOT / "examples"
 OTHERS = {name: ROOT / f"crates/{name}/out/{name}" for name in ("thpcheck", "thpdraw")}
-"""The programs beside `thpsplit`, and where they are built."""
+"""The other programs, and where they are built."""
 
 ENDED = re.compile(r"case=(\S+) run=ended status=(\d+)")
 
@@ -33,13 +33,13 @@ def cases() -> list[Path]:
 
 
 def beside(case: Path, ending: str, default: str) -> str:
-    """The text that stands beside a case, or a default where there is none."""
+    """The text of a file of a case, or a default if there is none."""
     path = case.with_name(f"{case.name}.{ending}")
     return path.read_text() if path.exists() else default
 
 
 def by_program(program: str, case: Path) -> str | None:
-    """What is wrong where the program runs a case, or None."""
+    """What is wrong when the program runs a case, or None."""
     words = beside(case, "args", "").split()
     with case.open("rb") as given:
         done = subprocess.run([program, *words], stdin=given, capture_output=True, timeout=60, check=False)
@@ -52,7 +52,7 @@ def by_program(program: str, case: Path) -> str | None:
 
 
 def by_try() -> dict[str, str | None]:
-    """What is wrong with each case where `rt try` runs them, or None."""
+    """What is wrong with each case when `rt try` runs them, or None."""
     if shutil.which("rt") is None:
         raise Missing("rt isn't on the path")
     with tempfile.TemporaryDirectory() as folder:
@@ -89,8 +89,7 @@ def shown() -> list[tuple[str, str]]:
 
 
 def readme(program: str) -> str | None:
-    """What README.md shows otherwise than it is, or None. What it shows of another program is compared where that
-    is built."""
+    """What README.md shows differently, or None. Its dialogues with another program are compared if that is built."""
     with tempfile.TemporaryDirectory() as folder:
         (Path(folder) / "examples").symlink_to(EXAMPLES)
         (Path(folder) / "bin").mkdir()
@@ -108,7 +107,7 @@ def readme(program: str) -> str | None:
 
 
 def main() -> None:
-    """Runs the cases by the program of the command line, or by `rt try`."""
+    """Runs the cases with the program of the command line, or with `rt try`."""
     tally = Tally()
     if len(sys.argv) > 1:
         program = sys.argv[1]

@@ -1,4 +1,5 @@
-"""Illegal journals, each with what `thpcheck --explain` says of its first illegal event: what could stand there, and why."""
+"""Illegal journals, each with the explanation of `thpcheck --explain` for its first illegal event: the expected events, and
+why."""
 
 from __future__ import annotations
 
@@ -7,44 +8,44 @@ from typing import NamedTuple
 from faulty_texts import ONE, STEPS, THREE, TWO
 
 NO_PAGE = b"refused no-page: the page was never allocated, or was freed"
-BAD_RANGE = b"refused bad-range: the range has no subpage, or one that the page hasn't"
-NOT_MAPPED = b"refused not-mapped: there is no such mapping"
+BAD_RANGE = b"refused bad-range: the range is empty or exceeds the page"
+NOT_MAPPED = b"refused not-mapped: the mapping does not exist"
 NOT_PINNED = b"refused not-pinned: the page has no pin"
 IS_SPLIT = b"refused is-split: the page is split into base pages"
 GONE = b"refused gone: a frame of the range was given back"
-TOO_MANY = b"refused too-many: the count is at 65535"
+TOO_MANY = b"refused too-many: the count is already 65535"
 CLOSED = b"refused closed: the node is closed"
-FREED = b"page 0 has no mapping and no pin left: it is freed, with the frames that it held"
-QUEUED = b"page 0 has a subpage that went out of use and one in use, and stands nowhere: it joins the queue"
-STAYS = b"page 0 is mapped or pinned and doesn't join the queue; frames go only where it is split"
-DROPS = b"page 0 isn't partly mapped, or the node is closed"
-IN_USE = b"page 0 isn't worth a split: it is neither partly mapped nor underused"
-WORTH = b"page 0 is worth a split: it is partly mapped or underused"
-HAS_BATCH = b"caller 0 has pages in flight, and the event before is no take of its own"
+FREED = b"page 0 has no mapping and no pin left: it is freed with all frames that it held"
+QUEUED = b"page 0 lost the last mapping of a subpage, has another mapped one, and is on no list: it joins the queue"
+STAYS = b"page 0 is still mapped or pinned and does not join the queue; only a split page gives back frames"
+DROPS = b"page 0 is not partly mapped, or the node is closed"
+IN_USE = b"page 0 is no split candidate: it is neither partly mapped nor underused"
+WORTH = b"page 0 is a split candidate: it is partly mapped or underused"
+HAS_BATCH = b"caller 0 has pages in flight, and the previous event is not one of its takes"
 
 PAIR = b"thp-journal 2\nnode 0 blocks 2 order 2\n" + STEPS + b"0 alloc 1\n0 splitpmd 1\n0 unmapsub 1 0 2 queued -\n"
 """Two pages of order 2 in the queue, half of each unmapped."""
 
 A_SPLIT = b"a split of page 0"
 FULL = ONE + b"0 alloc 0\n" + b"0 pin 0\n" * 65_535
-"""A page that has as many pins as it may have."""
+"""A page that has the greatest number of pins."""
 
 WHOLE = TWO + b"0 alloc 0\n" + b"0 mapwhole 0\n" * 65_534
-"""A page that is mapped whole as often as it may be."""
+"""A page with the greatest number of mappings of the whole."""
 SUBPAGE = TWO + b"0 alloc 0\n" + b"0 mapsub 0 3 1\n" * 65_534
-"""A page whose last subpage is mapped as often as it may be, once by the mapping of the whole page."""
+"""A page whose last subpage has the greatest number of mappings, one of them by the mapping of the whole page."""
 
 
 class Explained(NamedTuple):
-    """A journal without its line `end`, whose last line is its first illegal event, and what is said of that."""
+    """A journal without its line `end`, whose last line is its first illegal event, and the explanation of that."""
 
     text: bytes
     choices: tuple[bytes, ...]
-    """What could stand in its place."""
+    """The events that would fit instead."""
     why: bytes
 
     def lines(self) -> bytes:
-        """What standard error takes."""
+        """The text on standard error."""
         line, event = self.text.count(b"\n"), self.text.splitlines()[-1]
         first, *others = self.choices or (b"nothing",)
         told = [b"line %d: %s" % (line, event), b"expected: " + first, *(b"or: " + other for other in others)]
@@ -52,8 +53,8 @@ class Explained(NamedTuple):
 
 
 EXPLAINED = [
-    Explained(ONE + b"0 alloc 1\n", (b"0 alloc 0",), b"the next page has the number 0"),
-    Explained(ONE + b"0 alloc 0\n0 alloc 0\n", (b"0 alloc 1",), b"the next page has the number 1"),
+    Explained(ONE + b"0 alloc 1\n", (b"0 alloc 0",), b"the next page number is 0"),
+    Explained(ONE + b"0 alloc 0\n0 alloc 0\n", (b"0 alloc 1",), b"the next page number is 1"),
     Explained(ONE + b"0 alloc 0\n0 alloc 1\n", (), b"page 1 has no free block"),
     Explained(ONE + b"0 close\n0 close\n", (), CLOSED),
     Explained(ONE + b"0 close\n0 alloc 0\n", (), CLOSED),
@@ -74,10 +75,10 @@ EXPLAINED = [
     Explained(WHOLE + b"0 mapwhole 0\n", (), TOO_MANY),
     Explained(SUBPAGE + b"0 mapsub 0 2 2\n", (), TOO_MANY),
     Explained(TWO + STEPS + b"0 taken 1\n", (b"0 taken 0",), b"page 0 is the oldest in the queue"),
-    Explained(TWO + STEPS + b"0 split 0 0-1\n", (), b"page 0 isn't in the flight of caller 0"),
-    Explained(TWO + STEPS + b"0 taken 0\n1 split 0 0-1\n", (), b"page 0 isn't in the flight of caller 1"),
-    Explained(TWO + STEPS + b"0 taken 0\n63 pinned 0\n", (), b"page 0 isn't in the flight of caller 63"),
-    Explained(TWO + STEPS + b"0 taken 0\n0 split 0 0\n", (b"0 split 0 0-1",), b"page 0 gives back these frames by its split"),
+    Explained(TWO + STEPS + b"0 split 0 0-1\n", (), b"page 0 is not in the flight of caller 0"),
+    Explained(TWO + STEPS + b"0 taken 0\n1 split 0 0-1\n", (), b"page 0 is not in the flight of caller 1"),
+    Explained(TWO + STEPS + b"0 taken 0\n63 pinned 0\n", (), b"page 0 is not in the flight of caller 63"),
+    Explained(TWO + STEPS + b"0 taken 0\n0 split 0 0\n", (b"0 split 0 0-1",), b"page 0 releases these frames when it is split"),
     Explained(TWO + STEPS + b"0 taken 0\n0 pinned 0\n", (b"0 used 0", A_SPLIT), b"page 0 has no pin"),
     Explained(TWO + STEPS + b"0 taken 0\n0 dropped 0\n", (b"0 back 0",), b"page 0 is partly mapped, and the node is open"),
     Explained(TWO + STEPS + b"0 pin 0\n0 taken 0\n0 split 0 0-1\n", (b"0 pinned 0",), b"page 0 has pins"),
@@ -95,7 +96,7 @@ EXPLAINED = [
               b"page 0 is the first of the flight of caller 0"),
     Explained(THREE + b"0 alloc 0\n0 write 0 0 5\n", (), BAD_RANGE),
     Explained(THREE + b"0 alloc 0\n0 zero 0 4 1\n", (), BAD_RANGE),
-    Explained(THREE + b"0 used 0\n", (), b"page 0 isn't in the flight of caller 0"),
+    Explained(THREE + b"0 used 0\n", (), b"page 0 is not in the flight of caller 0"),
     Explained(THREE + b"0 alloc 0\n0 taken 0\n0 used 0\n", (b"0 pinned 0", A_SPLIT), WORTH),
     Explained(THREE + b"0 alloc 0\n0 write 0 0 3\n0 taken 0\n0 split 0 -\n", (b"0 used 0",), IN_USE),
     Explained(THREE + b"0 alloc 0\n0 write 0 0 3\n0 pin 0\n0 taken 0\n0 pinned 0\n", (b"0 used 0",), IN_USE),

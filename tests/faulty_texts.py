@@ -1,4 +1,4 @@
-"""Scripts and journals at fault, and journals that are illegal, each with the line that is told."""
+"""Scripts and journals with errors, and journals that are illegal, each with the line that is reported."""
 
 from __future__ import annotations
 
@@ -61,13 +61,13 @@ SCRIPTS: list[tuple[bytes, int, str]] = [
     (b"alloc x y\n", 1, "bad-count"),
     (b"alloc x\n", 1, "bad-number"),
 ]
-"""Scripts for one node and one worker: the text, the line and the word of its first fault."""
+"""Scripts for one node and one worker: the text, the line and the word of its first error."""
 
 COUNTS: dict[str, int] = {
     "alloc": 1, "mapwhole": 2, "unmapwhole": 2, "map": 4, "unmap": 4, "write": 4, "zero": 4, "splitpmd": 2,
     "pin": 2, "unpin": 2, "close": 1, "count": 1, "scan": 2, "take": 2, "splitnext": 1, "putback": 1,
 }
-"""How many operands each command has."""
+"""The number of operands of each command."""
 
 ONE = b"thp-journal 1\nnode 0 blocks 1\n"
 TWO = b"thp-journal 2\nnode 0 blocks 1 order 2\n"
@@ -77,7 +77,7 @@ NO_SETS = (
     b"512", b"0-512", b"1-1", b"2-1", b"0,1", b"0-1,2", b"1,0", b",", b"0,", b"-1", b"0-", b"--", b"00", b"0--1", b"x",
     b"0-1-2",
 )
-"""Words that aren't sets."""
+"""Words that are not sets."""
 
 JOURNALS: list[tuple[bytes, int, str]] = [
     (b"", 1, "cut"),
@@ -149,7 +149,7 @@ JOURNALS: list[tuple[bytes, int, str]] = [
     (ONE + b"0 split 0 512\nend\n0 fly\n", 3, "bad-set"),
     (ONE + b"0 pin 0\n0 fly 0\nend\n", 4, "bad-word"),
 ]
-"""Journals: the text, the line and the word of its first fault."""
+"""Journals: the text, the line and the word of its first error."""
 
 STEPS = b"0 alloc 0\n0 splitpmd 0\n0 unmapsub 0 0 2 queued -\n"
 

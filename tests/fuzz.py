@@ -3,11 +3,10 @@
 
     tests/fuzz.py PROGRAM [--cases N] [--seed S] [--jobs J] [--keep FOLDER]
 
-What is wanted of each text (the exit status, standard output and standard error) is made by model.py, script.py and
-texts.py, and of words by usage.py. The program's help has to tell each option, command, refusal and fault that stands
-there, and no other option or command. At the end a table tells what was covered, by kind. The first ten texts that
-differ are kept in FOLDER, and the exit status is then 1; as it is where 2,000 cases or more left out something that is
-to be covered.
+The expected results for each text (the exit status, standard output and standard error) are computed by model.py, script.py
+and texts.py, and those for words by usage.py. The program's help must contain each option, command, refusal and error named
+there, and no other option or command. At the end a table shows what was covered, by kind. The first ten texts that differ are
+stored in FOLDER, and the exit status is then 1. It is also 1 if 2,000 cases or more left out something that is to be covered.
 """
 
 from __future__ import annotations
@@ -37,18 +36,18 @@ from script import Run, first_illegal, sections_of
 from texts import COMMANDS, EVENTS, FAULT_WORDS, BadText, journal_fault, number, script_fault
 
 SECONDS = 60
-"""A run that takes longer counts as one that differs."""
+"""A run that takes longer counts as different."""
 
 MANY = 2000
-"""In so many cases everything is covered."""
+"""The number of cases in which everything is covered."""
 
 AT_ONCE = 20
-"""So many cases are handed to a process at once."""
+"""The number of cases that a process gets at once."""
 
 
 @dataclass(frozen=True)
 class Probe:
-    """Words and a text for the program, and how it is to end."""
+    """Words and a text for the program, and the expected result."""
 
     name: str
     words: tuple[Word, ...]
@@ -57,7 +56,7 @@ class Probe:
 
 
 class Case:
-    """A random case: what it asks of the program, and what it covers."""
+    """A random case: its runs of the program, and what it covers."""
 
     def __init__(self, seed: int, place: int) -> None:
         self.chance = Random(f"{seed} {place}")
@@ -67,12 +66,12 @@ class Case:
         self.probes = list(KINDS[kind](self))
 
     def cover(self, what: str, name: object, count: int = 1) -> None:
-        """Notes that something was covered."""
+        """Records that something was covered."""
         self.covered[what, str(name)] += count
 
 
 def whole_runs(case: Case, script: Script) -> Iterator[Probe]:
-    """A script by each report; then its journal, as it is and changed, by the check."""
+    """A script with each report; then its journal, unchanged and changed, for the check."""
     text, run = script.text(), script.run
     journal = run.journal()
     cover_run(case, script, journal)
@@ -90,7 +89,7 @@ def whole_runs(case: Case, script: Script) -> Iterator[Probe]:
 
 
 def cover_run(case: Case, script: Script, journal: list[str]) -> None:
-    """Notes the commands, answers and events of a run, its nodes and its workers."""
+    """Records the commands, answers and events of a run, its nodes and its workers."""
     lines = [line for _, commands in script.sections for line in commands]
     for line, told in zip(lines, script.run.answers):
         case.cover("commands", line.split(" ")[0])
@@ -111,7 +110,7 @@ def cover_run(case: Case, script: Script, journal: list[str]) -> None:
 
 
 def checked(case: Case, name: str, text: bytes) -> Probe:
-    """A journal by the check: its first fault, else its first illegal line, else that it is legal."""
+    """A journal for the check: its first error, otherwise its first illegal line, otherwise that it is legal."""
     case.cover("options", "--check")
     fault = journal_fault(text)
     if fault is not None:
@@ -137,12 +136,12 @@ def many_workers(case: Case) -> Iterator[Probe]:
 
 
 def limit(case: Case) -> Iterator[Probe]:
-    """A count that goes to 65,535."""
+    """A count that reaches 65,535."""
     return whole_runs(case, random_texts.script_of_limits(case.chance))
 
 
 def spoilt_scripts(case: Case) -> Iterator[Probe]:
-    """A script with a change, four times: its first fault, or the totals of what it still says."""
+    """A script with a change, four times: its first error, or its totals."""
     script = random_texts.script_of_one(case.chance)
     for place in range(4):
         text = random_texts.spoilt(case.chance, script.text(), COMMANDS)
@@ -161,7 +160,7 @@ def spoilt_scripts(case: Case) -> Iterator[Probe]:
 
 
 def spoilt_journals(case: Case) -> Iterator[Probe]:
-    """A journal with a change, six times: its first fault, or whether what it still says is legal."""
+    """A journal with a change, six times: its first error, or whether it is legal."""
     script = random_texts.script_of_one(case.chance)
     journal = script.run.journal()
     text = joined(journal)
@@ -172,7 +171,7 @@ def spoilt_journals(case: Case) -> Iterator[Probe]:
 
 
 def command_lines(case: Case) -> Iterator[Probe]:
-    """Words at fault, and requests, beside an input that would be at fault too."""
+    """Words with errors, and requests, with an input that has errors too."""
     for place in range(4):
         kind, words, wanted = random_words.faulty_words(case.chance)
         case.cover("faults of words", kind)
@@ -187,7 +186,7 @@ SWITCH_ITEMS = ("off", "0", "1", "3") * 6 + ("4", "511", "512", "on", "00")
 
 
 def lists(case: Case) -> Iterator[Probe]:
-    """Orders and thresholds that fit the nodes, and such that don't, which is told before the script's fault."""
+    """Orders and thresholds that are valid for the nodes, and others, which are reported before the script's error."""
     for place in range(4):
         nodes = case.chance.randrange(1, random_texts.MOST_NODES + 1)
         orders = random_words.list_of(case.chance, ORDER_ITEMS, nodes)
@@ -199,7 +198,7 @@ def lists(case: Case) -> Iterator[Probe]:
 
 
 def wanted_of_lists(nodes: int, orders: list[str], switches: list[str]) -> Ended:
-    """What is told of these lists: the journal of a run without commands, where they fit."""
+    """The expected result for these lists: the journal of a run without commands, if they are valid."""
     try:
         read = [number(item.encode(), 9, 2) for item in orders]
         if len(read) != nodes:
@@ -226,7 +225,7 @@ KINDS: dict[str, Callable[[Case], Iterator[Probe]]] = {
 }
 KIND_OF = ("one worker", "workers on nodes of their own", "spoilt scripts", "one worker", "spoilt journals",
            "one worker", "workers on nodes of their own", "words", "one worker", "lists")
-"""The kinds of cases, in turn; each 500th is another."""
+"""The kinds of cases, in turn; each 500th case is another."""
 
 ANSWERS = (
     "page", "ok", "stays", "queued", "freed", "count", "taken", "split", "pinned", "used", "done", "no-batch", "back",
@@ -255,7 +254,7 @@ TO_COVER: dict[str, tuple[str, ...]] = {
 
 
 def help_is_whole(program: Path) -> list[str]:
-    """What the program's help lacks, or tells beyond what stands here."""
+    """What the program's help lacks, or contains beyond this list."""
     told = subprocess.run([program, "--help"], capture_output=True, check=False, timeout=SECONDS).stdout.decode()
     options = re.findall(r"^ +(?:-\w, )?--(\w+)", told, re.M)
     after = told.partition("\nCommands:\n")[2]
@@ -270,7 +269,7 @@ def help_is_whole(program: Path) -> list[str]:
 
 @dataclass
 class Outcome:
-    """What came of some cases: how many texts were compared, those that differ, and what was covered."""
+    """The result of some cases: the number of texts compared, those that differ, and what was covered."""
 
     cases: int = 0
     compared: int = 0
@@ -278,7 +277,7 @@ class Outcome:
     covered: Counter[tuple[str, str]] = field(default_factory=Counter)
 
     def add(self, other: Outcome) -> None:
-        """Adds what came of other cases."""
+        """Adds the result of other cases."""
         self.cases += other.cases
         self.compared += other.compared
         self.differing += other.differing
@@ -311,7 +310,7 @@ def run(program: Path, probe: Probe) -> Ended:
 
 
 def keep(folder: Path, probe: Probe, ended: Ended) -> None:
-    """Keeps a text that differs, with what was wanted and what was told."""
+    """Stores a text that differs, with the expected and the actual result."""
     folder.mkdir(parents=True, exist_ok=True)
     (folder / "options").write_bytes(b"".join(os.fsencode(word) + b"\n" for word in probe.words))
     (folder / "input").write_bytes(probe.text)
@@ -323,7 +322,7 @@ def keep(folder: Path, probe: Probe, ended: Ended) -> None:
 
 
 def tell_covered(covered: Counter[tuple[str, str]]) -> list[str]:
-    """Tells what was covered, by kind, and answers what wasn't."""
+    """Prints what was covered, by kind, and returns what was not."""
     never: list[str] = []
     for what, names in TO_COVER.items():
         counts = {name: covered[what, name] for name in names}
@@ -345,13 +344,13 @@ def arguments() -> argparse.Namespace:
 
 
 def be_worker() -> None:
-    """A process of the pool is ended by the first one, which alone is interrupted."""
+    """A process of the pool is ended by the first one, which is the only one to be interrupted."""
     signal.signal(signal.SIGINT, signal.SIG_IGN)
     signal.signal(signal.SIGTERM, signal.SIG_DFL)
 
 
 def try_all(asked: argparse.Namespace, program: Path) -> Outcome:
-    """Makes all cases, or those until it is interrupted or asked to end; keeps the first texts that differ."""
+    """Runs all cases, or those until it is interrupted or terminated; stores the first texts that differ."""
     signal.signal(signal.SIGTERM, signal.default_int_handler)
     whole = Outcome()
     parts = [(program, asked.seed, range(at, min(at + AT_ONCE, asked.cases))) for at in range(0, asked.cases, AT_ONCE)]
@@ -369,7 +368,7 @@ def try_all(asked: argparse.Namespace, program: Path) -> Outcome:
 
 
 def main() -> None:
-    """Compares, and tells what was covered and what differs."""
+    """Compares, and prints what was covered and what differs."""
     asked = arguments()
     if not os.access(asked.program, os.X_OK):
         sys.exit(f"{asked.program} is no program")

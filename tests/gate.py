@@ -1,9 +1,9 @@
-"""The gate: `rt ci`, and behind it what is tested from outside. The last line is `N passed, M failed` over all of it.
+"""The gate: `rt ci`, followed by the tests from outside. The last line is `N passed, M failed` over all of it.
 
     tests/gate.py
 
-The status is 0 exactly where nothing failed. Each script ends in a count of its own, which is added up. Those that want
-the built program get what `rt ci` has just built, by each of its compilers; where it built none, a line says so.
+The status is 0 exactly if nothing failed. Each script ends with its own count, and the gate adds them up. Scripts that need
+the built program get those that `rt ci` has just built, with each of its compilers; if there is none, a line reports that.
 """
 
 from __future__ import annotations
@@ -22,48 +22,49 @@ WITHOUT = (
     "tests/docs.py", "tests/surface.py", "tests/installed.py", "tests/lint.py", "linux/tests/run.py",
     "linux/whatif/tests/__main__.py",
 )
-"""What looks at the tree alone, and the tools of the running kernel by what they stored. Those of `thpwhatif` use the
-built program where it is."""
+"""The tests of the tree only, and of the tools for the running kernel with stored data. Those of `thpwhatif` use the built
+program
+if there is one."""
 
 BUILT = ("crates/thpsplit/out/thpsplit", "crates/thpsplit/out/thpsplit.by-rattle")
-"""Where `rt ci` leaves the program, as LLVM builds it and as Rattle's own compiler does."""
+"""Where `rt ci` leaves the program, built with LLVM and with Rattle's own compiler."""
 
 CHECKERS = ("crates/thpcheck/out/thpcheck", "crates/thpcheck/out/thpcheck.by-rattle")
-"""The same of the program for journals of any length."""
+"""The same for the program for journals of any length."""
 
 DRAWERS = ("crates/thpdraw/out/thpdraw", "crates/thpdraw/out/thpdraw.by-rattle")
-"""And of the one that draws them."""
+"""The same for the program that draws them."""
 
 BY_EACH = ("tests/examples.py", "tests/rows.py", "tests/outside.py", "tests/large.py", "tests/workers.py",
            "tests/streams.py")
-"""What looks at a program."""
+"""The tests of a program."""
 
 BY_ONE = ("tests/spoilt.py",)
-"""What looks at a program and takes longer: at one of them."""
+"""The tests of a program that take longer, for one of them."""
 
 CEILINGS = ("bench/ceilings.py", "--kinds", "churn,counts,clash")
-"""What looks at the instructions and the memory of a program, as LLVM builds it, by scripts of three kinds: with scans, with the
-commands that do least, and with as many pages as a node may have."""
+"""The tests of the instructions and the memory of a program, built with LLVM, with scripts of three kinds: with scans, with the
+commands that do least, and with the greatest number of pages of a node."""
 
 ARCHIVE = "crates/thp_c/out/libthp_c.a"
 """Where the archive of the library for C is built: `rt ci` proves it, and builds nothing of it."""
 
 SPOILT = "crates/tests_spoilt/out/tests_spoilt_tests"
-"""Where `rt ci` leaves the tests of memory that is refused."""
+"""Where `rt ci` leaves the tests with failing allocations."""
 
 REFUSED = "memory::node_growths::put_back_without_memory"
-"""The row that nothing but a growth that is really refused can show. `make memory` has them all."""
+"""The row that only a failing allocation can show. `make memory` has all of them."""
 
 COUNT = re.compile(r"(\d+) passed, (\d+) failed$")
 
 TELLS_FAILURE = re.compile(r": failed: |^rt: FAILED|^(?:rt: )?must-fail .*: (?:NOT REFUSED|BAD EDIT)|^(FAIL|ERROR): ")
-"""Lines that name what failed, which are said again at the end: of a long output often the end alone is kept."""
+"""Lines that name a failure, which are repeated at the end: often only the end of a long output is kept."""
 
 
 def run(command: list[str], failures: list[str]) -> tuple[int, int, int]:
-    """Runs a command from the top of the repository and tells what it prints as it comes; its count, and its status.
+    """Runs a command from the top of the repository and prints its output as it comes; returns its count, and its status.
 
-    A command that prints no count counts as nothing passed. Lines that name what failed are kept.
+    A command that prints no count counts as nothing passed. Lines that name a failure are kept.
     """
     passed, failed = 0, 0
     try:
@@ -84,7 +85,7 @@ def run(command: list[str], failures: list[str]) -> tuple[int, int, int]:
 
 
 def spent() -> float:
-    """The processor time of all that has run so far, in seconds."""
+    """The processor time of everything run so far, in seconds."""
     times = os.times()
     return times.children_user + times.children_system
 
@@ -97,8 +98,9 @@ class Gate(Tally):
         self.failures: list[str] = []
 
     def add(self, name: str, command: list[str]) -> None:
-        """Runs a command and adds its count, and says what processor time it took. One that ends wrong and counts nothing failed
-        counts as one failed."""
+        """Runs a command, adds its count, and prints its processor time. A command that ends wrong and counts no failure counts
+        as one
+        failure."""
         lines: list[str] = []
         began = spent()
         passed, failed, status = run(command, lines)
@@ -112,7 +114,7 @@ class Gate(Tally):
             self.failures += [f"failed in {name}: {line}" for line in lines or ["no line names it"]]
 
     def end(self) -> None:
-        """Names what failed again, tells the processor time of all and the count, and ends."""
+        """Repeats the failures, prints the total processor time and the count, and ends."""
         print(f"processor minutes: {spent() / 60:.1f}", flush=True)
         for line in self.failures:
             print(line, flush=True)
@@ -120,7 +122,7 @@ class Gate(Tally):
 
 
 def made_since(began: float, names: tuple[str, ...]) -> list[str]:
-    """The built programs of these names that were made since then: none that an earlier run left."""
+    """The built programs of these names that were built since then: none of an earlier run."""
     paths = [ROOT / name for name in names]
     return [str(path) for path in paths if path.is_file() and path.stat().st_mtime >= began]
 

@@ -1,19 +1,23 @@
-"""What `make install` puts into place goes by `make uninstall`; manual pages and completions are sound.
+"""`make uninstall` removes exactly the files of `make install`; manual pages and completions are sound.
 
     python3 tests/installed.py
 
-A stand-in takes the place of the built program, so nothing is proved or built here.
+A stand-in replaces the built programs, so nothing is proved or built here except the C helpers of the tools for the running
+kernel, which run from the folder of the installation.
 """
 
 from __future__ import annotations
 
+import os
 import re
 import shutil
 import subprocess
 import tempfile
 from functools import partial
 from pathlib import Path
+from typing import IO
 
+from library import is_unprotected
 from tally import Missing, Tally
 
 ROOT = Path(__file__).resolve().parent.parent
@@ -22,18 +26,33 @@ COMPLETIONS = {"bash": "completions/thpsplit.bash", "zsh": "completions/_thpspli
 CHECKER_COMPLETIONS = {"bash": "completions/thpcheck.bash", "zsh": "completions/_thpcheck",
                        "fish": "completions/thpcheck.fish"}
 DRAWER_COMPLETIONS = {"bash": "completions/thpdraw.bash", "zsh": "completions/_thpdraw", "fish": "completions/thpdraw.fish"}
-KERNEL_PAGE = "docs/thpwhatif.1"
-KERNEL_COMPLETIONS = {"bash": "completions/thpwhatif.bash", "zsh": "completions/_thpwhatif",
-                      "fish": "completions/thpwhatif.fish"}
+LIBRARY_PAGE = "docs/libthp.3"
+TOOLS = {"thpreplay": "linux/thpreplay", "thprecord": "linux/thprecord", "thpwhatif": "linux/whatif/thpwhatif"}
+"""The tools for the running kernel, and their files in a checkout."""
+
+COMMANDS = ("now", "snapshot", "what-if", "target", "watch", "verify")
+"""The commands of `thpwhatif`."""
+
+HELPERS = ("known", "mapper", "pages.so", "workload")
+"""The compiled helpers of the tools."""
+
+UNITS = ("thpwhatif.service", "thpwhatif.timer")
+"""The units of systemd."""
+
 PUT = 16
-"""How many files are put into place of `thpsplit`, `thpcheck` and `thpdraw`."""
+"""The number of files installed of `thpsplit`, `thpcheck` and `thpdraw`."""
+
+PREFIX = "usr/local"
+"""The prefix of the installation, below a temporary folder."""
 
 
-def make(target: str, folder: Path) -> str | None:
-    """What is wrong where `make` puts files below a folder, or takes them away; or None."""
-    words = ["make", "-s", target, "PREFIX=/usr", f"DESTDIR={folder}/root", f"PROGRAM={folder}/program",
-             f"CHECKER={folder}/program", f"DRAWER={folder}/program"]
+def make(target: str, folder: Path, *more: str) -> str | None:
+    """What is wrong when `make` installs files below a folder, or removes them; or None."""
+    words = ["make", "-s", target, f"PREFIX=/{PREFIX}", f"DESTDIR={folder}/root", f"PROGRAM={folder}/program",
+             f"CHECKER={folder}/program", f"DRAWER={folder}/program", *more]
     done = subprocess.run(words, cwd=ROOT, capture_output=True, text=True, check=False)
+    if "no C compiler" in done.stdout:
+        raise Missing(done.stdout.strip())
     return None if done.returncode == 0 else f"make {target}: {done.stderr.strip()}"
 
 
@@ -43,24 +62,83 @@ def below(folder: Path) -> list[str]:
 
 
 def puts_and_takes_away() -> str | None:
-    """All files are put; when they are taken away another's file stays, and nothing else is left."""
+    """All files are installed, helpers with full RELRO, and the tools run from there; after their removal another program's file is
+    still there, and nothing else."""
     with tempfile.TemporaryDirectory() as name:
         folder = Path(name)
         root = folder / "root"
         (folder / "program").write_text("#!/bin/sh\n")
-        (root / "usr/bin").mkdir(parents=True)
-        (root / "usr/bin/another").touch()
+        (root / PREFIX / "bin").mkdir(parents=True)
+        (root / PREFIX / "bin/another").touch()
         wrong = make("put", folder)
         if wrong:
             return wrong
         count = len(below(root)) - 1
-        wrong = make("put-whatif", folder) or make("uninstall", folder)
+        wrong = make("put-tools", folder) or tools_run(root)
+        helpers = sorted(path for path in (root / PREFIX / "lib/thpsplit/linux/out").glob("*") if shutil.which("readelf"))
+        wrong = wrong or next(filter(None, map(is_unprotected, helpers)), None)
+        wrong = wrong or make("put-tools", folder, "SYSTEMD=1") or units_are_put(root) or make("uninstall", folder)
         left = below(root)
+        is_left = (root / PREFIX / "lib/thpsplit").exists()
     if wrong:
         return wrong
     if count != PUT:
         return f"{count} files were put, not {PUT}"
-    return None if left == ["usr/bin/another"] else f"left: {', '.join(left)}"
+    return None if left == [f"{PREFIX}/bin/another"] and not is_left else f"left: {', '.join(left)}"
+
+
+def tools_run(root: Path) -> str | None:
+    """What is wrong with the help, the version and the files of a tool that is installed below a folder, or None. No unit is
+    installed unless it is asked for."""
+    version = re.search(r'VERSION: &str = "(.+)"', (ROOT / "crates/thp_cli/src/version.rt").read_text())
+    assert version is not None
+    for tool in TOOLS:
+        for option, start in (("--help", f"usage: {tool} "), ("--version", f"{tool} {version[1]}\n")):
+            done = called(root / PREFIX / "bin" / tool, option)
+            if done.returncode or done.stderr or not done.stdout.startswith(start):
+                return f"{tool} {option}: status {done.returncode}, {done.stdout[:80]!r}{done.stderr}"
+            with open("/dev/full", "w") as full:
+                done = called(root / PREFIX / "bin" / tool, option, out=full)
+            if (done.returncode, done.stderr.count("\n")) != (3, 1):
+                return f"{tool} {option} to a full device: status {done.returncode}, {done.stderr}"
+    if below(root / PREFIX / "lib/thpsplit/linux/letters") != below(ROOT / "linux/letters"):
+        return "the scripts of the known differences aren't installed"
+    helpers, units = below(root / PREFIX / "lib/thpsplit/linux/out"), below(root / PREFIX / "lib/systemd")
+    return None if helpers == list(HELPERS) and not units else f"helpers: {helpers}, units: {units}"
+
+
+def units_are_put(root: Path) -> str | None:
+    """What is wrong with the units that are installed below a folder, or None. The service starts the installed tool."""
+    folder = root / PREFIX / "lib/systemd/system"
+    if below(folder) != list(UNITS):
+        return f"units: {below(folder)}"
+    modes = {oct((folder / name).stat().st_mode & 0o777) for name in UNITS}
+    starts = re.findall(r"^ExecStart=(\S+)", (folder / UNITS[0]).read_text(), re.M)
+    return None if (modes, starts) == ({"0o644"}, [f"/{PREFIX}/bin/thpwhatif"]) else f"modes {modes}, starts {starts}"
+
+
+def units_are_sound() -> str | None:
+    """systemd finds no error in the units, and the service's command line is one of `thpwhatif`."""
+    if shutil.which("systemd-analyze") is None:
+        raise Missing("systemd-analyze isn't there")
+    words = []
+    with tempfile.TemporaryDirectory() as folder:
+        for name in UNITS:
+            text = (ROOT / "linux/whatif" / name).read_text()
+            words += re.findall(r"^ExecStart=/usr/bin/thpwhatif (.+)", text, re.M)
+            (Path(folder) / name).write_text(text.replace("/usr/bin/thpwhatif", str(ROOT / TOOLS["thpwhatif"])))
+        command = ["systemd-analyze", "verify", "--man=no", *(f"{folder}/{name}" for name in UNITS)]
+        done = subprocess.run(command, capture_output=True, text=True, check=False)
+    if done.returncode or done.stderr:
+        return f"status {done.returncode}: {done.stderr.strip()}"
+    options = {word[2:] for word in words[0].split() if word.startswith("--")}
+    return None if options <= options_of_tool("thpwhatif", words[0].split()[0]) else f"the service has {sorted(options)}"
+
+
+def called(program: Path, *words: str, out: int | IO[str] = subprocess.PIPE) -> subprocess.CompletedProcess[str]:
+    """A program's end and outputs with these words."""
+    wide = {**os.environ, "COLUMNS": "200"}
+    return subprocess.run([program, *words], cwd="/", stdout=out, stderr=subprocess.PIPE, text=True, check=False, env=wide)
 
 
 def page_is_sound(page: str) -> str | None:
@@ -72,8 +150,8 @@ def page_is_sound(page: str) -> str | None:
     return done.stderr.strip() or None
 
 
-def options_are_told(path: str, options: str = "crates/thp_programs/src/options.rt") -> str | None:
-    """Each option of a command line stands in the file, and no other; of a page in its section of options. In fish's form an
+def options_are_told(path: str, options: str = "crates/thp_cli/src/options.rt") -> str | None:
+    """A file contains each option of a command line, and no other; for a manual page, its section of options. In fish's form an
     option is `-l NAME`."""
     source = (ROOT / options).read_text()
     wanted = set(re.findall(r'(?:\.long\(|flag\(\s*alloc,\s*)"([a-z]+)"', source)) | {"help", "version"}
@@ -82,6 +160,60 @@ def options_are_told(path: str, options: str = "crates/thp_programs/src/options.
     if told == wanted:
         return None
     return f"lacks {sorted(wanted - told)}, and has {sorted(told - wanted)}"
+
+
+OPTION = re.compile(r"--([a-z][a-z-]*)")
+
+
+def options_of_tool(tool: str, *command: str) -> set[str]:
+    """The options in the help of a tool for the running kernel, or of one of its commands."""
+    lines = called(ROOT / TOOLS[tool], *command, "--help").stdout.splitlines()
+    return {name for line in lines if line.startswith("  -") for name in OPTION.findall(re.split(r"\s{2,}", line.strip())[0])}
+
+
+def all_options(tool: str) -> set[str]:
+    """The options of a tool and of all its commands."""
+    commands = [(name,) for name in COMMANDS] if tool == "thpwhatif" else []
+    return options_of_tool(tool).union(*(options_of_tool(tool, *command) for command in commands))
+
+
+def tool_options_are_listed(tool: str, path: str) -> str | None:
+    """A file contains each option of a tool for the running kernel, and no other; for a manual page, its sections of options."""
+    text, wanted = (ROOT / path).read_text().replace("\\-", "-"), all_options(tool)
+    if path.endswith(".1"):
+        text = "".join(part for part in text.split("\n.SH ")[1:] if "OPTIONS" in part.partition("\n")[0])
+    found = set(OPTION.findall(text)) | set(re.findall(r"^complete .* -l ([a-z-]+)", text, re.M))
+    return None if found == wanted else f"lacks {sorted(wanted - found)}, and has {sorted(found - wanted)}"
+
+
+def bash_completes(tool: str, *command: str) -> str | None:
+    """Bash offers exactly the options of a tool, or of one of its commands."""
+    if shutil.which("bash") is None:
+        raise Missing("bash isn't there")
+    words = " ".join([tool, *command, "--"])
+    code = f"source {ROOT}/completions/{tool}.bash; COMP_WORDS=({words}); COMP_CWORD={len(command) + 1}; _{tool}"
+    done = subprocess.run(["bash", "-c", f'{code}; echo "${{COMPREPLY[@]}}"'], cwd="/", capture_output=True, text=True, check=False)
+    found, wanted = set(OPTION.findall(done.stdout)), options_of_tool(tool, *command)
+    return None if found == wanted else f"lacks {sorted(wanted - found)}, and has {sorted(found - wanted)}{done.stderr}"
+
+
+SHARED = ("Scripts", "Errors of a text", "Reports", "Journals")
+"""The sections of docs/FORMATS.md whose tables are in thpsplit(5), too."""
+
+
+def has_tables_of_formats(page: str = PAGES[1]) -> str | None:
+    """Each cell of the tables of docs/FORMATS.md that thpsplit(5) shares is in the same section of the page."""
+    document, roff = (ROOT / "docs/FORMATS.md").read_text(), (ROOT / page).read_text()
+    plain = re.sub(r"\\f[BIR]|^\.(?:TP|PP)$", "", roff, flags=re.M).replace("\\-", "-").replace("\\&", "")
+    sections = {head.strip(): " ".join(text.split()) for head, _, text in (part.partition("\n") for part in plain.split("\n.SH "))}
+    missing = []
+    for name in SHARED:
+        rows = re.findall(r"^\|(?!---)(.+)\|$", document.split(f"\n## {name}\n")[1].split("\n## ")[0], re.M)
+        heads = [i + 1 for i, line in enumerate(rows) if i == 0 or line.startswith((" Event ", " Version "))]
+        for at, row in enumerate(rows, 1):
+            cells = [] if at in heads else [cell.replace("`", "").strip() for cell in row.split("|")]
+            missing += [f"{name}: {cell}" for cell in cells if cell not in sections.get(name.upper(), "")]
+    return "; ".join(missing[:3]) or None
 
 
 def reads_as(shell: str, path: str) -> str | None:
@@ -93,18 +225,28 @@ def reads_as(shell: str, path: str) -> str | None:
 
 
 def main() -> None:
-    """Makes all tests."""
+    """Runs all tests."""
     tally = Tally()
     tally.run("make install and uninstall", puts_and_takes_away)
-    for page in [*PAGES, KERNEL_PAGE]:
+    tally.run("units of systemd", units_are_sound)
+    for page in [*PAGES, *(f"docs/{tool}.1" for tool in TOOLS), LIBRARY_PAGE]:
         tally.run(f"no warning in {page}", partial(page_is_sound, page))
+    tally.run(f"tables of docs/FORMATS.md in {PAGES[1]}", has_tables_of_formats)
     for path in [PAGES[0], *COMPLETIONS.values()]:
         tally.run(f"options in {path}", partial(options_are_told, path))
     for page, files, name in (PAGES[2], CHECKER_COMPLETIONS, "options"), (PAGES[3], DRAWER_COMPLETIONS, "draw_options"):
         for path in [page, *files.values()]:
-            own = f"crates/thp_journal_programs/src/{name}.rt"
+            own = f"crates/thp_journal_tools/src/{name}.rt"
             tally.run(f"options in {path}", partial(options_are_told, path, own))
-    completions = (COMPLETIONS, CHECKER_COMPLETIONS, DRAWER_COMPLETIONS, KERNEL_COMPLETIONS)
+    completions = [COMPLETIONS, CHECKER_COMPLETIONS, DRAWER_COMPLETIONS]
+    for tool in TOOLS:
+        files = {"bash": f"completions/{tool}.bash", "zsh": f"completions/_{tool}", "fish": f"completions/{tool}.fish"}
+        completions.append(files)
+        for path in [f"docs/{tool}.1", *files.values()]:
+            tally.run(f"options in {path}", partial(tool_options_are_listed, tool, path))
+        tally.run(f"bash completes {tool}", partial(bash_completes, tool))
+    for command in COMMANDS:
+        tally.run(f"bash completes thpwhatif {command}", partial(bash_completes, "thpwhatif", command))
     for shell, path in (pair for files in completions for pair in files.items()):
         tally.run(f"syntax of {path}", partial(reads_as, shell, path))
     tally.end()

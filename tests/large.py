@@ -1,8 +1,8 @@
-"""Large inputs by the built program: every limit that nobody asked for would show here.
+"""Large inputs for the built program: a limit that was not requested would show here.
 
     tests/large.py PROGRAM
 
-What is wanted is worked out here by counting, with no model of the program.
+The expected results are computed here by counting, without a model of the program.
 """
 
 from __future__ import annotations
@@ -31,12 +31,12 @@ SIZE = 512
 """Subpages of a page of order 9."""
 
 MOST_PINS = 65_535
-"""The most pins of a page."""
+"""The greatest number of pins of a page."""
 
 
 @dataclass(frozen=True)
 class Case:
-    """A call, and how it is to end."""
+    """A call, and its expected result."""
 
     name: str
     call: Call
@@ -49,13 +49,13 @@ def joined(lines: Iterable[str]) -> bytes:
 
 
 def totals(number: int = 0, *further: str, **counts: int) -> bytes:
-    """The totals of a node; what isn't named is 0. `further` are counters that the node has besides."""
+    """The totals of a node; those not named are 0. `further` are additional counters of the node."""
     names = ("pages", "queue", "frames_held", "frames_given", *COUNTERS, *further)
     return joined([f"node {number}", *(f"{name} {counts.get(name, 0)}" for name in names)])
 
 
 def fault(line: int, word: str) -> Ended:
-    """The first fault of a text."""
+    """The first error of a text."""
     return Ended(2, b"", f"thpsplit: line {line}: {word}\n".encode())
 
 
@@ -94,7 +94,7 @@ def long_lines() -> Iterator[Case]:
 
 
 def many_commands() -> Iterator[Case]:
-    """A million and a half commands of one section, and what becomes of the last ones."""
+    """A million and a half commands of one section, and the results of the last ones."""
     count = 1_500_000
     text = b"setup\n" + b"count 0\n" * count
     answers = joined([*(f"0 {index} count 0" for index in range(1, count + 1)), f"0 {count + 1} page 0"])
@@ -159,7 +159,7 @@ def many_scans() -> Iterator[Case]:
 
 
 def late_faults() -> Iterator[Case]:
-    """Faults in lines whose numbers are just before and just behind powers of two, up to the last line there may be."""
+    """Errors in lines whose numbers are just below and just above powers of two, up to the last possible line."""
     for line in (255, 256, 65_535, 65_536, 65_537, 131_073, 10_000_000, MOST_BYTES - 8):
         text = b"setup\n" + b"\n" * (line - 2) + b"fly\n"
         yield Case(f"a fault in line {line}", Call((), text), fault(line, "bad-word"))
@@ -184,7 +184,7 @@ def many_pages() -> Iterator[Case]:
 
 
 def pinned_scans(scans: int) -> tuple[bytes, bytes, bytes]:
-    """128 queued pages that are pinned, and so many scans: the script, its totals and its journal."""
+    """128 queued pages that are pinned, and this many scans: the script, its totals and its journal."""
     commands, events = [], []
     for page in range(MOST_BATCH):
         commands += [f"alloc 0\nsplitpmd 0 {page}\nunmap 0 {page} 0 1\npin 0 {page}"]
@@ -280,7 +280,7 @@ def largest_check() -> Iterator[Case]:
 
 
 def unread(name: str, given: tuple[str, ...], errors: bytes) -> Case:
-    """Words at fault, for which no byte of the input is read."""
+    """Words with errors, for which no byte of the input is read."""
     return Case(name, Call(given, b"fly\n", untouched=True), Ended(2, b"", errors))
 
 
@@ -306,7 +306,7 @@ def many_words() -> Iterator[Case]:
 
 
 def long_words() -> Iterator[Case]:
-    """Command lines with a word of 100,000 bytes. One that is unexpected, or no value of its option, is named whole."""
+    """Command lines with a word of 100,000 bytes. A word that is unexpected, or no value of its option, is shown whole."""
     word, digits = "z" * 100_000, "9" * 100_000
     yield unread("a word of 100,000 bytes", (word,), usage.unexpected(word))
     yield unread("a word of 100,000 bytes after --check", ("--check", word), usage.unexpected(word))
@@ -327,17 +327,17 @@ PARTS: tuple[Callable[[], Iterator[Case]], ...] = (
 )
 
 PINNED_PAGES = 5
-"""So many pages of each of 8 nodes are pinned and unpinned."""
+"""The number of pages of each of 8 nodes that are pinned and unpinned."""
 
 PINS = 2_000_000
 """Pins and unpins of all pages, none of which is refused."""
 
 SETUP_BYTES = 16 * 2**20
-"""The most address space that setup may take for them: what they did is in the nodes' counts, and no list has it."""
+"""The greatest address space that setup may use for them: their effect is in the nodes' counts, and no list contains them."""
 
 COMMAND_BYTES = 24
-"""What a worker's command may take, until it is done. With 6 MiB for the program, the node and the huge pages of a stack and
-of a heap, two million of them take less than 52 MiB. A list of their events would not fit."""
+"""The memory that a worker's command may use until it is executed. With 6 MiB for the program, the node and the huge pages of a
+stack and of a heap, two million of them use less than 52 MiB. A list of their events would not fit."""
 
 WORKER_BYTES = PINS * COMMAND_BYTES + 6 * 2**20
 
@@ -349,8 +349,9 @@ with open(sys.argv[1], "w") as file:
     print(usage.ru_maxrss, file=file)
 sys.exit(os.waitstatus_to_exitcode(status))
 """
-"""Runs a program from a small process, and writes what it held at most, in KiB. A child is taken to hold what its parent did
-when it began, so a large one can't measure it."""
+"""Runs a program from a small process, and writes the most memory that it used, in KiB. A child is counted with its parent's
+memory
+at its start, so a large parent can't measure it."""
 
 
 def pins_and_unpins() -> tuple[str, bytes, bytes]:
@@ -365,14 +366,14 @@ def pins_and_unpins() -> tuple[str, bytes, bytes]:
 
 
 def setup_keeps_nothing(program: Path) -> Optional[str]:
-    """Two million pins and unpins of setup take no memory of their own."""
+    """Two million pins and unpins of setup use no memory of their own."""
     made, lines, report = pins_and_unpins()
     call = Call(words("--nodes 8"), b"setup\n" + made.encode() + lines, memory=SETUP_BYTES)
     return run(program, call).differs_from(Ended(0, report))
 
 
 def worker_keeps_commands(program: Path) -> Optional[str]:
-    """Two million pins and unpins of a worker take the memory of its commands alone."""
+    """Two million pins and unpins of a worker use the memory of its commands only."""
     made, lines, report = pins_and_unpins()
     with tempfile.TemporaryDirectory() as folder:
         given, told = Path(folder) / "script", Path(folder) / "most"
@@ -386,11 +387,11 @@ def worker_keeps_commands(program: Path) -> Optional[str]:
 
 
 TURNS = 60
-"""So often each worker of the crowd allocates, takes, and splits a page of each node."""
+"""The number of times that each worker of the crowd allocates, takes, and splits a page of each node."""
 
 
 def crowd_script() -> bytes:
-    """63 workers, each of whom works on all 8 nodes. A page that nobody wrote to is queued once it is allocated."""
+    """63 workers, each of whom works on all 8 nodes. A page without writes is queued once it is allocated."""
     turn = [f"{word} {node}" for node in range(NODES) for word in ("alloc", "take", "splitnext", "putback", "count")]
     own = "".join(f"{line} 1\n" if line.startswith("take") else f"{line}\n" for line in turn) * TURNS
     return "".join(f"worker {worker}\n{own}" for worker in range(1, MOST_WORKERS + 1)).encode()
@@ -408,7 +409,7 @@ def crowd(program: Path) -> Optional[str]:
 
 
 def crowd_answers(program: Path, options: tuple[str, ...], script: bytes, pages: int) -> Optional[str]:
-    """Each worker's answers are there in order; on each node each page was allocated once, and split once."""
+    """Each worker's answers are complete and in order; on each node each page was allocated once, and split once."""
     told = run(program, Call((*options, "--report", "answers"), script))
     answers = [line.split(" ", 2) for line in told.output.decode().splitlines()]
     commands = [line.split(" ") for line in script.decode().splitlines() if not line.startswith("worker")]
@@ -435,7 +436,7 @@ def crowd_journal(program: Path, options: tuple[str, ...], script: bytes, pages:
 
 
 def wrong_of(program: Path, case: Case) -> str | None:
-    """What a program does otherwise than a case wants."""
+    """How a program differs from the expected result of a case."""
     try:
         return run(program, case.call).differs_from(case.wanted)
     except ReadTooEarly:
@@ -443,7 +444,7 @@ def wrong_of(program: Path, case: Case) -> str | None:
 
 
 def main() -> None:
-    """Makes each call, and looks at how it ends."""
+    """Runs each call, and checks its result."""
     if len(sys.argv) != 2 or not os.access(sys.argv[1], os.X_OK):
         sys.exit(__doc__)
     tally = Tally()

@@ -1,9 +1,9 @@
-"""The library for C and for Rust: that its parts agree, and that it does what the header says, on the proved archive.
+"""The library for C and for Rust: its parts agree, and it does what the header specifies, on the proved archive.
 
     python3 tests/library.py [ARCHIVE [PROGRAM]] [--cases N] [--seed S]
 
-ARCHIVE is what `rt lib` makes of crates/thp_c; without one only the texts are compared. With PROGRAM, a built thpsplit, N random
-scripts (default 200) are done by both. What a machine lacks (a compiler, cargo, valgrind) is named.
+ARCHIVE is the result of `rt lib` for crates/thp_c; without one only the texts are compared. With PROGRAM, a built thpsplit, both
+execute N random scripts (default 200). What a machine lacks (a compiler, cargo, valgrind) is named.
 """
 
 from __future__ import annotations
@@ -13,6 +13,7 @@ import os
 import re
 import shutil
 import subprocess
+import tarfile
 import tempfile
 from collections.abc import Sequence
 from functools import cache
@@ -28,7 +29,7 @@ C = ROOT / "c"
 SECONDS = 300
 
 DECLARED = re.compile(r"^([\w ]+?[ *])(thp_\w+)\(([^;{}]*)\);", re.M)
-"""A function's declaration in C: what it answers, its name, its parameters."""
+"""A function's declaration in C: its result, its name, its parameters."""
 
 EXPORT = re.compile(r'pub extern "C" fn thp_c_(\w+)\((.*?)\) -> u32', re.S)
 """An export of the proved crate."""
@@ -50,11 +51,21 @@ TYPES = {
 }
 """A type in C, in Rattle or in Rust, and one word for it."""
 
+FIELD_TYPES = {
+    "uint32_t": "u32", "uint64_t": "u64", "uint64_t[8]": "u64[8]", "void *": "pointer", "u32": "u32", "u64": "u64",
+    "[u64; 8]": "u64[8]", "*mut u8": "pointer",
+}
+"""The type of a field in C, in Rattle or in Rust, and one word for it."""
+
+STRUCTS = {"done": "Done", "scan": "Scan", "tried": "Tried", "back": "Back", "stats": "Stats", "node": "Handle", "pass": "PassHandle",
+           "check": "CheckHandle"}
+"""Each struct of the header without its prefix, and its name in the cargo crate."""
+
 HANDLES = {"&mut ThpNode": "node", "&mut ThpPass": "pass", "&mut ThpCheck": "check"}
-"""What the header calls the handle that a proved function is about."""
+"""The header's name for the handle of a proved function."""
 
 OWN = {"thp_cell_create": [("mark", "u64")]}
-"""What `thp.c` adds to the parameters of the header."""
+"""The parameters that `thp.c` adds to those of the header."""
 
 
 def without_comments(text: str) -> str:
@@ -94,7 +105,7 @@ def header() -> dict[str, list[tuple[str, str]]]:
 
 
 def inner() -> dict[str, list[tuple[str, str]]]:
-    """The functions of the header that are proved ones behind a test of pointers: `thp.c` has the proved ones declared."""
+    """The functions of the header that are proved ones after a test of pointers: `thp.c` declares the proved ones."""
     text = without_comments((C / "thp.c").read_text())
     named = {name: of_c(parameters) for _, name, parameters in DECLARED.findall(text) if name.startswith("thp_c_")}
     return {name.replace("thp_c_", "thp_"): parameters for name, parameters in named.items()}
@@ -107,13 +118,13 @@ def exports() -> dict[str, list[tuple[str, str]]]:
 
 
 def differing(one: dict[str, list[tuple[str, str]]], other: dict[str, list[tuple[str, str]]]) -> str | None:
-    """The names that only one has, or that have other parameters."""
+    """The names that only one of them has, or that have different parameters."""
     wrong = sorted({*one} ^ {*other}) + sorted(name for name in {*one} & {*other} if one[name] != other[name])
     return ", ".join(wrong) or None
 
 
 def exports_are_declared() -> str | None:
-    """thp.c declares what the proved crate exports, parameter for parameter."""
+    """thp.c declares the exports of the proved crate, parameter for parameter."""
     return differing(exports(), inner())
 
 
@@ -124,16 +135,16 @@ def header_is_proved() -> str | None:
 
 
 def names_are_listed() -> str | None:
-    """The names that the static library keeps are the header's, and so are those of the shared library's list."""
+    """The names that the static library exports are the header's, and so are those of the shared library's list and of Debian's."""
     listed = (C / "names").read_text().split()
-    patterns = re.findall(r"(thp_[\w*]+);", (C / "thp.map").read_text())
-    matched = {name for name in header() for it in patterns if re.fullmatch(it.replace("*", r"\w+"), name)}
-    wrong = sorted({*listed} ^ {*header()}) + sorted({*header()} - matched)
+    mapped = re.findall(r"(thp_\w+);", without_comments((C / "thp.map").read_text()))
+    symbols = re.findall(r"^ (thp_\w+)@", (ROOT / "debian/libthp0.symbols").read_text(), re.M)
+    wrong = sorted(name for it in (listed, mapped, symbols) for name in {*it} ^ {*header()})
     return ", ".join(wrong) or None
 
 
 def crate_is_declared() -> str | None:
-    """The cargo crate declares the header's functions but that for allocators, parameter for parameter."""
+    """The cargo crate declares the header's functions except that for allocators, parameter for parameter."""
     text = (ROOT / "rust/src/sys.rs").read_text()
     declared = {name: of_rust(parameters) for name, parameters, _ in BORROWED.findall(text)}
     wanted = {name: it for name, it in header().items() if name != "thp_use_allocator"}
@@ -142,23 +153,108 @@ def crate_is_declared() -> str | None:
 
 
 def codes_agree() -> str | None:
-    """A code has one number in the header and in the cargo crate."""
-    in_c = {name.replace("_", "").lower(): int(number) for name, number in re.findall(r"THP_(\w+) = (\d+)", (C / "thp.h").read_text())}
+    """A code has the same number in the header and in the cargo crate."""
+    in_c = {name.replace("_", "").lower(): int(number) for name, number in re.findall(r"THP_(\w+) = (\d+)\b", (C / "thp.h").read_text())}
     in_rust = re.findall(r"^    (\w+) = (\d+),", (ROOT / "rust/src/fault.rs").read_text(), re.M)
-    wrong = [name for name, number in in_rust if in_c.get(name.lower()) != int(number)]
-    return ", ".join(wrong) or (None if in_rust else "no code was found")
+    proved = "".join(path.read_text() for path in (ROOT / "crates/thp_capi/src").glob("*codes.rt"))
+    in_proved = re.findall(r"(?:Fault|Refusal)::(\w+)\)? => (\d+),", proved)
+    replies = (ROOT / "crates/thp_capi/src/replies.rt").read_text()
+    effects = re.findall(r"Outcome::(\w+) => (\d),", replies)
+    effects += [(f"Try{name}", kind) for name, kind in re.findall(r"Tried::(\w+)[^=]* => ThpTried \{\s*kind: (\d)", replies)]
+    wrong = [name for name, number in [*in_rust, *in_proved, *effects] if in_c.get(name.lower()) != int(number)]
+    found = (len(in_rust), len(in_proved), len(effects))
+    return ", ".join(wrong) or (None if found == (28, 23, 7) else f"found are {found}")
+
+
+def named_fields(text: str, start: str, pattern: str) -> list[tuple[str, str]]:
+    """The fields of a struct, name and type, in their order."""
+    body = text.partition(start)[2].partition("\n}")[0]
+    found = [match.groupdict() for match in re.finditer(pattern, body, re.M)]
+    return [(it["name"], FIELD_TYPES.get(it["type"].strip() + (it.get("length") or ""), it["type"])) for it in found]
+
+
+def structs_agree() -> str | None:
+    """Each struct has the same fields, of the same types and in the same order, in the header, the manual page, the cargo crate and
+    the proved crate."""
+    in_c, in_rust = r"^    (?P<type>\w+ ?\*?) ?\b(?P<name>\w+)(?P<length>\[8\])?;", r"^    (?:pub )?(?P<name>\w+): (?P<type>[^,]+),"
+    proved = "".join(path.read_text() for path in sorted((ROOT / "crates/thp_capi/src").glob("*.rt")))
+    page, sys = (ROOT / "docs/libthp.3").read_text(), (ROOT / "rust/src/sys.rs").read_text()
+    wrong = []
+    for name, rust in STRUCTS.items():
+        wanted = named_fields((C / "thp.h").read_text(), f"struct thp_{name} {{", in_c)
+        places = {"rust/src/sys.rs": named_fields(sys, f"pub struct {rust} {{", in_rust),
+                  "thp_capi": named_fields(proved, f"pub struct Thp{name.title()} {{", in_rust)}
+        if "Handle" not in rust:
+            places["docs/libthp.3"] = named_fields(page, f"struct thp_{name} {{", in_c)
+        wrong += [f"thp_{name}: {place}" for place, fields in places.items() if not wanted or fields != wanted]
+    return ", ".join(wrong) or None
+
+
+def descriptions_agree() -> str | None:
+    """The manual page has each code with its number and the text of thp_strerror, and each limit with its number."""
+    enum = (C / "thp.h").read_text().partition("typedef enum thp_code {")[2].partition("}")[0]
+    codes = re.findall(r"(THP_\w+) = (\d+)\b", enum)
+    texts = dict(re.findall(r'case (THP_\w+): return "([^"]*)";', (C / "thp.c").read_text()))
+    page = (ROOT / "docs/libthp.3").read_text()
+    wrong = [name for name, number in codes if f'.BR {name} " {number}"\n{texts.get(name)}\n' not in page]
+    return ", ".join(wrong + limits_differ(page)) or (None if len({*texts.values()}) == len(codes) else "a text is of two codes")
+
+
+def limits_differ(page: str) -> list[str]:
+    """The limits that have another number in the header than in the model or the manual page."""
+    sources = [ROOT / "crates" / name for name in ("thp_model/src/limits.rt", "thp_model/src/shape.rt", "thp_script/src/limits.rt")]
+    consts = re.findall(r"pub const (\w+): \w+ = ([\d_]+);", "".join(path.read_text() for path in sources))
+    limits = {name.replace("INPUT", "TEXT"): int(number) for name, number in consts}
+    defined = re.findall(r"#define THP_(M(?:AX|IN)_\w+) (\d+)", (C / "thp.h").read_text())
+    wrong = [name for name, number in defined if limits.get(name) != int(number) or f'.BR THP_{name} " {number}"' not in page]
+    return wrong if len(defined) == 6 else ["not six limits"]
+
+
+def version() -> str:
+    """The version of the library, from the header."""
+    return ".".join(re.findall(r"THP_VERSION_(?:MAJOR|MINOR|PATCH) (\d+)", (C / "thp.h").read_text()))
+
+
+def soname() -> str:
+    """The name under which programs find the shared library."""
+    return "".join(re.findall(r"^SONAME = (\S+)$", (C / "Makefile").read_text(), re.M))
+
+
+def symbol_versions() -> list[str]:
+    """The versions of the shared library's functions, from the oldest to the newest."""
+    return re.findall(r"^(THP_[\d.]+) \{", without_comments((C / "thp.map").read_text()), re.M)
+
+
+def symbols_are_dated() -> str | None:
+    """Debian's list requires of each function the version in which it is new, and none is newer than the header."""
+    listed = re.findall(r"^ (\S+)@(THP_(\d+)\.(\d+)) (\S+)$", (ROOT / "debian/libthp0.symbols").read_text(), re.M)
+    now = [int(part) for part in version().split(".")]
+    wrong = [name for name, symbol, major, minor, needs in listed if not needs.startswith(f"{major}.{minor}.")]
+    wrong += [name for name, _, major, minor, _ in listed if [int(major), int(minor)] > now]
+    same = sorted({symbol for _, symbol, *_ in listed}) == sorted(symbol_versions())
+    return ", ".join(wrong) or (None if same and listed else "versions differ from those of c/thp.map")
 
 
 def versions_agree() -> str | None:
-    """Header and cargo crate are of one version, and the header's numbers are those of its text."""
-    text = (C / "thp.h").read_text()
-    version = ".".join(re.findall(r"THP_VERSION_(?:MAJOR|MINOR|PATCH) (\d+)", text))
-    wanted = f'#define THP_VERSION "{version}"' in text and f'version = "{version}"' in (ROOT / "rust/Cargo.toml").read_text()
-    return None if wanted else version
+    """Header, cargo crate, manual page and Debian's list of symbols have one version and one soname."""
+    number = version()
+    wanted = {
+        "c/thp.h": f'#define THP_VERSION "{number}"', "rust/Cargo.toml": f'\nversion = "{number}"', "docs/libthp.3": f'"libthp {number}"',
+        "rust/Cargo.lock": f'name = "leversorrel"\nversion = "{number}"',
+        "debian/libthp0.symbols": f"{soname()} libthp{soname().rpartition('.')[2]} #MINVER#",
+        "debian/control": f"\nPackage: libthp{soname().rpartition('.')[2]}\n",
+    }
+    return ", ".join(name for name, text in wanted.items() if text not in (ROOT / name).read_text()) or None
+
+
+def processor_is_named() -> str | None:
+    """Everything that describes the library names the level of processor that it needs."""
+    named = ("c/thp.h", "docs/libthp.3", "docs/C.md", "debian/control", "rust/README.md", "rust/src/lib.rs")
+    return ", ".join(name for name in named if "x86-64-v2" not in (ROOT / name).read_text().replace("\\-", "-")) or None
 
 
 def called(command: Sequence[str | Path], where: Path, **more: str) -> str | None:
-    """Runs a command, and answers what it said where it ends wrong."""
+    """Runs a command, and returns its output if it fails."""
     if shutil.which(str(command[0])) is None and not Path(command[0]).exists():
         raise Missing(f"no {command[0]} here")
     try:
@@ -170,8 +266,27 @@ def called(command: Sequence[str | Path], where: Path, **more: str) -> str | Non
     return None if ended.returncode == 0 else f"{command[0]} ended with status {ended.returncode}: {said}"
 
 
+def elf_differs(library: Path) -> str | None:
+    """What is wrong with a library: its soname, the version of its symbols, memory that stays writable, or names resolved late."""
+    name, symbols = soname(), (symbol_versions() or ["THP_"])[-1]
+    if shutil.which("readelf") is None:
+        raise Missing("no readelf here")
+    told = subprocess.run(["readelf", "-dVW", library], capture_output=True, text=True, check=False).stdout
+    wanted = {f"soname {name}": rf"\(SONAME\).*\[{re.escape(name)}\]", f"version {symbols}": rf"Name: {re.escape(symbols)}$"}
+    return ", ".join(f"not {it}" for it in wanted if not re.search(wanted[it], told, re.M)) or is_unprotected(library)
+
+
+def is_unprotected(built: Path) -> str | None:
+    """What a library or program lacks of full RELRO: memory that becomes read-only, names that are resolved when it is loaded."""
+    if shutil.which("readelf") is None:
+        raise Missing("no readelf here")
+    told = subprocess.run(["readelf", "-dlW", built], capture_output=True, text=True, check=False).stdout
+    wanted = {"RELRO": r"^ *GNU_RELRO ", "BIND_NOW": r"\(FLAGS\).*BIND_NOW|\(FLAGS_1\).*NOW"}
+    return ", ".join(f"{built.name} has no {it}" for it in wanted if not re.search(wanted[it], told, re.M)) or None
+
+
 class Built:
-    """The library as it is built of an archive, in a folder of its own."""
+    """The library, built from an archive in a folder of its own."""
 
     def __init__(self, archive: Path, folder: Path) -> None:
         self.archive, self.folder = archive, folder
@@ -185,24 +300,31 @@ class Built:
         return called(["make", "-s", "demos", f"ARCHIVE={self.archive}", f"OUT={self.folder}"], C)
 
     def shown_names(self) -> str | None:
-        """The shared library shows the header's functions, and the static library has no other global name."""
+        """The shared library exports the header's functions, and the static library has no other global name."""
         for library, words in (("libthp.so", ["-D"]), ("libthp.a", ["-g"])):
             command = ["nm", *words, "--defined-only", str(self.folder / library)]
             told = subprocess.run(command, capture_output=True, text=True, check=False).stdout
-            shown = {line.split()[-1] for line in told.splitlines() if len(line.split()) == 3}
+            shown = {line.split()[-1].partition("@")[0] for line in told.splitlines() if len(line.split()) == 3} - {*symbol_versions()}
             if shown != {*header()}:
                 return f"{library}: {sorted(shown ^ {*header()})[:9]}"
         return None
 
+    def header_of_elf(self) -> str | None:
+        """The shared library has its soname and version, and is linked with full RELRO."""
+        library = self.folder / f"libthp.so.{version()}"
+        if not library.is_file():
+            return f"no {library.name}"
+        return elf_differs(library)
+
     def wanted_names(self) -> str | None:
-        """The shared library asks the C library for memory and its movement alone: nothing of that waits or is a cancellation point."""
+        """The shared library needs the C library for memory and moving it only: none of that waits or is a cancellation point."""
         command = ["nm", "-D", "--undefined-only", str(self.folder / "libthp.so")]
         told = subprocess.run(command, capture_output=True, text=True, check=False).stdout
         asked = {line.split()[-1].partition("@")[0] for line in told.splitlines() if line.split()[0] == "U"}
         return None if {"malloc", "realloc", "free"} <= asked <= ASKED else f"{sorted(asked ^ ASKED)}"
 
     def test(self, source: str, compiler: str, words: list[str], under: list[str]) -> str | None:
-        """A test in C is built by a compiler with these words, and run."""
+        """Builds a test in C with a compiler and these arguments, and runs it."""
         name = Path(source).stem
         own = [word for word in words if word.startswith("-fsanitize")]
         c_compiler = {"g++": "gcc", "clang++": "clang"}.get(compiler, compiler)
@@ -213,7 +335,18 @@ class Built:
             from_source = [*language, source, "-x", "none"]
             flags = ["-pthread", "-g", "-O1", "-Wall", "-Wextra", "-Werror", "-I."]
             wrong = called([compiler, *words, *flags, *from_source, room / "thp.o", self.archive, "-o", room / name], C)
-        return wrong or called([*under, room / name], room, TSAN_OPTIONS=f"suppressions={C / 'tests/races.supp'}")
+        return wrong or called([*under, room / name], room, TSAN_OPTIONS=f"suppressions={C / 'tsan.supp'}")
+
+    def suppressed(self) -> str | None:
+        """The suppressions suffice for the demo of a cell, with either library; the shared one as packages have it."""
+        place = Path(tempfile.mkdtemp(dir=self.folder))
+        shutil.copy(self.folder / "libthp.so", place / soname())
+        wrong = called(["strip", "--strip-unneeded", place / soname()], place)
+        build = ["gcc", *RACING, "-g", "-O1", "-I.", "demos/cell.c", "-pthread", "-o", str(place / "cell")]
+        for library in (place / soname(), self.folder / "libthp.a"):
+            wrong = wrong or called([*build, library, f"-Wl,-rpath,{place}"], C)
+            wrong = wrong or called([place / "cell"], place, TSAN_OPTIONS=f"suppressions={C / 'tsan.supp'}")
+        return wrong
 
     def documents(self) -> str | None:
         """doxygen has no warning about the header."""
@@ -222,32 +355,80 @@ class Built:
         return called(["doxygen", config], C)
 
     def installed(self) -> str | None:
-        """What is installed is found by pkg-config, builds the first demo, and goes again without a trace."""
-        place = self.folder / "place"
-        words = [f"ARCHIVE={self.archive}", f"OUT={self.folder}", f"PREFIX={place}"]
+        """The installed library is found by pkg-config, CMake and man, also after a move, and is removed completely."""
+        place, moved = self.folder / "place", self.folder / "moved"
+        words = [f"ARCHIVE={self.archive}", f"OUT={self.folder}", f"PREFIX={place}", "LIBDIR=lib/many"]
         wrong = called(["make", "-s", "install", *words], C)
-        build = "cc demos/first.c $(pkg-config --cflags --libs thp) -o $OUT/found && LD_LIBRARY_PATH=$PLACE/lib $OUT/found"
-        paths = {"PKG_CONFIG_PATH": str(place / "lib/pkgconfig"), "OUT": str(self.folder), "PLACE": str(place)}
-        if wrong is None and shutil.which("pkg-config") is None:
-            raise Missing("no pkg-config here")
-        wrong = wrong or called(["sh", "-c", build], C, **paths) or called(["make", "-s", "uninstall", *words], C)
+        shutil.copytree(place, moved, symlinks=True)
+        wrong = wrong or called(["make", "-s", "uninstall", *words], C)
         left = [str(path) for path in place.rglob("*") if not path.is_dir()]
-        return wrong or (f"left are {left}" if left else None)
+        return wrong or (f"left are {left}" if left else None) or found_by_man(moved) or self.found(moved)
+
+    def found(self, place: Path) -> str | None:
+        """What is wrong when pkg-config and CMake find an installed library, and the first demo is built with it."""
+        if shutil.which("pkg-config") is None:
+            raise Missing("no pkg-config here")
+        build = """cc demos/first.c $(pkg-config --cflags --libs thp) -o $OUT/found && LD_LIBRARY_PATH=$PLACE/lib/many $OUT/found &&
+            test "$(pkg-config --modversion thp)" = "$VERSION" && test -f "$(pkg-config --variable=suppressions thp)"
+            """
+        paths = {"PKG_CONFIG_PATH": str(place / "lib/many/pkgconfig"), "OUT": str(self.folder), "PLACE": str(place), "VERSION": version()}
+        return called(["sh", "-ec", build], C, **paths) or self.found_by_cmake(place)
+
+    def found_by_cmake(self, place: Path) -> str | None:
+        """The same by CMake, which also refuses a library that is older than asked for."""
+        if shutil.which("cmake") is None:
+            raise Missing("no cmake here")
+        source, out = Path(tempfile.mkdtemp(dir=self.folder)), Path(tempfile.mkdtemp(dir=self.folder))
+        (source / "CMakeLists.txt").write_text(CMAKE_USE.replace("DEMO", str(C / "demos/first.c")))
+        configure = ["cmake", "-S", str(source), "-B", str(out), f"-Dthp_DIR={place / 'lib/many/cmake/thp'}"]
+        wrong = called([*configure, f"-DWANTED={version()}"], source) or called(["cmake", "--build", out], source)
+        wrong = wrong or called([out / "shared"], out) or called([out / "static"], out)
+        major = int(version().split(".")[0])
+        newer = called([*configure, f"-DWANTED={major}.999"], source)
+        return wrong or (None if newer else "CMake took a library that is too old")
+
+    def cargo(self, *words: str, **more: str) -> str | None:
+        """Runs cargo in the crate, with no network."""
+        command = ["cargo", words[0], "--offline", "--quiet", "--target-dir", str(self.folder / "cargo"), *words[1:]]
+        return called(command, ROOT / "rust", **{"THP_LIB": str(self.folder), **more})
 
     def crate(self) -> str | None:
-        """The cargo crate's tests and the examples of its documents run, with no network."""
-        target = str(self.folder / "cargo")
-        return called(["cargo", "test", "--offline", "--quiet", "--target-dir", target], ROOT / "rust", THP_LIB=str(self.folder))
+        """The cargo crate's tests and the examples of its documents run."""
+        return self.cargo("test")
+
+    def crate_is_clean(self) -> str | None:
+        """clippy has no warning about the cargo crate."""
+        if subprocess.run(["cargo", "clippy", "--version"], cwd=ROOT, capture_output=True, check=False).returncode != 0:
+            raise Missing("no cargo clippy here")
+        return self.cargo("clippy", "--all-targets", "--", "-D", "warnings")
+
+    def crate_is_packed(self) -> str | None:
+        """cargo packs the crate, with its licences."""
+        wrong = self.cargo("package", "--allow-dirty", "--no-verify")
+        packed = self.folder / f"cargo/package/leversorrel-{version()}.crate"
+        if wrong or not packed.is_file():
+            return wrong or f"no {packed.name}"
+        with tarfile.open(packed) as tar:
+            names = {Path(it.name).name for it in tar.getmembers() if it.isfile() and it.size}
+        lacks = {"LICENSE-APACHE", "LICENSE-MIT", "README.md", "build.rs"} - names
+        return f"lacks {', '.join(sorted(lacks))}" if lacks else None
+
+    def crate_names_library(self) -> str | None:
+        """Without a library, and with a relative folder, the build script ends with a line that says what to do."""
+        empty = self.folder / "empty"
+        empty.mkdir()
+        for folder, wanted in ((str(empty), "libthp.a isn't in"), ("c/out", "THP_LIB must be an absolute path")):
+            told = self.cargo("check", THP_LIB=folder)
+            if told is None or wanted not in told or "panicked" in told:
+                return f"THP_LIB={folder}: {told}"
+        return None
 
     def random_sequences(self, program: Path, cases: int, seed: int) -> str | None:
-        """The cargo crate answers random sequences of calls as the program does, and has the same journals and numbers."""
-        target = str(self.folder / "cargo")
-        words = ["cargo", "test", "--offline", "--quiet", "--target-dir", target, "--test", "random"]
-        asked = {"THP_PROGRAM": str(program), "THP_CASES": str(cases), "THP_SEED": str(seed)}
-        return called(words, ROOT / "rust", THP_LIB=str(self.folder), **asked)
+        """The cargo crate has the program's results for random sequences of calls, and the same journals and numbers."""
+        return self.cargo("test", "--test", "random", THP_PROGRAM=str(program), THP_CASES=str(cases), THP_SEED=str(seed))
 
     def many_batches(self, cases: int, seed: int) -> str | None:
-        """Batches of several callers on one node, by nodes and by passes, do what a plain reading of the model says."""
+        """Batches of several callers on one node, through nodes and through passes, agree with a plain reading of the model."""
         replay = self.folder / "replay"
         wrong = called(["cc", "-std=c11", "-O1", "-I.", "tests/replay.c", self.folder / "libthp.a", "-o", replay], C)
         for case in range(cases if wrong is None else 0):
@@ -257,7 +438,8 @@ class Built:
         return wrong
 
     def same_answers(self, program: Path, cases: int, seed: int) -> str | None:
-        """The library answers random scripts as the program does, by nodes and by passes of shared ones, and has the same journals."""
+        """The library has the program's answers for random scripts, through nodes and through passes of shared ones, and the
+        same journals."""
         replay = self.folder / "replay"
         wrong = called(["cc", "-std=c11", "-O1", "-I.", "tests/replay.c", self.folder / "libthp.a", "-o", replay], C)
         for case in range(cases if wrong is None else 0):
@@ -269,8 +451,30 @@ class Built:
         return wrong
 
 
+def found_by_man(place: Path) -> str | None:
+    """What is wrong when man looks for the page of each function."""
+    if shutil.which("man") is None:
+        raise Missing("no man here")
+    shown = subprocess.run(["man", "-M", place / "share/man", "-w", "3", *header()], capture_output=True, text=True, check=False)
+    if shown.returncode != 0:
+        return shown.stderr.strip()[:200]
+    pages = {path.resolve().name for path in (place / "share/man/man3").iterdir()}
+    return None if pages == {"libthp.3"} else f"{sorted(pages)}"
+
+
+CMAKE_USE = """cmake_minimum_required(VERSION 3.13)
+project(use C)
+find_package(thp ${WANTED} REQUIRED)
+add_executable(shared DEMO)
+target_link_libraries(shared thp::thp)
+add_executable(static DEMO)
+target_link_libraries(static thp::static)
+"""
+"""A project that uses the library, for CMake."""
+
+
 def differs(replay: Path, program: Path, script: Script, options: list[str]) -> str | None:
-    """What the library does otherwise than the program, on one script: by nodes, and by passes of shared ones."""
+    """How the library differs from the program on one script: through nodes, and through passes of shared ones."""
     shapes = [f"{order},{'off' if switch is None else switch}" for _, order, switch in script.shapes]
     wanted = b""
     for report in ("answers", "journal")[: 2 if len(shapes) == 1 else 1]:
@@ -291,7 +495,7 @@ def differs(replay: Path, program: Path, script: Script, options: list[str]) -> 
 
 
 def differs_on_batches(replay: Path, chance: Random) -> str | None:
-    """What the library does otherwise than the model where callers of one node take turns, each with its own open batch."""
+    """How the library differs from the model when callers of one node take turns, each with its own open batch."""
     shape = random_shapes(chance, 1)[0]
     run, callers = Run([shape]), sorted(chance.sample(range(64), chance.choice((2, 3, 8))))
     open_by: dict[int, dict[int, list[int]]] = {caller: {} for caller in callers}
@@ -317,7 +521,7 @@ def differs_on_batches(replay: Path, chance: Random) -> str | None:
 
 
 ASKED = {"malloc", "realloc", "free", "memcpy", "memmove", "memset", "memcmp"}
-"""What the library may ask of the C library."""
+"""What the library may use of the C library."""
 
 SANITIZED = ["-fsanitize=address,undefined", "-fno-sanitize-recover=all"]
 
@@ -336,7 +540,7 @@ TESTS = (
 )
 
 RACING = ["-std=gnu11", "-fsanitize=thread"]
-"""How what has threads is built to find what two of them do to one place."""
+"""How tests with threads are built, so that data races are found."""
 
 
 def texts(tally: Tally) -> None:
@@ -346,13 +550,18 @@ def texts(tally: Tally) -> None:
     tally.run("the names that are shown are the header's", names_are_listed)
     tally.run("the cargo crate declares the header's functions", crate_is_declared)
     tally.run("codes have one number", codes_agree)
+    tally.run("structs have the same fields", structs_agree)
+    tally.run("the manual page has each code and limit", descriptions_agree)
     tally.run("versions agree", versions_agree)
+    tally.run("Debian's list of symbols names their versions", symbols_are_dated)
+    tally.run("the level of processor is named", processor_is_named)
 
 
 def builds(tally: Tally, built: Built) -> None:
-    """What is built of the archive, and the tests in C."""
+    """The tests of what is built from the archive, and the tests in C."""
     tally.run("both libraries are built", built.libraries)
     tally.run("they show the header's names", built.shown_names)
+    tally.run("soname, version and protection of the shared library", built.header_of_elf)
     tally.run("the shared library asks for memory alone", built.wanted_names)
     tally.run("the demos run", built.demos)
     for compiler, words in BUILDS:
@@ -360,6 +569,7 @@ def builds(tally: Tally, built: Built) -> None:
             tally.run(f"{name}: {compiler} {' '.join(words)}", lambda: built.test(name, compiler, words, []))
     for name in ("demos/threads.c", "demos/cell.c", "tests/interrupted.c", "tests/busy.c"):
         tally.run(f"{name}: gcc -fsanitize=thread", lambda: built.test(name, "gcc", RACING, []))
+    tally.run("suppressions for the thread sanitizer", built.suppressed)
     # valgrind runs one thread at a time: without fair turns, on an idle machine, one that never blocks keeps all others waiting
     under = ["valgrind", "-q", "--fair-sched=try", "--error-exitcode=9", "--leak-check=full", "--errors-for-leak-kinds=all"]
     for name in TESTS:
@@ -367,10 +577,13 @@ def builds(tally: Tally, built: Built) -> None:
     tally.run("the header's documents", built.documents)
     tally.run("what is installed is found", built.installed)
     tally.run("the cargo crate", built.crate)
+    tally.run("clippy on the cargo crate", built.crate_is_clean)
+    tally.run("the cargo crate is packed", built.crate_is_packed)
+    tally.run("the cargo crate names a library that isn't there", built.crate_names_library)
 
 
 def main() -> None:
-    """Compares the texts, and tests what is built of the archive."""
+    """Compares the texts, and tests what is built from the archive."""
     words = argparse.ArgumentParser(description=__doc__, formatter_class=argparse.RawDescriptionHelpFormatter)
     words.add_argument("archive", nargs="?", type=Path)
     words.add_argument("program", nargs="?", type=Path)

@@ -19,11 +19,11 @@ from tally import Missing, Tally
 ROOT = Path(__file__).resolve().parent.parent
 
 SECONDS = 300
-"""The longest that one of them may take."""
+"""The greatest time that one of them may take."""
 
 
 def checked(words: list[str]) -> str | None:
-    """What a program reports of the sources, or None."""
+    """A program's findings in the sources, or None."""
     if shutil.which(words[0]) is None:
         raise Missing(f"no {words[0]} here (Debian's package {words[0]})")
     done = subprocess.run(words, cwd=ROOT, capture_output=True, text=True, errors="replace", timeout=SECONDS, check=False,
@@ -40,7 +40,8 @@ def main() -> None:
         strict = ["mypy", "--strict", "--cache-dir", cache]
         tally.run("types of linux/", partial(checked, [*strict, "linux"]))
         tally.run("types of tests/ and prove.py", partial(checked, [*strict, *tests, "prove.py"]))
-    tally.run("style", partial(checked, ["flake8", "linux", "tests", "prove.py"]))
+        tally.run("types of docs/pictures", partial(checked, [*strict, "docs/pictures/layers.py"]))
+    tally.run("style", partial(checked, ["flake8", "linux", "tests", "docs/pictures", "prove.py"]))
     tally.end()
 
 

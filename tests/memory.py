@@ -1,13 +1,13 @@
 #!/usr/bin/env python3
-"""Refuses each growth of memory in turn, and each start of a thread, and looks at what comes of that (`make memory`).
+"""Fails each allocation in turn, and each start of a thread, and checks the result (`make memory`).
 
     tests/memory.py PROGRAM [TESTS[:FRONT] ..]
 
-PROGRAM is the built `thpsplit`. Where memory is refused to it, it ends with status 3, tells `thpsplit: out of memory`
-and writes nothing; or it got by with less, or without the thread, and all is as ever. TESTS are built tests; each whose
-name begins with FRONT (each at all, where there is none) passes whatever growth is refused; it may tell by a line
-`refused: CALL` which call met that. Wants a C compiler, `cc` or what CC names; the exit status is 77 where there is
-none. A line for each case tells how many growths were refused; the last line is `N passed, M failed`, by cases and tests.
+PROGRAM is the built `thpsplit`. If an allocation fails, it must end with status 3, report `thpsplit: out of memory` and write
+nothing; or it manages with less memory, or without the thread, and its output is the usual one. TESTS are built tests; each
+test whose name begins with FRONT (every test if there is none) must pass whichever allocation fails; it may report the failed
+call in a line `refused: CALL`. Needs a C compiler, `cc` or the one that CC names; the exit status is 77 if there is none. A
+line for each case reports the number of failed allocations; the last line is `N passed, M failed`, by cases and tests.
 """
 
 from __future__ import annotations
@@ -33,7 +33,7 @@ TOLD = "thpsplit: out of memory\n"
 
 Ran = subprocess.CompletedProcess[str]
 Case = tuple[str, list[str], str, str]
-"""A run: a name, its options, what it reads, and what it prints."""
+"""A run: a name, its options, its input, and its output."""
 
 FIRST = "setup\nalloc 0\nsplitpmd 0 0\nunmap 0 0 0 256\nscan 0 8\n"
 # three workers on a node each, one of whom leaves a batch open
@@ -46,7 +46,7 @@ SECTIONS = {
 
 
 def main() -> None:
-    """Refuses, and counts the cases and tests in which no run ended wrong."""
+    """Makes allocations fail, and counts the cases and tests in which no run ended wrong."""
     if len(sys.argv) < 2:
         sys.exit(__doc__)
     tally = Tally(is_brief=True)
@@ -64,12 +64,12 @@ def main() -> None:
 
 
 def told(wrong: int) -> str | None:
-    """What a tally is told of so many runs that ended wrong."""
+    """The entry in a tally for this many runs that ended wrong."""
     return f"{wrong} runs ended wrong" if wrong else None
 
 
 class Refuser:
-    """Runs programs with one growth or one start of a thread refused."""
+    """Runs programs with one allocation or one start of a thread made to fail."""
 
     def __init__(self, folder: pathlib.Path) -> None:
         self.folder, self.library = folder, folder / "refuse.so"
@@ -77,7 +77,7 @@ class Refuser:
         subprocess.run(words, check=True)
 
     def run(self, words: Sequence[str], text: str, which: str = "MEMORY", number: int = 0) -> tuple[Ran, int, int]:
-        """The run, and how many growths and starts of threads it made."""
+        """The run, and the numbers of its allocations and starts of threads."""
         with tempfile.NamedTemporaryFile(dir=self.folder) as counts:
             counts.write(bytes(16))
             counts.flush()
@@ -89,7 +89,7 @@ class Refuser:
             return ran, growths, starts
 
     def each(self, words: Sequence[str], text: str) -> tuple[list[Ran], list[Ran]]:
-        """The runs with each growth and then each start of a thread refused."""
+        """The runs with each allocation and then each start of a thread made to fail."""
         _, growths, starts = self.run(words, text)
         asked = [("MEMORY", number) for number in range(1, growths + 1)]
         asked += [("THREAD", number) for number in range(1, starts + 1)]
@@ -123,7 +123,7 @@ def joined(lines: Iterable[str]) -> str:
 
 
 def try_case(refuser: Refuser, program: str, name: str, options: list[str], text: str, wanted: str) -> int:
-    """Runs the program with each growth and each thread refused; how many of these runs ended wrong."""
+    """Runs the program with each allocation and each thread made to fail; returns the number of these runs that ended wrong."""
 
     def kind(ran: Ran) -> str:
         told = (ran.returncode, ran.stdout, ran.stderr)
@@ -141,7 +141,7 @@ def try_case(refuser: Refuser, program: str, name: str, options: list[str], text
 
 
 def try_tests(refuser: Refuser, tests: str) -> int:
-    """Runs each test with each growth and each thread refused; how many of these runs failed."""
+    """Runs each test with each allocation and each thread made to fail; returns the number of these runs that failed."""
     path, _, front = tests.partition(":")
     listed = subprocess.run([path, "--list"], capture_output=True, text=True, check=True).stdout
     failed = 0

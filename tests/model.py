@@ -1,8 +1,8 @@
 """A plain reading of docs/MODEL.md: what a node does, event by event. It shares no code with the program.
 
-A node is told one event at a time (`Node.alloc`, `Node.unmap_sub`, `Node.taken`, ..); each method does the event,
-writes its journal line and gives its answer, or raises `Refused` with the word of the refusal and changes nothing. An
-event that no call could have recorded at that place raises `Misfit`. The calls of the shrinker are made of such events.
+A node is given one event at a time (`Node.alloc`, `Node.unmap_sub`, `Node.taken`, ..). Each method applies the event, writes its
+journal line and returns its result, or raises `Refused` with the word of the refusal and changes nothing. An event that no call
+could have recorded at that place raises `Misfit`. The shrinker's calls are implemented with these events.
 """
 
 from __future__ import annotations
@@ -11,7 +11,7 @@ from collections import Counter
 from typing import Iterable, Optional, Union
 
 MOST = 65_535
-"""No map count of a subpage and no count of pins goes beyond it."""
+"""The greatest map count of a subpage, and the greatest number of pins."""
 
 REFUSALS = (
     "no-page", "bad-range", "is-split", "not-mapped", "gone", "not-pinned", "too-many", "closed", "no-block",
@@ -82,7 +82,7 @@ class Node:
         return page.used() - page.zero if self.underused is not None else page.used()
 
     def frames_held(self) -> int:
-        """How many frames the live pages hold."""
+        """The number of frames that the live pages hold."""
         return sum(len(self.held(page)) for page in self.live.values())
 
     def flight(self, caller: int) -> list[int]:
@@ -90,18 +90,18 @@ class Node:
         return self.flights.setdefault(caller, [])
 
     def worth_splitting(self, page: Page) -> bool:
-        """Whether the shrinker splits a page, if it isn't pinned."""
+        """Whether the shrinker splits a page, unless it is pinned."""
         return page.is_partly or (self.underused is not None and len(page.zero) > self.underused)
 
     def record(self, caller: int, *words: Union[int, str]) -> None:
-        """Writes an event into the journal."""
+        """Appends an event to the journal."""
         self.taker = caller if words[0] == "taken" else None
         self.journal.append(" ".join(map(str, (caller, *words))))
 
     # What is asked of one page.
 
     def page(self, number: int, whole: bool = False) -> Page:
-        """The live page of this number, which mustn't be split where it is asked for whole."""
+        """The live page of this number, which must not be split if `whole` is given."""
         if number not in self.live:
             raise Refused("no-page")
         page = self.live[number]
@@ -110,7 +110,7 @@ class Node:
         return page
 
     def range(self, first: int, count: int) -> range:
-        """A range of subpages, which isn't empty and lies within a page."""
+        """A range of subpages, which is not empty and lies within a page."""
         if count == 0 or first + count > self.size:
             raise Refused("bad-range")
         return range(first, first + count)
@@ -129,7 +129,7 @@ class Node:
         return f"page {number}"
 
     def map_whole(self, caller: int, number: int) -> str:
-        """Maps a page whole once more."""
+        """Maps the whole page once more."""
         page = self.page(number, whole=True)
         if any(page.total(i) == MOST for i in range(self.size)):
             raise Refused("too-many")
@@ -151,7 +151,7 @@ class Node:
         return "ok"
 
     def split_pmd(self, caller: int, number: int) -> str:
-        """Turns one mapping of the whole into one of each subpage."""
+        """Replaces one mapping of the whole page by one of each subpage."""
         page = self.page(number, whole=True)
         if page.whole == 0:
             raise Refused("not-mapped")
@@ -162,7 +162,7 @@ class Node:
         return "ok"
 
     def pin(self, caller: int, number: int) -> str:
-        """Pins a page once more."""
+        """Adds a pin to a page."""
         page = self.page(number, whole=True)
         if page.pins == MOST:
             raise Refused("too-many")
@@ -182,7 +182,7 @@ class Node:
         return "ok"
 
     def unmap_whole(self, caller: int, number: int) -> str:
-        """Takes one mapping of the whole away."""
+        """Removes one mapping of the whole page."""
         page = self.page(number, whole=True)
         if page.whole == 0:
             raise Refused("not-mapped")
@@ -191,7 +191,7 @@ class Node:
         return self.lost(caller, number, held, used, "unmapwhole", number)
 
     def unmap_sub(self, caller: int, number: int, first: int, count: int) -> str:
-        """Takes one mapping of each subpage of a range away."""
+        """Removes one mapping of each subpage of a range."""
         page = self.page(number)
         subpages = self.range(first, count)
         if any(page.own[i] == 0 for i in subpages):
@@ -202,7 +202,7 @@ class Node:
         return self.lost(caller, number, held, used, "unmapsub", number, first, count)
 
     def unpin(self, caller: int, number: int) -> str:
-        """Takes one pin away."""
+        """Removes a pin."""
         page = self.page(number, whole=True)
         if page.pins == 0:
             raise Refused("not-pinned")
@@ -250,7 +250,7 @@ class Node:
         return self.flight(caller)[-1]
 
     def tried(self, caller: int, number: int) -> str:
-        """Splits a page of the flight, finds it pinned, or finds it in full use."""
+        """Splits a page of the flight, finds it pinned, or finds it in use."""
         if number not in self.flight(caller):
             raise Misfit
         page = self.live[number]

@@ -1,10 +1,10 @@
-"""The built program from outside: each exit status, with each stream's exact bytes.
+"""The built program from outside: each exit status, with the exact bytes of each stream.
 
     tests/outside.py PROGRAM
     tests/outside.py --self-test PROGRAM
 
-With `--self-test`, wrong programs (tests/wrong_programs.py) take the place of PROGRAM: each counts as passed where a
-row refuses it. What passed is counted, and told by a line for each group.
+With `--self-test`, wrong programs (tests/wrong_programs.py) replace PROGRAM: each counts as passed if a row refuses it. Passed
+rows are counted, and reported in a line for each group.
 """
 
 from __future__ import annotations
@@ -45,15 +45,15 @@ NOTHING_DONE = (
     b"node 0\npages 0\nqueue 0\nframes_held 0\nframes_given 0\n"
     b"thp_split_page 0\nthp_split_page_failed 0\nthp_deferred_split_page 0\nthp_split_pmd 0\n"
 )
-"""The totals of a node on which nothing was done."""
+"""The totals of a node without events."""
 
 FEW_BYTES = 48 * 2**20
-"""So much address space that the program starts, and can't hold two million commands or answers."""
+"""Enough address space for the program to start, and too little for two million commands or answers."""
 
 
 @dataclass(frozen=True)
 class Row:
-    """A call of the program, and how it is to end."""
+    """A call of the program, and its expected result."""
 
     group: str
     name: str
@@ -61,7 +61,7 @@ class Row:
     wanted: Ended
 
     def wrong(self, program: Path) -> Optional[str]:
-        """What is wrong where the program makes the call, or None."""
+        """What is wrong when the program makes the call, or None."""
         try:
             return run(program, self.call).differs_from(self.wanted)
         except ReadTooEarly:
@@ -69,7 +69,7 @@ class Row:
 
 
 def told(errors: bytes) -> Ended:
-    """A usage fault with this text."""
+    """An error of usage with this text."""
     return Ended(2, b"", errors)
 
 
@@ -129,12 +129,12 @@ def numbers() -> Iterator[Row]:
 
 
 def usage_row(line: str, errors: bytes, given: tuple[Word, ...] = ()) -> Row:
-    """A command line that is at fault, so that no input is read. Its words are the line's, if they aren't given."""
+    """A command line with an error, so that no input is read. Its words are the line's, unless they are given."""
     return Row("usage", line, Call(given or words(line), b"fly\n", untouched=True), told(errors))
 
 
 def options_at_fault() -> Iterator[Row]:
-    """Options without a value, with an empty one, or twice; and such as don't take one."""
+    """Options without a value, with an empty one, or twice; and options that take none."""
     for name, value in usage.OPTIONS.items():
         if value is None:
             yield usage_row(f"--{name}=yes", usage.attached(name, "yes"))
@@ -153,7 +153,7 @@ def options_at_fault() -> Iterator[Row]:
 
 
 def words_at_fault() -> Iterator[Row]:
-    """Words that the command line doesn't have, and words that aren't text."""
+    """Words that the command line does not have, and words that are not text."""
     for word in ("zzz", "--zzz", "-z", "-", "first.script", "\u00e9", "--\u00e9", "", "a b"):
         yield usage_row(repr(word), usage.unexpected(word), (word,))
     for word, similar in {"--node": "nodes", "--order": "orders", "--chek": "check", "--underuse": "underused"}.items():
@@ -169,7 +169,7 @@ def words_at_fault() -> Iterator[Row]:
 
 
 def lists() -> Iterator[Row]:
-    """Orders and thresholds that don't fit, which are told before any input is read; and some that do."""
+    """Orders and thresholds that are not valid, which are reported before any input is read; and some that are."""
     orders = ("10", "1", "0", "2,3", "", "9,", ",9", "09", "x", "off", "-", str(2**32), "9" * 100_000, "2;3")
     for line in (*(f"--orders={text}" for text in orders), "--nodes=2 --orders=9", "--orders=x --underused=x"):
         yield from list_rows(line, BAD_ORDERS)
@@ -187,7 +187,7 @@ def lists() -> Iterator[Row]:
 
 
 def list_rows(line: str, wanted: Ended) -> Iterator[Row]:
-    """Options that don't fit are told, whatever the input is."""
+    """Options that are not valid are reported, whatever the input is."""
     name = line if len(line) < 80 else f"{line[:40]}.. ({len(line)} bytes)"
     for what, given in {"a fault": b"fly\n", "nothing": b"", "a script": FIRST}.items():
         yield Row("judged first", f"{name}, input is {what}", Call(words(line), given, untouched=True), wanted)
@@ -196,7 +196,7 @@ def list_rows(line: str, wanted: Ended) -> Iterator[Row]:
 
 
 def script_faults() -> Iterator[Row]:
-    """Each fault of a script, whatever report is asked for; and each command with a word too many and too few."""
+    """Each error of a script, with any report; and each command with a word too many and too few."""
     for text, line, word in faulty_texts.SCRIPTS:
         yield fault_row("scripts at fault", "", text, line, word)
     for options in ("--report journal", "--report answers --nodes 8 --blocks 4096 --workers 63"):
@@ -212,7 +212,7 @@ def script_faults() -> Iterator[Row]:
 
 
 def journal_faults() -> Iterator[Row]:
-    """Each fault of a journal; and that a journal is no script."""
+    """Each error of a journal; and a journal is not a script."""
     for text, line, word in faulty_texts.JOURNALS:
         yield fault_row("journals at fault", "--check", text, line, word)
     yield fault_row("journals at fault", "", LEGAL, 1, "bad-word")
@@ -221,13 +221,13 @@ def journal_faults() -> Iterator[Row]:
 
 
 def fault_row(group: str, line: str, text: bytes, at: int, word: str) -> Row:
-    """A text at fault: a line on standard error, and nothing on standard output."""
+    """A text with an error: a line on standard error, and nothing on standard output."""
     name = f"{line or 'no words'}, {text[-60:]!r}"
     return Row(group, name, Call(words(line), text), Ended(2, b"", f"thpsplit: line {at}: {word}\n".encode()))
 
 
 def verdicts() -> Iterator[Row]:
-    """Illegal journals: told on standard output, with status 1."""
+    """Illegal journals: reported on standard output, with status 1."""
     line_7 = Ended(1, b"illegal line 7\n")
     yield Row("illegal", "examples/illegal.journal", Call(words("--check"), ILLEGAL), line_7)
     yield Row("illegal", "the same, from a pipe", Call(words("--check"), ILLEGAL, Source.PIPE), line_7)
@@ -242,7 +242,7 @@ LOST = (Sink.FULL, Sink.CLOSED, Sink.BROKEN)
 
 
 def failed_inputs() -> Iterator[Row]:
-    """Inputs that fail: the read is told."""
+    """Inputs that fail: the failed read is reported."""
     for source in (Source.FOLDER, Source.CLOSED):
         for line in ("", "--report journal", "--check"):
             name = f"{line or 'no words'}, input {source.name.lower()}"
@@ -250,7 +250,7 @@ def failed_inputs() -> Iterator[Row]:
 
 
 def failed_outputs() -> Iterator[Row]:
-    """Standard output that fails is told; standard error that fails changes nothing else."""
+    """A failure of standard output is reported; a failure of standard error changes nothing else."""
     check = words("--check")
     for line, text in {"": FIRST, "--report journal": FIRST, "--report answers": FIRST, "--check": LEGAL}.items():
         for sink in LOST:
@@ -291,7 +291,7 @@ def limits() -> Iterator[Row]:
 
 
 def little_memory() -> Iterator[Row]:
-    """Memory that doesn't suffice is told, and neither `setup` nor a check needs more for more commands or events."""
+    """Lack of memory is reported, and neither `setup` nor a check needs more for more commands or events."""
     commands = b"count 0\n" * 2_000_000
     yield Row("memory", "two million commands", Call((), b"worker 1\n" + commands, memory=FEW_BYTES), NO_MEMORY)
     yield Row("memory", "two million commands of setup", Call((), b"setup\n" + commands, memory=FEW_BYTES), Ended(0, NOTHING_DONE))
@@ -314,7 +314,7 @@ def rows() -> list[Row]:
 
 
 def own_texts_agree() -> Optional[str]:
-    """What is stored of faulty texts is what tests/texts.py reads of them, and each kind of fault is among them."""
+    """The stored errors of faulty texts are those of tests/texts.py, and each kind of error is among them."""
     for text, line, word in faulty_texts.SCRIPTS:
         if script_fault(text) != Fault(line, word):
             return f"{text!r}: {script_fault(text)}"
@@ -327,7 +327,7 @@ def own_texts_agree() -> Optional[str]:
 
 
 def named(program: Path, folder: Path) -> Path:
-    """The program below its own name, whatever its file's is: what is told of words names the file that was called."""
+    """The program with a name other than its own: messages about words contain the name that was called."""
     path = folder / "real" / "thpsplit"
     path.parent.mkdir()
     path.symlink_to(program.resolve())

@@ -1,21 +1,25 @@
-"""The Debian packages: built from what was proved, checked by lintian, installed in a clean root, tried there, and removed.
+"""The Debian packages: built twice from what was proved, checked by lintian, installed in a clean root, tried there, and removed.
 
     tests/package.py THPSPLIT THPCHECK THPDRAW ARCHIVE
 
-ARCHIVE is that of the library for C. Status 77 with one line where this machine lacks Debian's tools for packages. Nothing is
+ARCHIVE is that of the library for C. Status 77 with one line if this machine lacks Debian's tools for packages. Nothing is
 installed on the machine itself.
 """
 
 from __future__ import annotations
 
+import io
 import os
+import re
 import shutil
 import subprocess
 import sys
+import tarfile
 import tempfile
 from pathlib import Path
 from typing import Optional
 
+from library import elf_differs, header, soname, version
 from process import Call, Ended, run
 from tables import table
 from tally import SKIPPED, Missing, Tally
@@ -23,27 +27,149 @@ from tally import SKIPPED, Missing, Tally
 ROOT = Path(__file__).resolve().parent.parent
 FIRST, LEGAL = ROOT / "examples/first.script", ROOT / "examples/two_workers.journal"
 ADMIN = "var/lib/dpkg"
-"""What `dpkg` keeps of a root."""
+"""The files of `dpkg` itself in a root."""
 
-PUT = ("usr/bin/thpsplit", "usr/bin/thpcheck", "usr/bin/thpdraw", "usr/bin/thpwhatif",
+TOOLS = ("thpreplay", "thprecord", "thpwhatif")
+"""The tools for the running kernel."""
+
+PUT = ("usr/bin/thpsplit", "usr/bin/thpcheck", "usr/bin/thpdraw", *(f"usr/bin/{name}" for name in TOOLS),
+       *(f"usr/share/man/man1/{name}.1.gz" for name in TOOLS),
+       *(f"usr/lib/thpsplit/linux/out/{name}" for name in ("known", "mapper", "pages.so", "workload")),
+       "usr/lib/systemd/system/thpwhatif.service", "usr/lib/systemd/system/thpwhatif.timer",
        "usr/share/man/man1/thpcheck.1.gz", "usr/share/man/man1/thpdraw.1.gz",
        "usr/share/man/man1/thpsplit.1.gz", "usr/share/man/man5/thpsplit.5.gz",
        "usr/share/bash-completion/completions/thpsplit", "usr/share/doc/thpsplit/copyright",
-       "usr/include/thp.h", "usr/share/man/man3/libthp.3.gz")
-"""Files that the packages have to have, among others."""
+       "usr/include/thp.h", "usr/share/man/man3/libthp.3.gz", "usr/share/man/man3/thp_node_create.3.gz", "usr/share/libthp/tsan.supp")
+"""Files that the packages must have, among others."""
 
 PACKAGES = ("libthp-dev", "libthp0", "thpsplit")
-"""Their names; each stands behind those that want it."""
+"""Their names; each after those that need it."""
 
 
-def built(files: list[Path], folder: Path) -> list[Path]:
-    """The packages, built into the folder."""
-    done = subprocess.run([sys.executable, ROOT / "debian/build.py", *files, folder], capture_output=True, text=True)
+DEPENDENCIES = {
+    "thpsplit": ("python3", "libc6 (>= 2."), f"libthp{soname().rpartition('.')[2]}": ("libc6 (>= 2.",),
+    "libthp-dev": (f"libthp{soname().rpartition('.')[2]} (= {version()})",),
+}
+"""Each package, and what its dependencies begin with."""
+
+
+def built(files: list[Path], folder: Path, tree: Path = ROOT, **more: str) -> list[Path]:
+    """The packages, built from a tree into the folder."""
+    command = [sys.executable, *map(str, (tree / "debian/build.py", *(file.resolve() for file in files), folder))]
+    done = subprocess.run(command, capture_output=True, text=True, cwd=tree, env={**os.environ, **more})
     if done.returncode == SKIPPED:
         raise Missing(done.stdout.strip())
     if done.returncode != 0:
         sys.exit(f"{done.stdout}{done.stderr}")
     return [Path(line) for line in done.stdout.splitlines()]
+
+
+def differ(packages: list[Path], files: list[Path], folder: Path) -> Optional[str]:
+    """The packages whose bytes or names differ when they are built again, from a copy of the tree with other dates and modes."""
+    parts = ("c", "completions", "debian", "docs", "linux", "Makefile", "README.md", "CHANGELOG.md", "LICENSE-APACHE", "LICENSE-MIT",
+             "crates/thp_cli/src/version.rt")
+    tree = folder / "copy"
+    old = os.umask(0o077)
+    try:
+        for part in parts:
+            (tree / part).parent.mkdir(parents=True, exist_ok=True)
+            if (ROOT / part).is_dir():
+                shutil.copytree(ROOT / part, tree / part, ignore=shutil.ignore_patterns("__pycache__", "out"))
+            else:
+                shutil.copyfile(ROOT / part, tree / part)
+        for path in tree.rglob("*"):
+            path.chmod(0o700 if path.is_dir() or path.stat().st_mode & 0o100 else 0o600)
+            os.utime(path, (1_000_000_000, 1_000_000_000))
+        again = built(files, folder / "again", tree, SOURCE_DATE_EPOCH=str(dated(packages[0])), TZ="Asia/Tokyo", LC_ALL="C")
+    finally:
+        os.umask(old)
+    one, other = ({path.name: path.read_bytes() for path in paths} for paths in (packages, again))
+    wrong = sorted(name for name in {*one} | {*other} if one.get(name) != other.get(name))
+    return ", ".join(wrong) or None
+
+
+def dated(package: Path) -> int:
+    """The date of the files in a package."""
+    data = subprocess.run(["dpkg-deb", "--fsys-tarfile", package], capture_output=True, check=True).stdout
+    with tarfile.open(fileobj=io.BytesIO(data)) as tar:
+        return max(int(member.mtime) for member in tar)
+
+
+def dates_differ(packages: list[Path]) -> Optional[str]:
+    """The packages whose files have another date than the commit, or SOURCE_DATE_EPOCH."""
+    wanted = os.environ.get("SOURCE_DATE_EPOCH", "")
+    if not wanted:
+        command = ["git", "log", "-1", "--format=%ct"]
+        if not (ROOT / ".git").exists() or shutil.which("git") is None:
+            raise Missing("no git, or no commit")
+        wanted = subprocess.run(command, cwd=ROOT, capture_output=True, text=True).stdout.strip()
+        if not wanted:
+            raise Missing("git names no commit")
+    return ", ".join(f"{path.name}: {dated(path)}" for path in packages if str(dated(path)) != wanted) or None
+
+
+def fields_differ(packages: list[Path]) -> Optional[str]:
+    """The packages with a wrong name, version or dependency."""
+    found = re.search(r'VERSION: &str = "([^"]+)"', (ROOT / "crates/thp_cli/src/version.rt").read_text())
+    assert found is not None
+    wrong, names = [], set()
+    for path in packages:
+        words = ["dpkg-deb", "-f", str(path), "Package", "Version", "Depends"]
+        told = subprocess.run(words, capture_output=True, text=True, check=True).stdout
+        fields = dict(line.split(": ", 1) for line in told.splitlines())
+        name, needs = fields["Package"], fields.get("Depends", "").split(", ")
+        names.add(name)
+        wanted = found[1] if name == "thpsplit" else version()
+        wrong += [] if fields["Version"] == wanted else [f"{name} has version {fields['Version']}, not {wanted}"]
+        wrong += [f"{name} doesn't depend on {it}" for it in DEPENDENCIES.get(name, ()) if not any(need.startswith(it) for need in needs)]
+    wrong += [f"no package {name}" for name in sorted({*DEPENDENCIES} - names)]
+    return "; ".join(wrong) or None
+
+
+def unpacked(packages: list[Path], folder: Path) -> tuple[Path, Path]:
+    """The folder of the packaged library, below a folder that has what `dpkg` knows about it, and that of the latter."""
+    root = folder / "library"
+    if not root.exists():
+        for path in packages:
+            if path.name.startswith("libthp"):
+                subprocess.run(["dpkg-deb", "-x", path, root], check=True)
+            if re.match(r"libthp\d", path.name):
+                subprocess.run(["dpkg-deb", "-e", path, root / "DEBIAN"], check=True)
+    return next((root / "usr/lib").glob("*/libthp.a")).parent, root / "DEBIAN"
+
+
+def needs_differ(packages: list[Path], folder: Path) -> Optional[str]:
+    """What is wrong with the dependency of a package with a program that was linked with the packaged library."""
+    place, control = unpacked(packages, folder)
+    other = folder / "other"
+    (other / "debian").mkdir(parents=True)
+    control_text = "Source: other\nMaintainer: nobody <nobody@example.invalid>\n\nPackage: other\nArchitecture: any\n"
+    (other / "debian/control").write_text(control_text)
+    words = ["cc", str(ROOT / "c/demos/first.c"), f"-I{control.parent}/usr/include", f"-L{place}", "-lthp", "-o", "first"]
+    for command in (words, ["dpkg-shlibdeps", "-O", f"-S{control.parent}", f"-l{place}", "first"]):
+        done = subprocess.run(command, cwd=other, capture_output=True, text=True)
+        if done.returncode != 0:
+            return f"{command[0]}: {done.stderr.strip()}"
+    wanted = f"libthp{soname().rpartition('.')[2]} (>= {version()})"
+    return None if wanted in done.stdout.strip().replace("=", ", ", 1).split(", ") else f"{done.stdout.strip()}, not {wanted}"
+
+
+def library_differs(packages: list[Path], folder: Path) -> Optional[str]:
+    """What is wrong with the packaged library: its files, its protection, and what packages that use it must require."""
+    place, control = unpacked(packages, folder)
+    own = next(path for path in packages if re.match(r"libthp\d", path.name))
+    name, number = soname(), version()
+    if os.readlink(place / name) != f"{name.rpartition('.')[0]}.{number}" or os.readlink(place / "libthp.so") != name:
+        return f"{sorted(path.name for path in place.iterdir())}"
+    texts = {
+        control / "shlibs": f"libthp {name.rpartition('.')[2]} {own.name.partition('_')[0]} (>= {number})\n",
+        place / "pkgconfig/thp.pc": f"\nVersion: {number}\n", place / "cmake/thp/thp-config-version.cmake": f'"{number}"',
+        place / "cmake/thp/thp-config.cmake": f"libthp.so.{number}",
+    }
+    wrong = [path.name for path, text in texts.items() if text not in path.read_text()]
+    symbols = (control / "symbols").read_text()
+    wrong += [it for it in header() if not re.search(rf"^ {it}@THP_[0-9.]+ [0-9.]+$", symbols, re.M)]
+    return ", ".join(wrong) or elf_differs(place / name)
 
 
 def lintian(packages: list[Path]) -> Optional[str]:
@@ -55,20 +181,20 @@ def lintian(packages: list[Path]) -> Optional[str]:
 
 
 def below(root: Path) -> set[str]:
-    """The files below a root, but for what `dpkg` itself keeps."""
+    """The files below a root, except those of `dpkg` itself."""
     files = (str(path.relative_to(root)) for path in root.rglob("*") if not path.is_dir() or path.is_symlink())
     return {name for name in files if not name.startswith(f"{ADMIN}/")}
 
 
 def dpkg(root: Path, *words: str) -> Optional[str]:
-    """What is wrong where `dpkg` works on a root, or None. The root holds no other package, so none is asked for."""
+    """What is wrong when `dpkg` works on a root, or None. The root contains no other package, so none is required."""
     command = ["dpkg", f"--root={root}", "--force-depends", "--force-not-root", f"--log={root}/log", *words]
     done = subprocess.run(command, capture_output=True, text=True)
     return None if done.returncode == 0 else done.stderr.strip()
 
 
 def clean_root(folder: Path) -> Path:
-    """A root where nothing is installed."""
+    """A root without installed files."""
     root = folder / "root"
     for name in ("info", "updates", "triggers"):
         (root / ADMIN / name).mkdir(parents=True)
@@ -78,7 +204,7 @@ def clean_root(folder: Path) -> Path:
 
 
 def works(root: Path) -> Optional[str]:
-    """What the installed programs say otherwise to the first script and to a journal, or None."""
+    """How the installed programs' output for the first script and for a journal differs, or None."""
     program = root / "usr/bin/thpsplit"
     totals = run(program, Call((), FIRST.read_bytes()))
     if totals.status != 0 or b"frames_given 256\n" not in totals.output:
@@ -88,8 +214,19 @@ def works(root: Path) -> Optional[str]:
     return told or run(root / "usr/bin/thpdraw", Call(("--table",), LEGAL.read_bytes())).differs_from(table(LEGAL.read_bytes()))
 
 
+def tools_work(root: Path, version: str) -> Optional[str]:
+    """What is wrong with the versions of the tools for the running kernel, or None. No script enables or starts the timer."""
+    for name in TOOLS:
+        wrong = run(root / "usr/bin" / name, Call(("--version",), b"")).differs_from(Ended(0, f"{name} {version}\n".encode()))
+        if wrong:
+            return f"{name}: {wrong}"
+    scripts = [path.name for path in (root / ADMIN / "info").glob("thpsplit.p*")]
+    enabled = [name for name in below(root) if name.startswith("etc/systemd/")]
+    return f"scripts {scripts}, enabled {enabled}" if scripts or enabled else None
+
+
 def links(root: Path) -> Optional[str]:
-    """What is wrong where a program in C is built on the installed library and run, or None."""
+    """What is wrong when a program in C is built with the installed library and run, or None."""
     place = next((root / "usr/lib").glob("*/libthp.so")).parent
     first = root.parent / "first"
     words = ["cc", str(ROOT / "c/demos/first.c"), f"-I{root}/usr/include", f"-L{place}", "-lthp", "-o", str(first)]
@@ -101,7 +238,7 @@ def links(root: Path) -> Optional[str]:
 
 
 def comes_and_goes(packages: list[Path], folder: Path) -> Optional[str]:
-    """What is wrong where the packages are installed, tried and removed, or None."""
+    """What is wrong when the packages are installed, tried and removed, or None."""
     root = clean_root(folder)
     before = below(root)
     wrong = dpkg(root, "--install", *map(str, packages))
@@ -110,7 +247,8 @@ def comes_and_goes(packages: list[Path], folder: Path) -> Optional[str]:
     lacks = [name for name in PUT if name not in below(root)]
     if lacks:
         return f"not installed: {', '.join(lacks)}"
-    wrong = works(root) or links(root) or dpkg(root, "--purge", *PACKAGES)
+    number = packages[-1].name.split("_")[1]
+    wrong = works(root) or tools_work(root, number) or links(root) or dpkg(root, "--purge", *PACKAGES)
     if wrong:
         return wrong
     left = below(root) - before - {"log"}
@@ -130,6 +268,11 @@ def main() -> None:
         except Missing as missing:
             tally.skip("the packages", str(missing))
             tally.end()
+        tally.run("names, versions and dependencies", lambda: fields_differ(packages))
+        tally.run("the library's files and requirements", lambda: library_differs(packages, folder))
+        tally.run("what a program needs that uses the library", lambda: needs_differ(packages, folder))
+        tally.run("dates are the commit's", lambda: dates_differ(packages))
+        tally.run("the same bytes from a second build", lambda: differ(packages, files, folder))
         tally.run("lintian", lambda: lintian(packages))
         tally.run("installed, tried and removed", lambda: comes_and_goes(packages, folder))
     tally.end()

@@ -1,4 +1,4 @@
-"""One run of the built program from outside: its words, what its three streams are, and how it ends."""
+"""One run of the built program from outside: its words, its three streams, and how it ends."""
 
 from __future__ import annotations
 
@@ -28,7 +28,7 @@ class Source(Enum):
 
 
 class Sink(Enum):
-    """What an output is. What goes to any but the first is lost."""
+    """What an output is. The data for any but the first is lost."""
 
     KEPT = auto()
     FULL = auto()
@@ -45,7 +45,7 @@ class Ended:
     errors: bytes = b""
 
     def differs_from(self, wanted: Ended) -> Optional[str]:
-        """What is otherwise than wanted, in one line; or None."""
+        """How the result differs from the expected one, in one line; or None."""
         for name in ("status", "output", "errors"):
             is_, should = getattr(self, name), getattr(wanted, name)
             if is_ != should:
@@ -54,7 +54,7 @@ class Ended:
 
 
 def shown(it: Union[int, bytes], other: Union[int, bytes]) -> str:
-    """A status or a text; of a long text what stands where it first differs from the other."""
+    """A status or a text; for a long text the part where it first differs from the other."""
     if isinstance(it, int) or isinstance(other, int) or len(it) <= 200:
         return repr(it)
     front = len(os.path.commonprefix([it, other]))
@@ -63,7 +63,7 @@ def shown(it: Union[int, bytes], other: Union[int, bytes]) -> str:
 
 @dataclass(frozen=True)
 class Call:
-    """A run to be made."""
+    """A run to be executed."""
 
     words: tuple[Word, ...] = ()
     given: bytes = b""
@@ -71,17 +71,17 @@ class Call:
     output: Sink = Sink.KEPT
     errors: Sink = Sink.KEPT
     memory: Optional[int] = None
-    """The most bytes of address space, where they are bounded."""
+    """The greatest number of bytes of address space, if it is bounded."""
     untouched: bool = False
-    """Whether no byte of the input may have been read (of a file alone)."""
+    """Whether no byte of the input may be read (for a file only)."""
 
 
 class ReadTooEarly(Exception):
-    """Bytes of the input were read, where none may be."""
+    """Bytes of the input were read, although none may be."""
 
 
 def run(program: Path, call: Call) -> Ended:
-    """Makes a run. Its end, where the input is untouched if that is asked for."""
+    """Executes a run. Returns its end; checks that the input is untouched if required."""
     with tempfile.TemporaryDirectory() as folder:
         path = Path(folder) / "input"
         path.write_bytes(call.given)
@@ -111,7 +111,7 @@ def run(program: Path, call: Call) -> Ended:
 
 
 def sink(kind: Sink) -> int:
-    """What `subprocess` takes for an output: a file's number, or that of a pipe to be kept."""
+    """The form of an output for `subprocess`: a file's number, or that of a pipe to be kept."""
     if kind == Sink.FULL:
         return os.open("/dev/full", os.O_WRONLY)
     if kind == Sink.BROKEN:
@@ -122,7 +122,7 @@ def sink(kind: Sink) -> int:
 
 
 def before(call: Call) -> Optional[Callable[[], None]]:
-    """What the new process does before it becomes the program, if anything."""
+    """The actions of the new process before it becomes the program, if any."""
     are_closed = (call.source == Source.CLOSED, call.output == Sink.CLOSED, call.errors == Sink.CLOSED)
     closed = [number for number, is_closed in enumerate(are_closed) if is_closed]
     memory = call.memory

@@ -1,4 +1,5 @@
-"""What `thpcheck` and `thpdraw` show of how far they are: lines on standard error, taken away before anything is told there."""
+"""The progress that `thpcheck` and `thpdraw` show: lines on standard error, which are removed before anything else is written
+there."""
 
 from __future__ import annotations
 
@@ -20,20 +21,20 @@ from tally import Missing
 
 ASKED = ("--progress",)
 REMOVAL = b"\r\x1b[K"
-"""What takes a line away."""
+"""The text that removes a line."""
 
 PART = 65_536
-"""So many bytes of a file are read at a time."""
+"""The number of bytes of a file that are read at a time."""
 
 PAUSE = 1.5
-"""Seconds from where the first half of a slow input was read to the second: a line is due a second after the one before."""
+"""Seconds between reading the first and the second half of a slow input: a line is due a second after the one before."""
 
 SECONDS = 60
 """A slow run that takes longer counts as one that never ends."""
 
 
 def line(text: bytes, program: bytes = b"thpcheck") -> bytes:
-    """The pattern of the line that a program shows behind this front of a journal."""
+    """The pattern of the line that a program shows after this prefix of a journal."""
     tenths = len(text) * 10 // 2**20
     events = sum(it[:1].isdigit() for it in text.split(b"\n"))
     told = b"%s: %d.%d MiB, %d events, " % (program, *divmod(tenths, 10), events)
@@ -41,12 +42,12 @@ def line(text: bytes, program: bytes = b"thpcheck") -> bytes:
 
 
 def lines(*fronts: bytes, behind: bytes = b"", program: bytes = b"thpcheck") -> bytes:
-    """The pattern of what standard error takes: a line behind each front, the last of which is taken away, and what is told."""
+    """The pattern of standard error: a line after each prefix, the last of which is removed, and the message."""
     return b"".join(line(it, program) for it in fronts) + (re.escape(REMOVAL) if fronts else b"") + re.escape(behind)
 
 
 def differs(ended: Ended, status: int, output: bytes, errors: bytes) -> Optional[str]:
-    """What is otherwise than wanted, standard error by its pattern; or None."""
+    """How the result differs from the expected one, standard error by its pattern; or None."""
     if re.fullmatch(errors, ended.errors) is None:
         return f"errors {shown(ended.errors, 0)} aren't {shown(errors, 0)}"
     return Ended(ended.status, ended.output).differs_from(Ended(status, output))
@@ -54,7 +55,7 @@ def differs(ended: Ended, status: int, output: bytes, errors: bytes) -> Optional
 
 @dataclass(frozen=True)
 class Shown:
-    """A call that is to end so; of what is shown its pattern."""
+    """A call with its expected result; the progress is given as a pattern."""
 
     name: str
     call: Call
@@ -64,13 +65,13 @@ class Shown:
     group: str = "progress"
 
     def wrong(self, program: Path) -> Optional[str]:
-        """What is otherwise than wanted, in one line; or None."""
+        """How the result differs from the expected one, in one line; or None."""
         return differs(run(program, self.call), self.status, self.output, self.errors)
 
 
 @dataclass(frozen=True)
 class Slow:
-    """A call whose input comes in halves, with a pause between them, and that is to be told legal."""
+    """A call whose input arrives in halves, with a pause between them, and that must be reported as legal."""
 
     name: str
     words: tuple[str, ...]
@@ -80,7 +81,7 @@ class Slow:
     group: str = "progress"
 
     def wrong(self, program: Path) -> Optional[str]:
-        """What is otherwise than wanted, in one line; or None."""
+        """How the result differs from the expected one, in one line; or None."""
         return differs(self.ended(program), 0, b"legal\n", self.errors)
 
     def ended(self, program: Path) -> Ended:
@@ -109,7 +110,7 @@ class Slow:
 
 
 def terminal() -> tuple[int, int]:
-    """A pseudo-terminal that hands on each byte as it is: the side that reads what is shown, and that of a program."""
+    """A pseudo-terminal that passes each byte unchanged: the side that reads what is shown, and that of a program."""
     try:
         reader, writer = pty.openpty()
     except OSError as error:
@@ -119,7 +120,7 @@ def terminal() -> tuple[int, int]:
 
 
 def wait_for_none(pipe: int) -> None:
-    """Waits until all that was written to a pipe has been read."""
+    """Waits until everything written to a pipe has been read."""
     for _ in range(SECONDS * 100):
         if struct.unpack("i", fcntl.ioctl(pipe, termios.FIONREAD, bytes(4))) == (0,):
             return
@@ -127,7 +128,7 @@ def wait_for_none(pipe: int) -> None:
 
 
 def all_of(reader: int) -> bytes:
-    """All that was written to a pipe or a terminal whose writers have ended."""
+    """Everything written to a pipe or a terminal whose writers have ended."""
     told = b""
     while True:
         try:
@@ -140,7 +141,7 @@ def all_of(reader: int) -> bytes:
 
 
 def rows(legal: bytes, long: bytes, illegal: bytes, told: bytes) -> Iterator[Shown | Slow]:
-    """Calls on a legal journal, on a long one, and on one whose illegal event, on line 7, is explained so."""
+    """Calls on a legal journal, on a long one, and on one whose illegal event, on line 7, has this explanation."""
     for source in (Source.FILE, Source.PIPE):
         yield Shown(f"a line, {source.name.lower()}", Call(ASKED, legal, source), 0, b"legal\n", lines(legal))
     yield Shown("more than one part", Call(ASKED, long), 0, b"legal\n", line(long[:PART]) + rb".*" + re.escape(REMOVAL))

@@ -1,4 +1,4 @@
-"""Random scripts, most of whose commands are about pages that there may be; and texts with a random change."""
+"""Random scripts, most of whose commands are about possible pages; and texts with a random change."""
 
 from __future__ import annotations
 
@@ -21,7 +21,7 @@ def joined(lines: list[str]) -> bytes:
 
 @dataclass
 class Script:
-    """A script that was run by the model as it was made: `sections` are callers and their commands, ascending."""
+    """A script that was executed by the model as it was created: `sections` are callers and their commands, ascending."""
 
     shapes: list[Shape]
     workers: int = 1
@@ -32,7 +32,7 @@ class Script:
         self.run = Run(self.shapes)
 
     def section(self, caller: int, lines: Iterable[str]) -> None:
-        """Adds a section, whose commands are done as they come."""
+        """Adds a section, whose commands are executed as they are added."""
         commands: list[str] = []
         for line in lines:
             commands.append(line)
@@ -48,7 +48,7 @@ class Script:
         return joined(lines)
 
     def options(self, chance: Random) -> list[str]:
-        """Options that ask for the nodes and workers, in any order; some that say what is so anyway may be left out."""
+        """Options for the nodes and workers, in any order; some that equal the defaults may be left out."""
         orders = ",".join(str(order) for _, order, _ in self.shapes)
         switches = ",".join("off" if switch is None else str(switch) for _, _, switch in self.shapes)
         asked = [("nodes", str(len(self.shapes)), "1"), ("blocks", str(self.shapes[0][0]), "16")]
@@ -65,7 +65,7 @@ def option(chance: Random, name: str, value: str) -> list[str]:
 
 
 def random_shapes(chance: Random, nodes: int) -> list[Shape]:
-    """Nodes which have as many blocks: plain ones, ones of any orders, or such that may have thresholds, too."""
+    """Nodes with equally many blocks: plain ones, ones of any orders, or some that may have thresholds, too."""
     blocks = chance.choice((1, 2, 3, 5, 16, 16, 64, 4096))
     kind = chance.choice(("plain", "orders", "thresholds", "thresholds", "thresholds"))
     shapes: list[Shape] = []
@@ -77,7 +77,7 @@ def random_shapes(chance: Random, nodes: int) -> list[Shape]:
 
 
 def random_commands(chance: Random, run: Run, nodes: list[int]) -> Iterator[str]:
-    """Commands of one section on some of the nodes, each chosen once those before it were done."""
+    """Commands of one section on some of the nodes, each chosen after the commands before it were executed."""
     count = chance.randrange(60) if nodes else 0
     closing = chance.randrange(count) if count and chance.random() < 0.2 else None
     for place in range(count):
@@ -96,7 +96,7 @@ EMPTY = ANY + ("alloc",) * 30
 
 
 def likely_words(run: Run, number: int) -> tuple[str, ...]:
-    """Words that mostly do something on a node. What only version 3 of a journal tells is rare without thresholds."""
+    """Words that mostly have an effect on a node. Words of version 3 of a journal are rare without thresholds."""
     node = run.nodes[number]
     if number in run.batches:
         return HOLDING
@@ -108,7 +108,7 @@ def likely_words(run: Run, number: int) -> tuple[str, ...]:
 
 
 def operands(chance: Random, word: str, node: Node) -> list[str]:
-    """The operands of a command on a node, behind the node's number."""
+    """The operands of a command on a node, after the node's number."""
     if word in BATCH_WORDS:
         return [str(chance.choice((0, 1, 2, 8, 128)))]
     if word in NODE_WORDS:
@@ -124,7 +124,7 @@ def operands(chance: Random, word: str, node: Node) -> list[str]:
 
 
 def script_of_one(chance: Random) -> Script:
-    """A script whose commands are done one after the other: setup, and one worker."""
+    """A script whose commands are executed one after the other: setup, and one worker."""
     worker = chance.choice((1, 1, 2, 63))
     script = Script(random_shapes(chance, chance.choice((1, 1, 2, 3))), max(worker, chance.choice((1, 1, 5, 63))))
     nodes = list(range(len(script.shapes)))
@@ -134,7 +134,7 @@ def script_of_one(chance: Random) -> Script:
 
 
 def script_of_many(chance: Random) -> Script:
-    """A script of several workers, each on nodes of its own: all of its reports are decided."""
+    """A script of several workers, each on nodes of its own: all of its reports are determined."""
     nodes = chance.randrange(2, MOST_NODES + 1)
     most = chance.choice((8, MOST_WORKERS))
     workers = sorted(chance.sample(range(1, most + 1), chance.randrange(2, nodes + 1)))
@@ -148,7 +148,7 @@ def script_of_many(chance: Random) -> Script:
 
 
 def script_of_limits(chance: Random) -> Script:
-    """A script in which a count of a page goes to its limit, 65,535, and beyond."""
+    """A script in which a count of a page reaches its limit, 65,535, and would exceed it."""
     script = Script([(chance.choice((1, 16)), 2, chance.choice((None, 1)))])
     kind = chance.choice(("mapwhole 0 0", "pin 0 0", "map 0 0 1 2"))
     lines = ["alloc 0", *[kind] * 65_534, "splitpmd 0 0", *[kind] * 3, "mapwhole 0 0", "map 0 0 0 4", "pin 0 0"]
@@ -158,7 +158,7 @@ def script_of_limits(chance: Random) -> Script:
 
 
 def changed_journal(chance: Random, journal: list[str]) -> list[str]:
-    """The journal with one event left out, doubled, put elsewhere, of another kind, or with another number in it."""
+    """The journal with one event left out, doubled, moved, of another kind, or with another number in it."""
     events = [place for place, line in enumerate(journal) if line.split()[0].isdigit()]
     if not events:
         return journal
@@ -195,18 +195,18 @@ def random_event(chance: Random) -> str:
 BYTES = (
     b"\t", b"\r", b"\x00", b"\x1f", b"\x7f", b"\x80", b"\xff", b"\xc3\xa9", b" ", b"#", b"0", b"-", b",", b"\n", b"~",
 )
-"""Bytes that are put into a text."""
+"""Bytes that are inserted into a text."""
 
 STRANGE = (
     "", "x", "00", "01", "-1", "+1", "0x1", "1e3", "65535", "65536", "129", "128", "511", "512", "4097", "63", "64",
     "18446744073709551615", "18446744073709551616", "9" * 40, "off", "-", "0-1", "1-0", "0,1", "0-511", ",", "setup",
     "worker", "node", "end", "thp-journal", "stays", "freed", "queued", "blocks", "order", "underused",
 )
-"""Words that are put into a text."""
+"""Words that are inserted into a text."""
 
 
 def spoilt(chance: Random, text: bytes, words: tuple[str, ...]) -> bytes:
-    """A text with one change: of a byte, a word, a line, or its end. `words` are some that name what a line says."""
+    """A text with one change: of a byte, a word, a line, or its end. `words` are some that name the kind of a line."""
     kind = chance.randrange(8)
     at = chance.randrange(len(text) + 1)
     if kind == 0:
@@ -231,11 +231,11 @@ SETS = (
     "-", "0", "0-", "-0", "1-1", "2-1", "0,1", "1-2,3", "3,1", "0,0", "512", "0-512", "00", "0,,2", ",", "0-1-2", "x",
     "9" * 30,
 )
-"""Words in the place of a set, most of which are none."""
+"""Words instead of a set, most of which are none."""
 
 
 def with_other_set(chance: Random, journal: bytes) -> bytes:
-    """A journal with another word in the place of a set, where there is one."""
+    """A journal with another word instead of a set, if there is one."""
     lines = journal.decode().split("\n")
     places = [place for place, line in enumerate(lines) if {"split", "stays", "queued", "freed"} & set(line.split(" "))]
     if places:

@@ -1,4 +1,4 @@
-"""Random command lines: words that are at fault, lists that don't fit, and requests for help and version."""
+"""Random command lines: words with errors, lists that are not valid, and requests for help and version."""
 
 from __future__ import annotations
 
@@ -14,14 +14,14 @@ STORED = Path(__file__).resolve().parent / "stored"
 
 
 def usable(chance: Random, name: str) -> str:
-    """A value that an option takes, whatever the others are."""
+    """A value that an option accepts, whatever the others are."""
     if name in usage.MOST:
         return str(chance.choice((1, usage.MOST[name], chance.randrange(1, usage.MOST[name] + 1))))
     return chance.choice(usage.REPORTS) if name == "report" else chance.choice(("x", "9", "off", "9,9"))
 
 
 def front(chance: Random, but: str = "") -> tuple[list[str], list[Word]]:
-    """The names of some options that are in order, without the one that is named; and their words."""
+    """The names of some valid options, without the one that is named; and their words."""
     names = [name for name in usage.OPTIONS if name not in ("help", "version", but)]
     used = chance.sample(names, chance.choice((0, 0, 1, 2, len(names))))
     words: list[Word] = []
@@ -31,14 +31,14 @@ def front(chance: Random, but: str = "") -> tuple[list[str], list[Word]]:
 
 
 Told = Callable[[list[str]], bytes]
-"""What is told of a fault, by the names of the options before it."""
+"""The message about an error, given the names of the options before it."""
 
 Faulty = tuple[str, list[Word], Told]
-"""The option that is at fault, if it is one; words that have the fault; and what is told of it."""
+"""The option with the error, if there is one; words that have the error; and the message."""
 
 
 def faulty_words(chance: Random) -> tuple[str, list[Word], Ended]:
-    """A kind of fault, words that have it first, and what is told of them."""
+    """A kind of error, words that have it first, and the message."""
     kind = chance.choice(tuple(FAULTS))
     name, words, told = FAULTS[kind](chance)
     # what is told of an attached value depends on how the options before it are written
@@ -47,12 +47,12 @@ def faulty_words(chance: Random) -> tuple[str, list[Word], Ended]:
 
 
 def always(told: bytes) -> Told:
-    """What is told whatever options stand before."""
+    """A message that does not depend on the options before."""
     return lambda used: told
 
 
 def out_of_range(chance: Random) -> Faulty:
-    """A number that the option doesn't take."""
+    """A number that the option does not accept."""
     name = chance.choice(tuple(usage.MOST))
     most = usage.MOST[name]
     value = chance.choice((0, most + 1, 2**31, 2**32 - 1, 2**32, 2**63 - 1, chance.randrange(most + 1, 10**9)))
@@ -60,7 +60,7 @@ def out_of_range(chance: Random) -> Faulty:
 
 
 def no_number(chance: Random) -> Faulty:
-    """What isn't a number of 64 bits."""
+    """A word that is not a 64-bit number."""
     name = chance.choice(tuple(usage.MOST))
     value = chance.choice(("x", "1x", "0x1", "1.5", "1e3", "1,1", "\u0663", "1 ", " 1", "+", str(2**64), "9" * 50))
     is_large = value.isascii() and value.isdigit()
@@ -81,13 +81,13 @@ def empty_value(chance: Random) -> Faulty:
 
 
 def no_report(chance: Random) -> Faulty:
-    """A report that there isn't."""
+    """An unknown report."""
     value = chance.choice(("x", "no report", "1", "\u00e9"))
     return "report", list(option(chance, "report", value)), always(usage.no_report(value))
 
 
 def doubled(chance: Random) -> Faulty:
-    """An option that stands twice."""
+    """An option that occurs twice."""
     name = chance.choice([it for it in usage.OPTIONS if it not in ("help", "version")])
     if usage.OPTIONS[name] is None:
         return name, [f"--{name}", f"--{name}"], always(usage.doubled(name))
@@ -96,19 +96,19 @@ def doubled(chance: Random) -> Faulty:
 
 
 def attached(chance: Random) -> Faulty:
-    """A value at an option that takes none."""
+    """A value of an option that takes none."""
     name = chance.choice([it for it, value in usage.OPTIONS.items() if value is None])
     return name, [f"--{name}=1"], always(usage.attached(name, "1"))
 
 
 def no_such_word(chance: Random) -> Faulty:
-    """A word that is no option."""
+    """A word that is not an option."""
     word = chance.choice(("zzz", "--zzz", "-", "-z", "--\u00e9", "first.script", "", "a b"))
     return "", [word], lambda used: usage.unexpected(word, used=used if word.startswith("--") else ())
 
 
 def not_text(chance: Random) -> Faulty:
-    """A word that isn't UTF-8."""
+    """A word that is not UTF-8."""
     return "", [chance.choice((b"\xff", b"--orders=\xc3", b"\xed\xa0\x80"))], always(usage.NOT_TEXT)
 
 
@@ -123,7 +123,7 @@ FAULTS: dict[str, Callable[[Random], Faulty]] = {
     "no such word": no_such_word,
     "not text": not_text,
 }
-"""The kinds of faults of words."""
+"""The kinds of errors in words."""
 
 
 def list_of(chance: Random, items: tuple[str, ...], nodes: int) -> str:
@@ -133,6 +133,6 @@ def list_of(chance: Random, items: tuple[str, ...], nodes: int) -> str:
 
 
 def request(chance: Random) -> tuple[str, list[Word], Ended]:
-    """A request for help or version, behind options that are in order."""
+    """A request for help or version, after valid options."""
     name, word = chance.choice((("help", "--help"), ("help", "-h"), ("version", "--version"), ("version", "-V")))
     return name, [*front(chance)[1], word], Ended(0, (STORED / f"{name}.txt").read_bytes())

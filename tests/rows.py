@@ -1,9 +1,8 @@
-"""Rows of scripts by their names: what the program answers to each, and what its totals and its journal say.
+"""Rows of scripts by their names: the program's answers to each, its totals and its journal.
 
     tests/rows.py PROGRAM
 
-Each row was worked out by hand. Its journal is given to the check, which has to call it legal. The lines of a text stand
-between ` / `.
+The expected results of each row are written out. Its journal must be legal by the check. ` / ` separates the lines of a text.
 """
 
 from __future__ import annotations
@@ -20,7 +19,7 @@ from tally import Tally
 
 
 def lines(text: str) -> bytes:
-    """The text whose lines stand between ` / `."""
+    """The text whose lines are separated by ` / `."""
     return "".join(f"{line}\n" for line in text.split(" / ")).encode()
 
 
@@ -41,7 +40,7 @@ class Row:
         return run(program, Call((*self.words.split(), "--report", name), lines(self.script)))
 
     def wrong(self, program: Path) -> Optional[str]:
-        """What a report says otherwise, or None."""
+        """How a report differs from the expected one, or None."""
         told = self.report(program, "answers").differs_from(Ended(0, lines(self.answers)))
         if told is not None:
             return f"answers: {told}"
@@ -227,7 +226,8 @@ ROWS = (
         "0 1 page 0 / 0 2 ok / 0 3 queued - / 0 4 refused bad-range / 0 5 page 0 / 0 6 ok / 0 7 queued - / "
         "0 8 taken 1 split 1 pinned 0 back 0 dropped 0 / 0 9 taken 1 split 1 pinned 0 back 0 dropped 0",
         words="--nodes 2 --orders 2,9",
-        totals="frames_held 1 / frames_given 511",
+        totals="node 0 / pages 1 / queue 0 / frames_held 1 / frames_given 3 / thp_split_page 1 / thp_split_page_failed 0 / "
+        "thp_deferred_split_page 1 / thp_split_pmd 1 / node 1 / pages 1 / queue 0 / frames_held 1 / frames_given 511",
         journal="thp-journal 2 / node 0 blocks 16 order 2 / 0 alloc 0 / 0 splitpmd 0 / 0 unmapsub 0 0 3 queued - / 0 taken 0 / "
         "0 split 0 0-2 / node 1 blocks 16 order 9 / 0 alloc 0 / 0 splitpmd 0 / 0 unmapsub 0 0 511 queued - / 0 taken 0 / "
         "0 split 0 0-510 / end",
@@ -280,12 +280,12 @@ ROWS = (
 
 TOTALS = ("pages", "queue", "frames_held", "frames_given", "thp_split_page", "thp_split_page_failed",
           "thp_deferred_split_page", "thp_split_pmd")
-"""What the totals of a node tell, in this order."""
+"""The totals of a node, in this order."""
 
 
 @dataclass(frozen=True)
 class Totals:
-    """A script on one node, and the numbers that the report of its totals is to tell."""
+    """A script on one node, and the expected numbers in the report of its totals."""
 
     name: str
     script: str
@@ -293,7 +293,7 @@ class Totals:
     words: str = ""
 
     def wrong(self, program: Path) -> Optional[str]:
-        """What the report says otherwise, or None."""
+        """How a report differs from the expected one, or None."""
         script = lines(self.script) if self.script else b""
         wanted = lines(" / ".join(["node 0", *(f"{name} {number}" for name, number in zip(TOTALS, self.numbers))]))
         return run(program, Call(tuple(self.words.split()), script)).differs_from(Ended(0, wanted))
@@ -402,7 +402,7 @@ WHOLE = (
 """Whole reports, word by word."""
 
 MOST = 65_535
-"""No count of a page goes beyond it."""
+"""The greatest value of a page's counts."""
 
 AT_THEIR_LIMIT = (
     ("alloc 0", 1, "page 0"),
@@ -416,7 +416,7 @@ AT_THEIR_LIMIT = (
     ("pin 0 1", 1, "refused too-many"),
     ("unpin 0 1", 1, "stays -"),
 )
-"""Commands, each so many times, and what each is answered: map counts and pins at their limit."""
+"""Commands, each this many times, and the answers to each: map counts and pins at their limit."""
 
 TWO_WORKERS = "worker 1 / alloc 0 / worker 2 / alloc 0"
 
@@ -431,11 +431,11 @@ EITHER = {
         "thp-journal 1 / node 0 blocks 16 / 2 alloc 0 / 1 alloc 1 / end",
     ),
 }
-"""What each report of two workers on one node can say: either comes first."""
+"""The possible reports of two workers on one node: either comes first."""
 
 
 def check(program: Path, journal: bytes) -> Optional[str]:
-    """What the check says of a journal, where that isn't that it is legal."""
+    """The result of the check of a journal, unless it is legal."""
     return run(program, Call(("--check",), journal)).differs_from(Ended(0, b"legal\n"))
 
 
@@ -450,7 +450,7 @@ def counts_at_their_limit(program: Path) -> Optional[str]:
 
 
 def two_workers(program: Path) -> Optional[str]:
-    """What a report of two workers on one node says that none of the two orders can say; or None."""
+    """What a report of two workers on one node contains that neither order can produce; or None."""
     for report, texts in EITHER.items():
         told = run(program, Call(("--workers", "2", "--report", report), lines(TWO_WORKERS)))
         if told not in [Ended(0, lines(text)) for text in texts]:

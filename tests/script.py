@@ -26,7 +26,7 @@ RANGE_CALLS: dict[str, Callable[[Node, int, int, int, int], str]] = {
 
 
 class Run:
-    """A run of a script, a section at a time: what it answers, and the nodes afterwards."""
+    """A run of a script, a section at a time: its answers, and the nodes afterwards."""
 
     def __init__(self, shapes: Iterable[Shape]) -> None:
         self.nodes = [Node(*shape) for shape in shapes]
@@ -34,13 +34,13 @@ class Run:
         self.batches: dict[int, list[int]] = {}
 
     def section(self, caller: int, lines: Iterable[str]) -> None:
-        """Does the commands of a section; then its open batches are put back."""
+        """Executes the commands of a section, and then puts back its open batches."""
         for index, line in enumerate(lines, 1):
             self.line(caller, index, line)
         self.end(caller)
 
     def line(self, caller: int, index: int, line: str) -> None:
-        """Does a command of a section, the one at this place from 1."""
+        """Executes a command of a section, the one at this index, counted from 1."""
         word, number, *operands = line.split()
         try:
             answer = self.command(caller, word, int(number), [int(text) for text in operands])
@@ -54,12 +54,12 @@ class Run:
             self.put_back(caller, number)
 
     def text(self, text: str) -> None:
-        """Does a script that has no fault, its sections one after the other."""
+        """Executes a script without errors, its sections one after the other."""
         for caller, lines in sections_of(text):
             self.section(caller, lines)
 
     def command(self, caller: int, word: str, number: int, operands: list[int]) -> str:
-        """Does a command on a node, and answers it."""
+        """Executes a command on a node, and returns its answer."""
         node = self.nodes[number]
         if word in PAGE_CALLS:
             return PAGE_CALLS[word](node, caller, operands[0])
@@ -90,7 +90,7 @@ class Run:
         return "done"
 
     def put_back(self, caller: int, number: int) -> str:
-        """Puts back what is left of the open batch."""
+        """Puts back the remaining pages of the open batch."""
         node = self.nodes[number]
         del self.batches[number]
         counts: Counter[str] = Counter()
@@ -103,7 +103,7 @@ class Run:
         return [line for number, node in enumerate(self.nodes) for line in node.totals(number)]
 
     def journal(self) -> list[str]:
-        """The journal's text, in the lowest version that can say it."""
+        """The journal's text, in the lowest version that suffices for it."""
         filled = any(line.split()[1] in ("write", "zero") for node in self.nodes for line in node.journal)
         version = 1
         if any(node.order != 9 for node in self.nodes):
@@ -120,7 +120,7 @@ class Run:
 
 
 def sections_of(text: str) -> list[tuple[int, list[str]]]:
-    """The sections of a script that has no fault: who does each, and its commands."""
+    """The sections of a script without errors: the caller of each, and its commands."""
     sections: list[tuple[int, list[str]]] = []
     for line in text.split("\n"):
         if line == "setup" or line.startswith("worker "):
@@ -131,7 +131,7 @@ def sections_of(text: str) -> list[tuple[int, list[str]]]:
 
 
 def first_illegal(lines: Iterable[str]) -> Optional[int]:
-    """The number of the first illegal line of a journal text without text faults, or None."""
+    """The number of the first illegal line of a journal text without errors, or None."""
     node: Optional[Node] = None
     for number, line in enumerate(lines, 1):
         words = line.split()
@@ -145,7 +145,7 @@ def first_illegal(lines: Iterable[str]) -> Optional[int]:
 
 
 def summary(lines: Iterable[str]) -> list[str]:
-    """The totals of each node of a journal text without text faults, up to the node's first illegal line."""
+    """The totals of each node of a journal text without errors, up to the node's first illegal line."""
     told: list[list[str]] = []
     node: Optional[Node] = None
     for line in lines:
@@ -170,8 +170,8 @@ def node_of(words: list[str]) -> Node:
 
 
 def fits(node: Node, line: str) -> bool:
-    """Whether the event that a line tells of fits those before it on the node, which does it. Where it doesn't the node is of no
-    more use."""
+    """Whether the event in a line fits those before it on the node, to which it is applied. If it does not, the node is no longer
+    usable."""
     words = line.split()
     try:
         replay(node, int(words[0]), words[1], [int(word) for word in words[2:] if word.isdigit()])
@@ -181,7 +181,7 @@ def fits(node: Node, line: str) -> bool:
 
 
 def replay(node: Node, caller: int, word: str, numbers: list[int]) -> None:
-    """Does the event that a line tells of; what the line says of it is compared afterwards."""
+    """Applies the event in a line; the line's outcome and frames are compared afterwards."""
     if word in PAGE_CALLS:
         PAGE_CALLS[word](node, caller, numbers[0])
     elif word in ("mapsub", "unmapsub", "write", "zero"):

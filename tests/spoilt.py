@@ -1,9 +1,9 @@
-"""Texts spoilt at one place: each front of the rows' scripts and journals, and each of their bytes set to others.
+"""Texts with an error at one place: each prefix of the rows' scripts and journals, and each of their bytes set to others.
 
     tests/spoilt.py PROGRAM
 
-What is wanted of each text (its first fault; else the totals, or the verdict) is made by texts.py and script.py, which
-share no code with the program. How many texts there are, and how many of them have a fault, is known beforehand.
+The expected result of each text (its first error; otherwise the totals, or the verdict) is computed by texts.py and script.py,
+which share no code with the program. The number of texts, and the number of those with an error, is known beforehand.
 """
 
 from __future__ import annotations
@@ -24,10 +24,10 @@ from tally import Tally
 from texts import Fault, journal_fault, script_fault
 
 VALUES = (0, 0xFF, ord("\n"), ord(" "))
-"""The values that bytes are set to: two that stand in no text, and the two that part lines and words."""
+"""The values that bytes are set to: two that occur in no text, and the two that separate lines and words."""
 
 Work = tuple[tuple[str, ...], bytes, Ended]
-"""Words of the command line, a text, and how the run is to end."""
+"""Words of the command line, a text, and the expected end of the run."""
 
 
 def options(row: Row) -> dict[str, str]:
@@ -47,12 +47,12 @@ def shapes(row: Row) -> list[Shape]:
 
 
 def told(fault: Fault) -> Ended:
-    """The end of a run whose text has this first fault."""
+    """The end of a run whose text has this first error."""
     return Ended(2, b"", fault.told())
 
 
 def of_script(row: Row, text: bytes) -> Work:
-    """A script by a row's options, and its first fault or its totals."""
+    """A script with a row's options, and its first error or its totals."""
     fault = script_fault(text, len(shapes(row)), int(options(row).get("workers", 1)))
     if fault is not None:
         return (tuple(row.words.split()), text, told(fault))
@@ -62,7 +62,7 @@ def of_script(row: Row, text: bytes) -> Work:
 
 
 def of_journal(text: bytes) -> Work:
-    """A journal, and its first fault or its verdict."""
+    """A journal, and its first error or its verdict."""
     fault = journal_fault(text)
     if fault is not None:
         return (("--check",), text, told(fault))
@@ -81,7 +81,7 @@ def journals() -> Iterator[bytes]:
 
 
 def fronts(text: bytes) -> Iterator[bytes]:
-    """Each front of a text that isn't the whole."""
+    """Each prefix of a text, without the whole."""
     return (text[:count] for count in range(len(text)))
 
 
@@ -109,14 +109,14 @@ def ended(program: Path, words: tuple[str, ...], text: bytes) -> Ended:
 
 
 def wrong(program: Path, work: Work) -> Optional[str]:
-    """What is otherwise than wanted, or None."""
+    """How the result differs from the expected one, or None."""
     words, text, wanted = work
     differs = ended(program, words, text).differs_from(wanted)
     return None if differs is None else f"{' '.join(words)} on {text!r}: {differs}"
 
 
 def first_wrong(pool: Pool, program: Path, works: Iterable[Work], number: int, faulty: int) -> Optional[str]:
-    """What is wrong with the first run that isn't as wanted, or with how many there are; or None."""
+    """What is wrong with the first run that differs, or with the number of runs; or None."""
     tried = list(works)
     counts = (len(tried), sum(1 for _, _, wanted in tried if wanted.status == 2))
     if counts != (number, faulty):

@@ -1,8 +1,8 @@
-"""How the built program reads and writes: by parts of 65,536 bytes, nothing after the end, and only a part of an endless input.
+"""How the built program reads and writes: in parts of 65,536 bytes, nothing after the end, and only a part of an endless input.
 
     tests/streams.py PROGRAM
 
-PROGRAM is `thpsplit` or `thpcheck`, by the front of its file's name. strace lists each read and write. Where it is
+PROGRAM is `thpsplit` or `thpcheck`, recognised by the beginning of its file's name. strace lists each read and write. If it is
 missing or may not trace, a preloaded library does (tests/streams.c), which needs a C compiler.
 """
 
@@ -26,7 +26,7 @@ from tally import Missing, Tally
 from texts import MOST_BYTES
 
 PART = 65_536
-"""So many bytes each read of the input offers; a report is written by parts of about this size."""
+"""The number of bytes that each read of the input offers; a report is written in parts of about this size."""
 
 CALLED = re.compile(rb"^(?:\d+ +)?(read|write)\((\d+), .*?(\d+)\) += (-?\d+)", re.MULTILINE)
 INPUT, OUTPUT, ERRORS = 0, 1, 2
@@ -34,7 +34,7 @@ INPUT, OUTPUT, ERRORS = 0, 1, 2
 
 @dataclass(frozen=True)
 class Moved:
-    """A read or a write: the stream, the bytes that it offers, and those that were moved (-1 where it failed)."""
+    """A read or a write: the stream, the bytes that it offers, and those that were moved (-1 if it failed)."""
 
     stream: int
     offered: int
@@ -76,7 +76,7 @@ def can_trace() -> bool:
 
 
 def build(library: Path) -> None:
-    """Builds what is preloaded."""
+    """Builds the library to preload."""
     compiler = os.environ.get("CC", "cc").split()
     if shutil.which(compiler[0]) is None:
         raise Missing(f"neither strace nor a C compiler ({compiler[0]}) can be used")
@@ -91,19 +91,19 @@ class Row:
     name: str
     call: Call
     read: int | None
-    """The bytes that are read, and then the end; None where no end is reached: 16 MiB and at most a part more are read."""
+    """The bytes that are read, and then the end; None if no end is reached: 16 MiB and at most a part more are read."""
 
     wanted: Ended | None = None
-    """How it ends; None where only a long report counts, which other tests compare."""
+    """How it ends; None if only a long report matters, which other tests compare."""
 
     reads: bool = True
     """Whether the input is read at all."""
 
     most: int = 2 * PART
-    """The most bytes of one write."""
+    """The greatest number of bytes of one write."""
 
     def wrong(self, tracer: Tracer) -> str | None:
-        """What the program moves otherwise, or None."""
+        """How the program's reads and writes differ, or None."""
         ended, moved = tracer.run(self.call)
         if ended.status < 0 or (self.wanted is not None and ended != self.wanted):
             return f"{ended.status}, {ended.output[:80]!r}, {ended.errors[:80]!r}"
@@ -111,7 +111,7 @@ class Row:
         return self.wrong_reads(reads) or wrong_writes(moved, ended, self)
 
     def wrong_reads(self, reads: list[Moved]) -> str | None:
-        """What is wrong with the reads: each offers a part, of a file each but the last two fills it, and the end comes once."""
+        """What is wrong with the reads: each offers a part, for a file each but the last two fills it, and the end comes once."""
         if not self.reads:
             return f"{len(reads)} reads, where none may be" if reads else None
         offered = sorted({it.offered for it in reads})
@@ -187,7 +187,7 @@ def checker_rows() -> Iterator[Row]:
 
 
 def fault(told: str, name: str = "thpsplit") -> Ended:
-    """A text at fault."""
+    """A text with an error."""
     return Ended(2, b"", f"{name}: {told}\n".encode())
 
 

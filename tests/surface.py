@@ -1,10 +1,10 @@
-"""What the sources offer and ask for is as listed: handles of each crate, and all that can read a link of a page.
+"""What the sources export and require is as listed: handles of each crate, and everything that can read a link of a page.
 
     python3 tests/surface.py [--store]
 
-A contract can't say that there is no other function. So `tests/stored/surface.txt` lists each public function of the
-crates whose tables hold links: whoever adds one puts it there (`--store`), and says so that it makes no access to a
-link that isn't counted.
+A contract can't state that there is no other function. Therefore `tests/stored/surface.txt` lists each public function of the
+crates whose tables hold links. Whoever adds one stores it there (`--store`), and confirms that it makes no access to a link
+that is not counted.
 """
 
 from __future__ import annotations
@@ -21,8 +21,8 @@ STORED = ROOT / "tests/stored/surface.txt"
 WITH_LINKS = ("thp_links", "thp_page")
 """The crates that hold or change the links between pages."""
 
-WITH_THREADS = {"thp_sections", "thp_script_runs", "thp_run"}
-"""The libraries that start threads: workers side by side, and what stands on them."""
+WITH_THREADS = {"thp_worker", "thp_runner", "thp_run"}
+"""The libraries that start threads: concurrent workers, and the crates above them."""
 
 ITEM = re.compile(r"^(?:pub )?(?:impl|trait)\b(.*)$")
 FUNCTION = re.compile(r"^(\s*)(pub )?(?:const )?fn (\w+)")
@@ -46,7 +46,7 @@ def holder(head: str) -> str:
 
 
 def offered(crate: str) -> list[str]:
-    """Each public function of a crate: `crate Type name`, a method that a trait asks for with the trait's or the type's name."""
+    """Each public function of a crate: `crate Type name`, a method that a trait requires with the trait's or the type's name."""
     found = []
     for path in sources(crate):
         head = ""
@@ -67,12 +67,12 @@ def offered(crate: str) -> list[str]:
 
 
 def surface() -> str:
-    """All that the crates with links offer, a line each."""
+    """All that the crates with links export, a line each."""
     return "".join(f"{line}\n" for crate in WITH_LINKS for line in offered(crate))
 
 
 def links_are_read_as_listed() -> str | None:
-    """No function of the crates with links is public but those that are listed."""
+    """The crates with links have no public function except those that are listed."""
     now, stored = set(surface().splitlines()), set(STORED.read_text().splitlines())
     more, less = sorted(now - stored), sorted(stored - now)
     return f"new: {more}; gone: {less}" if more or less else None
@@ -93,7 +93,8 @@ def handles_in(text: str) -> set[str]:
 
 
 def nobody_waits() -> str | None:
-    """No library asks for `Wait`, `Net`, `Processes` or `Abort` by a bound, and only those that start threads for `Threads`."""
+    """No library requires `Wait`, `Net`, `Processes` or `Abort` by a bound, and only those that start threads require
+    `Threads`."""
     wrong = []
     for crate in libraries():
         bounds = handles_in("\n".join(path.read_text() for path in sources(crate)))
@@ -102,8 +103,8 @@ def nobody_waits() -> str | None:
 
 
 LOCK = (
-    "fn lock(&self, seat: &mut Seat<Node<R>, Knows>) -> bool",
-    "fn lock<W: Wait>(&self, seat: &mut Seat<Node<R>, Knows>, rt: &W) -> bool",
+    "fn lock(&self, seat: &mut Seat<Node<R>, SeatKnowledge>) -> bool",
+    "fn lock<W: Wait>(&self, seat: &mut Seat<Node<R>, SeatKnowledge>, rt: &W) -> bool",
 )
 """The lock step of a cell, which returns false if another pass has the node, and one that sleeps until the node is free."""
 
@@ -117,7 +118,7 @@ def a_mutex_round_the_node() -> str | None:
 
 
 def main() -> None:
-    """Looks at the sources, or stores what they offer."""
+    """Checks the sources, or stores what they export."""
     if sys.argv[1:] == ["--store"]:
         STORED.write_text(surface())
         return

@@ -1,11 +1,11 @@
 #!/usr/bin/env python3
-"""Compares the tables that `thpdraw --table` writes of random journals with those of a plain reading of the model.
+"""Compares the tables that `thpdraw --table` writes for random journals with those of a plain reading of the model.
 
     tests/tables.py PROGRAM [--cases N] [--seed S]
 
-A table is made here from the definitions of docs/MODEL.md and docs/FORMATS.md (tables): the numbers of a node behind each of its
-events, by model.py, then joined into columns. Journals have up to eight nodes and up to 3,000 events of one, so that columns are
-up to eight prefixes wide; some have illegal events on some nodes, some a fault.
+A table is computed here from the definitions of docs/MODEL.md and docs/FORMATS.md (tables): the numbers of a node after each of
+its events, by model.py, then joined into columns. Journals have up to eight nodes and up to 3,000 events of one, so that columns
+are up to eight prefixes wide; some have illegal events on some nodes, some an error.
 """
 
 from __future__ import annotations
@@ -32,9 +32,9 @@ STAGES = ("allocated", "partly-mapped", "queued", "in-batch", "split")
 SERIES = ("queue", "in-batches", "held", "given", "splits", "underused-splits", "pinned-tries", "wait")
 LETTERS = dict(zip(STAGES, "amqbs"))
 SHOWN_PAGES = 60
-"""Of how many pages the stages are told one by one."""
+"""The number of pages whose individual stages are recorded."""
 SHOWN_CALLERS = 64
-"""Of how many callers it is told whether they have batches."""
+"""The number of callers for which it is recorded whether they have batches."""
 HEADS = (
     ["#node", "node", "blocks", "order", "underused", "legal", "width"]
     + [f"{name}-last" for name in (*SERIES, *STAGES)] + ["illegal-line", "illegal-event"],
@@ -47,8 +47,8 @@ HEADS = (
 
 @dataclass(frozen=True)
 class Numbers:
-    """A node's numbers behind some of its events: of each series, how many pages are in each stage, those of the first pages, and
-    which callers have batches."""
+    """A node's numbers after some of its events: those of each series, the number of pages in each stage, the stages of the first
+    pages, and the callers that have batches."""
 
     series: tuple[int, ...]
     stages: tuple[int, ...]
@@ -58,15 +58,16 @@ class Numbers:
 
 @dataclass
 class Waits:
-    """The pages of a node that wait, in the queue or in a batch, each with the number of the event by which it came, and how often
-    each page was found pinned."""
+    """The pages of a node that wait, in the queue or in a batch, each with the number of the event with which it began to, and
+    the
+    number of times that each page was found pinned."""
 
     events: int = 0
     since: dict[int, int] = field(default_factory=dict)
     finds: dict[int, int] = field(default_factory=dict)
 
     def follow(self, node: Node, line: str) -> None:
-        """One more event, behind which the node is so."""
+        """Adds an event, after which the node is in this state."""
         self.events += 1
         waiting = {*node.queue, *(page for flight in node.flights.values() for page in flight)}
         self.since = {page: self.since.get(page, self.events) for page in waiting}
@@ -75,18 +76,19 @@ class Waits:
             self.finds[int(words[0])] = self.finds.get(int(words[0]), 0) + 1
 
     def longest(self) -> int:
-        """Behind how many events the page has waited that waits longest."""
+        """The number of events for which the longest waiting page has waited."""
         return self.events - min(self.since.values()) + 1 if self.since else 0
 
     def stuck(self) -> Iterable[tuple[int, int, int]]:
-        """The page, the finds and the first event of each that waits and was found pinned, those that have waited longest in front."""
+        """The page, the finds and the first event of each page that waits and was found pinned, those that have waited longest
+        first."""
         for page, since in sorted(self.since.items(), key=lambda it: it[1]):
             if page in self.finds:
                 yield page, self.finds[page], since
 
 
 def stage(node: Node, number: int) -> str:
-    """The stage of a live page: the last of them that fits."""
+    """The stage of a live page: the last of them that applies."""
     page = node.live[number]
     if page.is_split:
         return "split"
@@ -98,7 +100,7 @@ def stage(node: Node, number: int) -> str:
 
 
 def numbers(node: Node, waits: Waits) -> Numbers:
-    """Those of a node as it is, with its pages that wait."""
+    """The numbers of a node in its current state, with its pages that wait."""
     in_batches = sum(len(flight) for flight in node.flights.values())
     found = [stage(node, number) for number in node.live]
     counted = [node.counters[name] for name in ("thp_split_page", "thp_underused_split_page", "thp_split_page_failed")]
@@ -110,8 +112,9 @@ def numbers(node: Node, waits: Waits) -> Numbers:
 
 @dataclass
 class Drawn:
-    """What is drawn of a node: its shape, its numbers behind each prefix of its legal events, the pages that wait behind them, and its
-    first illegal one."""
+    """The data of a node that is drawn: its shape, its numbers after each prefix of its legal events, the pages that wait after
+    them,
+    and its first illegal event."""
 
     node: Node
     waits: Waits
@@ -119,7 +122,7 @@ class Drawn:
     illegal: tuple[str, str] = ("-", "-")
 
     def width(self) -> int:
-        """How many prefixes a column has: the least power of two of which few enough serve."""
+        """The number of prefixes in a column: the least power of two for which there are few enough columns."""
         width = 1
         while len(self.prefixes) > MOST_COLUMNS * width:
             width *= 2
@@ -142,12 +145,12 @@ class Drawn:
 
 
 def tabbed(*fields: object) -> str:
-    """Fields that are parted by tabs."""
+    """Tab-separated fields."""
     return "\t".join(map(str, fields))
 
 
 def drawn_nodes(lines: Iterable[str]) -> list[Drawn]:
-    """What is drawn of each node of a journal without faults of its text."""
+    """The data of each node of a journal without errors that is drawn."""
     nodes: list[Drawn] = []
     is_over = False
     for place, line in enumerate(lines, 1):
@@ -169,7 +172,7 @@ def drawn_nodes(lines: Iterable[str]) -> list[Drawn]:
 
 
 def table(text: bytes) -> Ended:
-    """How the program is to end on a journal, by its table or its fault."""
+    """The expected result for a journal: its table or its error."""
     fault = journal_fault(text)
     if fault is not None:
         return Ended(2, b"", f"thpdraw: line {fault.line}: {fault.word}\n".encode())
@@ -177,7 +180,7 @@ def table(text: bytes) -> Ended:
 
 
 def table_of(nodes: list[Drawn]) -> Ended:
-    """How it is to end, by the table of these nodes."""
+    """The expected result, with the table of these nodes."""
     lines = [tabbed(*heads) for heads in HEADS]
     lines += [line for number, drawn in enumerate(nodes) for line in drawn.lines(number)]
     is_illegal = any(drawn.illegal[0] != "-" for drawn in nodes)
@@ -187,11 +190,11 @@ def table_of(nodes: list[Drawn]) -> Ended:
 # Random journals.
 
 LENGTHS = (0, 1, 2, 7, 30, 100, 300, 598, 599, 600, 601, 1199, 1200, 1201, 2400, 3000)
-"""How many events a node may have, most of them where the width of columns changes."""
+"""The greatest number of events of a node, most of them where the width of columns changes."""
 
 
 def one_event(chance: Random, node: Node) -> None:
-    """Tries an event that may fit; where it doesn't, the node is as it was."""
+    """Tries an event that may fit; if it does not, the node is unchanged."""
     caller = chance.choice((0, 1, 2, 5, 63))
     page = chance.choice(list(node.live)) if node.live and chance.random() < 0.95 else node.allocated
     first = chance.choice((0, node.size // 2, chance.randrange(node.size)))
@@ -224,7 +227,7 @@ def one_event(chance: Random, node: Node) -> None:
 
 
 def random_node(chance: Random, most: int) -> Node:
-    """A node with random events, at most so many."""
+    """A node with random events, at most this many."""
     order = chance.choice((2, 2, 2, 3, 4, 9))
     switch = chance.choice((None, None, 0, 1, 2**order - 1))
     node = Node(chance.choice((1, 2, 3, 16)), order, switch)
@@ -240,7 +243,7 @@ def random_node(chance: Random, most: int) -> Node:
 
 
 def random_journal(chance: Random) -> bytes:
-    """A journal of random nodes; one in three has illegal events or a fault."""
+    """A journal of random nodes; one in three has illegal events or an error."""
     count = chance.choice((1, 1, 2, 3, 8))
     nodes = [random_node(chance, 3000 if count < 3 else 700) for _ in range(count)]
     lines = ["thp-journal 3"]
@@ -266,7 +269,7 @@ class Case:
     place: int
 
     def wrong(self) -> Optional[str]:
-        """What the program says otherwise than the model; or None."""
+        """How the program's table differs from the model's; or None."""
         text = random_journal(Random(f"{self.seed} {self.place}"))
         source = (Source.FILE, Source.PIPE)[self.place % 2]
         return run(self.program, Call(("--table",), text, source)).differs_from(table(text))
@@ -278,7 +281,7 @@ def wrong(case: Case) -> Optional[str]:
 
 
 def main() -> None:
-    """Compares as many tables as the command line asks for."""
+    """Compares as many tables as the command line requests."""
     parser = argparse.ArgumentParser(description=__doc__.split("\n")[0])
     parser.add_argument("program", type=Path)
     parser.add_argument("--cases", type=int, default=50)

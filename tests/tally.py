@@ -1,4 +1,4 @@
-"""Tests from outside the proved part: a line for each, and their count."""
+"""The results of tests from outside the proved part: a line for each, and their count."""
 
 from __future__ import annotations
 
@@ -15,7 +15,7 @@ class Missing(Exception):
 
 
 class Tally:
-    """Runs tests one by one, tells each by a line, and counts them."""
+    """Runs tests one by one, prints a line for each, and counts them."""
 
     def __init__(self, is_brief: bool = False) -> None:
         self.passed = 0
@@ -24,7 +24,7 @@ class Tally:
         """Whether what passed is only counted."""
 
     def run(self, name: str, test: Callable[[], str | None]) -> None:
-        """Runs a test, which answers what is wrong, or None."""
+        """Runs a test, which returns what is wrong, or None."""
         try:
             wrong = test()
         except Missing as missing:
@@ -33,7 +33,7 @@ class Tally:
         self.report(name, wrong)
 
     def report(self, name: str, wrong: str | None) -> None:
-        """Counts a test of which it is known what is wrong, or None."""
+        """Counts a test, given what is wrong, or None."""
         if wrong is None:
             self.passed += 1
             if not self.is_brief:
@@ -43,7 +43,7 @@ class Tally:
             print(f"{name}: failed: {wrong}", flush=True)
 
     def skip(self, name: str, why: str) -> None:
-        """Names a test that can't be made here. It counts neither way, and as failed where STRICT=1 is set."""
+        """Names a test that can't be run here. It counts as neither, or as failed if STRICT=1 is set."""
         if os.environ.get("STRICT") == "1":
             self.failed += 1
             print(f"{name}: failed: {why} (STRICT=1)", flush=True)
@@ -51,7 +51,7 @@ class Tally:
             print(f"{name}: skipped: {why}", flush=True)
 
     def end(self) -> None:
-        """Tells the count, and ends the script: 0 where nothing failed, 77 where nothing was tested, else 1."""
+        """Prints the count, and ends the script: 0 if nothing failed, 77 if nothing was tested, otherwise 1."""
         print(f"{self.passed} passed, {self.failed} failed", flush=True)
         if self.failed:
             sys.exit(1)

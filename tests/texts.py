@@ -1,6 +1,6 @@
-"""The first fault of a script or a journal: a plain reading of docs/FORMATS.md, its faults and its tables.
+"""The first error of a script or a journal: a plain reading of docs/FORMATS.md, its errors and its tables.
 
-It shares no code with the program. A text is bytes; lines count from 1.
+It shares no code with the program. A text is bytes; lines are counted from 1.
 """
 
 from __future__ import annotations
@@ -10,7 +10,7 @@ from dataclasses import dataclass
 from typing import Callable, Optional
 
 MOST_BYTES = 16_777_216
-"""An input has at most as many bytes."""
+"""The greatest number of bytes of an input."""
 
 MOST_NUMBER = 2**64 - 1
 MOST_SUBPAGE = 65_535
@@ -19,7 +19,7 @@ MOST_CALLER = 63
 LAST_FRAME = 511
 
 FAULT_WORDS = ("too-long", "bad-byte", "cut", "bad-word", "bad-count", "bad-number", "bad-set", "bad-order")
-"""All kinds of fault. Of one line the first that applies is told."""
+"""All kinds of error. For one line the first that applies is reported."""
 
 NODE_WORDS = ("alloc", "close", "count", "splitnext", "putback")
 PAGE_WORDS = ("mapwhole", "unmapwhole", "splitpmd", "pin", "unpin")
@@ -32,34 +32,34 @@ PAGE_EVENTS = ("alloc", "mapwhole", "splitpmd", "pin", "taken", "pinned", "back"
 LOSS_EVENTS = ("unmapwhole", "unpin")
 LATER_EVENTS = ("write", "zero", "used")
 EVENTS = (*PAGE_EVENTS, *LOSS_EVENTS, "mapsub", "unmapsub", "split", "close", *LATER_EVENTS)
-"""All events of journals; the last three stand in version 3 alone."""
+"""All events of journals; the last three occur in version 3 only."""
 
 OUTCOMES = ("stays", "queued", "freed")
 NUMBER = re.compile(rb"0|[1-9][0-9]{0,19}")
-"""A number as it is written; none that is longer is within bounds."""
+"""A number as it is written; no longer one is within bounds."""
 
 PRINTABLE = re.compile(rb"[ -~]*")
 
 
 class BadText(Exception):
-    """A line has this kind of fault; `str()` is its word."""
+    """A line has this kind of error; `str()` is its word."""
 
 
 @dataclass(frozen=True)
 class Fault:
-    """The first fault of a text."""
+    """The first error of a text."""
 
     line: int
     word: str
 
     def told(self) -> bytes:
-        """The line that tells it on standard error."""
+        """The line about it on standard error."""
         return f"thpsplit: line {self.line}: {self.word}\n".encode()
 
 
 @dataclass
 class Place:
-    """Where the next line stands: in a script, in which section; in a journal, behind the version and so many nodes."""
+    """The position of the next line: in a script, its section; in a journal, after the version and so many nodes."""
 
     section: Optional[int] = None
     version: int = 0
@@ -68,13 +68,13 @@ class Place:
 
 
 def ensure(holds: bool, word: str) -> None:
-    """Raises the fault of this word where what must hold of a line doesn't."""
+    """Raises the error of this word unless a property of a line holds."""
     if not holds:
         raise BadText(word)
 
 
 def number(word: bytes, most: int, least: int = 0) -> int:
-    """The number that a word writes: decimal, without sign and leading zeros, within bounds."""
+    """The number that a word represents: decimal, without sign and leading zeros, within bounds."""
     ensure(NUMBER.fullmatch(word) is not None, "bad-number")
     ensure(least <= int(word) <= most, "bad-number")
     return int(word)
@@ -88,7 +88,7 @@ def check_numbers(words: list[bytes], mosts: tuple[int, ...]) -> None:
 
 
 def check_set(word: bytes) -> None:
-    """A set is `-`, or its maximal runs, ascending, joined by commas."""
+    """A set is `-`, or its maximal runs, ascending, separated by commas."""
     least = 0
     for run in [] if word == b"-" else word.split(b","):
         ends = run.split(b"-")
@@ -106,7 +106,7 @@ def words_in(line: bytes) -> list[bytes]:
 
 
 def first_fault(text: bytes, line_in: Callable[[Place, bytes], None], place: Place) -> Optional[Fault]:
-    """The first fault of the lines of a text, of what stands behind the last line feed, and of the text's length."""
+    """The first error of the lines of a text, of the text after the last line feed, and of the text's length."""
     if len(text) > MOST_BYTES:
         return Fault(0, "too-long")
     *lines, behind = text.split(b"\n")
@@ -122,12 +122,12 @@ def first_fault(text: bytes, line_in: Callable[[Place, bytes], None], place: Pla
 
 
 def script_fault(text: bytes, nodes: int = 1, workers: int = 1) -> Optional[Fault]:
-    """The first fault of a script for so many nodes and workers."""
+    """The first error of a script for so many nodes and workers."""
     return first_fault(text, lambda place, line: script_line(place, line, nodes, workers), Place())
 
 
 def script_line(place: Place, line: bytes, nodes: int, workers: int) -> None:
-    """Looks at a line of a script in its place."""
+    """Checks a line of a script at its position."""
     if line == b"" or line.startswith(b"#"):
         return
     word, *operands = words_in(line)
@@ -144,7 +144,7 @@ def script_line(place: Place, line: bytes, nodes: int, workers: int) -> None:
 
 
 def bounds_of(word: str, nodes: int) -> tuple[int, ...]:
-    """The most that each operand of a command may be."""
+    """The greatest value of each operand of a command."""
     if word in PAGE_WORDS:
         return nodes - 1, MOST_NUMBER
     if word in RANGE_WORDS:
@@ -153,7 +153,7 @@ def bounds_of(word: str, nodes: int) -> tuple[int, ...]:
 
 
 def journal_fault(text: bytes) -> Optional[Fault]:
-    """The first fault of a journal. One that isn't ended is cut behind its last line."""
+    """The first error of a journal. One that is not ended is cut after its last line."""
     place = Place()
     fault = first_fault(text, journal_line, place)
     if fault is None and not place.ended:
@@ -162,7 +162,7 @@ def journal_fault(text: bytes) -> Optional[Fault]:
 
 
 def journal_line(place: Place, line: bytes) -> None:
-    """Looks at a line of a journal in its place."""
+    """Checks a line of a journal at its position."""
     word, *others = words_in(line)
     if word == b"thp-journal":
         ensure(len(others) == 1, "bad-count")
@@ -181,7 +181,7 @@ def journal_line(place: Place, line: bytes) -> None:
 
 
 def node_line(place: Place, words: list[bytes]) -> None:
-    """`node N blocks B`, and what further versions write behind."""
+    """`node N blocks B`, and what further versions add."""
     keys = [b"blocks", b"order", b"underused"][: max(place.version, 1)]
     for at, key in enumerate(keys):
         ensure(words[2 * at + 1 : 2 * at + 2] == [key], "bad-word")

@@ -1,8 +1,8 @@
-"""Workers that close one node and hold batches of it at the same time, by the built program.
+"""Workers that close one node and hold batches of it concurrently, with the built program.
 
     tests/workers.py PROGRAM
 
-A worker that finds the node in use leaves the rest of its section until the others are done. No report may show that: short
+A worker that finds the node busy postpones the rest of its section until the others are done. No report may show that: short
 scripts are compared with every order of their commands by the plain model, long ones with what every order has in common.
 """
 
@@ -23,15 +23,15 @@ from script import Run, Shape
 from tally import Tally
 
 Sections = dict[int, list[str]]
-"""What each caller does; caller 0 does `setup`."""
+"""The commands of each caller; caller 0 executes `setup`."""
 
 SHAPE: Shape = (16, 9, None)
 TURNS = 12
-"""So often each report of a short script is asked for: each time another worker may be first."""
+"""The number of times that each report of a short script is requested: each time another worker can be first."""
 
 
 class State:
-    """A node that some of the commands were done on: how many of each caller, and what they returned."""
+    """A node after some of the commands: the number of each caller's, and their results."""
 
     def __init__(self, callers: Sequence[int]) -> None:
         nodes = Run([SHAPE]).nodes
@@ -52,7 +52,7 @@ class State:
         return after
 
     def texts(self) -> dict[str, tuple[str, ...]]:
-        """The reports, as far as the commands are done."""
+        """The reports, for the commands executed so far."""
         first = next(iter(self.runs.values()))
         answers = tuple(line for run_of in self.runs.values() for line in run_of.answers)
         return {"answers": answers, "journal": tuple(first.journal()), "totals": tuple(first.totals())}
@@ -60,12 +60,12 @@ class State:
 
 @dataclass(frozen=True)
 class Script:
-    """A short script of several workers. Each command is one step on the node, so any order of the commands can be met."""
+    """A short script of several workers. Each command is one step on the node, so any order of the commands is possible."""
 
     name: str
     sections: Sections
     legal: dict[str, set[bytes]] = field(default_factory=dict)
-    """Each report's texts, by every order."""
+    """Each report's texts, in every order."""
 
     def mirrored(self) -> Script:
         """The same with the workers' sections in the opposite order: a worker that starts early often ends before the next begins."""
@@ -79,7 +79,7 @@ class Script:
         return joined(line for caller, lines in self.sections.items() for line in (names[caller], *lines))
 
     def find_legal(self) -> None:
-        """Does the commands in every order, those of setup before all others. Orders with the same reports are one."""
+        """Executes the commands in every order, those of setup before all others. Orders with the same reports are merged."""
         state = State(list(self.sections))
         for _ in range(len(self.sections[0]) + 1):
             state = state.step(0, self.sections[0])
@@ -124,7 +124,7 @@ SCRIPTS = (
 )
 
 ROUNDS = 1_500
-"""So often each of 63 workers does the same commands, so that many find the node in use."""
+"""The number of times that each of 63 workers executes the same commands, so that many find the node busy."""
 
 
 def all_workers(own: Sequence[str]) -> bytes:
@@ -209,7 +209,7 @@ def droppers(program: Path) -> Optional[str]:
 
 
 def turn_word(answers: Sequence[str]) -> str:
-    """What became of a page that was taken: `back`, `dropped`, `none` where the queue was empty, or `wrong`."""
+    """The fate of a page that was taken: `back`, `dropped`, `none` if the queue was empty, or `wrong`."""
     taken, tried, ended = answers
     if taken == "taken 0":
         return "none" if (tried, ended) == ("done", "back 0 dropped 0") else "wrong"
@@ -246,7 +246,7 @@ def takers(program: Path) -> Optional[str]:
 
 
 def taker_journal(program: Path, script: bytes, tries: int) -> Optional[str]:
-    """The journal has one event for each take, try and put-back, and is legal."""
+    """The journal has one event for each take, try and put back, and is legal."""
     told = run(program, Call((*OPTIONS, "--report", "journal"), script))
     wanted = {b"taken": tries, b"pinned": tries, b"back": tries, b"pin": MOST_BATCH, b"alloc": MOST_BATCH}
     events = [line.split(b" ")[1] for line in told.output.splitlines()[2:-1]]

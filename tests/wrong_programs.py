@@ -1,4 +1,4 @@
-"""Wrong programs: each runs the real one, and changes what it tells. tests/outside.py has to refuse each."""
+"""Wrong programs: each runs the real one, and changes its output. tests/outside.py must refuse each."""
 
 from __future__ import annotations
 
@@ -11,7 +11,7 @@ START = """#!/bin/sh
 [ -e /proc/self/fd/0 ] && exec 9<&0 </dev/null
 exec {python} -IS {folder}/change.py "$@"
 """
-"""The program: standard input is handed on as number 9, where it is open."""
+"""The program: standard input is passed on as number 9, if it is open."""
 
 FRAME = """
 import os, select, stat, sys
@@ -74,12 +74,12 @@ put(1, output)
 put(2, errors)
 os._exit(status)
 """
-"""What the program does: it takes what the real one tells, changes it, and tells that."""
+"""The program's action: it takes the output of the real one, changes it, and writes it."""
 
 
 @dataclass(frozen=True)
 class WrongProgram:
-    """A program whose streams and status are changed by a line of Python, which a row of a group has to refuse."""
+    """A program whose streams and status are changed by a line of Python, which a row of a group must refuse."""
 
     name: str
     group: str
@@ -135,7 +135,7 @@ WRONG = [
     ("too many bytes are a cut", "limits", "errors = errors.replace(b'too-long', b'cut')"),
     ("16 MiB are too many bytes", "limits", f"if os.lseek(9, 0, 1) == 2**24: status, output, errors = {TOO_LONG}"),
 ]
-"""Each has a name, the group of rows that has to refuse it, and what it changes: `status`, `output` or `errors`."""
+"""Each has a name, the group of rows that must refuse it, and what it changes: `status`, `output` or `errors`."""
 
 
 def all_of(real: Path) -> list[WrongProgram]:
@@ -144,5 +144,5 @@ def all_of(real: Path) -> list[WrongProgram]:
 
 
 def wrapped(real: Path) -> WrongProgram:
-    """The real program, wrapped and not changed."""
+    """The real program, wrapped and unchanged."""
     return WrongProgram("wrapped", "", "", real)

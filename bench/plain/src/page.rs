@@ -13,7 +13,7 @@ pub struct Page {
     pub is_split: bool,
     pub is_partly: bool,
     // the split gave back the frames of zero-filled subpages too
-    gave_zero: bool,
+    freed_zero_frames: bool,
     zero: SubSet,
     // how often a PTE entry maps each subpage
     own: [u16; 512],
@@ -40,7 +40,7 @@ impl Page {
             subpages: 1 << order,
             is_split: false,
             is_partly: false,
-            gave_zero: false,
+            freed_zero_frames: false,
             zero: SubSet::below(1 << order),
             own: [0; 512],
         }
@@ -106,7 +106,7 @@ impl Page {
         let mut released = SubSet::default();
         if self.is_split {
             released = SubSet::of_zeros(counts, start);
-            if self.gave_zero {
+            if self.freed_zero_frames {
                 released = released.without(self.zero);
             }
         }
@@ -155,7 +155,7 @@ impl Page {
         }
         self.whole = 0;
         self.is_split = true;
-        self.gave_zero = give_zero;
+        self.freed_zero_frames = give_zero;
         released
     }
 
@@ -170,7 +170,7 @@ impl Page {
 
     fn gave_some(&self, range: &Range<usize>) -> bool {
         let kept = SubSet::range(range.start, range.len()).without(self.zero);
-        self.gave_zero && kept.count() as usize != range.len()
+        self.freed_zero_frames && kept.count() as usize != range.len()
     }
 
     fn range(&self, first: u32, count: u32) -> Result<Range<usize>, Refusal> {

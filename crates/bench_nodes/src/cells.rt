@@ -1,6 +1,7 @@
-//! Times of the calls of a shared node: beside those of a bare node, and by 1, 2 and 4 threads, on one cell and on a cell
-//! each. A round is a pin and an unpin of the thread's own page; a call that finds the node taken is counted and not made
-//! again. Then the times of single calls by one thread.
+//! Times of the calls of a shared node: next to those of a bare node, with 1, 2 and 4 threads, on one cell and on a cell each.
+//!
+//! A round is a pin and an unpin of the thread's own page. A call that finds the node busy is counted and not repeated. Times of
+//! single calls by one thread follow.
 mod pass_calls;
 mod rounds;
 mod threads;
@@ -12,7 +13,7 @@ use std::fmt::Display;
 use std::thread::Threads;
 use std::time::{Clock, CpuClock, Instant};
 
-/// Makes so many rounds in each thread.
+/// Makes `rounds` rounds in each thread.
 pub(crate) fn time_all<R: Clock + CpuClock + Eprint + AllocGlobal + Threads + Sync>(
     rt: &R,
     rounds: u32,
@@ -65,7 +66,7 @@ fn time_cell_each<R: Clock + Eprint + AllocGlobal + Threads + Sync>(
     tell(rt, "four threads, a cell each", start, tally)
 }
 
-// Prints how many calls were answered in a second, and how many found the node taken, on standard error.
+// Prints the number of successful calls per second, and the number of those that found the node busy, on standard error.
 fn tell<R: Clock + Eprint, D: Display + Drop>(
     rt: &R,
     what: D,

@@ -1,7 +1,7 @@
-//! Times of the calls themselves: links and pages, and a shared node.
+//! Measures the calls of links and pages, and of a shared node.
 //!
-//! Its arguments are two numbers: the rounds of links and pages, and of each thread on a shared node; 1,000 where there is none.
-//! A part whose number is 0 is left out. The times go to standard error.
+//! The arguments are two numbers: the rounds of links and pages, and the rounds of each thread on a shared node. The default is
+//! 1,000 each; 0 leaves the part out. The times are printed on standard error.
 #![tactic(auto)]
 
 mod cells;
@@ -24,7 +24,7 @@ fn main(rt: HostRuntime) -> Result<()> {
     Ok(())
 }
 
-// The program's argument of this number, or 1,000 where there is none.
+// The program's argument of this number, or 1,000 if there is none.
 fn asked<R: Env + AllocGlobal>(rt: &R, number: usize) -> Result<u32> {
     match env::args(rt)?.nth(number) {
         Some(word) => word.as_str().parse::<u32>().context("rounds"),

@@ -4,21 +4,21 @@ use anyhow::Result;
 use std::fmt::Display;
 use std::time::{CpuClock, Duration};
 
-/// The processor time of this thread, from a start on.
+/// The processor time of this thread since a start.
 #[derive(Drop)]
 pub(crate) struct Stopwatch {
     start: Duration,
 }
 
 impl Stopwatch {
-    /// A watch that starts now.
+    /// Starts a stopwatch.
     pub(crate) fn start<R: CpuClock>(rt: &R) -> Result<Stopwatch> {
         Ok(Stopwatch {
             start: rt.thread_cpu_time()?,
         })
     }
 
-    /// Prints the nanoseconds of one of these rounds on standard error, with the sum of the answers.
+    /// Prints the nanoseconds per round on standard error, with the sum of the results.
     pub(crate) fn tell<R: CpuClock + Eprint, D: Display + Drop>(
         &self,
         rt: &R,
@@ -31,7 +31,7 @@ impl Stopwatch {
     }
 }
 
-/// Prints the nanoseconds of one of these rounds, which took so many in all, on standard error, with the sum of the answers.
+/// Prints the nanoseconds per round on standard error, given the total, with the sum of the results.
 pub(crate) fn tell_nanos<R: Eprint, D: Display + Drop>(
     rt: &R,
     what: D,

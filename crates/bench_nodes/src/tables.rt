@@ -1,5 +1,4 @@
-//! Times of the calls of links and pages, at small and at large numbers of entries, and of a node; and the sizes of what they
-//! keep.
+//! Times of the calls of links and pages, with few and with many entries, and of a node; and the sizes of their data.
 mod blocks;
 mod links;
 mod node_calls;
@@ -11,14 +10,14 @@ use std::time::CpuClock;
 use thp_model::{Event, What};
 use thp_page::Page;
 
-// The fewest blocks that are measured, and the most that a node has.
+// The least number of blocks that is measured, and the greatest number of a node.
 const SIZES: [u32; 2] = [16, 4096];
 
-// How many subpages are unmapped, mapped or written at once.
+// The numbers of subpages that are unmapped, mapped or written at once.
 const COUNTS: [u32; 3] = [1, 64, 512];
 
-/// The bytes of an event and of a page, and the times of so many rounds, each with a sum of what the calls answered, so that
-/// no call can be left out.
+/// Prints the bytes of an event and of a page, and the times of `rounds` rounds, each with a sum of the calls' results, so that
+/// no call can be optimised out.
 pub(crate) fn time_all<R: CpuClock + Eprint + AllocGlobal>(rt: &R, rounds: u32) -> Result<()> {
     tell_sizes(rt)?;
     time_tables(rt, rounds)?;
@@ -26,7 +25,7 @@ pub(crate) fn time_all<R: CpuClock + Eprint + AllocGlobal>(rt: &R, rounds: u32) 
     node_calls::time_rounds(rt, rounds)
 }
 
-// The bytes of what a journal keeps for each event, and a node for each page.
+// The bytes that a journal stores per event, and a node per page.
 fn tell_sizes<R: Eprint>(rt: &R) -> Result<()> {
     let (event, what) = (size_of::<Event>(), size_of::<What>());
     eprintln!(rt; "Event: {event} bytes, of which What: {what} bytes")?;

@@ -1,8 +1,9 @@
-//! How threads share a node: two of them allocate pages and unmap half of each, side by side; then the node is taken out of
-//! its cell, its deferred split queue is shrunk, and the totals are printed, which are the same whatever the schedule.
+//! An example of a node that two threads share.
 //!
-//! That each call does what it says, and that the node's journal is one legal history of all calls of both threads, is the
-//! contract of the library's calls. Here is proved that each call is made as it asks.
+//! Both threads allocate pages and unmap half of each, concurrently. Afterwards the program takes the node out of its cell,
+//! shrinks its deferred split queue, and prints the totals, which do not depend on the schedule. The contracts of the library
+//! guarantee the effect of each call, and that the node's journal is one legal history of all calls of both threads. This
+//! program's proof shows that it makes each call as required.
 #![tactic(auto)]
 
 ghost use Rattle.std.specs.Prelude.{◌≡◌, []};
@@ -13,10 +14,10 @@ use anyhow::{Context, Result};
 use std::thread::{self, Threads};
 use thp_cell::{CellFault, Node, NodeCell, PageId, Pass, Shape};
 
-// How many pages each thread allocates.
+// The number of pages that each thread allocates.
 const PAGES: u32 = 20;
 
-// How often a call is made before a thread gives up, where the other thread has the node each time.
+// The number of times that a call is made before a thread gives up, if the other thread has the node each time.
 const TRIES: u32 = 50_000_000;
 
 fn main(rt: HostRuntime) -> Result<()> {
@@ -35,7 +36,7 @@ fn main(rt: HostRuntime) -> Result<()> {
     Ok(())
 }
 
-/// Lets two threads use a new node side by side, and gives it back.
+/// Lets two threads use a new node concurrently, and returns the node.
 fn used_by_two<R: Threads + AllocGlobal>(rt: &R, node: Node) -> Option<Node>
     requires { node.journal ≡ [] }
 {
@@ -66,7 +67,7 @@ fn use_pages(cell: &NodeCell, pass: Pass, caller: u32) -> Pass
     pass
 }
 
-/// Allocates a page, once the other thread leaves the node free; or there is none.
+/// Allocates a page, once the node is not busy; `None` if the thread gives up.
 fn allocate(cell: &NodeCell, pass: &mut Pass, caller: u32) -> Option<PageId>
     requires cell { pass.old.cell ≡ cell.now }
     requires caller { HasCaller pass.old caller }
@@ -82,7 +83,7 @@ fn allocate(cell: &NodeCell, pass: &mut Pass, caller: u32) -> Option<PageId>
     None
 }
 
-/// Splits the PMD mapping of a page and unmaps its first half, once the other thread leaves the node free.
+/// Splits the PMD mapping of a page and unmaps its first half, once the node is not busy.
 fn unmap_half(cell: &NodeCell, pass: &mut Pass, caller: u32, page: PageId)
     requires cell { pass.old.cell ≡ cell.now }
     requires caller { HasCaller pass.old caller }

@@ -1,4 +1,4 @@
-//! What callers can conclude from the contracts of a cell with no proof of their own.
+//! Conclusions that callers can draw from the contracts of a cell without proofs of their own.
 ghost use Rattle.std.specs.Prelude.{◌≡◌, ◌≤◌, ◌++◌, true, false, [], ◌∷◌, Err, IfOk, OnOk};
 ghost use Rattle.thp_model.specs.History.{by};
 ghost use Rattle.thp_model.specs.Underused.{shrinks_underused};
@@ -8,8 +8,8 @@ use thp_cell::{CellFault, NodeCell, Pass};
 use thp_model::{PageId, What};
 use thp_node::BackReply;
 
-/// The first page of a new cell, by the pass that has all callers, and how many pages are queued then: it is queued where the
-/// shrinker looks for underused pages. No call is busy.
+/// Allocates the first page of a new cell by the pass that has all callers, and returns the number of queued pages then: the page
+/// is queued if the shrinker looks for underused pages. No call is busy.
 #[tactic(auto, unfolding(thp_model::specs::History::count_of, thp_model::specs::Places::queue))]
 pub fn first_page(cell: &NodeCell, pass: &mut Pass, caller: u32) -> Result<(PageId, u32), CellFault>
     requires cell { pass.old.cell ≡ cell.now }
@@ -26,7 +26,7 @@ pub fn first_page(cell: &NodeCell, pass: &mut Pass, caller: u32) -> Result<(Page
     Ok((page, queued))
 }
 
-/// A pin by the pass that has all callers: its front is what it was, and that event.
+/// Adds a pin by the pass that has all callers: its front is the old one and that event.
 pub fn pin_alone(
     cell: &NodeCell,
     pass: &mut Pass,
@@ -41,7 +41,7 @@ pub fn pin_alone(
     cell.pin(pass, caller, page)
 }
 
-/// A batch that one of two neighbours took goes back through the pass that a join made of them.
+/// Puts a batch that one of two adjacent passes took back through the pass that joins them.
 pub fn return_after_join(
     cell: &NodeCell,
     left: Pass,

@@ -17,14 +17,14 @@ fn keep_node(rt: &impl Abort, cell: &NodeCell, pass: &mut Pass)
     requires { pass.old.cell ≡ cell.now }
     ensures { pass.new ≡ at_front (keeping pass.old) pass.new.front }
 {
-    match cell.keep(pass) {
+    match cell.keep_node(pass) {
         Ok(()) => {}
         Err(Busy) => panic!(rt; "no other pass has the node"),
     }
 }
 
-// What pass `a` does while it keeps the node, and what `b` finds meanwhile: it reaches nothing, and counts what was queued when the
-// node was taken.
+// The calls of `a` while it keeps the node, and those of `b` in the meantime: `b` finds the node busy, and its count is that of
+// the time when the node was taken.
 fn calls_while_kept(rt: &impl Abort, cell: &NodeCell, a: &mut Pass, b: &mut Pass)
     requires a_cell { a.old.cell ≡ cell.now }
     requires b_cell { b.old.cell ≡ cell.now }
@@ -40,7 +40,7 @@ fn calls_while_kept(rt: &impl Abort, cell: &NodeCell, a: &mut Pass, b: &mut Pass
     count_is(rt, cell, a, 2);
     count_is(rt, cell, b, 0);
     assert!(rt; cell.alloc_page(b, 1) == Err(CellFault::Busy));
-    assert!(rt; cell.keep(b) == Err(Busy));
+    assert!(rt; cell.keep_node(b) == Err(Busy));
 }
 
 #[test]
@@ -48,8 +48,8 @@ fn busy_while_kept(rt: HostRuntime) {
     let (cell, pass) = cell_of(&rt, rt.alloc(), 16, 2);
     let (mut a, mut b) = cell.split(pass, 1);
     calls_while_kept(&rt, &cell, &mut a, &mut b);
-    cell.let_go(&mut a);
-    cell.let_go(&mut a);
+    cell.return_node(&mut a);
+    cell.return_node(&mut a);
     count_is(&rt, &cell, &mut b, 2);
     let reply = scanned(2, 2, 0, 0, 0, 0);
     scan_pages(&rt, &cell, &mut b, 1, 8, reply);
@@ -69,7 +69,7 @@ fn batch_while_kept(rt: &impl Abort, cell: &NodeCell, pass: &mut Pass, page: Pag
     return_pages(rt, cell, pass, batch, 1);
 }
 
-// A division, a join, a hold and the end of the cell let a node go that is kept.
+// A division, a join, a hold and the end of the cell release a node that is kept.
 #[test]
 fn let_go_by_division_join_and_end(rt: HostRuntime) {
     let (cell, mut pass) = cell_of(&rt, rt.alloc(), 16, 2);
@@ -77,7 +77,7 @@ fn let_go_by_division_join_and_end(rt: HostRuntime) {
     queue_page(&rt, &cell, &mut pass, 0, PageId(0));
     let (mut a, mut b) = cell.split(pass, 1);
     batch_while_kept(&rt, &cell, &mut b, PageId(0));
-    assert!(rt; cell.keep(&mut a) == Err(Busy));
+    assert!(rt; cell.keep_node(&mut a) == Err(Busy));
     let mut pass = cell.join(a, b);
     keep_node(&rt, &cell, &mut pass);
     let Ok(hold) = cell.hold(pass) else {
@@ -110,7 +110,7 @@ fn free_after_a_refused_close(rt: HostRuntime) {
     refuse_page(&rt, &cell, &mut b, 1, Refusal::Closed);
 }
 
-// Takes a batch beside one that the caller has.
+// Takes a batch although the caller has one.
 fn refused_take(rt: &impl Abort, cell: &NodeCell, pass: &mut Pass)
     requires cell { pass.old.cell ≡ cell.now }
     requires caller { HasCaller pass.old 0 }

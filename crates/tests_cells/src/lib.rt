@@ -1,6 +1,10 @@
-//! What stands above the contracts of a shared node. `conclusions` has functions that its callers could write, proved with
-//! no proof file. The tests are worked rows with answers known beforehand, batches at their limit, and threads that work
-//! side by side. Refused growths stand in `tests_spoilt`.
+//! Tests of shared nodes, above `thp_cell`.
+//!
+//! - `conclusions`: what callers of a cell can conclude, proved without a proof file.
+//! - `rows`, `keeping`, `underused`: worked rows with known results; `limits`: batches at their limit; `steps`: their calls.
+//! - `threads`: threads side by side (`allocations`; `stress`: four threads, whose journal is checked).
+//!
+//! Allocations that fail are in `tests_spoilt`, times in `bench_nodes`.
 #![tactic(auto)]
 
 pub mod conclusions;

@@ -1,8 +1,8 @@
-//! Worked rows on a shared node, with answers known beforehand.
+//! Worked rows on a shared node, with results known beforehand.
 ghost use Rattle.std.specs.Prelude.{◌≡◌};
 ghost use Rattle.thp_node.specs.Batches.{IsInFront};
 ghost use Rattle.thp_cell.specs.Views.{HasCaller};
-ghost use Rattle.thp_cell.specs.Calls.{at_front, letting_go};
+ghost use Rattle.thp_cell.specs.Calls.{at_front, returning_node};
 
 use crate::steps::{
     allocate, cell_of, count_is, freed, is_allocation, pin_page, queue_page, queued, refuse_page,
@@ -17,7 +17,7 @@ use thp_node::{Batch, NewFault, Node, Tried};
 // Takes the node for a hold, which nobody has.
 fn hold_node(rt: &impl Abort, cell: &NodeCell, pass: Pass) -> Hold
     requires { pass.cell ≡ cell.now }
-    ensures { result ≡ at_front (letting_go pass) result.front }
+    ensures { result ≡ at_front (returning_node pass) result.front }
 {
     match cell.hold(pass) {
         Ok(hold) => hold,
@@ -28,7 +28,7 @@ fn hold_node(rt: &impl Abort, cell: &NodeCell, pass: Pass) -> Hold
 // A pass whose hold is refused, since another has the node.
 fn refused_hold(rt: &impl Abort, cell: &NodeCell, pass: Pass) -> Pass
     requires { pass.cell ≡ cell.now }
-    ensures { result ≡ letting_go pass }
+    ensures { result ≡ returning_node pass }
 {
     match cell.hold(pass) {
         Ok(_) => panic!(rt; "two holds"),
@@ -41,8 +41,8 @@ fn call_round_a_hold(rt: &impl Abort, cell: &NodeCell, a: Pass, mut b: Pass) -> 
     requires a_cell { a.cell ≡ cell.now }
     requires b_cell { b.cell ≡ cell.now }
     requires caller { HasCaller b 1 }
-    ensures a { result.0 ≡ at_front (letting_go a) result.0.front }
-    ensures b { result.1 ≡ at_front (letting_go b) result.1.front }
+    ensures a { result.0 ≡ at_front (returning_node a) result.0.front }
+    ensures b { result.1 ≡ at_front (returning_node b) result.1.front }
 {
     let hold = hold_node(rt, cell, a);
     assert!(rt; cell.alloc_page(&mut b, 1) == Err(CellFault::Busy));
@@ -84,7 +84,7 @@ fn count_while_held(rt: HostRuntime) {
     count_is(&rt, &cell, &mut a, 0);
 }
 
-// Why there is no cell of so many callers.
+// Why there is no cell of this many callers.
 fn fault_of(rt: &impl Abort, alloc: Global, callers: u32) -> Option<NewFault> {
     let shape = Shape {
         blocks: 16,
@@ -178,7 +178,7 @@ fn try_pinned(rt: &impl Abort, cell: &NodeCell, pass: &mut Pass, batch: &mut Bat
     try_page(rt, cell, pass, batch, Tried::Pinned(page));
 }
 
-// Tries the pages 0 and 1 of a batch, of which 1 was freed meanwhile, and puts the batch back.
+// Tries the pages 0 and 1 of a batch, of which 1 was freed in the meantime, and puts the batch back.
 fn try_and_return(rt: &impl Abort, cell: &NodeCell, pass: &mut Pass, mut batch: Batch)
     requires cell { pass.old.cell ≡ cell.now }
     requires caller { HasCaller pass.old batch.caller }

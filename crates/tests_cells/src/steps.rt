@@ -1,4 +1,4 @@
-//! Steps that the rows share. Each makes a few calls and says what it leaves of the pass, so that the rows stay short.
+//! Steps that the rows share. The contract of each specifies what it leaves of the pass, so that the rows stay short.
 ghost use Rattle.std.specs.Prelude.{◌≡◌, ◌≤◌};
 ghost use Rattle.thp_node.specs.Batches.{IsInFront};
 ghost use Rattle.thp_cell.specs.Views.{HasCaller, HasAll};
@@ -73,7 +73,7 @@ pub(crate) fn freed() -> Done {
     done(Outcome::Freed, SubSet::full(9))
 }
 
-// What a scan answers, in the order of its parts.
+// The reply of a scan, in the order of its fields.
 pub(crate) fn scanned(
     taken: u32,
     split: u32,
@@ -292,12 +292,12 @@ pub(crate) fn try_page(
     assert!(rt; cell.split_next(pass, batch) == Ok(answer));
 }
 
-// So many pages returned, and none was dropped.
+// This many pages returned, and none was dropped.
 fn expect_returned(rt: &impl Abort, reply: BackReply, pages: u32) {
     assert!(rt; (reply.back, reply.dropped) == (pages, 0));
 }
 
-// Puts a batch back, of which so many pages return and none is dropped.
+// Puts a batch back, of which this many pages return and none is dropped.
 pub(crate) fn return_pages(
     rt: &impl Abort,
     cell: &NodeCell,

@@ -1,4 +1,4 @@
-//! Threads that work side by side on a shared node: two that allocate, and four that mix calls, whose journal is checked.
+//! Concurrent threads on a shared node: two that allocate, and four that mix calls, whose journal is checked.
 
 mod allocations;
 mod stress;

@@ -29,7 +29,8 @@ fn scan_in_use_and_split(rt: &impl Abort, cell: &NodeCell, pass: &mut Pass)
     scan_pages(rt, cell, pass, 0, 8, scanned(1, 1, 0, 0, 0, 0));
 }
 
-// What is left of the split page: its zero-filled subpage is unmapped for nothing, and isn't mapped or written again.
+// The rest of the split page: the unmap of its zero-filled subpage gives nothing back, and the subpage can't be mapped or written
+// again.
 fn leave_split_page(rt: &impl Abort, cell: &NodeCell, pass: &mut Pass)
     requires cell { pass.old.cell ≡ cell.now }
     requires caller { HasCaller pass.old 0 }
@@ -50,7 +51,7 @@ fn leave_split_page(rt: &impl Abort, cell: &NodeCell, pass: &mut Pass)
     );
 }
 
-// The event says that the page was found in use.
+// The event found its page in use.
 fn is_used(event: &Event) -> bool {
     event.what == What::Used { page: PAGE }
 }
@@ -88,7 +89,7 @@ fn underused_pinned(rt: HostRuntime) {
     assert!(rt; (node.frames_held(), node.frames_given()) == (6, 2));
 }
 
-// A page all of whose frames were given back has its block until its last unmap.
+// A page whose frames were all given back keeps its block until its last unmap.
 fn split_and_free(rt: &impl Abort, cell: &NodeCell, pass: &mut Pass)
     requires cell { pass.old.cell ≡ cell.now }
     requires caller { HasCaller pass.old 0 }
@@ -110,7 +111,7 @@ fn block_of_a_live_page(rt: HostRuntime) {
     assert!(rt; (node.frames_held(), node.frames_given()) == (4, 4));
 }
 
-// Writes where no entry maps the subpage, and zeros beyond the page; zeros where the page is mapped are written.
+// Refused writes: data to a subpage that no entry maps, and zeros beyond the page. Zeros to a mapped subpage are written.
 fn refused_writes(rt: &impl Abort, cell: &NodeCell, pass: &mut Pass)
     requires cell { pass.old.cell ≡ cell.now }
     requires caller { HasCaller pass.old 0 }

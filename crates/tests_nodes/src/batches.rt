@@ -1,4 +1,4 @@
-//! Rows on batches of a node: takes, tries and put-backs in calls of their own, and batches of the most pages.
+//! Rows on batches of a node: takes, tries and put backs as separate calls, and batches of the greatest size.
 
 mod full_batch;
 mod rows;

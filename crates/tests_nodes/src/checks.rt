@@ -1,4 +1,4 @@
-//! Histories that are legal, and histories whose last event doesn't fit, worked out by hand.
+//! Histories that are legal, and histories whose last event does not fit, written out.
 
 mod explained;
 mod histories;

@@ -1,5 +1,12 @@
-//! Rows on a node that nobody shares, on batches of it, and on the check of histories, with answers known beforehand. Tests
-//! alone: they stand above the crates that they call, so that those are proved once.
+//! Tests of nodes for one thread, of batches, and of checks.
+//!
+//! - `calls`: `page_rows`, `scan_rows`, `underused_rows`. A new row is a table of `Step` for `expect_row` (`calls/steps`).
+//! - `batches`: `rows`, `full_batch` (128 pinned pages), `underused_rows`; their calls are in `batches/steps`.
+//! - `checks`: `legal`, `misfits`, `underused` and `random` histories, for both checks; `explained`, `reasons` (texts),
+//!   `reading` (what a replay shows).
+//! - `recorders`: `FullLog` and `CountOnly`. `nodes`: construction.
+//!
+//! It uses the libraries from above, so that they are proved once.
 #![tactic(auto)]
 
 #[cfg(test)]

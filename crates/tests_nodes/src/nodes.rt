@@ -1,4 +1,4 @@
-//! Nodes that rows begin with, calls with their answers, and what rows look at in a node.
+//! Nodes for rows, calls with their results, and queries of a node.
 ghost use Rattle.std.specs.Prelude.{◌<◌};
 ghost use Rattle.thp_node.specs.Batches.{FrontsStay};
 
@@ -22,7 +22,7 @@ pub(crate) fn node_with_queued(rt: &impl Abort, alloc: Global, pages: u64) -> No
     queued_node(alloc, pages).expect(rt, "a node with queued pages")
 }
 
-// A caller makes these calls one after the other, each with its answer.
+// A caller makes these calls one after the other, each with its result.
 pub(crate) fn expect(rt: &impl Abort, node: &mut Node, caller: u32, steps: &[(Call, Answer)])
     requires { caller < 64 }
     ensures { FrontsStay node.old.journal node.new.journal }
@@ -42,7 +42,7 @@ pub(crate) fn expect_queued(rt: &impl Abort, node: &Node, pages: u32) {
     assert!(rt; node.queue_len() == pages);
 }
 
-// How many frames the node's pages hold, and how many were given back.
+// The number of frames that the node's pages hold, and of frames given back.
 pub(crate) fn expect_frames(rt: &impl Abort, node: &Node, held: u128, given: u128) {
     assert!(rt; node.frames_held() == held);
     assert!(rt; node.frames_given() == given);

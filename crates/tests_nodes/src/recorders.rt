@@ -1,7 +1,8 @@
-//! A node that keeps its events beside one that counts them: the same calls have the same answers, and leave the same.
+//! A node that stores its events, compared with one that counts them: the same calls have the same results, and leave the same
+//! state.
 use tests_steps::{Answer, Call, QUEUED, first_wrong, shape_of};
 use thp_model::{PageId, Refusal};
-use thp_node::{Node, Unkept};
+use thp_node::{CountOnly, Node};
 
 const PAGE: PageId = PageId(0);
 
@@ -22,7 +23,7 @@ const CALLS: [(Call, Answer); 8] = [
 #[test]
 fn kept_and_unkept(rt: HostRuntime) {
     let mut kept: Node = Node::new(rt.alloc(), shape_of(16)).expect(&rt, "a node");
-    let mut unkept: Node<Unkept> = Node::with_recorder(rt.alloc(), shape_of(16)).expect(
+    let mut unkept: Node<CountOnly> = Node::with_recorder(rt.alloc(), shape_of(16)).expect(
         &rt, "a node",
     );
     assert!(rt; first_wrong(&mut kept, 1, &CALLS).is_none());

@@ -1,4 +1,4 @@
-//! Calls on one page as values, so that a row is a table of calls and answers.
+//! Calls on one page as values, so that a row is a table of calls and results.
 use std::process::Abort;
 use thp_model::{Refusal, SubSet};
 use thp_page::{Change, Page};
@@ -21,7 +21,7 @@ pub(crate) enum Call {
     Split(bool),
 }
 
-// What a call answers.
+// The result of a call.
 #[derive(Clone, Copy, PartialEq, Eq)]
 pub(crate) enum Answer {
     Done,
@@ -39,7 +39,7 @@ pub(crate) fn change(unused: bool, used_left: bool) -> Answer {
     })
 }
 
-// Makes these calls on a page one after the other, each with its answer.
+// Makes these calls on a page one after the other, each with its result.
 pub(crate) fn expect(rt: &impl Abort, page: &mut Page, steps: &[(Call, Answer)]) {
     for (place, &(call, want)) in steps.iter().enumerate() {
         let answer = answer_of(rt, page, call);
@@ -47,7 +47,7 @@ pub(crate) fn expect(rt: &impl Abort, page: &mut Page, steps: &[(Call, Answer)])
     }
 }
 
-// Makes these calls as often as this, each time with these answers.
+// Makes these calls this many times, each time with these results.
 pub(crate) fn repeat(rt: &impl Abort, page: &mut Page, steps: &[(Call, Answer)], times: u32) {
     for _time in 0..times {
         expect(rt, page, steps);

@@ -1,5 +1,9 @@
-//! Sets of subpages, lists by index, pages and the table of pages, with values worked out by hand. Tests alone: they stand
-//! above the crates that they call, so that those are proved once.
+//! Tests of sets, lists by index, pages and the page table.
+//!
+//! - `sets`; `links` and `counting` (accesses); `page_rows`, `zero_rows`, `calls`; `table`.
+//! - `own_counts`: own map counts at their limit, and through each bit.
+//!
+//! Expected values are worked out on paper. It uses the libraries from above, so that they are proved once.
 #![tactic(auto)]
 
 #[cfg(test)]

@@ -1,4 +1,4 @@
-//! Lists in a table of pairs, with values worked out by hand, and two lists in one table.
+//! Lists in a table of pairs, with expected values written out, and two lists in one table.
 ghost use Rattle.std.specs.Prelude.{◌≡◌, ◌+◌, ◌≤◌, ⊤, [], ◌∷◌, ◌++◌, length, slice_get, vec_len, Contains, IfOk, IfSome};
 ghost use Rattle.thp_links.specs.Indices.{Apart, without};
 ghost use Rattle.thp_links.specs.Standing.{Stands, ChainStands};
@@ -73,7 +73,7 @@ fn queue_of_three(table: &mut Pairs) -> Queue
     queue
 }
 
-// A queue of 3 goes through its calls as worked out by hand.
+// A queue of 3 passes its calls with the results written out here.
 fn queue_by_hand(rt: &impl Abort, table: &mut Pairs)
     requires { length table.old.pairs.items ≡ 4 }
 {
@@ -88,7 +88,7 @@ fn queue_by_hand(rt: &impl Abort, table: &mut Pairs)
     assert!(rt; queue.front() == Some(0));
 }
 
-// So does a chain.
+// The same for a chain.
 fn chain_by_hand(rt: &impl Abort, table: &mut Pairs)
     requires { length table.old.pairs.items ≡ 4 }
 {
@@ -134,7 +134,7 @@ fn enqueue_free<T: LinkTable>(table: &mut T, free: &mut FreeChain, queue: &mut Q
     Some(i)
 }
 
-// Takes an index out of the queue, and makes it the first free one, in one table.
+// Removes an index from the queue, and makes it the first free one, in one table.
 fn release<T: LinkTable>(table: &mut T, free: &mut FreeChain, queue: &mut Queue, i: u32)
     requires queue_stands { Stands queue.old (T.links table.old) }
     requires free_stands { ChainStands free.old (T.links table.old) }
@@ -152,7 +152,7 @@ fn release<T: LinkTable>(table: &mut T, free: &mut FreeChain, queue: &mut Queue,
     free.push(table, i);
 }
 
-// A block goes from the free chain to the queue and back, in one table.
+// A block moves from the free chain to the queue and back, in one table.
 #[test]
 fn one_table_serves_both(rt: HostRuntime) -> Result<(), Fail> {
     let mut table = Pairs::new(rt.alloc(), 4)?;

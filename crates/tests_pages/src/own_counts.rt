@@ -6,7 +6,7 @@ use std::process::Abort;
 use thp_model::{Refusal, SubSet};
 use thp_page::{Change, Page};
 
-// Maps a range as often as can be, one mapping after the other, and unmaps it again.
+// Maps a range as often as possible, one mapping after the other, and unmaps it again.
 fn up_and_down(rt: &impl Abort, first: u32, count: u32)
     requires { first + count ≤ 510 }
 {
@@ -43,7 +43,7 @@ fn a_range_of_many_words_up_and_down(rt: HostRuntime) {
     up_and_down(&rt, 63, 400);
 }
 
-// A split makes `whole` mappings of the page into as many of each subpage, beside 0, 1 or 2 of its own.
+// A split turns `whole` mappings of the page into as many of each subpage, in addition to 0, 1 or 2 of its own.
 fn counts_after_a_split(rt: &impl Abort, whole: u32)
     requires { whole ≤ 65533 }
 {

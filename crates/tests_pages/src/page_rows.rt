@@ -223,7 +223,7 @@ fn pinned_page_is_freed_by_unpin_at_order_2(rt: HostRuntime) {
     pinned_page_is_freed_by_unpin_at(&rt, 2);
 }
 
-// Each subpage of a new page is in use, and one by one none is.
+// Each subpage of a new page is in use, and is unmapped one by one until none is.
 #[tactic(auto, unfolding(thp_model::specs::Pages::size))]
 #[test]
 fn subpages_go_out_of_use_one_by_one(rt: HostRuntime) {

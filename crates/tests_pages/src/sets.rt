@@ -1,4 +1,4 @@
-//! Sets of subpages and shapes, with values counted by hand.
+//! Sets of subpages and shapes, with values counted manually.
 use std::process::Abort;
 use thp_model::{Shape, SubSet};
 

@@ -70,7 +70,7 @@ fn limits_and_constructors(rt: HostRuntime) -> Result<(), Fail> {
     Ok(())
 }
 
-// A page of this number comes into block 2, where it stands nowhere and has no pin.
+// A page of this number is placed in block 2, on no list and without pins.
 fn page_comes(rt: &impl Abort, table: &mut PageTable, id: PageId)
     requires size { length table.old.links ≡ 4 }
     requires slots { length table.old.slots ≡ 4 }
@@ -98,7 +98,7 @@ fn page_moves(rt: &impl Abort, table: &mut PageTable)
     assert!(rt; table.standing(2) == Standing::Batch(5));
 }
 
-// The page of block 2, which has this number, goes.
+// The page of block 2, which has this number, is removed.
 fn page_goes(rt: &impl Abort, table: &mut PageTable, id: PageId)
     requires size { length table.old.links ≡ 4 }
     requires slots { length table.old.slots ≡ 4 }

@@ -1,4 +1,4 @@
-//! Worked rows on zero-filled subpages, of pages of order 2 where nothing else is said.
+//! Worked rows on zero-filled subpages, of pages of order 2 unless stated otherwise.
 use crate::calls::{Answer, Call, change, expect};
 use std::process::Abort;
 use thp_model::{Refusal, SubSet};
@@ -47,7 +47,7 @@ fn zero_filled_subpages_at_order_9(rt: HostRuntime) {
     expect_zeros(&rt, &page, low.union(high), false);
 }
 
-// A page stays partly mapped, and mappings change nothing of what its subpages hold.
+// A page stays partly mapped, and mappings don't change the content of its subpages.
 #[test]
 fn partly_mapped(rt: HostRuntime) {
     let mut page = Page::fresh(2);
@@ -62,7 +62,7 @@ fn partly_mapped(rt: HostRuntime) {
     expect_zeros(&rt, &page, SubSet::range(0, 4), true);
 }
 
-// Where the last use goes at once, or another mapping is left, the page isn't partly mapped.
+// A page is not partly mapped if all its use ends at once, or if another mapping is left.
 #[test]
 fn not_partly_mapped(rt: HostRuntime) {
     let mut page = Page::fresh(2);
@@ -78,7 +78,7 @@ fn not_partly_mapped(rt: HostRuntime) {
     expect_zeros(&rt, &page, SubSet::range(0, 4), false);
 }
 
-// A page is worth a split where it is partly mapped, or has more zero-filled subpages than the threshold.
+// A page is worth a split if it is partly mapped, or has more zero-filled subpages than the threshold.
 #[test]
 fn worth_a_split(rt: HostRuntime) {
     let mut page = Page::fresh(2);
@@ -96,15 +96,15 @@ fn worth_a_split(rt: HostRuntime) {
 // Whether a page is worth a split with the switch off, and at the thresholds 0, 1 and 3.
 fn expect_worth(rt: &impl Abort, page: &Page, wants: [bool; 4]) {
     let told = [
-        page.is_worth(None),
-        page.is_worth(Some(0)),
-        page.is_worth(Some(1)),
-        page.is_worth(Some(3)),
+        page.is_split_candidate(None),
+        page.is_split_candidate(Some(0)),
+        page.is_split_candidate(Some(1)),
+        page.is_split_candidate(Some(3)),
     ];
     assert!(rt; told == wants);
 }
 
-// A split gives back unused and zero-filled subpages; the mappings of those stay, and their unmaps give nothing back.
+// A split gives back unused and zero-filled subpages; the mappings of the latter remain, and their unmaps give nothing back.
 #[test]
 fn split_gives_zero_filled_frames(rt: HostRuntime) {
     let mut page = Page::fresh(2);

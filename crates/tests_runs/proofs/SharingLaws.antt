@@ -4,16 +4,16 @@ use Rattle.thp_model.specs.declared.events.Event.{Event}
 use Rattle.thp_model.specs.declared.refusal.Refusal.TheVariants.{OutOfMemory}
 use Rattle.thp_cell.specs.declared.fault.CellFault.{CellFault}
 use Rattle.thp_cell.specs.declared.fault.CellFault.TheVariants.{Busy, Refused}
-use Rattle.thp_text.specs.declared.script.Command.{Command}
-use Rattle.thp_sections.specs.declared.reply.Answer.{Answer}
-use Rattle.thp_sections.specs.declared.reply.Reply.{Reply}
-use Rattle.thp_sections.specs.declared.reply.Rest.{Rest}
-use Rattle.thp_sections.specs.declared.reply.Worked.{Worked}
-use Rattle.thp_sections.specs.declared.scanning.Begun.{Begun}
-use Rattle.thp_sections.specs.declared.steps.Step.{Step}
-use Rattle.thp_sections.specs.Does.{Open, Reaction}
-use Rattle.thp_sections.specs.Fronts.{Fronts, SameHolding, Moves, Answered, OutOf, IsBusy, StepDone, Goes, Grows}
-use Rattle.thp_sections.specs.Sections.{Made, Steps, Begins, Ends, WorksTo, Works}
+use Rattle.thp_script.specs.declared.script.Command.{Command}
+use Rattle.thp_worker.specs.declared.reply.Answer.{Answer}
+use Rattle.thp_worker.specs.declared.reply.Reply.{Reply}
+use Rattle.thp_worker.specs.declared.reply.Rest.{Rest}
+use Rattle.thp_run.specs.Listed.{WorkedList, WorksOn}
+use Rattle.thp_worker.specs.declared.scanning.CommandProgress.{CommandProgress}
+use Rattle.thp_worker.specs.declared.steps.Step.{Step}
+use Rattle.thp_worker.specs.Does.{Open, Reaction}
+use Rattle.thp_worker.specs.Fronts.{Fronts, SameHolding, Moves, Answered, OutOf, IsStepBusy, StepDone, Goes, Grows}
+use Rattle.thp_worker.specs.Sections.{Made, Steps, Begins, Ends, WorksTo}
 use Rattle.tests_runs.specs.Sharing.{shared, WasWorked}
 
 module _ (old new : Fronts) where
@@ -48,7 +48,7 @@ module _ (old new : Fronts) where
   }
 
 -- nodes that are busy stay as they are
-pub busy_shared : (old new : Fronts) → new ≡ old → IsBusy (shared old) (shared new)
+pub busy_shared : (old new : Fronts) → new ≡ old → IsStepBusy (shared old) (shared new)
 busy_shared old new same = record { same = ap shared same; shared = λ all. absurd (omega (arith, all.high)) }
 
 pub step_shared : (old new : Fronts) (c n : ℕ) (step : Step) (r : Result Reply CellFault) → StepDone c n step old new r → StepDone c n step (shared old) (shared new) r
@@ -68,7 +68,7 @@ module _ (old new : Fronts) (c : ℕ) where
   steps_inside : (ms : List Made) → Steps c old (shared new) ms → Steps c before new ms
   steps_inside ms s = record { each = s.each; in_order = s.in_order; behind = s.behind; own = s.own; carries = s.carries; batches = s.batches }
 
-  begins_inside : (commands : List Command) (answers : List Answer) (opened : List Bool) (begun : Begun) → Begins c old (shared new) commands answers opened begun → Begins c before new commands answers opened begun
+  begins_inside : (commands : List Command) (answers : List Answer) (opened : List Bool) (begun : CommandProgress) → Begins c old (shared new) commands answers opened begun → Begins c before new commands answers opened begun
   begins_inside commands answers opened begun b = record {
     turns = b.turns;
     made = b.made;
@@ -101,5 +101,5 @@ module _ (old new : Fronts) (c : ℕ) where
   to_inside commands answers opened (Some r) t =
       (t.0, elim t.1 [ inl b ↦ inl (b.0, begins_inside commands answers opened _ b.1) | inr e ↦ inr (e.0, ends_inside commands answers opened r.steps e.1) ])
 
-  pub works_inside : (commands : List Command) (w : Worked) → Works c old (shared new) commands w → WasWorked c new commands w
-  works_inside commands w k = (before, record { to = to_inside commands w.answers.items w.opened.items w.rest k.to; room = k.room })
+  pub works_inside : (commands : List Command) (w : WorkedList) → WorksOn c old (shared new) commands w → WasWorked c new commands w
+  works_inside commands w k = (before, to_inside commands w.answers w.opened w.rest k)

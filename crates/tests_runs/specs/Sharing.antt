@@ -1,11 +1,10 @@
--- Nodes that are busy at chosen calls count as shared with one caller more.
+-- Nodes that are busy at chosen calls count as shared with one more caller.
 use Rattle.std.specs.Prelude.{◌≡◌, ℕ, ◌+◌, List}
-use Rattle.thp_text.specs.declared.script.Command.{Command}
-use Rattle.thp_sections.specs.declared.reply.Worked.{Worked}
-use Rattle.thp_sections.specs.Fronts.{Fronts}
-use Rattle.thp_sections.specs.Sections.{Works}
+use Rattle.thp_script.specs.declared.script.Command.{Command}
+use Rattle.thp_worker.specs.Fronts.{Fronts}
+use Rattle.thp_run.specs.Listed.{WorkedList, WorksOn}
 
--- one caller more than the holder has, so that it never has all
+-- one more caller than the holder has, so that it never has all
 abbrev pub shared : Fronts → Fronts
 shared f = record f { callers = f.end + 1 }
 
@@ -15,6 +14,6 @@ pub record OfTwo (f : Fronts) : Type 0 where
   pub first : f.first ≡ 0
   pub end : f.end ≡ 2
 
--- the section of a caller was begun and led up to here
-abbrev pub WasWorked : ℕ → Fronts → List Command → Worked → Type 0
-WasWorked c f commands w = (old : Fronts) × Works c old f commands w
+-- the section of a caller was begun and executed up to here
+abbrev pub WasWorked : ℕ → Fronts → List Command → WorkedList → Type 0
+WasWorked c f commands w = (old : Fronts) × WorksOn c old f commands w

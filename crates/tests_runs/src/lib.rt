@@ -1,5 +1,11 @@
-//! Runs, from a section of one caller to the program from its words on, with answers and reports known beforehand. Tests
-//! alone: they stand above the crates that they call, so that those are proved once.
+//! Tests of runs, from one section to the whole program.
+//!
+//! - `busy_nodes`: sections on nodes that are busy at chosen calls (`stutter`).
+//! - `scripts`: whole scripts by `run_script`; `program`: by the program, with answers, totals, journals and errors.
+//! - `stress`: generated scripts of 100,000 commands on shared nodes (`scripts` generates, `runs` lets workers take turns);
+//!   `tallies`, `pages`, `walks`, `batches`, `commands`, `parts` and `texts` compare the result with plain loops.
+//!
+//! It uses the libraries from above, so that they are proved once.
 #![tactic(auto)]
 
 #[cfg(test)]

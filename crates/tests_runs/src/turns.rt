@@ -1,8 +1,8 @@
-//! A gate that lets the commands of two workers through in turn, and those of others at once.
+//! A gate that alternates the commands of two workers, and lets those of others through at once.
 use std::sync::atomic::{AtomicU64, Ordering};
-use thp_sections::Gate;
+use thp_worker::Gate;
 
-// A gate call is told by a bit: three of the worker that goes first, and then three of the other one.
+// A gate call is a bit: three of the worker that goes first, and then three of the other one.
 #[derive(Drop)]
 pub(crate) struct InTurns {
     first: u32,
@@ -21,12 +21,12 @@ impl InTurns {
         }
     }
 
-    // All calls were made, and none went on before its turn.
+    // All calls were made, and none continued before its turn.
     pub(crate) fn held(&self) -> bool {
         self.made.load(Ordering::SeqCst) == 63 && self.late.load(Ordering::SeqCst) == 0
     }
 
-    // The bit of a gate call, and the bits of those calls of which one has to be made before it goes on.
+    // The bit of a gate call, and the bits of those calls one of which must be made before it continues.
     fn bits(&self, worker: u32, index: u32) -> (u64, u64) {
         match (worker == self.first, index) {
             (true, 0) => (1, 1),

@@ -3,7 +3,7 @@ use std::alloc::Global;
 use std::io;
 use std::io::{Error, ErrorKind, Read, Write};
 
-/// What a device does at one of its calls in place of what it was asked for.
+/// What a device does at one of its calls instead of what was requested.
 #[derive(Clone, Copy)]
 pub(crate) enum Mishap {
     /// It fails.
@@ -12,13 +12,14 @@ pub(crate) enum Mishap {
     TakesNone,
 }
 
-/// A manner without a mishap, which moves as much as there is room for in a buffer of the runs.
+/// A behaviour without a mishap, which moves as many bytes as a buffer of the runs has room for.
 pub(crate) const LARGE: Manner = Manner {
     step: 8192,
     mishap: None,
 };
 
-/// How a device behaves: how many bytes it moves a call at most, and its mishap at the call of a number, from 0.
+/// The behaviour of a device: the greatest number of bytes that it moves per call, and its mishap at the call of this number,
+/// counted from 0.
 #[derive(Clone, Copy)]
 pub(crate) struct Manner {
     pub(crate) step: usize,
@@ -26,7 +27,7 @@ pub(crate) struct Manner {
 }
 
 impl Manner {
-    /// No mishap, and so many bytes a call.
+    /// No mishap, and this many bytes per call.
     pub(crate) fn by(step: usize) -> Manner {
         Manner { step, mishap: None }
     }
@@ -48,14 +49,14 @@ impl Manner {
     }
 }
 
-/// A reader of a text, and of so many line feeds behind it.
+/// A reader of a text, followed by so many line feeds.
 #[derive(Drop)]
 pub(crate) struct Source<'a> {
     rest: &'a [u8],
     feeds: usize,
     manner: Manner,
     pub(crate) calls: u32,
-    // how many bytes it gave
+    // the number of bytes that it gave
     pub(crate) given: usize,
 }
 
@@ -90,7 +91,7 @@ impl<'a> Read for Source<'a> {
     }
 }
 
-/// A writer that keeps what it takes. Flushes count as calls, too.
+/// A writer that stores what it takes. Flushes count as calls, too.
 #[derive(Drop)]
 pub(crate) struct Sink {
     manner: Manner,

@@ -1,4 +1,4 @@
-//! One read or one write that fails, at each place: how many were tried.
+//! One read or one write that fails, at each place, and the number of cases.
 use crate::devices::{LARGE, Manner, Mishap};
 use crate::passages::{Passed, WORKS, Work, done, whole};
 use std::alloc::Global;
@@ -6,7 +6,7 @@ use std::io::ErrorKind;
 use std::thread::Threads;
 use thp_run::RunFault;
 
-/// Reads that are interrupted are told as failed ones, too.
+/// Interrupted reads are reported as failed ones, too.
 const FAILURES: [Mishap; 3] = [
     Mishap::Fails(ErrorKind::Other),
     Mishap::Fails(ErrorKind::Interrupted),
@@ -28,7 +28,7 @@ fn has_failed_read(passed: &Passed, call: u32) -> bool {
         && passed.held.is_empty()
 }
 
-/// Whether the write of this number failed, nothing was written after it, and what was before is a front of the whole.
+/// Whether the write of this number failed, nothing was written after it, and the text before is a prefix of the whole.
 fn has_failed_write(passed: &Passed, call: u32, front: &[u8]) -> bool {
     matches!(passed.ended, Err(RunFault::Write))
         && passed.failed == (false, true)
@@ -36,7 +36,7 @@ fn has_failed_write(passed: &Passed, call: u32, front: &[u8]) -> bool {
         && passed.held.as_slice() == front
 }
 
-/// Has each read fail in turn, where one read gives so many bytes; how many did. `None` where one ends wrong.
+/// Makes each read fail in turn, with this many bytes per read; returns the number of cases, or `None` if one ends wrong.
 fn fail_reads<T: Threads + Sync>(
     rt: &T,
     alloc: Global,
@@ -54,7 +54,8 @@ fn fail_reads<T: Threads + Sync>(
     Some(all)
 }
 
-/// Has each write and the flush fail in turn, where one write takes so many bytes; how many did. `None` where one ends wrong.
+/// Makes each write and the flush fail in turn, with this many bytes per write; returns the number of cases, or `None` if one
+/// ends wrong.
 fn fail_writes<T: Threads + Sync>(
     rt: &T,
     alloc: Global,
@@ -86,8 +87,8 @@ enum Failing {
     Writes,
 }
 
-/// Has each call fail in turn in each way, in all works, by steps of 1, 5 and 8,192 bytes; how many did. `None` where one ends
-/// wrong.
+/// Makes each call fail in turn in each way, in all works, in steps of 1, 5 and 8,192 bytes; returns the number of cases, or
+/// `None` if one ends wrong.
 fn fail_each<T: Threads + Sync>(
     rt: &T,
     alloc: Global,

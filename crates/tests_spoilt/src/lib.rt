@@ -1,6 +1,11 @@
-//! Failing devices, inputs at their limit, histories beyond any, devices that move a few bytes a call, and want of memory. Tests
-//! alone, in one crate since the prover spends most on the libraries: they stand above all that they call. Spoilt texts are
-//! given to the built program (`tests/spoilt.py`).
+//! Tests of failing devices and memory, and of limits.
+//!
+//! - `devices`, `failures`, `short`, `passages`: devices that fail at a chosen call, or move a few bytes in each.
+//! - `limits`: inputs at their limit; `large`: histories longer than any input can describe. `programs`: whole programs.
+//! - `memory`: allocations that fail, on nodes (`node_growths`), cells (`cell_growths`), `batches`, `parts`, `runs`, `programs`;
+//!   `tests/memory.py` with `tests/refuse.c` makes each fail in turn.
+//!
+//! One crate, since proving the libraries below it takes most of the time. Spoilt texts are tested by `tests/spoilt.py`.
 #![tactic(auto)]
 
 #[cfg(test)]

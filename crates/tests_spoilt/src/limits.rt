@@ -4,13 +4,13 @@ use crate::passages::pass;
 use std::alloc::Global;
 use std::thread::Threads;
 use thp_run::{Report, RunFault, Settings, TextKind};
-use thp_text::MAX_INPUT;
+use thp_script::MAX_INPUT;
 
-/// How many bytes a read is given room for.
+/// The number of bytes that a read has room for.
 const ROOM: usize = 8192;
 
-/// Whether an input without an end, by reads of so many bytes, is too long, nothing is written, and no more is read than the
-/// first byte beyond the limit and what came with it.
+/// Whether an endless input, read in parts of this size, is reported as too long, nothing is written, and nothing is read after
+/// the part with the first byte beyond the limit.
 fn stops<T: Threads + Sync>(
     rt: &T,
     alloc: Global,
@@ -48,7 +48,7 @@ fn no_check_reads_past_the_limit(rt: HostRuntime) {
     }
 }
 
-/// Whether the longest script, which is read whole, runs and tells nothing.
+/// Whether the longest script, which is read whole, runs and reports nothing.
 fn is_run<T: Threads + Sync>(rt: &T, alloc: Global) -> bool {
     let settings = Settings::new(1, 16, 1, Report::Answers);
     let source = Source::new(b"", MAX_INPUT, LARGE);

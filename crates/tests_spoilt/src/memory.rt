@@ -1,6 +1,8 @@
-//! Want of memory: each test passes with any one growth of its run refused. A call that is refused so says nothing else,
-//! leaves all as it was, and works when it is made again. `tests/memory.py` refuses each growth in turn, to these tests alone;
-//! each but that of `cell_growths` tells there which call met the refusal.
+//! Lack of memory: each test passes with any one allocation of its run made to fail.
+//!
+//! A call that fails for this reason returns nothing else, leaves everything unchanged, and works when it is repeated.
+//! `tests/memory.py` fails every allocation of these tests in turn; each test except that of `cell_growths` prints which call
+//! failed.
 mod batches;
 mod cell_growths;
 mod devices;

@@ -1,10 +1,10 @@
-//! Texts passed through runs and checks on devices of all manners.
+//! Texts passed through runs and checks on devices of all behaviours.
 use crate::devices::{LARGE, Manner, Sink, Source};
 use std::alloc::Global;
 use std::thread::Threads;
 use thp_run::{NoGate, Report, RunFault, Settings, Watched, check_run, run};
 
-/// A text, and what is done with it: a script whose run is reported, or a journal that is checked.
+/// A text and its use: a script whose run is reported, or a journal that is checked.
 #[derive(Clone, Copy)]
 pub(crate) struct Work {
     pub(crate) text: &'static [u8],
@@ -12,7 +12,7 @@ pub(crate) struct Work {
 }
 
 impl Work {
-    /// The settings of the run, where the text is a script.
+    /// The settings of the run, if the text is a script.
     pub(crate) fn settings(self) -> Option<Settings> {
         Settings::new(2, 16, 2, self.report?)
     }
@@ -54,8 +54,8 @@ const TWO_WORKERS: &[u8] =
 pub(crate) const JOURNAL: &[u8] =
     b"thp-journal 1\nnode 0 blocks 16\n0 alloc 0\n0 splitpmd 0\n0 unmapsub 0 0 256 queued -\n0 taken 0\n0 split 0 0-255\nend\n";
 
-/// How a run or a check ended, the calls that it made of its devices, how many bytes it was given, which of its devices it
-/// knows to have failed, and what was written.
+/// How a run or a check ended, its calls of its devices, the number of bytes it read, which of its devices it knows to have
+/// failed, and what was written.
 #[derive(Drop)]
 pub(crate) struct Passed {
     pub(crate) ended: Result<(), RunFault>,
@@ -66,7 +66,7 @@ pub(crate) struct Passed {
     pub(crate) held: Vec<u8>,
 }
 
-/// Runs a script by the settings, or checks a journal where there are none.
+/// Runs a script with the settings, or checks a journal if there are none.
 pub(crate) fn pass<T: Threads + Sync>(
     rt: &T,
     alloc: Global,
@@ -96,7 +96,7 @@ pub(crate) fn pass<T: Threads + Sync>(
     }
 }
 
-/// The work done on devices of these manners.
+/// The work done on devices of these behaviours.
 pub(crate) fn done<T: Threads + Sync>(
     rt: &T,
     alloc: Global,
@@ -108,7 +108,7 @@ pub(crate) fn done<T: Threads + Sync>(
     pass(rt, alloc, work.settings(), source, writes)
 }
 
-/// What is written where no device has a mishap.
+/// The text written if no device has a mishap.
 pub(crate) fn whole<T: Threads + Sync>(rt: &T, alloc: Global, work: &Work) -> Option<Vec<u8>> {
     let passed = done(rt, alloc, work, LARGE, LARGE);
     if passed.ended.is_ok() && passed.failed == (false, false) {

@@ -1,4 +1,4 @@
-//! The program on devices that fail: its exit status, and what it tells on standard error.
+//! The program on devices that fail: its exit status, and its messages on standard error.
 use crate::devices::{LARGE, Manner, Mishap, Sink, Source};
 use crate::passages::{FIRST_SCRIPT, JOURNAL};
 use std::alloc::Global;
@@ -32,7 +32,7 @@ const TASKS: [Task; 4] = [
     },
 ];
 
-/// Scripts and journals at fault, and what is told of them.
+/// Scripts and journals with errors, and the messages about them.
 const FAULTY: [(Task, &[u8]); 2] = [
     (
         Task {
@@ -50,7 +50,7 @@ const FAULTY: [(Task, &[u8]); 2] = [
     ),
 ];
 
-/// What the program did: its exit status, how often it read and wrote, standard output and standard error.
+/// The result of the program: its exit status, the numbers of its reads and writes, standard output and standard error.
 #[derive(Drop)]
 struct Ended {
     status: u8,
@@ -60,7 +60,7 @@ struct Ended {
     errors: Vec<u8>,
 }
 
-/// The program on devices of these manners.
+/// The result of the program on devices of these behaviours.
 fn end_of<T: Threads + Sync>(
     rt: &T,
     alloc: Global,
@@ -90,7 +90,7 @@ fn end_of<T: Threads + Sync>(
 
 const FAILS: Mishap = Mishap::Fails(ErrorKind::Other);
 
-/// Has each read of the program fail in turn; how many did. `None` where it ends wrong.
+/// Makes each read of the program fail in turn; returns the number of cases, or `None` if one ends wrong.
 fn fail_reads<T: Threads + Sync>(rt: &T, alloc: Global, task: &Task) -> Option<u32> {
     let all = end_of(rt, alloc, task, Manner::by(1), LARGE, LARGE)?.reads;
     for call in 0..all {
@@ -104,7 +104,7 @@ fn fail_reads<T: Threads + Sync>(rt: &T, alloc: Global, task: &Task) -> Option<u
     Some(all)
 }
 
-/// Has each write to standard output fail in turn; how many did. `None` where the program ends wrong.
+/// Makes each write to standard output fail in turn; returns the number of cases, or `None` if one ends wrong.
 fn fail_writes<T: Threads + Sync>(rt: &T, alloc: Global, task: &Task) -> Option<u32> {
     let all = end_of(rt, alloc, task, LARGE, Manner::by(1), LARGE)?.writes;
     for call in 0..all {
@@ -118,7 +118,8 @@ fn fail_writes<T: Threads + Sync>(rt: &T, alloc: Global, task: &Task) -> Option<
     Some(all)
 }
 
-/// Has each write to standard error fail in turn: the exit status stays. How many did; `None` where the program ends wrong.
+/// Makes each write to standard error fail in turn, which does not change the exit status; returns the number of cases, or `None`
+/// if one ends wrong.
 fn fail_tells<T: Threads + Sync>(rt: &T, alloc: Global, task: &Task, told: &[u8]) -> Option<u32> {
     let mut tried = 0u32;
     for count in 0..=told.len() {
@@ -133,7 +134,7 @@ fn fail_tells<T: Threads + Sync>(rt: &T, alloc: Global, task: &Task, told: &[u8]
     Some(tried)
 }
 
-/// Has each read and each write of each task fail in turn; how many did. `None` where the program ends wrong.
+/// Makes each read and each write of each task fail in turn; returns the number of cases, or `None` if one ends wrong.
 fn fail_tasks<T: Threads + Sync>(rt: &T, alloc: Global) -> Option<(u32, u32)> {
     let mut reads = 0u32;
     let mut writes = 0u32;
@@ -149,7 +150,8 @@ fn failing_devices(rt: HostRuntime) {
     assert!(rt; fail_tasks(&rt, rt.alloc()) == Some((219, 411)));
 }
 
-/// Has each write to standard error fail in turn for each faulty text; how many did. `None` where the program ends wrong.
+/// Makes each write to standard error fail in turn for each text with an error; returns the number of cases, or `None` if one
+/// ends wrong.
 fn fail_all_tells<T: Threads + Sync>(rt: &T, alloc: Global) -> Option<u32> {
     let mut tried = 0u32;
     for (task, told) in &FAULTY {

@@ -1,16 +1,16 @@
-//! Devices that move a few bytes a call.
+//! Devices that move a few bytes per call.
 use crate::devices::Manner;
 use crate::passages::{WORKS, Work, done, whole};
 use std::alloc::Global;
 use std::thread::Threads;
 
-/// Whether so many calls move so many bytes by so many a call: a last read gives none, and a flush is a call.
+/// Whether this many calls move this many bytes in such steps: a last read returns none, and a flush is a call.
 fn is_count(calls: u32, bytes: usize, step: usize) -> Option<bool> {
     let least = u32::try_from(bytes.checked_div(step)?).ok()?;
     Some(calls > least && calls <= least.saturating_add(2))
 }
 
-/// Whether devices of these steps pass the same bytes as large ones, by as many calls as that takes.
+/// Whether devices of these steps pass the same bytes as large ones, in as many calls as that takes.
 fn is_same<T: Threads + Sync>(
     rt: &T,
     alloc: Global,
@@ -28,7 +28,7 @@ fn is_same<T: Threads + Sync>(
     )
 }
 
-/// Passes each work by all pairs of steps; how many passed. `None` where one didn't.
+/// Passes each work with all pairs of steps; returns the number passed, or `None` if one differs.
 fn pass_all<T: Threads + Sync>(rt: &T, alloc: Global) -> Option<u32> {
     let mut tried = 0u32;
     for work in &WORKS {

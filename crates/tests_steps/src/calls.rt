@@ -1,4 +1,4 @@
-//! Calls about one page or the node as values, so that a row is a table of calls and answers.
+//! Calls about one page or the node as values, so that a row is a table of calls and results.
 ghost use Rattle.std.specs.Prelude.{◌<◌};
 ghost use Rattle.thp_node.specs.Batches.{FrontsStay};
 
@@ -12,7 +12,7 @@ pub enum Call {
     Alloc,
     MapWhole(PageId),
     UnmapWhole(PageId),
-    /// From the first number on, so many subpages as the second says; so in all calls of two numbers.
+    /// From the first number on, as many subpages as the second number; the same for all calls of two numbers.
     MapSub(PageId, u32, u32),
     UnmapSub(PageId, u32, u32),
     SplitPmd(PageId),
@@ -23,14 +23,14 @@ pub enum Call {
     Close,
 }
 
-/// What a call answers.
+/// The result of a call.
 #[derive(Clone, Copy, PartialEq, Eq, Debug)]
 pub enum Answer {
     Page(PageId),
     Done,
-    /// What an unmap or an unpin did, and the run of frames that it gave back: the first, and how many.
+    /// The outcome of an unmap or an unpin, and the run of frames that it gave back: the first, and their number.
     Changed(Outcome, u32, u32),
-    /// What an unmap or an unpin did, where the frames that it gave back aren't one run.
+    /// The outcome of an unmap or an unpin, if the frames that it gave back are not one run.
     Scattered(Outcome),
     Refused(Refusal),
 }
@@ -44,7 +44,7 @@ pub const STAYS: Answer = Answer::Changed(Outcome::Stays, 0, 0);
 /// Freed, with all frames of a page of order 9.
 pub const FREED: Answer = Answer::Changed(Outcome::Freed, 0, 512);
 
-/// The shape of a node of order 9 with these blocks, whose shrinker looks for no underused pages.
+/// The shape of a node of order 9 with these blocks, whose shrinker does not look for underused pages.
 pub fn shape_of(blocks: u32) -> Shape {
     Shape {
         blocks,
@@ -53,7 +53,7 @@ pub fn shape_of(blocks: u32) -> Shape {
     }
 }
 
-/// A caller makes these calls one after the other, up to the first that is answered otherwise: its place and its answer.
+/// A caller makes these calls one after the other, up to the first with another result: its index and its result.
 pub fn first_wrong<R: Recorder>(
     node: &mut Node<R>,
     caller: u32,
@@ -71,7 +71,7 @@ pub fn first_wrong<R: Recorder>(
     None
 }
 
-/// What a caller's call is answered, whatever the node does with its events.
+/// Returns the result of a caller's call, whatever the node does with its events.
 pub fn answer_of<R: Recorder>(node: &mut Node<R>, caller: u32, call: Call) -> Answer
     requires { caller < 64 }
     ensures { FrontsStay node.old.journal node.new.journal }
@@ -111,7 +111,7 @@ fn outcome(reply: Result<Done, Refusal>) -> Answer {
     }
 }
 
-// The first number of a set and how many it has, where they lie side by side.
+// The first number of a set and its size, if its numbers are consecutive.
 fn run_of(set: SubSet) -> Option<(u32, u32)> {
     if set.is_empty() {
         return Some((0, 0));
@@ -134,7 +134,7 @@ pub fn queueing(page: PageId) -> [(Call, Answer); 3] {
     ]
 }
 
-/// A new node of 16 blocks whose queue has this many pages, numbered from 0 on; `None` where that failed.
+/// A new node of 16 blocks whose queue has this many pages, numbered from 0; `None` if that failed.
 pub fn queued_node(alloc: Global, pages: u64) -> Option<Node> {
     let Ok(mut node) = Node::new(alloc, shape_of(16)) else {
         return None;
@@ -147,7 +147,7 @@ pub fn queued_node(alloc: Global, pages: u64) -> Option<Node> {
     Some(node)
 }
 
-/// The answer of a scan that found no page in use.
+/// The reply of a scan that found no page in use.
 pub fn scanned(taken: u32, split: u32, pinned: u32, back: u32, dropped: u32) -> ScanReply {
     ScanReply {
         taken,

@@ -1,4 +1,6 @@
-//! Calls on a node as values, for tables of calls and answers. Several crates of tests stand above it, so that it is proved once.
+//! Calls on a node as values, for tables of calls and results.
+//!
+//! Several crates of tests use it; it has no tests, so that it is proved once.
 #![tactic(auto)]
 
 mod calls;

@@ -1,6 +1,6 @@
 //! A shared node.
 ghost use Rattle.std.specs.Prelude.{◌≡◌};
-ghost use Rattle.thp_cell.specs.Calls.{at_front, letting_go};
+ghost use Rattle.thp_cell.specs.Calls.{at_front, returning_node};
 ghost use Rattle.thp_cell.specs.Views.{HasAll, HasCaller};
 
 use crate::sets::SMALL;
@@ -74,7 +74,7 @@ fn closed(cell: &NodeCell, pass: &mut Pass) -> Result<(), CellFault>
     cell.close(pass, 1)
 }
 
-// All calls of caller 1: the page that was used, how many pages were queued, and what became of the first.
+// All calls of caller 1: the page that was used, the number of pages queued, and the result of the first try.
 fn called(cell: &NodeCell, pass: &mut Pass) -> Result<(PageId, u32, Tried), CellFault>
     requires cell { pass.old.cell ≡ cell.now }
     requires caller { HasCaller pass.old 1 }
@@ -88,10 +88,10 @@ fn called(cell: &NodeCell, pass: &mut Pass) -> Result<(PageId, u32, Tried), Cell
     Ok((page, queued, tried))
 }
 
-// The node is held, and let go.
+// The node is held, and released.
 fn held(cell: &NodeCell, pass: Pass) -> Pass
     requires { pass.cell ≡ cell.now }
-    ensures { result ≡ at_front (letting_go pass) result.front }
+    ensures { result ≡ at_front (returning_node pass) result.front }
 {
     match cell.hold(pass) {
         Ok(hold) => let_go(cell, hold),

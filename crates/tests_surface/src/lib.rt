@@ -1,4 +1,6 @@
-//! The public surface in the hands of a caller who knows six crates and `std`, each item in the form in which it is met.
+//! The public surface as a caller of six crates and `std` uses it.
+//!
+//! Each item is used in the form in which callers meet it.
 //!
 //! | Crate | Items |
 //! |---|---|

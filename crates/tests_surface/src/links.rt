@@ -5,7 +5,7 @@ use std::test::Fail;
 use thp_links::{FreeChain, Link, LinkTable, NIL, Queue};
 use thp_page::PageTable;
 
-// A queue goes through its calls.
+// A queue passes its calls.
 fn queued(table: &mut PageTable) -> bool
     requires { length table.old.links ≡ 4 }
 {
@@ -19,7 +19,7 @@ fn queued(table: &mut PageTable) -> bool
     front == Some(2) && len == 2 && queue.pop_front(table) == Some(2)
 }
 
-// So does a chain.
+// A chain does, too.
 fn chained(table: &mut PageTable) -> bool
     requires { length table.old.links ≡ 4 }
 {

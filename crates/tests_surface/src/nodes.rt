@@ -4,7 +4,7 @@ use std::alloc::Global;
 use thp_model::{PageId, Refusal};
 use thp_node::{BackReply, Counters, Done, NewFault, Node, ScanReply, Tried};
 
-// A page that is mapped whole once more, for a while.
+// A page that is mapped whole once more, and unmapped again.
 fn mapped(node: &mut Node) -> Result<PageId, Refusal> {
     node.reserve(16)?;
     let page = node.alloc_page(0)?;
@@ -20,7 +20,7 @@ fn written(node: &mut Node, page: PageId) -> Result<(), Refusal> {
     node.split_pmd(0, page)
 }
 
-// It is pinned for a while, and partly unmapped.
+// It is pinned and unpinned, and partly unmapped.
 fn unmapped(node: &mut Node, page: PageId) -> Result<Done, Refusal> {
     node.map_sub(0, page, 3, 1)?;
     node.pin(0, page)?;
@@ -52,7 +52,7 @@ fn shrunk(node: &mut Node) -> Result<(Tried, BackReply, ScanReply), Refusal> {
     Ok((tried, back, scanned))
 }
 
-// Whether the node tells of what happened on it.
+// Whether the node shows what happened on it.
 fn is_told(node: &Node) -> bool {
     let counters: Counters = node.counters();
     let frames = node.frames_held().saturating_add(node.frames_given());
@@ -61,7 +61,7 @@ fn is_told(node: &Node) -> bool {
     lists && kept && frames == 4 && counters.split_page == 1 && node.shape() == SMALL
 }
 
-// Whether a node goes through its calls.
+// Whether a node passes its calls.
 fn goes_through(alloc: Global) -> Result<bool, NewFault> {
     let mut node = Node::new(alloc, SMALL)?;
     if used(&mut node).is_err() {

@@ -7,7 +7,7 @@ use std::test::Fail;
 use thp_model::{PageId, Refusal, SubSet};
 use thp_page::{Change, Page, PageTable, Standing};
 
-// A page after calls that refuse nothing here.
+// A page after calls that succeed here.
 fn written() -> Result<Page, Refusal> {
     let mut page = Page::fresh(9);
     page.map_whole()?;
@@ -18,7 +18,7 @@ fn written() -> Result<Page, Refusal> {
     Ok(page)
 }
 
-// What the last of its other calls changes.
+// The change of the last of its other calls.
 fn changed() -> Result<Change, Refusal> {
     let mut page = written()?;
     page.map_sub(0, 1)?;

@@ -8,7 +8,7 @@ use thp_run::{
     read_script, read_underused, run,
 };
 
-// The settings of two nodes by lists as they stand on a command line.
+// The settings of two nodes by lists as on a command line.
 fn settings_of(orders: &str, thresholds: &str) -> Option<Settings> {
     let orders = read_orders(orders)?;
     let thresholds = read_underused(thresholds)?;
@@ -41,7 +41,7 @@ fn is_script(alloc: Global, settings: &Settings) -> bool {
     }
 }
 
-// Whether the first fault of a script is told.
+// Whether the first error of a script is reported.
 fn is_faulty(alloc: Global, settings: &Settings) -> bool {
     matches!(
         read_script(alloc, settings, b"fly\n"),
@@ -52,7 +52,7 @@ fn is_faulty(alloc: Global, settings: &Settings) -> bool {
     )
 }
 
-// A gate of one's own.
+// A gate defined here.
 #[derive(Drop)]
 struct Open;
 
@@ -60,7 +60,7 @@ impl Gate for Open {
     fn pass(&self, _worker: u32, _index: u32) {}
 }
 
-// What a run writes.
+// The output of a run.
 fn written<T: Threads + Sync>(
     rt: &T,
     alloc: Global,
@@ -81,7 +81,7 @@ fn written<T: Threads + Sync>(
     Ok(writer.into_inner())
 }
 
-// Whether one read, one write and one flush are answered.
+// Whether one read, one write and one flush succeed.
 fn is_answered<R: Read, W: Write>(reader: &mut Watched<R>, writer: &mut Watched<W>) -> bool {
     let read = reader.read(&mut [0u8; 4]);
     let wrote = writer.write(b"node");
@@ -110,7 +110,7 @@ fn is_journal(alloc: Global) -> bool {
     first && matches!(check_text(alloc, JOURNAL), Ok(None))
 }
 
-// Whether the check of a journal on a reader says that it is legal.
+// Whether the check of a journal on a reader finds it legal.
 fn is_checked(alloc: Global) -> bool {
     let mut reader = Watched::new(JOURNAL);
     let mut writer: Watched<Vec<u8>> = Watched::new(Vec::new(alloc));

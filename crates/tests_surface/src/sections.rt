@@ -1,9 +1,9 @@
 //! A section of a holder of callers, and the report of its answers.
 ghost use Rattle.std.specs.Prelude.{◌<◌, ◌^◌, All, length};
 ghost use Rattle.thp_run.specs.Listed.{WorksOn};
-ghost use Rattle.thp_sections.specs.Fronts.{Fronts, HasCaller};
-ghost use Rattle.thp_sections.specs.OpenBatches.{HasNoBatch};
-ghost use Rattle.thp_sections.specs.Sections.{IsCommandFor};
+ghost use Rattle.thp_worker.specs.Fronts.{Fronts, HoldsCaller};
+ghost use Rattle.thp_worker.specs.OpenBatches.{HasNoBatch};
+ghost use Rattle.thp_worker.specs.Sections.{IsCommandFor};
 
 use std::alloc::{AllocError, Global};
 use std::process::Abort;
@@ -13,13 +13,13 @@ use thp_run::{
     report_text, work, work_rest,
 };
 
-// What a section of caller 1 is answered, by whoever makes its steps.
+// The answers of a section of caller 1, for any implementation of its steps.
 pub fn worked_by<S: Steps>(
     alloc: Global,
     commands: &[Command],
     steps: &mut S,
 ) -> Result<Worked, AllocError>
-    requires caller { HasCaller (S.fronts steps.old) 1 }
+    requires caller { HoldsCaller (S.fronts steps.old) 1 }
     requires few { length commands.now < 2 ^ 32 }
     requires commands { All (IsCommandFor (S.fronts steps.old).nodes) commands.now }
     requires shut { HasNoBatch 1 (S.fronts steps.old) }
@@ -27,14 +27,14 @@ pub fn worked_by<S: Steps>(
     work(alloc, commands, 1, steps, &NoGate)
 }
 
-// What is left of it.
+// The rest of it.
 pub fn rest_by<S: Steps>(
     alloc: Global,
     commands: &[Command],
     worked: Worked,
     steps: &mut S,
 ) -> Result<Worked, AllocError>
-    requires caller { HasCaller (S.fronts steps.old) 1 }
+    requires caller { HoldsCaller (S.fronts steps.old) 1 }
     requires few { length commands.now < 2 ^ 32 }
     requires commands { All (IsCommandFor (S.fronts steps.old).nodes) commands.now }
     requires worked { (old : Fronts) × WorksOn 1 old (S.fronts steps.old) commands.now worked }
@@ -58,7 +58,7 @@ fn section(alloc: Global) -> Result<Section, AllocError> {
     Ok(Section { worker: 1, answers })
 }
 
-// What became of a section of these answers, which is done or has a rest.
+// The result of a section with these answers, which is finished or has a rest.
 fn worked(alloc: Global, rest: Option<Rest>) -> Result<Worked, AllocError> {
     let Section { worker: _, answers } = section(alloc)?;
     let opened = vec![in alloc; false]?;

@@ -1,4 +1,4 @@
-//! Sequences: how many elements there are, one by its index, and all in order.
+//! Sequences: the number of elements, one by its index, and all in order.
 ghost use Rattle.std.specs.Prelude.{◌≡◌, ◌-◌, length, slice_get};
 
 use std::alloc::Global;

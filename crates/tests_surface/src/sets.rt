@@ -8,7 +8,7 @@ pub(crate) const SMALL: Shape = Shape {
     underused: Some(1),
 };
 
-// Whether sets of subpages hold what they are made of.
+// Whether sets of subpages contain the subpages that they were built from.
 fn sets_hold() -> bool {
     let set = SubSet::range(3, 2).union(SubSet::empty());
     let whole = SubSet::full(9);

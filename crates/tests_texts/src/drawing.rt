@@ -1,4 +1,4 @@
-//! The numbers of nodes over their events, with values worked out by hand; their columns, tables and pictures.
+//! The numbers of nodes over their events, with expected values written out; their columns, tables and pictures.
 
 mod checks;
 mod columns;

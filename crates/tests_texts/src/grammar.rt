@@ -1,4 +1,4 @@
-//! Settings, words of a command line, lists, and scripts as the whole grammar reads them.
+//! Settings, words of a command line, lists, and scripts as the whole grammar parses them.
 
 mod lines;
 mod parts;

@@ -1,4 +1,4 @@
-//! Journals as text, of histories worked out by hand.
+//! Journals as text, of histories written out.
 
 mod histories;
 mod kinds;

@@ -42,7 +42,7 @@ fn event_of(row: Row) -> Event {
     Event { caller: 3, what }
 }
 
-// The event that a row tells.
+// The expected event of a row.
 fn placed_of(row: Row) -> Event {
     match row {
         Row::Gets(page, block) => Event {
@@ -56,7 +56,7 @@ fn placed_of(row: Row) -> Event {
     }
 }
 
-// Each row's event is told with its block.
+// Each row's event is returned with its block.
 fn expect_rows(rt: &impl Abort, alloc: Global, blocks: u32, name: &str, rows: &[Row])
     requires { 1 ≤ blocks }
 {

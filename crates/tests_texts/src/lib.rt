@@ -1,5 +1,10 @@
-//! What is read and written: settings and scripts, journals, their blocks, reports, tables and pictures. Tests alone: they
-//! stand above the crates that they call, so that those are proved once.
+//! Tests of texts: scripts, journals, reports, pictures.
+//!
+//! - `grammar`: settings, words of a command line, lists and scripts as they are read.
+//! - `journals` (written), `reading` (read and checked), `least_blocks`, `reports`.
+//! - `drawing`: numbers over the events (`checks`, `columns`, `nodes`), `tables` and `pictures`.
+//!
+//! It uses the libraries from above, so that they are proved once.
 #![tactic(auto)]
 
 #[cfg(test)]

@@ -1,4 +1,4 @@
-//! Reports on nodes and answers made by hand, whose texts are known beforehand.
+//! Reports on nodes and answers written out, whose texts are known beforehand.
 
 mod answers;
 mod journals;

@@ -1,7 +1,11 @@
-//! The verified deferred split queue for C: a static library over a node and the check of journals.
+//! The static library for C: exports of `thp_capi`.
 //!
-//! Each export is a call of `thp_c_calls` under that call's contract, and nothing else: what a call does is proved there. The
-//! header is `c/thp.h`; docs/C.md tells, call by call, what is proved and what a C program owes.
+//! Each export is a call of `thp_capi` under that call's contract, and nothing else; what a call does is proved there.
+//!
+//! - `node`, `page_calls` (about one page, of nodes and of passes), `pass`, `pass_batches`, `check`.
+//!
+//! `c/thp.h` declares the library, `c/thp.c` wraps the exports; docs/C.md states, call by call, what is proved and what a C
+//! program must ensure.
 #![tactic(auto)]
 
 mod check;

@@ -2,18 +2,17 @@
 ghost use Rattle.std.specs.Prelude.{◌≡◌, ◌∷◌, ◌<◌, ◌≤◌, [], Ok, OnOk, OnErr, length};
 ghost use Rattle.thp_model.specs.Places.{queue};
 ghost use Rattle.thp_model.specs.Refusals as call;
-ghost use Rattle.thp_c_calls.specs.Calls.{OneCall, AllocCall, ScanCall, TakeCall, NextCall, BackCall, AbandonCall, ReserveCall, Written};
-ghost use Rattle.thp_c_calls.specs.Codes.{answer_of, answers, answer_with};
-ghost use Rattle.thp_c_calls.specs.Engines.{Does, Made, Emptied, shape_of};
-ghost use Rattle.thp_c_calls.specs.Replies.{stats_of, scan_of, tried_of, back_of};
+ghost use Rattle.thp_capi.specs.Calls.{OneCall, AllocCall, ScanCall, TakeCall, NextCall, BackCall, AbandonCall, ReserveCall, Written};
+ghost use Rattle.thp_capi.specs.Codes.{answer_of, answers, answer_with};
+ghost use Rattle.thp_capi.specs.Engines.{Does, Made, Emptied, shape_of};
+ghost use Rattle.thp_capi.specs.Replies.{stats_of, scan_of, tried_of, back_of};
 ghost use Rattle.thp_journal_writer.specs.Journals.{journal_text};
 
 use std::alloc::Global;
-use thp_c_calls::{ThpBack, ThpNode, ThpScan, ThpStats, ThpTried};
+use thp_capi::{ThpBack, ThpNode, ThpScan, ThpStats, ThpTried};
 use thp_model::What;
 
-/// Makes a node, and fills the handle with it. A threshold of 512 or more is none: the shrinker doesn't look for underused
-/// pages.
+/// Creates a node and fills the handle with it. A threshold of 512 or more turns the search for underused pages off.
 #[unsafe(no_mangle)]
 pub extern "C" fn thp_c_node_create(
     handle: &mut ThpNode,
@@ -25,19 +24,19 @@ pub extern "C" fn thp_c_node_create(
     ensures does { Made handle.old.held handle.new.held (shape_of blocks order underused) (answer_of result) }
     ensures known { result < length answers }
 {
-    thp_c_calls::node_create(handle, alloc, blocks, order, underused)
+    thp_capi::node_create(handle, alloc, blocks, order, underused)
 }
 
-/// Frees the node that the handle leads to, and leaves the handle empty.
+/// Frees the node that the handle refers to, and empties the handle.
 #[unsafe(no_mangle)]
 pub extern "C" fn thp_c_node_destroy(handle: &mut ThpNode, alloc: Global) -> u32
     ensures does { Emptied handle.old.held handle.new.held (answer_of result) }
     ensures known { result < length answers }
 {
-    thp_c_calls::node_destroy(handle, alloc)
+    thp_capi::node_destroy(handle, alloc)
 }
 
-/// A new page, mapped whole once. Its number is the count of allocations before it.
+/// Allocates a page, mapped whole once. Its number is the number of allocations before it.
 #[unsafe(no_mangle)]
 pub extern "C" fn thp_c_node_alloc(
     handle: &mut ThpNode,
@@ -49,19 +48,19 @@ pub extern "C" fn thp_c_node_alloc(
     ensures known { result < length answers }
     ensures kept { OnErr (answer_of result) (page.new ≡ page.old) }
 {
-    thp_c_calls::node_alloc(handle, alloc, caller, page)
+    thp_capi::node_alloc(handle, alloc, caller, page)
 }
 
-/// Closes the node: from here on nothing enters the queue and no page is allocated.
+/// Closes the node: no page is queued or allocated afterwards.
 #[unsafe(no_mangle)]
 pub extern "C" fn thp_c_node_close(handle: &mut ThpNode, alloc: Global, caller: u32) -> u32
     ensures does { Does handle.old.held handle.new.held (answer_of result) (OneCall caller call.close What.Close) }
     ensures known { result < length answers }
 {
-    thp_c_calls::node_close(handle, alloc, caller)
+    thp_capi::node_close(handle, alloc, caller)
 }
 
-/// Takes up to `n` pages, the oldest first, tries each, and returns those that are pinned.
+/// Takes up to `n` of the oldest queued pages, in order, tries each, and returns the pinned ones.
 #[unsafe(no_mangle)]
 pub extern "C" fn thp_c_node_scan(
     handle: &mut ThpNode,
@@ -74,10 +73,11 @@ pub extern "C" fn thp_c_node_scan(
     ensures known { result < length answers }
     ensures kept { OnErr (answer_of result) (scan.new ≡ scan.old) }
 {
-    thp_c_calls::node_scan(handle, alloc, caller, n, scan)
+    thp_capi::node_scan(handle, alloc, caller, n, scan)
 }
 
-/// Takes up to `n` pages, the oldest first, into the caller's batch, which is open from then on.
+/// Takes up to `n` of the oldest queued pages, in order, into the caller's batch, which is open afterwards. `count` is the number
+/// of pages taken.
 #[unsafe(no_mangle)]
 pub extern "C" fn thp_c_node_take(
     handle: &mut ThpNode,
@@ -90,7 +90,7 @@ pub extern "C" fn thp_c_node_take(
     ensures known { result < length answers }
     ensures kept { OnErr (answer_of result) (count.new ≡ count.old) }
 {
-    thp_c_calls::node_take(handle, alloc, caller, n, count)
+    thp_capi::node_take(handle, alloc, caller, n, count)
 }
 
 /// Tries the next page of the caller's open batch.
@@ -106,10 +106,10 @@ pub extern "C" fn thp_c_node_split_next(
     ensures kept { OnErr (answer_of result) (tried.new ≡ tried.old) }
     ensures kind { OnOk (answer_of result) (tried.new.kind ≤ 3) }
 {
-    thp_c_calls::node_split_next(handle, alloc, caller, tried)
+    thp_capi::node_split_next(handle, alloc, caller, tried)
 }
 
-/// Returns the pages of the caller's open batch, which is closed then.
+/// Returns the remaining pages of the caller's open batch, and closes the batch.
 #[unsafe(no_mangle)]
 pub extern "C" fn thp_c_node_put_back(
     handle: &mut ThpNode,
@@ -121,29 +121,29 @@ pub extern "C" fn thp_c_node_put_back(
     ensures known { result < length answers }
     ensures kept { OnErr (answer_of result) (back.new ≡ back.old) }
 {
-    thp_c_calls::node_put_back(handle, alloc, caller, back)
+    thp_capi::node_put_back(handle, alloc, caller, back)
 }
 
-/// Lets the caller's open batch go: its pages stay in the caller's flight, out of the queue.
+/// Discards the caller's open batch: its pages stay in the caller's flight, out of the queue.
 #[unsafe(no_mangle)]
 pub extern "C" fn thp_c_node_abandon(handle: &mut ThpNode, alloc: Global, caller: u32) -> u32
     ensures does { Does handle.old.held handle.new.held (answer_of result) (AbandonCall caller) }
     ensures known { result < length answers }
 {
-    thp_c_calls::node_abandon(handle, alloc, caller)
+    thp_capi::node_abandon(handle, alloc, caller)
 }
 
-/// Makes room in the journal for this many events, so that calls that record no more than that are never refused for want
-/// of memory. A scan counts as three events for each page that it takes.
+/// Reserves room in the journal for `events` events: calls that record no more than that never fail for lack of memory. A scan
+/// needs three events for each page that it takes.
 #[unsafe(no_mangle)]
 pub extern "C" fn thp_c_node_reserve(handle: &mut ThpNode, alloc: Global, events: u32) -> u32
     ensures does { Does handle.old.held handle.new.held (answer_of result) (ReserveCall events) }
     ensures known { result < length answers }
 {
-    thp_c_calls::node_reserve(handle, alloc, events)
+    thp_capi::node_reserve(handle, alloc, events)
 }
 
-/// How many pages are queued, which is what the shrinker counts.
+/// Stores in `pages` the number of queued pages, which is the shrinker's count.
 #[unsafe(no_mangle)]
 pub extern "C" fn thp_c_node_queue_length(
     handle: &mut ThpNode,
@@ -154,20 +154,20 @@ pub extern "C" fn thp_c_node_queue_length(
     ensures known { result < length answers }
     ensures kept { OnErr (answer_of result) (pages.new ≡ pages.old) }
 {
-    thp_c_calls::node_queue_length(handle, alloc, pages)
+    thp_capi::node_queue_length(handle, alloc, pages)
 }
 
-/// The node's numbers.
+/// Stores the node's statistics in `stats`.
 #[unsafe(no_mangle)]
 pub extern "C" fn thp_c_node_stats(handle: &mut ThpNode, alloc: Global, stats: &mut ThpStats) -> u32
     ensures does { Does handle.old.held handle.new.held (answer_of result) (λ old new answer. (new ≡ old) × (answer ≡ Ok tt) × (stats.new ≡ stats_of old.node)) }
     ensures known { result < length answers }
     ensures kept { OnErr (answer_of result) (stats.new ≡ stats.old) }
 {
-    thp_c_calls::node_stats(handle, alloc, stats)
+    thp_capi::node_stats(handle, alloc, stats)
 }
 
-/// The journal as text, and how long it is. It goes to the front of the buffer, if it fits there.
+/// Writes the journal as text to the start of the buffer if the text fits there. `size` is its length in bytes.
 #[unsafe(no_mangle)]
 pub extern "C" fn thp_c_node_journal(
     handle: &mut ThpNode,
@@ -178,5 +178,5 @@ pub extern "C" fn thp_c_node_journal(
     ensures does { Does handle.old.held handle.new.held (answer_of result) (λ old new answer. (new ≡ old) × Written (journal_text ((old.node.shape, old.node.journal) ∷ [])) buffer.old buffer.new size.old size.new answer) }
     ensures known { result < length answers }
 {
-    thp_c_calls::node_journal(handle, alloc, buffer, size)
+    thp_capi::node_journal(handle, alloc, buffer, size)
 }

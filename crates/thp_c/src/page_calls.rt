@@ -1,19 +1,19 @@
-//! The calls about one page, exported: of a node, and of a pass to a shared one.
+//! The calls about one page, exported: of a node, and of a pass of a shared node.
 ghost use Rattle.std.specs.Prelude.{◌≡◌, ◌<◌, OnErr, length};
 ghost use Rattle.thp_model.specs.Refusals as call;
-ghost use Rattle.thp_c_calls.specs.Calls.{OneCall};
-ghost use Rattle.thp_c_calls.specs.Codes.{answer_of, answers, answer_with};
-ghost use Rattle.thp_c_calls.specs.Engines.{Does};
-ghost use Rattle.thp_c_calls.specs.PassCodes.{pass_answer_of, pass_answer_with, IsPassCode};
-ghost use Rattle.thp_c_calls.specs.PassHandle.{pass_of};
-ghost use Rattle.thp_c_calls.specs.Passes.{PassDoes, PassOne, PassLost};
-ghost use Rattle.thp_c_calls.specs.Replies.{LoseCall};
+ghost use Rattle.thp_capi.specs.Calls.{OneCall};
+ghost use Rattle.thp_capi.specs.Codes.{answer_of, answers, answer_with};
+ghost use Rattle.thp_capi.specs.Engines.{Does};
+ghost use Rattle.thp_capi.specs.PassCodes.{pass_answer_of, pass_answer_with, IsPassCode};
+ghost use Rattle.thp_capi.specs.PassHandle.{pass_of};
+ghost use Rattle.thp_capi.specs.Passes.{PassDoes, PassOne, PassLost};
+ghost use Rattle.thp_capi.specs.Replies.{LoseCall};
 
 use std::alloc::Global;
-use thp_c_calls::{ThpDone, ThpNode, ThpPass};
+use thp_capi::{ThpDone, ThpNode, ThpPass};
 use thp_model::{Gain, Loss, What, narrowed};
 
-/// One more mapping of the whole page, by a PMD entry.
+/// Maps the whole page once more, by a PMD entry.
 #[unsafe(no_mangle)]
 pub extern "C" fn thp_c_node_map_whole(
     handle: &mut ThpNode,
@@ -24,10 +24,10 @@ pub extern "C" fn thp_c_node_map_whole(
     ensures does { Does handle.old.held handle.new.held (answer_of result) (OneCall caller (call.map_whole page) (What.MapWhole page)) }
     ensures known { result < length answers }
 {
-    thp_c_calls::node_gain(handle, alloc, caller, page, Gain::MapWhole)
+    thp_capi::node_gain(handle, alloc, caller, page, Gain::MapWhole)
 }
 
-/// One more mapping of each of the `count` subpages from `first` on, by PTE entries.
+/// Maps each of the `count` subpages from `first` on once more, by PTE entries.
 #[unsafe(no_mangle)]
 pub extern "C" fn thp_c_node_map_sub(
     handle: &mut ThpNode,
@@ -43,10 +43,10 @@ pub extern "C" fn thp_c_node_map_sub(
     let first = narrowed(first);
     let count = narrowed(count);
     let gain = Gain::MapSub { first, count };
-    thp_c_calls::node_gain(handle, alloc, caller, page, gain)
+    thp_capi::node_gain(handle, alloc, caller, page, gain)
 }
 
-/// One PMD mapping of the page becomes a PTE mapping of each subpage.
+/// Replaces one PMD mapping of the page by a PTE mapping of each subpage.
 #[unsafe(no_mangle)]
 pub extern "C" fn thp_c_node_split_pmd(
     handle: &mut ThpNode,
@@ -57,19 +57,19 @@ pub extern "C" fn thp_c_node_split_pmd(
     ensures does { Does handle.old.held handle.new.held (answer_of result) (OneCall caller (call.split_pmd page) (What.SplitPmd page)) }
     ensures known { result < length answers }
 {
-    thp_c_calls::node_gain(handle, alloc, caller, page, Gain::SplitPmd)
+    thp_capi::node_gain(handle, alloc, caller, page, Gain::SplitPmd)
 }
 
-/// One more pin of the page.
+/// Adds a pin to the page.
 #[unsafe(no_mangle)]
 pub extern "C" fn thp_c_node_pin(handle: &mut ThpNode, alloc: Global, caller: u32, page: u64) -> u32
     ensures does { Does handle.old.held handle.new.held (answer_of result) (OneCall caller (call.pin page) (What.Pin page)) }
     ensures known { result < length answers }
 {
-    thp_c_calls::node_gain(handle, alloc, caller, page, Gain::Pin)
+    thp_capi::node_gain(handle, alloc, caller, page, Gain::Pin)
 }
 
-/// Data is written to each of the `count` subpages from `first` on.
+/// Records that data is written to each of the `count` subpages from `first` on.
 #[unsafe(no_mangle)]
 pub extern "C" fn thp_c_node_write(
     handle: &mut ThpNode,
@@ -85,10 +85,10 @@ pub extern "C" fn thp_c_node_write(
     let first = narrowed(first);
     let count = narrowed(count);
     let gain = Gain::Write { first, count };
-    thp_c_calls::node_gain(handle, alloc, caller, page, gain)
+    thp_capi::node_gain(handle, alloc, caller, page, gain)
 }
 
-/// Zeros are written to each of the `count` subpages from `first` on.
+/// Records that zeros are written to each of the `count` subpages from `first` on.
 #[unsafe(no_mangle)]
 pub extern "C" fn thp_c_node_zero(
     handle: &mut ThpNode,
@@ -104,10 +104,10 @@ pub extern "C" fn thp_c_node_zero(
     let first = narrowed(first);
     let count = narrowed(count);
     let gain = Gain::Zero { first, count };
-    thp_c_calls::node_gain(handle, alloc, caller, page, gain)
+    thp_capi::node_gain(handle, alloc, caller, page, gain)
 }
 
-/// One mapping of the whole page less.
+/// Removes one mapping of the whole page.
 #[unsafe(no_mangle)]
 pub extern "C" fn thp_c_node_unmap_whole(
     handle: &mut ThpNode,
@@ -120,10 +120,10 @@ pub extern "C" fn thp_c_node_unmap_whole(
     ensures known { result < length answers }
     ensures kept { OnErr (answer_of result) (done.new ≡ done.old) }
 {
-    thp_c_calls::node_lose(handle, alloc, caller, page, Loss::UnmapWhole, done)
+    thp_capi::node_lose(handle, alloc, caller, page, Loss::UnmapWhole, done)
 }
 
-/// One mapping of each of the `count` subpages from `first` on less.
+/// Removes one mapping of each of the `count` subpages from `first` on.
 #[unsafe(no_mangle)]
 pub extern "C" fn thp_c_node_unmap_sub(
     handle: &mut ThpNode,
@@ -141,10 +141,10 @@ pub extern "C" fn thp_c_node_unmap_sub(
     let first = narrowed(first);
     let count = narrowed(count);
     let loss = Loss::UnmapSub { first, count };
-    thp_c_calls::node_lose(handle, alloc, caller, page, loss, done)
+    thp_capi::node_lose(handle, alloc, caller, page, loss, done)
 }
 
-/// One pin of the page less.
+/// Removes a pin of the page.
 #[unsafe(no_mangle)]
 pub extern "C" fn thp_c_node_unpin(
     handle: &mut ThpNode,
@@ -157,10 +157,10 @@ pub extern "C" fn thp_c_node_unpin(
     ensures known { result < length answers }
     ensures kept { OnErr (answer_of result) (done.new ≡ done.old) }
 {
-    thp_c_calls::node_lose(handle, alloc, caller, page, Loss::Unpin, done)
+    thp_capi::node_lose(handle, alloc, caller, page, Loss::Unpin, done)
 }
 
-/// One more mapping of the whole page, by a PMD entry.
+/// Maps the whole page once more, by a PMD entry.
 #[unsafe(no_mangle)]
 pub extern "C" fn thp_c_pass_map_whole(
     handle: &mut ThpPass,
@@ -171,10 +171,10 @@ pub extern "C" fn thp_c_pass_map_whole(
     ensures does { PassDoes (pass_of handle.old.held) (pass_of handle.new.held) (pass_answer_of result) (PassOne caller (call.map_whole page) (What.MapWhole page)) }
     ensures known { IsPassCode result }
 {
-    thp_c_calls::pass_gain(handle, alloc, caller, page, Gain::MapWhole)
+    thp_capi::pass_gain(handle, alloc, caller, page, Gain::MapWhole)
 }
 
-/// One more mapping of each of the `count` subpages from `first` on, by PTE entries.
+/// Maps each of the `count` subpages from `first` on once more, by PTE entries.
 #[unsafe(no_mangle)]
 pub extern "C" fn thp_c_pass_map_sub(
     handle: &mut ThpPass,
@@ -190,10 +190,10 @@ pub extern "C" fn thp_c_pass_map_sub(
     let first = narrowed(first);
     let count = narrowed(count);
     let gain = Gain::MapSub { first, count };
-    thp_c_calls::pass_gain(handle, alloc, caller, page, gain)
+    thp_capi::pass_gain(handle, alloc, caller, page, gain)
 }
 
-/// One PMD mapping of the page becomes a PTE mapping of each subpage.
+/// Replaces one PMD mapping of the page by a PTE mapping of each subpage.
 #[unsafe(no_mangle)]
 pub extern "C" fn thp_c_pass_split_pmd(
     handle: &mut ThpPass,
@@ -204,19 +204,19 @@ pub extern "C" fn thp_c_pass_split_pmd(
     ensures does { PassDoes (pass_of handle.old.held) (pass_of handle.new.held) (pass_answer_of result) (PassOne caller (call.split_pmd page) (What.SplitPmd page)) }
     ensures known { IsPassCode result }
 {
-    thp_c_calls::pass_gain(handle, alloc, caller, page, Gain::SplitPmd)
+    thp_capi::pass_gain(handle, alloc, caller, page, Gain::SplitPmd)
 }
 
-/// One more pin of the page.
+/// Adds a pin to the page.
 #[unsafe(no_mangle)]
 pub extern "C" fn thp_c_pass_pin(handle: &mut ThpPass, alloc: Global, caller: u32, page: u64) -> u32
     ensures does { PassDoes (pass_of handle.old.held) (pass_of handle.new.held) (pass_answer_of result) (PassOne caller (call.pin page) (What.Pin page)) }
     ensures known { IsPassCode result }
 {
-    thp_c_calls::pass_gain(handle, alloc, caller, page, Gain::Pin)
+    thp_capi::pass_gain(handle, alloc, caller, page, Gain::Pin)
 }
 
-/// Data is written to each of the `count` subpages from `first` on.
+/// Records that data is written to each of the `count` subpages from `first` on.
 #[unsafe(no_mangle)]
 pub extern "C" fn thp_c_pass_write(
     handle: &mut ThpPass,
@@ -232,10 +232,10 @@ pub extern "C" fn thp_c_pass_write(
     let first = narrowed(first);
     let count = narrowed(count);
     let gain = Gain::Write { first, count };
-    thp_c_calls::pass_gain(handle, alloc, caller, page, gain)
+    thp_capi::pass_gain(handle, alloc, caller, page, gain)
 }
 
-/// Zeros are written to each of the `count` subpages from `first` on.
+/// Records that zeros are written to each of the `count` subpages from `first` on.
 #[unsafe(no_mangle)]
 pub extern "C" fn thp_c_pass_zero(
     handle: &mut ThpPass,
@@ -251,10 +251,10 @@ pub extern "C" fn thp_c_pass_zero(
     let first = narrowed(first);
     let count = narrowed(count);
     let gain = Gain::Zero { first, count };
-    thp_c_calls::pass_gain(handle, alloc, caller, page, gain)
+    thp_capi::pass_gain(handle, alloc, caller, page, gain)
 }
 
-/// One mapping of the whole page less.
+/// Removes one mapping of the whole page.
 #[unsafe(no_mangle)]
 pub extern "C" fn thp_c_pass_unmap_whole(
     handle: &mut ThpPass,
@@ -267,10 +267,10 @@ pub extern "C" fn thp_c_pass_unmap_whole(
     ensures known { IsPassCode result }
     ensures kept { OnErr (pass_answer_of result) (done.new ≡ done.old) }
 {
-    thp_c_calls::pass_lose(handle, alloc, caller, page, Loss::UnmapWhole, done)
+    thp_capi::pass_lose(handle, alloc, caller, page, Loss::UnmapWhole, done)
 }
 
-/// One mapping of each of the `count` subpages from `first` on less.
+/// Removes one mapping of each of the `count` subpages from `first` on.
 #[unsafe(no_mangle)]
 pub extern "C" fn thp_c_pass_unmap_sub(
     handle: &mut ThpPass,
@@ -288,10 +288,10 @@ pub extern "C" fn thp_c_pass_unmap_sub(
     let first = narrowed(first);
     let count = narrowed(count);
     let loss = Loss::UnmapSub { first, count };
-    thp_c_calls::pass_lose(handle, alloc, caller, page, loss, done)
+    thp_capi::pass_lose(handle, alloc, caller, page, loss, done)
 }
 
-/// One pin of the page less.
+/// Removes a pin of the page.
 #[unsafe(no_mangle)]
 pub extern "C" fn thp_c_pass_unpin(
     handle: &mut ThpPass,
@@ -304,5 +304,5 @@ pub extern "C" fn thp_c_pass_unpin(
     ensures known { IsPassCode result }
     ensures kept { OnErr (pass_answer_of result) (done.new ≡ done.old) }
 {
-    thp_c_calls::pass_lose(handle, alloc, caller, page, Loss::Unpin, done)
+    thp_capi::pass_lose(handle, alloc, caller, page, Loss::Unpin, done)
 }

@@ -1,17 +1,17 @@
-//! The calls of a shared node, exported: of its cell, and of passes to it.
+//! The calls of a shared node, exported: of its cell, and of passes of the cell.
 ghost use Rattle.std.specs.Prelude.{◌≡◌, None, OnOk, OnErr, IfErr, Ok};
 ghost use Rattle.thp_model.specs.Refusals as call;
-ghost use Rattle.thp_c_calls.specs.Engines.{shape_of};
-ghost use Rattle.thp_c_calls.specs.PassCodes.{pass_answer_of, pass_answer_with, IsPassCode};
-ghost use Rattle.thp_c_calls.specs.PassHandle.{pass_of};
-ghost use Rattle.thp_c_calls.specs.Passes.{PassDoes, PassOne, PassAlloc, PassScan, PassCount, CellMade, PassEmptied, Divided, WhyUndivided, Joined, WhyApart, OneCellHeld, Finished, WhyUnfinished};
-ghost use Rattle.thp_c_calls.specs.Replies.{scan_of};
+ghost use Rattle.thp_capi.specs.Engines.{shape_of};
+ghost use Rattle.thp_capi.specs.PassCodes.{pass_answer_of, pass_answer_with, IsPassCode};
+ghost use Rattle.thp_capi.specs.PassHandle.{pass_of};
+ghost use Rattle.thp_capi.specs.Passes.{PassDoes, PassOne, PassAlloc, PassScan, PassCount, CellMade, PassEmptied, Divided, WhyUndivided, Joined, WhyApart, OneCellHeld, Finished, WhyUnfinished};
+ghost use Rattle.thp_capi.specs.Replies.{scan_of};
 
 use std::alloc::Global;
-use thp_c_calls::{ThpNode, ThpPass, ThpScan};
+use thp_capi::{ThpNode, ThpPass, ThpScan};
 use thp_model::What;
 
-/// Makes a shared node for a number of callers, and fills the handle with the pass of all of them. The mark tells passes of
+/// Creates a shared node for `callers` callers, and fills the handle with the pass of all of them. `mark` distinguishes passes of
 /// this cell from those of others.
 #[unsafe(no_mangle)]
 pub extern "C" fn thp_c_cell_create(
@@ -26,19 +26,19 @@ pub extern "C" fn thp_c_cell_create(
     ensures does { CellMade (pass_of handle.old.held) (pass_of handle.new.held) (shape_of blocks order underused) callers mark (pass_answer_of result) }
     ensures known { IsPassCode result }
 {
-    thp_c_calls::cell_create(handle, alloc, blocks, order, underused, callers, mark)
+    thp_capi::cell_create(handle, alloc, blocks, order, underused, callers, mark)
 }
 
-/// Frees the pass that the handle leads to, and leaves the handle empty. With the last pass the cell goes, too.
+/// Frees the pass that the handle refers to, and empties the handle. The last pass frees the cell too.
 #[unsafe(no_mangle)]
 pub extern "C" fn thp_c_pass_destroy(handle: &mut ThpPass, alloc: Global) -> u32
     ensures does { PassEmptied (pass_of handle.old.held) (pass_of handle.new.held) (pass_answer_of result) }
     ensures known { IsPassCode result }
 {
-    thp_c_calls::pass_destroy(handle, alloc)
+    thp_capi::pass_destroy(handle, alloc)
 }
 
-/// Divides the callers of a pass: those below `at` stay, and the other handle is filled with a pass of those from it on.
+/// Divides the callers of a pass: those below `at` stay, and the other handle is filled with a pass of those from `at` on.
 #[unsafe(no_mangle)]
 pub extern "C" fn thp_c_pass_split(
     handle: &mut ThpPass,
@@ -52,11 +52,11 @@ pub extern "C" fn thp_c_pass_split(
     ensures why { IfErr (pass_answer_of result) (WhyUndivided at (pass_of handle.old.held) (pass_of other.old.held)) }
     ensures known { IsPassCode result }
 {
-    thp_c_calls::pass_split(handle, alloc, at, other)
+    thp_capi::pass_split(handle, alloc, at, other)
 }
 
-/// Joins the pass of the other handle to this one, and leaves the other empty. The callers of the other follow on those of
-/// this.
+/// Joins the pass of the other handle to this one, and empties the other. The callers of the other must directly follow those of
+/// this pass.
 #[unsafe(no_mangle)]
 pub extern "C" fn thp_c_pass_join(handle: &mut ThpPass, alloc: Global, other: &mut ThpPass) -> u32
     requires { OneCellHeld (pass_of handle.old.held) (pass_of other.old.held) }
@@ -67,11 +67,11 @@ pub extern "C" fn thp_c_pass_join(handle: &mut ThpPass, alloc: Global, other: &m
     ensures why { IfErr (pass_answer_of result) (WhyApart (pass_of handle.old.held) (pass_of other.old.held)) }
     ensures known { IsPassCode result }
 {
-    thp_c_calls::pass_join(handle, alloc, other)
+    thp_capi::pass_join(handle, alloc, other)
 }
 
-/// Takes the cell apart where the pass has all its callers and no other handle leads to it: the node goes to the second
-/// handle, and the first leads to nothing.
+/// Dismantles the cell if the pass has all its callers and no other handle refers to the cell: fills the second handle with the
+/// node, and empties the first.
 #[unsafe(no_mangle)]
 pub extern "C" fn thp_c_cell_finish(handle: &mut ThpPass, alloc: Global, node: &mut ThpNode) -> u32
     ensures done { OnOk (pass_answer_of result) (Finished (pass_of handle.old.held) node.new.held) }
@@ -81,10 +81,10 @@ pub extern "C" fn thp_c_cell_finish(handle: &mut ThpPass, alloc: Global, node: &
     ensures why { IfErr (pass_answer_of result) (WhyUnfinished (pass_of handle.old.held) node.old.held) }
     ensures known { IsPassCode result }
 {
-    thp_c_calls::cell_finish(handle, alloc, node)
+    thp_capi::cell_finish(handle, alloc, node)
 }
 
-/// A new page, mapped whole once. Its number is the count of allocations before it.
+/// Allocates a page, mapped whole once. Its number is the number of allocations before it.
 #[unsafe(no_mangle)]
 pub extern "C" fn thp_c_pass_alloc(
     handle: &mut ThpPass,
@@ -96,19 +96,19 @@ pub extern "C" fn thp_c_pass_alloc(
     ensures known { IsPassCode result }
     ensures kept { OnErr (pass_answer_of result) (page.new ≡ page.old) }
 {
-    thp_c_calls::pass_alloc(handle, alloc, caller, page)
+    thp_capi::pass_alloc(handle, alloc, caller, page)
 }
 
-/// Closes the node: from here on nothing enters the queue and no page is allocated.
+/// Closes the node: no page is queued or allocated afterwards.
 #[unsafe(no_mangle)]
 pub extern "C" fn thp_c_pass_close(handle: &mut ThpPass, alloc: Global, caller: u32) -> u32
     ensures does { PassDoes (pass_of handle.old.held) (pass_of handle.new.held) (pass_answer_of result) (PassOne caller call.close What.Close) }
     ensures known { IsPassCode result }
 {
-    thp_c_calls::pass_close(handle, alloc, caller)
+    thp_capi::pass_close(handle, alloc, caller)
 }
 
-/// Takes up to `n` pages, the oldest first, tries each, and returns those that are pinned.
+/// Takes up to `n` of the oldest queued pages, in order, tries each, and returns the pinned ones.
 #[unsafe(no_mangle)]
 pub extern "C" fn thp_c_pass_scan(
     handle: &mut ThpPass,
@@ -121,15 +121,15 @@ pub extern "C" fn thp_c_pass_scan(
     ensures known { IsPassCode result }
     ensures kept { OnErr (pass_answer_of result) (scan.new ≡ scan.old) }
 {
-    thp_c_calls::pass_scan(handle, alloc, caller, n, scan)
+    thp_capi::pass_scan(handle, alloc, caller, n, scan)
 }
 
-/// How many pages are queued, also while another pass has the node.
+/// Stores in `pages` the number of queued pages, even while another pass has the node.
 #[unsafe(no_mangle)]
 pub extern "C" fn thp_c_pass_count(handle: &mut ThpPass, alloc: Global, pages: &mut u32) -> u32
     ensures does { PassDoes (pass_of handle.old.held) (pass_of handle.new.held) (pass_answer_of result) (λ old new answer. (answer ≡ Ok tt) × PassCount pages.new old new) }
     ensures known { IsPassCode result }
     ensures kept { OnErr (pass_answer_of result) (pages.new ≡ pages.old) }
 {
-    thp_c_calls::pass_count(handle, alloc, pages)
+    thp_capi::pass_count(handle, alloc, pages)
 }

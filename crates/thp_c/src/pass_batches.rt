@@ -1,15 +1,16 @@
 //! The calls about a caller's open batch on a shared node, exported.
 ghost use Rattle.std.specs.Prelude.{◌≡◌, ◌≤◌, OnErr, OnOk};
-ghost use Rattle.thp_c_calls.specs.PassBatches.{PassTake, PassNext, PassBack, PassAbandon};
-ghost use Rattle.thp_c_calls.specs.PassCodes.{pass_answer_of, pass_answer_with, IsPassCode};
-ghost use Rattle.thp_c_calls.specs.PassHandle.{pass_of};
-ghost use Rattle.thp_c_calls.specs.Passes.{PassDoes};
-ghost use Rattle.thp_c_calls.specs.Replies.{tried_of, back_of};
+ghost use Rattle.thp_capi.specs.PassBatches.{PassTake, PassNext, PassBack, PassAbandon};
+ghost use Rattle.thp_capi.specs.PassCodes.{pass_answer_of, pass_answer_with, IsPassCode};
+ghost use Rattle.thp_capi.specs.PassHandle.{pass_of};
+ghost use Rattle.thp_capi.specs.Passes.{PassDoes};
+ghost use Rattle.thp_capi.specs.Replies.{tried_of, back_of};
 
 use std::alloc::Global;
-use thp_c_calls::{ThpBack, ThpPass, ThpTried};
+use thp_capi::{ThpBack, ThpPass, ThpTried};
 
-/// Takes up to `n` pages, the oldest first, into the caller's batch, which is open from then on.
+/// Takes up to `n` of the oldest queued pages, in order, into the caller's batch, which is open afterwards. `count` is the number
+/// of pages taken.
 #[unsafe(no_mangle)]
 pub extern "C" fn thp_c_pass_take(
     handle: &mut ThpPass,
@@ -22,7 +23,7 @@ pub extern "C" fn thp_c_pass_take(
     ensures known { IsPassCode result }
     ensures kept { OnErr (pass_answer_of result) (count.new ≡ count.old) }
 {
-    thp_c_calls::pass_take(handle, alloc, caller, n, count)
+    thp_capi::pass_take(handle, alloc, caller, n, count)
 }
 
 /// Tries the next page of the caller's open batch.
@@ -38,10 +39,10 @@ pub extern "C" fn thp_c_pass_split_next(
     ensures kept { OnErr (pass_answer_of result) (tried.new ≡ tried.old) }
     ensures kind { OnOk (pass_answer_of result) (tried.new.kind ≤ 3) }
 {
-    thp_c_calls::pass_split_next(handle, alloc, caller, tried)
+    thp_capi::pass_split_next(handle, alloc, caller, tried)
 }
 
-/// Returns the pages of the caller's open batch, which is closed then.
+/// Returns the remaining pages of the caller's open batch, and closes the batch.
 #[unsafe(no_mangle)]
 pub extern "C" fn thp_c_pass_put_back(
     handle: &mut ThpPass,
@@ -53,14 +54,14 @@ pub extern "C" fn thp_c_pass_put_back(
     ensures known { IsPassCode result }
     ensures kept { OnErr (pass_answer_of result) (back.new ≡ back.old) }
 {
-    thp_c_calls::pass_put_back(handle, alloc, caller, back)
+    thp_capi::pass_put_back(handle, alloc, caller, back)
 }
 
-/// Lets the caller's open batch go: its pages stay in the caller's flight, out of the queue.
+/// Discards the caller's open batch: its pages stay in the caller's flight, out of the queue.
 #[unsafe(no_mangle)]
 pub extern "C" fn thp_c_pass_abandon(handle: &mut ThpPass, alloc: Global, caller: u32) -> u32
     ensures does { PassDoes (pass_of handle.old.held) (pass_of handle.new.held) (pass_answer_of result) (PassAbandon caller) }
     ensures known { IsPassCode result }
 {
-    thp_c_calls::pass_abandon(handle, alloc, caller)
+    thp_capi::pass_abandon(handle, alloc, caller)
 }

@@ -11,13 +11,13 @@ use Rattle.atomic_table.proofs.shared.Seat.TheSendSync as seat
 use Rattle.thp_page.proofs.page_table.Descriptor.TheSendSync as descriptor
 use Rattle.thp_page.specs.contracts.page_table.PageTable as PageTable
 use Rattle.thp_page.specs.contracts.page_table.PageTable.TheInside as in_table
-use Rattle.thp_live_pages.specs.contracts.places.Places as Places
-use Rattle.thp_live_pages.specs.contracts.places.Places.TheInside as in_places
+use Rattle.thp_live_pages.specs.contracts.page_store.PageStore
+use Rattle.thp_live_pages.specs.contracts.page_store.PageStore.TheInside as in_places
 use Rattle.thp_model.proofs.events.Event.TheSendSync as event
 use Rattle.thp_node.specs.declared.recorder.Recorder.{Ghosts}
-use Rattle.thp_node.specs.contracts.recorder.Kept as Kept
-use Rattle.thp_node.specs.contracts.recorder.Kept.TheInside as in_kept
-use Rattle.thp_node.specs.contracts.recorder.KeptRecorder.TheImpl as keeps
+use Rattle.thp_node.specs.contracts.recorder.FullLog as FullLog
+use Rattle.thp_node.specs.contracts.recorder.FullLog.TheInside as in_kept
+use Rattle.thp_node.specs.contracts.recorder.FullLogRecorder.TheImpl as keeps
 use Rattle.thp_node.specs.contracts.batch.Batch as Batch
 use Rattle.thp_node.specs.contracts.batch.Batch.TheInside as in_batch
 use Rattle.thp_node.specs.contracts.blocks.Blocks as Blocks
@@ -30,17 +30,17 @@ use Rattle.thp_cell.specs.contracts.cell.NodeCell as NodeCell
 use Rattle.thp_cell.specs.contracts.cell.NodeCell.TheInside as in_cell
 use Rattle.thp_cell.specs.contracts.pass.Pass as Pass
 use Rattle.thp_cell.specs.contracts.pass.Pass.TheInside as in_pass
-use Rattle.thp_cell.specs.contracts.rule.Knows as Knows
+use Rattle.thp_cell.specs.contracts.rule.SeatKnowledge as SeatKnowledge
 use Rattle.thp_cell.specs.contracts.rule.Key as Key
 use Rattle.thp_cell.specs.contracts.rule.CellRule as CellRule
-use Rattle.thp_cell.specs.contracts.rule.CellRuleTableRuleNodeKnowsKey.TheImpl as rule
+use Rattle.thp_cell.specs.contracts.rule.CellRuleTableRuleNodeSeatKnowledgeKey.TheImpl as rule
 
 -- the table of pages may go to another thread
 table_send : IsSend PageTable.the_row
 table_send = view_send in_table.the_row _ _ _ _ (declared_send in_table.the_type (search (sendable, crosses) depth 30, (search (sendable, crosses) depth 30, (Vec-send _ descriptor.the_send, (search (sendable, crosses) depth 30, tt)))))
 
 -- the places of pages may go to another thread
-places_send : IsSend Places.the_row
+places_send : IsSend PageStore.the_row
 places_send = view_send in_places.the_row _ _ _ _ (declared_send in_places.the_type (table_send, (search (sendable, crosses) depth 30, tt)))
 
 -- the blocks of a node may go to another thread
@@ -63,22 +63,22 @@ module _ (d e : Dict) (T : RattleType) (R : Ghosts T.Denot) (recorder_send : IsS
 
   -- a cell is shared by threads
   pub cell_sync : IsSync (NodeCell.the_row T R)
-  cell_sync = view_sync (in_cell.the_row T R) _ _ _ _ (declared_sync (in_cell.the_type T R) (table.the_sync (Node.the_row T R) Knows.the_row (Key.the_row T R) CellRule.the_row Global.the_row (rule.ghosts T R d e) heap.ghosts node_send send sync frees, tt))
+  cell_sync = view_sync (in_cell.the_row T R) _ _ _ _ (declared_sync (in_cell.the_type T R) (table.the_sync (Node.the_row T R) SeatKnowledge.the_row (Key.the_row T R) CellRule.the_row Global.the_row (rule.ghosts T R d e) heap.ghosts node_send send sync frees, tt))
 
   -- a pass may go to another thread
   pub pass_send : IsSend (Pass.the_row T R)
   pass_send = view_send (in_pass.the_row T R) _ _ _ _ (declared_send (in_pass.the_type T R) (search sendable, (search sendable, (search sendable, (search (sendable, seat.the_send, node_send), tt)))))
 
 -- kept events may go to another thread
-kept_send : IsSend Kept.the_row
+kept_send : IsSend FullLog.the_row
 kept_send = view_send in_kept.the_row _ _ _ _ (declared_send in_kept.the_type (Vec-send _ event.the_send, tt))
 
 -- and so may passes of cells whose nodes keep their events
-pub kept_cell_sync : IsSync (NodeCell.the_row Kept.the_row keeps.ghosts)
-kept_cell_sync = cell_sync keeps.dict keeps.dict Kept.the_row keeps.ghosts kept_send
+pub kept_cell_sync : IsSync (NodeCell.the_row FullLog.the_row keeps.ghosts)
+kept_cell_sync = cell_sync keeps.dict keeps.dict FullLog.the_row keeps.ghosts kept_send
 
-pub kept_pass_send : IsSend (Pass.the_row Kept.the_row keeps.ghosts)
-kept_pass_send = pass_send keeps.dict keeps.dict Kept.the_row keeps.ghosts kept_send
+pub kept_pass_send : IsSend (Pass.the_row FullLog.the_row keeps.ghosts)
+kept_pass_send = pass_send keeps.dict keeps.dict FullLog.the_row keeps.ghosts kept_send
 
 -- what a caller's threads ask of what they are given
 pub ruleset crossings = (sendable, crosses, kept_cell_sync, kept_pass_send, batch_send)

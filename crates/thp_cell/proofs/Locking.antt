@@ -14,16 +14,16 @@ use Rattle.thp_model.specs.Places.{queue}
 use Rattle.thp_model.proofs.LegalSteps.{legal_front}
 use Rattle.thp_node.specs.NodeState.{NodeState}
 use Rattle.thp_cell.specs.declared.rule.OldFront.{OldFront}
-use Rattle.thp_cell.specs.declared.rule.Knows.{Knows}
-use Rattle.thp_cell.specs.Rule.{Since, AllBelow, holding, FitsOld, Fits, FitsSeat, Home, Kept}
-use Rattle.thp_cell.specs.Steps.{Sat, seen, Took, Locked, Counted, Looked}
+use Rattle.thp_cell.specs.declared.rule.SeatKnowledge.{SeatKnowledge}
+use Rattle.thp_cell.specs.Rule.{Since, AllBelow, holding, OldFrontAgrees, SeatAgrees, SeatsAgree, Home, RuleHolds}
+use Rattle.thp_cell.specs.Steps.{SeatValue, seat_with_front, Took, Locked, Counted, Looked}
 use Rattle.thp_cell.proofs.Fronts.{since_same, between, below_end}
 use Rattle.thp_cell.proofs.Sums.{sum_set, bit_set}
 use Rattle.thp_cell.proofs.Seating.{Cell, reseated, stays, nobody}
 
 module _ (n : ℕ) (s : Shape) where
   -- what a seat that saw the whole history knows
-  knows_all : (h : History) (v : Knows) (has_node : Bool) → Fits n s h v → v.first < v.end → FitsSeat n s h (seen v has_node h)
+  knows_all : (h : History) (v : SeatKnowledge) (has_node : Bool) → SeatAgrees n s h v → v.first < v.end → SeatsAgree n s h (seat_with_front v has_node h)
   knows_all h v has_node was live = record {
     lives = λ _. live;
     knows = λ _. record {
@@ -37,7 +37,7 @@ module _ (n : ℕ) (s : Shape) where
   }
 
   -- the lock step finds the bit clear and takes the node, or finds it set and changes nothing
-  pub locks : (slots id : ℕ) (v : Knows) → v.has_node ≡ false → v.first < v.end → v.old_fronts ≡ [] → Allows (Kept n s) slots id (v, []) 0 (λ x. bit_or x 1) (Locked (step slots 0 1 0 none) (v, []))
+  pub locks : (slots id : ℕ) (v : SeatKnowledge) → v.has_node ≡ false → v.first < v.end → v.old_fronts ≡ [] → Allows (RuleHolds n s) slots id (v, []) 0 (λ x. bit_or x 1) (Locked (step slots 0 1 0 none) (v, []))
   locks slots id v free live clean t r wide at small =
       let q : ℕ = length (queue s r.history) in
       let out : ℕ = sum_by holding t.views in
@@ -50,12 +50,12 @@ module _ (n : ℕ) (s : Shape) where
       (λ home.
       let m = r.home.in_slot home in
       let node = m.node in
-      let w : Knows = seen v true node.journal in
+      let w : SeatKnowledge = seat_with_front v true node.journal in
       let sum = sum_set holding t.views id v w at in
       let none_yet : holding v ≡ 0 = ap (λ b. cond b 1 0) free in
       let now : sum_by holding (set t.views id w) ≡ 1 = omega arith in
       let to : bit_or x 1 ≡ 2 * q + sum_by holding (set t.views id w) = omega arith in
-      let mine : FitsSeat n s r.history w = subst (λ l. FitsSeat n s r.history (seen v true l)) (sym m.journal) (knows_all r.history v true was live) in
+      let mine : SeatsAgree n s r.history w = subst (λ l. SeatsAgree n s r.history (seat_with_front v true l)) (sym m.journal) (knows_all r.history v true was live) in
       let took : Took (v, []) (w, (0, node) ∷ []) = record {
         node = node;
         now = refl;
@@ -88,8 +88,8 @@ module _ (n : ℕ) (s : Shape) where
       ))
 
   -- a load, after which the seat knows w, of the same history
-  loaded : (t : Cell) (r : Kept n s t) (id : ℕ) (me : Sat) (w : Knows) → get_elem? t.views id ≡ some me.0 → me.0.has_node ≡ false → w.has_node ≡ false → w.first ≡ me.0.first → w.end ≡ me.0.end → me.0.first < me.0.end
-      → FitsSeat n s r.history w → Kept n s (stepped t 0 (get_or t.words 0 0) id me.1 w keeps)
+  loaded : (t : Cell) (r : RuleHolds n s t) (id : ℕ) (me : SeatValue) (w : SeatKnowledge) → get_elem? t.views id ≡ some me.0 → me.0.has_node ≡ false → w.has_node ≡ false → w.first ≡ me.0.first → w.end ≡ me.0.end → me.0.first < me.0.end
+      → SeatsAgree n s r.history w → RuleHolds n s (stepped t 0 (get_or t.words 0 0) id me.1 w keeps)
   loaded t r id me w at free free' f e live mine =
       let v = me.0 in
       let x : ℕ = get_or t.words 0 0 in
@@ -103,7 +103,7 @@ module _ (n : ℕ) (s : Shape) where
       (subst (λ (k : ℕ). Home k s r.history t.homes) same r.home) mine
 
   -- the load of a count sees the whole history and its queue's length
-  pub counts : (slots id : ℕ) (v : Knows) → v.has_node ≡ false → v.first < v.end → Allows (Kept n s) slots id (v, []) 0 (λ x. x) (Counted (step slots 0 0 0 none) (v, []))
+  pub counts : (slots id : ℕ) (v : SeatKnowledge) → v.has_node ≡ false → v.first < v.end → Allows (RuleHolds n s) slots id (v, []) 0 (λ x. x) (Counted (step slots 0 0 0 none) (v, []))
   counts slots id v free live t r wide at small =
       let x : ℕ = get_or t.words 0 0 in
       let is : x ≡ 2 * length (queue s r.history) + sum_by holding t.views = ap (λ l. get_or l 0 0) r.word in
@@ -111,10 +111,10 @@ module _ (n : ℕ) (s : Shape) where
       let few = r.home.one_at_most in
       let short = r.short in
       let half : x / 2 ≡ length (queue s r.history) = omega arith in (
-        seen v false r.history,
+        seat_with_front v false r.history,
         keeps,
         tt,
-        loaded t r id (v, []) (seen v false r.history) at free refl refl refl live (knows_all r.history v false was live),
+        loaded t r id (v, []) (seat_with_front v false r.history) at free refl refl refl live (knows_all r.history v false was live),
         record {
           front = r.history;
           now = refl;
@@ -127,13 +127,13 @@ module _ (n : ℕ) (s : Shape) where
       )
 
   -- the load after a join finds both old fronts to begin the front
-  pub looks : (slots id : ℕ) (v : Knows) → v.has_node ≡ false → v.first < v.end → Allows (Kept n s) slots id (v, []) 0 (λ x. x) (Looked (step slots 0 0 0 none) (v, []))
+  pub looks : (slots id : ℕ) (v : SeatKnowledge) → v.has_node ≡ false → v.first < v.end → Allows (RuleHolds n s) slots id (v, []) 0 (λ x. x) (Looked (step slots 0 0 0 none) (v, []))
   looks slots id v free live t r wide at small =
       let was = (r.seats id v at).knows live in (
-        seen v false v.front,
+        seat_with_front v false v.front,
         keeps,
         tt,
-        loaded t r id (v, []) (seen v false v.front) at free refl refl refl live
+        loaded t r id (v, []) (seat_with_front v false v.front) at free refl refl refl live
             record {
               lives = λ e. absurd (true≢false (sym e));
               knows = λ _. record {
@@ -147,7 +147,7 @@ module _ (n : ℕ) (s : Shape) where
             },
         record {
           now = refl;
-          both = All-weaker (FitsOld r.history v) (λ (o : OldFront). Since o.first o.end o.front v.front)
+          both = All-weaker (OldFrontAgrees r.history v) (λ (o : OldFront). Since o.first o.end o.front v.front)
               (λ o p. between o.first o.end o.front v.front r.history v.first v.end p.shorter p.since was.since) v.old_fronts was.old_fronts;
           inside = let in_n = was.inside in let all = was.callers in omega arith;
           legal = subst (λ z. IsLegal z v.front) (sym was.shape) (legal_front s v.front was.since.others (subst (IsLegal s) was.since.goes_on r.legal));
@@ -155,14 +155,14 @@ module _ (n : ℕ) (s : Shape) where
       )
 
 -- the same at a seat that is known by its parts
-pub locks_at : (n : ℕ) (s : Shape) (slots id : ℕ) (m : Sat) → m.1 ≡ [] → m.0.has_node ≡ false → m.0.first < m.0.end → m.0.old_fronts ≡ [] → Allows (Kept n s) slots id m 0 (λ x. bit_or x 1) (Locked (step slots 0 1 0 none) m)
+pub locks_at : (n : ℕ) (s : Shape) (slots id : ℕ) (m : SeatValue) → m.1 ≡ [] → m.0.has_node ≡ false → m.0.first < m.0.end → m.0.old_fronts ≡ [] → Allows (RuleHolds n s) slots id m 0 (λ x. bit_or x 1) (Locked (step slots 0 1 0 none) m)
 locks_at n s slots id m e free live clean =
-    subst (λ (l : List (ℕ × NodeState)). Allows (Kept n s) slots id (m.0, l) 0 (λ x. bit_or x 1) (Locked (step slots 0 1 0 none) (m.0, l))) (sym e) (locks n s slots id m.0 free live clean)
+    subst (λ (l : List (ℕ × NodeState)). Allows (RuleHolds n s) slots id (m.0, l) 0 (λ x. bit_or x 1) (Locked (step slots 0 1 0 none) (m.0, l))) (sym e) (locks n s slots id m.0 free live clean)
 
-pub counts_at : (n : ℕ) (s : Shape) (slots id : ℕ) (m : Sat) → m.1 ≡ [] → m.0.has_node ≡ false → m.0.first < m.0.end → Allows (Kept n s) slots id m 0 (λ x. x) (Counted (step slots 0 0 0 none) m)
+pub counts_at : (n : ℕ) (s : Shape) (slots id : ℕ) (m : SeatValue) → m.1 ≡ [] → m.0.has_node ≡ false → m.0.first < m.0.end → Allows (RuleHolds n s) slots id m 0 (λ x. x) (Counted (step slots 0 0 0 none) m)
 counts_at n s slots id m e free live =
-    subst (λ (l : List (ℕ × NodeState)). Allows (Kept n s) slots id (m.0, l) 0 (λ x. x) (Counted (step slots 0 0 0 none) (m.0, l))) (sym e) (counts n s slots id m.0 free live)
+    subst (λ (l : List (ℕ × NodeState)). Allows (RuleHolds n s) slots id (m.0, l) 0 (λ x. x) (Counted (step slots 0 0 0 none) (m.0, l))) (sym e) (counts n s slots id m.0 free live)
 
-pub looks_at : (n : ℕ) (s : Shape) (slots id : ℕ) (m : Sat) → m.1 ≡ [] → m.0.has_node ≡ false → m.0.first < m.0.end → Allows (Kept n s) slots id m 0 (λ x. x) (Looked (step slots 0 0 0 none) m)
+pub looks_at : (n : ℕ) (s : Shape) (slots id : ℕ) (m : SeatValue) → m.1 ≡ [] → m.0.has_node ≡ false → m.0.first < m.0.end → Allows (RuleHolds n s) slots id m 0 (λ x. x) (Looked (step slots 0 0 0 none) m)
 looks_at n s slots id m e free live =
-    subst (λ (l : List (ℕ × NodeState)). Allows (Kept n s) slots id (m.0, l) 0 (λ x. x) (Looked (step slots 0 0 0 none) (m.0, l))) (sym e) (looks n s slots id m.0 free live)
+    subst (λ (l : List (ℕ × NodeState)). Allows (RuleHolds n s) slots id (m.0, l) 0 (λ x. x) (Looked (step slots 0 0 0 none) (m.0, l))) (sym e) (looks n s slots id m.0 free live)

@@ -8,10 +8,10 @@ use Rattle.thp_model.specs.declared.shape.Shape.{Shape}
 use Rattle.thp_model.specs.Legal.{IsLegal}
 use Rattle.thp_model.specs.Places.{queue}
 use Rattle.thp_node.specs.NodeState.{NodeState}
-use Rattle.thp_cell.specs.declared.rule.Knows.{Knows}
-use Rattle.thp_cell.specs.Rule.{Adds, holding, Kept}
+use Rattle.thp_cell.specs.declared.rule.SeatKnowledge.{SeatKnowledge}
+use Rattle.thp_cell.specs.Rule.{Adds, holding, RuleHolds}
 use Rattle.thp_cell.specs.Seats.{Place, IsFree, IsLent, HasSlot}
-use Rattle.thp_cell.specs.Steps.{Sat, seen, Stored}
+use Rattle.thp_cell.specs.Steps.{SeatValue, seat_with_front, Stored}
 use Rattle.thp_cell.proofs.Fronts.{since_same}
 use Rattle.thp_cell.proofs.Sums.{sum_set, share_of_one}
 use Rattle.thp_cell.proofs.Seating.{reseated}
@@ -23,16 +23,16 @@ same_node x y e =
     ap (λ (z : ℕ × NodeState). z.1) p
 
 module _ (n : ℕ) (s : Shape) where
-  stores : (slots id : ℕ) (v : Knows) (node : NodeState) (new : ℕ) → v.has_node ≡ true → v.first < v.end → node.shape ≡ v.shape → IsLegal node.shape node.journal → length (queue node.shape node.journal) < 2 ^ 32
+  stores : (slots id : ℕ) (v : SeatKnowledge) (node : NodeState) (new : ℕ) → v.has_node ≡ true → v.first < v.end → node.shape ≡ v.shape → IsLegal node.shape node.journal → length (queue node.shape node.journal) < 2 ^ 32
       → new ≡ 2 * length (queue node.shape node.journal) → Adds v.first v.end v.front node.journal
-      → Allows (Kept n s) slots id (v, (0, node) ∷ []) 0 (λ _. new) (λ _. Stored (step slots 0 new 0 none) (v, (0, node) ∷ []) new)
+      → Allows (RuleHolds n s) slots id (v, (0, node) ∷ []) 0 (λ _. new) (λ _. Stored (step slots 0 new 0 none) (v, (0, node) ∷ []) new)
   stores slots id v node new mine live shape legal short is adds t r wide at small =
       let was = (r.seats id v at).knows live in
       let few = r.home.one_at_most in
       let one_mine : holding v ≡ 1 = ap (λ b. cond b 1 0) mine in
       let least = share_of_one holding t.views id v at in
       let out : sum_by holding t.views ≡ 1 = omega arith in
-      let w : Knows = seen v false node.journal in
+      let w : SeatKnowledge = seat_with_front v false node.journal in
       let sum = sum_set holding t.views id v w at in
       let now : sum_by holding (set t.views id w) ≡ 0 = omega arith in
       let shape' : node.shape ≡ s = shape ∙ was.shape in
@@ -60,29 +60,29 @@ module _ (n : ℕ) (s : Shape) where
                 at_node = λ e. absurd (true≢false (sym e));
               };
             },
-        λ other e. ap (λ (x : NodeState). (seen v false x.journal, [])) (same_node node other e),
+        λ other e. ap (λ (x : NodeState). (seat_with_front v false x.journal, [])) (same_node node other e),
       )
 
   -- the same, of a seat that is known by its parts: the node y is what its slot was read to have
-  pub stores_at : (slots id : ℕ) (m : Sat) (node y : NodeState) (new : ℕ) → m.1 ≡ (0, node) ∷ [] → m.1 ≡ (0, y) ∷ [] → m.0.has_node ≡ true → m.0.first < m.0.end → node.shape ≡ m.0.shape
+  pub stores_at : (slots id : ℕ) (m : SeatValue) (node y : NodeState) (new : ℕ) → m.1 ≡ (0, node) ∷ [] → m.1 ≡ (0, y) ∷ [] → m.0.has_node ≡ true → m.0.first < m.0.end → node.shape ≡ m.0.shape
       → IsLegal node.shape node.journal → Adds m.0.first m.0.end m.0.front node.journal → length (queue y.shape y.journal) < 2 ^ 32 → new ≡ 2 * length (queue y.shape y.journal)
-      → Allows (Kept n s) slots id (m.0, (0, y) ∷ rest m.1) 0 (λ _. new) (λ _. Stored (step slots 0 new 0 none) (m.0, (0, y) ∷ rest m.1) new)
+      → Allows (RuleHolds n s) slots id (m.0, (0, y) ∷ rest m.1) 0 (λ _. new) (λ _. Stored (step slots 0 new 0 none) (m.0, (0, y) ∷ rest m.1) new)
   stores_at slots id m node y new out read mine live shape legal adds short word =
       let none_left : rest m.1 ≡ [] = ap rest out in
       let same : node ≡ y = same_node node y (sym out ∙ read) in
-      subst (λ (l : List (ℕ × NodeState)). Allows (Kept n s) slots id (m.0, (0, y) ∷ l) 0 (λ _. new) (λ _. Stored (step slots 0 new 0 none) (m.0, (0, y) ∷ l) new)) (sym none_left)
-      (subst (λ (z : NodeState). length (queue z.shape z.journal) < 2 ^ 32 → new ≡ 2 * length (queue z.shape z.journal) → Allows (Kept n s) slots id (m.0, (0, z) ∷ []) 0 (λ _. new) (λ _. Stored (step slots 0 new 0 none) (m.0, (0, z) ∷ []) new)) same
+      subst (λ (l : List (ℕ × NodeState)). Allows (RuleHolds n s) slots id (m.0, (0, y) ∷ l) 0 (λ _. new) (λ _. Stored (step slots 0 new 0 none) (m.0, (0, y) ∷ l) new)) (sym none_left)
+      (subst (λ (z : NodeState). length (queue z.shape z.journal) < 2 ^ 32 → new ≡ 2 * length (queue z.shape z.journal) → Allows (RuleHolds n s) slots id (m.0, (0, z) ∷ []) 0 (λ _. new) (λ _. Stored (step slots 0 new 0 none) (m.0, (0, z) ∷ []) new)) same
       (λ few is. stores slots id m.0 node new mine live shape legal few is adds) short word)
 
 -- the seat is free after the store
-pub freed : (s u : Place) (lent : IsLent s) → u.me ≡ (seen s.me.0 false lent.node.journal, []) → IsFree u
+pub freed : (s u : Place) (lent : IsLent s) → u.me ≡ (seat_with_front s.me.0 false lent.node.journal, []) → IsFree u
 freed s u lent e = record {
-  callers = subst (λ (m : Sat). m.0.first < m.0.end) (sym e) lent.callers;
-  inside = subst (λ (m : Sat). m.0.end ≤ m.0.callers) (sym e) lent.inside;
-  no_node = ap (λ (m : Sat). m.0.has_node) e;
-  no_old_fronts = ap (λ (m : Sat). m.0.old_fronts) e;
-  no_slot = ap (λ (m : Sat). m.1) e;
-  legal = subst (λ (m : Sat). IsLegal m.0.shape m.0.front) (sym e) (subst (λ z. IsLegal z lent.node.journal) lent.shape lent.legal);
+  callers = subst (λ (m : SeatValue). m.0.first < m.0.end) (sym e) lent.callers;
+  inside = subst (λ (m : SeatValue). m.0.end ≤ m.0.callers) (sym e) lent.inside;
+  no_node = ap (λ (m : SeatValue). m.0.has_node) e;
+  no_old_fronts = ap (λ (m : SeatValue). m.0.old_fronts) e;
+  no_slot = ap (λ (m : SeatValue). m.1) e;
+  legal = subst (λ (m : SeatValue). IsLegal m.0.shape m.0.front) (sym e) (subst (λ z. IsLegal z lent.node.journal) lent.shape lent.legal);
 }
 
 -- what the lending of a slot asks of the seat that has it

@@ -1,4 +1,4 @@
--- What the calls of a cell do to a pass.
+-- The effect of a cell's calls on a pass.
 use Rattle.std.specs.Prelude.{◌≡◌, ◌≢◌, ℕ, ◌⊎◌, ◌<◌, true, false, List, ◌++◌, All, Option, None, Some}
 use Rattle.std.specs.List.{filter}
 use Rattle.thp_model.specs.declared.events.Event.{Event}
@@ -18,32 +18,32 @@ use Rattle.thp_cell.specs.declared.fault.CellFault.TheVariants as fault
 abbrev pub at_front : PassState → History → PassState
 at_front p h = record p { front = h }
 
--- the pass, which keeps its node
+-- the pass with its node kept
 abbrev pub keeping : PassState → PassState
 keeping p = record p { keeps = true }
 
--- the pass, which doesn't
-abbrev pub letting_go : PassState → PassState
-letting_go p = record p { keeps = false }
+-- the pass with its node not kept
+abbrev pub returning_node : PassState → PassState
+returning_node p = record p { keeps = false }
 
 -- the parts of the pass's callers are the same
 abbrev pub PartsStay : PassState → PassState → Type 0
 PartsStay p q = (c : ℕ) → HasCaller p c → part q c ≡ part p c
 
--- the flights of the pass's callers in a later history: the freed pages were taken out, and nothing else changed
+-- the flights of the pass's callers in a later history: the freed pages are removed, and nothing else changes
 abbrev pub FlightsLast : PassState → History → Type 0
 FlightsLast p h = (c : ℕ) → HasCaller p c → flight h c ≡ filter (is_live h) (flight p.front c)
 
--- each batch of the pass's callers that was in front of its flight still is
+-- each batch of the pass's callers that was a prefix of its flight still is
 abbrev pub BatchesStay : PassState → PassState → Type 0
 BatchesStay p q = (b : BatchState) → HasCaller p b.caller → IsInFront p.front b → IsInFront q.front b
 
--- each batch of another of the pass's callers than c
+-- the same for each batch of the pass's callers other than c
 abbrev pub OtherBatchesStay : ℕ → PassState → PassState → Type 0
 OtherBatchesStay c p q = (b : BatchState) → HasCaller p b.caller → b.caller ≢ c → IsInFront p.front b → IsInFront q.front b
 
--- the front went on with events of callers that aren't the pass's alone, and is legal; no part changed. No event has a
--- caller beyond the cell's, so the front of a pass that has all callers stayed
+-- the new front is legal, and extends the old one by events of callers that are not the pass's; no part changes. No event has a
+-- caller outside the cell, so the front of a pass that has all callers does not change
 pub record Follows (p q : PassState) : Type 0 where
   pub same : q ≡ at_front p q.front
   pub others : Since p.first p.end p.front q.front
@@ -54,10 +54,10 @@ pub record Follows (p q : PassState) : Type 0 where
   pub flights : FlightsLast p q.front
   pub batches : BatchesStay p q
 
--- A call of caller c found the node with the journal `found`: the front of the pass, and then events of callers that
--- aren't the pass's alone. It recorded its own events, all of them caller c's, and the front is now `found` and these.
--- The part of c grew by them, and no other part changed. No event has a caller beyond the cell's, so a pass that has all
--- callers found its front. `Says` is what the call says of `found` and its own events.
+-- A call of caller c found the node with the journal `found`: the front of the pass, extended by events of callers that are not
+-- the pass's. The call recorded its own events, all of caller c, and the new front is `found` extended by these. The part of c is
+-- extended by them, and no other part changes. No event has a caller outside the cell, so a pass that has all callers found its
+-- front. `Says` is the call's property of `found` and its own events.
 pub record Called (p q : PassState) (c : ℕ) (Says : History → List Event → Type 0) : Type 0 where
   pub found : History
   pub own : List Event
@@ -73,32 +73,32 @@ pub record Called (p q : PassState) (c : ℕ) (Says : History → List Event →
   pub other_parts : (d : ℕ) → HasCaller p d → d ≢ c → part q d ≡ part p d
   pub says : Says found own
 
--- another pass has the node: front and parts are as they were, and the pass neither keeps the node nor has all callers
+-- another pass has the node: front and parts are unchanged, the pass does not keep the node, and it does not have all callers
 pub record IsBusy (p q : PassState) : Type 0 where
   pub same : q ≡ p
   pub free : p.keeps ≡ false
   pub shared : HasAll p → ⊥
 
--- the call recorded nothing. It was refused with r for the reason that there is at the front, or else for want of memory,
--- which a call that records no event doesn't need
+-- the call recorded nothing. Its refusal r is the reason that holds at the front, or else lack of memory, which can't happen to a
+-- call that records no event
 pub record IsRefused (p q : PassState) (why : Option Refusal) (m : ℕ) (r : Refusal) : Type 0 where
   pub follows : Follows p q
   pub cause : (why ≡ Some r) ⊎ ((why ≡ None) × (r ≡ OutOfMemory) × (0 < m))
 
--- what a call that failed left
+-- the result of a call that failed
 abbrev pub Failed : PassState → PassState → Option Refusal → ℕ → CellFault → Type 0
 Failed p q why m fault.Busy = IsBusy p q
 Failed p q why m (fault.Refused r) = IsRefused p q why m r
 
--- the callers below `at`, and those from it on; neither part keeps the node
+-- the pass of the callers below `at`, and that of the callers from `at` on; neither keeps the node
 abbrev pub below : PassState → ℕ → PassState
 below p at = record p { end = at; keeps = false }
 
 abbrev pub from : PassState → ℕ → PassState
 from p at = record p { first = at; keeps = false }
 
--- one front begins the other, and the longer is the new one; it has no other event of the callers of either. The new pass
--- doesn't keep the node
+-- one front is a prefix of the other, and the longer is the new front; its further events are of callers of neither pass. The new
+-- pass does not keep the node
 pub record IsJoined (p q r : PassState) : Type 0 where
   pub callers : r ≡ record p { end = q.end; keeps = false; front = r.front }
   pub longer : (r.front ≡ p.front) ⊎ (r.front ≡ q.front)

@@ -1,19 +1,19 @@
--- What a pass and a hold keep of their seats. No public clause cites this module.
+-- The invariants of the seats of a pass and of a hold. No public clause cites this module.
 use Rattle.std.specs.Prelude.{◌≡◌, ℕ, ◌<◌, ◌≤◌, Bool, true, false, List, [], ◌∷◌}
 use Rattle.atomic_table.specs.declared.shared.Seat.{Seat}
 use Rattle.thp_model.specs.Limits.{max_callers, max_order}
 use Rattle.thp_model.specs.History.{History}
 use Rattle.thp_model.specs.Legal.{IsLegal}
 use Rattle.thp_node.specs.NodeState.{NodeState}
-use Rattle.thp_cell.specs.declared.rule.Knows.{Knows}
+use Rattle.thp_cell.specs.declared.rule.SeatKnowledge.{SeatKnowledge}
 use Rattle.thp_cell.specs.Calls.{at_front}
 use Rattle.thp_cell.specs.Rule.{Adds, AllBelow, Since}
 use Rattle.thp_cell.specs.Views.{PassState, HasAll}
 
 abbrev pub Place : Type 0
-Place = Seat NodeState Knows
+Place = Seat NodeState SeatKnowledge
 
--- what the table knows of a seat, whose holder keeps the node or doesn't
+-- what the table knows of a seat whose holder keeps the node or not
 abbrev pub pass_state : Bool → Place → PassState
 pass_state keeps s = record {
   cell = s.table_id;
@@ -25,7 +25,7 @@ pass_state keeps s = record {
   front = s.me.0.front;
 }
 
--- the history that a seat's holder knows of: where the seat has the slot, the journal of the node in it
+-- the history that a seat's holder knows: if the seat has the slot, the journal of the node in it
 abbrev pub front_in : List (ℕ × NodeState) → History → History
 front_in [] front = front
 front_in ((k, node) ∷ slots) front = node.journal
@@ -34,7 +34,7 @@ front_in ((k, node) ∷ slots) front = node.journal
 abbrev pub known_state : Bool → Place → PassState
 known_state keeps s = at_front (pass_state keeps s) (front_in s.me.1 s.me.0.front)
 
--- the seat has callers, all of them the cell's, and a legal front, and hasn't the slot
+-- the seat has callers, all of them the cell's, and a legal front, and does not have the slot
 pub record IsFree (s : Place) : Type 0 where
   pub callers : s.me.0.first < s.me.0.end
   pub inside : s.me.0.end ≤ s.me.0.callers
@@ -48,7 +48,7 @@ pub record HasSlot (s : Place) : Type 0 where
   pub node : NodeState
   pub slot : s.me.1 ≡ (0, node) ∷ []
 
--- the seat has the slot, with the node: its journal is the front, and then events of the seat's callers alone
+-- the seat has the slot with the node: its journal is the front, extended by events of the seat's callers only
 pub record IsLent (s : Place) : Type 0 where
   pub callers : s.me.0.first < s.me.0.end
   pub inside : s.me.0.end ≤ s.me.0.callers
@@ -70,18 +70,18 @@ pub record HoldsNode (s : Place) : Type 0 where
   pub journal : node.journal ≡ s.me.0.front
   pub legal : IsLegal node.shape node.journal
 
--- the seat has the slot, and no event of its node has a caller beyond the cell's
+-- the seat has the slot, and no event of its node has a caller outside the cell
 pub record IsKept (s : Place) : Type 0 where
   pub lent : IsLent s
   pub known : AllBelow s.me.0.callers lent.node.journal
 
--- the seat of a pass, which keeps the node or doesn't
+-- the seat of a pass that keeps the node or not
 abbrev pub IsIn : Bool → Place → Type 0
 IsIn true s = IsKept s
 IsIn false s = IsFree s
 
--- The seat has the slot with the node, as a pass that was p took it or kept it: the journal is the front of the pass and then events
--- of other callers alone, and what the table knows of it is a front, and then events of the pass's callers alone.
+-- The seat has the slot with the node, taken or kept by a pass that was p. The journal is the front of the pass, extended by
+-- events of other callers only; and it is the front that the table knows, extended by events of the pass's callers only.
 pub record HasTaken (p : PassState) (s : Place) : Type 0 where
   pub same : pass_state p.keeps s ≡ at_front p s.me.0.front
   pub callers : p.first < p.end
@@ -102,7 +102,7 @@ pub record FoundBusy (keeps : Bool) (old new : Place) : Type 0 where
   pub still : IsIn keeps new
   pub shared : HasAll (known_state keeps old) → ⊥
 
--- the numbers of a pass, and its pages are none too large
+-- the numbers of a pass; its pages have at most the greatest order
 pub record IsNumbered (first end : ℕ) (p : PassState) : Type 0 where
   pub first_is : first ≡ p.first
   pub end_is : end ≡ p.end

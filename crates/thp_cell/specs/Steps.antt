@@ -1,5 +1,5 @@
--- What each kind of atomic step tells the seat that makes it. There are eight kinds: the making of the table and its first
--- seat (`root`), the split of a seat, the join of two, the lock step that finds the bit clear or set, the store that ends a
+-- What each kind of atomic step adds to the seat that makes it. There are eight kinds: the creation of the table and its first
+-- seat (`root`), the split of a seat, the join of two seats, the lock step that finds the bit clear or set, the store that ends a
 -- hold, the load after a join, and the load of a count.
 use Rattle.std.specs.Prelude.{◌≡◌, ◌≢◌, ℕ, ◌/◌, ◌%◌, ◌^◌, ◌<◌, ◌≤◌, Bool, true, false, nat_le, cond, [], ◌∷◌, None, length, All}
 use Rattle.atomic_table.specs.Table.{Me, Step}
@@ -8,81 +8,81 @@ use Rattle.thp_model.specs.Legal.{IsLegal}
 use Rattle.thp_model.specs.Places.{queue}
 use Rattle.thp_node.specs.NodeState.{NodeState}
 use Rattle.thp_cell.specs.declared.rule.OldFront.{OldFront}
-use Rattle.thp_cell.specs.declared.rule.Knows.{Knows}
+use Rattle.thp_cell.specs.declared.rule.SeatKnowledge.{SeatKnowledge}
 use Rattle.thp_cell.specs.Rule.{Since, AllBelow}
 
 -- what a seat knows, and the slot that it may have
-abbrev pub Sat : Type 0
-Sat = Me NodeState Knows
+abbrev pub SeatValue : Type 0
+SeatValue = Me NodeState SeatKnowledge
 
-abbrev pub Told : Type 0
-Told = Step NodeState
+abbrev pub CellStep : Type 0
+CellStep = Step NodeState
 
--- the seat once it has seen the history h
-abbrev pub seen : Knows → Bool → History → Knows
-seen v has_node h = record v { has_node = has_node; front = h; old_fronts = [] }
+-- the seat after it has seen the history h
+abbrev pub seat_with_front : SeatKnowledge → Bool → History → SeatKnowledge
+seat_with_front v has_node h = record v { has_node = has_node; front = h; old_fronts = [] }
 
--- all callers are the seat's
-pub record IsWhole (v : Knows) : Type 0 where
+-- the seat has all callers
+pub record IsWhole (v : SeatKnowledge) : Type 0 where
   pub from : v.first ≡ 0
   pub to : v.end ≡ v.callers
 
 -- the seat has the slot, with the node whose journal is its new front
-pub record Took (m m' : Sat) : Type 0 where
+pub record Took (m m' : SeatValue) : Type 0 where
   pub node : NodeState
-  pub now : m' ≡ (seen m.0 true node.journal, (0, node) ∷ [])
+  pub now : m' ≡ (seat_with_front m.0 true node.journal, (0, node) ∷ [])
   pub shape : node.shape ≡ m.0.shape
   pub since : Since m.0.first m.0.end m.0.front node.journal
   pub legal : IsLegal m.0.shape node.journal
   pub callers : AllBelow m.0.callers node.journal
 
 -- nothing changed; another seat has the node
-pub record WasBusy (m m' : Sat) : Type 0 where
+pub record WasBusy (m m' : SeatValue) : Type 0 where
   pub same : m' ≡ m
   pub shared : IsWhole m.0 → ⊥
 
--- the lock step, where it found the bit clear and where it found it set
-pub record Locked (st : Told) (m : Sat) (found : ℕ) (m' : Sat) : Type 0 where
+-- the lock step, which found the bit clear or set
+pub record Locked (st : CellStep) (m : SeatValue) (found : ℕ) (m' : SeatValue) : Type 0 where
   pub clear : found % 2 ≡ 0 → Took m m'
   pub set : found % 2 ≢ 0 → WasBusy m m'
 
--- the store that ends a hold: the front is the journal of the node that lies in the slot
-abbrev pub Stored : Told → Sat → ℕ → Sat → Type 0
-Stored st m word m' = (node : NodeState) → m.1 ≡ (0, node) ∷ [] → m' ≡ (seen m.0 false node.journal, [])
+-- the store that ends a hold: the front is the journal of the node in the slot
+abbrev pub Stored : CellStep → SeatValue → ℕ → SeatValue → Type 0
+Stored st m word m' = (node : NodeState) → m.1 ≡ (0, node) ∷ [] → m' ≡ (seat_with_front m.0 false node.journal, [])
 
 -- the load of a count
-pub record Counted (st : Told) (m : Sat) (found : ℕ) (m' : Sat) : Type 0 where
+pub record Counted (st : CellStep) (m : SeatValue) (found : ℕ) (m' : SeatValue) : Type 0 where
   pub front : History
-  pub now : m' ≡ (seen m.0 false front, m.1)
+  pub now : m' ≡ (seat_with_front m.0 false front, m.1)
   pub since : Since m.0.first m.0.end m.0.front front
   pub legal : IsLegal m.0.shape front
   pub callers : AllBelow m.0.callers front
   pub count : found / 2 ≡ length (queue m.0.shape front)
   pub short : found / 2 < 2 ^ 32
 
--- the load after a join: the front goes on from both old fronts, which are kept no longer, and the callers are the cell's
-pub record Looked (st : Told) (m : Sat) (found : ℕ) (m' : Sat) : Type 0 where
-  pub now : m' ≡ (seen m.0 false m.0.front, m.1)
+-- the load after a join: the front extends both old fronts, which are discarded, and the callers are the cell's
+pub record Looked (st : CellStep) (m : SeatValue) (found : ℕ) (m' : SeatValue) : Type 0 where
+  pub now : m' ≡ (seat_with_front m.0 false m.0.front, m.1)
   pub both : All (λ (o : OldFront). Since o.first o.end o.front m.0.front) m.0.old_fronts
   pub inside : m.0.end ≤ m.0.callers
   pub legal : IsLegal m.0.shape m.0.front
 
 -- the two parts of a split
-abbrev pub left_of : ℕ → Knows → Knows
+abbrev pub left_of : ℕ → SeatKnowledge → SeatKnowledge
 left_of at v = record v { end = at; has_node = false; old_fronts = [] }
 
-abbrev pub right_of : ℕ → Knows → Knows
+abbrev pub right_of : ℕ → SeatKnowledge → SeatKnowledge
 right_of at v = record v { first = at; has_node = false; old_fronts = [] }
 
 -- the longer of two fronts
 abbrev pub longer : History → History → History
 longer xs ys = cond (nat_le (length xs) (length ys)) ys xs
 
-abbrev pub old_front : Knows → OldFront
+abbrev pub old_front : SeatKnowledge → OldFront
 old_front v = record { first = v.first; end = v.end; front = v.front }
 
--- a join: the callers of both, the longer front, and both old fronts beside it until the load after
-abbrev pub joined : Knows → Knows → Knows
+-- a join: the callers of both, the longer front, and both old fronts until the following load
+abbrev pub joined : SeatKnowledge → SeatKnowledge → SeatKnowledge
 joined v w = record v {
   end = w.end;
   has_node = false;
@@ -90,8 +90,8 @@ joined v w = record v {
   old_fronts = old_front v ∷ old_front w ∷ [];
 }
 
--- what is left of the second seat: no caller
-abbrev pub spent : Knows
+-- the second seat after the join: it has no caller
+abbrev pub spent : SeatKnowledge
 spent = record {
   callers = 0;
   shape = record { blocks = 0; order = 0; underused = None };

@@ -1,4 +1,4 @@
-//! A node that threads share: how it is made, held, split among threads, and taken apart.
+//! A node that threads share: creating it, locking it, dividing its passes among threads, and dismantling it.
 ghost use Rattle.std.specs.Prelude.{◌≡◌, ℕ, ◌<◌, ◌≤◌, ◌⊎◌, ◌↔◌, [], ◌∷◌, length, true, false, Err, All, IfOk, IfErr, OnOk, OnErr};
 ghost use Rattle.thp_model.specs.Limits.{max_callers};
 ghost use Rattle.thp_model.specs.History.{events_of};
@@ -6,7 +6,7 @@ ghost use Rattle.thp_model.specs.Legal.{IsLegal};
 ghost use Rattle.thp_model.specs.Places.{queue};
 ghost use Rattle.thp_node.specs.JournalLaws.{StandsOnce, StandsWhole, TakesOldest, LeavesFreedAlone, NothingEnters, HasFramesOnce, KeepsFrames};
 ghost use Rattle.thp_cell.specs.Views.{HasCaller, HasAll, part};
-ghost use Rattle.thp_cell.specs.Calls.{Follows, PartsStay, BatchesStay, IsBusy, IsJoined, below, from, keeping, letting_go};
+ghost use Rattle.thp_cell.specs.Calls.{Follows, PartsStay, BatchesStay, IsBusy, IsJoined, below, from, keeping, returning_node};
 
 mod batch_calls;
 mod list_calls;
@@ -14,20 +14,25 @@ mod page_calls;
 
 use crate::fault::Busy;
 use crate::pass::{Hold, Pass};
-use crate::rule::{Both, CellRule, Count, Cut, Key, Knows, Lock, Look, SplitAt, Store};
+use crate::rule::{Both, CellRule, Count, Cut, Key, Lock, Look, SeatKnowledge, SplitAt, Store};
 use atomic_table::{Refused, Seat, Table};
 use std::alloc::Global;
 use std::marker::{Brand, Model};
 use std::snapshot::Snapshot;
 use thp_model::MAX_CALLERS;
-use thp_node::{Kept, NewFault, Node, Recorder};
+use thp_node::{FullLog, NewFault, Node, Recorder};
 
-/// A node that threads share through one word and one slot.
+/// A node that threads share through one atomic word and one slot.
 ///
-/// The word is twice the length of the queue, and the lock bit. Contracts see which cell it is.
+/// The word is twice the length of the queue plus the lock bit. Contracts see the identity of the cell. Each call requires a pass
+/// of this cell, and a caller of that pass.
+///
+/// A call that needs the node fails with `CellFault::Busy` while another pass has it, and with `CellFault::Refused` for the
+/// reasons that its documentation lists, or for `OutOfMemory` if the journal can't grow. A call that fails leaves the node
+/// unchanged.
 #[derive(Drop)]
-pub struct NodeCell<R: Recorder = Kept> {
-    table: Table<Node<R>, Knows, Key<R>, CellRule, Global>,
+pub struct NodeCell<R: Recorder = FullLog> {
+    table: Table<Node<R>, SeatKnowledge, Key<R>, CellRule, Global>,
 }
 
 impl<R: Recorder> Model for NodeCell<R> {
@@ -44,12 +49,14 @@ impl<R: Recorder> Model for NodeCell<R> {
 impl<R: Recorder> NodeCell<R> {
     ghost use Rattle.std.specs.Borrow.{sem};
     ghost use Rattle.thp_node.specs.NodeState.{NodeState};
-    ghost use Rattle.thp_cell.specs.Steps.{seen, left_of, right_of, Took, WasBusy};
+    ghost use Rattle.thp_cell.specs.Steps.{seat_with_front, left_of, right_of, Took, WasBusy};
     ghost use Rattle.thp_cell.specs.Seats.{front_in, known_state, IsFree, IsIn, IsKept, IsLent, HasSlot, HasTaken, FoundBusy};
     ghost use Rattle.thp_cell.specs.Lending.{lends_node};
 
-    /// Makes a cell of a node, for a number of callers, and the pass that has them all. Their numbers are those below
-    /// `callers`: 1 to 64 of them, which is looked at first. A refusal drops the node.
+    /// Creates a cell that owns the node, and the pass that has all callers: the numbers below `callers`, which is 1 to 64.
+    ///
+    /// Fails with `BadSize` for any other number of callers, which is tested first, and with `OutOfMemory` if the cell can't be
+    /// allocated. An error drops the node.
     pub fn new(
         alloc: Global,
         node: Node<R>,
@@ -75,7 +82,7 @@ impl<R: Recorder> NodeCell<R> {
             callers,
             node: Snapshot::of(&node),
         };
-        // tells the proof that the history is legal, which the rule of the cell asks, and that its pages are none too large
+        // shows the proof that the history is legal, as the cell's rule requires, and that its pages are of order 9 at most
         node.laws();
         let _shape = node.shape();
         let Ok(mut slots) = Vec::with_capacity(alloc, 1) else {
@@ -96,7 +103,7 @@ impl<R: Recorder> NodeCell<R> {
         }
     }
 
-    /// Divides the callers of a pass: those below `at`, and those from it on. A node that the pass keeps is let go.
+    /// Divides the callers of a pass into those below `at` and those from `at` on. Releases the node first if the pass keeps it.
     pub fn split(&self, pass: Pass<R>, at: u32) -> (Pass<R>, Pass<R>)
         requires cell { pass.cell ≡ self.now }
         requires after { pass.first < at }
@@ -112,7 +119,7 @@ impl<R: Recorder> NodeCell<R> {
             keeps,
             mut seat,
         } = pass;
-        self.settle(&mut seat, keeps);
+        self.release_kept(&mut seat, keeps);
         let right = self.split_seat::<Brand>(&mut seat, at);
         (
             Pass {
@@ -131,7 +138,11 @@ impl<R: Recorder> NodeCell<R> {
     }
 
     // Divides the callers of a seat.
-    fn split_seat<C: Cut>(&self, seat: &mut Seat<Node<R>, Knows>, at: u32) -> Seat<Node<R>, Knows>
+    fn split_seat<C: Cut>(
+        &self,
+        seat: &mut Seat<Node<R>, SeatKnowledge>,
+        at: u32,
+    ) -> Seat<Node<R>, SeatKnowledge>
         requires cell { seat.old.table_id ≡ self.now }
         requires free { IsFree seat.old }
         requires cut { C.at ≡ at }
@@ -145,8 +156,8 @@ impl<R: Recorder> NodeCell<R> {
         self.table.shared.split_seat::<SplitAt<C>>(seat)
     }
 
-    /// Joins two passes whose callers adjoin. One front begins the other, and the new pass has the longer. A node that one of
-    /// them keeps is let go.
+    /// Joins two passes whose callers are adjacent. One front is a prefix of the other, and the joined pass has the longer one.
+    /// Releases the node first if one of the passes keeps it.
     pub fn join(&self, left: Pass<R>, right: Pass<R>) -> Pass<R>
         requires left_cell { left.cell ≡ self.now }
         requires right_cell { right.cell ≡ self.now }
@@ -173,8 +184,8 @@ impl<R: Recorder> NodeCell<R> {
             keeps: right_keeps,
             seat: mut other,
         } = right;
-        self.settle(&mut seat, keeps);
-        self.settle(&mut other, right_keeps);
+        self.release_kept(&mut seat, keeps);
+        self.release_kept(&mut other, right_keeps);
         self.table.shared.join_seat::<Both>(&mut seat, other);
         self.table.shared.load::<Look>(&mut seat, 0);
         Pass {
@@ -185,12 +196,14 @@ impl<R: Recorder> NodeCell<R> {
         }
     }
 
-    /// Takes the node for a hold without events: no other pass reaches it before the release. A node that the pass keeps is
-    /// let go first. Refused where another pass has the node, which a pass of all callers never meets.
+    /// Locks the node without recording an event: no other pass can call it before the release. Releases the node first if the
+    /// pass keeps it.
+    ///
+    /// Fails with `Busy` if another pass has the node, and returns the pass. That never happens to a pass of all callers.
     pub fn hold(&self, pass: Pass<R>) -> Result<Hold<R>, (Pass<R>, Busy)>
         requires { pass.cell ≡ self.now }
-        ensures follows { IfOk result (λ h. Follows (letting_go pass) h) }
-        ensures busy { IfErr result (λ e. IsBusy (letting_go pass) e.0) }
+        ensures follows { IfOk result (λ h. Follows (returning_node pass) h) }
+        ensures busy { IfErr result (λ e. IsBusy (returning_node pass) e.0) }
     {
         let Pass {
             first,
@@ -198,7 +211,7 @@ impl<R: Recorder> NodeCell<R> {
             keeps,
             mut seat,
         } = pass;
-        self.settle(&mut seat, keeps);
+        self.release_kept(&mut seat, keeps);
         if self.lock(&mut seat) {
             Ok(Hold { first, end, seat })
         } else {
@@ -212,7 +225,7 @@ impl<R: Recorder> NodeCell<R> {
         }
     }
 
-    /// Ends a hold without events.
+    /// Releases the node and returns the pass, without recording an event.
     pub fn release(&self, hold: Hold<R>) -> Pass<R>
         requires { hold.cell ≡ self.now }
         ensures { result ≡ hold }
@@ -231,31 +244,32 @@ impl<R: Recorder> NodeCell<R> {
         }
     }
 
-    /// Keeps the node for the calls of the pass that follow: they no more take and release it each, and no other pass reaches it until
-    /// the pass lets it go, is divided, joined or taken for a hold, or the cell is taken apart. Refused where another pass has the node,
-    /// which a pass of all callers never meets.
-    pub fn keep(&self, pass: &mut Pass<R>) -> Result<(), Busy>
+    /// Keeps the node locked between the pass's following calls, which saves taking and releasing it for each.
+    ///
+    /// No other pass can call the node until the pass returns it, is divided, joined or turned into a hold, or the cell is
+    /// dismantled. Fails with `Busy` if another pass has the node, which never happens to a pass of all callers.
+    pub fn keep_node(&self, pass: &mut Pass<R>) -> Result<(), Busy>
         requires { pass.old.cell ≡ self.now }
         ensures follows { OnOk result (Follows (keeping pass.old) pass.new) }
         ensures busy { OnErr result (IsBusy pass.old pass.new) }
     {
-        if !self.enter(&mut pass.seat, pass.keeps) {
+        if !self.begin_call(&mut pass.seat, pass.keeps) {
             return Err(Busy);
         }
         pass.keeps = true;
         Ok(())
     }
 
-    /// Lets a node go that the pass keeps, if it does.
-    pub fn let_go(&self, pass: &mut Pass<R>)
+    /// Releases the node if the pass keeps it.
+    pub fn return_node(&self, pass: &mut Pass<R>)
         requires { pass.old.cell ≡ self.now }
-        ensures { pass.new ≡ letting_go pass.old }
+        ensures { pass.new ≡ returning_node pass.old }
     {
-        self.settle(&mut pass.seat, pass.keeps);
+        self.release_kept(&mut pass.seat, pass.keeps);
         pass.keeps = false;
     }
 
-    /// How many pages are queued, by a single load without the lock, also while another pass has the node.
+    /// Returns the number of queued pages, by a single load without the lock, even while another pass has the node.
     pub fn count(&self, pass: &mut Pass<R>) -> u32
         requires { pass.old.cell ≡ self.now }
         ensures follows { Follows pass.old pass.new }
@@ -268,10 +282,10 @@ impl<R: Recorder> NodeCell<R> {
         (found / 2) as u32
     }
 
-    /// Takes the cell apart, with the pass that has all its callers, and gives the node back.
+    /// Dismantles the cell, consuming the pass that has all its callers, and returns the node.
     ///
-    /// Its journal is the one legal history of all that the threads did: it is the pass's front, the part of each caller is
-    /// what that caller did in it, and no event has another caller.
+    /// The node's journal is the one legal history of everything the threads did. It is the pass's front, each caller's part is
+    /// what that caller did, and every event has one of the cell's callers.
     pub fn finish(self, pass: Pass<R>) -> Node<R>
         requires cell { pass.cell ≡ self }
         requires all { HasAll pass }
@@ -280,7 +294,7 @@ impl<R: Recorder> NodeCell<R> {
         ensures legal { IsLegal result.shape result.journal }
         ensures parts { (c : ℕ) → events_of c result.journal ≡ part pass c }
         ensures callers { All (λ e. e.caller < pass.callers) result.journal }
-        // the laws of every legal history that the headline tells, at this one
+        // the laws of every legal history that the main theorem states, at this one
         ensures oldest { TakesOldest result.shape result.journal }
         ensures once { StandsOnce result.shape result.journal }
         ensures whole { StandsWhole result.shape result.journal }
@@ -295,19 +309,19 @@ impl<R: Recorder> NodeCell<R> {
             keeps,
             mut seat,
         } = pass;
-        self.settle(&mut seat, keeps);
+        self.release_kept(&mut seat, keeps);
         let NodeCell { table } = self;
         let mut closed = table.close_with(seat);
         let node = closed.take(0);
         closed.free();
-        // tells the proof the laws at the journal
+        // shows the proof the laws at the journal
         node.laws();
         node
     }
 
-    // Takes the node for a call, where the pass doesn't keep it.
+    // Takes the node for a call, unless the pass keeps it.
     #[inline(always)]
-    fn enter(&self, seat: &mut Seat<Node<R>, Knows>, keeps: bool) -> bool
+    fn begin_call(&self, seat: &mut Seat<Node<R>, SeatKnowledge>, keeps: bool) -> bool
         requires cell { seat.old.table_id ≡ self.now }
         requires is { IsIn keeps seat.old }
         ensures same_cell { seat.new.table_id ≡ seat.old.table_id }
@@ -320,9 +334,9 @@ impl<R: Recorder> NodeCell<R> {
         self.lock(seat)
     }
 
-    // Ends a call: releases the node, where the pass doesn't keep it.
+    // Ends a call: releases the node, unless the pass keeps it.
     #[inline(always)]
-    fn leave(&self, seat: &mut Seat<Node<R>, Knows>, keeps: bool)
+    fn end_call(&self, seat: &mut Seat<Node<R>, SeatKnowledge>, keeps: bool)
         requires cell { seat.old.table_id ≡ self.now }
         requires kept { IsKept seat.old }
         ensures same_cell { seat.new.table_id ≡ seat.old.table_id }
@@ -334,8 +348,8 @@ impl<R: Recorder> NodeCell<R> {
         }
     }
 
-    // Releases a node that was kept.
-    fn settle(&self, seat: &mut Seat<Node<R>, Knows>, keeps: bool)
+    // Releases a node that is kept.
+    fn release_kept(&self, seat: &mut Seat<Node<R>, SeatKnowledge>, keeps: bool)
         requires cell { seat.old.table_id ≡ self.now }
         requires is { IsIn keeps seat.old }
         ensures same_cell { seat.new.table_id ≡ seat.old.table_id }
@@ -347,8 +361,8 @@ impl<R: Recorder> NodeCell<R> {
         }
     }
 
-    // How many pages are queued on a node that is kept.
-    fn queued(&self, seat: &mut Seat<Node<R>, Knows>) -> u32
+    // The number of queued pages of a node that is kept.
+    fn queued(&self, seat: &mut Seat<Node<R>, SeatKnowledge>) -> u32
         requires cell { seat.old.table_id ≡ self.now }
         requires kept { IsKept seat.old }
         ensures same { seat.new ≡ seat.old }
@@ -357,8 +371,8 @@ impl<R: Recorder> NodeCell<R> {
         Self::node(seat, self).queue_len()
     }
 
-    // The lock step: where no other pass has the node, the seat has the slot with it until `unlock`.
-    fn lock(&self, seat: &mut Seat<Node<R>, Knows>) -> bool
+    // The lock step: unless another pass has the node, the seat has the slot and the node in it until `unlock`.
+    fn lock(&self, seat: &mut Seat<Node<R>, SeatKnowledge>) -> bool
         requires cell { seat.old.table_id ≡ self.now }
         requires free { IsFree seat.old }
         ensures same_cell { seat.new.table_id ≡ seat.old.table_id }
@@ -368,8 +382,11 @@ impl<R: Recorder> NodeCell<R> {
         self.table.shared.fetch_or::<Lock>(seat, 0, 1) % 2 == 0
     }
 
-    // The node in the slot that the seat has, to be called in place. The seat stands first, since it is what lends.
-    fn node<'a>(seat: &'a mut Seat<Node<R>, Knows>, cell: &'a NodeCell<R>) -> &'a mut Node<R>
+    // The node in the seat's slot, to be called in place. The seat is the first argument, since it is what lends.
+    fn node<'a>(
+        seat: &'a mut Seat<Node<R>, SeatKnowledge>,
+        cell: &'a NodeCell<R>,
+    ) -> &'a mut Node<R>
         requires cell { seat.old.table_id ≡ cell.now }
         requires slot { HasSlot seat.old }
         ensures* writes_back { sem 𝓛 (lends_node R.row R.Recorder seat.entry result) }
@@ -378,13 +395,13 @@ impl<R: Recorder> NodeCell<R> {
         seat.slot_mut(&cell.table.shared, 0)
     }
 
-    // Ends the loan: tells the word the length of the queue, and lets the lock go.
-    fn unlock(&self, seat: &mut Seat<Node<R>, Knows>)
+    // Ends the loan: stores the length of the queue in the word, and clears the lock bit.
+    fn unlock(&self, seat: &mut Seat<Node<R>, SeatKnowledge>)
         requires cell { seat.old.table_id ≡ self.now }
         requires lent { IsLent seat.old }
         ensures same_cell { seat.new.table_id ≡ seat.old.table_id }
         ensures free { IsFree seat.new }
-        ensures now { (node : NodeState) → seat.old.me.1 ≡ (0, node) ∷ [] → seat.new.me ≡ (seen seat.old.me.0 false node.journal, []) }
+        ensures now { (node : NodeState) → seat.old.me.1 ≡ (0, node) ∷ [] → seat.new.me ≡ (seat_with_front seat.old.me.0 false node.journal, []) }
     {
         let word = 2 * u64::from(Self::node(seat, self).queue_len());
         self.table.shared.store::<Store>(seat, 0, word);

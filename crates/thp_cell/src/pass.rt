@@ -1,26 +1,26 @@
-//! What threads reach a node with.
+//! The passes with which threads call a node.
 ghost use Rattle.std.specs.Prelude.{◌≡◌, ◌<◌, ◌≤◌, min};
 ghost use Rattle.thp_model.specs.Limits.{max_order};
 ghost use Rattle.thp_model.specs.Legal.{IsLegal};
 
-use crate::rule::Knows;
+use crate::rule::SeatKnowledge;
 use atomic_table::Seat;
 use std::marker::Model;
 use thp_model::narrowed;
-use thp_node::{Kept, Node, Recorder};
+use thp_node::{FullLog, Node, Recorder};
 
-/// What a thread reaches the node of a cell with: some of the cell's callers.
+/// The right to call a cell's node as some of the cell's callers.
 ///
-/// Contracts see which cell it is of, its callers, whether it keeps the node between its calls, and its front: the history of
-/// the node that it knows of.
+/// Contracts see which cell the pass belongs to, its callers, whether it keeps the node between its calls, and its front: the
+/// history of the node that the pass knows.
 #[derive(Drop)]
-pub struct Pass<R: Recorder = Kept> {
-    // the callers: from `first` on and below `end`
+pub struct Pass<R: Recorder = FullLog> {
+    // the callers: the numbers from `first` to `end - 1`
     pub(crate) first: u32,
     pub(crate) end: u32,
     // whether the pass keeps the node between its calls
     pub(crate) keeps: bool,
-    pub(crate) seat: Seat<Node<R>, Knows>,
+    pub(crate) seat: Seat<Node<R>, SeatKnowledge>,
 }
 
 impl<R: Recorder> Model for Pass<R> {
@@ -35,11 +35,11 @@ impl<R: Recorder> Model for Pass<R> {
 }
 
 impl<R: Recorder> Pass<R> {
-    /// The callers of the pass: from the first of the two numbers on, and below the second.
+    /// Returns the callers of the pass: from the first number on, and below the second.
     pub fn callers(&self) -> (u32, u32)
         ensures first { result.0 ≡ self.now.first }
         ensures end { result.1 ≡ self.now.end }
-        // what is so of every pass
+        // properties of every pass
         ensures some { self.now.first < self.now.end }
         ensures inside { self.now.end ≤ self.now.callers }
         ensures legal { IsLegal self.now.shape self.now.front }
@@ -48,26 +48,26 @@ impl<R: Recorder> Pass<R> {
         (self.first, self.end)
     }
 
-    // The operands of a range as a page call keeps them.
+    // Converts the operands of a range to those of a page call.
     #[inline(always)]
     pub(crate) fn operands(&self, first: u32, count: u32) -> (u16, u16)
         ensures first { result.0 ≡ min first 65535 }
         ensures count { result.1 ≡ min count 65535 }
         ensures low { self.now.shape.order ≤ max_order }
     {
-        // Tells the proof of what order the pages are at most.
+        // Shows the proof the greatest order of the pages.
         let _ = self.callers();
         (narrowed(first), narrowed(count))
     }
 }
 
-/// A pass that has the node, which no other pass can reach meanwhile. It is spent by `NodeCell::release` alone, which gives a
-/// pass that doesn't keep the node.
-pub struct Hold<R: Recorder = Kept> {
-    // the callers: from `first` on and below `end`
+/// A pass that has locked the node: no other pass can call it. Only `NodeCell::release` consumes it, and returns a pass that does
+/// not keep the node.
+pub struct Hold<R: Recorder = FullLog> {
+    // the callers: the numbers from `first` to `end - 1`
     pub(crate) first: u32,
     pub(crate) end: u32,
-    pub(crate) seat: Seat<Node<R>, Knows>,
+    pub(crate) seat: Seat<Node<R>, SeatKnowledge>,
 }
 
 impl<R: Recorder> Model for Hold<R> {

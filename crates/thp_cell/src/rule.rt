@@ -1,5 +1,5 @@
-//! What the table of a cell is told: what its seats know, the rule that holds between any two steps, and what each kind of
-//! step tells its seat. The definitions stand in `specs/Rule.antt` and `specs/Steps.antt`.
+//! The instance of the lock-free table that a cell uses: what its seats know, the rule that holds between any two steps, and what
+//! each kind of step adds to a seat. The definitions are in `specs/Rule.antt` and `specs/Steps.antt`.
 ghost use Rattle.std.specs.Prelude.{ℕ};
 
 use atomic_table::{Join, Play, Split, TableRule};
@@ -9,52 +9,58 @@ use std::snapshot::Snapshot;
 use thp_model::{Event, Shape};
 use thp_node::{Node, Recorder};
 
-/// The front of a seat before it was joined, and its callers. No value of it is made.
+/// The front and the callers of a seat before it was joined. No value of this type is created.
 pub struct OldFront {
+    /// The first of the callers.
     pub first: u32,
+    /// The number after the last of the callers.
     pub end: u32,
+    /// The history that the seat knew.
     pub front: LinkedList<Event>,
 }
 
-/// What a seat knows. No value of it is made.
-pub struct Knows {
-    /// How many callers the cell has.
+/// What a seat knows. No value of this type is created.
+pub struct SeatKnowledge {
+    /// The number of the cell's callers.
     pub callers: u32,
-    /// The shape of its node.
+    /// The shape of the cell's node.
     pub shape: Shape,
-    /// The seat's own callers: from `first` on and below `end`. A seat with none is spent.
+    /// The first of the seat's own callers, which are below `end`. A seat with none is spent.
     pub first: u32,
+    /// The number after the last of the seat's callers.
     pub end: u32,
     /// Whether the seat has the slot, and the node in it.
     pub has_node: bool,
-    /// The history that the seat knows of.
+    /// The history that the seat knows.
     pub front: LinkedList<Event>,
-    /// What a join put together, until the load after it.
+    /// The fronts that a join has joined, until the load after it.
     pub old_fronts: LinkedList<OldFront>,
 }
 
-/// What the table is told when it is made: how many callers there are, and the node.
+/// The parameters of a new table: the number of callers, and the node.
 #[derive(Drop)]
 pub struct Key<R: Recorder> {
+    /// The number of the cell's callers.
     pub callers: u32,
+    /// The node, as it was when the table was created.
     pub node: Snapshot<Node<R>>,
 }
 
 /// The rule of a cell.
 pub struct CellRule;
 
-impl<R: Recorder> TableRule<Node<R>, Knows, Key<R>> for CellRule {
-    ghost use Rattle.thp_cell.specs.Rule.{Kept, root};
+impl<R: Recorder> TableRule<Node<R>, SeatKnowledge, Key<R>> for CellRule {
+    ghost use Rattle.thp_cell.specs.Rule.{RuleHolds, root};
 
-    ghost holds = { λ key. Kept key.callers key.node.value.shape };
+    ghost holds = { λ key. RuleHolds key.callers key.node.value.shape };
 
     ghost first = { λ key. root key.callers key.node.value };
 }
 
-/// The lock step: it finds the bit clear and takes the slot, or finds it set.
+/// The lock step: finds the bit clear and takes the slot, or finds it set.
 pub struct Lock;
 
-impl<R: Recorder> Play<Node<R>, Knows> for Lock {
+impl<R: Recorder> Play<Node<R>, SeatKnowledge> for Lock {
     ghost use Rattle.thp_cell.specs.Steps.{Locked};
 
     ghost then = { Locked };
@@ -63,7 +69,7 @@ impl<R: Recorder> Play<Node<R>, Knows> for Lock {
 /// The store that ends a hold.
 pub struct Store;
 
-impl<R: Recorder> Play<Node<R>, Knows> for Store {
+impl<R: Recorder> Play<Node<R>, SeatKnowledge> for Store {
     ghost use Rattle.thp_cell.specs.Steps.{Stored};
 
     ghost then = { Stored };
@@ -72,7 +78,7 @@ impl<R: Recorder> Play<Node<R>, Knows> for Store {
 /// The load of a count.
 pub struct Count;
 
-impl<R: Recorder> Play<Node<R>, Knows> for Count {
+impl<R: Recorder> Play<Node<R>, SeatKnowledge> for Count {
     ghost use Rattle.thp_cell.specs.Steps.{Counted};
 
     ghost then = { Counted };
@@ -81,13 +87,13 @@ impl<R: Recorder> Play<Node<R>, Knows> for Count {
 /// The load after a join.
 pub struct Look;
 
-impl<R: Recorder> Play<Node<R>, Knows> for Look {
+impl<R: Recorder> Play<Node<R>, SeatKnowledge> for Look {
     ghost use Rattle.thp_cell.specs.Steps.{Looked};
 
     ghost then = { Looked };
 }
 
-/// Where a seat is split. Each call picks it.
+/// The caller at which a seat is split. Each call chooses it.
 pub trait Cut {
     ghost at: { ℕ };
 }
@@ -101,7 +107,7 @@ pub struct SplitAt<C: Cut> {
     cut: PhantomData<C>,
 }
 
-impl<C: Cut> Split<Knows> for SplitAt<C> {
+impl<C: Cut> Split<SeatKnowledge> for SplitAt<C> {
     ghost use Rattle.thp_cell.specs.Steps.{left_of, right_of};
 
     ghost left = { left_of C.at };
@@ -112,7 +118,7 @@ impl<C: Cut> Split<Knows> for SplitAt<C> {
 /// The join of two seats.
 pub struct Both;
 
-impl Join<Knows> for Both {
+impl Join<SeatKnowledge> for Both {
     ghost use Rattle.thp_cell.specs.Steps.{joined, spent};
 
     ghost both = { joined };

@@ -46,7 +46,7 @@ module _ (s : Shape) (h : History) (c : ℕ) where
   in_use (Pinned p) e = e.0
   in_use w e = absurd e
 
-  worth : (w : What) → ExplainsBy s h c w misfit.Worth → pins h (page_of w) ≢ 0 → Fits s h (by c (Pinned (page_of w)))
+  worth : (w : What) → ExplainsBy s h c w misfit.WorthSplit → pins h (page_of w) ≢ 0 → Fits s h (by c (Pinned (page_of w)))
   worth (Used p) e pinned = (e.0, positive (pins h p) pinned, e.1)
   worth w e pinned = absurd e
 
@@ -63,22 +63,22 @@ module _ (s : Shape) (h : History) (c : ℕ) where
   first (Dropped q) p e = first_leaves p (sym e.0)
   first w p e = absurd e
 
-  drops : (w : What) → ExplainsBy s h c w misfit.Drops → Fits s h (by c (Dropped (page_of w)))
+  drops : (w : What) → ExplainsBy s h c w misfit.MustDrop → Fits s h (by c (Dropped (page_of w)))
   drops (Back p) e = e
   drops w e = absurd e
 
-  goes_back : (w : What) → ExplainsBy s h c w misfit.GoesBack → Fits s h (by c (Back (page_of w)))
+  goes_back : (w : What) → ExplainsBy s h c w misfit.MustRequeue → Fits s h (by c (Back (page_of w)))
   goes_back (Dropped p) e = let k = kept (is_closed h) (is_partly_mapped s h p) e.1 in (e.0, k.0, k.1)
   goes_back w e = absurd e
 
 pub fits_in_place : (s : Shape) (h : History) (c : ℕ) (w : What) (m : Misfit) → ExplainsBy s h c w m → FitsInPlace s h c w m
 fits_in_place s h c w (misfit.Outcome o set) e = by_outcome s h c w o set e
 fits_in_place s h c w misfit.InUse e = in_use s h c w e
-fits_in_place s h c w misfit.Worth e = worth s h c w e
+fits_in_place s h c w misfit.WorthSplit e = worth s h c w e
 fits_in_place s h c w misfit.HasPins e = has_pins s h c w e
 fits_in_place s h c w misfit.NoPins e = no_pins s h c w e
 fits_in_place s h c w (misfit.Released set) e = by_frames s h c w set e
 fits_in_place s h c w (misfit.First (Some p)) e = first s h c w p e
-fits_in_place s h c w misfit.Drops e = drops s h c w e
-fits_in_place s h c w misfit.GoesBack e = goes_back s h c w e
+fits_in_place s h c w misfit.MustDrop e = drops s h c w e
+fits_in_place s h c w misfit.MustRequeue e = goes_back s h c w e
 fits_in_place s h c w m e = tt

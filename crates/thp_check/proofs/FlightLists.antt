@@ -346,8 +346,8 @@ module _ (cs : List ℕ) (ls : List (List ℕ)) (links : List Link) (m : AreLink
   unfolding blocks_in
   all_passed k past = ap (filter is_its) (take_all its_list k (omega (arith, past, ap (λ (ys : List ℕ). length ys) list_is)))
 
-  pub next_behind : (k b v : ℕ) → b ≡ get_or its_list k NIL → k < length xs → IfSome (slice_get links b) (λ l. v ≡ l.next) → v ≡ get_or its_list (k + 1) NIL
-  next_behind k b v next below told =
+  pub next_after : (k b v : ℕ) → b ≡ get_or its_list k NIL → k < length xs → IfSome (slice_get links b) (λ l. v ≡ l.next) → v ≡ get_or its_list (k + 1) NIL
+  next_after k b v next below told =
       let P : Option Link → Type 0 = λ o. IfSome o (λ l. v ≡ l.next) in
       let ys : List ℕ = list_at ls (c % 64) in
       let w = next_at links NIL ys k (m.each_stands (c % 64)).segment (omega (arith, below, ap (λ (zs : List ℕ). length zs) read)) in

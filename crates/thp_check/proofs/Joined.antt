@@ -16,9 +16,9 @@ pub caller_line : (t words : List ℕ) (c : ℕ) → t ++ codes "caller " ++ dec
 caller_line t words c = simp append_assoc
 
 -- a flight behind a page
-pub flight_behind : (t t1 t2 t3 words bytes : List ℕ) (p n c m : ℕ) → t1 ≡ t ++ codes "page " → n ≡ p → t2 ≡ t1 ++ decimal n ++ 32 ∷ [] → bytes ≡ words → t3 ≡ t2 ++ bytes → m ≡ c →
+pub flight_after : (t t1 t2 t3 words bytes : List ℕ) (p n c m : ℕ) → t1 ≡ t ++ codes "page " → n ≡ p → t2 ≡ t1 ++ decimal n ++ 32 ∷ [] → bytes ≡ words → t3 ≡ t2 ++ bytes → m ≡ c →
     t3 ++ ended (codes " the flight of caller " ++ decimal m) ≡ t ++ ended (in_flight_of p words c)
-flight_behind t t1 t2 t3 words bytes p n c m e1 same e2 is e3 caller = rw (e3, e2, e1, is, same, caller) (simp append_assoc)
+flight_after t t1 t2 t3 words bytes p n c m e1 same e2 is e3 caller = rw (e3, e2, e1, is, same, caller) (simp append_assoc)
 
 -- all pieces of an explanation
 pub whole : (t number line expected why : List ℕ) →

@@ -28,7 +28,7 @@ use Rattle.thp_model.specs.declared.page_call.Loss.TheVariants as loss
 use Rattle.thp_live_pages.specs.Holding.{IsSlot}
 use Rattle.thp_live_pages.specs.Homes.{standing_of}
 use Rattle.thp_model.specs.PageCalls.{gain_call, loss_call, gain_what, loss_what}
-use Rattle.thp_live_pages.specs.PlacesState.{PlacesState, Lost, batch_of, left_by}
+use Rattle.thp_live_pages.specs.PageStoreState.{PageStoreState, Lost, batch_of, left_by}
 use Rattle.thp_live_pages.proofs.Homing.{Homed}
 use Rattle.thp_live_pages.proofs.PageEvents.{ByOutcome, by_outcome, tallies_loss, outcome_told}
 use Rattle.thp_live_pages.proofs.Standings.{standing_flying}
@@ -64,7 +64,7 @@ loss_gives s h c p (loss.UnmapSub first n) o r f = f.1
 loss_gives s h c p loss.Unpin o r f = f.1
 
 -- an event of that loss that fits tells no other outcome and no other frames
-pub loss_told : (s : Shape) (h : History) (c b : ℕ) (x : Slot) (l : Loss) (closed : Bool) (old new : PlacesState) (done : Done) (left : Option ℕ) (o : Outcome) (set : List Bool) → Homed s h → IsSlot s h b x →
+pub loss_told : (s : Shape) (h : History) (c b : ℕ) (x : Slot) (l : Loss) (closed : Bool) (old new : PageStoreState) (done : Done) (left : Option ℕ) (o : Outcome) (set : List Bool) → Homed s h → IsSlot s h b x →
     closed ≡ is_closed h → Lost l closed x old new b done left → Fits s h (by c (loss_what l x.id o set)) → (o ≡ done.outcome) × (set ≡ done.released)
 loss_told s h c b x l closed old new done left o set homed was shut lost f =
     let w : What = loss_what l x.id o set in
@@ -99,7 +99,7 @@ freed_leaves s h p d sound =
         both false = e
 
 -- the flights after a loss
-pub loss_flight : (s : Shape) (h : History) (c b : ℕ) (x : Slot) (l : Loss) (closed : Bool) (old new : PlacesState) (done : Done) (left : Option ℕ) (r : List Bool) (d : ℕ) → Homed s h → IsSlot s h b x →
+pub loss_flight : (s : Shape) (h : History) (c b : ℕ) (x : Slot) (l : Loss) (closed : Bool) (old new : PageStoreState) (done : Done) (left : Option ℕ) (r : List Bool) (d : ℕ) → Homed s h → IsSlot s h b x →
     Lost l closed x old new b done left → flight (h ++ by c (loss_what l x.id done.outcome r) ∷ []) d ≡ flight_left left x.id d (flight h d)
 loss_flight s h c b x l closed old new done left r d homed was lost =
     loss_flight_by h c x.id l done.outcome r d ∙ go done.outcome ∙ ap (λ o. flight_left o x.id d (flight h d)) (sym (lost.left_is ∙ ap (left_by done.outcome) was.stands)) where

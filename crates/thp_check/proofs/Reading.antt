@@ -7,7 +7,7 @@ use Rattle.thp_model.specs.History.{History}
 use Rattle.thp_model.specs.Places.{queue}
 use Rattle.thp_page.specs.Slots.{slot_at}
 use Rattle.thp_live_pages.specs.Homes.{block_of}
-use Rattle.thp_live_pages.specs.PlacesState.{AtSlot}
+use Rattle.thp_live_pages.specs.PageStoreState.{AtSlot}
 use Rattle.thp_live_pages.proofs.Admitting.{Found, at_home}
 use Rattle.thp_check.specs.declared.node_state.NodeState.{NodeState}
 use Rattle.thp_check.specs.Meanings.{Means}

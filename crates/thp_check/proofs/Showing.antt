@@ -25,7 +25,7 @@ use Rattle.thp_page.specs.Table.{Slot, Table}
 use Rattle.thp_live_pages.specs.Holding.{IsNode, Fills}
 use Rattle.thp_live_pages.specs.Homes.{block_of}
 use Rattle.thp_live_pages.specs.FreeChains.{Relinks}
-use Rattle.thp_live_pages.specs.PlacesState.{AtSlot, PlacesState}
+use Rattle.thp_live_pages.specs.PageStoreState.{AtSlot, PageStoreState}
 use Rattle.thp_live_pages.proofs.Admitting.{Found, found, at_home, not_live}
 use Rattle.thp_live_pages.proofs.Homing.{Homed, legal_homed, block_free, block_taken}
 use Rattle.thp_live_pages.proofs.Looking.{node_read}
@@ -33,7 +33,7 @@ use Rattle.thp_live_pages.proofs.Relinking.{page_there}
 use Rattle.thp_check.specs.declared.node_state.NodeState.{NodeState}
 use Rattle.thp_check.specs.Meanings.{Means}
 use Rattle.thp_check.specs.Showing.{is_taken, page_at, number_or_0}
-use Rattle.thp_check.specs.Totals.{IsUnsaid}
+use Rattle.thp_check.specs.Totals.{IsContext}
 use Rattle.thp_check.proofs.FlightBlocks.{LieIn}
 
 -- two lists that begin alike
@@ -148,7 +148,7 @@ unseen s h r m u same p none =
 
 -- what is unsaid of a page that is split
 pub unsaid_there : (s : Shape) (h : History) (r : NodeState) → Means s h r → (p b : ℕ) (set : List Bool) → HoldsPage (slot_at r.places.table b) p → (n : ℕ) (partly : Bool) →
-    AtSlot r.places.table b (λ x. n ≡ x.page.whole) → AtSlot r.places.table b (λ x. partly ≡ x.page.partly) → IsUnsaid s h (Split p set) (record { mappings = n; underused = not partly })
+    AtSlot r.places.table b (λ x. n ≡ x.page.whole) → AtSlot r.places.table b (λ x. partly ≡ x.page.partly) → IsContext s h (Split p set) (record { mappings = n; underused = not partly })
 unsaid_there s h r m p b set held n partly count part =
     let w : Found s h r.places.table p b = found s h r.places.table r.places.queue p b m.kept.node held in (
       count w.slot w.at ∙ sym (whole_is s h w.slot.id w.slot.page w.is.tallies) ∙ ap (whole h) w.id_is,
@@ -169,7 +169,7 @@ held_unsplit t n e f = set_of-ext (λ i. nat_lt i (2 ^ n)) (holds t) (λ i l. rw
   go false = refl
 
 -- those in use, but for the zero-filled ones where their frames were given back
-pub held_split : (t : PageState) (used filled : List Bool) → used ≡ used_set t → filled ≡ zero_set t → t.split ≡ true → t.gave_zero ≡ true → set_of (λ i. has used i && not (has filled i)) ≡ set_of (holds t)
+pub held_split : (t : PageState) (used filled : List Bool) → used ≡ used_set t → filled ≡ zero_set t → t.split ≡ true → t.freed_zero_frames ≡ true → set_of (λ i. has used i && not (has filled i)) ≡ set_of (holds t)
 held_split t used filled e f g k =
     set_of-ext (λ i. has used i && not (has filled i)) (holds t)
     (λ i l.
@@ -179,7 +179,7 @@ held_split t used filled e f g k =
       go a b true y z s v d e g k = rw (d, e, g, k) refl
       go a b false y z s v d e g k = rw d refl
 
-pub held_used : (t : PageState) (used : List Bool) → used ≡ used_set t → t.split ≡ true → t.gave_zero ≡ false → used ≡ set_of (holds t)
+pub held_used : (t : PageState) (used : List Bool) → used ≡ used_set t → t.split ≡ true → t.freed_zero_frames ≡ false → used ≡ set_of (holds t)
 held_used t used e g k =
     e
     ∙ set_of-ext (λ i. nat_lt i (size t) && nat_lt 0 (total_at t i)) (holds t)
@@ -255,7 +255,7 @@ if_ok_then (Ok x) P Q f p = f x p
 if_ok_then (Err e) P Q f p = p
 
 -- a replay whose links were read means what it meant
-pub means_read : (s : Shape) (h : History) (r : NodeState) (p : PlacesState) (most : ℕ) → Means s h r → Relinks r.places p most → Means s h (record r { places = p })
+pub means_read : (s : Shape) (h : History) (r : NodeState) (p : PageStoreState) (most : ℕ) → Means s h r → Relinks r.places p most → Means s h (record r { places = p })
 means_read s h r p most m same = record {
   kept = record {
     shape_is = m.kept.shape_is;

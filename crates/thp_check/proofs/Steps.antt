@@ -23,7 +23,7 @@ use Rattle.thp_model.proofs.Pushes.{count_same, count_more, some_same, some_even
 use Rattle.thp_page.specs.Slots.{slot_at, HoldsPage}
 use Rattle.thp_page.specs.Table.{Slot}
 use Rattle.thp_model.specs.declared.page_call.Done.{Done}
-use Rattle.thp_live_pages.specs.PlacesState.{PlacesState, AtSlot, Edits, Lost, Placed}
+use Rattle.thp_live_pages.specs.PageStoreState.{PageStoreState, AtSlot, Edits, Lost, Placed}
 use Rattle.thp_live_pages.specs.Holding.{IsNode}
 use Rattle.thp_live_pages.proofs.Admitting.{Found, found, not_live}
 use Rattle.thp_live_pages.proofs.Closing.{allowed_alloc, allowed_close, next_is_new}
@@ -160,7 +160,7 @@ module _ (s : Shape) (h : History) (c p b : ℕ) (old : NodeState) (m : Means s 
       subst (λ t. P p o t) given (subst (λ u. P p u done.released) same (subst (λ q. P q done.outcome done.released) there.id_is here))
 
   -- where the event fits, it tells what came of the page
-  pub loss_tells : (l : Loss) (o : Outcome) (set : List Bool) (new : PlacesState) (done : Done) (left : Option ℕ) →
+  pub loss_tells : (l : Loss) (o : Outcome) (set : List Bool) (new : PageStoreState) (done : Done) (left : Option ℕ) →
       AtSlot old.places.table b (λ x. Lost l old.closed x old.places new b done left) → Fits s h (by c (loss_what l p o set)) → (done.outcome ≡ o) × (done.released ≡ set)
   loss_tells l o set new done left did f =
       let x : Slot = there.slot in
@@ -169,7 +169,7 @@ module _ (s : Shape) (h : History) (c p b : ℕ) (old : NodeState) (m : Means s 
       (sym w.0, sym w.1)
 
   -- an event that tells otherwise would fit with what came of the page
-  pub loss_differs : (l : Loss) (o : Outcome) (set : List Bool) (new : PlacesState) (done : Done) (left : Option ℕ) → ((x : Slot) → slot_at old.places.table b ≡ Some x → (q : ℕ) → None ≡ page_refusal x.page (loss_call l q)) →
+  pub loss_differs : (l : Loss) (o : Outcome) (set : List Bool) (new : PageStoreState) (done : Done) (left : Option ℕ) → ((x : Slot) → slot_at old.places.table b ≡ Some x → (q : ℕ) → None ≡ page_refusal x.page (loss_call l q)) →
       AtSlot old.places.table b (λ x. Lost l old.closed x old.places new b done left) → ((done.outcome ≡ o) × (done.released ≡ set) → ⊥) → IsMisfit s h (by c (loss_what l p o set)) (misfit.Outcome done.outcome done.released)
   loss_differs l o set new done left refuses did other =
       let x : Slot = there.slot in
@@ -234,7 +234,7 @@ filled_use s h b old m taken inside = go (slot_at old.places.table b) refl (take
   go (Some x) e y = block_taken s h x.id b (legal_homed s h m.kept.node.legal) (slot_is s h old.places.table old.places.queue b x m.kept.node e).home
 
 pub alloc_taken : (s : Shape) (h : History) (c p b : ℕ) (old : NodeState) → Means s h old → old.closed ≡ false → p ≡ old.next → (b < length old.places.table.slots → IsSome (slot_at old.places.table b)) →
-    IsMisfit s h (by c (what.Alloc p b)) misfit.Block
+    IsMisfit s h (by c (what.Alloc p b)) misfit.BlockTaken
 alloc_taken s h c p b old m unclosed number taken = (
   λ f. no_both (block_in_use h b) f.free (filled_use s h b old m taken f.inside),
   (sym m.kept.closed_is ∙ unclosed, number ∙ m.kept.next_is, filled_use s h b old m taken),
@@ -246,7 +246,7 @@ pub close_goes : (s : Shape) (h : History) (c : ℕ) (old new : NodeState) → M
 close_goes s h c old new m unclosed shape pages fs next closed =
     let e : Event = by c what.Close in
     let fits : Fits s h e = allowed_close s h (sym m.kept.closed_is ∙ unclosed) in
-    let P : PlacesState → Type 0 = λ k. IsNode s (h ++ e ∷ []) k.table k.queue in (
+    let P : PageStoreState → Type 0 = λ k. IsNode s (h ++ e ∷ []) k.table k.queue in (
       fits,
       record {
         low = m.kept.low;

@@ -10,7 +10,7 @@ use Rattle.thp_model.specs.declared.shape.Shape.{Shape}
 use Rattle.thp_model.specs.History.{History, by}
 use Rattle.thp_model.specs.Counts.{is_live, pins}
 use Rattle.thp_model.specs.Legal.{Fits, FitsTaken, FitsSplit, IsLegal, is_dropped}
-use Rattle.thp_model.specs.Pages.{PageState, PageSplit, gives_frames, is_worth}
+use Rattle.thp_model.specs.Pages.{PageState, PageSplit, gives_frames, is_split_candidate}
 use Rattle.thp_model.specs.Places.{queue, flight, has_page, no_pages, is_taking}
 use Rattle.thp_model.specs.Underused.{is_worth_split, shrinks_underused}
 use Rattle.thp_model.proofs.Flights.{flight_push}
@@ -22,7 +22,7 @@ use Rattle.thp_page.specs.declared.standing.Standing.{Standing}
 use Rattle.thp_page.specs.declared.standing.Standing.TheVariants.{Nowhere, Queued, Batch}
 use Rattle.thp_page.specs.Slots.{slot_at, HoldsPage}
 use Rattle.thp_page.specs.Table.{Slot}
-use Rattle.thp_live_pages.specs.PlacesState.{AtSlot, PlacesState, Edits, IsElsewhere, Lost, TakesFirst, left_by}
+use Rattle.thp_live_pages.specs.PageStoreState.{AtSlot, PageStoreState, Edits, IsElsewhere, Lost, TakesFirst, left_by}
 use Rattle.thp_live_pages.specs.Flying.{IsFlyingAt}
 use Rattle.thp_live_pages.specs.Holding.{IsSlot}
 use Rattle.thp_live_pages.specs.Homes.{block_of, standing_of}
@@ -76,7 +76,7 @@ take_goes s h c p b old new m held may took fs size shape next closed =
       longer d false home = m.kept.flying d
 
 -- a block in which the oldest page lies is in no flight
-pub oldest_apart : (s : Shape) (h : History) (c p b : ℕ) (old : NodeState) (new : PlacesState) → Means s h old → HoldsPage (slot_at old.places.table b) p → TakesFirst old.places new c p →
+pub oldest_apart : (s : Shape) (h : History) (c p b : ℕ) (old : NodeState) (new : PageStoreState) → Means s h old → HoldsPage (slot_at old.places.table b) p → TakesFirst old.places new c p →
     (d : ℕ) → Contains (blocks_in old.flights d) b → ⊥
 oldest_apart s h c p b old new m held took d i =
     let homed : Homed s h = legal_homed s h m.kept.node.legal in
@@ -94,7 +94,7 @@ pub same_some : (a b : ℕ) → Some a ≡ Some b → a ≡ b
 same_some a b e = cc
 
 -- another page than the oldest, and a take where there is none
-pub take_other : (s : Shape) (h : History) (c p first : ℕ) (old : NodeState) (new : PlacesState) → Means s h old → TakesFirst old.places new c first → first ≢ p →
+pub take_other : (s : Shape) (h : History) (c p first : ℕ) (old : NodeState) (new : PageStoreState) → Means s h old → TakesFirst old.places new c first → first ≢ p →
     IsMisfit s h (by c (what.Taken p)) (misfit.Oldest (Some first))
 take_other s h c p first old new m took other =
     let oldest = first_is s h c old.places new first (legal_homed s h m.kept.node.legal) m.kept.node took in
@@ -106,14 +106,14 @@ take_none s h c p old m none =
     (λ f. let there = f.oldest in absurd (cc), (sym empty, λ e. absurd (cc)))
 
 -- a take by a caller who may not take
-pub take_busy : (s : Shape) (h : History) (c p : ℕ) (old : NodeState) (new : PlacesState) → Means s h old → TakesFirst old.places new c p → (no_pages (blocks_in old.flights c) || is_taker old.taker c) ≡ false →
+pub take_busy : (s : Shape) (h : History) (c p : ℕ) (old : NodeState) (new : PageStoreState) → Means s h old → TakesFirst old.places new c p → (no_pages (blocks_in old.flights c) || is_taker old.taker c) ≡ false →
     IsMisfit s h (by c (what.Taken p)) misfit.HasBatch
 take_busy s h c p old new m took may =
     let busy = sym (may_is s h c old m) ∙ may in
     (λ f. no_both _ busy f.may_take, (first_is s h c old.places new p (legal_homed s h m.kept.node.legal) m.kept.node took, busy))
 
 -- the block of the oldest page is the first of the queue
-pub oldest_held : (old new : PlacesState) (c p b : ℕ) → TakesFirst old new c p → slice_get old.queue 0 ≡ Some b → HoldsPage (slot_at old.table b) p
+pub oldest_held : (old new : PageStoreState) (c p b : ℕ) → TakesFirst old new c p → slice_get old.queue 0 ≡ Some b → HoldsPage (slot_at old.table b) p
 oldest_held old new c p b took first =
     let P : Option Slot → Type 0 = λ o. HoldsPage o p in
     let same : took.block ≡ b = same_some took.block b (sym took.first ∙ first) in
@@ -218,22 +218,22 @@ module _ (s : Shape) (h : History) (c p b : ℕ) (old : NodeState) (m : Means s 
       ∙ ap (map (λ n. Some n)) (sym (fs d))
 
   -- whether it is worth a split, and what a split does, by the shape
-  worth_at : (x : Bool) → is_worth old.shape.underused at.slot.page ≡ x → is_worth s.underused at.slot.page ≡ x
-  worth_at x e = ap (λ (z : Shape). is_worth z.underused at.slot.page) (sym m.kept.shape_is) ∙ e
+  worth_at : (x : Bool) → is_split_candidate old.shape.underused at.slot.page ≡ x → is_split_candidate s.underused at.slot.page ≡ x
+  worth_at x e = ap (λ (z : Shape). is_split_candidate z.underused at.slot.page) (sym m.kept.shape_is) ∙ e
 
-  worth_as : is_worth old.shape.underused at.slot.page ≡ is_worth_split s h p
+  worth_as : is_split_candidate old.shape.underused at.slot.page ≡ is_worth_split s h p
   worth_as = sym (worth_at _ refl) ∙ worth_is s h at.slot.id at.slot.page slot.tallies ∙ ap (is_worth_split s h) at.id_is
 
-  worthy : is_worth old.shape.underused at.slot.page ≡ true → is_worth_split s h p ≡ true
+  worthy : is_split_candidate old.shape.underused at.slot.page ≡ true → is_worth_split s h p ≡ true
   worthy e = sym worth_as ∙ e
 
-  worthless : is_worth old.shape.underused at.slot.page ≡ false → is_worth_split s h p ≡ false
+  worthless : is_split_candidate old.shape.underused at.slot.page ≡ false → is_worth_split s h p ≡ false
   worthless e = sym worth_as ∙ e
 
   splits : (page : PageState) → PageSplit (shrinks_underused old.shape) at.slot.page page → PageSplit (shrinks_underused s) at.slot.page page
   splits page how = let P : Shape → Type 0 = λ z. PageSplit (shrinks_underused z) at.slot.page page in subst P m.kept.shape_is how
 
-  pub split_goes : (set : List Bool) (new : NodeState) (page : PageState) → PageSplit (shrinks_underused old.shape) at.slot.page page → is_worth old.shape.underused at.slot.page ≡ true → at.slot.page.pins ≡ 0 → set ≡ gives_frames at.slot.page page →
+  pub split_goes : (set : List Bool) (new : NodeState) (page : PageState) → PageSplit (shrinks_underused old.shape) at.slot.page page → is_split_candidate old.shape.underused at.slot.page ≡ true → at.slot.page.pins ≡ 0 → set ≡ gives_frames at.slot.page page →
       Edits old.places new.places b (Some (record at.slot { page = page; standing = Nowhere })) old.places.queue 0 → ((d : ℕ) → blocks_in new.flights d ≡ flight_left (Some c) b d (blocks_in old.flights d)) → length new.flights.callers ≡ length old.flights.callers →
       new.shape ≡ old.shape → new.next ≡ old.next → new.closed ≡ old.closed → Fits s h (by c (what.Split p set)) × Keeps s (h ++ by c (what.Split p set) ∷ []) new
   split_goes set new page how worth none is did fs size shape next closed =
@@ -255,20 +255,20 @@ module _ (s : Shape) (h : History) (c p b : ℕ) (old : NodeState) (m : Means s 
       ∙ released_alive s h (h ++ e ∷ []) at.slot.id at.slot.page page slot.tallies (tallies_split s h c at.slot.id set at.slot.page page slot.tallies (splits page how)) live (live_stays h e at.slot.id refl refl ∙ live))
 
   -- an event that tells other frames would fit with these
-  pub split_differs : (set : List Bool) (page : PageState) (given : List Bool) → PageSplit (shrinks_underused old.shape) at.slot.page page → is_worth old.shape.underused at.slot.page ≡ true → at.slot.page.pins ≡ 0 →
+  pub split_differs : (set : List Bool) (page : PageState) (given : List Bool) → PageSplit (shrinks_underused old.shape) at.slot.page page → is_split_candidate old.shape.underused at.slot.page ≡ true → at.slot.page.pins ≡ 0 →
       given ≡ gives_frames at.slot.page page → given ≢ set → IsMisfit s h (by c (what.Split p set)) (misfit.Released given)
   split_differs set page given how worth none is other =
       let fits : Fits s h (by c (what.Split at.slot.id given)) = (split_fits s h c b at.slot old.places old.places homed m.kept.node at.at at.stands page given (splits page how) (worth_at true worth) none is).1 in
       let P : ℕ → Type 0 = λ q. Fits s h (by c (what.Split q given)) in
       (λ f. other (is ∙ split_tells set page how f), (subst P at.id_is fits, λ e. other (cc)))
 
-  pub split_pinned : (set : List Bool) → is_worth old.shape.underused at.slot.page ≡ true → at.slot.page.pins ≢ 0 → IsMisfit s h (by c (what.Split p set)) misfit.HasPins
+  pub split_pinned : (set : List Bool) → is_split_candidate old.shape.underused at.slot.page ≡ true → at.slot.page.pins ≢ 0 → IsMisfit s h (by c (what.Split p set)) misfit.HasPins
   split_pinned set worth some = (λ f. some (sym pinned_as ∙ f.unpinned), ((flies, worthy worth), λ e. some (sym pinned_as ∙ e)))
 
-  pub split_idle : (set : List Bool) → is_worth old.shape.underused at.slot.page ≡ false → IsMisfit s h (by c (what.Split p set)) misfit.InUse
+  pub split_idle : (set : List Bool) → is_split_candidate old.shape.underused at.slot.page ≡ false → IsMisfit s h (by c (what.Split p set)) misfit.InUse
   split_idle set idle = (λ f. no_both _ (worthless idle) f.worth, (flies, worthless idle))
 
-  pub pinned_goes : is_worth old.shape.underused at.slot.page ≡ true → at.slot.page.pins ≢ 0 → Fits s h (by c (what.Pinned p)) × Keeps s (h ++ by c (what.Pinned p) ∷ []) old
+  pub pinned_goes : is_split_candidate old.shape.underused at.slot.page ≡ true → at.slot.page.pins ≢ 0 → Fits s h (by c (what.Pinned p)) × Keeps s (h ++ by c (what.Pinned p) ∷ []) old
   pinned_goes worth some =
       let e : Event = by c (what.Pinned at.slot.id) in
       let fits : Fits s h e = (pinned_fits s h c b at.slot old.places old.places homed m.kept.node at.at at.stands at.slot.page.pins (worth_at true worth) refl (omega (arith, some))).1 in
@@ -279,10 +279,10 @@ module _ (s : Shape) (h : History) (c p b : ℕ) (old : NodeState) (m : Means s 
   pub pinned_not : at.slot.page.pins ≡ 0 → IsMisfit s h (by c (what.Pinned p)) misfit.NoPins
   pinned_not none = (λ f. omega (arith, f.1, pinned_as, none), (flies, pinned_as ∙ none))
 
-  pub pinned_idle : is_worth old.shape.underused at.slot.page ≡ false → at.slot.page.pins ≢ 0 → IsMisfit s h (by c (what.Pinned p)) misfit.InUse
+  pub pinned_idle : is_split_candidate old.shape.underused at.slot.page ≡ false → at.slot.page.pins ≢ 0 → IsMisfit s h (by c (what.Pinned p)) misfit.InUse
   pinned_idle idle some = (λ f. no_both _ (worthless idle) f.2, ((flies, worthless idle), λ e. some (sym pinned_as ∙ e)))
 
-  pub used_goes : (new : NodeState) → is_worth old.shape.underused at.slot.page ≡ false → Edits old.places new.places b (Some (record at.slot { standing = Nowhere })) old.places.queue 0 →
+  pub used_goes : (new : NodeState) → is_split_candidate old.shape.underused at.slot.page ≡ false → Edits old.places new.places b (Some (record at.slot { standing = Nowhere })) old.places.queue 0 →
       ((d : ℕ) → blocks_in new.flights d ≡ flight_left (Some c) b d (blocks_in old.flights d)) → length new.flights.callers ≡ length old.flights.callers → new.shape ≡ old.shape → new.next ≡ old.next → new.closed ≡ old.closed →
       Fits s h (by c (what.Used p)) × Keeps s (h ++ by c (what.Used p) ∷ []) new
   used_goes new idle did fs size shape next closed =
@@ -292,7 +292,7 @@ module _ (s : Shape) (h : History) (c p b : ℕ) (old : NodeState) (m : Means s 
       subst P at.id_is
       (fits, goes_on s h e old new m (used_node s h c b at.slot old.places new.places homed m.kept.node at.at at.stands fits did) (left (what.Used at.slot.id) new fs (λ d. flight_push h d c (what.Used at.slot.id)) (λ r. block_push h e r)) size refl refl shape next closed)
 
-  pub used_not : is_worth old.shape.underused at.slot.page ≡ true → IsMisfit s h (by c (what.Used p)) misfit.Worth
+  pub used_not : is_split_candidate old.shape.underused at.slot.page ≡ true → IsMisfit s h (by c (what.Used p)) misfit.WorthSplit
   used_not worth = (λ f. no_both (is_worth_split s h p) f.1 (worthy worth), (flies, worthy worth))
 
   -- it goes nowhere where the node is closed or the page isn't partly mapped
@@ -310,7 +310,7 @@ module _ (s : Shape) (h : History) (c p b : ℕ) (old : NodeState) (m : Means s 
       subst P at.id_is
       (fits, goes_on s h e old new m (back_node s h c b at.slot old.places new.places homed m.kept.node at.at at.stands fits did) (left (what.Back at.slot.id) new fs (λ d. flight_push h d c (what.Back at.slot.id)) (λ r. block_push h e r)) size refl refl shape next closed)
 
-  pub back_dropped : (old.closed || not at.slot.page.partly) ≡ true → slice_get (blocks_in old.flights c) 0 ≡ Some b → IsMisfit s h (by c (what.Back p)) misfit.Drops
+  pub back_dropped : (old.closed || not at.slot.page.partly) ≡ true → slice_get (blocks_in old.flights c) 0 ≡ Some b → IsMisfit s h (by c (what.Back p)) misfit.MustDrop
   back_dropped out first =
       let drops : is_dropped s h p ≡ true = ap (is_dropped s h) (sym at.id_is) ∙ sym dropped_as ∙ out in
       (λ f. no_both (is_dropped s h p) (ap₂ (λ a z. a || not z) f.1 f.2) drops, (first_is_this first, drops))
@@ -325,7 +325,7 @@ module _ (s : Shape) (h : History) (c p b : ℕ) (old : NodeState) (m : Means s 
       subst P at.id_is
       (fits, goes_on s h e old new m (dropped_node s h c b at.slot old.places new.places homed m.kept.node at.at at.stands fits did) (left (what.Dropped at.slot.id) new fs (λ d. flight_push h d c (what.Dropped at.slot.id)) (λ r. block_push h e r)) size refl refl shape next closed)
 
-  pub dropped_not : (old.closed || not at.slot.page.partly) ≡ false → slice_get (blocks_in old.flights c) 0 ≡ Some b → IsMisfit s h (by c (what.Dropped p)) misfit.GoesBack
+  pub dropped_not : (old.closed || not at.slot.page.partly) ≡ false → slice_get (blocks_in old.flights c) 0 ≡ Some b → IsMisfit s h (by c (what.Dropped p)) misfit.MustRequeue
   dropped_not stays first =
       let back : is_dropped s h p ≡ false = ap (is_dropped s h) (sym at.id_is) ∙ sym dropped_as ∙ stays in
       (λ f. no_both (is_dropped s h p) back f.1, (first_is_this first, back))
@@ -339,7 +339,7 @@ leaver_is outcome.Queued w d e = absurd (cc)
 leaver_is outcome.Stays w d e = absurd (cc)
 
 -- the block of a page that leaves a batch by a loss is one of the flight's
-pub lost_there : (s : Shape) (h : History) (p b : ℕ) (old : NodeState) → Means s h old → HoldsPage (slot_at old.places.table b) p → (l : Loss) (new : PlacesState) (done : Done) (left : Option ℕ) →
+pub lost_there : (s : Shape) (h : History) (p b : ℕ) (old : NodeState) → Means s h old → HoldsPage (slot_at old.places.table b) p → (l : Loss) (new : PageStoreState) (done : Done) (left : Option ℕ) →
     AtSlot old.places.table b (λ x. Lost l old.closed x old.places new b done left) → (d : ℕ) → left ≡ Some d → Contains (blocks_in old.flights d) b
 lost_there s h p b old m held l new done left lost d e =
     let there : Found s h old.places.table p b = found s h old.places.table old.places.queue p b m.kept.node held in

@@ -18,8 +18,8 @@ use Rattle.thp_model.proofs.Pushes.{count_of_push, thp_split_pmd_push, thp_under
 use Rattle.thp_model.proofs.Sizes.{few_subpages}
 use Rattle.thp_live_pages.proofs.Starting.{few_events}
 use Rattle.thp_check.specs.declared.tally.Tally.{Tally}
-use Rattle.thp_check.specs.declared.tally.Unsaid.{Unsaid}
-use Rattle.thp_check.specs.Totals.{AddsUp, HasRoom, Adds, IsUnsaid, frames_of, pmds_of, underused_of}
+use Rattle.thp_check.specs.declared.tally.EventContext.{EventContext}
+use Rattle.thp_check.specs.Totals.{AddsUp, HasRoom, Adds, IsContext, frames_of, pmds_of, underused_of}
 
 -- no event adds up to nothing
 pub adds_none : (s : Shape) → AddsUp s [] (record { frames_given = 0; split_page = 0; split_page_failed = 0; deferred_split_page = 0; underused_split_page = 0; split_pmd = 0 })
@@ -68,16 +68,16 @@ frames_counted h e n m i f = rw (frames_given_push h e) (omega (arith, i, f ∙ 
   go c w = refl
 
 -- what is unsaid tells how many PMD mappings an event splits, and whether it splits an underused page
-pmds_told : (s : Shape) (h : History) (w : What) (u : Unsaid) → IsUnsaid s h w u → pmds_of w u ≡ splits_pmds h w
+pmds_told : (s : Shape) (h : History) (w : What) (u : EventContext) → IsContext s h w u → pmds_of w u ≡ splits_pmds h w
 pmds_told s h (SplitPmd p) u i = refl
 pmds_told s h (Split p r) u i = i.0
 pmds_told s h w u i = refl
 
-underused_told : (s : Shape) (h : History) (w : What) (u : Unsaid) → IsUnsaid s h w u → underused_of w u ≡ splits_underused s h w
+underused_told : (s : Shape) (h : History) (w : What) (u : EventContext) → IsContext s h w u → underused_of w u ≡ splits_underused s h w
 underused_told s h (Split p r) u i = i.1
 underused_told s h w u i = refl
 
-few_one : (w : What) (u : Unsaid) → underused_of w u ≤ 1
+few_one : (w : What) (u : EventContext) → underused_of w u ≤ 1
 few_one (Split p r) u = go u.underused where
   go : (b : Bool) → from_bool b ≤ 1
   go true = omega arith
@@ -85,7 +85,7 @@ few_one (Split p r) u = go u.underused where
 few_one w u = omega arith
 
 -- the numbers with one more event
-pub adds_push : (s : Shape) (h : History) (e : Event) (u : Unsaid) (old new : Tally) → AddsUp s h old → IsUnsaid s h e.what u → Adds old new e.what u → AddsUp s (h ++ e ∷ []) new
+pub adds_push : (s : Shape) (h : History) (e : Event) (u : EventContext) (old new : Tally) → AddsUp s h old → IsContext s h e.what u → Adds old new e.what u → AddsUp s (h ++ e ∷ []) new
 adds_push s h e u old new a said d =
     let pmds : pmds_of e.what u ≡ splits_pmds h e.what = pmds_told s h e.what u said in
     let under : underused_of e.what u ≡ splits_underused s h e.what = underused_told s h e.what u said in

@@ -1,4 +1,4 @@
--- What contracts see of the flights of a replay. No public clause cites this module.
+-- The view that contracts have of the flights of a replay. No public clause cites this module.
 use Rattle.std.specs.Prelude.{◌≡◌, ℕ, ◌%◌, cond, nat_eq, List, [], length, slice_index_or, Option, Some, None}
 use Rattle.std.specs.List.{filter, Contains}
 use Rattle.thp_links.specs.declared.link.Link.{Link}
@@ -16,16 +16,16 @@ caller_at cs b = slice_index_or cs b 0
 abbrev pub list_at : List (List ℕ) → ℕ → List ℕ
 list_at ls k = slice_index_or ls k []
 
--- the blocks of the pages that caller c has in flight, in the order of taking
+-- the blocks of the pages that caller c has in flight, in the order of the takes
 unfoldable pub blocks_in : FlightsState → ℕ → List ℕ
 blocks_in f c = filter (λ b. nat_eq (caller_at f.callers b) c) (list_at f.lists (c % 64))
 
--- the flight of caller d once block b, or page b, has left that of this caller, if there is one
+-- the flight of caller d after block b, or page b, has left that of this caller, if any
 abbrev pub flight_left : Option ℕ → ℕ → ℕ → List ℕ → List ℕ
 flight_left None b d bs = bs
 flight_left (Some c) b d bs = cond (nat_eq c d) (without b bs) bs
 
--- the lists stand in the links, each with blocks of its own callers alone
+-- the links hold the lists, each with blocks of its own callers only
 pub record AreLinked (callers : List ℕ) (lists : List (List ℕ)) (ls : List Link) : Type 0 where
   pub sizes : length callers ≡ length ls
   pub count : length lists ≡ 64

@@ -1,4 +1,4 @@
--- What the state of a replay means: it is that of the history replayed so far. No public clause cites this module.
+-- The meaning of a replay's state: it is the state after the events replayed so far. No public clause cites this module.
 use Rattle.std.specs.Prelude.{◌≡◌, ◌≤◌, ℕ, Bool, false, nat_eq, [], ◌∷◌, ◌++◌, length, map, slice_get, Option, Some, None, Result}
 use Rattle.std.specs.Result.{MatchResult}
 use Rattle.thp_model.specs.declared.events.Event.{Event}
@@ -16,8 +16,8 @@ use Rattle.thp_check.specs.Reasons.{Explains}
 use Rattle.thp_check.specs.declared.misfit.Misfit.{Misfit}
 use Rattle.thp_check.specs.declared.node_state.NodeState.{NodeState}
 
--- the pages, the queue, the flights and the numbers of a replay are those of the history, which is legal; a flight's blocks
--- are those of its pages in order
+-- the pages, the queue, the flights and the numbers of a replay are those of the history, which is legal; a flight's blocks are
+-- those of its pages in order
 pub record Keeps (s : Shape) (h : History) (r : NodeState) : Type 0 where
   pub shape_is : r.shape ≡ s
   pub low : s.order ≤ max_order
@@ -27,27 +27,26 @@ pub record Keeps (s : Shape) (h : History) (r : NodeState) : Type 0 where
   pub next_is : r.next ≡ allocations h
   pub closed_is : r.closed ≡ is_closed h
 
--- the last event was a take by caller c, if a take by this one
+-- the last event was a take by caller c, given the caller of the last take if that was the last event
 abbrev pub is_taker : Option ℕ → ℕ → Bool
 is_taker None c = false
 is_taker (Some d) c = nat_eq d c
 
--- and the replay knows whether the last event was a take, and by whom
+-- in addition the replay records whether the last event was a take, and by whom
 pub record Means (s : Shape) (h : History) (r : NodeState) : Type 0 where
   pub kept : Keeps s h r
   pub taking : (c : ℕ) → is_taking h c ≡ is_taker r.taker c
 
--- the event doesn't fit the history, for this reason
+-- the event does not fit the history, for this reason
 abbrev pub IsMisfit : Shape → History → Event → Misfit → Type 0
 IsMisfit s h e m = (Fits s h e → ⊥) × Explains s h e m
 
--- whether what c does fits each history that the replay may mean, and why not where it doesn't; where it does, the replay goes on
--- with it
+-- whether the event of c fits each history that the replay may mean, and if not, why; if it does, the replay continues with it
 abbrev pub Follows : NodeState → NodeState → ℕ → What → Result Unit Misfit → Type 0
 Follows old new c w answer =
     (s : Shape) (h : History) → Means s h old → MatchResult answer (λ fits. Fits s h (by c w) × Keeps s (h ++ by c w ∷ []) new) (IsMisfit s h (by c w))
 
--- the same of a whole event
+-- the same for a whole event
 abbrev pub Admits : NodeState → NodeState → Event → Result Unit Misfit → Type 0
 Admits old new e answer = (s : Shape) (h : History) → Means s h old → MatchResult answer (λ fits. Fits s h e × Means s (h ++ e ∷ []) new) (IsMisfit s h e)
 
@@ -57,6 +56,6 @@ pub record IsKnown (r : NodeState) : Type 0 where
   pub history : History
   pub means : Means shape history r
 
--- at each history that the replay may mean, this page is first in the flight of caller c, or none is
+-- at each history that the replay may mean, this page is the first in the flight of caller c, or the flight is empty
 abbrev pub IsFirstOf : NodeState → ℕ → Option ℕ → Type 0
 IsFirstOf r c o = (s : Shape) (h : History) → Means s h r → o ≡ slice_get (flight h c) 0

@@ -1,4 +1,4 @@
--- What contracts see of a replay.
+-- The view that contracts have of a replay.
 use Rattle.std.specs.Prelude.{[], ◌∷◌, ◌++◌}
 use Rattle.thp_model.specs.declared.events.Event.{Event}
 use Rattle.thp_model.specs.declared.shape.Shape.{Shape}

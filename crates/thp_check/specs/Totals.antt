@@ -1,4 +1,4 @@
--- What the events of a history add up to, as a replay keeps it. No public clause cites this module.
+-- The sums of the events of a history, as a replay stores them. No public clause cites this module.
 use Rattle.std.specs.Prelude.{◌≡◌, ℕ, ◌+◌, ◌*◌, ◌^◌, ◌≤◌, ◌<◌, length}
 use Rattle.std.specs.Int.{from_bool}
 use Rattle.thp_model.specs.declared.events.What.{What}
@@ -10,7 +10,7 @@ use Rattle.thp_model.specs.Frames.{frames_given}
 use Rattle.thp_model.specs.History.{History}
 use Rattle.thp_model.specs.Sets.{set_size}
 use Rattle.thp_check.specs.declared.tally.Tally.{Tally}
-use Rattle.thp_check.specs.declared.tally.Unsaid.{Unsaid}
+use Rattle.thp_check.specs.declared.tally.EventContext.{EventContext}
 
 -- the numbers are those of the history
 pub record AddsUp (s : Shape) (h : History) (t : Tally) : Type 0 where
@@ -20,11 +20,11 @@ pub record AddsUp (s : Shape) (h : History) (t : Tally) : Type 0 where
   pub deferred_split_page : t.deferred_split_page ≡ thp_deferred_split_page h
   pub underused_split_page : t.underused_split_page ≡ thp_underused_split_page s h
   pub split_pmd : t.split_pmd ≡ thp_split_pmd h
-  -- each event splits one page at most, and fewer than 2 ^ 32 PMD mappings
+  -- each event splits at most one page, and fewer than 2 ^ 32 PMD mappings
   pub few_underused : thp_underused_split_page s h ≤ length h
   pub few_split_pmds : thp_split_pmd h ≤ 2 ^ 32 * length h
 
--- the numbers have room for what an event can add to them
+-- the numbers have room for what any event can add to them
 pub record HasRoom (t : Tally) : Type 0 where
   pub frames_given : t.frames_given + 2 ^ 32 < 2 ^ 128
   pub split_page : t.split_page + 1 < 2 ^ 64
@@ -33,7 +33,7 @@ pub record HasRoom (t : Tally) : Type 0 where
   pub underused_split_page : t.underused_split_page + 1 < 2 ^ 64
   pub split_pmd : t.split_pmd + 2 ^ 32 < 2 ^ 128
 
--- how many frames an event gives back
+-- the number of frames that an event gives back
 abbrev pub frames_of : What → ℕ
 frames_of (UnmapWhole outcome p set) = set_size set
 frames_of (UnmapSub outcome p first count set) = set_size set
@@ -41,28 +41,29 @@ frames_of (Unpin outcome p set) = set_size set
 frames_of (Split p set) = set_size set
 frames_of w = 0
 
--- how many PMD mappings an event splits, and how many pages that weren't partly mapped, told of what is unsaid
-abbrev pub pmds_of : What → Unsaid → ℕ
+-- the number of PMD mappings that an event splits, and of pages that were not partly mapped, computed from the facts that the
+-- event does not contain
+abbrev pub pmds_of : What → EventContext → ℕ
 pmds_of (SplitPmd p) u = 1
 pmds_of (Split p set) u = u.mappings
 pmds_of w u = 0
 
-abbrev pub underused_of : What → Unsaid → ℕ
+abbrev pub underused_of : What → EventContext → ℕ
 underused_of (Split p set) u = from_bool u.underused
 underused_of w u = 0
 
 -- what an event adds to the numbers
-pub record Adds (old new : Tally) (w : What) (u : Unsaid) : Type 0 where
+pub record Adds (old new : Tally) (w : What) (u : EventContext) : Type 0 where
   pub frames_given : new.frames_given ≡ old.frames_given + frames_of w
   pub split_page : new.split_page ≡ old.split_page + from_bool (is_page_split w)
   pub split_page_failed : new.split_page_failed ≡ old.split_page_failed + from_bool (is_failed_try w)
   pub deferred_split_page : new.deferred_split_page ≡ old.deferred_split_page + from_bool (queues w)
   pub underused_split_page : new.underused_split_page ≡ old.underused_split_page + underused_of w u
   pub split_pmd : new.split_pmd ≡ old.split_pmd + pmds_of w u
-  -- so few that their sum stays low
+  -- bounded, so that their sum is bounded
   pub few_split_pmds : pmds_of w u < 2 ^ 32
 
--- what is unsaid of a page that is split is what the history says of it
-abbrev pub IsUnsaid : Shape → History → What → Unsaid → Type 0
-IsUnsaid s h (Split p set) u = (u.mappings ≡ whole h p) × (from_bool u.underused ≡ splits_underused s h (Split p set))
-IsUnsaid s h w u = Unit {0}
+-- the facts about a page that is split, which the event does not contain, agree with the history
+abbrev pub IsContext : Shape → History → What → EventContext → Type 0
+IsContext s h (Split p set) u = (u.mappings ≡ whole h p) × (from_bool u.underused ≡ splits_underused s h (Split p set))
+IsContext s h w u = Unit {0}

@@ -1,4 +1,4 @@
-//! What could stand in the place of an event that doesn't fit.
+//! The events that would fit instead of an event that does not.
 ghost use Rattle.std.specs.Prelude.{◌≡◌, ◌++◌, OnOk};
 ghost use Rattle.thp_check.specs.Reasons.{with_frames, with_outcome};
 ghost use Rattle.thp_check.specs.Explanations.{expected, or_a_split, or_this, page_of, this};
@@ -6,10 +6,10 @@ ghost use Rattle.thp_check.specs.Explanations.{expected, or_a_split, or_this, pa
 use crate::Misfit;
 use crate::pieces::{put_last, put_words};
 use std::alloc::AllocError;
-use thp_journal_writer::{page_told, put, put_event_line};
+use thp_journal_writer::{event_page, put, put_event_line};
 use thp_model::{Event, Outcome, PageId, SubSet, What};
 
-// What could stand in the place of what a caller did, in lines.
+// The events that would fit instead of a caller's event, one line each.
 pub(crate) fn put_expected(
     text: &mut Vec<u8>,
     caller: u32,
@@ -26,15 +26,15 @@ pub(crate) fn put_expected(
         }
         Misfit::Oldest(Some(oldest)) => put_this(text, caller, &What::Taken { page: *oldest }),
         Misfit::InUse => put_this(text, caller, &What::Used { page }),
-        Misfit::Worth => put_this_or_a_split(text, caller, &What::Pinned { page }, page),
+        Misfit::WorthSplit => put_this_or_a_split(text, caller, &What::Pinned { page }, page),
         Misfit::HasPins => put_this(text, caller, &What::Pinned { page }),
         Misfit::NoPins => put_this_or_a_split(text, caller, &What::Used { page }, page),
         Misfit::Released(released) => put_this(text, caller, &with_frames(what, released)),
         Misfit::First(Some(first)) => put_return(text, caller, *first),
-        Misfit::Drops => put_this(text, caller, &What::Dropped { page }),
-        Misfit::GoesBack => put_this(text, caller, &What::Back { page }),
+        Misfit::MustDrop => put_this(text, caller, &What::Dropped { page }),
+        Misfit::MustRequeue => put_this(text, caller, &What::Back { page }),
         Misfit::Refused(_)
-        | Misfit::Block
+        | Misfit::BlockTaken
         | Misfit::Oldest(None)
         | Misfit::HasBatch
         | Misfit::NotInFlight
@@ -42,7 +42,7 @@ pub(crate) fn put_expected(
     }
 }
 
-// What a caller could do.
+// An event of a caller.
 #[tactic(auto, using(crate::proofs::Joined::two))]
 fn put_this(text: &mut Vec<u8>, caller: u32, what: &What) -> Result<(), AllocError>
     ensures { OnOk result (text.new.items ≡ text.old.items ++ this caller what.now) }
@@ -57,7 +57,7 @@ fn put_this(text: &mut Vec<u8>, caller: u32, what: &What) -> Result<(), AllocErr
     )
 }
 
-// What a caller could do, or a split of a page.
+// An event of a caller, or a split of a page.
 #[tactic(auto, using(crate::proofs::Joined::two))]
 fn put_this_or_a_split(
     text: &mut Vec<u8>,
@@ -71,7 +71,7 @@ fn put_this_or_a_split(
     put_split(text, page)
 }
 
-// A split of a page as one more choice.
+// A split of a page, as a further alternative.
 #[tactic(auto, using(crate::proofs::Joined::two))]
 fn put_split(text: &mut Vec<u8>, page: PageId) -> Result<(), AllocError>
     ensures { OnOk result (text.new.items ≡ text.old.items ++ or_a_split page) }
@@ -79,7 +79,7 @@ fn put_split(text: &mut Vec<u8>, page: PageId) -> Result<(), AllocError>
     put_last(text, "or: a split of page ", page.0)
 }
 
-// A page that leaves a caller's flight: it goes back, or is dropped.
+// A page that leaves a caller's flight: it is put back, or dropped.
 #[tactic(auto, using(crate::proofs::Joined::two))]
 fn put_return(text: &mut Vec<u8>, caller: u32, page: PageId) -> Result<(), AllocError>
     ensures { OnOk result (text.new.items ≡ text.old.items ++ (this caller (What.Back page) ++ or_this caller (What.Dropped page))) }
@@ -88,7 +88,7 @@ fn put_return(text: &mut Vec<u8>, caller: u32, page: PageId) -> Result<(), Alloc
     put_or(text, caller, &What::Dropped { page })
 }
 
-// What a caller could do, as one more choice.
+// An event of a caller, as a further alternative.
 #[tactic(auto, using(crate::proofs::Joined::two))]
 fn put_or(text: &mut Vec<u8>, caller: u32, what: &What) -> Result<(), AllocError>
     ensures { OnOk result (text.new.items ≡ text.old.items ++ or_this caller what.now) }
@@ -107,10 +107,10 @@ fn put_or(text: &mut Vec<u8>, caller: u32, what: &What) -> Result<(), AllocError
 pub(crate) fn page_of(what: &What) -> PageId
     ensures { result ≡ page_of what.now }
 {
-    page_told(what).unwrap_or_default()
+    event_page(what).unwrap_or_default()
 }
 
-// The allocation of a page, whose block isn't told.
+// The allocation of a page, whose line contains no block.
 fn new_page(page: PageId) -> What
     ensures { result ≡ What.Alloc page 0 }
 {

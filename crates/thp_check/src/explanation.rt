@@ -1,17 +1,17 @@
-//! All that is said of an event that doesn't fit.
+//! The complete explanation of an event that does not fit.
 ghost use Rattle.std.specs.Prelude.{◌≡◌, ◌++◌, OnOk};
 ghost use Rattle.thp_check.specs.Explanations.{explanation};
 
 use crate::Misfit;
 use crate::expected::put_expected;
-use crate::told_reasons::put_why;
+use crate::reason_text::put_why;
 use std::alloc::AllocError;
 use thp_journal_writer::{put, put_event_line, put_number};
 use thp_model::Event;
 
-/// Writes the event that stands on a line of a journal and doesn't fit for this reason, in the words of that line, then what
-/// could stand in its place, and why: three lines, or four where there are two choices. Where memory is refused a front of them
-/// may stand in the text.
+/// Appends the explanation of an event that does not fit for this reason: the event as on its line of the journal, the events
+/// that would fit instead, and the reason. These are three lines, or four if there are two alternatives. If memory can't be
+/// allocated, the text can contain a prefix of them.
 #[tactic(auto, using(crate::proofs::Joined::whole), unfolding(crate::specs::Explanations::explanation))]
 pub fn put_explanation(
     text: &mut Vec<u8>,

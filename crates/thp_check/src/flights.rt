@@ -3,22 +3,21 @@ ghost use Rattle.std.specs.Prelude.{◌≡◌, ◌<◌, ◌%◌, ℕ, [], ◌∷
 ghost use Rattle.std.specs.Option.{ForSome};
 ghost use Rattle.thp_check.specs.Flights.{blocks_in, flight_left};
 
-use crate::links::Links;
 use std::alloc::{AllocError, Global};
 use std::marker::Model;
-use thp_links::Queue;
+use thp_links::{LinkVec, Queue};
 
-// How many lists there are. A node has as many callers, so its callers have a list each; those of other histories may share
-// one.
+// The number of lists. A node has as many callers, so each of its callers has a list of its own; callers of other histories can
+// share one.
 const LISTS: u32 = 64;
 
-// The blocks of the pages in flight, in lists by the low bits of the caller, each in the order of taking.
+// The blocks of the pages in flight, in lists by the low bits of the caller, each in the order of the takes.
 #[derive(Drop)]
 pub(crate) struct Flights {
-    // The caller of each block that is in a list; of another it may be any.
+    // The caller of each block that is in a list; arbitrary for other blocks.
     callers: Vec<u32>,
     lists: Vec<Queue>,
-    links: Links,
+    links: LinkVec,
 }
 
 impl Model for Flights {
@@ -28,11 +27,11 @@ impl Model for Flights {
 
     ghost view = { λ f. record { callers = f.callers.items; lists = f.lists.items } };
 
-    ghost invariant = { λ f. AreLinked f.callers.items f.lists.items f.links.pairs.items };
+    ghost invariant = { λ f. AreLinked f.callers.items f.lists.items f.links.pairs };
 }
 
 impl Flights {
-    // No page in flight, on a node of so many blocks. It takes all memory that the flights will need.
+    // No page in flight, on a node of `blocks` blocks. Allocates all memory that the flights will need.
     pub(crate) fn new(alloc: Global, blocks: u32) -> Result<Flights, AllocError>
         ensures empty { IfOk result (λ f. (c : ℕ) → blocks_in f c ≡ []) }
         ensures size { IfOk result (λ f. length f.callers ≡ blocks) }
@@ -44,11 +43,11 @@ impl Flights {
         Ok(Flights {
             callers: vec![in alloc; 0; blocks as usize]?,
             lists,
-            links: Links::new(alloc, blocks)?,
+            links: LinkVec::new(alloc, blocks)?,
         })
     }
 
-    // The block of the first page of a caller's flight. Only pages of other callers of the same list are passed on the way.
+    // The block of the first page of a caller's flight. The search passes only pages of other callers of the same list.
     pub(crate) fn first_of(&self, caller: u32) -> Option<u32>
         ensures { result ≡ slice_get (blocks_in self.now caller) 0 }
     {
@@ -63,7 +62,7 @@ impl Flights {
         None
     }
 
-    // The blocks of a caller's flight, in order. Pages of other callers of the same list are passed on the way.
+    // The blocks of a caller's flight, in order. The search passes pages of other callers of the same list.
     pub(crate) fn blocks_of(&self, alloc: Global, caller: u32) -> Result<Vec<u32>, AllocError>
         ensures { IfOk result (λ blocks. blocks.items ≡ blocks_in self.now caller) }
     {
@@ -82,7 +81,7 @@ impl Flights {
         Ok(blocks)
     }
 
-    // Puts the page of a block, which is in no flight, at the end of a caller's.
+    // Appends the page of a block, which is in no flight, to a caller's flight.
     pub(crate) fn join(&mut self, caller: u32, block: u32)
         requires inside { block < length self.old.callers }
         requires absent { (c : ℕ) → Contains (blocks_in self.old c) block → ⊥ }
@@ -94,7 +93,7 @@ impl Flights {
         list.push_back(&mut self.links, block);
     }
 
-    // Takes the page of a block out of the flight of this caller, if there is one.
+    // Removes the page of a block from the flight of this caller, if any.
     pub(crate) fn leave(&mut self, caller: Option<u32>, block: u32)
         requires { ForSome caller (λ c. Contains (blocks_in self.old c) block) }
         ensures left { (c : ℕ) → blocks_in self.new c ≡ flight_left caller block c (blocks_in self.old c) }

@@ -1,10 +1,10 @@
-//! What an explanation promises of the history.
+//! The guarantee that an explanation gives about the history.
 ghost use Rattle.thp_check.specs.Fitting.{ExpectedFits};
 
-/// Of an event that doesn't fit for a reason, what is told as expected fits in its place: the outcome and the frames, what a try
-/// finds, and whether a page goes back or is dropped.
+/// States that for an event that does not fit for a reason, what the explanation expects fits instead: the outcome and the
+/// frames, the result of a try, and whether a page is put back or dropped.
 ///
-/// It does nothing: its contract is the law.
+/// The function does nothing: its contract is the law.
 pub fn what_is_expected_fits()
     ensures { ExpectedFits }
 {}

@@ -1,10 +1,16 @@
-//! Whether a history of a node's events is legal.
+//! Decides whether a history is legal, and explains why not.
 //!
-//! [`check`] replays the events one after the other on what a node of that shape would hold, and stops at the first that
-//! doesn't fit those before it; [`Replay`] does so for events that come one by one, and says why one doesn't fit. What fits is
-//! said by the definitions of `thp_model` alone (`IsLegal`, `IsFirstMisfit`), and what each reason means by `Explains`.
-//! [`put_explanation`] says it in words: the event as a journal's line has it, what could stand in its place, and why. Its text
-//! is that of `specs/Explanations`, a table by reason.
+//! [`check`] replays the events on what a node of that shape would hold and stops at the first that doesn't fit; [`Replay`]
+//! takes events one by one. Legality is `IsLegal` and `IsFirstMisfit` of `thp_model`; `Explains` (`Reasons`) defines each
+//! reason.
+//!
+//! - `checking`, `replay`, `node_state` (one step for each kind of event), `flights` and `links` (64 lists of blocks by the low
+//!   bits of the caller; proofs `FlightLists`, `FlightBlocks`), free blocks (`Freeing`, proof `FreeMarks`).
+//! - `misfit`: the reasons. A new reason needs its meaning in `Reasons`, its step in `node_state`, its words in `reason_text`.
+//! - `explanation`, `expected`, `reason_text`, `pieces`: the text of [`put_explanation`], exactly that of `Explanations`; `laws`
+//!   (`Fitting`) ensures that what it expects fits.
+//! - `replay/reading`, `live_page`, `tally`: what a replay shows: queue, flights, pages, totals (`Replays`; `Showing`,
+//!   `Totals`).
 #![tactic(auto)]
 
 mod checking;
@@ -12,19 +18,18 @@ mod expected;
 mod explanation;
 mod flights;
 mod laws;
-mod links;
 mod live_page;
 mod misfit;
 mod node_state;
 mod pieces;
+mod reason_text;
 mod replay;
 mod tally;
-mod told_reasons;
 
 pub use checking::check;
 pub use explanation::put_explanation;
 pub use laws::what_is_expected_fits;
-pub use live_page::{LivePage, Whereabouts};
+pub use live_page::{LivePage, PageLocation};
 pub use misfit::Misfit;
 pub use replay::Replay;
 pub use thp_model::CheckFault;

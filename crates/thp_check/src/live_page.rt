@@ -1,64 +1,63 @@
-//! What there is to tell of a page that lives.
+//! The state of a live page, as it is shown.
 ghost use Rattle.std.specs.Prelude.{◌≡◌, true, is_some};
-ghost use Rattle.thp_model.specs.Pages.{holds, is_worth, used_set, zero_set};
+ghost use Rattle.thp_model.specs.Pages.{holds, is_split_candidate, used_set, zero_set};
 ghost use Rattle.thp_model.specs.Sets.{set_of};
 
 use thp_model::SubSet;
 use thp_page::{Page, Standing};
 
-/// A page that lives, as the events so far leave it.
+/// A live page after the events so far.
 #[derive(Clone, Copy, Debug, PartialEq, Eq)]
 pub struct LivePage {
-    /// The block in which it lies.
+    /// The page's block.
     pub block: u32,
-    /// Where it stands: in the queue, in a caller's batch, or nowhere.
+    /// The list that the page is on: the queue, a caller's batch, or none.
     pub standing: Standing,
-    /// Whether it was split into base pages.
+    /// Whether the page was split into base pages.
     pub split: bool,
-    /// Whether it is partly mapped: an unmap took a subpage out of use and left another in use.
+    /// Whether the page is partly mapped: an unmap removed a subpage's last mapping and left another subpage in use.
     pub partly_mapped: bool,
-    /// Whether it is worth a split: partly mapped, or underused.
+    /// Whether the page is worth a split: partly mapped, or underused.
     pub worth_split: bool,
-    /// Its extra pins.
+    /// The number of extra pins.
     pub pins: u32,
-    /// Its entire map count: how often a PMD entry maps it.
+    /// The entire map count: the number of PMD entries that map the page.
     pub whole: u32,
     /// The subpages in use.
     pub used: SubSet,
     /// The zero-filled subpages.
     pub zero_filled: SubSet,
-    /// The subpages whose frames it holds.
+    /// The subpages whose frames the page holds.
     pub held: SubSet,
 }
 
-/// Where a page that lives is in its life, as the events so far leave it: what [`LivePage`] tells of that, and no set.
+/// The position of a live page in its life after the events so far: those fields of [`LivePage`] that are not sets.
 #[derive(Clone, Copy, Debug, PartialEq, Eq)]
-pub struct Whereabouts {
-    /// The block in which it lies.
+pub struct PageLocation {
+    /// The page's block.
     pub block: u32,
-    /// Where it stands: in the queue, in a caller's batch, or nowhere.
+    /// The list that the page is on: the queue, a caller's batch, or none.
     pub standing: Standing,
-    /// Whether it was split into base pages.
+    /// Whether the page was split into base pages.
     pub split: bool,
-    /// Whether it is partly mapped: an unmap took a subpage out of use and left another in use.
+    /// Whether the page is partly mapped: an unmap removed a subpage's last mapping and left another subpage in use.
     pub partly_mapped: bool,
 }
 
 impl LivePage {
-    // What there is to tell of a page in a block, which stands there. The shrinker splits underused pages where there is a
-    // threshold.
+    // The state of a page in a block and on this list. The shrinker splits underused pages if there is a threshold.
     pub(crate) fn of(
         page: &Page,
         block: u32,
         standing: Standing,
         threshold: Option<u32>,
     ) -> LivePage
-        requires { page.now.split ≡ true → page.now.gave_zero ≡ is_some threshold }
+        requires { page.now.split ≡ true → page.now.freed_zero_frames ≡ is_some threshold }
         ensures block { result.block ≡ block }
         ensures standing { result.standing ≡ standing }
         ensures split { result.split ≡ page.now.split }
         ensures partly { result.partly_mapped ≡ page.now.partly }
-        ensures worth { result.worth_split ≡ is_worth threshold page.now }
+        ensures worth { result.worth_split ≡ is_split_candidate threshold page.now }
         ensures pins { result.pins ≡ page.now.pins }
         ensures whole { result.whole ≡ page.now.whole }
         ensures used { result.used ≡ used_set page.now }
@@ -70,7 +69,7 @@ impl LivePage {
             standing,
             split: page.is_split(),
             partly_mapped: page.is_partly(),
-            worth_split: page.is_worth(threshold),
+            worth_split: page.is_split_candidate(threshold),
             pins: page.pins(),
             whole: page.whole(),
             used: page.in_use_set(),
@@ -80,9 +79,9 @@ impl LivePage {
     }
 }
 
-// The subpages whose frames a page holds. A split gave back those of the zero-filled ones where `gives_zero` says so.
+// The subpages whose frames a page holds. If `gives_zero` is true, a split gave back those of the zero-filled ones.
 fn held_set(page: &Page, gives_zero: bool) -> SubSet
-    requires { page.now.split ≡ true → page.now.gave_zero ≡ gives_zero }
+    requires { page.now.split ≡ true → page.now.freed_zero_frames ≡ gives_zero }
     ensures { result ≡ set_of (holds page.now) }
 {
     if !page.is_split() {

@@ -1,31 +1,31 @@
-//! What a node holds after the events of a history so far.
+//! The state of a node after the events of a history so far.
 ghost use Rattle.std.specs.Prelude.{◌≡◌, ◌<◌, ◌≤◌, ◌+◌, ◌^◌, ℕ, [], ◌||◌, not, slice_get, Some, ◌≢◌, IfErr, IfNone, IfOk, IfSome, IsSome, if◌then◌else◌, Err, IsTrue, ◌↔◌};
 ghost use Rattle.thp_model.specs.Counts.{is_live};
 ghost use Rattle.thp_model.specs.History.{History};
 ghost use Rattle.thp_model.specs.Limits.{max_order, min_order};
-ghost use Rattle.thp_model.specs.Pages.{is_worth};
+ghost use Rattle.thp_model.specs.Pages.{is_split_candidate};
 ghost use Rattle.thp_model.specs.Places.{no_pages, takes_by};
 ghost use Rattle.thp_page.specs.Slots.{slot_at};
 ghost use Rattle.thp_live_pages.specs.Flying.{IsFlyingAt};
 ghost use Rattle.thp_model.specs.PageCalls.{gain_what, loss_what};
 ghost use Rattle.thp_model.specs.declared.shape.Shape.{Shape};
-ghost use Rattle.thp_live_pages.specs.PlacesState.{AtSlot};
+ghost use Rattle.thp_live_pages.specs.PageStoreState.{AtSlot};
 ghost use Rattle.thp_check.specs.Flights.{blocks_in};
 ghost use Rattle.thp_check.specs.Meanings.{is_taker};
 
 use crate::flights::Flights;
 use crate::misfit::Misfit;
 use std::alloc::{AllocError, Global};
-use thp_live_pages::Places;
+use thp_live_pages::PageStore;
 use thp_model::{Done, Event, Gain, Loss, Outcome, PageId, Refusal, Shape, SubSet, What};
 
-// The state after the events so far. Once an event didn't fit it may be any.
+// The state after the events so far; arbitrary after an event that did not fit.
 #[derive(Drop)]
 pub(crate) struct NodeState {
     pub(crate) shape: Shape,
-    pub(crate) places: Places,
+    pub(crate) places: PageStore,
     pub(crate) flights: Flights,
-    // how many pages were allocated: the next page's number
+    // the number of pages allocated: the next page's number
     pub(crate) next: u64,
     pub(crate) closed: bool,
     // the caller of the last event, if that was a take
@@ -41,7 +41,7 @@ impl NodeState {
         requires most { shape.order ≤ max_order }
         ensures { IfOk result (Means shape []) }
     {
-        let places = Places::new(alloc, shape)?;
+        let places = PageStore::new(alloc, shape)?;
         let flights = Flights::new(alloc, shape.blocks)?;
         Ok(NodeState {
             shape,
@@ -53,7 +53,7 @@ impl NodeState {
         })
     }
 
-    // The state after an event, where it fits, and else why it doesn't.
+    // The state after an event, or why it does not fit.
     pub(crate) fn admit(&mut self, event: &Event) -> Result<(), Misfit>
         requires known { IsKnown self.old }
         requires small { self.old.next + 1 < 2 ^ 64 }
@@ -64,7 +64,7 @@ impl NodeState {
         answer
     }
 
-    // `admit`, but for the note whether the event is a take.
+    // `admit`, without the record of whether the event is a take.
     fn apply(&mut self, caller: u32, what: &What) -> Result<(), Misfit>
         requires known { IsKnown self.old }
         requires small { self.old.next + 1 < 2 ^ 64 }
@@ -129,7 +129,7 @@ impl NodeState {
         }
     }
 
-    // A call of a page with a range of numbers that are too large for any page is refused.
+    // Refuses a page call with a range of numbers that are too large for any page.
     #[inline(never)]
     fn refuse_range(&self, page: PageId) -> Result<(), Misfit>
         ensures { (s : Shape) (h : History) → Means s h self.now → result ≡ Err (Misfit.Refused (if is_live h page then Refusal.BadRange else Refusal.NoPage)) }
@@ -154,7 +154,7 @@ impl NodeState {
             return Err(Misfit::Number(PageId(self.next)));
         }
         if !self.places.is_free(block) {
-            return Err(Misfit::Block);
+            return Err(Misfit::BlockTaken);
         }
         let queued = self.shape.shrinks_underused();
         self.places.place(block, page, queued);
@@ -176,7 +176,7 @@ impl NodeState {
         Ok(())
     }
 
-    // A page that loses mappings or a pin, with the outcome and the frames that the event tells.
+    // A page that loses mappings or a pin, with the outcome and the frames in the event.
     fn lose(
         &mut self,
         page: PageId,
@@ -227,7 +227,7 @@ impl NodeState {
         Ok(())
     }
 
-    // Whether a caller has no page in flight, or goes on taking.
+    // Whether a caller has no page in flight, or continues its take.
     fn may_take(&self, caller: u32) -> bool
         ensures { result ≡ (no_pages (blocks_in self.now.flights caller) || is_taker self.now.taker caller) }
     {
@@ -240,7 +240,7 @@ impl NodeState {
         }
     }
 
-    // A try that splits a page of the caller's flight, with the frames that the event tells.
+    // A try that splits a page of the caller's flight, with the frames in the event.
     #[inline(never)]
     fn split(&mut self, caller: u32, page: PageId, released: &SubSet) -> Result<(), Misfit>
         requires { IsKnown self.old }
@@ -250,7 +250,7 @@ impl NodeState {
             Some(block) => block,
             None => return Err(Misfit::NotInFlight),
         };
-        if !self.is_worth(block) {
+        if !self.is_split_candidate(block) {
             return Err(Misfit::InUse);
         }
         if self.places.pins(block) != 0 {
@@ -276,13 +276,13 @@ impl NodeState {
         if self.places.pins(block) == 0 {
             return Err(Misfit::NoPins);
         }
-        if !self.is_worth(block) {
+        if !self.is_split_candidate(block) {
             return Err(Misfit::InUse);
         }
         Ok(())
     }
 
-    // A try that finds a page of the caller's flight in use, which leaves the flight and goes nowhere.
+    // A try that finds a page of the caller's flight in use: the page leaves the flight and is on no list.
     #[inline(never)]
     fn leave_used(&mut self, caller: u32, page: PageId) -> Result<(), Misfit>
         requires { IsKnown self.old }
@@ -292,8 +292,8 @@ impl NodeState {
             Some(block) => block,
             None => return Err(Misfit::NotInFlight),
         };
-        if self.is_worth(block) {
-            return Err(Misfit::Worth);
+        if self.is_split_candidate(block) {
+            return Err(Misfit::WorthSplit);
         }
         self.places.drop_out(block);
         self.flights.leave(Some(caller), block);
@@ -301,14 +301,14 @@ impl NodeState {
     }
 
     // Whether the page of a block is worth a split.
-    fn is_worth(&self, block: u32) -> bool
+    fn is_split_candidate(&self, block: u32) -> bool
         requires { IsSome (slot_at self.now.places.table block) }
-        ensures { AtSlot self.now.places.table block (λ x. result ≡ is_worth self.now.shape.underused x.page) }
+        ensures { AtSlot self.now.places.table block (λ x. result ≡ is_split_candidate self.now.shape.underused x.page) }
     {
-        self.places.is_worth(block, self.shape.underused)
+        self.places.is_split_candidate(block, self.shape.underused)
     }
 
-    // A put-back of the first page of the caller's flight.
+    // A put back of the first page of the caller's flight.
     #[inline(never)]
     fn put_back(&mut self, caller: u32, page: PageId) -> Result<(), Misfit>
         requires { IsKnown self.old }
@@ -319,14 +319,14 @@ impl NodeState {
             Err(first) => return Err(Misfit::First(first)),
         };
         if self.is_dropped(block) {
-            return Err(Misfit::Drops);
+            return Err(Misfit::MustDrop);
         }
         self.places.enqueue(block);
         self.flights.leave(Some(caller), block);
         Ok(())
     }
 
-    // The first page of the caller's flight, which goes nowhere.
+    // A drop of the first page of the caller's flight.
     #[inline(never)]
     fn drop_page(&mut self, caller: u32, page: PageId) -> Result<(), Misfit>
         requires { IsKnown self.old }
@@ -337,7 +337,7 @@ impl NodeState {
             Err(first) => return Err(Misfit::First(first)),
         };
         if !self.is_dropped(block) {
-            return Err(Misfit::GoesBack);
+            return Err(Misfit::MustRequeue);
         }
         self.places.drop_out(block);
         self.flights.leave(Some(caller), block);
@@ -352,7 +352,7 @@ impl NodeState {
         self.closed || !self.places.is_partly(block)
     }
 
-    // The block of a page that is the first of a caller's flight, and else the page that is, if there is one.
+    // The block of a page that is the first of a caller's flight; otherwise the first page, if any.
     fn find_first(&self, caller: u32, page: PageId) -> Result<u32, Option<PageId>>
         requires { IsKnown self.now }
         ensures there { IfOk result (IsFlyingAt self.now.places.table caller page) }
@@ -384,8 +384,8 @@ impl NodeState {
     }
 }
 
-// A misfit takes 72 bytes, which the code of a function that makes one clears at its start; so those of calls that are made often
-// are made apart.
+// A misfit takes 72 bytes, which a function that builds one clears at its start. Frequent calls therefore have separate functions
+// for building misfits.
 
 // A call that is refused.
 #[inline(never)]
@@ -395,7 +395,7 @@ fn refused(refusal: Refusal) -> Result<(), Misfit>
     Err(Misfit::Refused(refusal))
 }
 
-// An unmap or an unpin that had another outcome than was told, or gave other frames back.
+// An unmap or an unpin whose outcome or frames differ from those in the event.
 #[inline(never)]
 fn other_outcome(done: &Done) -> Result<(), Misfit>
     ensures { result ≡ Err (Misfit.Outcome done.now.outcome done.now.released) }
@@ -416,14 +416,14 @@ fn taker_of(event: &Event) -> Option<u32>
     }
 }
 
-// Whether an event tells the outcome and the frames that there were.
+// Whether an event contains the computed outcome and frames.
 fn is_told(done: &Done, outcome: Outcome, released: &SubSet) -> bool
     ensures { IsTrue result ↔ ((done.now.outcome ≡ outcome) × (done.now.released ≡ released.now)) }
 {
     done.outcome == outcome && done.released == *released
 }
 
-// The operands of a range as a page call has them, where they aren't too large for any page.
+// The operands of a range as in a page call, unless they are too large for any page.
 fn short(first: u32, count: u32) -> Option<(u16, u16)>
     ensures first { IfSome result (λ r. r.0 ≡ first) }
     ensures count { IfSome result (λ r. r.1 ≡ count) }

@@ -16,7 +16,7 @@ pub(crate) fn put_words(text: &mut Vec<u8>, words: &str) -> Result<(), AllocErro
     put(text, b"\n")
 }
 
-// A number behind words, and a line feed.
+// Words, a number, and a line feed.
 #[tactic(auto, using(crate::proofs::Joined::two))]
 pub(crate) fn put_last(text: &mut Vec<u8>, words: &str, number: u64) -> Result<(), AllocError>
     ensures { OnOk result (text.new.items ≡ text.old.items ++ ended (words.now ++ decimal number)) }
@@ -25,7 +25,7 @@ pub(crate) fn put_last(text: &mut Vec<u8>, words: &str, number: u64) -> Result<(
     put_number(text, number, b'\n')
 }
 
-// What is so of a page, and a line feed.
+// A statement about a page, and a line feed.
 #[tactic(auto, using(crate::proofs::Joined::page_line))]
 pub(crate) fn put_page(text: &mut Vec<u8>, page: PageId, words: &str) -> Result<(), AllocError>
     ensures { OnOk result (text.new.items ≡ text.old.items ++ ended (page_is page words.now)) }
@@ -35,7 +35,7 @@ pub(crate) fn put_page(text: &mut Vec<u8>, page: PageId, words: &str) -> Result<
     put_words(text, words)
 }
 
-// What is so of a caller, and a line feed.
+// A statement about a caller, and a line feed.
 #[tactic(auto, using(crate::proofs::Joined::caller_line))]
 pub(crate) fn put_caller(text: &mut Vec<u8>, caller: u32, words: &str) -> Result<(), AllocError>
     ensures { OnOk result (text.new.items ≡ text.old.items ++ ended (caller_is caller words.now)) }
@@ -45,7 +45,7 @@ pub(crate) fn put_caller(text: &mut Vec<u8>, caller: u32, words: &str) -> Result
     put_words(text, words)
 }
 
-// How a page stands to a caller's flight, and a line feed.
+// The relation of a page to a caller's flight, and a line feed.
 pub(crate) fn put_flight(
     text: &mut Vec<u8>,
     page: PageId,

@@ -12,30 +12,30 @@ ghost use Rattle.thp_check.specs.Freeing.{free_after, taken_block, IsFreed};
 ghost use Rattle.thp_check.specs.Meanings.{Means};
 ghost use Rattle.thp_check.specs.Reasons.{Explains};
 ghost use Rattle.thp_check.specs.Replays.{with_event};
-ghost use Rattle.thp_check.specs.Totals.{IsUnsaid};
+ghost use Rattle.thp_check.specs.Totals.{IsContext};
 
 mod reading;
 
 use crate::misfit::Misfit;
 use crate::node_state::NodeState;
-use crate::tally::{Tally, Unsaid};
+use crate::tally::{EventContext, Tally};
 use std::alloc::{AllocError, Global};
 use std::marker::Model;
-use thp_live_pages::{FreeBlocks, Past, freed_page};
+use thp_live_pages::{EventTrace, FreeBlocks, freed_page};
 use thp_model::{Event, PageId, Shape, What};
 
-/// What a node holds after the events of its history so far, which is legal: its pages, its queue, and its flights. What lives
-/// is kept, and not what was.
+/// The state of a node after the events of its history so far, which is legal: its pages, its queue, and its flights. It stores
+/// what is live, not the events.
 ///
 /// Contracts see the node's shape and the events so far.
 #[derive(Drop)]
 pub struct Replay {
     state: Box<NodeState>,
-    // the blocks where no live page lies
+    // the blocks without a live page
     free: FreeBlocks,
     tally: Box<Tally>,
-    // takes no bytes
-    past: Past,
+    // has no bytes
+    past: EventTrace,
 }
 
 impl Model for Replay {
@@ -52,8 +52,8 @@ impl Model for Replay {
 }
 
 impl Replay {
-    /// A replay of no event, on a node of this shape, which may have any number of blocks, pages of order 2 to 9, and any
-    /// threshold. Fails where the memory for its pages and flights is refused; no event takes more.
+    /// Creates a replay with no event, on a node of this shape. The node may have any number of blocks, pages of order 2 to 9,
+    /// and any threshold. Fails if memory for its pages and flights can't be allocated; events allocate none.
     pub fn new(alloc: Global, shape: Shape) -> Result<Replay, AllocError>
         requires least { min_order ≤ shape.order }
         requires most { shape.order ≤ max_order }
@@ -66,12 +66,11 @@ impl Replay {
             state: Box::new(alloc, state)?,
             free,
             tally: Box::new(alloc, Tally::new())?,
-            past: Past::new(),
+            past: EventTrace::new(),
         })
     }
 
-    /// The replay with one more event, where that fits the events so far, and else why it doesn't. A replay that met an event which
-    /// doesn't fit is gone.
+    /// Adds an event, if it fits the events so far; otherwise returns why it does not, and discards the replay.
     pub fn admit(self, event: &Event) -> Result<Replay, Misfit>
         requires room { length self.history + 1 < 2 ^ 64 }
         ensures admitted { IfOk result (λ r. r ≡ with_event self event.now) }
@@ -87,7 +86,7 @@ impl Replay {
             mut past,
         } = self;
         let freed = freed_block(&state, &event.what);
-        let unsaid = unsaid_of(&state, &event.what);
+        let unsaid = context_of(&state, &event.what);
         if let Err(misfit) = state.admit(event) {
             return Err(misfit);
         }
@@ -102,28 +101,28 @@ impl Replay {
         })
     }
 
-    /// How many pages were allocated; the next page has this number.
+    /// Returns the number of pages allocated, which is the number of the next page.
     pub fn allocations(&self) -> u64
         ensures { result ≡ allocations self.now.history }
     {
         self.state.next
     }
 
-    /// Whether the node is closed.
+    /// Returns whether the node is closed.
     pub fn is_closed(&self) -> bool
         ensures { result ≡ is_closed self.now.history }
     {
         self.state.closed
     }
 
-    /// How many pages are in the deferred split queue.
+    /// Returns the number of pages in the deferred split queue.
     pub fn queue_len(&self) -> u32
         ensures { result ≡ length (queue self.now.shape self.now.history) }
     {
         self.state.places.queue().len()
     }
 
-    /// The oldest page in the queue, or `None` where the queue is empty.
+    /// Returns the oldest page in the queue, or `None` if the queue is empty.
     pub fn oldest(&self) -> Option<PageId>
         ensures { result ≡ slice_get (queue self.now.shape self.now.history) 0 }
     {
@@ -133,7 +132,7 @@ impl Replay {
         }
     }
 
-    /// The least block where no live page lies; 0 where one lies in each.
+    /// Returns the least block without a live page, or 0 if there is none.
     pub fn least_free_block(&self) -> u32
         ensures { result ≡ least_free self.now.shape self.now.history }
     {
@@ -144,7 +143,7 @@ impl Replay {
     }
 }
 
-// The block of the page that an event frees, where it lies somewhere.
+// The block of the page that an event frees, if any.
 fn freed_block(state: &NodeState, what: &What) -> Option<u32>
     ensures { (s : Shape) (h : History) → Means s h state.now → IsFreed h what.now result }
 {
@@ -152,11 +151,11 @@ fn freed_block(state: &NodeState, what: &What) -> Option<u32>
     state.places.find(page)
 }
 
-// What an event doesn't say of the page that it splits.
-fn unsaid_of(state: &NodeState, what: &What) -> Unsaid
-    ensures { (s : Shape) (h : History) (c : ℕ) → Means s h state.now → Fits s h (by c what.now) → IsUnsaid s h what.now result }
+// The facts about a split that its event does not contain.
+fn context_of(state: &NodeState, what: &What) -> EventContext
+    ensures { (s : Shape) (h : History) (c : ℕ) → Means s h state.now → Fits s h (by c what.now) → IsContext s h what.now result }
 {
-    let none = Unsaid {
+    let none = EventContext {
         mappings: 0,
         underused: false,
     };
@@ -164,7 +163,7 @@ fn unsaid_of(state: &NodeState, what: &What) -> Unsaid
         return none;
     };
     match state.places.find(*page) {
-        Some(block) => Unsaid {
+        Some(block) => EventContext {
             mappings: state.places.whole(block),
             underused: !state.places.is_partly(block),
         },
@@ -182,7 +181,7 @@ fn taken_block(what: &What) -> Option<u32>
     }
 }
 
-// One block was taken, or one got free.
+// Records that a block was taken, or became free.
 fn mark(free: &mut FreeBlocks, taken: Option<u32>, freed: Option<u32>)
     requires taken { IfSome taken (λ b. b < 64 * length free.old) }
     requires freed { IfSome freed (λ b. b < 64 * length free.old) }

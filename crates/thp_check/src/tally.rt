@@ -1,4 +1,4 @@
-//! What the events of a history add up to.
+//! The sums of the events of a history.
 ghost use Rattle.std.specs.Prelude.{◌≡◌, ◌+◌, ◌<◌, ◌^◌};
 ghost use Rattle.std.specs.Int.{from_bool};
 ghost use Rattle.thp_model.specs.Counts.{is_queued};
@@ -18,10 +18,10 @@ pub(crate) struct Tally {
     pub(crate) split_pmd: u128,
 }
 
-// What an event doesn't say of the page that it splits: how many PMD mappings the page had, and whether it wasn't partly
+// The facts about a split that its event does not contain: the number of the page's PMD mappings, and whether it was not partly
 // mapped.
 #[derive(Clone, Copy)]
-pub(crate) struct Unsaid {
+pub(crate) struct EventContext {
     pub(crate) mappings: u32,
     pub(crate) underused: bool,
 }
@@ -42,7 +42,7 @@ impl Tally {
     }
 
     // Counts one more event.
-    pub(crate) fn count(&mut self, what: &What, unsaid: Unsaid)
+    pub(crate) fn count(&mut self, what: &What, unsaid: EventContext)
         requires { HasRoom self.old }
         ensures { Adds self.old self.new what.now unsaid }
     {
@@ -79,7 +79,7 @@ impl Tally {
     }
 
     // Counts the split of a page.
-    fn count_split(&mut self, released: &SubSet, unsaid: Unsaid)
+    fn count_split(&mut self, released: &SubSet, unsaid: EventContext)
         requires { HasRoom self.old }
         ensures few { unsaid.mappings < 2 ^ 32 }
         ensures numbers { self.new ≡ record self.old { frames_given = self.old.frames_given + set_size released.now; split_page = self.old.split_page + 1; underused_split_page = self.old.underused_split_page + from_bool unsaid.underused; split_pmd = self.old.split_pmd + unsaid.mappings } }

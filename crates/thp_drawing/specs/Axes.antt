@@ -1,4 +1,4 @@
--- Axes: numbers beside lines.
+-- Axes: numbers next to lines.
 use Rattle.std.specs.Prelude.{ℕ, zero, suc, ◌-◌, List, [], ◌++◌, length, codes}
 use Rattle.std.specs.Fmt.{decimal}
 use Rattle.thp_drawing.specs.Elements.{group_end, group_start, text_at}
@@ -17,11 +17,11 @@ abbrev pub ticks : List ℕ → ℕ → ℕ → ℕ → List ℕ
 ticks sign step most zero = []
 ticks sign step most (suc k) = ticks sign step most k ++ tick sign (times step (suc k)) (scaled 1000 (times step (suc k)) most)
 
--- the line from which areas go up and down
+-- the line from which areas extend upwards and downwards
 abbrev pub base_line : List ℕ
 base_line = codes "<path class=\"zero\" d=\"M0 0h6000\"/>\n<text class=\"soft e\" x=\"-60\" y=\"0\" dy=\"40\">0</text>\n"
 
--- the events of a node that are drawn, and how many there is room for
+-- the number of a node's events that are drawn, and the number that there is room for
 abbrev pub events_of : DrawnNode → ℕ
 events_of d = d.prefixes - 1
 
@@ -32,20 +32,20 @@ room_of d = times d.width (length d.columns.items)
 abbrev pub event_step : DrawnNode → ℕ
 event_step d = step_among round_steps (events_of d)
 
--- where an event stands: the first column begins before any
+-- the position of an event: the first column begins before any
 abbrev pub event_at : ℕ → ℕ → ℕ
 event_at room event = scaled 6000 event room
 
--- an upright line at a place, so high
+-- a vertical line of this height at a position
 unfoldable pub upright : ℕ → ℕ → List ℕ
 upright high x = codes "M" ++ decimal x ++ codes " 0v" ++ decimal high
 
--- the first k upright lines behind the axis, one for each step of events
+-- the first k vertical lines after the axis, one for each step of events
 abbrev pub uprights : ℕ → ℕ → ℕ → ℕ → List ℕ
 uprights high step room zero = []
 uprights high step room (suc k) = uprights high step room k ++ upright high (event_at room (times step (suc k)))
 
--- these and the axis, in a panel that is so high
+-- these and the axis, in a panel of this height
 unfoldable pub event_rules : ℕ → DrawnNode → List ℕ
 event_rules high d =
     codes "<path class=\"rule\" d=\"M0 0v" ++ decimal high

@@ -1,11 +1,11 @@
--- What is drawn of a node.
+-- The data of a node that is drawn.
 use Rattle.std.specs.Prelude.{◌≡◌, List, None, length}
 use Rattle.thp_model.specs.declared.shape.Shape.{Shape}
 use Rattle.thp_model.specs.History.{History}
-use Rattle.thp_series.specs.declared.numbers.Numbers.{Numbers}
-use Rattle.thp_series.specs.Columns.{columns_of, IsWidth}
-use Rattle.thp_series.specs.Series.{numbers_at, series}
-use Rattle.thp_series.specs.Stuck.{AreStuck}
+use Rattle.thp_metrics.specs.declared.numbers.Numbers.{Numbers}
+use Rattle.thp_metrics.specs.Columns.{columns_of, IsWidth}
+use Rattle.thp_metrics.specs.Series.{numbers_at, series}
+use Rattle.thp_metrics.specs.Stuck.{AreStuck}
 use Rattle.thp_drawing.specs.declared.node.DrawnNode.{DrawnNode}
 
 -- the columns are those of these prefixes
@@ -14,7 +14,7 @@ pub record AreColumnsOf (ns : List Numbers) (node : DrawnNode) : Type 0 where
   pub width : IsWidth (length ns) node.width
   pub columns : node.columns.items ≡ columns_of node.width ns
 
--- it is drawn of a node of this shape with these events
+-- it is the data of a node of this shape with these events
 pub record IsDrawn (s : Shape) (h : History) (node : DrawnNode) : Type 0 where
   pub shape : node.shape ≡ s
   pub columns : AreColumnsOf (series s h) node

@@ -1,4 +1,4 @@
--- Words as a text of XML has them.
+-- Words in a text of XML.
 use Rattle.std.specs.Prelude.{◌≡◌, ℕ, Bool, false, ◌||◌, List, [], ◌∷◌, codes, if◌then◌else◌, nat_eq}
 use Rattle.std.specs.List.{flat_map, list_any}
 
@@ -18,6 +18,6 @@ escaped words = flat_map escaped_byte words
 abbrev pub ends_words : ℕ → Bool
 ends_words b = nat_eq b 60 || nat_eq b 62 || nat_eq b 34
 
--- whatever the words are, nothing of them ends the text that they stand in
+-- escaped words never end the text that contains them
 abbrev pub EscapedStaysWithin : Type 0
 EscapedStaysWithin = (words : List ℕ) → list_any ends_words (escaped words) ≡ false

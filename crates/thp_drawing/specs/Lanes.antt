@@ -1,7 +1,7 @@
--- The callers of a node: a lane for each that ever had pages in its batch, in which bars show when.
+-- The callers of a node: a lane for each that ever had pages in its batch, whose bars show when.
 use Rattle.std.specs.Prelude.{ℕ, zero, suc, Bool, false, ◌+◌, ◌&&◌, List, [], ◌++◌, codes, if◌then◌else◌, nat_le, nat_lt}
-use Rattle.thp_series.specs.declared.column.Column.{Column}
-use Rattle.thp_series.specs.Waits.{shown_callers}
+use Rattle.thp_metrics.specs.declared.column.Column.{Column}
+use Rattle.thp_metrics.specs.Waits.{shown_callers}
 use Rattle.thp_drawing.specs.Axes.{event_rules, tick}
 use Rattle.thp_drawing.specs.Bars.{bar_at, bar_turns}
 use Rattle.thp_drawing.specs.Elements.{group_end, group_start, square_at, text_at}
@@ -14,29 +14,29 @@ use Rattle.thp_drawing.specs.declared.node.DrawnNode.{DrawnNode}
 abbrev pub has_lane : List Column → ℕ → Bool
 has_lane columns c = nat_lt 0 (bar_turns (BatchOf c) false columns)
 
--- how many of the first k callers have lanes
+-- the number of the first k callers that have lanes
 abbrev pub lanes_below : List Column → ℕ → ℕ
 lanes_below columns zero = 0
 lanes_below columns (suc k) = lanes_below columns k + (if has_lane columns k then 1 else 0)
 
--- how often the bars of the first k callers begin and end
+-- the number of starts and ends of the bars of the first k callers
 abbrev pub turns_below : List Column → ℕ → ℕ
 turns_below columns zero = 0
 turns_below columns (suc k) = turns_below columns k + bar_turns (BatchOf k) false columns
 
--- how many lanes there are
+-- the number of lanes
 unfoldable pub lane_count : List Column → ℕ
 lane_count columns = lanes_below columns shown_callers
 
--- how often the bars of all of them begin and end
+-- the number of starts and ends of all bars
 unfoldable pub all_turns : List Column → ℕ
 all_turns columns = turns_below columns shown_callers
 
--- how many lanes a node has
+-- the number of lanes of a node
 abbrev pub lanes_of : DrawnNode → ℕ
 lanes_of d = lane_count d.columns.items
 
--- there are lanes, and their bars can be told apart
+-- there are lanes, and their bars can be distinguished
 abbrev pub has_lanes : DrawnNode → Bool
 has_lanes d = nat_le 1 (lanes_of d) && nat_le (all_turns d.columns.items) max_turns
 
@@ -49,7 +49,7 @@ unfoldable pub lane_drawn : List Column → ℕ → ℕ → List ℕ
 lane_drawn columns y c =
     tick [] c y ++ codes "<path class=\"lane s3\" d=\"" ++ bar_at (BatchOf c) y columns ++ codes "\"/>\n"
 
--- these, or nothing where caller c never had pages in its batch
+-- the lane of caller c, or nothing if the caller never had pages in its batch
 abbrev pub lane_at : List Column → ℕ → ℕ → List ℕ
 lane_at columns lane c = if has_lane columns c then lane_drawn columns (row_middle lane_height lane) c else []
 
@@ -79,6 +79,6 @@ lanes_drawn y d =
 abbrev pub lanes_panel : ℕ → DrawnNode → List ℕ
 lanes_panel y d = if has_lanes d then lanes_drawn y d else []
 
--- how high it is
+-- its height
 abbrev pub lanes_height : DrawnNode → ℕ
 lanes_height d = if has_lanes d then plus 360 (times lane_height (lanes_of d)) else 0

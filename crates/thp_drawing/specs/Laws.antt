@@ -1,4 +1,4 @@
--- Laws of what is drawn.
+-- Laws of drawings.
 use Rattle.std.specs.Prelude.{◌≡◌, ◌^◌, ◌<◌, length}
 use Rattle.thp_model.specs.declared.shape.Shape.{Shape}
 use Rattle.thp_model.specs.Counts.{allocations}
@@ -9,7 +9,7 @@ use Rattle.thp_drawing.specs.Drawn.{IsDrawn}
 use Rattle.thp_drawing.specs.Rows.{allocated_pages}
 use Rattle.thp_drawing.specs.declared.node.DrawnNode.{DrawnNode}
 
--- of a node whose events are legal as many pages have rows as were allocated
+-- a node whose events are legal has as many rows as pages allocated
 abbrev pub EachPageHasItsRow : Type 0
 EachPageHasItsRow =
     (s : Shape) (h : History) (d : DrawnNode) → IsShape s → IsLegal s h → length h < 2 ^ 64 → IsDrawn s h d

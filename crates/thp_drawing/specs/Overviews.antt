@@ -1,7 +1,7 @@
--- The nodes side by side: a line of numbers for each.
+-- The overview of all nodes: a line of numbers for each.
 use Rattle.std.specs.Prelude.{ℕ, ◌+◌, List, [], ◌∷◌, ◌++◌, length, codes, if◌then◌else◌, nat_le, Option, Some, None}
 use Rattle.std.specs.Fmt.{decimal}
-use Rattle.thp_series.specs.declared.pages.Pages.{Pages}
+use Rattle.thp_metrics.specs.declared.pages.Pages.{Pages}
 use Rattle.thp_drawing.specs.Elements.{group_end, group_start, text_at}
 use Rattle.thp_drawing.specs.Quantities.{most_of}
 use Rattle.thp_drawing.specs.Scales.{plus, times}
@@ -9,7 +9,7 @@ use Rattle.thp_drawing.specs.declared.illegal_event.IllegalEvent.{IllegalEvent}
 use Rattle.thp_drawing.specs.declared.node.DrawnNode.{DrawnNode}
 use Rattle.thp_drawing.specs.declared.quantity.Quantity.TheVariants.{Queue}
 
--- the pages that live, in whatever stage
+-- the live pages in all stages
 abbrev pub live_pages : Pages → ℕ
 live_pages p = plus (plus (plus (plus p.allocated p.partly_mapped) p.queued) p.in_batch) p.split
 
@@ -18,7 +18,7 @@ abbrev pub number_words : ℕ → Option IllegalEvent → List ℕ
 number_words n None = decimal n
 number_words n (Some illegal) = decimal n ++ codes " (illegal)"
 
--- a number that ends at this place
+-- a right-aligned number that ends at this position
 abbrev pub number_cell : ℕ → ℕ → List ℕ
 number_cell x n = text_at (codes "ink e") x 0 (decimal n)
 
@@ -47,6 +47,6 @@ overview_heads =
 unfoldable pub overview : List DrawnNode → List ℕ
 overview nodes = if nat_le (length nodes) 1 then [] else overview_heads ++ overview_lines 1060 0 nodes
 
--- how far down the overview reaches
+-- the lower end of the overview
 abbrev pub overview_foot : List DrawnNode → ℕ
 overview_foot nodes = if nat_le (length nodes) 1 then 660 else plus 950 (times 165 (length nodes))

@@ -1,8 +1,8 @@
--- Panels: one for each unit of what is drawn. A panel whose numbers are all 0 is left out.
+-- Panels: one for each unit of the quantities. A panel whose numbers are all 0 is left out.
 use Rattle.std.specs.Prelude.{ℕ, ◌+◌, List, [], ◌++◌, codes, if◌then◌else◌, nat_eq}
 use Rattle.std.specs.Fmt.{decimal}
-use Rattle.thp_series.specs.declared.stage.Stage.{Stage}
-use Rattle.thp_series.specs.declared.stage.Stage.TheVariants.{Allocated, PartlyMapped, Queued, InBatch, Split}
+use Rattle.thp_metrics.specs.declared.stage.Stage.{Stage}
+use Rattle.thp_metrics.specs.declared.stage.Stage.TheVariants.{Allocated, PartlyMapped, Queued, InBatch, Split}
 use Rattle.thp_drawing.specs.Areas.{quantity_areas, stage_area}
 use Rattle.thp_drawing.specs.Axes.{base_line, event_rules, ticks}
 use Rattle.thp_drawing.specs.Elements.{group_end, group_start, square_at, text_at}
@@ -15,7 +15,7 @@ use Rattle.thp_drawing.specs.declared.quantity.Quantity.TheVariants.{Queue, InBa
 use Rattle.thp_drawing.specs.declared.panel.Panel.{Panel}
 use Rattle.thp_drawing.specs.declared.panel.Panel.TheVariants.{Pages, Waits, Frames, Tries, Underused}
 
--- what a panel draws upwards, and what downwards
+-- the quantity that a panel draws upwards, and the one that it draws downwards
 abbrev pub up_of : Panel → Quantity
 up_of Pages = Queue
 up_of Waits = Wait
@@ -30,7 +30,7 @@ down_of Frames = Given
 down_of Tries = PinnedTries
 down_of Underused = Nothing
 
--- its unit, beside its title
+-- its unit, next to its title
 abbrev pub unit_text : Panel → List ℕ
 unit_text Pages = codes "<text class=\"soft e\" x=\"-60\" y=\"150\">pages</text>\n"
 unit_text Waits = codes "<text class=\"soft e\" x=\"-60\" y=\"150\">events</text>\n"
@@ -46,11 +46,11 @@ panel_step Frames n = step_among doubled_steps n
 panel_step Tries n = step_among round_steps n
 panel_step Underused n = step_among round_steps n
 
--- the greatest number of both, which together are 1,000 high
+-- the greatest sum of both quantities, which is 1,000 high
 abbrev pub panel_most : Panel → DrawnNode → ℕ
 panel_most p d = plus (most_of (up_of p) d.columns.items) (most_of (down_of p) d.columns.items)
 
--- a quantity's name, the greatest number, and that behind the last event
+-- a quantity's name, its greatest number, and its number after the last event
 unfoldable pub quantity_words : Quantity → DrawnNode → List ℕ
 quantity_words q d =
     quantity_name q ++ codes ": most " ++ decimal (most_of q d.columns.items) ++ codes ", last " ++ decimal (last_of q d.last)
@@ -59,7 +59,7 @@ quantity_words q d =
 unfoldable pub quantity_label : Quantity → ℕ → DrawnNode → List ℕ
 quantity_label q x d = square_at (quantity_class q) x 72 ++ text_at (codes "ink") (x + 130) 150 (quantity_words q d)
 
--- these, in a panel's title, or nothing where all its numbers are 0
+-- these, in a panel's title, or nothing if all its numbers are 0
 abbrev pub quantity_item : Quantity → ℕ → DrawnNode → List ℕ
 quantity_item q x d = if nat_eq (most_of q d.columns.items) 0 then [] else quantity_label q x d
 
@@ -68,14 +68,14 @@ unfoldable pub quantity_graph : List ℕ → Quantity → ℕ → ℕ → DrawnN
 quantity_graph sign q step most d =
     ticks sign step most (steps_in step (most_of q d.columns.items)) ++ quantity_areas sign q most d
 
--- these, or nothing where all its numbers are 0
+-- these, or nothing if all its numbers are 0
 abbrev pub quantity_half : List ℕ → Quantity → ℕ → ℕ → DrawnNode → List ℕ
 quantity_half sign q step most d = if nat_eq (most_of q d.columns.items) 0 then [] else quantity_graph sign q step most d
 
 unfoldable pub panel_title : Panel → DrawnNode → List ℕ
 panel_title p d = unit_text p ++ quantity_item (up_of p) 0 d ++ quantity_item (down_of p) 3000 d
 
--- what stands round the base line, of numbers up to `most`
+-- the content above and below the base line, for numbers up to `most`
 unfoldable pub panel_halves : Panel → ℕ → DrawnNode → List ℕ
 panel_halves p most d =
     group_start 0 (scaled 1000 (most_of (up_of p) d.columns.items) most)
@@ -110,7 +110,7 @@ unfoldable pub stage_areas : DrawnNode → List ℕ
 stage_areas d =
     stage_area Split d ++ stage_area InBatch d ++ stage_area Queued d ++ stage_area PartlyMapped d ++ stage_area Allocated d
 
--- what stands on the base line, of means up to `most`
+-- the content above the base line, for means up to `most`
 unfoldable pub stages_stacked : ℕ → DrawnNode → List ℕ
 stages_stacked most d =
     group_start 0 1000 ++ ticks (codes "-") (step_among round_steps most) most (steps_in (step_among round_steps most) most)

@@ -1,4 +1,4 @@
--- The picture of a journal's nodes, as a text of SVG: 7,200 units wide, and as high as its nodes are.
+-- The picture of a journal's nodes, as SVG: 7,200 units wide, and as high as its nodes are.
 use Rattle.std.specs.Prelude.{ℕ, ◌+◌, List, [], ◌∷◌, ◌++◌, Option, Some, None, codes, if◌then◌else◌, nat_eq}
 use Rattle.std.specs.Fmt.{decimal}
 use Rattle.thp_drawing.specs.Axes.{event_axis}
@@ -20,7 +20,7 @@ use Rattle.thp_drawing.specs.declared.panel.Panel.TheVariants.{Pages, Waits, Fra
 abbrev pub height_of : ℕ → ℕ
 height_of most = if nat_eq most 0 then 0 else 1360
 
--- where what is said of a node's stuck pages begins, below its first illegal event
+-- where the text about a node's stuck pages begins, below its first illegal event
 abbrev pub stuck_top : Option IllegalEvent → ℕ
 stuck_top None = 280
 stuck_top (Some illegal) = 460
@@ -47,7 +47,7 @@ underused_top d = plus (tries_top d) (height_of (panel_most Tries d))
 abbrev pub lives_top : DrawnNode → ℕ
 lives_top d = plus (underused_top d) (height_of (panel_most Underused d))
 
--- the pages' stages: a row for each page, or how many are in each stage
+-- the pages' stages: a row for each page, or the number of pages in each stage
 abbrev pub lives_drawn : ℕ → DrawnNode → List ℕ
 lives_drawn y d = if has_rows d then rows_panel y d else stages_panel y d
 
@@ -78,7 +78,7 @@ abbrev pub nodes_drawn : ℕ → ℕ → List DrawnNode → List ℕ
 nodes_drawn y n [] = []
 nodes_drawn y n (d ∷ more) = node_drawn y n d ++ nodes_drawn (plus y (node_height d)) (n + 1) more
 
--- how far down they reach
+-- their lower end
 abbrev pub foot_of : ℕ → List DrawnNode → ℕ
 foot_of y [] = y
 foot_of y (d ∷ more) = foot_of (plus y (node_height d)) more
@@ -89,7 +89,7 @@ svg_start high = codes "<svg xmlns=\"http://www.w3.org/2000/svg\" viewBox=\"0 0 
 unfoldable pub ground : ℕ → List ℕ
 ground high = codes "<rect class=\"bg\" x=\"0\" y=\"0\" width=\"7200\" height=\"" ++ decimal high ++ codes "\"/>\n"
 
--- how the picture begins, of this height
+-- the beginning of the picture, of this height
 unfoldable pub head : ℕ → List ℕ
 head high = svg_start high ++ style ++ ground high
 

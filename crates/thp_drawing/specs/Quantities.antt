@@ -1,11 +1,11 @@
--- What is drawn over a node's events: what it is called, how it looks, and its numbers.
+-- The quantities that are drawn over a node's events: their names, appearance, and numbers.
 use Rattle.std.specs.Prelude.{ℕ, ◌+◌, ◌-◌, ◌/◌, min, max, List, [], ◌∷◌, codes}
-use Rattle.thp_series.specs.declared.column.Column.{Column}
-use Rattle.thp_series.specs.declared.numbers.Numbers.{Numbers}
-use Rattle.thp_series.specs.declared.pages.PageSums.{PageSums}
-use Rattle.thp_series.specs.declared.span.Span.{Span}
-use Rattle.thp_series.specs.declared.stage.Stage.{Stage}
-use Rattle.thp_series.specs.declared.stage.Stage.TheVariants.{Allocated, PartlyMapped, Queued, InBatch, Split}
+use Rattle.thp_metrics.specs.declared.column.Column.{Column}
+use Rattle.thp_metrics.specs.declared.numbers.Numbers.{Numbers}
+use Rattle.thp_metrics.specs.declared.pages.PageSums.{PageSums}
+use Rattle.thp_metrics.specs.declared.span.Span.{Span}
+use Rattle.thp_metrics.specs.declared.stage.Stage.{Stage}
+use Rattle.thp_metrics.specs.declared.stage.Stage.TheVariants.{Allocated, PartlyMapped, Queued, InBatch, Split}
 use Rattle.thp_drawing.specs.Scales.{plus, times}
 use Rattle.thp_drawing.specs.declared.node.DrawnNode.{DrawnNode}
 use Rattle.thp_drawing.specs.declared.quantity.Quantity.{Quantity}
@@ -47,7 +47,7 @@ span_in UnderusedSplits c = c.underused_splits
 span_in Wait c = c.wait
 span_in Nothing c = record { least = 0; greatest = 0 }
 
--- its number behind the last event
+-- its number after the last event
 abbrev pub last_of : Quantity → Numbers → ℕ
 last_of Queue n = n.queue
 last_of InBatches n = n.in_batches
@@ -80,7 +80,7 @@ stage_class Queued = codes "s2"
 stage_class InBatch = codes "s3"
 stage_class Split = codes "s4"
 
--- how many pages were in a stage, summed over a column's prefixes
+-- the number of pages in a stage, summed over a column's prefixes
 abbrev pub sum_in : Stage → PageSums → ℕ
 sum_in Allocated s = s.allocated
 sum_in PartlyMapped s = s.partly_mapped
@@ -88,7 +88,7 @@ sum_in Queued s = s.queued
 sum_in InBatch s = s.in_batch
 sum_in Split s = s.split
 
--- how many were in it or in an earlier one
+-- the number of pages in it or in an earlier one
 abbrev pub sum_up_to : Stage → PageSums → ℕ
 sum_up_to Allocated s = s.allocated
 sum_up_to PartlyMapped s = plus s.allocated s.partly_mapped
@@ -96,12 +96,12 @@ sum_up_to Queued s = plus (plus s.allocated s.partly_mapped) s.queued
 sum_up_to InBatch s = plus (plus (plus s.allocated s.partly_mapped) s.queued) s.in_batch
 sum_up_to Split s = plus (plus (plus (plus s.allocated s.partly_mapped) s.queued) s.in_batch) s.split
 
--- the greatest such sum of any column: 0 where the stage doesn't occur
+-- the greatest such sum of any column: 0 if the stage does not occur
 abbrev pub most_in : Stage → List Column → ℕ
 most_in x [] = 0
 most_in x (c ∷ more) = max (sum_in x c.pages) (most_in x more)
 
--- how many of so many prefixes column j has, if it has room for w
+-- the number of prefixes in column j, given w per column and this many in all
 abbrev pub prefixes_of : ℕ → ℕ → ℕ → ℕ
 prefixes_of w prefixes j = min w (prefixes - times w j)
 

@@ -1,10 +1,10 @@
--- The pages of a node one by one, where few were allocated: a row for each, in which bars show its stages.
+-- The individual pages of a node, if few were allocated: a row for each, whose bars show its stages.
 use Rattle.std.specs.Prelude.{ℕ, zero, suc, Bool, false, ◌+◌, ◌-◌, ◌/◌, ◌^◌, ◌&&◌, min, List, [], ◌++◌, codes, if◌then◌else◌, nat_eq, nat_le}
 use Rattle.thp_model.specs.Limits.{max_order}
-use Rattle.thp_series.specs.declared.column.Column.{Column}
-use Rattle.thp_series.specs.declared.stage.Stage.{Stage}
-use Rattle.thp_series.specs.declared.stage.Stage.TheVariants.{Allocated, PartlyMapped, Queued, InBatch, Split}
-use Rattle.thp_series.specs.Stages.{shown_pages}
+use Rattle.thp_metrics.specs.declared.column.Column.{Column}
+use Rattle.thp_metrics.specs.declared.stage.Stage.{Stage}
+use Rattle.thp_metrics.specs.declared.stage.Stage.TheVariants.{Allocated, PartlyMapped, Queued, InBatch, Split}
+use Rattle.thp_metrics.specs.Stages.{shown_pages}
 use Rattle.thp_drawing.specs.Axes.{event_rules, tick}
 use Rattle.thp_drawing.specs.Bars.{bar_at, bar_turns}
 use Rattle.thp_drawing.specs.Elements.{group_end, group_start}
@@ -14,27 +14,27 @@ use Rattle.thp_drawing.specs.Scales.{plus, steps_in, times}
 use Rattle.thp_drawing.specs.declared.bar.Bar.TheVariants.{PageIn}
 use Rattle.thp_drawing.specs.declared.node.DrawnNode.{DrawnNode}
 
--- how many pages were allocated: each frame of theirs is held or was given back
+-- the number of pages allocated: each of their frames is held or was given back
 abbrev pub allocated_pages : DrawnNode → ℕ
 allocated_pages d = plus d.last.held d.last.given / 2 ^ min d.shape.order max_order
 
--- how often the bars of page p begin and end
+-- the number of starts and ends of page p's bars
 abbrev pub page_turns : List Column → ℕ → ℕ
 page_turns columns p =
     bar_turns (PageIn Allocated p) false columns + bar_turns (PageIn PartlyMapped p) false columns
     + bar_turns (PageIn Queued p) false columns + bar_turns (PageIn InBatch p) false columns
     + bar_turns (PageIn Split p) false columns
 
--- how often those of the first k pages do
+-- the same for the first k pages
 abbrev pub turns_below : List Column → ℕ → ℕ
 turns_below columns zero = 0
 turns_below columns (suc k) = turns_below columns k + page_turns columns k
 
--- how often those of all pages that can have a row do
+-- the same for all pages that can have a row
 unfoldable pub row_turns : List Column → ℕ
 row_turns columns = turns_below columns shown_pages
 
--- more than so often bars can't be told apart
+-- the greatest number of starts and ends for which bars can be distinguished
 abbrev pub max_turns : ℕ
 max_turns = 4000
 
@@ -43,11 +43,11 @@ has_rows d =
     nat_le 1 (allocated_pages d)
     && (nat_le (allocated_pages d) shown_pages && nat_le (row_turns d.columns.items) max_turns)
 
--- up to 24 rows are far apart, more are close to each other
+-- up to 24 rows are spaced widely, more are spaced closely
 abbrev pub few_rows : ℕ
 few_rows = 24
 
--- the height of each of so many rows
+-- the height of each row, for this many rows
 abbrev pub row_height : ℕ → ℕ
 row_height count = if nat_le count few_rows then 140 else 90
 
@@ -59,7 +59,7 @@ row_middle high p = plus (times high p) (high / 2)
 abbrev pub rows_height : ℕ → ℕ
 rows_height count = times (row_height count) count
 
--- every row has its number, or where they are close to each other every second
+-- every row has its number, or every second if they are spaced closely
 abbrev pub number_step : ℕ → ℕ
 number_step count = if nat_le count few_rows then 1 else 2
 
@@ -68,7 +68,7 @@ abbrev pub row_numbers : ℕ → ℕ → ℕ → List ℕ
 row_numbers high step zero = []
 row_numbers high step (suc k) = row_numbers high step k ++ tick [] (times step k) (row_middle high (times step k))
 
--- how many numbers so many rows have
+-- the number of numbers of this many rows
 abbrev pub numbers_of : ℕ → ℕ
 numbers_of count = steps_in (number_step count) (plus count (number_step count - 1))
 
@@ -77,7 +77,7 @@ abbrev pub stage_rows : Stage → ℕ → List Column → ℕ → List ℕ
 stage_rows x high columns zero = []
 stage_rows x high columns (suc k) = stage_rows x high columns k ++ bar_at (PageIn x k) (row_middle high k) columns
 
--- how broad bars are
+-- the width of bars
 abbrev pub row_class : ℕ → List ℕ
 row_class count = if nat_le count few_rows then codes "bar " else codes "bar thin "
 
@@ -86,7 +86,7 @@ stage_bars_drawn x count d =
     codes "<path class=\"" ++ row_class count ++ stage_class x ++ codes "\" d=\""
     ++ stage_rows x (row_height count) d.columns.items count ++ codes "\"/>\n"
 
--- these, or nothing where no page was ever in the stage
+-- these, or nothing if no page was ever in the stage
 abbrev pub stage_bars : Stage → ℕ → DrawnNode → List ℕ
 stage_bars x count d = if nat_eq (most_in x d.columns.items) 0 then [] else stage_bars_drawn x count d
 
@@ -95,7 +95,7 @@ bars count d =
     stage_bars Allocated count d ++ stage_bars PartlyMapped count d ++ stage_bars Queued count d
     ++ stage_bars InBatch count d ++ stage_bars Split count d
 
--- what stands in the panel of so many rows
+-- the content of the panel of this many rows
 unfoldable pub rows_graph : ℕ → DrawnNode → List ℕ
 rows_graph count d =
     event_rules (rows_height count) d ++ row_numbers (row_height count) (number_step count) (numbers_of count) ++ bars count d

@@ -1,13 +1,13 @@
--- The pages that pins keep from being split, above a node's panels.
+-- The pages whose split is prevented by pins, above a node's panels.
 use Rattle.std.specs.Prelude.{ℕ, ◌+◌, ◌-◌, min, List, [], ◌∷◌, ◌++◌, length, take, codes, if◌then◌else◌, nat_le}
 use Rattle.std.specs.Fmt.{decimal}
-use Rattle.thp_series.specs.declared.stuck_page.StuckPage.{StuckPage}
+use Rattle.thp_metrics.specs.declared.stuck_page.StuckPage.{StuckPage}
 use Rattle.thp_drawing.specs.Elements.{text_at}
 use Rattle.thp_drawing.specs.Scales.{plus, times}
 use Rattle.thp_drawing.specs.Titles.{many}
 use Rattle.thp_drawing.specs.declared.node.DrawnNode.{DrawnNode}
 
--- what is said of page p, which was found pinned so often and waits since this event
+-- the text about page p, which was found pinned that often and waits since this event
 unfoldable pub words_of : ℕ → ℕ → ℕ → List ℕ
 words_of p finds since =
     codes "stuck by pins: page " ++ decimal p ++ codes ", found pinned " ++ many finds (codes "time")
@@ -21,11 +21,11 @@ abbrev pub stuck_lines : ℕ → ℕ → List StuckPage → List ℕ
 stuck_lines y n [] = []
 stuck_lines y n (x ∷ more) = text_at (codes "ink") 900 (plus y (times 165 n)) (stuck_words x) ++ stuck_lines y (n + 1) more
 
--- so many pages have a line each, those that have waited longest
+-- the number of pages that have a line each, those that have waited longest
 abbrev pub told_stuck : ℕ
 told_stuck = 5
 
--- of more pages it is said how many more they are
+-- the text about the number of further pages
 unfoldable pub more_words : ℕ → List ℕ
 more_words n = codes "stuck by pins: " ++ many n (codes "more page")
 
@@ -34,10 +34,10 @@ more_line y count =
     if nat_le count told_stuck then []
     else text_at (codes "ink") 900 (plus y (times 165 told_stuck)) (more_words (count - told_stuck))
 
--- what is said of the stuck pages of a node, from this height on
+-- the text about the stuck pages of a node, from this height on
 unfoldable pub stuck_text : ℕ → DrawnNode → List ℕ
 stuck_text y d = stuck_lines y 0 (take told_stuck d.stuck.items) ++ more_line y (length d.stuck.items)
 
--- how high that is
+-- its height
 abbrev pub stuck_height : DrawnNode → ℕ
 stuck_height d = times 165 (min (length d.stuck.items) (told_stuck + 1))

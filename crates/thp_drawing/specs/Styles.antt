@@ -1,20 +1,20 @@
--- How a picture looks: classes of letters and lines, and their colours on a light and on a dark ground.
+-- The appearance of a picture: classes of letters and lines, and their colours on a light and on a dark background.
 use Rattle.std.specs.Prelude.{ℕ, List, ◌++◌, codes}
 
--- how large the picture is shown, and in which letters
+-- the size at which the picture is shown, and its font
 unfoldable pub letter_rules : List ℕ
 letter_rules =
     codes "svg{display:block;width:100%;max-width:1080px;height:auto;margin:0 auto;color-scheme:light dark}\n"
     ++ codes "text{font:120px system-ui,sans-serif;font-variant-numeric:tabular-nums}\n"
 
--- sizes of letters, lines and bars; stages have their colour as that of letters
+-- sizes of letters, lines and bars; the letters of stages have the stages' colours
 unfoldable pub size_rules : List ℕ
 size_rules =
     codes ".h{font-size:150px;font-weight:600}.hh{font-size:190px;font-weight:600}.e{text-anchor:end}.c{text-anchor:middle}\n"
     ++ codes "path{shape-rendering:crispEdges}.pale{fill-opacity:.35}.rule,.zero{fill:none;shape-rendering:auto;stroke-width:6}\n"
     ++ codes ".s0,.s1,.s2,.s3,.s4{fill:currentColor}.bar,.lane{fill:none;stroke:currentColor;stroke-width:90}.thin{stroke-width:60}\n"
 
--- on a light ground: letters, lines, and frames
+-- on a light background: letters, lines, and frames
 unfoldable pub light_inks : List ℕ
 light_inks =
     codes "svg{background:#ffffff}.bg{fill:#ffffff}.ink{fill:#1c2128}.soft{fill:#5d6673}.bad{fill:#c8102e}\n"
@@ -25,7 +25,7 @@ unfoldable pub light_stages : List ℕ
 light_stages =
     codes ".s0{color:#b6bfc9}.s1{color:#e79700}.s2{color:#3652b8}.s3{color:#bd61ab}.s4{color:#428452}\n"
 
--- on a dark ground
+-- on a dark background
 unfoldable pub dark_inks : List ℕ
 dark_inks =
     codes "svg{background:#14171c}.bg{fill:#14171c}.ink{fill:#e8ebf0}.soft{fill:#a3acb9}.bad{fill:#ff6b78}\n"

@@ -1,19 +1,18 @@
--- The numbers of nodes as a table: lines of fields that are parted by tabs, the first of which says what the line tells (this
--- project's format).
+-- The numbers of nodes as a table: lines of tab-separated fields, the first of which is the kind of line (this project's format).
 use Rattle.std.specs.Prelude.{ℕ, zero, suc, ◌+◌, ◌*◌, ◌-◌, ◌%◌, ◌^◌, min, List, [], ◌∷◌, ◌++◌, Option, Some, None, codes, if◌then◌else◌, nat_eq}
 use Rattle.std.specs.Fmt.{decimal}
 use Rattle.thp_journal_writer.specs.EventLines.{event_line}
 use Rattle.thp_journal_writer.specs.Journals.{ended}
 use Rattle.thp_drawing.specs.declared.illegal_event.IllegalEvent.{IllegalEvent}
-use Rattle.thp_series.specs.declared.column.Column.{Column}
-use Rattle.thp_series.specs.declared.stage.Stage.{Stage}
-use Rattle.thp_series.specs.declared.stage.Stage.TheVariants.{Allocated, PartlyMapped, Queued, InBatch, Split}
-use Rattle.thp_series.specs.declared.stuck_page.StuckPage.{StuckPage}
-use Rattle.thp_series.specs.Waits.{shown_callers}
+use Rattle.thp_metrics.specs.declared.column.Column.{Column}
+use Rattle.thp_metrics.specs.declared.stage.Stage.{Stage}
+use Rattle.thp_metrics.specs.declared.stage.Stage.TheVariants.{Allocated, PartlyMapped, Queued, InBatch, Split}
+use Rattle.thp_metrics.specs.declared.stuck_page.StuckPage.{StuckPage}
+use Rattle.thp_metrics.specs.Waits.{shown_callers}
 use Rattle.thp_drawing.specs.Bars.{is_among}
 use Rattle.thp_drawing.specs.declared.node.DrawnNode.{DrawnNode}
 
--- numbers, each behind a tab
+-- numbers, each after a tab
 abbrev pub fields : List ℕ → List ℕ
 fields [] = []
 fields (n ∷ ns) = codes "\t" ++ decimal n ++ fields ns
@@ -23,7 +22,7 @@ abbrev pub threshold_field : Option ℕ → List ℕ
 threshold_field None = codes "\toff"
 threshold_field (Some threshold) = codes "\t" ++ decimal threshold
 
--- the numbers of a column: of each series the least and the greatest, of each stage the sum
+-- the numbers of a column: the least and the greatest of each series, the sum of each stage
 unfoldable pub column_numbers : Column → List ℕ
 column_numbers c =
     c.queue.least ∷ c.queue.greatest ∷ c.in_batches.least ∷ c.in_batches.greatest
@@ -32,7 +31,7 @@ column_numbers c =
     ∷ c.pinned_tries.least ∷ c.pinned_tries.greatest ∷ c.wait.least ∷ c.wait.greatest
     ∷ c.pages.allocated ∷ c.pages.partly_mapped ∷ c.pages.queued ∷ c.pages.in_batch ∷ c.pages.split ∷ []
 
--- a page's stage as a letter; a page that doesn't live has none
+-- a page's stage as a letter; a page that is not live has none
 abbrev pub stage_letter : Option Stage → List ℕ
 stage_letter None = codes "-"
 stage_letter (Some Allocated) = codes "a"
@@ -45,25 +44,25 @@ abbrev pub stage_letters : List (Option Stage) → List ℕ
 stage_letters [] = []
 stage_letters (stage ∷ more) = stage_letter stage ++ stage_letters more
 
--- caller c, if it is among these, behind a comma if a lesser one is
+-- caller c, if it is in this set, after a comma if a lower one is
 abbrev pub caller_item : ℕ → ℕ → List ℕ
 caller_item callers c =
     if is_among c callers then (if nat_eq (callers % 2 ^ c) 0 then [] else codes ",") ++ decimal c else []
 
--- those of the first k callers that are among these
+-- those of the first k callers that are in this set
 abbrev pub caller_items : ℕ → ℕ → List ℕ
 caller_items callers zero = []
 caller_items callers (suc k) = caller_items callers k ++ caller_item callers k
 
--- callers that are told as bits
+-- the callers of a set that is given as bits
 unfoldable pub callers_joined : ℕ → List ℕ
 callers_joined callers = caller_items callers shown_callers
 
 abbrev pub caller_words : ℕ → List ℕ
 caller_words callers = if nat_eq callers 0 then codes "-" else callers_joined callers
 
--- the line of a column of node n, with its first and its last prefix; last the stages of the pages that were allocated first,
--- and the callers that had pages in their batches
+-- the line of a column of node n, with its first and its last prefix; the last fields are the stages of the first pages
+-- allocated, and the callers that had pages in their batches
 unfoldable pub column_line : ℕ → ℕ → ℕ → Column → List ℕ
 column_line n first last c =
     codes "column" ++ fields (n ∷ first ∷ last ∷ []) ++ fields (column_numbers c) ++ codes "\t" ++ stage_letters c.stages
@@ -75,14 +74,14 @@ column_lines n w prefixes j [] = []
 column_lines n w prefixes j (c ∷ more) =
     column_line n (w * j) (min (w * j + w) prefixes - 1) c ++ column_lines n w prefixes (j + 1) more
 
--- the numbers of a node behind its shape: its events, the width of a column, and what is behind the last event
+-- the numbers of a node after its shape: its events, the width of a column, and the numbers after the last event
 unfoldable pub node_numbers : DrawnNode → List ℕ
 node_numbers d =
     (d.prefixes - 1) ∷ d.width ∷ d.last.queue ∷ d.last.in_batches ∷ d.last.held ∷ d.last.given
     ∷ d.last.splits ∷ d.last.underused_splits ∷ d.last.pinned_tries ∷ d.last.wait
     ∷ d.last.pages.allocated ∷ d.last.pages.partly_mapped ∷ d.last.pages.queued ∷ d.last.pages.in_batch ∷ d.last.pages.split ∷ []
 
--- the number of the line of the journal's text that tells the first illegal event, and that line, whose end ends the node's own
+-- the number of the line with the first illegal event in the journal's text, and that line, whose end ends the node's own
 abbrev pub illegal_fields : Option IllegalEvent → List ℕ
 illegal_fields None = codes "\t-\t-\n"
 illegal_fields (Some illegal) = codes "\t" ++ decimal illegal.line ++ codes "\t" ++ ended (event_line illegal.event)
@@ -93,7 +92,7 @@ node_line n d =
     codes "node" ++ fields (n ∷ d.shape.blocks ∷ d.shape.order ∷ []) ++ threshold_field d.shape.underused
     ++ fields (node_numbers d) ++ illegal_fields d.illegal
 
--- the line of a stuck page of node n: how often it was found pinned, and since which event it waits
+-- the line of a stuck page of node n: the number of times it was found pinned, and the event since which it waits
 abbrev pub stuck_line : ℕ → StuckPage → List ℕ
 stuck_line n x = codes "stuck" ++ fields (n ∷ x.page ∷ x.finds ∷ x.since ∷ []) ++ codes "\n"
 

@@ -1,4 +1,4 @@
--- What is said of a node above its panels.
+-- The title of a node above its panels.
 use Rattle.std.specs.Prelude.{ℕ, ◌-◌, List, [], ◌++◌, length, take, Option, Some, None, codes, if◌then◌else◌, nat_eq, nat_le}
 use Rattle.std.specs.Fmt.{decimal}
 use Rattle.thp_model.specs.declared.events.Event.{Event}
@@ -7,7 +7,7 @@ use Rattle.thp_drawing.specs.Elements.{text_at}
 use Rattle.thp_drawing.specs.declared.illegal_event.IllegalEvent.{IllegalEvent}
 use Rattle.thp_drawing.specs.declared.node.DrawnNode.{DrawnNode}
 
--- a number and a word, which has an `s` where the number isn't 1
+-- a number and a word, with an `s` unless the number is 1
 unfoldable pub many : ℕ → List ℕ → List ℕ
 many n word = decimal n ++ codes " " ++ word ++ (if nat_eq n 1 then [] else codes "s")
 
@@ -15,12 +15,12 @@ abbrev pub threshold_words : Option ℕ → List ℕ
 threshold_words None = codes "off"
 threshold_words (Some threshold) = codes "above " ++ decimal threshold
 
--- the size of a node, and from how many zero-filled subpages on a page is underused
+-- the size of a node, and the number of zero-filled subpages from which on a page is underused
 unfoldable pub shape_words : ℕ → ℕ → Option ℕ → List ℕ
 shape_words blocks order threshold =
     many blocks (codes "block") ++ codes " of 2^" ++ decimal order ++ codes " frames, underused " ++ threshold_words threshold
 
--- how many events are drawn
+-- the number of events drawn
 unfoldable pub events_words : DrawnNode → List ℕ
 events_words d = many (d.prefixes - 1) (codes "legal event")
 
@@ -30,7 +30,7 @@ node_words n d =
     codes "node " ++ decimal n ++ codes ": "
     ++ shape_words d.shape.blocks d.shape.order d.shape.underused ++ codes ", " ++ events_words d
 
--- a line of at most 70 letters, or the front of a longer one
+-- a line of at most 70 letters, or the beginning of a longer one
 unfoldable pub shortened : List ℕ → List ℕ
 shortened line = if nat_le (length line) 70 then line else take 67 line ++ codes " .."
 

@@ -11,9 +11,9 @@ use crate::scale::{scaled, times};
 use crate::stages::{most_in, pages_most, prefixes_of, stage_class, sum_up_to};
 use std::alloc::AllocError;
 use thp_journal_writer::put;
-use thp_series::{Column, Stage};
+use thp_metrics::{Column, Stage};
 
-/// Puts the areas of a quantity, of which `most` is 1,000 high.
+/// Appends the areas of a quantity, on a scale where `most` is 1,000 high.
 #[tactic(auto, using(crate::proofs::Pieces::two), unfolding(crate::specs::Areas::quantity_areas))]
 pub(crate) fn put_quantity_areas(
     text: &mut Vec<u8>,
@@ -81,7 +81,7 @@ fn put_quantity_outline(
     Ok(())
 }
 
-// How wide the column at this place is, of so many: from its place to that of the next.
+// The width of the column at this index, of `count`: from its position to that of the next.
 fn column_width(count: u128, place: u128) -> u128
     requires { place < 2 ^ 64 }
     ensures { result ≡ column_width count place }
@@ -89,7 +89,7 @@ fn column_width(count: u128, place: u128) -> u128
     scaled(6000, place + 1, count).saturating_sub(scaled(6000, place, count))
 }
 
-// To this height, and on so far.
+// A step to this height, and this far to the right.
 #[tactic(auto, using(crate::proofs::Pieces::five), unfolding(crate::specs::Areas::step_to))]
 fn put_step(text: &mut Vec<u8>, sign: &[u8], high: u128, wide: u128) -> Result<(), AllocError>
     ensures { OnOk result (text.new.items ≡ text.old.items ++ step_to sign.now high wide) }
@@ -101,7 +101,7 @@ fn put_step(text: &mut Vec<u8>, sign: &[u8], high: u128, wide: u128) -> Result<(
     put_decimal(text, wide)
 }
 
-/// Puts the area of a stage, if any page was ever in it.
+/// Appends the area of a stage, if any page was ever in it.
 pub(crate) fn put_stage_area(
     text: &mut Vec<u8>,
     stage: Stage,

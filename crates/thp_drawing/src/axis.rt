@@ -1,4 +1,4 @@
-//! Axes: numbers beside lines.
+//! Axes: numbers next to lines.
 ghost use Rattle.std.specs.Prelude.{◌≡◌, ◌++◌, OnOk};
 ghost use Rattle.std.specs.Fmt.{decimal};
 ghost use Rattle.thp_drawing.specs.Axes.{
@@ -27,7 +27,7 @@ use itoa::Buffer;
 use std::alloc::AllocError;
 use thp_journal_writer::put;
 
-/// Puts the first so many numbers of an axis, of which `most` is 1,000 high, and lines at their heights.
+/// Appends the first `count` numbers of an axis, on a scale where `most` is 1,000 high, and lines at their heights.
 pub(crate) fn put_ticks(
     text: &mut Vec<u8>,
     sign: &[u8],
@@ -44,7 +44,7 @@ pub(crate) fn put_ticks(
     Ok(())
 }
 
-/// Puts a number of an axis, and a line at its height.
+/// Appends a number of an axis, and a line at its height.
 #[tactic(auto, using(crate::proofs::Pieces::nine), unfolding(crate::specs::Axes::tick))]
 pub(crate) fn put_tick(
     text: &mut Vec<u8>,
@@ -65,7 +65,7 @@ pub(crate) fn put_tick(
     put(text, b"</text>\n")
 }
 
-/// Puts the line from which areas go up and down.
+/// Appends the line from which areas extend upwards and downwards.
 pub(crate) fn put_base_line(text: &mut Vec<u8>) -> Result<(), AllocError>
     ensures { OnOk result (text.new.items ≡ text.old.items ++ base_line) }
 {
@@ -82,14 +82,14 @@ pub(crate) fn put_group_end(text: &mut Vec<u8>) -> Result<(), AllocError>
     put(text, b"</g>\n")
 }
 
-// The events of a node that are drawn.
+// The number of a node's events that are drawn.
 fn events_of(node: &DrawnNode) -> u128
     ensures { result ≡ events_of node.now }
 {
     node.prefixes.saturating_sub(1)
 }
 
-// How many there is room for.
+// The number of events that there is room for.
 fn room_of(node: &DrawnNode) -> u128
     ensures { result ≡ room_of node.now }
 {
@@ -103,7 +103,7 @@ fn event_step(node: &DrawnNode) -> u128
     round_step(events_of(node))
 }
 
-/// Puts the upright lines of a panel that is so high.
+/// Appends the vertical lines of a panel of this height.
 #[tactic(auto, using(crate::proofs::Pieces::four), unfolding(crate::specs::Axes::event_rules))]
 pub(crate) fn put_event_rules(
     text: &mut Vec<u8>,
@@ -150,7 +150,7 @@ fn put_upright(text: &mut Vec<u8>, high: u128, x: u128) -> Result<(), AllocError
     put_decimal(text, high)
 }
 
-/// Puts the numbers of events at this height.
+/// Appends the numbers of events at this height.
 #[tactic(auto, using(crate::proofs::Pieces::four), unfolding(crate::specs::Axes::event_axis))]
 pub(crate) fn put_event_axis(
     text: &mut Vec<u8>,

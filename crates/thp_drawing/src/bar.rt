@@ -7,14 +7,14 @@ use crate::element::put_decimal;
 use crate::scale::scaled;
 use std::alloc::AllocError;
 use thp_journal_writer::put;
-use thp_series::{Column, SHOWN_CALLERS, Stage};
+use thp_metrics::{Column, SHOWN_CALLERS, Stage};
 
-/// What a bar shows.
+/// The content of a bar.
 #[derive(Clone, Copy, Debug, PartialEq, Eq)]
 pub(crate) enum Bar {
-    /// When the page of this number was in the stage.
+    /// The times when the page of this number was in the stage.
     PageIn(Stage, u128),
-    /// When the caller of this number had pages in its batch.
+    /// The times when the caller of this number had pages in its batch.
     BatchOf(u32),
 }
 
@@ -31,7 +31,7 @@ impl Bar {
         }
     }
 
-    /// How often the bar begins and ends.
+    /// Returns the number of starts and ends of the bar.
     pub(crate) fn turns(self, columns: &[Column]) -> u128
         ensures count { result ≡ bar_turns self false columns.now }
         ensures most { result ≤ length columns.now }
@@ -47,7 +47,7 @@ impl Bar {
     }
 }
 
-// How often a bar begins or ends between a column and the next.
+// The number of starts and ends of a bar between a column and the next.
 fn turn_count(before: bool, now: bool) -> u128
     ensures count { result ≡ turn_count before now }
     ensures most { result ≤ 1 }
@@ -55,14 +55,14 @@ fn turn_count(before: bool, now: bool) -> u128
     if before == now { 0 } else { 1 }
 }
 
-/// Whether a caller is among those that are told as bits.
+/// Returns whether a caller is in a set of callers given as bits.
 pub(crate) fn is_among(caller: u32, callers: u64) -> bool
     ensures { result ≡ is_among caller callers }
 {
     caller < SHOWN_CALLERS && (callers >> caller) % 2 == 1
 }
 
-// The stage of a page behind a column's last prefix.
+// The stage of a page after a column's last prefix.
 fn stage_in(page: u128, stages: &[Option<Stage>]) -> Option<Stage>
     ensures { result ≡ stage_in page stages.now }
 {
@@ -87,7 +87,7 @@ fn stage_number(stage: Option<Stage>) -> u8
     }
 }
 
-/// Puts the lines of a bar at this height.
+/// Appends the lines of a bar at this height.
 pub(crate) fn put_bar(
     text: &mut Vec<u8>,
     bar: Bar,
@@ -106,7 +106,7 @@ pub(crate) fn put_bar(
     put_turn(text, y, scaled(6000, count, count), before, false)
 }
 
-// A line begins where the bar does, and ends where the bar does.
+// The start or end of a line, where the bar starts or ends.
 fn put_turn(text: &mut Vec<u8>, y: u128, x: u128, before: bool, now: bool) -> Result<(), AllocError>
     ensures { OnOk result (text.new.items ≡ text.old.items ++ line_turn y x before now) }
 {

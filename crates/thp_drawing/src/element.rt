@@ -1,4 +1,4 @@
-//! What a picture is made of.
+//! The elements of a picture.
 ghost use Rattle.std.specs.Prelude.{◌≡◌, ◌++◌, OnOk};
 ghost use Rattle.std.specs.Fmt.{decimal};
 ghost use Rattle.thp_drawing.specs.Elements.{group_start, square_at, text_at};
@@ -8,14 +8,14 @@ use itoa::Buffer;
 use std::alloc::AllocError;
 use thp_journal_writer::put;
 
-/// Puts a number behind a text.
+/// Appends a number to a text.
 pub(crate) fn put_decimal(text: &mut Vec<u8>, number: u128) -> Result<(), AllocError>
     ensures { OnOk result (text.new.items ≡ text.old.items ++ decimal number) }
 {
     put(text, Buffer::new().format(number).as_bytes())
 }
 
-/// Puts a text of this class, from this place on.
+/// Appends a text of this class, from this position on.
 #[tactic(auto, using(crate::proofs::Pieces::nine), unfolding(crate::specs::Elements::text_at))]
 pub(crate) fn put_text(
     text: &mut Vec<u8>,
@@ -37,7 +37,7 @@ pub(crate) fn put_text(
     put(text, b"</text>\n")
 }
 
-/// Puts a square of this class.
+/// Appends a square of this class.
 #[tactic(auto, using(crate::proofs::Pieces::seven), unfolding(crate::specs::Elements::square_at))]
 pub(crate) fn put_square(
     text: &mut Vec<u8>,
@@ -56,7 +56,7 @@ pub(crate) fn put_square(
     put(text, b"\" width=\"80\" height=\"80\"/>\n")
 }
 
-/// Begins a group whose origin is this place.
+/// Begins a group whose origin is this position.
 #[tactic(auto, using(crate::proofs::Pieces::five), unfolding(crate::specs::Elements::group_start))]
 pub(crate) fn put_group(text: &mut Vec<u8>, x: u128, y: u128) -> Result<(), AllocError>
     ensures { OnOk result (text.new.items ≡ text.old.items ++ group_start x y) }

@@ -1,11 +1,11 @@
-//! Words as a text of XML has them.
+//! Escapes words for a text of XML.
 ghost use Rattle.std.specs.Prelude.{◌≡◌, ◌++◌, OnOk};
 ghost use Rattle.thp_drawing.specs.Escapes.{escaped, escaped_byte, EscapedStaysWithin};
 
 use std::alloc::AllocError;
 use thp_journal_writer::put;
 
-/// Puts words behind a text of XML. Where memory is refused a front of them may stand there.
+/// Appends words to a text of XML, escaped. If memory can't be allocated, the text can contain a prefix of them.
 pub fn put_escaped(text: &mut Vec<u8>, words: &[u8]) -> Result<(), AllocError>
     ensures { OnOk result (text.new.items ≡ text.old.items ++ escaped words.now) }
 {
@@ -31,9 +31,9 @@ fn put_byte(text: &mut Vec<u8>, byte: u8) -> Result<(), AllocError>
     }
 }
 
-/// Whatever words are escaped, nothing of them ends the text or the value that they stand in.
+/// States that escaped words never end the text or the attribute value that contains them.
 ///
-/// It does nothing: its contract is the law.
+/// The function does nothing: its contract is the law.
 pub fn escaped_stays_within()
     ensures { EscapedStaysWithin }
 {}

@@ -1,4 +1,4 @@
-//! The panel of the callers' batches.
+//! The panel of callers' batches.
 ghost use Rattle.std.specs.Prelude.{◌≡◌, ◌≤◌, ◌++◌, [], length, if◌then◌else◌, OnOk};
 ghost use Rattle.thp_drawing.specs.Axes.{tick};
 ghost use Rattle.thp_drawing.specs.Lanes.{
@@ -25,7 +25,7 @@ use crate::rows::{MAX_TURNS, row_middle};
 use crate::scale::{plus, times};
 use std::alloc::AllocError;
 use thp_journal_writer::put;
-use thp_series::{Column, SHOWN_CALLERS};
+use thp_metrics::{Column, SHOWN_CALLERS};
 
 // The height of a lane.
 const LANE_HEIGHT: u128 = 140;
@@ -37,7 +37,7 @@ fn has_lane(columns: &[Column], caller: u32) -> bool
     0 < Bar::BatchOf(caller).turns(columns)
 }
 
-// How many lanes a caller has: one or none.
+// The number of lanes of a caller: one or none.
 fn lanes_of_caller(columns: &[Column], caller: u32) -> u128
     ensures count { result ≡ (if has_lane columns.now caller then 1 else 0) }
     ensures most { result ≤ 1 }
@@ -45,7 +45,7 @@ fn lanes_of_caller(columns: &[Column], caller: u32) -> u128
     if has_lane(columns, caller) { 1 } else { 0 }
 }
 
-// How many lanes a node has.
+// The number of lanes of a node.
 fn lanes_of(node: &DrawnNode) -> u128
     ensures { result ≡ lanes_of node.now }
 {
@@ -62,7 +62,7 @@ fn count_lanes(columns: &[Column]) -> u128
     count
 }
 
-// How often their bars begin and end.
+// The number of starts and ends of their bars.
 #[tactic(auto, unfolding(crate::specs::Lanes::all_turns))]
 fn all_turns(columns: &[Column]) -> u128
     ensures { result ≡ all_turns columns.now }
@@ -74,14 +74,14 @@ fn all_turns(columns: &[Column]) -> u128
     count
 }
 
-// Whether there are lanes, and their bars can be told apart.
+// Whether there are lanes, and their bars can be distinguished.
 fn has_lanes(node: &DrawnNode) -> bool
     ensures { result ≡ has_lanes node.now }
 {
     1 <= lanes_of(node) && all_turns(node.columns.as_slice()) <= MAX_TURNS
 }
 
-/// How high the panel of lanes is.
+/// Returns the height of the panel of lanes.
 pub(crate) fn lanes_height(node: &DrawnNode) -> u128
     ensures { result ≡ lanes_height node.now }
 {
@@ -92,7 +92,7 @@ pub(crate) fn lanes_height(node: &DrawnNode) -> u128
     }
 }
 
-/// Puts the panel of a node's callers, a lane for each that ever had pages in its batch, from this height on.
+/// Appends the panel of a node's callers from this height on: a lane for each caller that ever had pages in its batch.
 pub(crate) fn put_lanes_panel(
     text: &mut Vec<u8>,
     y: u128,

@@ -1,9 +1,9 @@
-//! Laws of what is drawn. Each function does nothing: its contract is the law.
+//! Laws of drawings. The functions do nothing: each contract is the law.
 ghost use Rattle.thp_drawing.specs.Laws.{EachPageHasItsRow};
 
 use thp_model::each_frame_once;
 
-/// As many pages have rows as were allocated, where there are few enough: each frame of theirs is held or was given back.
+/// States that each allocated page has a row, if there are few enough: each of its frames is held or was given back.
 pub fn each_page_has_its_row()
     ensures { EachPageHasItsRow }
 {

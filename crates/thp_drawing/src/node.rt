@@ -1,34 +1,34 @@
-//! What is drawn of a node.
+//! The data of a node that is drawn.
 ghost use Rattle.std.specs.Prelude.{◌≡◌, IfOk};
 ghost use Rattle.thp_drawing.specs.Drawn.{AreColumnsOf, IsDrawn};
 
 use crate::illegal_event::IllegalEvent;
 use std::alloc::{AllocError, Global};
+use thp_metrics::{Column, Columns, NodeSeries, Numbers, StuckPage};
 use thp_model::Shape;
-use thp_series::{Column, Columns, NodeSeries, Numbers, StuckPage};
 
-/// What is drawn of a node: its numbers over its events, or over those before its first illegal one.
+/// The data of a node that is drawn: its numbers over its events, or over those before its first illegal event.
 #[derive(Drop)]
 pub struct DrawnNode {
-    /// Its shape.
+    /// The shape of the node.
     pub shape: Shape,
-    /// How many prefixes its events have, that of no event among them.
+    /// The number of prefixes of its events, including the empty one.
     pub prefixes: u128,
-    /// How many prefixes a column has; the last may have fewer.
+    /// The number of prefixes in a column; the last column can have fewer.
     pub width: u64,
     /// The columns, in the order of their prefixes.
     pub columns: Vec<Column>,
-    /// The numbers behind the last event.
+    /// The numbers after the last event.
     pub last: Numbers,
-    /// The first event that doesn't fit those before it, where there is one.
+    /// The first event that does not fit those before it, if there is one.
     pub illegal: Option<IllegalEvent>,
-    /// The pages that wait behind the last event and were found pinned, those that have waited longest in front.
+    /// The pages that wait after the last event and were found pinned, those that have waited longest first.
     pub stuck: Vec<StuckPage>,
 }
 
 impl DrawnNode {
-    /// What is drawn of a node whose events are legal. The shape is the node's. Fails where memory for its stuck pages is
-    /// refused.
+    /// Creates the data of a node whose events are legal. The shape must be the node's. Fails if memory for its stuck pages can't
+    /// be allocated.
     pub fn of(alloc: Global, shape: Shape, node: NodeSeries) -> Result<DrawnNode, AllocError>
         requires { node.shape ≡ shape }
         ensures { IfOk result (IsDrawn shape node.history) }
@@ -38,8 +38,8 @@ impl DrawnNode {
         Ok(DrawnNode::from_columns(shape, node.into_columns(), last, None, stuck))
     }
 
-    /// What is drawn of a node of this shape, of columns, the numbers behind the last event, the first event that doesn't fit,
-    /// and the stuck pages.
+    /// Creates the data of a node of this shape from its columns, the numbers after the last event, the first event that does not
+    /// fit, and the stuck pages.
     pub fn from_columns(
         shape: Shape,
         columns: Columns,

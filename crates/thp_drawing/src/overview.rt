@@ -1,4 +1,4 @@
-//! The nodes side by side.
+//! The overview of all nodes.
 ghost use Rattle.std.specs.Prelude.{◌≡◌, ◌++◌, OnOk};
 ghost use Rattle.thp_drawing.specs.Overviews.{
   live_pages,
@@ -21,9 +21,9 @@ use crate::scale::{plus, times};
 use itoa::Buffer;
 use std::alloc::AllocError;
 use thp_journal_writer::put;
-use thp_series::Pages;
+use thp_metrics::Pages;
 
-/// How far down the overview reaches.
+/// Returns the lower end of the overview.
 pub(crate) fn overview_foot(nodes: &[DrawnNode]) -> u128
     ensures { result ≡ overview_foot nodes.now }
 {
@@ -34,7 +34,7 @@ pub(crate) fn overview_foot(nodes: &[DrawnNode]) -> u128
     }
 }
 
-/// Puts the overview of several nodes.
+/// Appends the overview of several nodes.
 #[tactic(auto, using(crate::proofs::Pieces::two), unfolding(crate::specs::Overviews::overview))]
 pub(crate) fn put_overview(text: &mut Vec<u8>, nodes: &[DrawnNode]) -> Result<(), AllocError>
     ensures { OnOk result (text.new.items ≡ text.old.items ++ overview nodes.now) }
@@ -113,7 +113,7 @@ fn put_overview_numbers(text: &mut Vec<u8>, node: &DrawnNode) -> Result<(), Allo
     put_number(text, 6900, node.last.given)
 }
 
-// A number that ends at this place.
+// A right-aligned number that ends at this position.
 fn put_number(text: &mut Vec<u8>, x: u128, number: u128) -> Result<(), AllocError>
     ensures { OnOk result (text.new.items ≡ text.old.items ++ number_cell x number) }
 {
@@ -126,7 +126,7 @@ fn put_number(text: &mut Vec<u8>, x: u128, number: u128) -> Result<(), AllocErro
     )
 }
 
-// The pages that live, in whatever stage.
+// The number of live pages in all stages.
 fn live_pages(pages: &Pages) -> u128
     ensures { result ≡ live_pages pages.now }
 {

@@ -27,12 +27,12 @@ use crate::scale::{doubled_step, plus, round_step, scaled, steps_in};
 use std::alloc::AllocError;
 use thp_journal_writer::put;
 
-/// A panel of two quantities, one of which is drawn upwards and the other downwards.
+/// A panel of two quantities, one drawn upwards and the other downwards.
 #[derive(Clone, Copy, Debug, PartialEq, Eq)]
 pub(crate) enum Panel {
     /// Pages in the queue, and in batches.
     Pages,
-    /// How long the page has waited that waits longest.
+    /// The time that the longest waiting page has waited.
     Waits,
     /// Frames held, and given back.
     Frames,
@@ -66,7 +66,7 @@ impl Panel {
         }
     }
 
-    // The step of its numbers up to this one.
+    // The step of the panel's numbers up to this one.
     fn step(self, number: u128) -> u128
         ensures { result ≡ panel_step self number }
     {
@@ -76,7 +76,7 @@ impl Panel {
         }
     }
 
-    /// The greatest number of both, which together are 1,000 high.
+    /// Returns the greatest sum of both quantities, which is 1,000 high.
     pub(crate) fn most(self, node: &DrawnNode) -> u128
         ensures { result ≡ panel_most self node.now }
     {
@@ -86,7 +86,7 @@ impl Panel {
     }
 }
 
-/// Puts a panel from this height on, unless its numbers are all 0.
+/// Appends a panel from this height on, unless its numbers are all 0.
 pub(crate) fn put_panel(
     text: &mut Vec<u8>,
     panel: Panel,
@@ -152,7 +152,7 @@ fn put_unit(text: &mut Vec<u8>, panel: Panel) -> Result<(), AllocError>
     }
 }
 
-// A quantity's colour and words, if it has any number but 0.
+// A quantity's colour and words, if it has any number other than 0.
 fn put_quantity_item(
     text: &mut Vec<u8>,
     quantity: Quantity,
@@ -197,7 +197,7 @@ fn put_quantity_words(
     put_decimal(text, quantity.last(&node.last))
 }
 
-// What stands round the base line.
+// The content above and below the base line.
 #[tactic(auto, using(crate::proofs::Pieces::five), unfolding(crate::specs::Panels::panel_halves))]
 fn put_panel_halves(
     text: &mut Vec<u8>,
@@ -216,7 +216,7 @@ fn put_panel_halves(
     put_group_end(text)
 }
 
-// The lines and areas of a quantity, if it has any number but 0.
+// The lines and areas of a quantity, if it has any number other than 0.
 fn put_quantity_half(
     text: &mut Vec<u8>,
     sign: &[u8],

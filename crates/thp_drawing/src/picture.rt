@@ -1,4 +1,4 @@
-//! The picture of nodes, as a text of SVG.
+//! The picture of nodes, as SVG.
 ghost use Rattle.std.specs.Prelude.{◌≡◌, ◌++◌, codes, OnOk};
 ghost use Rattle.std.specs.Fmt.{decimal};
 ghost use Rattle.thp_drawing.specs.Pictures.{
@@ -47,8 +47,8 @@ use crate::title::{put_illegal_text, put_node_words};
 use std::alloc::AllocError;
 use thp_journal_writer::put;
 
-/// Puts the picture of nodes, which are numbered from 0 on, behind a text. Where memory is refused a front of it may
-/// stand there.
+/// Appends the picture of nodes, which are numbered from 0, to a text. If memory can't be allocated, the text can contain a
+/// prefix of it.
 #[tactic(auto, using(crate::proofs::Pieces::five), unfolding(crate::specs::Pictures::picture_text))]
 pub fn put_picture(text: &mut Vec<u8>, nodes: &[DrawnNode]) -> Result<(), AllocError>
     ensures { OnOk result (text.new.items ≡ text.old.items ++ picture_text nodes.now) }
@@ -100,7 +100,7 @@ fn title_words() -> &'static [u8]
     b"Deferred split queues"
 }
 
-// What is said of the order of events.
+// The caption about the order of events.
 #[tactic(auto, unfolding(crate::specs::Pictures::order_words))]
 fn order_words() -> &'static [u8]
     ensures { result.now ≡ order_words }
@@ -108,7 +108,7 @@ fn order_words() -> &'static [u8]
     b"The events of a node follow each other from left to right; those of two nodes have no common time."
 }
 
-// What is said of columns.
+// The caption about columns.
 #[tactic(auto, unfolding(crate::specs::Pictures::column_words))]
 fn column_words() -> &'static [u8]
     ensures { result.now ≡ column_words }
@@ -125,7 +125,7 @@ fn put_title(text: &mut Vec<u8>) -> Result<(), AllocError>
     put_text(text, b"soft", 150, 640, column_words())
 }
 
-// How far down nodes reach, from this height on.
+// The lower end of the nodes, from this height on.
 fn foot_of(top: u128, nodes: &[DrawnNode]) -> u128
     ensures { result ≡ foot_of top nodes.now }
 {
@@ -175,7 +175,7 @@ fn put_panels(text: &mut Vec<u8>, node: &DrawnNode) -> Result<(), AllocError>
     put_lives(text, lives_top(node), node)
 }
 
-// The pages' stages: a row for each page, or how many are in each stage.
+// The pages' stages: a row for each page, or the number of pages in each stage.
 fn put_lives(text: &mut Vec<u8>, y: u128, node: &DrawnNode) -> Result<(), AllocError>
     ensures { OnOk result (text.new.items ≡ text.old.items ++ lives_drawn y node.now) }
 {

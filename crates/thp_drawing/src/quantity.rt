@@ -1,18 +1,18 @@
-//! What is drawn over a node's events.
+//! The quantities that are drawn over a node's events.
 ghost use Rattle.std.specs.Prelude.{◌≡◌};
 ghost use Rattle.thp_drawing.specs.Areas.{edge_class, edge_of};
 ghost use Rattle.thp_drawing.specs.Quantities.{last_of, most_of, quantity_class, quantity_name, span_in};
 
-use thp_series::{Column, Numbers, Span};
+use thp_metrics::{Column, Numbers, Span};
 
-/// A number of a node that is drawn over its events.
+/// A quantity of a node that is drawn over its events.
 #[derive(Clone, Copy, Debug, PartialEq, Eq)]
 pub(crate) enum Quantity {
     /// Pages in the deferred split queue.
     Queue,
     /// Pages in batches.
     InBatches,
-    /// Frames held.
+    /// Frames held by live pages.
     Held,
     /// Frames given back so far.
     Given,
@@ -20,15 +20,15 @@ pub(crate) enum Quantity {
     Splits,
     /// Tries that found a page pinned, so far.
     PinnedTries,
-    /// Pages split so far that weren't partly mapped, but underused.
+    /// Pages split so far that were underused and not partly mapped.
     UnderusedSplits,
-    /// Behind how many events the page has waited that waits longest.
+    /// The number of events for which the longest waiting page has waited.
     Wait,
-    /// None at all: what a panel of one number has below its base line.
+    /// No quantity: the lower half of a panel with one quantity.
     Nothing,
 }
 
-/// Which number of a column is drawn.
+/// The number of a column that is drawn: the least or the greatest.
 #[derive(Clone, Copy, Debug, PartialEq, Eq)]
 pub(crate) enum Edge {
     Least,
@@ -36,7 +36,7 @@ pub(crate) enum Edge {
 }
 
 impl Quantity {
-    /// What it is called.
+    /// Returns the name.
     pub(crate) fn name(self) -> &'static [u8]
         ensures { result.now ≡ quantity_name self }
     {
@@ -53,7 +53,7 @@ impl Quantity {
         }
     }
 
-    /// The class that has its colour.
+    /// Returns the class with the quantity's colour.
     pub(crate) fn class(self) -> &'static [u8]
         ensures { result.now ≡ quantity_class self }
     {
@@ -70,7 +70,7 @@ impl Quantity {
         }
     }
 
-    /// Its numbers in a column.
+    /// Returns the quantity's numbers in a column.
     pub(crate) fn span(self, column: &Column) -> Span
         ensures { result ≡ span_in self column.now }
     {
@@ -90,7 +90,7 @@ impl Quantity {
         }
     }
 
-    /// Its number behind the last event.
+    /// Returns the quantity's number after the last event.
     pub(crate) fn last(self, numbers: &Numbers) -> u128
         ensures { result ≡ last_of self numbers.now }
     {
@@ -107,7 +107,7 @@ impl Quantity {
         }
     }
 
-    /// Its greatest number in any column.
+    /// Returns the quantity's greatest number in any column.
     pub(crate) fn most(self, columns: &[Column]) -> u128
         ensures { result ≡ most_of self columns.now }
     {
@@ -120,7 +120,7 @@ impl Quantity {
 }
 
 impl Edge {
-    /// This number of a span.
+    /// Returns this number of a span.
     pub(crate) fn of(self, span: Span) -> u128
         ensures { result ≡ edge_of self span }
     {
@@ -130,7 +130,7 @@ impl Edge {
         }
     }
 
-    /// What its area has behind its class.
+    /// Returns the class that is added to its area.
     pub(crate) fn class(self) -> &'static [u8]
         ensures { result.now ≡ edge_class self }
     {

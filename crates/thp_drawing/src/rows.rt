@@ -1,4 +1,4 @@
-//! The pages of a node one by one: whether they have rows, and where these lie.
+//! The rows of a node's pages: whether there are any, and their positions.
 ghost use Rattle.std.specs.Prelude.{◌≡◌, ◌≤◌, ◌*◌, length};
 ghost use Rattle.thp_drawing.specs.Rows.{
   allocated_pages,
@@ -16,23 +16,23 @@ ghost use Rattle.thp_drawing.specs.Rows.{
 use crate::bar::Bar;
 use crate::node::DrawnNode;
 use crate::scale::{plus, steps_in, times};
+use thp_metrics::{Column, SHOWN_PAGES, Stage};
 use thp_model::Shape;
-use thp_series::{Column, SHOWN_PAGES, Stage};
 
-/// Bars that begin and end more often than this can't be told apart.
+/// The greatest number of starts and ends for which bars can be distinguished.
 pub(crate) const MAX_TURNS: u128 = 4000;
 
-// Up to so many rows are far apart, more are close to each other.
+// Up to this many rows are spaced widely, more are spaced closely.
 const FEW_ROWS: u128 = 24;
 
-/// How many pages were allocated: each frame of theirs is held or was given back.
+/// Returns the number of pages allocated: each of their frames is held or was given back.
 pub(crate) fn allocated_pages(node: &DrawnNode) -> u128
     ensures { result ≡ allocated_pages node.now }
 {
     plus(node.last.held, node.last.given) >> node.shape.order.min(Shape::MAX_ORDER)
 }
 
-/// Whether each page has a row: few were allocated, and their bars can be told apart.
+/// Returns whether each page has a row: few were allocated, and their bars can be distinguished.
 pub(crate) fn has_rows(node: &DrawnNode) -> bool
     ensures { result ≡ has_rows node.now }
 {
@@ -40,7 +40,7 @@ pub(crate) fn has_rows(node: &DrawnNode) -> bool
     1 <= count && count <= SHOWN_PAGES as u128 && row_turns(node.columns.as_slice()) <= MAX_TURNS
 }
 
-// How often the bars of pages that can have a row begin and end.
+// The number of starts and ends of the bars of all pages that can have a row.
 #[tactic(auto, unfolding(crate::specs::Rows::row_turns))]
 fn row_turns(columns: &[Column]) -> u128
     ensures { result ≡ row_turns columns.now }
@@ -53,7 +53,7 @@ fn row_turns(columns: &[Column]) -> u128
     count
 }
 
-// How often those of this page do.
+// The number of starts and ends of this page's bars.
 fn page_turns(columns: &[Column], page: u128) -> u128
     ensures count { result ≡ page_turns columns.now page }
     ensures most { result ≤ 5 * length columns.now }
@@ -65,35 +65,35 @@ fn page_turns(columns: &[Column], page: u128) -> u128
         + Bar::PageIn(Stage::Split, page).turns(columns)
 }
 
-/// The height of each of so many rows.
+/// Returns the height of each row, for this many rows.
 pub(crate) fn row_height(count: u128) -> u128
     ensures { result ≡ row_height count }
 {
     if count <= FEW_ROWS { 140 } else { 90 }
 }
 
-/// The middle of the row of this number.
+/// Returns the middle of the row of this number.
 pub(crate) fn row_middle(high: u128, number: u128) -> u128
     ensures { result ≡ row_middle high number }
 {
     plus(times(high, number), high / 2)
 }
 
-/// The height of so many rows.
+/// Returns the height of this many rows together.
 pub(crate) fn rows_height(count: u128) -> u128
     ensures { result ≡ rows_height count }
 {
     times(row_height(count), count)
 }
 
-/// How far apart the numbers of so many rows are.
+/// Returns the distance between the numbers of this many rows.
 pub(crate) fn number_step(count: u128) -> u128
     ensures { result ≡ number_step count }
 {
     if count <= FEW_ROWS { 1 } else { 2 }
 }
 
-/// How many numbers so many rows have.
+/// Returns the number of numbers of this many rows.
 pub(crate) fn numbers_of(count: u128) -> u128
     ensures { result ≡ numbers_of count }
 {
@@ -101,7 +101,7 @@ pub(crate) fn numbers_of(count: u128) -> u128
     steps_in(step, plus(count, step - 1))
 }
 
-/// The class of bars in so many rows.
+/// Returns the class of bars in this many rows.
 pub(crate) fn row_class(count: u128) -> &'static [u8]
     ensures { result.now ≡ row_class count }
 {

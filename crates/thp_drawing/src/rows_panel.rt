@@ -1,4 +1,4 @@
-//! The panel of the pages one by one.
+//! The panel of individual pages.
 ghost use Rattle.std.specs.Prelude.{◌≡◌, ◌++◌, OnOk};
 ghost use Rattle.thp_drawing.specs.Rows.{
   bars,
@@ -23,9 +23,9 @@ use crate::stages::{most_in, stage_class};
 use crate::stages_panel::put_stage_items;
 use std::alloc::AllocError;
 use thp_journal_writer::put;
-use thp_series::{Column, Stage};
+use thp_metrics::{Column, Stage};
 
-/// Puts the panel of a node's pages, a row for each, from this height on.
+/// Appends the panel of a node's pages from this height on, with a row for each.
 #[tactic(auto, using(crate::proofs::Pieces::seven), unfolding(crate::specs::Rows::rows_panel))]
 pub(crate) fn put_rows_panel(
     text: &mut Vec<u8>,
@@ -68,7 +68,7 @@ fn put_rows_graph(text: &mut Vec<u8>, count: u128, node: &DrawnNode) -> Result<(
     put_bars(text, count, node)
 }
 
-// The first so many numbers of rows, and thin lines through these.
+// The first `count` numbers of rows, and thin lines through them.
 fn put_row_numbers(
     text: &mut Vec<u8>,
     high: u128,
@@ -95,7 +95,7 @@ fn put_bars(text: &mut Vec<u8>, count: u128, node: &DrawnNode) -> Result<(), All
     put_stage_bars(text, Stage::Split, count, node)
 }
 
-// The bars of the first so many pages in a stage, if any page was ever in it.
+// The bars of the first `count` pages in a stage, if any page was ever in it.
 fn put_stage_bars(
     text: &mut Vec<u8>,
     stage: Stage,

@@ -1,4 +1,4 @@
-//! Numbers and their places.
+//! Numbers and their positions.
 ghost use Rattle.std.specs.Prelude.{◌≡◌};
 ghost use Rattle.thp_drawing.specs.Scales.{doubled_steps, plus, round_steps, scaled, step_among, steps_in, times};
 
@@ -77,7 +77,7 @@ const DOUBLED_STEPS: [u128; 36] = [
     34359738368,
 ];
 
-/// The sum, or the greatest number where it is larger.
+/// Returns the sum, saturating at the greatest number.
 #[tactic(auto, unfolding(crate::specs::Scales::plus))]
 pub(crate) fn plus(a: u128, b: u128) -> u128
     ensures { result ≡ plus a b }
@@ -85,7 +85,7 @@ pub(crate) fn plus(a: u128, b: u128) -> u128
     a.saturating_add(b)
 }
 
-/// The product, or the greatest number where it is larger.
+/// Returns the product, saturating at the greatest number.
 #[tactic(auto, unfolding(crate::specs::Scales::times))]
 pub(crate) fn times(a: u128, b: u128) -> u128
     ensures { result ≡ times a b }
@@ -93,7 +93,7 @@ pub(crate) fn times(a: u128, b: u128) -> u128
     a.saturating_mul(b)
 }
 
-/// How high a number is where `most` is `high`.
+/// Returns the height of a number, on a scale where `most` is `high`.
 #[tactic(auto, unfolding(crate::specs::Scales::scaled))]
 pub(crate) fn scaled(high: u128, number: u128, most: u128) -> u128
     ensures { result ≡ scaled high number most }
@@ -101,7 +101,7 @@ pub(crate) fn scaled(high: u128, number: u128, most: u128) -> u128
     times(high, number) / most.max(1)
 }
 
-/// How often a step goes into a number.
+/// Returns how often a step fits into a number.
 #[tactic(auto, unfolding(crate::specs::Scales::steps_in))]
 pub(crate) fn steps_in(step: u128, number: u128) -> u128
     ensures { result ≡ steps_in step number }
@@ -109,7 +109,7 @@ pub(crate) fn steps_in(step: u128, number: u128) -> u128
     number / step.max(1)
 }
 
-/// The step of numbers that are read as tens, up to this one.
+/// Returns the step of decimal numbers, up to this one.
 #[tactic(auto, unfolding(crate::specs::Scales::round_steps))]
 pub(crate) fn round_step(number: u128) -> u128
     ensures { result ≡ step_among round_steps number }
@@ -117,7 +117,7 @@ pub(crate) fn round_step(number: u128) -> u128
     step_among(&ROUND_STEPS, number)
 }
 
-/// The step of frames, up to this number.
+/// Returns the step of numbers of frames, a power of two, up to this number.
 #[tactic(auto, unfolding(crate::specs::Scales::doubled_steps))]
 pub(crate) fn doubled_step(number: u128) -> u128
     ensures { result ≡ step_among doubled_steps number }

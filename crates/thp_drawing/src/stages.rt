@@ -1,13 +1,13 @@
-//! How many pages are in each stage, as it is drawn.
+//! The numbers of pages in each stage, as drawn.
 ghost use Rattle.std.specs.Prelude.{◌≡◌};
 ghost use Rattle.thp_drawing.specs.Quantities.{most_in, most_pages, pages_most, prefixes_of};
 ghost use Rattle.thp_drawing.specs.Quantities.{stage_class, stage_name, sum_in, sum_up_to};
 
 use crate::node::DrawnNode;
 use crate::scale::{plus, times};
-use thp_series::{Column, PageSums, Stage};
+use thp_metrics::{Column, PageSums, Stage};
 
-/// What a stage is called.
+/// Returns the name of a stage.
 pub(crate) fn stage_name(stage: Stage) -> &'static [u8]
     ensures { result.now ≡ stage_name stage }
 {
@@ -20,7 +20,7 @@ pub(crate) fn stage_name(stage: Stage) -> &'static [u8]
     }
 }
 
-/// The class that has its colour.
+/// Returns the class with the stage's colour.
 pub(crate) fn stage_class(stage: Stage) -> &'static [u8]
     ensures { result.now ≡ stage_class stage }
 {
@@ -45,7 +45,7 @@ fn sum_in(stage: Stage, sums: &PageSums) -> u128
     }
 }
 
-/// How many pages were in a stage or an earlier one, summed over a column's prefixes.
+/// Returns the number of pages in a stage or an earlier one, summed over a column's prefixes.
 pub(crate) fn sum_up_to(stage: Stage, sums: &PageSums) -> u128
     ensures { result ≡ sum_up_to stage sums.now }
 {
@@ -61,7 +61,7 @@ pub(crate) fn sum_up_to(stage: Stage, sums: &PageSums) -> u128
     }
 }
 
-/// The greatest sum of a stage in any column: 0 where it doesn't occur.
+/// Returns the greatest sum of a stage in any column: 0 if the stage does not occur.
 pub(crate) fn most_in(stage: Stage, columns: &[Column]) -> u128
     ensures { result ≡ most_in stage columns.now }
 {
@@ -72,7 +72,7 @@ pub(crate) fn most_in(stage: Stage, columns: &[Column]) -> u128
     most
 }
 
-/// How many of so many prefixes the column at this place has, if it has room for so many.
+/// Returns the number of prefixes in the column at this index, given `width` per column and `prefixes` in all.
 pub(crate) fn prefixes_of(width: u64, prefixes: u128, place: usize) -> u128
     ensures { result ≡ prefixes_of width prefixes place }
 {
@@ -80,7 +80,7 @@ pub(crate) fn prefixes_of(width: u64, prefixes: u128, place: usize) -> u128
     u128::from(width).min(prefixes.saturating_sub(before))
 }
 
-/// The greatest mean number of pages of a column.
+/// Returns the greatest mean number of pages of a column.
 pub(crate) fn pages_most(node: &DrawnNode) -> u128
     ensures { result ≡ pages_most node.now }
 {

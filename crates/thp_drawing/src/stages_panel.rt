@@ -1,4 +1,4 @@
-//! The panel of the stages of pages.
+//! The panel of pages' stages.
 ghost use Rattle.std.specs.Prelude.{◌≡◌, ◌++◌, OnOk};
 ghost use Rattle.thp_drawing.specs.Panels.{stage_areas, stage_item, stage_items, stages_drawn, stages_panel, stages_stacked, stages_title};
 
@@ -10,9 +10,9 @@ use crate::scale::{round_step, steps_in};
 use crate::stages::{most_in, pages_most, stage_class, stage_name};
 use std::alloc::AllocError;
 use thp_journal_writer::put;
-use thp_series::Stage;
+use thp_metrics::Stage;
 
-/// Puts the panel of stages from this height on, unless no page ever lived.
+/// Appends the panel of stages from this height on, unless there was never a live page.
 pub(crate) fn put_stages_panel(
     text: &mut Vec<u8>,
     y: u128,
@@ -51,7 +51,7 @@ fn put_stages_title(text: &mut Vec<u8>, node: &DrawnNode) -> Result<(), AllocErr
     put_stage_items(text, node)
 }
 
-/// Puts the colours and names of the stages that occur.
+/// Appends the colours and names of the stages that occur.
 #[tactic(auto, using(crate::proofs::Pieces::five), unfolding(crate::specs::Panels::stage_items))]
 pub(crate) fn put_stage_items(text: &mut Vec<u8>, node: &DrawnNode) -> Result<(), AllocError>
     ensures { OnOk result (text.new.items ≡ text.old.items ++ stage_items node.now) }
@@ -92,7 +92,7 @@ fn put_stages_stacked(text: &mut Vec<u8>, most: u128, node: &DrawnNode) -> Resul
     put_group_end(text)
 }
 
-// The last stage is drawn first, and earlier ones on top of it.
+// The last stage is drawn first, and earlier stages on top of it.
 #[tactic(auto, using(crate::proofs::Pieces::five), unfolding(crate::specs::Panels::stage_areas))]
 fn put_stage_areas(text: &mut Vec<u8>, node: &DrawnNode) -> Result<(), AllocError>
     ensures { OnOk result (text.new.items ≡ text.old.items ++ stage_areas node.now) }

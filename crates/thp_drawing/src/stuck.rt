@@ -1,4 +1,4 @@
-//! The pages that pins keep from being split.
+//! The pages whose split is prevented by pins.
 ghost use Rattle.std.specs.Prelude.{◌≡◌, ◌++◌, codes, take, OnOk};
 ghost use Rattle.std.specs.Fmt.{decimal};
 ghost use Rattle.thp_drawing.specs.Elements.{text_at};
@@ -10,12 +10,12 @@ use crate::scale::{plus, times};
 use crate::title::put_many;
 use std::alloc::AllocError;
 use thp_journal_writer::put;
-use thp_series::StuckPage;
+use thp_metrics::StuckPage;
 
-// So many pages have a line each.
+// The number of pages that have a line each.
 const TOLD_STUCK: usize = 5;
 
-/// Puts what is said of the stuck pages of a node, from this height on.
+/// Appends the text about the stuck pages of a node, from this height on.
 #[tactic(auto, using(crate::proofs::Pieces::two), unfolding(crate::specs::Stucks::stuck_text))]
 pub(crate) fn put_stuck_text(
     text: &mut Vec<u8>,
@@ -54,7 +54,7 @@ fn put_stuck_line(text: &mut Vec<u8>, y: u128, page: &StuckPage) -> Result<(), A
     put_text(text, b"ink", 900, y, words.as_slice())
 }
 
-// What is said of a page.
+// The text about a page.
 fn put_stuck_words(text: &mut Vec<u8>, page: &StuckPage) -> Result<(), AllocError>
     ensures { OnOk result (text.new.items ≡ text.old.items ++ stuck_words page.now) }
 {
@@ -73,7 +73,7 @@ fn put_words_of(text: &mut Vec<u8>, page: u128, finds: u128, since: u128) -> Res
     put_decimal(text, since)
 }
 
-// How many pages have no line.
+// The number of pages without a line.
 fn put_more_line(text: &mut Vec<u8>, y: u128, count: u128) -> Result<(), AllocError>
     ensures { OnOk result (text.new.items ≡ text.old.items ++ more_line y count) }
 {
@@ -99,7 +99,7 @@ fn put_more_words(text: &mut Vec<u8>, count: u128) -> Result<(), AllocError>
     put_many(text, count, b"more page")
 }
 
-/// How high it is what is said of stuck pages.
+/// Returns the height of the text about stuck pages.
 pub(crate) fn stuck_height(node: &DrawnNode) -> u128
     ensures { result ≡ stuck_height node.now }
 {

@@ -1,4 +1,4 @@
-//! How a picture looks.
+//! The appearance of a picture.
 ghost use Rattle.std.specs.Prelude.{◌≡◌, ◌++◌, OnOk};
 ghost use Rattle.thp_drawing.specs.Styles.{dark_inks, dark_rules, dark_stages, letter_rules, light_inks, light_rules};
 ghost use Rattle.thp_drawing.specs.Styles.{light_stages, size_rules, style};
@@ -38,7 +38,7 @@ const DARK_LINES: &[u8] =
 const DARK_STAGES: &[u8] =
     b".s0{color:#4d5663}.s1{color:#f9a726}.s2{color:#4280ff}.s3{color:#d764a1}.s4{color:#45a670}\n";
 
-/// Puts the rules of the classes.
+/// Appends the rules of the classes.
 #[tactic(auto, using(crate::proofs::Pieces::six), unfolding(crate::specs::Styles::style))]
 pub(crate) fn put_style(text: &mut Vec<u8>) -> Result<(), AllocError>
     ensures { OnOk result (text.new.items ≡ text.old.items ++ style) }

@@ -11,8 +11,8 @@ use crate::node::DrawnNode;
 use itoa::Buffer;
 use std::alloc::AllocError;
 use thp_journal_writer::{Version, put, put_event};
+use thp_metrics::{Column, Numbers, SHOWN_CALLERS, Stage, StuckPage};
 use thp_model::Event;
-use thp_series::{Column, Numbers, SHOWN_CALLERS, Stage, StuckPage};
 
 // The names of a node's fields.
 const NODE_HEADS: &[u8] =
@@ -25,7 +25,8 @@ const COLUMN_HEADS: &[u8] =
 // The names of a stuck page's fields.
 const STUCK_HEADS: &[u8] = b"#stuck\tnode\tpage\tfinds\tsince\n";
 
-/// Puts the table of nodes, which are numbered from 0 on, behind a text. Where memory is refused a front of it may stand there.
+/// Appends the table of nodes, which are numbered from 0, to a text. If memory can't be allocated, the text can contain a prefix
+/// of it.
 pub fn put_table(text: &mut Vec<u8>, nodes: &[DrawnNode]) -> Result<(), AllocError>
     ensures { OnOk result (text.new.items ≡ text.old.items ++ table_text nodes.now) }
 {
@@ -75,7 +76,7 @@ fn put_stuck_lines(text: &mut Vec<u8>, number: usize, pages: &[StuckPage]) -> Re
     Ok(())
 }
 
-// How often a page was found pinned, and since which event it waits.
+// The number of times a page was found pinned, and the event since which it waits.
 #[tactic(auto, using(crate::proofs::Pieces::three))]
 fn put_stuck_line(text: &mut Vec<u8>, number: usize, page: &StuckPage) -> Result<(), AllocError>
     ensures { OnOk result (text.new.items ≡ text.old.items ++ stuck_line number page.now) }
@@ -127,7 +128,8 @@ fn put_illegal(text: &mut Vec<u8>, illegal: &Option<IllegalEvent>) -> Result<(),
     }
 }
 
-// The line of an event, with its line feed. The last version of journals tells each event, so that memory alone is refused.
+// The line of an event, with its line feed. The last version of journals has a word for every event, so this fails only for lack
+// of memory.
 pub(crate) fn put_event_line(text: &mut Vec<u8>, event: &Event) -> Result<(), AllocError>
     ensures { OnOk result (text.new.items ≡ text.old.items ++ ended (event_line event.now)) }
 {
@@ -221,7 +223,7 @@ fn put_column(
     put(text, b"\n")
 }
 
-// Callers that are told as bits: their numbers, joined by commas.
+// A set of callers, given as bits: their numbers, separated by commas.
 fn put_callers(text: &mut Vec<u8>, callers: u64) -> Result<(), AllocError>
     ensures { OnOk result (text.new.items ≡ text.old.items ++ caller_words callers) }
 {
@@ -241,7 +243,7 @@ fn put_caller_items(text: &mut Vec<u8>, callers: u64) -> Result<(), AllocError>
     Ok(())
 }
 
-// A caller, if it is among these, behind a comma if a lesser one is.
+// A caller, if it is in this set, after a comma if a lower one is.
 #[tactic(auto, using(crate::proofs::Pieces::two))]
 fn put_caller_item(text: &mut Vec<u8>, callers: u64, caller: u32) -> Result<(), AllocError>
     ensures { OnOk result (text.new.items ≡ text.old.items ++ caller_item callers caller) }

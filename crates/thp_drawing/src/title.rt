@@ -1,4 +1,4 @@
-//! What is said of a node above its panels.
+//! The title of a node above its panels.
 ghost use Rattle.std.specs.Prelude.{◌≡◌, ◌++◌, OnOk};
 ghost use Rattle.thp_journal_writer.specs.EventLines.{event_line};
 ghost use Rattle.thp_drawing.specs.Titles.{events_words, illegal_text, illegal_words, many, node_words};
@@ -12,10 +12,10 @@ use std::alloc::AllocError;
 use thp_journal_writer::put;
 use thp_model::Event;
 
-// A line of an event that is shown has at most so many letters.
+// The greatest number of letters in the line of an event that is shown.
 const MAX_LETTERS: usize = 70;
 
-/// Puts the words of a node's title.
+/// Appends the words of a node's title.
 #[tactic(auto, using(crate::proofs::Pieces::six), unfolding(crate::specs::Titles::node_words))]
 pub(crate) fn put_node_words(
     text: &mut Vec<u8>,
@@ -38,7 +38,7 @@ pub(crate) fn put_node_words(
     put_events_words(text, node)
 }
 
-// How many events are drawn.
+// The number of events drawn.
 #[tactic(auto, unfolding(crate::specs::Titles::events_words))]
 fn put_events_words(text: &mut Vec<u8>, node: &DrawnNode) -> Result<(), AllocError>
     ensures { OnOk result (text.new.items ≡ text.old.items ++ events_words node.now) }
@@ -46,7 +46,7 @@ fn put_events_words(text: &mut Vec<u8>, node: &DrawnNode) -> Result<(), AllocErr
     put_many(text, node.prefixes.saturating_sub(1), b"legal event")
 }
 
-// The size of a node, and what it takes for underused.
+// The size of a node, and its threshold for underused pages.
 fn put_shape_words(
     text: &mut Vec<u8>,
     blocks: u128,
@@ -62,7 +62,7 @@ fn put_shape_words(
     put_threshold_words(text, threshold)
 }
 
-/// Puts a number and a word, which has an `s` where the number isn't 1.
+/// Appends a number and a word, with an `s` unless the number is 1.
 #[tactic(auto, using(crate::proofs::Pieces::four), unfolding(crate::specs::Titles::many))]
 pub(crate) fn put_many(text: &mut Vec<u8>, number: u128, word: &[u8]) -> Result<(), AllocError>
     ensures { OnOk result (text.new.items ≡ text.old.items ++ many number word.now) }
@@ -86,7 +86,7 @@ fn put_threshold_words(text: &mut Vec<u8>, threshold: Option<u32>) -> Result<(),
     }
 }
 
-/// Puts what is said of a node's first illegal event.
+/// Appends the text about a node's first illegal event.
 pub(crate) fn put_illegal_text(
     text: &mut Vec<u8>,
     illegal: &Option<IllegalEvent>,
@@ -112,7 +112,7 @@ fn put_illegal_words(text: &mut Vec<u8>, line: u128, event: &Event) -> Result<()
     put_event_words(text, event)
 }
 
-// The line of an event, or the front of a long one.
+// The line of an event, or the beginning of a long one.
 fn put_event_words(text: &mut Vec<u8>, event: &Event) -> Result<(), AllocError>
     ensures { OnOk result (text.new.items ≡ text.old.items ++ shortened (event_line event.now)) }
 {

@@ -9,16 +9,16 @@ use Rattle.thp_model.specs.BlockLaws.{with_least_blocks, without_blocks}
 use Rattle.thp_model.specs.History.{History}
 use Rattle.thp_model.specs.Legal.{IsLegal, IsFirstMisfit}
 use Rattle.thp_model.proofs.LeastBlocks.{least_is_legal, least_same}
-use Rattle.thp_text.specs.declared.fault.TextKind.TheVariants.{TooLong}
-use Rattle.thp_text.specs.Readings.{◌>>=◌}
-use Rattle.thp_text.specs.Scripts.{Fault}
-use Rattle.thp_text.specs.Words.{Text, lines_of}
+use Rattle.thp_script.specs.declared.fault.TextKind.TheVariants.{TooLong}
+use Rattle.thp_script.specs.Readings.{◌>>=◌}
+use Rattle.thp_script.specs.Scripts.{Fault}
+use Rattle.thp_script.specs.Words.{Text, lines_of}
 use Rattle.thp_journal_reader.specs.declared.journals.Journals.{Journals}
 use Rattle.thp_journal_reader.specs.declared.journals.NodeJournal.{NodeJournal}
 use Rattle.thp_journal_reader.specs.declared.line.Line.{Line}
 use Rattle.thp_journal_reader.specs.declared.line.Line.TheVariants.{Head, Node, Happened, End}
 use Rattle.thp_journal_reader.specs.declared.place.Place.TheVariants.{Start}
-use Rattle.thp_journal_reader.specs.Answers.{AreLegalBefore, CanBeLegal, IsFirstIllegal, IsFirstIllegalLine, IsLegalNode, TellsIllegal}
+use Rattle.thp_journal_reader.specs.Answers.{AreLegalBefore, CanBeLegal, IsFirstIllegal, IsFirstIllegalLine, IsLegalNode, ReportsIllegal}
 use Rattle.thp_journal_reader.specs.Journals.{events_of, journals_with, journals_within, lines_from, node_journal, nodes_of}
 
 -- the first misfit is one of the events
@@ -111,7 +111,7 @@ found_has P nodes place node here all =
     let same : get_or nodes place node ≡ node = cc in
     subst P same (all place node inside)
 
-pub none_wronged : (nodes : List NodeJournal) (line : Option ℕ) → All HasLeastBlocks nodes → TellsIllegal nodes line → All CanBeLegal nodes → line ≡ None
+pub none_wronged : (nodes : List NodeJournal) (line : Option ℕ) → All HasLeastBlocks nodes → ReportsIllegal nodes line → All CanBeLegal nodes → line ≡ None
 none_wronged nodes None least told can = refl
 none_wronged nodes (Some line) least told can =
     let node = told.node in
@@ -120,7 +120,7 @@ none_wronged nodes (Some line) least told can =
     absurd (misfit_is_illegal node.shape node.events told.first.place told.first.misfit legal)
 
 -- the answer to a text is no line where some choice of blocks is legal
-pub free_choice : (most : ℕ) (text : Text) (journals : Journals) (line : Option ℕ) → journals_within most text ≡ Ok journals → TellsIllegal journals.nodes line → (others : Journals) → journals_within most text ≡ Ok others → All CanBeLegal others.nodes → line ≡ None
+pub free_choice : (most : ℕ) (text : Text) (journals : Journals) (line : Option ℕ) → journals_within most text ≡ Ok journals → ReportsIllegal journals.nodes line → (others : Journals) → journals_within most text ≡ Ok others → All CanBeLegal others.nodes → line ≡ None
 free_choice most text journals line read told others read-too can =
     let same : others ≡ journals = cc in
     let P : Journals → Type 0 = λ js. All CanBeLegal js.nodes in

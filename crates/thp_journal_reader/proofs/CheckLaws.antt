@@ -16,8 +16,8 @@ use Rattle.thp_check.specs.Reasons.{Explains}
 use Rattle.thp_check.specs.Replays.{Replayed}
 use Rattle.thp_check.specs.Replays.{with_event as replayed}
 use Rattle.thp_journal_reader.specs.declared.journals.NodeJournal.{NodeJournal}
-use Rattle.thp_text.specs.Limits.{max_counted}
-use Rattle.thp_journal_reader.specs.Answers.{AreLegalBefore, IsFirstIllegalEvent, IsLegalNode, TellsFirst, TellsIllegal}
+use Rattle.thp_script.specs.Limits.{max_counted}
+use Rattle.thp_journal_reader.specs.Answers.{AreLegalBefore, IsFirstIllegalEvent, IsLegalNode, ReportsFirst, ReportsIllegal}
 use Rattle.thp_journal_reader.specs.Checking.{nodes_told, AreLegal, GoesWith, HasRoom, HasRoomIn, Says, SaysBy}
 use Rattle.thp_journal_reader.specs.LineRanges.{IsInRange}
 use Rattle.thp_journal_reader.specs.Reading.{began, on_last, with_event, with_line, IsNodeBefore}
@@ -214,29 +214,29 @@ illegal_before nodes illegal number i each =
 
 -- ---- what is answered
 
-tells_none : (nodes : List NodeJournal) → nodes ≡ [] → TellsFirst nodes None
+tells_none : (nodes : List NodeJournal) → nodes ≡ [] → ReportsFirst nodes None
 tells_none nodes none = λ k node lt here. legal_found nodes (none_legal nodes none) k node here
 
-pub tells_legal : (nodes : List NodeJournal) (r : Replayed) (next : ℕ) → AreLegal nodes r next → TellsFirst nodes None
+pub tells_legal : (nodes : List NodeJournal) (r : Replayed) (next : ℕ) → AreLegal nodes r next → ReportsFirst nodes None
 tells_legal nodes r next a = λ k node lt here. legal_found nodes (all_legal nodes r next a) k node here
 
 -- what is answered is so
-tells_by : (nodes : List NodeJournal) (node : Option NodeAtHand) (illegal : Option Illegal) → SaysBy nodes node illegal → TellsFirst nodes illegal
+tells_by : (nodes : List NodeJournal) (node : Option NodeAtHand) (illegal : Option Illegal) → SaysBy nodes node illegal → ReportsFirst nodes illegal
 tells_by nodes None None says = tells_none nodes says
 tells_by nodes (Some node) None says = tells_legal nodes node.replay node.next_line says
 tells_by nodes None (Some illegal) says = says
 tells_by nodes (Some node) (Some illegal) says = absurd says
 
-pub tells_first : (nodes : List NodeJournal) (verdict : Verdict) → Says nodes verdict → TellsFirst nodes verdict.illegal
+pub tells_first : (nodes : List NodeJournal) (verdict : Verdict) → Says nodes verdict → ReportsFirst nodes verdict.illegal
 tells_first nodes verdict says = tells_by nodes verdict.node verdict.illegal says
 
 -- its line stands before the next line
-pub first_before : (nodes : List NodeJournal) (illegal : Option Illegal) (number most : ℕ) → TellsFirst nodes illegal → All (IsNodeBefore number) nodes → number ≤ most + 1 → IfSome illegal (λ i. i.line ≤ most + 1)
+pub first_before : (nodes : List NodeJournal) (illegal : Option Illegal) (number most : ℕ) → ReportsFirst nodes illegal → All (IsNodeBefore number) nodes → number ≤ most + 1 → IfSome illegal (λ i. i.line ≤ most + 1)
 first_before nodes None number most told each le = tt
 first_before nodes (Some illegal) number most told each le = omega (arith, illegal_before nodes illegal number told each)
 
 -- the line of what is answered is that of the first illegal event
-pub line_of_first : (nodes : List NodeJournal) (illegal : Option Illegal) → TellsFirst nodes illegal → TellsIllegal nodes (option_map (λ i. i.line) illegal)
+pub line_of_first : (nodes : List NodeJournal) (illegal : Option Illegal) → ReportsFirst nodes illegal → ReportsIllegal nodes (option_map (λ i. i.line) illegal)
 line_of_first nodes None told = told
 line_of_first nodes (Some illegal) told = told.line
 

@@ -1,12 +1,12 @@
 -- The lines of a journal one by one: what the first says, with what the others say, is what all say.
 use Rattle.std.proofs.Common.{◌≡◌, ℕ, ◌+◌, List, [], ◌∷◌, ◌++◌, Option, Some, None, Result, Ok, Err, refl}
-use Rattle.thp_text.specs.declared.fault.TextKind.{TextKind}
-use Rattle.thp_text.specs.declared.fault.TextKind.TheVariants.{Cut}
-use Rattle.thp_text.specs.Lines.{fault_behind}
-use Rattle.thp_text.specs.Readings.{◌>>=◌}
-use Rattle.thp_text.specs.Scripts.{Fault}
-use Rattle.thp_text.specs.Words.{Text, lines_of}
-use Rattle.thp_text.proofs.PieceLaws.{has_first}
+use Rattle.thp_script.specs.declared.fault.TextKind.{TextKind}
+use Rattle.thp_script.specs.declared.fault.TextKind.TheVariants.{Cut}
+use Rattle.thp_script.specs.Lines.{fault_after}
+use Rattle.thp_script.specs.Readings.{◌>>=◌}
+use Rattle.thp_script.specs.Scripts.{Fault}
+use Rattle.thp_script.specs.Words.{Text, lines_of}
+use Rattle.thp_script.proofs.PieceLaws.{has_first}
 use Rattle.thp_journal_reader.specs.declared.line.Line.{Line}
 use Rattle.thp_journal_reader.specs.declared.place.Place.{Place}
 use Rattle.thp_journal_reader.specs.declared.place.Place.TheVariants.{Start, Inside, Ended}
@@ -31,7 +31,7 @@ pub line_fails : (n : ℕ) (place : Place) (texts : List Text) (text after : Tex
 unfolding lines_from
 line_fails n place texts text after kind e says = let f = has_first 10 after in rw (e, f.2, ← says) refl
 
-pub line_ends : (n : ℕ) (place : Place) (texts : List Text) (text : Text) → texts ≡ text ∷ [] → lines_from n place texts ≡ end_of_text n place (fault_behind text)
+pub line_ends : (n : ℕ) (place : Place) (texts : List Text) (text : Text) → texts ≡ text ∷ [] → lines_from n place texts ≡ end_of_text n place (fault_after text)
 unfolding lines_from
 line_ends n place texts text e = rw e refl
 

@@ -4,7 +4,7 @@ pub mod NodeLaws
 pub mod AnswerLaws
 pub mod PlainWords
 pub mod PlainLines
-pub mod AheadLaws
+pub mod FastParsingLaws
 pub mod PartLaws
 pub mod CheckLaws
 pub mod SummaryLaws

@@ -7,9 +7,9 @@ use Rattle.thp_model.specs.declared.events.Event.{Event}
 use Rattle.thp_model.specs.declared.shape.Shape.{Shape}
 use Rattle.thp_model.specs.BlockLaws.{event_with, least_free, with_least_blocks}
 use Rattle.thp_model.specs.History.{History}
-use Rattle.thp_text.specs.declared.fault.ReadFault.{ReadFault}
-use Rattle.thp_text.specs.declared.fault.ReadFault.TheVariants.{OutOfMemory}
-use Rattle.thp_text.specs.Scripts.{Fault, TellsFault}
+use Rattle.thp_script.specs.declared.fault.ReadFault.{ReadFault}
+use Rattle.thp_script.specs.declared.fault.ReadFault.TheVariants.{OutOfMemory}
+use Rattle.thp_script.specs.Scripts.{Fault, ReportsFault}
 use Rattle.thp_journal_reader.specs.declared.journals.Journals.{Journals}
 use Rattle.thp_journal_reader.specs.declared.journals.NodeJournal.{NodeJournal}
 use Rattle.thp_journal_reader.specs.declared.line.Line.{Line}
@@ -192,6 +192,6 @@ pub if_ok : {A E : Type 0} (r : Result A E) (P Q : A → Type 0) → IfOk r P �
 if_ok (Ok x) P Q h f = f x h
 if_ok (Err e) P Q h f = tt
 
-pub tells_memory : {A : Type 0} (r : Result A ReadFault) (read : Result Journals Fault) → IfErr r (λ fault. fault ≡ OutOfMemory) → IfErr r (TellsFault read)
+pub tells_memory : {A : Type 0} (r : Result A ReadFault) (read : Result Journals Fault) → IfErr r (λ fault. fault ≡ OutOfMemory) → IfErr r (ReportsFault read)
 tells_memory (Ok x) read h = tt
 tells_memory (Err fault) read h = rw h tt

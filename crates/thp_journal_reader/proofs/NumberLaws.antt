@@ -13,16 +13,16 @@ use Rattle.thp_check.specs.declared.misfit.Misfit.{Misfit}
 use Rattle.thp_check.specs.Reasons.{Explains}
 use Rattle.thp_check.specs.Replays.{Replayed}
 use Rattle.thp_check.specs.Replays.{with_event as replayed}
-use Rattle.thp_series.specs.Series.{numbers_at, series}
-use Rattle.thp_series.specs.Stuck.{AreStuck}
-use Rattle.thp_text.specs.Limits.{max_counted}
+use Rattle.thp_metrics.specs.Series.{numbers_at, series}
+use Rattle.thp_metrics.specs.Stuck.{AreStuck}
+use Rattle.thp_script.specs.Limits.{max_counted}
 use Rattle.thp_journal_reader.specs.declared.illegal.Illegal.{Illegal}
 use Rattle.thp_journal_reader.specs.declared.journals.NodeJournal.{NodeJournal}
 use Rattle.thp_journal_reader.specs.declared.line.Line.{Line}
 use Rattle.thp_journal_reader.specs.declared.numbered.NumberedNode.{NumberedNode}
 use Rattle.thp_journal_reader.specs.declared.numbering.FollowedNode.{FollowedNode}
 use Rattle.thp_journal_reader.specs.declared.numbering.NumberedNodes.{NumberedNodes}
-use Rattle.thp_journal_reader.specs.Answers.{IsLegalNode, TellsFirst}
+use Rattle.thp_journal_reader.specs.Answers.{IsLegalNode, ReportsFirst}
 use Rattle.thp_journal_reader.specs.Checking.{nodes_told}
 use Rattle.thp_journal_reader.specs.LineRanges.{IsInRange}
 use Rattle.thp_journal_reader.specs.Numbered.{AreNumbered, IsNumbered}
@@ -44,10 +44,10 @@ numbered_push (n ∷ nodes) [] node more are is = absurd are
 numbered_push (n ∷ nodes) (k ∷ kept) node more are is = (are.0, numbered_push nodes kept node more are.1 is)
 
 -- a legal node tells no illegal event
-legal_alone : (node : NodeJournal) → IsLegalNode node → TellsFirst (node ∷ []) None
+legal_alone : (node : NodeJournal) → IsLegalNode node → ReportsFirst (node ∷ []) None
 legal_alone node legal = legal_more (node ∷ []) 0 node (omega arith) refl (legal_none (node ∷ [])) legal
 
-is_legal_alone : (node : NodeJournal) → TellsFirst (node ∷ []) None → IsLegalNode node
+is_legal_alone : (node : NodeJournal) → ReportsFirst (node ∷ []) None → IsLegalNode node
 is_legal_alone node all = all 0 node (omega arith) refl
 
 -- one more event of a node that has an illegal one leaves its numbers
@@ -69,7 +69,7 @@ numbers_stay event node kept place first numbered = elim (numbered.legal) [
   }
 ]
   where
-    tells : (illegal : Option Illegal) → TellsFirst (node ∷ []) illegal → TellsFirst (with_event event node ∷ []) illegal
+    tells : (illegal : Option Illegal) → ReportsFirst (node ∷ []) illegal → ReportsFirst (with_event event node ∷ []) illegal
     tells None all = absurd (misfit_is_illegal node.shape node.events place first (is_legal_alone node all))
     tells (Some illegal) one = illegal_grows (node ∷ []) illegal event one
 
@@ -107,7 +107,7 @@ ends nodes node kept new more e shape legal numbers columns stuck is =
     let S : Shape → History → Type 0 = λ s h. AreStuck s h more.stuck.items in
     let P : List NodeJournal → Type 0 = λ ns. AreNumbered ns new in
     let Q : List NumberedNode → Type 0 = λ ks. AreNumbered (e.before ++ e.last ∷ []) ks in
-    let T : Option Illegal → Type 0 = λ i. TellsFirst (e.last ∷ []) i in
+    let T : Option Illegal → Type 0 = λ i. ReportsFirst (e.last ∷ []) i in
     subst P (sym e.nodes_are) (subst Q (sym is) (numbered_push e.before kept e.last more e.numbered (record {
       front = e.last.events;
       legal = inl (e.is_last.legal, refl);
@@ -161,7 +161,7 @@ module _ (nodes : List NodeJournal) (at_hand : FollowedNode) (kept : List Number
   -- the event doesn't fit
   module _ (m : Misfit) (wrong : Fits at_hand.series.shape at_hand.series.history event → ⊥) (why : Explains at_hand.series.shape at_hand.series.history event m) where
     -- of the last node alone it is the first that doesn't
-    first_stops : TellsFirst (with_event told e.last ∷ []) (Some (record { line = at_hand.next_line; event = event; misfit = m }))
+    first_stops : ReportsFirst (with_event told e.last ∷ []) (Some (record { line = at_hand.next_line; event = event; misfit = m }))
     first_stops = turns_illegal (e.last ∷ []) at_hand.series at_hand.next_line told event m (record {
       before = [];
       last = e.last;
@@ -187,7 +187,7 @@ module _ (nodes : List NodeJournal) (at_hand : FollowedNode) (kept : List Number
         let P : List NodeJournal → Type 0 = λ ns. AreNumbered ns new in
         let R : List NumberedNode → Type 0 = λ ks. AreNumbered (e.before ++ with_event told l ∷ []) ks in
         let Q : List NodeJournal → Type 0 = λ ns. LastIsIllegal ns in
-        let T : Option Illegal → Type 0 = λ i. TellsFirst (with_event told l ∷ []) i in (
+        let T : Option Illegal → Type 0 = λ i. ReportsFirst (with_event told l ∷ []) i in (
           subst P (sym are) (subst R (sym is) (numbered_push e.before kept (with_event told l) more e.numbered (record {
             front = l.events;
             legal = inr (record { place = length l.events; misfit = misfit; front_is = sym (take_at l.events (x ∷ []) (length l.events) refl) });

@@ -3,20 +3,20 @@ use Rattle.std.proofs.Common.{◌≡◌, ◌∙◌, ◌+◌, ◌<◌, ℕ, List,
 use Rattle.std.proofs.lemmas.Bool.{lt-ltb}
 use Rattle.std.proofs.lemmas.List.{append-nil}
 use Rattle.thp_model.specs.declared.events.Event.{Event}
-use Rattle.thp_text.specs.declared.fault.TextKind.{TextKind}
-use Rattle.thp_text.specs.Lines.{fault_behind}
-use Rattle.thp_text.specs.Readings.{◌>>=◌}
-use Rattle.thp_text.specs.Scripts.{Fault}
-use Rattle.thp_text.specs.TextInParts.{nothing_of}
-use Rattle.thp_text.specs.Words.{Text, lines_of}
-use Rattle.thp_text.proofs.TextLaws.{first_line, whole_comes}
+use Rattle.thp_script.specs.declared.fault.TextKind.{TextKind}
+use Rattle.thp_script.specs.Lines.{fault_after}
+use Rattle.thp_script.specs.Readings.{◌>>=◌}
+use Rattle.thp_script.specs.Scripts.{Fault}
+use Rattle.thp_script.specs.TextInParts.{nothing_of}
+use Rattle.thp_script.specs.Words.{Text, lines_of}
+use Rattle.thp_script.proofs.TextLaws.{first_line, whole_comes}
 use Rattle.thp_journal_reader.specs.declared.journals.NodeJournal.{NodeJournal}
 use Rattle.thp_journal_reader.specs.declared.line.Line.{Line}
 use Rattle.thp_journal_reader.specs.declared.line.Line.TheVariants.{Happened}
 use Rattle.thp_journal_reader.specs.declared.place.Place.{Place}
 use Rattle.thp_journal_reader.specs.declared.place.Place.TheVariants.{Start, Inside}
 use Rattle.thp_journal_reader.specs.declared.version.Version.{Version}
-use Rattle.thp_journal_reader.specs.Ahead.{EventAhead}
+use Rattle.thp_journal_reader.specs.FastParsing.{FastEvent}
 use Rattle.thp_journal_reader.specs.JournalLines.{line_in, place_after}
 use Rattle.thp_journal_reader.specs.Journals.{journals_with, journals_within, lines_from, nodes_of}
 use Rattle.thp_journal_reader.specs.Parts.{journals_in, lines_tell, told_with, with_lines}
@@ -48,24 +48,24 @@ unfolding journals_within lines_tell
 tells_all most text = rw (all_tell (lines_from 1 Start (lines_of text))) (whole_comes most text (lines_from 1 Start (lines_of text) >>= λ lines. Ok (journals_with lines)))
 
 -- a line before those behind it
-behind_tells : (n : ℕ) (nodes : List NodeJournal) (line : Line) (read : Result (List Line) Fault)
+after_tells : (n : ℕ) (nodes : List NodeJournal) (line : Line) (read : Result (List Line) Fault)
     → (behind (line ∷ []) read >>= λ lines. Ok (journals_in (with_lines n nodes lines))) ≡ (read >>= λ lines. Ok (journals_in (with_lines (n + 1) (with_line n nodes line) lines)))
-behind_tells n nodes line (Ok lines) = refl
-behind_tells n nodes line (Err fault) = refl
+after_tells n nodes line (Ok lines) = refl
+after_tells n nodes line (Err fault) = refl
 
 -- a line that says something in its place, and the lines behind it
 pub line_tells : (nodes : List NodeJournal) (place : Place) (n : ℕ) (text bytes after : Text) (line : Line) → lines_of text ≡ bytes ∷ lines_of after → Ok line ≡ line_in place bytes
     → lines_tell nodes place n text ≡ lines_tell (with_line n nodes line) (place_after place line) (n + 1) after
 unfolding lines_tell
 line_tells nodes place n text bytes after line texts says =
-    rw (line_says n place (lines_of text) bytes after line texts says) (behind_tells n nodes line (lines_from (n + 1) (place_after place line) (lines_of after)))
+    rw (line_says n place (lines_of text) bytes after line texts says) (after_tells n nodes line (lines_from (n + 1) (place_after place line) (lines_of after)))
 
 -- an event read ahead, behind the line of a node
-event_says : (v : Version) (told : ℕ) (text after : Text) (event : Event) (a : EventAhead v text event after) → 0 < told → Ok (Happened event) ≡ line_in (Inside v told) a.line
+event_says : (v : Version) (told : ℕ) (text after : Text) (event : Event) (a : FastEvent v text event after) → 0 < told → Ok (Happened event) ≡ line_in (Inside v told) a.line
 unfolding line_in
 event_says v told text after event a some = rw (← a.says, lt-ltb 0 told some) refl
 
-pub event_tells : (nodes : List NodeJournal) (v : Version) (told n : ℕ) (begun rest more after : Text) (event : Event) → EventAhead v rest event after → 0 < told → begun ≡ []
+pub event_tells : (nodes : List NodeJournal) (v : Version) (told n : ℕ) (begun rest more after : Text) (event : Event) → FastEvent v rest event after → 0 < told → begun ≡ []
     → lines_tell nodes (Inside v told) n (begun ++ (rest ++ more)) ≡ lines_tell (with_line n nodes (Happened event)) (Inside v told) (n + 1) (after ++ more)
 event_tells nodes v told n begun rest more after event a some begins =
     line_tells nodes (Inside v told) n (begun ++ (rest ++ more)) a.line (after ++ more) (Happened event) (rw begins (first_line rest more a.line after a.lines)) (event_says v told rest after event a some)
@@ -77,12 +77,12 @@ unfolding lines_tell
 line_is_wrong nodes place n text bytes after kind texts says = rw (line_fails n place (lines_of text) bytes after kind texts says) refl
 
 -- all has come, and the journals are at their end or not
-pub end_tells : (nodes : List NodeJournal) (place : Place) (n : ℕ) (begun : Text) → lines_of begun ≡ begun ∷ [] → None ≡ fault_at (fault_behind begun) place
+pub end_tells : (nodes : List NodeJournal) (place : Place) (n : ℕ) (begun : Text) → lines_of begun ≡ begun ∷ [] → None ≡ fault_at (fault_after begun) place
     → lines_tell nodes place n (begun ++ []) ≡ Ok (journals_in nodes)
 unfolding lines_tell
-end_tells nodes place n begun one none = rw (append-nil begun, line_ends n place (lines_of begun) begun one, ends_none n place (fault_behind begun) none) refl
+end_tells nodes place n begun one none = rw (append-nil begun, line_ends n place (lines_of begun) begun one, ends_none n place (fault_after begun) none) refl
 
-pub end_is_wrong : (nodes : List NodeJournal) (place : Place) (n : ℕ) (begun : Text) (kind : TextKind) → lines_of begun ≡ begun ∷ [] → Some kind ≡ fault_at (fault_behind begun) place
+pub end_is_wrong : (nodes : List NodeJournal) (place : Place) (n : ℕ) (begun : Text) (kind : TextKind) → lines_of begun ≡ begun ∷ [] → Some kind ≡ fault_at (fault_after begun) place
     → lines_tell nodes place n (begun ++ []) ≡ Err (n, kind)
 unfolding lines_tell
-end_is_wrong nodes place n begun kind one some = rw (append-nil begun, line_ends n place (lines_of begun) begun one, ends_some n place (fault_behind begun) kind some) refl
+end_is_wrong nodes place n begun kind one some = rw (append-nil begun, line_ends n place (lines_of begun) begun one, ends_some n place (fault_after begun) kind some) refl

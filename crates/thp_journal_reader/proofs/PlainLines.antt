@@ -5,12 +5,12 @@ use Rattle.std.specs.List.{list_all, list_any}
 use Rattle.std.proofs.lemmas.List.Elements.{All-cons, All-nil}
 use Rattle.thp_model.specs.declared.events.Event.{Event}
 use Rattle.thp_model.specs.declared.events.Outcome.{Outcome}
-use Rattle.thp_text.specs.declared.fault.TextKind.{TextKind}
-use Rattle.thp_text.specs.declared.fault.TextKind.TheVariants.{BadByte, BadWord}
-use Rattle.thp_text.specs.Commands.{number_up_to, one_word, two_words}
-use Rattle.thp_text.specs.Lines.{fault_of_line, is_empty, is_printable}
-use Rattle.thp_text.specs.Words.{Text, words_of}
-use Rattle.thp_text.proofs.LineLaws.{IsPlain, bind_ok, none_empty, ok_value, one_plain, pieces_printable, plain_word, word_cases}
+use Rattle.thp_script.specs.declared.fault.TextKind.{TextKind}
+use Rattle.thp_script.specs.declared.fault.TextKind.TheVariants.{BadByte, BadWord}
+use Rattle.thp_script.specs.Commands.{number_up_to, one_word, two_words}
+use Rattle.thp_script.specs.Lines.{fault_of_line, is_empty, is_printable}
+use Rattle.thp_script.specs.Words.{Text, words_of}
+use Rattle.thp_script.proofs.LineLaws.{IsPlain, bind_ok, none_empty, ok_value, one_plain, pieces_printable, plain_word, word_cases}
 use Rattle.thp_journal_reader.specs.declared.event_word.EventWord.{EventWord}
 use Rattle.thp_journal_reader.specs.declared.event_word.EventWord.TheVariants.{OfPage, OfRange, OfLoss, UnmapSub, Split, Close}
 use Rattle.thp_journal_reader.specs.declared.event_word.LossWord.{LossWord}

@@ -7,13 +7,13 @@ use Rattle.std.specs.Str.{bytes_eq}
 use Rattle.std.proofs.lemmas.Bool.{and_from, and_parts, eqb-true, le-leb, leb-true, ne_eqb}
 use Rattle.std.proofs.lemmas.List.Elements.{All-cons, All-head, All-nil, All-tail}
 use Rattle.thp_model.specs.declared.events.Outcome.{Outcome}
-use Rattle.thp_text.specs.declared.fault.TextKind.{TextKind}
-use Rattle.thp_text.specs.declared.fault.TextKind.TheVariants.{BadNumber, BadSet}
-use Rattle.thp_text.specs.Commands.{number_up_to}
-use Rattle.thp_text.specs.Lines.{is_empty, is_printable}
-use Rattle.thp_text.specs.Words.{Text, number_of, pieces_at}
-use Rattle.thp_text.proofs.LineLaws.{IsPlain, bind_ok, number_read, ok_value, read, word_cases}
-use Rattle.thp_text.proofs.PieceLaws.{has_first, HasFirst}
+use Rattle.thp_script.specs.declared.fault.TextKind.{TextKind}
+use Rattle.thp_script.specs.declared.fault.TextKind.TheVariants.{BadNumber, BadSet}
+use Rattle.thp_script.specs.Commands.{number_up_to}
+use Rattle.thp_script.specs.Lines.{is_empty, is_printable}
+use Rattle.thp_script.specs.Words.{Text, number_of, pieces_at}
+use Rattle.thp_script.proofs.LineLaws.{IsPlain, bind_ok, number_read, ok_value, read, word_cases}
+use Rattle.thp_script.proofs.PieceLaws.{has_first, HasFirst}
 use Rattle.thp_journal_reader.specs.declared.event_word.EventWord.{EventWord}
 use Rattle.thp_journal_reader.specs.declared.version.Version.{Version}
 use Rattle.thp_journal_reader.specs.declared.version.Version.TheVariants.{Plain, Orders, Underused}

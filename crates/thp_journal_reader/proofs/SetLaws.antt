@@ -9,11 +9,11 @@ use Rattle.std.proofs.lemmas.List.Folds.{list_any-append}
 use Rattle.thp_model.specs.Sets.{covers, has, set_of}
 use Rattle.thp_model.specs.Words.{get_or-set_of, length-set_of}
 use Rattle.thp_model.proofs.WordLemmas.{set_of-ext, set_set_of}
-use Rattle.thp_text.specs.declared.fault.TextKind.{TextKind}
-use Rattle.thp_text.specs.declared.fault.TextKind.TheVariants.{BadSet}
-use Rattle.thp_text.specs.Readings.{◌>>=◌}
-use Rattle.thp_text.specs.Words.{Text, pieces_at, pieces_left}
-use Rattle.thp_text.proofs.PieceLaws.{has_first}
+use Rattle.thp_script.specs.declared.fault.TextKind.{TextKind}
+use Rattle.thp_script.specs.declared.fault.TextKind.TheVariants.{BadSet}
+use Rattle.thp_script.specs.Readings.{◌>>=◌}
+use Rattle.thp_script.specs.Words.{Text, pieces_at, pieces_left}
+use Rattle.thp_script.proofs.PieceLaws.{has_first}
 use Rattle.thp_journal_reader.specs.SetTexts.{Run, covers_number, run_from, run_of, runs_of, set_of_runs, set_with}
 
 -- ---- sets with one more run

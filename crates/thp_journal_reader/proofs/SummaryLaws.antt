@@ -14,7 +14,7 @@ use Rattle.thp_check.specs.declared.misfit.Misfit.{Misfit}
 use Rattle.thp_check.specs.Reasons.{Explains}
 use Rattle.thp_check.specs.Replays.{Replayed}
 use Rattle.thp_check.specs.Replays.{with_event as replayed}
-use Rattle.thp_text.specs.Limits.{max_counted}
+use Rattle.thp_script.specs.Limits.{max_counted}
 use Rattle.thp_journal_writer.specs.Totals.{totals_of}
 use Rattle.thp_journal_writer.specs.declared.totals.Totals.{Totals}
 use Rattle.thp_journal_reader.specs.declared.illegal.Illegal.{Illegal}
@@ -23,7 +23,7 @@ use Rattle.thp_journal_reader.specs.declared.line.Line.{Line}
 use Rattle.thp_journal_reader.specs.declared.summary.LegalNode.{LegalNode}
 use Rattle.thp_journal_reader.specs.declared.summary.SummedNodes.{SummedNodes}
 use Rattle.thp_journal_reader.specs.declared.summary.Summary.{Summary}
-use Rattle.thp_journal_reader.specs.Answers.{IsLegalNode, TellsFirst}
+use Rattle.thp_journal_reader.specs.Answers.{IsLegalNode, ReportsFirst}
 use Rattle.thp_journal_reader.specs.Checking.{nodes_told, AreLegal}
 use Rattle.thp_journal_reader.specs.LineRanges.{IsInRange}
 use Rattle.thp_journal_reader.specs.Reading.{began, on_last, with_event, with_line, IsNodeBefore}
@@ -82,7 +82,7 @@ last_found : (node : NodeJournal) (nodes : List NodeJournal) → LastIsIllegal (
 last_found node [] last = (0, node, refl, last.0, last.1)
 last_found node (next ∷ nodes) last = let found = last_found next nodes last in (suc found.0, found.1, found.2, found.3, found.4)
 
-not_legal : (node : NodeJournal) (nodes : List NodeJournal) → LastIsIllegal (node ∷ nodes) → TellsFirst (node ∷ nodes) None → ⊥
+not_legal : (node : NodeJournal) (nodes : List NodeJournal) → LastIsIllegal (node ∷ nodes) → ReportsFirst (node ∷ nodes) None → ⊥
 not_legal node nodes last all =
     let found = last_found node nodes last in
     misfit_is_illegal found.1.shape found.1.events found.3 found.4 (all found.0 found.1 (slice_get_within (node ∷ nodes) found.0 found.1 found.2) found.2)
@@ -90,13 +90,13 @@ not_legal node nodes last all =
 -- ---- the first illegal event
 
 -- where none is illegal, the nodes before the last are legal
-before_legal : (nodes before : List NodeJournal) (last : NodeJournal) → nodes ≡ before ++ last ∷ [] → TellsFirst nodes None → All IsLegalNode before
+before_legal : (nodes before : List NodeJournal) (last : NodeJournal) → nodes ≡ before ++ last ∷ [] → ReportsFirst nodes None → All IsLegalNode before
 before_legal nodes before last are all = λ k d inside.
     let there : slice_get (before ++ last ∷ []) k ≡ Some (get_or before k d) = get-append_left before (last ∷ []) k (get_or before k d) (slice_get-get_or before k d inside) in
     let here : slice_get nodes k ≡ Some (get_or before k d) = ap (λ (ns : List NodeJournal). slice_get ns k) are ∙ there in
     all k (get_or before k d) (slice_get_within nodes k (get_or before k d) here) here
 
-as_legal : (nodes : List NodeJournal) (at_hand : LegalNode) (totals : List Totals) → EndsAtHand nodes at_hand totals → TellsFirst nodes None → AreLegal nodes at_hand.replay at_hand.next_line
+as_legal : (nodes : List NodeJournal) (at_hand : LegalNode) (totals : List Totals) → EndsAtHand nodes at_hand totals → ReportsFirst nodes None → AreLegal nodes at_hand.replay at_hand.next_line
 as_legal nodes at_hand totals ends all = record {
   before = ends.before;
   last = ends.last;
@@ -109,7 +109,7 @@ as_legal nodes at_hand totals ends all = record {
 }
 
 -- one more node begins
-first_begins : (nodes : List NodeJournal) (illegal : Option Illegal) (first_line : ℕ) (shape : Shape) → TellsFirst nodes illegal → TellsFirst (nodes ++ began first_line shape ∷ []) illegal
+first_begins : (nodes : List NodeJournal) (illegal : Option Illegal) (first_line : ℕ) (shape : Shape) → ReportsFirst nodes illegal → ReportsFirst (nodes ++ began first_line shape ∷ []) illegal
 first_begins nodes None first_line shape all = λ k node lt here.
     elim (get_push nodes (began first_line shape) k node here) [
       | inl w ↦ all k node w.0 w.1
@@ -143,9 +143,9 @@ ends nodes node totals new more e told is =
     subst P (sym e.nodes_are) (subst Q (sym is) (summaries_push e.before totals e.last more e.summaries (record { front = e.last.events; legal = inl (e.is_last.legal, refl); totals_are = same })))
 
 -- what is known is so of these nodes, the last of which isn't at hand
-pub sums_of : (nodes : List NodeJournal) (new : Summary) (illegal : Option Illegal) (totals : List Totals) → new.illegal ≡ illegal → new.totals.items ≡ totals → new.at_hand ≡ None → TellsFirst nodes illegal × AreSummaries nodes totals × LastIsIllegal nodes → Sums nodes new
+pub sums_of : (nodes : List NodeJournal) (new : Summary) (illegal : Option Illegal) (totals : List Totals) → new.illegal ≡ illegal → new.totals.items ≡ totals → new.at_hand ≡ None → ReportsFirst nodes illegal × AreSummaries nodes totals × LastIsIllegal nodes → Sums nodes new
 sums_of nodes new illegal totals same-illegal same-totals none known =
-    let F : Option Illegal → Type 0 = λ i. TellsFirst nodes i in
+    let F : Option Illegal → Type 0 = λ i. ReportsFirst nodes i in
     let S : Option LegalNode → List Totals → Type 0 = λ n ts. SumsBy nodes n ts in
     record {
       first = subst F (sym same-illegal) known.0;
@@ -153,8 +153,8 @@ sums_of nodes new illegal totals same-illegal same-totals none known =
     }
 
 -- one more node begins behind nodes whose totals are there
-pub begins : (nodes : List NodeJournal) (illegal : Option Illegal) (totals : List Totals) (node : LegalNode) (first_line : ℕ) (shape : Shape) → TellsFirst nodes illegal → AreSummaries nodes totals → node.shape ≡ shape → node.replay.shape ≡ shape → node.replay.history ≡ [] → node.next_line ≡ first_line
-    → TellsFirst (nodes ++ began first_line shape ∷ []) illegal × EndsAtHand (nodes ++ began first_line shape ∷ []) node totals
+pub begins : (nodes : List NodeJournal) (illegal : Option Illegal) (totals : List Totals) (node : LegalNode) (first_line : ℕ) (shape : Shape) → ReportsFirst nodes illegal → AreSummaries nodes totals → node.shape ≡ shape → node.replay.shape ≡ shape → node.replay.history ≡ [] → node.next_line ≡ first_line
+    → ReportsFirst (nodes ++ began first_line shape ∷ []) illegal × EndsAtHand (nodes ++ began first_line shape ∷ []) node totals
 begins nodes illegal totals node first_line shape first are same replays none line = (
   first_begins nodes illegal first_line shape first,
   record {
@@ -166,18 +166,18 @@ begins nodes illegal totals node first_line shape first are same replays none li
   },
 )
 
-module _ (nodes : List NodeJournal) (at_hand : LegalNode) (illegal : Option Illegal) (totals : List Totals) (first : TellsFirst nodes illegal) (e : EndsAtHand nodes at_hand totals) (told event : Event) (placed : event ≡ event_with (least_free at_hand.replay.shape at_hand.replay.history) told) where
+module _ (nodes : List NodeJournal) (at_hand : LegalNode) (illegal : Option Illegal) (totals : List Totals) (first : ReportsFirst nodes illegal) (e : EndsAtHand nodes at_hand totals) (told event : Event) (placed : event ≡ event_with (least_free at_hand.replay.shape at_hand.replay.history) told) where
   -- the last node's event, in its block
   there : event ≡ event_with (least_free e.last.shape e.last.events) told
   there = placed ∙ ap₂ (λ s h. event_with (least_free s h) told) e.is_last.shape_is e.is_last.events_are
 
   -- the event fits
   module _ (new : Replayed) (is : new ≡ replayed at_hand.replay event) (legal : IsLegal new.shape new.history) where
-    first_grows : (i : Option Illegal) → TellsFirst nodes i → TellsFirst (on_last (with_event told) nodes) i
+    first_grows : (i : Option Illegal) → ReportsFirst nodes i → ReportsFirst (on_last (with_event told) nodes) i
     first_grows None all = tells_legal (on_last (with_event told) nodes) new (at_hand.next_line + 1) (legal_grows nodes at_hand.replay new at_hand.next_line told (as_legal nodes at_hand totals e all) (is ∙ ap (replayed at_hand.replay) placed) legal)
     first_grows (Some i) one = illegal_grows nodes i told one
 
-    pub grows : (node : LegalNode) → node ≡ record { shape = at_hand.shape; replay = new; next_line = at_hand.next_line + 1 } → TellsFirst (on_last (with_event told) nodes) illegal × EndsAtHand (on_last (with_event told) nodes) node totals
+    pub grows : (node : LegalNode) → node ≡ record { shape = at_hand.shape; replay = new; next_line = at_hand.next_line + 1 } → ReportsFirst (on_last (with_event told) nodes) illegal × EndsAtHand (on_last (with_event told) nodes) node totals
     grows node node-is =
         let last : NodeJournal = with_event told e.last in
         let shapes : new.shape ≡ last.shape = ap (λ (r : Replayed). r.shape) is ∙ e.is_last.shape_is in
@@ -203,12 +203,12 @@ module _ (nodes : List NodeJournal) (at_hand : LegalNode) (illegal : Option Ille
 
   -- the event doesn't fit
   module _ (m : Misfit) (wrong : Fits at_hand.replay.shape at_hand.replay.history event → ⊥) (why : Explains at_hand.replay.shape at_hand.replay.history event m) where
-    first_stops : (i : Option Illegal) → TellsFirst nodes i → TellsFirst (on_last (with_event told) nodes) (first_of i (record { line = at_hand.next_line; event = event; misfit = m }))
+    first_stops : (i : Option Illegal) → ReportsFirst nodes i → ReportsFirst (on_last (with_event told) nodes) (first_of i (record { line = at_hand.next_line; event = event; misfit = m }))
     first_stops None all = turns_illegal nodes at_hand.replay at_hand.next_line told event m (as_legal nodes at_hand totals e all) placed wrong why
     first_stops (Some i) one = illegal_grows nodes i told one
 
     pub stops : (more : Totals) → more ≡ totals_of at_hand.replay.shape at_hand.replay.history →
-        TellsFirst (on_last (with_event told) nodes) (first_of illegal (record { line = at_hand.next_line; event = event; misfit = m })) × AreSummaries (on_last (with_event told) nodes) (totals ++ more ∷ []) × LastIsIllegal (on_last (with_event told) nodes)
+        ReportsFirst (on_last (with_event told) nodes) (first_of illegal (record { line = at_hand.next_line; event = event; misfit = m })) × AreSummaries (on_last (with_event told) nodes) (totals ++ more ∷ []) × LastIsIllegal (on_last (with_event told) nodes)
     stops more more-is =
         let l : NodeJournal = e.last in
         let x : Event = event_with (least_free l.shape l.events) told in
@@ -228,11 +228,11 @@ module _ (nodes : List NodeJournal) (at_hand : LegalNode) (illegal : Option Ille
         )
 
 -- while no node is at hand, an event leaves what is known
-pub still : (nodes : List NodeJournal) (illegal : Option Illegal) (totals : List Totals) (event : Event) → TellsFirst nodes illegal → AreSummaries nodes totals → LastIsIllegal nodes
-    → TellsFirst (on_last (with_event event) nodes) illegal × AreSummaries (on_last (with_event event) nodes) totals × LastIsIllegal (on_last (with_event event) nodes)
+pub still : (nodes : List NodeJournal) (illegal : Option Illegal) (totals : List Totals) (event : Event) → ReportsFirst nodes illegal → AreSummaries nodes totals → LastIsIllegal nodes
+    → ReportsFirst (on_last (with_event event) nodes) illegal × AreSummaries (on_last (with_event event) nodes) totals × LastIsIllegal (on_last (with_event event) nodes)
 still nodes illegal totals event first are last = (tells nodes illegal last first, summaries_stay event nodes totals last are, illegal_stays event nodes last)
   where
-    tells : (ns : List NodeJournal) (i : Option Illegal) → LastIsIllegal ns → TellsFirst ns i → TellsFirst (on_last (with_event event) ns) i
+    tells : (ns : List NodeJournal) (i : Option Illegal) → LastIsIllegal ns → ReportsFirst ns i → ReportsFirst (on_last (with_event event) ns) i
     tells ns (Some i) last one = illegal_grows ns i event one
     tells [] None last all = all
     tells (n ∷ ns) None last all = absurd (not_legal n ns last all)
@@ -255,7 +255,7 @@ pub goes_first : (nodes : SummedNodes) → nodes.lines ≡ [] → nodes.summary.
 goes_first nodes none no-node legal nothing =
     let told : nodes_told nodes.lines ≡ [] = ap nodes_told none ∙ told_none in
     let P : List NodeJournal → Type 0 = λ ns. All (IsNodeBefore 1) ns in
-    let F : List NodeJournal → Option Illegal → Type 0 = λ ns i. TellsFirst ns i in
+    let F : List NodeJournal → Option Illegal → Type 0 = λ ns i. ReportsFirst ns i in
     let S : List NodeJournal → Option LegalNode → List Totals → Type 0 = λ ns n ts. SumsBy ns n ts in
     let first : F [] None = λ k node lt here. absurd (omega arith) in
     record {

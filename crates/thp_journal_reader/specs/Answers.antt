@@ -1,4 +1,4 @@
--- What the check of a journal text answers.
+-- The results of the check of a journal text.
 use Rattle.std.specs.Prelude.{◌≡◌, ◌<◌, ◌+◌, ℕ, List, length, slice_get, take, Option, Some, None}
 use Rattle.thp_model.specs.BlockLaws.{SameButBlocks}
 use Rattle.thp_model.specs.History.{History}
@@ -11,17 +11,17 @@ use Rattle.thp_journal_reader.specs.declared.journals.NodeJournal.{NodeJournal}
 abbrev pub IsLegalNode : NodeJournal → Type 0
 IsLegalNode node = IsLegal node.shape node.events
 
--- the node's event on this line is the first of its events that doesn't fit
+-- the node's event on this line is its first that does not fit
 pub record IsFirstIllegal (node : NodeJournal) (line : ℕ) : Type 0 where
   pub place : ℕ
   pub misfit : IsFirstMisfit node.shape node.events place
   pub line_is : line ≡ node.first_line + place
 
--- the nodes before this place are legal
+-- the nodes before this index are legal
 abbrev pub AreLegalBefore : ℕ → List NodeJournal → Type 0
 AreLegalBefore place nodes = (k : ℕ) (node : NodeJournal) → k < place → slice_get nodes k ≡ Some node → IsLegalNode node
 
--- the event on this line is the first that doesn't fit: it is so in its node, and the nodes before are legal
+-- the event on this line is the first that does not fit: it is the first in its node, and the nodes before are legal
 pub record IsFirstIllegalLine (nodes : List NodeJournal) (line : ℕ) : Type 0 where
   pub place : ℕ
   pub node : NodeJournal
@@ -29,26 +29,26 @@ pub record IsFirstIllegalLine (nodes : List NodeJournal) (line : ℕ) : Type 0 w
   pub legal_before : AreLegalBefore place nodes
   pub first : IsFirstIllegal node line
 
--- the event is the first that doesn't fit, and this is why
+-- the event is the first that does not fit, and this is the reason
 pub record IsFirstIllegalEvent (nodes : List NodeJournal) (illegal : Illegal) : Type 0 where
   pub line : IsFirstIllegalLine nodes illegal.line
   pub event : slice_get line.node.events line.first.place ≡ Some illegal.event
   pub why : Explains line.node.shape (take line.first.place line.node.events) illegal.event illegal.misfit
 
--- of one node: no line where it is legal, else that of its first illegal event
-abbrev pub TellsNode : NodeJournal → Option ℕ → Type 0
-TellsNode node None = IsLegalNode node
-TellsNode node (Some line) = IsFirstIllegal node line
+-- for one node: no line if it is legal, otherwise that of its first illegal event
+abbrev pub ReportsNode : NodeJournal → Option ℕ → Type 0
+ReportsNode node None = IsLegalNode node
+ReportsNode node (Some line) = IsFirstIllegal node line
 
--- of all nodes: no line where each is legal, else that of the first illegal event in the order of the text
-abbrev pub TellsIllegal : List NodeJournal → Option ℕ → Type 0
-TellsIllegal nodes None = AreLegalBefore (length nodes) nodes
-TellsIllegal nodes (Some line) = IsFirstIllegalLine nodes line
+-- for all nodes: no line if each is legal, otherwise that of the first illegal event in the order of the text
+abbrev pub ReportsIllegal : List NodeJournal → Option ℕ → Type 0
+ReportsIllegal nodes None = AreLegalBefore (length nodes) nodes
+ReportsIllegal nodes (Some line) = IsFirstIllegalLine nodes line
 
--- no event where each is legal, else the first illegal one in the order of the text
-abbrev pub TellsFirst : List NodeJournal → Option Illegal → Type 0
-TellsFirst nodes None = AreLegalBefore (length nodes) nodes
-TellsFirst nodes (Some illegal) = IsFirstIllegalEvent nodes illegal
+-- no event if each node is legal, otherwise the first illegal event in the order of the text
+abbrev pub ReportsFirst : List NodeJournal → Option Illegal → Type 0
+ReportsFirst nodes None = AreLegalBefore (length nodes) nodes
+ReportsFirst nodes (Some illegal) = IsFirstIllegalEvent nodes illegal
 
 -- some choice of blocks makes the node's events legal
 abbrev pub CanBeLegal : NodeJournal → Type 0

@@ -5,11 +5,11 @@ use Rattle.thp_model.specs.declared.events.Outcome.{Outcome}
 use Rattle.thp_model.specs.declared.events.What.TheVariants as what
 use Rattle.thp_model.specs.History.{by}
 use Rattle.thp_model.specs.Limits.{max_callers}
-use Rattle.thp_text.specs.declared.fault.TextKind.{TextKind}
-use Rattle.thp_text.specs.declared.fault.TextKind.TheVariants.{BadWord, BadCount}
-use Rattle.thp_text.specs.Commands.{number_up_to, one_word, two_words}
-use Rattle.thp_text.specs.Readings.{◌>>=◌}
-use Rattle.thp_text.specs.Words.{Text}
+use Rattle.thp_script.specs.declared.fault.TextKind.{TextKind}
+use Rattle.thp_script.specs.declared.fault.TextKind.TheVariants.{BadWord, BadCount}
+use Rattle.thp_script.specs.Commands.{number_up_to, one_word, two_words}
+use Rattle.thp_script.specs.Readings.{◌>>=◌}
+use Rattle.thp_script.specs.Words.{Text}
 use Rattle.thp_journal_reader.specs.declared.event_word.EventWord.{EventWord}
 use Rattle.thp_journal_reader.specs.declared.event_word.EventWord.TheVariants.{OfPage, OfRange, OfLoss, UnmapSub, Split, Close}
 use Rattle.thp_journal_reader.specs.declared.event_word.LossWord.{LossWord}
@@ -27,7 +27,7 @@ caller_number = number_up_to (max_callers - 1)
 abbrev pub page_number : Text → Result ℕ TextKind
 page_number = number_up_to 18446744073709551615
 
--- the first of a range of subpages, or how many they are
+-- the first of a range of subpages, or their number
 abbrev pub range_number : Text → Result ℕ TextKind
 range_number = number_up_to 65535
 
@@ -36,12 +36,12 @@ abbrev pub no_words : List Text → Result Unit TextKind
 no_words [] = Ok tt
 no_words _ = Err BadCount
 
--- the three words that there are
+-- the three words, if there are exactly three
 abbrev pub three_words : List Text → Result (Text × Text × Text) TextKind
 three_words (a ∷ b ∷ c ∷ []) = Ok (a, b, c)
 three_words _ = Err BadCount
 
--- an outcome's word and one more: the outcome is looked at before the words are counted
+-- an outcome's word and one more: the outcome is tested before the number of words
 unfoldable pub outcome_and_word : List Text → Result (Outcome × Text) TextKind
 outcome_and_word [] = Err BadCount
 outcome_and_word (name ∷ words) = do
@@ -126,7 +126,7 @@ event_by UnmapSub caller words = unmap_event caller words
 event_by Split caller words = split_event caller words
 event_by Close caller words = close_event caller words
 
--- an event behind its caller: its word comes first
+-- an event after its caller: its word is the first
 abbrev pub event_of : Version → Text → List Text → Result Event TextKind
 event_of v caller [] = Err BadWord
 event_of v caller (name ∷ words) = event_word v name >>= λ word. event_by word caller words

@@ -5,9 +5,9 @@ use Rattle.thp_model.specs.declared.events.Outcome.{Outcome}
 use Rattle.thp_model.specs.declared.events.Outcome.TheVariants.{Stays, Queued, Freed}
 use Rattle.thp_model.specs.declared.events.What.{What}
 use Rattle.thp_model.specs.declared.events.What.TheVariants as what
-use Rattle.thp_text.specs.declared.fault.TextKind.{TextKind}
-use Rattle.thp_text.specs.declared.fault.TextKind.TheVariants.{BadWord}
-use Rattle.thp_text.specs.Words.{Text}
+use Rattle.thp_script.specs.declared.fault.TextKind.{TextKind}
+use Rattle.thp_script.specs.declared.fault.TextKind.TheVariants.{BadWord}
+use Rattle.thp_script.specs.Words.{Text}
 use Rattle.thp_journal_reader.specs.declared.event_word.EventWord.{EventWord}
 use Rattle.thp_journal_reader.specs.declared.event_word.EventWord.TheVariants.{OfPage, OfRange, OfLoss, UnmapSub, Split, Close}
 use Rattle.thp_journal_reader.specs.declared.event_word.LossWord.{LossWord}
@@ -38,7 +38,7 @@ common_word name =
     else if bytes_eq name (codes "close") then Ok Close
     else Err BadWord
 
--- and those that version 3 has besides
+-- the further event words of version 3
 unfoldable pub later_word : Text → Result EventWord TextKind
 later_word name =
     if bytes_eq name (codes "write") then Ok (OfRange Write)
@@ -52,7 +52,7 @@ event_word Plain name = common_word name
 event_word Orders name = common_word name
 event_word Underused name = later_word name
 
--- what happened to the page; a new page has block 0 for now
+-- the event about the page; a new page has block 0 here
 abbrev pub page_what : PageWord → ℕ → What
 page_what Alloc page = what.Alloc page 0
 page_what MapWhole page = what.MapWhole page
@@ -64,18 +64,18 @@ page_what Used page = what.Used page
 page_what Back page = what.Back page
 page_what Dropped page = what.Dropped page
 
--- what happened to a range of the page's subpages
+-- the event about a range of the page's subpages
 abbrev pub range_what : RangeWord → ℕ → ℕ → ℕ → What
 range_what MapSub page first count = what.MapSub page first count
 range_what Write page first count = what.Write page first count
 range_what Zero page first count = what.Zero page first count
 
--- what the page lost, and what became of it
+-- the loss of the page, and its outcome
 abbrev pub loss_what : LossWord → Outcome → ℕ → List Bool → What
 loss_what UnmapWhole outcome page released = what.UnmapWhole outcome page released
 loss_what Unpin outcome page released = what.Unpin outcome page released
 
--- the outcome that a word tells
+-- the outcome that a word names
 unfoldable pub outcome_of : Text → Result Outcome TextKind
 outcome_of word =
     if bytes_eq word (codes "stays") then Ok Stays

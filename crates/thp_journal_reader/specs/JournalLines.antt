@@ -1,17 +1,17 @@
--- What a line of a journal says, and where it may stand (this project's journal format).
+-- The content of a journal's line, and its allowed positions (this project's journal format).
 use Rattle.std.specs.Prelude.{◌==◌, ◌^◌, ◌-◌, ◌+◌, not, nat_lt, nat_le, ℕ, Bool, true, false, List, [], ◌∷◌, Option, Some, None, Result, Ok, Err, codes, if◌then◌else◌}
 use Rattle.std.specs.List.{list_all, list_any}
 use Rattle.std.specs.Str.{bytes_eq}
 use Rattle.thp_model.specs.declared.events.Event.{Event}
 use Rattle.thp_model.specs.BlockLaws.{event_with}
 use Rattle.thp_model.specs.Limits.{max_blocks, max_order, min_order}
-use Rattle.thp_text.specs.declared.fault.TextKind.{TextKind}
-use Rattle.thp_text.specs.declared.fault.TextKind.TheVariants.{BadByte, BadWord, BadNumber, BadOrder}
-use Rattle.thp_text.specs.Commands.{number_up_to, one_word}
-use Rattle.thp_text.specs.Limits.{max_nodes}
-use Rattle.thp_text.specs.Lines.{is_empty, is_printable}
-use Rattle.thp_text.specs.Readings.{◌>>=◌}
-use Rattle.thp_text.specs.Words.{Text, words_of}
+use Rattle.thp_script.specs.declared.fault.TextKind.{TextKind}
+use Rattle.thp_script.specs.declared.fault.TextKind.TheVariants.{BadByte, BadWord, BadNumber, BadOrder}
+use Rattle.thp_script.specs.Commands.{number_up_to, one_word}
+use Rattle.thp_script.specs.Limits.{max_nodes}
+use Rattle.thp_script.specs.Lines.{is_empty, is_printable}
+use Rattle.thp_script.specs.Readings.{◌>>=◌}
+use Rattle.thp_script.specs.Words.{Text, words_of}
 use Rattle.thp_journal_reader.specs.declared.line.Line.{Line}
 use Rattle.thp_journal_reader.specs.declared.line.Line.TheVariants.{Head, Node, Happened, End}
 use Rattle.thp_journal_reader.specs.declared.place.Place.{Place}
@@ -28,14 +28,14 @@ version_of word =
     else if bytes_eq word (codes "3") then Ok Underused
     else Err BadNumber
 
--- `thp-journal VERSION`, behind its first word
+-- `thp-journal VERSION`, after its first word
 unfoldable pub head_of : List Text → Result Line TextKind
 head_of words = do
   word ← one_word words
   version ← version_of word
   Ok (Head version)
 
--- an operand, then this word, then others; the others are given back with it
+-- an operand, then this word, then others; the others are returned with it
 abbrev pub before : Text → List Text → Result (Text × List Text) TextKind
 before key (operand ∷ word ∷ words) = if bytes_eq word key then Ok (operand, words) else Err BadWord
 before key _ = Err BadWord
@@ -46,20 +46,20 @@ number_between least most word = do
   number ← number_up_to most word
   if nat_le least number then Ok number else Err BadNumber
 
--- `off`, or a number of subpages that isn't the whole of a page
+-- `off`, or a number of subpages less than that of a page
 unfoldable pub threshold_of : ℕ → Text → Result (Option ℕ) TextKind
 threshold_of order word =
     if bytes_eq word (codes "off") then Ok None
     else (number_up_to (2 ^ order - 1) word >>= λ threshold. Ok (Some threshold))
 
--- node N, counted from 0, of this shape, which has a block at least
+-- node N, counted from 0, of this shape, which has at least one block
 abbrev pub node_with : Text → Text → ℕ → Option ℕ → Result Line TextKind
 node_with number_word blocks_word order underused = do
   number ← number_up_to (max_nodes - 1) number_word
   blocks ← number_between 1 max_blocks blocks_word
   Ok (Node number (record { blocks = blocks; order = order; underused = underused }))
 
--- `node N blocks B` of version 1, behind its first word: the pages are of the greatest order
+-- `node N blocks B` of version 1, after its first word: the pages are of the greatest order
 unfoldable pub plain_node : List Text → Result Line TextKind
 plain_node words = do
   number ← before (codes "blocks") words
@@ -86,13 +86,13 @@ underused_node words = do
   threshold ← threshold_of order threshold_word
   node_with number.0 blocks.0 order threshold
 
--- the line of a node, behind its first word
+-- the line of a node, after its first word
 abbrev pub node_of : Version → List Text → Result Line TextKind
 node_of Plain words = plain_node words
 node_of Orders words = ordered_node words
 node_of Underused words = underused_node words
 
--- `end`, behind its first word
+-- `end`, after its first word
 abbrev pub end_of : List Text → Result Line TextKind
 end_of words = no_words words >>= λ nothing. Ok End
 
@@ -112,30 +112,30 @@ abbrev pub by_words : Version → List Text → Result Line TextKind
 by_words v [] = Err BadWord
 by_words v (name ∷ words) = line_by v name words
 
--- what a whole line says in a version, wherever it stands; the faults are in their order
+-- the content of a whole line in a version, regardless of its position; the errors are tested in their order
 unfoldable pub line_of : Version → Text → Result Line TextKind
 line_of v text =
     if not (list_all is_printable text) then Err BadByte
     else if list_any is_empty (words_of text) then Err BadWord
     else by_words v (words_of text)
 
--- the event that a line says, with this block where it is an allocation; a line of another kind can't stand in its place
+-- the event of a line, with this block if it is an allocation; a line of another kind is not allowed here
 abbrev pub event_said : ℕ → Line → Result Event TextKind
 event_said block (Happened event) = Ok (event_with block event)
 event_said block _ = Err BadOrder
 
--- the event that a line's bytes spell in a version; no line tells the block of a new page
+-- the event of a line's bytes in a version; no line contains the block of a new page
 unfoldable pub event_told : Version → ℕ → Text → Result Event TextKind
 event_told v block text = line_of v text >>= event_said block
 
--- before the first line has told the version, lines are read as those of version 1
+-- before the first line with the version, lines are read as those of version 1
 abbrev pub version_at : Place → Version
 version_at Start = Plain
 version_at (Inside version nodes) = version
 version_at (Ended version) = version
 
--- The version comes first, and once. Nodes are numbered in order; events and the end come behind a node; nothing stands
--- behind the end.
+-- The version is the first line, and the only one of its kind. Nodes are numbered in order; events and the end follow a node;
+-- nothing follows the end.
 abbrev pub may_stand : Place → Line → Bool
 may_stand Start (Head version) = true
 may_stand Start _ = false
@@ -145,7 +145,7 @@ may_stand (Inside version nodes) (Happened event) = nat_lt 0 nodes
 may_stand (Inside version nodes) End = nat_lt 0 nodes
 may_stand (Ended version) line = false
 
--- the place behind a line that may stand: behind so many nodes, or at the end
+-- the position after an allowed line: after so many nodes, or at the end
 abbrev pub place_after : Place → Line → Place
 place_after place (Head version) = Inside version 0
 place_after (Inside version nodes) (Node number shape) = Inside version (number + 1)
@@ -153,7 +153,7 @@ place_after place (Node number shape) = place
 place_after place (Happened event) = place
 place_after place End = Ended (version_at place)
 
--- what a whole line says in its place
+-- the content of a whole line at its position
 unfoldable pub line_in : Place → Text → Result Line TextKind
 line_in place text = do
   line ← line_of (version_at place) text

@@ -1,16 +1,16 @@
--- Journals as text: the events of each node, or the first fault (this project's journal format).
+-- Journals as text: the events of each node, or the first error (this project's journal format).
 use Rattle.std.specs.Prelude.{◌≤◌, ◌+◌, ℕ, nat_lt, All, List, [], ◌∷◌, length, Option, Some, None, Result, Ok, Err, if◌then◌else◌}
 use Rattle.thp_model.specs.declared.shape.Shape.{Shape}
 use Rattle.thp_model.specs.BlockLaws.{with_least_blocks}
 use Rattle.thp_model.specs.History.{History}
 use Rattle.thp_model.specs.Shapes.{IsShape}
-use Rattle.thp_text.specs.declared.fault.TextKind.{TextKind}
-use Rattle.thp_text.specs.declared.fault.TextKind.TheVariants.{TooLong, Cut}
-use Rattle.thp_text.specs.Limits.{max_input}
-use Rattle.thp_text.specs.Lines.{fault_behind}
-use Rattle.thp_text.specs.Readings.{◌>>=◌}
-use Rattle.thp_text.specs.Scripts.{Fault, on_line}
-use Rattle.thp_text.specs.Words.{Text, lines_of}
+use Rattle.thp_script.specs.declared.fault.TextKind.{TextKind}
+use Rattle.thp_script.specs.declared.fault.TextKind.TheVariants.{TooLong, Cut}
+use Rattle.thp_script.specs.Limits.{max_input}
+use Rattle.thp_script.specs.Lines.{fault_after}
+use Rattle.thp_script.specs.Readings.{◌>>=◌}
+use Rattle.thp_script.specs.Scripts.{Fault, on_line}
+use Rattle.thp_script.specs.Words.{Text, lines_of}
 use Rattle.thp_journal_reader.specs.declared.journals.Journals.{Journals}
 use Rattle.thp_journal_reader.specs.declared.journals.NodeJournal.{NodeJournal}
 use Rattle.thp_journal_reader.specs.declared.line.Line.{Line}
@@ -19,7 +19,7 @@ use Rattle.thp_journal_reader.specs.declared.place.Place.{Place}
 use Rattle.thp_journal_reader.specs.declared.place.Place.TheVariants.{Start, Ended}
 use Rattle.thp_journal_reader.specs.JournalLines.{line_in, place_after}
 
--- where nothing stands behind the last line, the journal has come to its end, or is cut there
+-- if nothing follows the last line, the journal has ended, or is cut there
 abbrev pub end_at : ℕ → Place → Result (List Line) Fault
 end_at number (Ended version) = Ok []
 end_at number _ = Err (number, Cut)
@@ -28,10 +28,10 @@ abbrev pub end_of_text : ℕ → Place → Option TextKind → Result (List Line
 end_of_text number place None = end_at number place
 end_of_text number place (Some kind) = Err (number, kind)
 
--- what the lines from number `number` on say, from this place on
+-- the content of the lines from number `number` on, from this position on
 unfoldable pub lines_from : ℕ → Place → List Text → Result (List Line) Fault
 lines_from number place [] = Ok []
-lines_from number place (behind ∷ []) = end_of_text number place (fault_behind behind)
+lines_from number place (behind ∷ []) = end_of_text number place (fault_after behind)
 lines_from number place (text ∷ next ∷ texts) = do
   line ← on_line number (line_in place text)
   lines ← lines_from (number + 1) (place_after place line) (next ∷ texts)
@@ -44,7 +44,7 @@ events_of (Happened event ∷ lines) = event ∷ events_of lines
 events_of (Node number shape ∷ lines) = []
 events_of (_ ∷ lines) = events_of lines
 
--- a node whose events stand from this line on; each new page has the least block that no live page holds
+-- a node whose events begin on this line; each new page has the least block that holds no live page
 abbrev pub node_journal : ℕ → Shape → History → NodeJournal
 node_journal first_line shape events = record { shape = shape; first_line = first_line; events = with_least_blocks shape events }
 
@@ -54,17 +54,17 @@ nodes_of number [] = []
 nodes_of number (Node n shape ∷ lines) = node_journal (number + 1) shape (events_of lines) ∷ nodes_of (number + 1) lines
 nodes_of number (_ ∷ lines) = nodes_of (number + 1) lines
 
--- the journals that the lines tell
+-- the journals in the lines
 unfoldable pub journals_with : List Line → Journals
 journals_with lines = record { nodes = nodes_of 1 lines }
 
--- The journals that a text of at most so many bytes spells, or its first fault.
+-- The journals in a text of at most so many bytes, or its first error.
 unfoldable pub journals_within : ℕ → Text → Result Journals Fault
 journals_within most text =
     if nat_lt most (length text) then Err (0, TooLong)
     else (lines_from 1 Start (lines_of text) >>= λ lines. Ok (journals_with lines))
 
--- The journals that an input spells, or its first fault.
+-- The journals in an input, or its first error.
 abbrev pub journals_of : Text → Result Journals Fault
 journals_of = journals_within max_input
 
@@ -73,6 +73,6 @@ pub record IsNodeJournal (node : NodeJournal) : Type 0 where
   pub shape : IsShape node.shape
   pub lines : node.first_line + length node.events ≤ max_input + 1
 
--- that of each node
+-- the same for each node
 abbrev pub AreJournals : Journals → Type 0
 AreJournals journals = All IsNodeJournal journals.nodes

@@ -1,4 +1,4 @@
--- What stands before a line stands before the next one, too: ghost members of traits, which cite no file of proofs, need it here.
+-- What is before a line is before the next one, too: ghost members of traits, which cite no file of proofs, need it here.
 use Rattle.std.specs.Prelude.{◌+◌, ℕ, List, Option}
 use Rattle.std.specs.Prelude.{All}
 use Rattle.std.proofs.Math.Nat.{le_trans, le-add_right}

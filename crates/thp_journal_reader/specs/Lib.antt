@@ -7,8 +7,8 @@ pub mod Journals
 pub mod Reading
 pub mod Answers
 pub mod Parts
-pub mod PastLines
-pub mod Ahead
+pub mod LineTrace
+pub mod FastParsing
 pub mod Checking
 pub mod Summaries
 pub mod Summing

@@ -1,14 +1,14 @@
--- What a check that also keeps the numbers of nodes over their events answers.
+-- The results of a check that also stores the numbers of nodes over their events.
 use Rattle.std.specs.Prelude.{◌≡◌, ⊤, List, [], ◌∷◌}
 use Rattle.thp_model.specs.History.{History}
-use Rattle.thp_series.specs.Series.{numbers_at, series}
-use Rattle.thp_series.specs.Stuck.{AreStuck}
+use Rattle.thp_metrics.specs.Series.{numbers_at, series}
+use Rattle.thp_metrics.specs.Stuck.{AreStuck}
 use Rattle.thp_journal_reader.specs.declared.journals.NodeJournal.{NodeJournal}
 use Rattle.thp_journal_reader.specs.declared.numbered.NumberedNode.{NumberedNode}
-use Rattle.thp_journal_reader.specs.Answers.{TellsFirst}
+use Rattle.thp_journal_reader.specs.Answers.{ReportsFirst}
 use Rattle.thp_journal_reader.specs.Summaries.{IsLegalFront}
 
--- the numbers of the node's legal events, all or those before its first illegal one, which it tells
+-- the numbers of the node's legal events, all or those before its first illegal event, which it contains
 pub record IsNumbered (node : NodeJournal) (kept : NumberedNode) : Type 0 where
   pub front : History
   pub legal : IsLegalFront node front
@@ -16,9 +16,9 @@ pub record IsNumbered (node : NodeJournal) (kept : NumberedNode) : Type 0 where
   pub numbers_are : kept.numbers ≡ numbers_at node.shape front
   pub columns_are : kept.columns ≡ series node.shape front
   pub stuck_are : AreStuck node.shape front kept.stuck.items
-  pub first : TellsFirst (node ∷ []) kept.illegal
+  pub first : ReportsFirst (node ∷ []) kept.illegal
 
--- those of each node, in order
+-- the same for each node, in order
 abbrev pub AreNumbered : List NodeJournal → List NumberedNode → Type 0
 AreNumbered [] [] = ⊤
 AreNumbered [] (kept ∷ more) = ⊥

@@ -1,9 +1,9 @@
--- Journals whose text comes in parts (this project's journal format).
+-- Journals whose text arrives in parts (this project's journal format).
 use Rattle.std.specs.Prelude.{ℕ, ◌+◌, List, [], ◌∷◌, ◌++◌, Result, Ok}
-use Rattle.thp_text.specs.Readings.{◌>>=◌}
-use Rattle.thp_text.specs.Scripts.{Fault}
-use Rattle.thp_text.specs.TextInParts.{told_behind, TextSoFar}
-use Rattle.thp_text.specs.Words.{Text, lines_of}
+use Rattle.thp_script.specs.Readings.{◌>>=◌}
+use Rattle.thp_script.specs.Scripts.{Fault}
+use Rattle.thp_script.specs.TextInParts.{told_after, TextSoFar}
+use Rattle.thp_script.specs.Words.{Text, lines_of}
 use Rattle.thp_journal_reader.specs.declared.journals.Journals.{Journals}
 use Rattle.thp_journal_reader.specs.declared.journals.NodeJournal.{NodeJournal}
 use Rattle.thp_journal_reader.specs.declared.line.Line.{Line}
@@ -11,7 +11,7 @@ use Rattle.thp_journal_reader.specs.declared.place.Place.{Place}
 use Rattle.thp_journal_reader.specs.Journals.{lines_from}
 use Rattle.thp_journal_reader.specs.Reading.{with_line}
 
--- What was read of a text of journals so far: the nodes; the place behind the last line; and what has come of the text.
+-- The state of reading a text of journals: the nodes; the position after the last line; and the text read so far.
 pub record ReadSoFar : Type 0 where
   pub nodes : List NodeJournal
   pub place : Place
@@ -29,10 +29,10 @@ with_lines number nodes (line ∷ lines) = with_lines (number + 1) (with_line nu
 abbrev pub journals_in : List NodeJournal → Journals
 journals_in nodes = record { nodes = nodes }
 
--- the journals of these nodes and of the lines of a text, from this place and this line on, or its first fault
+-- the journals of these nodes and of the lines of a text, from this position and this line on, or its first error
 unfoldable pub lines_tell : List NodeJournal → Place → ℕ → Text → Result Journals Fault
 lines_tell nodes place line text = lines_from line place (lines_of text) >>= λ lines. Ok (journals_in (with_lines line nodes lines))
 
--- the journals that the text so far and this one behind it spell, or its first fault
+-- the journals in the text so far and the following text, or its first error
 abbrev pub told_with : ReadSoFar → Text → Result Journals Fault
-told_with r more = told_behind r.text more (lines_tell r.nodes r.place r.text.line (r.text.begun ++ more))
+told_with r more = told_after r.text more (lines_tell r.nodes r.place r.text.line (r.text.begun ++ more))

@@ -1,11 +1,11 @@
--- What a reader of journals keeps. Public clauses cite this module through `Parts` alone.
+-- The data of a reader of journals. Public clauses cite this module through `Parts` only.
 use Rattle.std.specs.Prelude.{◌≡◌, ◌≤◌, ◌+◌, ℕ, All, List, [], ◌∷◌, ◌++◌, length, Option, Some, None, IfSome}
 use Rattle.thp_model.specs.declared.events.Event.{Event}
 use Rattle.thp_model.specs.declared.shape.Shape.{Shape}
 use Rattle.thp_model.specs.BlockLaws.{event_with, least_free}
 use Rattle.thp_model.specs.Shapes.{IsShape}
-use Rattle.thp_text.specs.declared.fault.TextKind.{TextKind}
-use Rattle.thp_text.specs.declared.fault.TextKind.TheVariants.{Cut}
+use Rattle.thp_script.specs.declared.fault.TextKind.{TextKind}
+use Rattle.thp_script.specs.declared.fault.TextKind.TheVariants.{Cut}
 use Rattle.thp_journal_reader.specs.declared.journals.NodeJournal.{NodeJournal}
 use Rattle.thp_journal_reader.specs.declared.line.Line.{Line}
 use Rattle.thp_journal_reader.specs.declared.line.Line.TheVariants.{Node, Happened}
@@ -14,7 +14,7 @@ use Rattle.thp_journal_reader.specs.declared.place.Place.TheVariants.{Ended}
 use Rattle.thp_journal_reader.specs.declared.reading.Nodes.{Nodes}
 use Rattle.thp_journal_reader.specs.declared.reading.OpenNode.{OpenNode}
 
--- the blocks are chosen for the node's shape and its events
+-- the blocks are those chosen for the node's shape and its events
 pub record GoesAlong (node : OpenNode) : Type 0 where
   pub shape_is : node.blocks.shape ≡ node.shape
   pub history_is : node.blocks.history ≡ node.events
@@ -35,7 +35,7 @@ with_event event node = record {
   events = node.events ++ event_with (least_free node.shape node.events) event ∷ [];
 }
 
--- the nodes with the last of them changed, where there is one
+-- the nodes with the last of them changed, if there is one
 abbrev pub on_last : (NodeJournal → NodeJournal) → List NodeJournal → List NodeJournal
 on_last f [] = []
 on_last f (node ∷ []) = f node ∷ []
@@ -52,17 +52,17 @@ abbrev pub nodes_in : Option Nodes → List NodeJournal
 nodes_in None = []
 nodes_in (Some nodes) = nodes.closed ++ journal_so_far nodes.last ∷ []
 
--- a node of a shape that there may be, whose lines stand before this one
+-- a node of a valid shape, whose lines are before this one
 pub record IsNodeBefore (number : ℕ) (node : NodeJournal) : Type 0 where
   pub shape : IsShape node.shape
   pub lines : node.first_line + length node.events ≤ number
 
--- the blocks go along, and the nodes stand before this line
+-- the blocks agree, and the nodes are before this line
 pub record IsReading (number : ℕ) (nodes : Option Nodes) : Type 0 where
   pub along : IfSome nodes (λ n. GoesAlong n.last)
   pub each : All (IsNodeBefore number) (nodes_in nodes)
 
--- what stands behind the last line is at fault; where nothing stands there, the journal is cut unless it has come to its end
+-- the text after the last line has an error; if there is none, the journal is cut unless it has ended
 abbrev pub fault_at : Option TextKind → Place → Option TextKind
 fault_at (Some kind) place = Some kind
 fault_at None (Ended version) = None

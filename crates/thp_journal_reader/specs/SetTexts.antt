@@ -1,22 +1,22 @@
--- Sets of subpages from text: their maximal runs, ascending and joined by commas (this project's journal format).
+-- Sets of subpages from text: their maximal runs, in ascending order and separated by commas (this project's journal format).
 use Rattle.std.specs.Prelude.{ℕ, ◌+◌, ◌&&◌, nat_le, nat_lt, Bool, List, [], ◌∷◌, Result, Ok, Err, codes, ok_or, if◌then◌else◌}
 use Rattle.std.specs.List.{list_any}
 use Rattle.std.specs.Str.{bytes_eq}
 use Rattle.thp_model.specs.Sets.{set_of}
-use Rattle.thp_text.specs.declared.fault.TextKind.{TextKind}
-use Rattle.thp_text.specs.declared.fault.TextKind.TheVariants.{BadSet}
-use Rattle.thp_text.specs.Readings.{◌>>=◌}
-use Rattle.thp_text.specs.Words.{Text, number_of, pieces_at}
+use Rattle.thp_script.specs.declared.fault.TextKind.{TextKind}
+use Rattle.thp_script.specs.declared.fault.TextKind.TheVariants.{BadSet}
+use Rattle.thp_script.specs.Readings.{◌>>=◌}
+use Rattle.thp_script.specs.Words.{Text, number_of, pieces_at}
 
--- the first and the last of some numbers in a row
+-- the first and the last of consecutive numbers
 abbrev pub Run : Type 0
 Run = ℕ × ℕ
 
--- i lies in the run
+-- i is in the run
 abbrev pub covers_number : ℕ → Run → Bool
 covers_number i run = nat_le run.0 i && nat_le i run.1
 
--- the set of the numbers that lie in one of the runs
+-- the set of the numbers in the runs
 unfoldable pub set_with : List Run → List Bool
 set_with runs = set_of (λ i. list_any (covers_number i) runs)
 
@@ -43,17 +43,17 @@ run_of_numbers (word ∷ []) = run_of_one word
 run_of_numbers (first ∷ last ∷ []) = longer_run first last
 run_of_numbers _ = Err BadSet
 
--- a run; a dash (45) stands between its numbers
+-- a run; a dash (45) separates its numbers
 unfoldable pub run_of : Text → Result Run TextKind
 run_of text = run_of_numbers (pieces_at 45 text)
 
--- a run whose first number isn't below this one
+-- a run whose first number is not below this one
 unfoldable pub run_from : ℕ → Text → Result Run TextKind
 run_from least text = do
   run ← run_of text
   if nat_le least run.0 then Ok run else Err BadSet
 
--- runs from this number on, each apart from the one before it
+-- runs from this number on, each separated from the one before it by a gap
 abbrev pub runs_of : ℕ → List Text → Result (List Run) TextKind
 runs_of least [] = Ok []
 runs_of least (text ∷ texts) = do
@@ -61,10 +61,10 @@ runs_of least (text ∷ texts) = do
   runs ← runs_of (run.1 + 2) texts
   Ok (run ∷ runs)
 
--- the set of the runs that a text writes; commas (44) stand between them
+-- the set of the runs in a text, which are separated by commas (44)
 abbrev pub set_of_runs : Text → Result (List Bool) TextKind
 set_of_runs text = runs_of 0 (pieces_at 44 text) >>= λ runs. Ok (set_with runs)
 
--- the set that a text writes: `-` for none of the numbers, else runs
+-- the set in a text: `-` for the empty set, otherwise runs
 unfoldable pub set_of_text : Text → Result (List Bool) TextKind
 set_of_text text = if bytes_eq text (codes "-") then Ok (set_with []) else set_of_runs text

@@ -1,8 +1,8 @@
--- What a check that also sums nodes up answers.
+-- The results of a check that also sums nodes up.
 use Rattle.std.specs.Prelude.{◌≡◌, ◌⊎◌, ⊤, ℕ, List, [], ◌∷◌, take, Result, Err}
 use Rattle.thp_model.specs.History.{History}
 use Rattle.thp_model.specs.Legal.{IsFirstMisfit}
-use Rattle.thp_text.specs.Scripts.{Fault}
+use Rattle.thp_script.specs.Scripts.{Fault}
 use Rattle.thp_journal_writer.specs.Totals.{totals_of}
 use Rattle.thp_journal_writer.specs.declared.totals.Totals.{Totals}
 use Rattle.thp_journal_reader.specs.declared.journals.Journals.{Journals}
@@ -10,15 +10,15 @@ use Rattle.thp_journal_reader.specs.declared.journals.NodeJournal.{NodeJournal}
 use Rattle.thp_journal_reader.specs.declared.summed.SummaryFault.{SummaryFault}
 use Rattle.thp_journal_reader.specs.declared.summed.SummaryFault.TheVariants.{Text, OutOfMemory}
 use Rattle.thp_journal_reader.specs.declared.summed.Summed.{Summed}
-use Rattle.thp_journal_reader.specs.Answers.{IsLegalNode, TellsFirst}
+use Rattle.thp_journal_reader.specs.Answers.{IsLegalNode, ReportsFirst}
 
--- the node's events up to its first illegal one, which stands at this place
+-- the node's events up to its first illegal one, which is at this index
 pub record IsFrontAt (node : NodeJournal) (front : History) : Type 0 where
   pub place : ℕ
   pub misfit : IsFirstMisfit node.shape node.events place
   pub front_is : front ≡ take place node.events
 
--- the node's legal events: all of them, or those before its first illegal one
+-- the node's legal events: all of them, or those before its first illegal event
 abbrev pub IsLegalFront : NodeJournal → History → Type 0
 IsLegalFront node front = (IsLegalNode node × (front ≡ node.events)) ⊎ IsFrontAt node front
 
@@ -28,7 +28,7 @@ pub record IsSummary (node : NodeJournal) (totals : Totals) : Type 0 where
   pub legal : IsLegalFront node front
   pub totals_are : totals ≡ totals_of node.shape front
 
--- those of each node, in order
+-- the same for each node, in order
 abbrev pub AreSummaries : List NodeJournal → List Totals → Type 0
 AreSummaries [] [] = ⊤
 AreSummaries [] (totals ∷ more) = ⊥
@@ -37,10 +37,10 @@ AreSummaries (node ∷ nodes) (totals ∷ more) = IsSummary node totals × AreSu
 
 -- the first illegal event of all nodes, and the totals of each
 pub record AreSummed (nodes : List NodeJournal) (summed : Summed) : Type 0 where
-  pub first : TellsFirst nodes summed.illegal
+  pub first : ReportsFirst nodes summed.illegal
   pub totals : AreSummaries nodes summed.totals.items
 
--- the text has this fault, where it is the text's
-abbrev pub TellsSummaryFault : Result Journals Fault → SummaryFault → Type 0
-TellsSummaryFault read (Text fault) = read ≡ Err (fault.line, fault.kind)
-TellsSummaryFault read OutOfMemory = ⊤
+-- the text has this error, if it is one of the text
+abbrev pub ReportsSummaryFault : Result Journals Fault → SummaryFault → Type 0
+ReportsSummaryFault read (Text fault) = read ≡ Err (fault.line, fault.kind)
+ReportsSummaryFault read OutOfMemory = ⊤

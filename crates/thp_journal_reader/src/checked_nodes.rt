@@ -1,4 +1,4 @@
-//! Nodes whose events are replayed as they are read, and not kept.
+//! Checks nodes by replaying their events as they are read, without storing them.
 ghost use Rattle.std.specs.Prelude.{◌≡◌, ◌≤◌, ◌<◌, ◌+◌, ◌-◌, ◌^◌, ◌∷◌, ◌++◌, ℕ, [], length, List, None, Some, OnOk};
 ghost use Rattle.thp_journal_reader.specs.Checking.{nodes_told, AreLegal, GoesWith, HasRoom, HasRoomIn, Says};
 ghost use Rattle.thp_journal_reader.specs.Reading.{began, on_last, with_event, with_line};
@@ -9,12 +9,12 @@ ghost use Rattle.thp_model.specs.BlockLaws.{event_with, least_free};
 ghost use Rattle.thp_model.specs.Shapes.{IsShape};
 ghost use Rattle.thp_model.specs.declared.events.Event.{Event};
 ghost use Rattle.thp_model.specs.declared.events.What.TheVariants.{Alloc};
-ghost use Rattle.thp_text.specs.Limits.{max_counted};
+ghost use Rattle.thp_script.specs.Limits.{max_counted};
 
 use crate::illegal::Illegal;
 use crate::keeps_nodes::KeepsNodes;
 use crate::line::Line;
-use crate::past_lines::PastLines;
+use crate::past_lines::LineTrace;
 use std::alloc::{AllocError, Global};
 use thp_check::{Misfit, Replay};
 use thp_model::{Event, PageId, Shape, What};
@@ -23,11 +23,11 @@ use thp_model::{Event, PageId, Shape, What};
 #[derive(Drop)]
 pub(crate) struct NodeAtHand {
     replay: Replay,
-    // on which the node's next event stands
+    // the line of the node's next event
     next_line: u64,
 }
 
-/// What is known of the events so far: nothing while no node has begun, that all are legal, or which is the first that isn't.
+/// The verdict so far: no node has begun, all events are legal, or the first illegal event.
 #[derive(Drop)]
 pub(crate) struct Verdict {
     // the last node, while all events are legal
@@ -36,7 +36,7 @@ pub(crate) struct Verdict {
 }
 
 impl Verdict {
-    /// One more node begins, whose first event stands on this line.
+    /// Begins a node whose first event is on this line.
     fn begin(&mut self, alloc: Global, first_line: u64, shape: Shape) -> Result<(), AllocError>
         requires { IsShape shape }
         ensures { OnOk result ((nodes : List NodeJournal) → Says nodes self.old → Says (nodes ++ began first_line shape ∷ []) self.new) }
@@ -44,7 +44,7 @@ impl Verdict {
         if self.illegal.is_some() {
             return Ok(());
         }
-        // so that one replay lives at a time
+        // so that only one replay exists at a time
         self.node = None;
         let replay = Replay::new(alloc, shape)?;
         self.node = Some(NodeAtHand {
@@ -54,7 +54,7 @@ impl Verdict {
         Ok(())
     }
 
-    /// Goes on with the node at hand by an event, of which a line has told all but the block of a new page.
+    /// Replays an event on the current node. The event has no block if it is an allocation, as no line contains blocks.
     fn go_on(&mut self, node: NodeAtHand, event: &Event)
         requires none { self.old.node ≡ None }
         requires room { HasRoomIn node }
@@ -72,9 +72,9 @@ impl Verdict {
         }
     }
 
-    // What comes seldom is done in functions of its own: else each event would clear the stack for it.
+    // Rare cases have functions of their own: otherwise each event would clear the stack for them.
 
-    /// Notes the first event that isn't legal.
+    /// Records the first illegal event.
     #[inline(never)]
     fn note(&mut self, line: u64, event: &Event, misfit: &Misfit)
         ensures node { self.new.node ≡ self.old.node }
@@ -87,7 +87,7 @@ impl Verdict {
         });
     }
 
-    /// Goes on with the node at hand by a new page, in the least free block.
+    /// Replays an allocation on the current node, in the least free block.
     #[inline(never)]
     fn place(&mut self, node: NodeAtHand, caller: u32, page: PageId)
         requires none { self.old.node ≡ None }
@@ -99,7 +99,7 @@ impl Verdict {
         self.go_on(node, &Event { caller, what });
     }
 
-    /// One more event of the last node, if there is one: an allocation in the least free block.
+    /// Replays an event on the last node, if there is one; an allocation uses the least free block.
     fn admit(&mut self, event: &Event)
         requires { HasRoom self.old }
         ensures { (nodes : List NodeJournal) → Says nodes self.old → Says (on_last (with_event event.now) nodes) self.new }
@@ -113,7 +113,7 @@ impl Verdict {
         }
     }
 
-    /// One more line, which has this number.
+    /// Processes the line of this number.
     fn follow(&mut self, alloc: Global, number: u64, line: &Line) -> Result<(), AllocError>
         requires room { HasRoom self.old }
         requires in_range { IsInRange line.now }
@@ -131,16 +131,16 @@ impl Verdict {
     }
 }
 
-/// What is known of the nodes that the lines so far tell.
+/// The verdict on the nodes in the lines so far.
 #[derive(Drop)]
 pub(crate) struct CheckedNodes {
     verdict: Verdict,
-    // takes no bytes
-    pub(crate) lines: PastLines,
+    // has no bytes
+    pub(crate) lines: LineTrace,
 }
 
 impl CheckedNodes {
-    /// No line has come.
+    /// Returns the state before the first line.
     pub(crate) fn new() -> CheckedNodes
         ensures lines { result.lines ≡ [] }
         ensures verdict { result.verdict ≡ record { node = None; illegal = None } }
@@ -150,11 +150,11 @@ impl CheckedNodes {
                 node: None,
                 illegal: None,
             },
-            lines: PastLines::new(),
+            lines: LineTrace::new(),
         }
     }
 
-    /// The first event that isn't legal, if there is one.
+    /// Returns the first illegal event, if there is one.
     pub(crate) fn illegal(&self) -> Option<Illegal>
         ensures { result ≡ self.now.verdict.illegal }
     {

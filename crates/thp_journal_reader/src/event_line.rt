@@ -1,15 +1,15 @@
-//! Events from the words of a line.
+//! Parses events from the words of a line.
 ghost use Rattle.std.specs.Prelude.{◌≡◌, ◌≤◌, Ok, Err, IfOk, MatchResult};
-ghost use Rattle.thp_text.specs.Commands.{number_up_to};
+ghost use Rattle.thp_script.specs.Commands.{number_up_to};
 ghost use Rattle.thp_journal_reader.specs.EventLines.{caller_number, close_event, event_by, event_of, loss_event, outcome_and_word, page_event, page_number, range_event, range_number, split_event, unmap_event};
 
 use crate::event_word::{EventWord, LossWord, PageWord, RangeWord, event_word, outcome_of};
 use crate::set_text::set_of_text;
 use crate::version::Version;
 use thp_model::{Event, MAX_CALLERS, Outcome, PageId, What};
-use thp_text::{TextKind, Words, number};
+use thp_script::{TextKind, Words, number};
 
-/// A number of at most `most`.
+/// Parses a number of at most `most`.
 pub(crate) fn small_number(most: u32, word: &[u8]) -> Result<u32, TextKind>
     ensures value { result ≡ number_up_to most word.now }
     ensures bound { IfOk result (λ n. n ≤ most) }
@@ -37,7 +37,7 @@ fn page_number(word: &[u8]) -> Result<PageId, TextKind>
     Ok(PageId(value))
 }
 
-/// `CALLER WORD PAGE`
+/// Parses `CALLER WORD PAGE`.
 #[tactic(auto, unfolding(crate::specs::EventLines::page_event))]
 fn page_event(name: PageWord, caller: &[u8], mut words: Words) -> Result<Event, TextKind>
     ensures { result ≡ page_event name caller.now words.entry }
@@ -53,7 +53,7 @@ fn page_event(name: PageWord, caller: &[u8], mut words: Words) -> Result<Event, 
     })
 }
 
-/// `CALLER WORD PAGE FIRST COUNT`
+/// Parses `CALLER WORD PAGE FIRST COUNT`.
 #[tactic(auto, unfolding(crate::specs::EventLines::range_event))]
 fn range_event(name: RangeWord, caller: &[u8], mut words: Words) -> Result<Event, TextKind>
     ensures { result ≡ range_event name caller.now words.entry }
@@ -76,7 +76,8 @@ fn range_event(name: RangeWord, caller: &[u8], mut words: Words) -> Result<Event
     })
 }
 
-/// An outcome's word and the last word behind it. An unknown outcome is told before the words are counted.
+/// Parses the word of an outcome, and returns the last word with it. An unknown outcome is reported before a wrong number of
+/// words.
 #[tactic(auto, unfolding(crate::specs::EventLines::outcome_and_word))]
 fn outcome_and_word<'a>(mut words: Words<'a>) -> Result<(Outcome, &'a [u8]), TextKind>
     ensures { MatchResult result (λ ending. outcome_and_word words.entry ≡ Ok (ending.0, ending.1.now)) (λ kind. outcome_and_word words.entry ≡ Err kind) }
@@ -91,7 +92,7 @@ fn outcome_and_word<'a>(mut words: Words<'a>) -> Result<(Outcome, &'a [u8]), Tex
     Ok((outcome, word))
 }
 
-/// `CALLER WORD PAGE OUTCOME SET`
+/// Parses `CALLER WORD PAGE OUTCOME SET`.
 #[tactic(auto, unfolding(crate::specs::EventLines::loss_event))]
 fn loss_event(name: LossWord, caller: &[u8], mut words: Words) -> Result<Event, TextKind>
     ensures { result ≡ loss_event name caller.now words.entry }
@@ -109,7 +110,7 @@ fn loss_event(name: LossWord, caller: &[u8], mut words: Words) -> Result<Event, 
     })
 }
 
-/// `CALLER unmapsub PAGE FIRST COUNT OUTCOME SET`
+/// Parses `CALLER unmapsub PAGE FIRST COUNT OUTCOME SET`.
 #[tactic(auto, unfolding(crate::specs::EventLines::unmap_event))]
 fn unmap_event(caller: &[u8], mut words: Words) -> Result<Event, TextKind>
     ensures { result ≡ unmap_event caller.now words.entry }
@@ -135,7 +136,7 @@ fn unmap_event(caller: &[u8], mut words: Words) -> Result<Event, TextKind>
     })
 }
 
-/// `CALLER split PAGE SET`
+/// Parses `CALLER split PAGE SET`.
 #[tactic(auto, unfolding(crate::specs::EventLines::split_event))]
 fn split_event(caller: &[u8], mut words: Words) -> Result<Event, TextKind>
     ensures { result ≡ split_event caller.now words.entry }
@@ -152,7 +153,7 @@ fn split_event(caller: &[u8], mut words: Words) -> Result<Event, TextKind>
     })
 }
 
-/// `CALLER close`
+/// Parses `CALLER close`.
 #[tactic(auto, unfolding(crate::specs::EventLines::close_event))]
 fn close_event(caller: &[u8], mut words: Words) -> Result<Event, TextKind>
     ensures { result ≡ close_event caller.now words.entry }
@@ -179,7 +180,7 @@ fn event_by(word: EventWord, caller: &[u8], words: Words) -> Result<Event, TextK
     }
 }
 
-/// The event of a line: its caller stands first, then the word of the event, then operands.
+/// Parses the event of a line: its caller, the word of the event, and its operands.
 pub(crate) fn event_of(version: Version, caller: &[u8], mut words: Words) -> Result<Event, TextKind>
     ensures { result ≡ event_of version caller.now words.entry }
 {

@@ -1,4 +1,4 @@
-//! One event from the bytes of its line.
+//! Parses one event from the bytes of its line.
 ghost use Rattle.std.specs.Prelude.{◌≡◌};
 ghost use Rattle.thp_model.specs.BlockLaws.{event_with};
 ghost use Rattle.thp_journal_reader.specs.JournalLines.{event_told};
@@ -6,12 +6,12 @@ ghost use Rattle.thp_journal_reader.specs.JournalLines.{event_told};
 use crate::line::{Line, line_of};
 use crate::version::Version;
 use thp_model::{Event, What};
-use thp_text::TextKind;
+use thp_script::TextKind;
 
-/// The event that a line of a journal spells in a version, or the fault of the line. It is read without its line feed.
+/// Parses a line of a journal, without its line feed, as an event in a version of the format; or returns the error of the line.
 ///
-/// No line tells the block of a new page: an allocation gets the block that is given. A line that says something else than an
-/// event is `bad-order`.
+/// No line contains the block of a new page: an allocation gets the block that is given. A line that is not an event has the
+/// error `bad-order`.
 #[tactic(auto, unfolding(crate::specs::JournalLines::event_told))]
 pub fn read_event(version: Version, line: &[u8], block: u32) -> Result<Event, TextKind>
     ensures { result ≡ event_told version block line.now }
@@ -23,7 +23,7 @@ pub fn read_event(version: Version, line: &[u8], block: u32) -> Result<Event, Te
     }
 }
 
-// the event with this block where it is an allocation
+// the event, with this block if it is an allocation
 fn with_block(block: u32, event: &Event) -> Event
     ensures { result ≡ event_with block event.now }
 {

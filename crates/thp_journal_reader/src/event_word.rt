@@ -1,23 +1,32 @@
 //! The words of events.
 ghost use Rattle.std.specs.Prelude.{◌≡◌, IfSome};
-ghost use Rattle.thp_journal_reader.specs.Ahead.{WordAhead};
+ghost use Rattle.thp_journal_reader.specs.FastParsing.{FastWord};
 ghost use Rattle.thp_journal_reader.specs.EventWords.{common_word, event_word, later_word, loss_what, outcome_of, page_what, range_what};
 
 use crate::version::Version;
 use thp_model::{Outcome, PageId, SubSet, What};
-use thp_text::{TextKind, behind_name};
+use thp_script::{TextKind, after_name};
 
-/// Events that tell a page alone.
+/// Events with a page.
 #[derive(Clone, Copy)]
 pub enum PageWord {
+    /// `alloc`
     Alloc,
+    /// `mapwhole`
     MapWhole,
+    /// `splitpmd`
     SplitPmd,
+    /// `pin`
     Pin,
+    /// `taken`
     Taken,
+    /// `pinned`
     Pinned,
+    /// `used`
     Used,
+    /// `back`
     Back,
+    /// `dropped`
     Dropped,
 }
 
@@ -39,11 +48,14 @@ impl PageWord {
     }
 }
 
-/// Events that tell a page and a range of its subpages.
+/// Events with a page and a range of its subpages.
 #[derive(Clone, Copy)]
 pub enum RangeWord {
+    /// `mapsub`
     MapSub,
+    /// `write`
     Write,
+    /// `zero`
     Zero,
 }
 
@@ -59,10 +71,12 @@ impl RangeWord {
     }
 }
 
-/// Events that tell a page, what became of it and what it gave back.
+/// Events with a page, its outcome and the frames given back.
 #[derive(Clone, Copy)]
 pub enum LossWord {
+    /// `unmapwhole`
     UnmapWhole,
+    /// `unpin`
     Unpin,
 }
 
@@ -85,14 +99,20 @@ impl LossWord {
     }
 }
 
-/// The words of events, by the operands that stand behind them.
+/// The words of events, by the operands that follow them.
 #[derive(Clone, Copy)]
 pub enum EventWord {
+    /// `CALLER WORD PAGE`
     OfPage(PageWord),
+    /// `CALLER WORD PAGE FIRST COUNT`
     OfRange(RangeWord),
+    /// `CALLER WORD PAGE OUTCOME SET`
     OfLoss(LossWord),
+    /// `CALLER unmapsub PAGE FIRST COUNT OUTCOME SET`
     UnmapSub,
+    /// `CALLER split PAGE SET`
     Split,
+    /// `CALLER close`
     Close,
 }
 
@@ -133,7 +153,7 @@ fn later_word(name: &[u8]) -> Result<EventWord, TextKind>
     }
 }
 
-/// The event that a word names in a version of the format.
+/// Returns the event that a word names in a version of the format.
 #[inline(always)]
 pub(crate) fn event_word(version: Version, name: &[u8]) -> Result<EventWord, TextKind>
     ensures { result ≡ event_word version name.now }
@@ -144,12 +164,12 @@ pub(crate) fn event_word(version: Version, name: &[u8]) -> Result<EventWord, Tex
     }
 }
 
-/// The event that this word names, where a text begins with the word and a space, and what follows them.
+/// Returns the event that this word names and the text after the word and a space, if the text begins with them.
 #[inline(always)]
 fn word_at<'t>(version: Version, name: &[u8], text: &'t [u8]) -> Option<(EventWord, &'t [u8])>
-    ensures { IfSome result (λ read. WordAhead version text.now read.0 read.1.now) }
+    ensures { IfSome result (λ read. FastWord version text.now read.0 read.1.now) }
 {
-    let rest = behind_name(name, text)?;
+    let rest = after_name(name, text)?;
     let Ok(word) = event_word(version, name) else {
         return None;
     };
@@ -163,7 +183,7 @@ fn either_at<'t>(
     second: &[u8],
     text: &'t [u8],
 ) -> Option<(EventWord, &'t [u8])>
-    ensures { IfSome result (λ read. WordAhead version text.now read.0 read.1.now) }
+    ensures { IfSome result (λ read. FastWord version text.now read.0 read.1.now) }
 {
     if let Some(read) = word_at(version, first, text) {
         return Some(read);
@@ -171,11 +191,11 @@ fn either_at<'t>(
     word_at(version, second, text)
 }
 
-/// The event whose word a text begins with in a version of the format, and what follows the space behind the word. `None` says
-/// nothing of the text.
+/// Parses the word of an event at the beginning of a text, and returns it with the text after the following space. `None` implies
+/// nothing about the text.
 #[inline(always)]
-pub(crate) fn word_ahead(version: Version, text: &[u8]) -> Option<(EventWord, &[u8])>
-    ensures { IfSome result (λ read. WordAhead version text.now read.0 read.1.now) }
+pub(crate) fn parse_word_fast(version: Version, text: &[u8]) -> Option<(EventWord, &[u8])>
+    ensures { IfSome result (λ read. FastWord version text.now read.0 read.1.now) }
 {
     match *text.first()? {
         b'a' => word_at(version, b"alloc", text),
@@ -197,7 +217,7 @@ pub(crate) fn word_ahead(version: Version, text: &[u8]) -> Option<(EventWord, &[
     }
 }
 
-/// The outcome that a word tells.
+/// Returns the outcome that a word names.
 #[tactic(auto, unfolding(crate::specs::EventWords::outcome_of))]
 pub(crate) fn outcome_of(word: &[u8]) -> Result<Outcome, TextKind>
     ensures { result ≡ outcome_of word.now }

@@ -1,24 +1,24 @@
 //! The first illegal event of a text.
 use thp_check::Misfit;
 use thp_model::Event;
-use thp_text::TextKind;
+use thp_script::TextKind;
 
-/// The first illegal event that a text tells, and why it is illegal.
+/// The first illegal event in a text, and why it is illegal.
 #[derive(Clone, Copy, Debug, PartialEq, Eq)]
 pub struct Illegal {
-    /// On which line it stands. Lines count from 1.
+    /// The line of the event, counted from 1.
     pub line: u64,
-    /// The event. No line tells the block of a new page: an allocation has the least that no live page holds.
+    /// The event. No line contains the block of a new page: an allocation has the least block that holds no live page.
     pub event: Event,
-    /// Why it doesn't fit the events before it on its node.
+    /// Why the event does not fit the events before it on its node.
     pub misfit: Misfit,
 }
 
-/// The first fault of a text of any length.
+/// The first error in a text of any length.
 #[derive(Clone, Copy, Debug, PartialEq, Eq)]
 pub struct TextFault {
-    /// In which line it is. Lines count from 1.
+    /// The line of the error, counted from 1.
     pub line: u64,
-    /// Which it is.
+    /// The kind of the error.
     pub kind: TextKind,
 }

@@ -1,22 +1,22 @@
-//! The check of journals whose text comes in parts.
+//! The check of journals whose text arrives in parts.
 ghost use Rattle.std.specs.Prelude.{◌≡◌, ◌≢◌, ◌++◌, Ok, [], IfOk, IfErr};
 ghost use Rattle.thp_journal_reader.specs.declared.journals.Journals.{Journals};
-ghost use Rattle.thp_journal_reader.specs.Answers.{TellsIllegal};
+ghost use Rattle.thp_journal_reader.specs.Answers.{ReportsIllegal};
 ghost use Rattle.thp_journal_reader.specs.Journals.{journals_of};
 ghost use Rattle.thp_journal_reader.specs.Parts.{told_with};
-ghost use Rattle.thp_text.specs.Scripts.{TellsFault};
-ghost use Rattle.thp_text.specs.Words.{Text};
-ghost use Rattle.thp_text.specs.declared.fault.ReadFault.TheVariants.{OutOfMemory};
+ghost use Rattle.thp_script.specs.Scripts.{ReportsFault};
+ghost use Rattle.thp_script.specs.Words.{Text};
+ghost use Rattle.thp_script.specs.declared.fault.ReadFault.TheVariants.{OutOfMemory};
 
 use crate::long_check::LongCheck;
 use std::alloc::Global;
 use std::marker::Model;
-use thp_text::{ReadFault, TextInParts};
+use thp_script::{ReadFault, TextInParts};
 
-/// A check of journals of at most 16 MiB, whose text comes in parts of any length. It keeps what lives on the node at hand, of
-/// the text no more than the line begun, and no event.
+/// A check of journals of at most 16 MiB, whose text arrives in parts of any length. It stores the state of the current node and
+/// the line in progress, and no event.
 ///
-/// Blocks stand in no journal: each allocation is replayed in the least block that no live page holds.
+/// Journals contain no blocks: each allocation is replayed in the least block that holds no live page.
 #[derive(Drop)]
 pub struct JournalCheck {
     check: LongCheck,
@@ -25,7 +25,7 @@ pub struct JournalCheck {
 impl Model for JournalCheck {
     ghost use Rattle.std.specs.Prelude.{◌≡◌};
     ghost use Rattle.thp_journal_reader.specs.Parts.{ReadSoFar};
-    ghost use Rattle.thp_text.specs.Limits.{max_input};
+    ghost use Rattle.thp_script.specs.Limits.{max_input};
 
     ghost Value = { ReadSoFar };
 
@@ -35,7 +35,7 @@ impl Model for JournalCheck {
 }
 
 impl JournalCheck {
-    /// A check of journals of which nothing has come.
+    /// Creates a check that has read nothing.
     pub fn new(alloc: Global) -> JournalCheck
         ensures { (text : Text) → told_with result text ≡ journals_of text }
     {
@@ -44,8 +44,8 @@ impl JournalCheck {
         }
     }
 
-    /// Reads the next part of the text. Behind the first fault, and where more has come than an input may have, nothing of it
-    /// is looked at. Fails where the memory for a node's replay, or for a line that lies in several parts, is refused.
+    /// Reads the next part of the text. After the first error, or after more bytes than an input may have, the part is ignored.
+    /// Fails if memory for a node's replay, or for a line that spans several parts, can't be allocated.
     pub fn read_part(self, part: &[u8]) -> Result<JournalCheck, ReadFault>
         ensures text { IfOk result (λ check. (more : Text) → told_with check more ≡ told_with self (part.now ++ more)) }
         ensures memory { IfErr result (λ fault. fault ≡ OutOfMemory) }
@@ -54,11 +54,11 @@ impl JournalCheck {
         Ok(JournalCheck { check })
     }
 
-    /// The line of the first illegal event that the whole text tells, in the order of the text, or none where each node's
-    /// events are legal; or the first fault of the text, wherever it stands. It takes no memory.
+    /// Returns the line of the first illegal event of the whole text, in the order of the text, or `None` if each node's events
+    /// are legal. Fails with the first error of the text, even if that is after an illegal event. Allocates no memory.
     pub fn finish(self) -> Result<Option<u32>, ReadFault>
-        ensures line { IfOk result (λ line. (journals : Journals) × (told_with self [] ≡ Ok journals) × TellsIllegal journals.nodes line) }
-        ensures fault { IfErr result (TellsFault (told_with self [])) }
+        ensures line { IfOk result (λ line. (journals : Journals) × (told_with self [] ≡ Ok journals) × ReportsIllegal journals.nodes line) }
+        ensures fault { IfErr result (ReportsFault (told_with self [])) }
         ensures no_memory { IfErr result (λ fault. fault ≢ OutOfMemory) }
     {
         match self.check.finish() {

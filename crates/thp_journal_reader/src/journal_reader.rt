@@ -1,20 +1,20 @@
-//! Journals from bytes.
+//! Reads journals from bytes.
 ghost use Rattle.std.specs.Prelude.{◌≡◌, ◌++◌, Ok, [], IfOk, IfErr};
 ghost use Rattle.thp_journal_reader.specs.Journals.{journals_of, AreJournals};
 ghost use Rattle.thp_journal_reader.specs.Parts.{told_with};
-ghost use Rattle.thp_text.specs.Scripts.{TellsFault};
-ghost use Rattle.thp_text.specs.Words.{Text};
-ghost use Rattle.thp_text.specs.declared.fault.ReadFault.TheVariants.{OutOfMemory};
+ghost use Rattle.thp_script.specs.Scripts.{ReportsFault};
+ghost use Rattle.thp_script.specs.Words.{Text};
+ghost use Rattle.thp_script.specs.declared.fault.ReadFault.TheVariants.{OutOfMemory};
 
 use crate::journals::Journals;
 use crate::reading::{Nodes, finish};
 use crate::text_reader::TextReader;
 use std::alloc::Global;
 use std::marker::Model;
-use thp_text::{ReadFault, TextInParts};
+use thp_script::{ReadFault, TextInParts};
 
-/// A reader of journals whose text comes in parts of any length. It keeps the events that it has read, and of the text no
-/// more than the line begun. Each allocation gets the least block that no live page holds, as no journal tells blocks.
+/// A reader of journals whose text arrives in parts of any length. It stores the events that it has read, and only the line in
+/// progress of the text. Journals contain no blocks: each allocation gets the least block that holds no live page.
 #[derive(Drop)]
 pub struct JournalReader {
     alloc: Global,
@@ -25,7 +25,7 @@ impl Model for JournalReader {
     ghost use Rattle.std.specs.Prelude.{◌≡◌};
     ghost use Rattle.thp_journal_reader.specs.Parts.{so_far, ReadSoFar};
     ghost use Rattle.thp_journal_reader.specs.Reading.{nodes_in, IsReading};
-    ghost use Rattle.thp_text.specs.Limits.{max_input};
+    ghost use Rattle.thp_script.specs.Limits.{max_input};
 
     ghost Value = { ReadSoFar };
 
@@ -35,7 +35,7 @@ impl Model for JournalReader {
 }
 
 impl JournalReader {
-    /// A reader of journals of which nothing has come.
+    /// Creates a reader that has read nothing.
     pub fn new(alloc: Global) -> JournalReader
         ensures { (text : Text) → told_with result text ≡ journals_of text }
     {
@@ -45,8 +45,8 @@ impl JournalReader {
         }
     }
 
-    /// Reads the next part of the text. Behind the first fault, and where more has come than an input may have, nothing is
-    /// kept of it.
+    /// Reads the next part of the text. After the first error, or after more bytes than an input may have, nothing more is
+    /// stored.
     pub fn read_part(self, part: &[u8]) -> Result<JournalReader, ReadFault>
         ensures text { IfOk result (λ reader. (more : Text) → told_with reader more ≡ told_with self (part.now ++ more)) }
         ensures memory { IfErr result (λ fault. fault ≡ OutOfMemory) }
@@ -56,11 +56,11 @@ impl JournalReader {
         Ok(JournalReader { alloc, text })
     }
 
-    /// The journals that the whole text spells, or its first fault.
+    /// Returns the journals that the whole text represents, or its first error.
     pub fn finish(self) -> Result<Journals, ReadFault>
         ensures journals { IfOk result (λ journals. told_with self [] ≡ Ok journals) }
         ensures in_range { IfOk result AreJournals }
-        ensures fault { IfErr result (TellsFault (told_with self [])) }
+        ensures fault { IfErr result (ReportsFault (told_with self [])) }
     {
         match self.text.fault() {
             Some((line, kind)) => Err(ReadFault::Text {
@@ -72,14 +72,14 @@ impl JournalReader {
     }
 }
 
-/// The journals that a text spells, or its first fault.
+/// Parses journals, or returns the first error of the text.
 ///
-/// The text is read once, from its start to its first fault. Each allocation gets the least block that no live page
-/// holds, as no journal tells blocks.
+/// The text is read once, from its start to its first error. Journals contain no blocks: each allocation gets the least block
+/// that holds no live page.
 pub fn read_journal(alloc: Global, text: &[u8]) -> Result<Journals, ReadFault>
     ensures journals { IfOk result (λ journals. journals_of text.now ≡ Ok journals) }
     ensures in_range { IfOk result AreJournals }
-    ensures fault { IfErr result (TellsFault (journals_of text.now)) }
+    ensures fault { IfErr result (ReportsFault (journals_of text.now)) }
 {
     JournalReader::new(alloc).read_part(text)?.finish()
 }

@@ -1,15 +1,15 @@
 //! Journals as values.
 use thp_model::{Event, Shape};
-use thp_text::Sequence;
+use thp_script::Sequence;
 
-/// The journal of a node, as a text tells it.
+/// The journal of a node, read from a text.
 #[derive(Debug, Drop)]
 pub struct NodeJournal {
     /// The node's size.
     pub shape: Shape,
-    /// The line of the first event; the event at place i stands on line `first_line + i`. Lines count from 1.
+    /// The line of the first event, counted from 1; the event at index i is on line `first_line + i`.
     pub first_line: u32,
-    /// The events, in order. Each allocation has the least block that no live page holds.
+    /// The events, in order. Each allocation has the least block that holds no live page.
     pub events: Sequence<Event>,
 }
 

@@ -1,4 +1,4 @@
-//! What is kept of the nodes that the lines of a journal tell.
+//! What is stored about the nodes in the lines of a journal.
 ghost use Rattle.std.specs.Prelude.{◌≡◌, ◌≤◌, ◌+◌, ℕ, List, OnOk};
 ghost use Rattle.thp_journal_reader.specs.declared.journals.NodeJournal.{NodeJournal};
 ghost use Rattle.thp_journal_reader.specs.LineRanges.{IsInRange};
@@ -7,18 +7,18 @@ ghost use Rattle.thp_journal_reader.specs.Reading.{with_line};
 use crate::line::Line;
 use std::alloc::{AllocError, Global};
 
-/// What is kept of the nodes that the lines of a journal tell.
+/// The data that is stored about the nodes in the lines of a journal.
 pub(crate) trait KeepsNodes: Sized {
-    /// The nodes told so far.
+    /// The nodes so far.
     ghost told: { Self → List NodeJournal };
 
-    /// What is kept goes along with the nodes, which stand before the line of this number.
+    /// The stored data agrees with the nodes, which are before the line of this number.
     ghost goes_along: { ℕ → Self → Type 0 };
 
-    /// The number of the last line that it may be told.
+    /// The greatest line number allowed.
     ghost last_line: { ℕ };
 
-    /// Adds what a line says, which has this number.
+    /// Processes a line, which has this number.
     fn add(&mut self, alloc: Global, number: u64, line: &Line) -> Result<(), AllocError>
         requires along { goes_along number self.old }
         requires in_range { IsInRange line.now }
@@ -26,6 +26,6 @@ pub(crate) trait KeepsNodes: Sized {
         ensures nodes { OnOk result (told self.new ≡ with_line number (told self.old) line.now) }
         ensures along { OnOk result (goes_along (number + 1) self.new) };
 
-    /// It goes along behind a line that says nothing, too.
+    /// The stored data still agrees after a line without content.
     ghost later: { (number : ℕ) (nodes : Self) → goes_along number nodes → goes_along (number + 1) nodes };
 }

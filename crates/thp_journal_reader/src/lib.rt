@@ -1,9 +1,19 @@
-//! Journals from text, and whether what they tell is legal.
+//! Reads journals from text, and decides if they are legal.
+//!
+//! - The grammar: `line_of`, `journals_of` (`JournalLines`, `Journals`, `EventLines`, `EventWords`, `SetTexts`); code in `line`,
+//!   `event_line`, `event_word`, `set_text`, `version`, `place`, `journals`. Texts have no blocks: each page gets its least
+//!   block.
+//! - `journal_reader`, `text_reader`, `reading`, `keeps_nodes`: texts in parts (`Parts`), and what is stored of the nodes.
+//! - `parse_event_fast` (`FastParsing`): events read in one pass over the bytes; `event_reader`: one event from its line
+//!   (`event_told`). Proofs `PlainWords`, `PlainLines`: a line whose words parse needs no second look at its bytes.
+//! - Checks: `checking` (`ReportsIllegal`, `CanBeLegal` of `Answers`), `journal_check` (16 MiB), `long_check` (any length),
+//!   `illegal` (the event and why), `checked_nodes` (`Checking`, proof `CheckLaws`).
+//! - `summed_check`, `summed`, `summary` (`Summaries`): totals up to the first illegal event; `series_check`, `numbered`,
+//!   `numbering` (`Numbered`): the numbers after each event, in columns.
 #![tactic(auto)]
 
 mod checked_nodes;
 mod checking;
-mod event_ahead;
 mod event_line;
 mod event_reader;
 mod event_word;
@@ -16,6 +26,7 @@ mod line;
 mod long_check;
 mod numbered;
 mod numbering;
+mod parse_event_fast;
 mod past_lines;
 mod place;
 mod reading;

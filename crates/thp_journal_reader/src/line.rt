@@ -1,4 +1,4 @@
-//! What a line of a journal says.
+//! Parses lines of a journal.
 ghost use Rattle.std.specs.Prelude.{◌≡◌, ◌≤◌, ◌<◌, ◌^◌, Ok, Err, IfOk, IfSome, MatchResult};
 ghost use Rattle.thp_model.specs.Limits.{max_order, min_order};
 ghost use Rattle.thp_journal_reader.specs.JournalLines.{before, by_words, end_of, event_line, head_of, line_by, line_of, node_of, node_with, number_between, ordered_node, plain_node, threshold_of, underused_node, version_of};
@@ -7,18 +7,18 @@ ghost use Rattle.thp_journal_reader.specs.LineRanges.{IsInRange};
 use crate::event_line::{event_of, small_number};
 use crate::version::Version;
 use thp_model::{Event, Shape};
-use thp_text::{MAX_NODES, TextKind, Words, fault_of_line};
+use thp_script::{MAX_NODES, TextKind, Words, fault_of_line};
 
-/// What a line of a journal says.
+/// The content of a line of a journal.
 #[derive(Clone, Copy)]
 pub enum Line {
-    /// The version of the format; it stands first.
+    /// The version of the format; it is the first line.
     Head(Version),
-    /// The journal of a node begins.
+    /// The start of a node's journal.
     Node { number: u32, shape: Shape },
-    /// An event of the node. Where it is an allocation its block isn't told, and is 0.
+    /// An event of the node. An allocation has block 0 here, as the line contains no block.
     Happened(Event),
-    /// The journals are complete.
+    /// The end of the journals.
     End,
 }
 
@@ -37,7 +37,7 @@ fn version_of(word: &[u8]) -> Result<Version, TextKind>
     }
 }
 
-/// `thp-journal VERSION`
+/// Parses `thp-journal VERSION`.
 #[tactic(auto, unfolding(crate::specs::JournalLines::head_of))]
 fn head_of(mut words: Words) -> Result<Line, TextKind>
     ensures value { result ≡ head_of words.entry }
@@ -50,7 +50,7 @@ fn head_of(mut words: Words) -> Result<Line, TextKind>
     Ok(Line::Head(version))
 }
 
-/// The next word, with this one behind it.
+/// Returns the next word, if this one follows it.
 fn before<'a>(key: &[u8], words: &mut Words<'a>) -> Result<&'a [u8], TextKind>
     ensures { MatchResult result (λ operand. before key.now words.old ≡ Ok (operand.now, words.new)) (λ kind. before key.now words.old ≡ Err kind) }
 {
@@ -75,7 +75,7 @@ fn number_between(least: u32, most: u32, word: &[u8]) -> Result<u32, TextKind>
     Ok(value)
 }
 
-/// A threshold for underused pages of this order, or `off`.
+/// Parses a threshold for underused pages of this order, or `off`.
 #[tactic(auto, unfolding(crate::specs::JournalLines::threshold_of))]
 fn threshold_of(order: u32, word: &[u8]) -> Result<Option<u32>, TextKind>
     requires { order ≤ max_order }
@@ -114,7 +114,7 @@ fn node_with(
     })
 }
 
-/// `node N blocks B`
+/// Parses `node N blocks B`.
 #[tactic(auto, unfolding(crate::specs::JournalLines::plain_node))]
 fn plain_node(mut words: Words) -> Result<Line, TextKind>
     ensures value { result ≡ plain_node words.entry }
@@ -127,7 +127,7 @@ fn plain_node(mut words: Words) -> Result<Line, TextKind>
     node_with(number, blocks, Shape::MAX_ORDER, None)
 }
 
-/// `node N blocks B order O`
+/// Parses `node N blocks B order O`.
 #[tactic(auto, unfolding(crate::specs::JournalLines::ordered_node))]
 fn ordered_node(mut words: Words) -> Result<Line, TextKind>
     ensures value { result ≡ ordered_node words.entry }
@@ -142,7 +142,7 @@ fn ordered_node(mut words: Words) -> Result<Line, TextKind>
     node_with(number, blocks, order, None)
 }
 
-/// `node N blocks B order O underused T`
+/// Parses `node N blocks B order O underused T`.
 #[tactic(auto, unfolding(crate::specs::JournalLines::underused_node))]
 fn underused_node(mut words: Words) -> Result<Line, TextKind>
     ensures value { result ≡ underused_node words.entry }
@@ -215,8 +215,8 @@ fn by_words(version: Version, mut words: Words) -> Result<Line, TextKind>
     }
 }
 
-/// What a whole line says in a version of the format, wherever it stands. Where its words say something it has neither bad
-/// bytes nor empty words, so its bytes are looked at again only where they don't.
+/// Parses a whole line in a version of the format, regardless of its position. A line whose words parse has no bad bytes and no
+/// empty words, so its bytes are tested again only if they do not parse.
 pub(crate) fn line_of(version: Version, text: &[u8]) -> Result<Line, TextKind>
     ensures value { result ≡ line_of version text.now }
     ensures in_range { IfOk result IsInRange }

@@ -1,19 +1,19 @@
-//! The numbers of the nodes that journals tell.
+//! The numbers of the nodes in journals.
 use crate::illegal::Illegal;
+use thp_metrics::{Columns, Numbers, StuckPage};
 use thp_model::Shape;
-use thp_series::{Columns, Numbers, StuckPage};
 
-/// The numbers of a node over its events, or over those before its first illegal one.
+/// The numbers of a node over its events, or over those before its first illegal event.
 #[derive(Drop)]
 pub struct NumberedNode {
     /// The node's shape.
     pub shape: Shape,
-    /// Its first illegal event, or none where all are legal.
+    /// The first illegal event; `None` if all events are legal.
     pub illegal: Option<Illegal>,
-    /// The numbers behind these events.
+    /// The numbers after these events.
     pub numbers: Numbers,
-    /// Those of each prefix of them.
+    /// The numbers after each prefix of these events.
     pub columns: Columns,
-    /// The pages that wait behind these events and were found pinned, those that have waited longest in front.
+    /// The pages that wait after these events and were found pinned, those that have waited longest first.
     pub stuck: Vec<StuckPage>,
 }

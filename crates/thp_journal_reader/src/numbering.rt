@@ -1,4 +1,4 @@
-//! Nodes whose events are replayed as they are read, and whose numbers over their events are kept in columns.
+//! Replays nodes' events as they are read, and stores their numbers over the events in columns.
 ghost use Rattle.std.specs.Prelude.{◌≡◌, ◌≤◌, ◌∷◌, ◌++◌, [], List, None, Some, IfOk, OnOk};
 ghost use Rattle.thp_journal_reader.specs.LineRanges.{IsInRange};
 ghost use Rattle.thp_journal_reader.specs.Reading.{began, on_last, with_event, with_line};
@@ -10,29 +10,29 @@ ghost use Rattle.thp_journal_reader.specs.declared.journals.NodeJournal.{NodeJou
 ghost use Rattle.thp_model.specs.BlockLaws.{event_with, least_free};
 ghost use Rattle.thp_model.specs.Shapes.{IsShape};
 ghost use Rattle.thp_model.specs.declared.events.Event.{Event};
-ghost use Rattle.thp_series.specs.Series.{numbers_at, series};
-ghost use Rattle.thp_series.specs.Stuck.{AreStuck};
-ghost use Rattle.thp_text.specs.Limits.{max_counted};
+ghost use Rattle.thp_metrics.specs.Series.{numbers_at, series};
+ghost use Rattle.thp_metrics.specs.Stuck.{AreStuck};
+ghost use Rattle.thp_script.specs.Limits.{max_counted};
 
 use crate::illegal::Illegal;
 use crate::keeps_nodes::KeepsNodes;
 use crate::line::Line;
 use crate::numbered::NumberedNode;
-use crate::past_lines::PastLines;
+use crate::past_lines::LineTrace;
 use std::alloc::{AllocError, Global};
+use thp_metrics::NodeSeries;
 use thp_model::{Event, Shape, What};
-use thp_series::NodeSeries;
 
 /// A node whose events so far are legal.
 #[derive(Drop)]
 pub(crate) struct FollowedNode {
     shape: Shape,
     series: NodeSeries,
-    // on which the node's next event stands
+    // the line of the node's next event
     next_line: u64,
 }
 
-/// The numbers of a node whose events are legal.
+/// Returns the numbers of a node whose events are legal.
 fn numbered(alloc: Global, node: FollowedNode) -> Result<NumberedNode, AllocError>
     ensures shape { IfOk result (λ kept. kept.shape ≡ node.shape) }
     ensures legal { IfOk result (λ kept. kept.illegal ≡ None) }
@@ -50,7 +50,7 @@ fn numbered(alloc: Global, node: FollowedNode) -> Result<NumberedNode, AllocErro
     })
 }
 
-/// The event, an allocation in the least block that no live page holds.
+/// Returns the event; an allocation gets the least block that holds no live page.
 fn placed(series: &NodeSeries, event: &Event) -> Event
     ensures { result ≡ event_with (least_free series.now.shape series.now.history) event.now }
 {
@@ -73,12 +73,12 @@ pub(crate) struct Numbering {
     alloc: Global,
     // the last node, while its events are legal
     at_hand: Option<FollowedNode>,
-    // each node but the one at hand
+    // every node except the current one
     nodes: Vec<NumberedNode>,
 }
 
 impl Numbering {
-    /// One more node.
+    /// Adds a node.
     fn keep(&mut self, node: NumberedNode) -> Result<(), AllocError>
         ensures nodes { OnOk result (self.new.nodes.items ≡ self.old.nodes.items ++ node ∷ []) }
         ensures at_hand { self.new.at_hand ≡ self.old.at_hand }
@@ -87,7 +87,7 @@ impl Numbering {
         Ok(())
     }
 
-    /// The node at hand, if there is one, has no further event.
+    /// Ends the current node, if there is one.
     fn end(&mut self) -> Result<(), AllocError>
         ensures { OnOk result ((nodes : List NodeJournal) → NumbersBy nodes self.old.at_hand self.old.nodes.items → AreNumbered nodes self.new.nodes.items) }
     {
@@ -98,7 +98,7 @@ impl Numbering {
         self.keep(ended)
     }
 
-    /// One more node begins, whose first event stands on this line.
+    /// Begins a node whose first event is on this line.
     fn begin(&mut self, alloc: Global, first_line: u64, shape: Shape) -> Result<(), AllocError>
         requires { IsShape shape }
         ensures { OnOk result ((nodes : List NodeJournal) → NumbersBy nodes self.old.at_hand self.old.nodes.items → NumbersBy (nodes ++ began first_line shape ∷ []) self.new.at_hand self.new.nodes.items) }
@@ -113,7 +113,7 @@ impl Numbering {
         Ok(())
     }
 
-    /// Goes on with the node at hand by an event, of which a line has told all but the block of a new page.
+    /// Replays an event on the current node. The event has no block if it is an allocation, as no line contains blocks.
     fn go_on(&mut self, node: FollowedNode, event: &Event) -> Result<(), AllocError>
         requires none { self.old.at_hand ≡ None }
         requires room { HasRoomIn node }
@@ -151,7 +151,7 @@ impl Numbering {
         }
     }
 
-    /// One more event of the last node, if there is one: an allocation in the least free block.
+    /// Replays an event on the last node, if there is one; an allocation uses the least free block.
     fn admit(&mut self, event: &Event) -> Result<(), AllocError>
         requires { HasRoomForOne self.old }
         ensures { OnOk result ((nodes : List NodeJournal) → NumbersBy nodes self.old.at_hand self.old.nodes.items → NumbersBy (on_last (with_event event.now) nodes) self.new.at_hand self.new.nodes.items) }
@@ -163,7 +163,7 @@ impl Numbering {
         self.go_on(node, &event)
     }
 
-    /// One more line, which has this number.
+    /// Processes the line of this number.
     fn follow(&mut self, alloc: Global, number: u64, line: &Line) -> Result<(), AllocError>
         requires room { HasRoomForOne self.old }
         requires in_range { IsInRange line.now }
@@ -178,16 +178,16 @@ impl Numbering {
     }
 }
 
-/// What is known of the nodes that the lines so far tell.
+/// What is known of the nodes in the lines so far.
 #[derive(Drop)]
 pub(crate) struct NumberedNodes {
     numbering: Numbering,
-    // takes no bytes
-    pub(crate) lines: PastLines,
+    // has no bytes
+    pub(crate) lines: LineTrace,
 }
 
 impl NumberedNodes {
-    /// No line has come.
+    /// Returns the state before the first line.
     pub(crate) fn new(alloc: Global) -> NumberedNodes
         ensures lines { result.lines ≡ [] }
         ensures at_hand { result.numbering.at_hand ≡ None }
@@ -199,11 +199,11 @@ impl NumberedNodes {
                 at_hand: None,
                 nodes: Vec::new(alloc),
             },
-            lines: PastLines::new(),
+            lines: LineTrace::new(),
         }
     }
 
-    /// The numbers of each node, where no further line comes.
+    /// Returns the numbers of each node, after the last line.
     pub(crate) fn finish(self) -> Result<Vec<NumberedNode>, AllocError>
         ensures { IfOk result (λ kept. (nodes : List NodeJournal) → NumbersBy nodes self.numbering.at_hand self.numbering.nodes.items → AreNumbered nodes kept.items) }
     {

@@ -1,4 +1,4 @@
-//! The lines so far, for contracts alone.
+//! The lines so far, which are visible to contracts only.
 ghost use Rattle.std.specs.Prelude.{◌≡◌, [], ◌∷◌, ◌++◌};
 
 use crate::line::Line;
@@ -7,20 +7,20 @@ use std::snapshot::Snapshot;
 
 /// Numbered lines one after the other, the newest outside.
 #[derive(Drop)]
-enum LineSteps {
+enum LineChain {
     Start,
-    Then(u64, Line, Snapshot<LineSteps>),
+    Then(u64, Line, Snapshot<LineChain>),
 }
 
-/// A list of numbered lines that takes no memory: only contracts see it.
+/// A list of numbered lines that is visible to contracts only and has no bytes.
 #[derive(Drop)]
-pub(crate) struct PastLines {
-    steps: Snapshot<LineSteps>,
+pub(crate) struct LineTrace {
+    steps: Snapshot<LineChain>,
 }
 
-impl Model for PastLines {
+impl Model for LineTrace {
     ghost use Rattle.std.specs.Prelude.{ℕ, List};
-    ghost use Rattle.thp_journal_reader.specs.PastLines.{lines_in};
+    ghost use Rattle.thp_journal_reader.specs.LineTrace.{lines_in};
     ghost use Rattle.thp_journal_reader.specs.declared.line.Line.{Line};
 
     ghost Value = { List (ℕ × Line) };
@@ -28,22 +28,22 @@ impl Model for PastLines {
     ghost view = { λ p. lines_in p.steps.value };
 }
 
-impl PastLines {
-    /// No line.
-    pub(crate) fn new() -> PastLines
+impl LineTrace {
+    /// Returns the empty list.
+    pub(crate) fn new() -> LineTrace
         ensures { result ≡ [] }
     {
-        PastLines {
-            steps: Snapshot::of(&LineSteps::Start),
+        LineTrace {
+            steps: Snapshot::of(&LineChain::Start),
         }
     }
 
-    /// One more line, which has this number.
+    /// Appends the line of this number.
     pub(crate) fn push(&mut self, number: u64, line: &Line)
         ensures { self.new ≡ self.old ++ (number, line.now) ∷ [] }
     {
-        let start = Snapshot::of(&LineSteps::Start);
+        let start = Snapshot::of(&LineChain::Start);
         let steps = std::mem::replace(&mut self.steps, start);
-        self.steps = Snapshot::of(&LineSteps::Then(number, *line, steps));
+        self.steps = Snapshot::of(&LineChain::Then(number, *line, steps));
     }
 }

@@ -1,20 +1,20 @@
-//! Places between the lines of a journal.
+//! Positions between the lines of a journal.
 ghost use Rattle.std.specs.Prelude.{◌≡◌, ◌<◌, IfOk};
 ghost use Rattle.thp_journal_reader.specs.JournalLines.{line_in, may_stand, place_after, version_at};
 ghost use Rattle.thp_journal_reader.specs.LineRanges.{IsInRange};
 
 use crate::line::{Line, line_of};
 use crate::version::Version;
-use thp_text::TextKind;
+use thp_script::TextKind;
 
-/// A place between the lines of a journal.
+/// A position between the lines of a journal.
 #[derive(Clone, Copy)]
 pub enum Place {
     /// Before the first line.
     Start,
-    /// Behind the version and the lines of so many nodes.
+    /// After the version and the lines of this many nodes.
     Inside { version: Version, nodes: u32 },
-    /// Behind the end.
+    /// After the end.
     Ended { version: Version },
 }
 
@@ -40,7 +40,7 @@ fn may_stand(place: Place, line: &Line) -> bool
     }
 }
 
-/// The place behind a line.
+/// Returns the position after a line.
 pub(crate) fn place_after(place: Place, line: &Line) -> Place
     requires { IsInRange line.now }
     ensures { result ≡ place_after place line.now }
@@ -61,7 +61,7 @@ pub(crate) fn place_after(place: Place, line: &Line) -> Place
     }
 }
 
-/// What a whole line says in its place.
+/// Parses a whole line at its position.
 #[tactic(auto, unfolding(crate::specs::JournalLines::line_in))]
 pub(crate) fn line_in(place: Place, text: &[u8]) -> Result<Line, TextKind>
     ensures value { result ≡ line_in place text.now }

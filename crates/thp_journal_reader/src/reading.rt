@@ -1,11 +1,11 @@
-//! The nodes of a journal as its lines are read.
+//! Collects the nodes of a journal as its lines are read.
 ghost use Rattle.std.specs.Prelude.{◌≡◌, ◌≤◌, ◌+◌, ◌++◌, ◌∷◌, [], IfOk, IfErr, OnOk, IfSome};
 ghost use Rattle.thp_model.specs.History.{by};
 ghost use Rattle.thp_journal_reader.specs.Later.{reads_later};
 ghost use Rattle.thp_journal_reader.specs.LineRanges.{IsInRange};
 ghost use Rattle.thp_journal_reader.specs.Reading.{began, journal_so_far, nodes_in, with_event, with_line, on_last, GoesAlong, IsReading};
-ghost use Rattle.thp_text.specs.Limits.{max_input};
-ghost use Rattle.thp_text.specs.declared.fault.ReadFault.TheVariants.{OutOfMemory};
+ghost use Rattle.thp_script.specs.Limits.{max_input};
+ghost use Rattle.thp_script.specs.declared.fault.ReadFault.TheVariants.{OutOfMemory};
 
 use crate::journals::{Journals, NodeJournal};
 use crate::keeps_nodes::KeepsNodes;
@@ -13,7 +13,7 @@ use crate::line::Line;
 use std::alloc::{AllocError, Global};
 use thp_live_pages::LeastBlocks;
 use thp_model::{Event, Shape, What};
-use thp_text::{ReadFault, Sequence};
+use thp_script::{ReadFault, Sequence};
 
 /// A node whose events are being read, and the blocks of its pages.
 #[derive(Drop)]
@@ -39,7 +39,7 @@ impl OpenNode {
         })
     }
 
-    /// Adds an event, an allocation in the least free block.
+    /// Appends an event; an allocation gets the least free block.
     fn push(&mut self, caller: u32, what: What) -> Result<(), AllocError>
         requires { GoesAlong self.old }
         ensures along { OnOk result (GoesAlong self.new) }
@@ -61,7 +61,7 @@ impl OpenNode {
     }
 }
 
-/// The nodes read so far, one at least. The last of them may get more events.
+/// The nodes read so far, at least one. Events are added to the last of them.
 #[derive(Drop)]
 pub(crate) struct Nodes {
     closed: Sequence<NodeJournal>,
@@ -69,7 +69,7 @@ pub(crate) struct Nodes {
 }
 
 impl Nodes {
-    /// Closes the last node, and goes on with another.
+    /// Closes the last node, and begins another.
     fn begin(&mut self, node: OpenNode) -> Result<(), AllocError>
         ensures closed { OnOk result (self.new.closed ≡ self.old.closed ++ journal_so_far self.old.last ∷ []) }
         ensures last { OnOk result (self.new.last ≡ node) }
@@ -80,7 +80,7 @@ impl Nodes {
     }
 }
 
-/// Goes on with a node.
+/// Begins a node.
 fn begin(alloc: Global, nodes: &mut Option<Nodes>, node: OpenNode) -> Result<(), AllocError>
     ensures nodes { OnOk result (nodes_in nodes.new ≡ nodes_in nodes.old ++ journal_so_far node ∷ []) }
     ensures along { OnOk result (GoesAlong node → IfSome nodes.new (λ n. GoesAlong n.last)) }
@@ -97,7 +97,7 @@ fn begin(alloc: Global, nodes: &mut Option<Nodes>, node: OpenNode) -> Result<(),
     Ok(())
 }
 
-/// Adds an event to the last node, if there is one.
+/// Appends an event to the last node, if there is one.
 fn push(nodes: &mut Option<Nodes>, event: Event) -> Result<(), AllocError>
     requires { IfSome nodes.old (λ n. GoesAlong n.last) }
     ensures nodes { OnOk result (nodes_in nodes.new ≡ on_last (with_event event) (nodes_in nodes.old)) }
@@ -144,7 +144,7 @@ impl KeepsNodes for Option<Nodes> {
     ghost later = { λ number nodes along. reads_later number nodes along };
 }
 
-/// The journals of the nodes that were read.
+/// Returns the journals of the nodes that were read.
 pub(crate) fn finish(alloc: Global, nodes: Option<Nodes>) -> Result<Journals, ReadFault>
     ensures nodes { IfOk result (λ journals. journals.nodes ≡ nodes_in nodes) }
     ensures memory { IfErr result (λ fault. fault ≡ OutOfMemory) }

@@ -1,12 +1,12 @@
-//! The check of journals of any length that also keeps the numbers of nodes over their events.
+//! The check of journals of any length that also stores the numbers of nodes over their events.
 ghost use Rattle.std.specs.Prelude.{◌≡◌, ◌++◌, Ok, [], IfOk, IfErr};
 ghost use Rattle.thp_journal_reader.specs.Numbered.{AreNumbered};
-ghost use Rattle.thp_journal_reader.specs.Summaries.{TellsSummaryFault};
+ghost use Rattle.thp_journal_reader.specs.Summaries.{ReportsSummaryFault};
 ghost use Rattle.thp_journal_reader.specs.Journals.{journals_within};
 ghost use Rattle.thp_journal_reader.specs.Parts.{told_with};
 ghost use Rattle.thp_journal_reader.specs.declared.journals.Journals.{Journals};
-ghost use Rattle.thp_text.specs.Limits.{max_counted};
-ghost use Rattle.thp_text.specs.Words.{Text};
+ghost use Rattle.thp_script.specs.Limits.{max_counted};
+ghost use Rattle.thp_script.specs.Words.{Text};
 
 use crate::illegal::TextFault;
 use crate::numbered::NumberedNode;
@@ -15,10 +15,10 @@ use crate::summed::SummaryFault;
 use crate::text_reader::TextReader;
 use std::alloc::{AllocError, Global};
 use std::marker::Model;
-use thp_text::TextInParts;
+use thp_script::TextInParts;
 
-/// A check of journals of any length that also keeps the numbers of each node over its events, in columns. It is as a
-/// [`SummedCheck`](crate::SummedCheck), but that it tells of each node its own first illegal event.
+/// A check of journals of any length that also stores the numbers of each node over its events, in columns. It differs from a
+/// [`SummedCheck`](crate::SummedCheck) in that it reports the first illegal event of each node.
 #[derive(Drop)]
 pub struct SeriesCheck {
     text: TextReader<NumberedNodes>,
@@ -29,7 +29,7 @@ impl Model for SeriesCheck {
     ghost use Rattle.thp_journal_reader.specs.Checking.{nodes_told};
     ghost use Rattle.thp_journal_reader.specs.Numbering.{GoesNumbered};
     ghost use Rattle.thp_journal_reader.specs.Parts.{so_far, ReadSoFar};
-    ghost use Rattle.thp_text.specs.Limits.{max_counted};
+    ghost use Rattle.thp_script.specs.Limits.{max_counted};
 
     ghost Value = { ReadSoFar };
 
@@ -39,7 +39,7 @@ impl Model for SeriesCheck {
 }
 
 impl SeriesCheck {
-    /// A check of journals of which nothing has come. They may have any length that a machine can read.
+    /// Creates a check that has read nothing. The journals can have any length.
     pub fn new(alloc: Global) -> SeriesCheck
         ensures { (text : Text) → told_with result text ≡ journals_within max_counted text }
     {
@@ -52,8 +52,8 @@ impl SeriesCheck {
         }
     }
 
-    /// Reads the next part of the text. Behind the first fault nothing of it is looked at. Fails where the memory for a node's
-    /// replay and its columns, or for a line that lies in several parts, is refused.
+    /// Reads the next part of the text. After the first error the part is ignored. Fails if memory for a node's replay and its
+    /// columns, or for a line that spans several parts, can't be allocated.
     pub fn read_part(self, part: &[u8]) -> Result<SeriesCheck, AllocError>
         ensures { IfOk result (λ check. (more : Text) → told_with check more ≡ told_with self (part.now ++ more)) }
     {
@@ -61,11 +61,11 @@ impl SeriesCheck {
         Ok(SeriesCheck { text })
     }
 
-    /// The numbers of each node that the whole text tells; or the first fault of the text, wherever it stands, or that the memory
-    /// for the last node is refused.
+    /// Returns the numbers of each node in the whole text. Fails with the first error of the text, even if that is after an
+    /// illegal event, and if memory for the last node can't be allocated.
     pub fn finish(self) -> Result<Vec<NumberedNode>, SummaryFault>
         ensures numbered { IfOk result (λ kept. (journals : Journals) × (told_with self [] ≡ Ok journals) × AreNumbered journals.nodes kept.items) }
-        ensures fault { IfErr result (TellsSummaryFault (told_with self [])) }
+        ensures fault { IfErr result (ReportsSummaryFault (told_with self [])) }
     {
         match self.text.fault() {
             Some((line, kind)) => Err(SummaryFault::Text(TextFault { line, kind })),

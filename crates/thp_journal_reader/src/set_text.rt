@@ -1,10 +1,10 @@
-//! Sets of subpages from text.
+//! Parses sets of subpages.
 ghost use Rattle.std.specs.Prelude.{◌≡◌, ◌≤◌, ◌+◌, ◌||◌, [], IfOk, length};
 ghost use Rattle.thp_model.specs.Sets.{has, set_of};
 ghost use Rattle.thp_journal_reader.specs.SetTexts.{covers_number, longer_run, run_from, run_of, run_of_one, set_of_runs, set_of_text, set_with, subpage_number};
 
 use thp_model::SubSet;
-use thp_text::{TextKind, cut_at, number};
+use thp_script::{TextKind, cut_at, number};
 
 fn subpage_number(word: &[u8]) -> Result<u32, TextKind>
     ensures value { result ≡ subpage_number word.now }
@@ -36,7 +36,7 @@ fn longer_run(first: &[u8], last: &[u8]) -> Result<(u32, u32), TextKind>
     Ok((first, last))
 }
 
-/// The first and the last subpage of a run: `NUMBER` or `FIRST-LAST`.
+/// Parses the first and the last subpage of a run: `NUMBER` or `FIRST-LAST`.
 #[tactic(auto, unfolding(crate::specs::SetTexts::run_of))]
 fn run_of(text: &[u8]) -> Result<(u32, u32), TextKind>
     ensures value { result ≡ run_of text.now }
@@ -54,7 +54,7 @@ fn run_of(text: &[u8]) -> Result<(u32, u32), TextKind>
     longer_run(first, last)
 }
 
-/// A run that doesn't begin below `least`.
+/// Parses a run that does not begin below `least`.
 #[tactic(auto, unfolding(crate::specs::SetTexts::run_from))]
 fn run_from(least: u32, text: &[u8]) -> Result<(u32, u32), TextKind>
     ensures value { result ≡ run_from least text.now }
@@ -68,7 +68,7 @@ fn run_from(least: u32, text: &[u8]) -> Result<(u32, u32), TextKind>
     Ok(run)
 }
 
-/// Puts the subpages of a run into a set.
+/// Inserts the subpages of a run into a set.
 fn put_run(set: &mut SubSet, run: (u32, u32))
     requires order { run.0 ≤ run.1 }
     requires bound { run.1 ≤ 511 }
@@ -82,7 +82,7 @@ fn put_run(set: &mut SubSet, run: (u32, u32))
     *set = set.union(SubSet::range(first, last - first + 1));
 }
 
-/// The set of the runs that a text writes, with commas between them.
+/// Parses a set from runs that are separated by commas.
 fn set_of_runs(text: &[u8]) -> Result<SubSet, TextKind>
     ensures { result ≡ set_of_runs text.now }
 {
@@ -113,7 +113,7 @@ fn set_of_none() -> SubSet
     SubSet::empty()
 }
 
-/// The set that a text writes: its maximal runs, ascending, with commas between them, or `-` where it is empty.
+/// Parses a set: its maximal runs in ascending order, separated by commas, or `-` if it is empty.
 #[tactic(auto, unfolding(crate::specs::SetTexts::set_of_text))]
 pub(crate) fn set_of_text(text: &[u8]) -> Result<SubSet, TextKind>
     ensures { result ≡ set_of_text text.now }

@@ -1,4 +1,4 @@
-//! Nodes whose events are replayed as they are read, and whose totals are kept.
+//! Replays nodes' events as they are read, and stores their totals.
 ghost use Rattle.std.specs.Prelude.{◌≡◌, ◌≤◌, ◌∷◌, ◌++◌, [], List, None, IfOk, OnOk};
 ghost use Rattle.thp_journal_reader.specs.LineRanges.{IsInRange};
 ghost use Rattle.thp_journal_reader.specs.Reading.{began, on_last, with_event, with_line};
@@ -10,13 +10,13 @@ ghost use Rattle.thp_journal_reader.specs.declared.journals.NodeJournal.{NodeJou
 ghost use Rattle.thp_model.specs.BlockLaws.{event_with, least_free};
 ghost use Rattle.thp_model.specs.Shapes.{IsShape};
 ghost use Rattle.thp_model.specs.declared.events.Event.{Event};
-ghost use Rattle.thp_text.specs.Limits.{max_counted};
+ghost use Rattle.thp_script.specs.Limits.{max_counted};
 ghost use Rattle.thp_journal_writer.specs.Totals.{totals_of};
 
 use crate::illegal::Illegal;
 use crate::keeps_nodes::KeepsNodes;
 use crate::line::Line;
-use crate::past_lines::PastLines;
+use crate::past_lines::LineTrace;
 use crate::summed::Summed;
 use std::alloc::{AllocError, Global};
 use thp_check::Replay;
@@ -28,11 +28,11 @@ use thp_model::{Event, Shape, What};
 pub(crate) struct LegalNode {
     shape: Shape,
     replay: Replay,
-    // on which the node's next event stands
+    // the line of the node's next event
     next_line: u64,
 }
 
-/// The totals of a node whose events so far are legal.
+/// Returns the totals of a node whose events so far are legal.
 fn totals_of(node: &LegalNode) -> Totals
     ensures { node.now.shape ≡ node.now.replay.shape → result ≡ totals_of node.now.replay.shape node.now.replay.history }
 {
@@ -54,7 +54,7 @@ fn totals_of(node: &LegalNode) -> Totals
     }
 }
 
-/// The event, an allocation in the least block that no live page holds.
+/// Returns the event; an allocation gets the least block that holds no live page.
 fn placed(replay: &Replay, event: &Event) -> Event
     ensures { result ≡ event_with (least_free replay.now.shape replay.now.history) event.now }
 {
@@ -76,14 +76,14 @@ fn placed(replay: &Replay, event: &Event) -> Event
 pub(crate) struct Summary {
     // the last node, while its events are legal
     at_hand: Option<LegalNode>,
-    // the first illegal event of them all
+    // the first illegal event of all nodes
     illegal: Option<Illegal>,
-    // those of each node but the one at hand, up to its first illegal event
+    // the totals of every node except the current one, up to its first illegal event
     totals: Vec<Totals>,
 }
 
 impl Summary {
-    /// One more node's totals.
+    /// Adds a node's totals.
     fn keep(&mut self, totals: Totals) -> Result<(), AllocError>
         ensures totals { OnOk result (self.new.totals.items ≡ self.old.totals.items ++ totals ∷ []) }
         ensures at_hand { self.new.at_hand ≡ self.old.at_hand }
@@ -93,7 +93,7 @@ impl Summary {
         Ok(())
     }
 
-    /// The node at hand, if there is one, has no further event.
+    /// Ends the current node, if there is one.
     fn end(&mut self) -> Result<(), AllocError>
         ensures { OnOk result ((nodes : List NodeJournal) → Sums nodes self.old → IsEnded nodes self.new) }
     {
@@ -103,7 +103,7 @@ impl Summary {
         self.keep(totals_of(&node))
     }
 
-    /// One more node begins, whose first event stands on this line.
+    /// Begins a node whose first event is on this line.
     fn begin(&mut self, alloc: Global, first_line: u64, shape: Shape) -> Result<(), AllocError>
         requires { IsShape shape }
         ensures { OnOk result ((nodes : List NodeJournal) → Sums nodes self.old → Sums (nodes ++ began first_line shape ∷ []) self.new) }
@@ -118,7 +118,7 @@ impl Summary {
         Ok(())
     }
 
-    /// The node that was at hand has an illegal event, and these totals up to it.
+    /// Records that the current node has an illegal event, and these totals up to it.
     fn stop(&mut self, totals: Totals, illegal: Illegal) -> Result<(), AllocError>
         ensures known { OnOk result ((self.new.illegal ≡ first_of self.old.illegal illegal) × (self.new.totals.items ≡ self.old.totals.items ++ totals ∷ [])) }
         ensures at_hand { self.new.at_hand ≡ self.old.at_hand }
@@ -130,7 +130,7 @@ impl Summary {
         Ok(())
     }
 
-    /// Goes on with the node at hand by an event, of which a line has told all but the block of a new page.
+    /// Replays an event on the current node. The event has no block if it is an allocation, as no line contains blocks.
     fn go_on(&mut self, node: LegalNode, event: &Event) -> Result<(), AllocError>
         requires none { self.old.at_hand ≡ None }
         requires room { HasRoomIn node }
@@ -162,7 +162,7 @@ impl Summary {
         }
     }
 
-    /// One more event of the last node, if there is one: an allocation in the least free block.
+    /// Replays an event on the last node, if there is one; an allocation uses the least free block.
     fn admit(&mut self, event: &Event) -> Result<(), AllocError>
         requires { HasRoomForOne self.old }
         ensures { OnOk result ((nodes : List NodeJournal) → Sums nodes self.old → Sums (on_last (with_event event.now) nodes) self.new) }
@@ -174,7 +174,7 @@ impl Summary {
         self.go_on(node, &event)
     }
 
-    /// One more line, which has this number.
+    /// Processes the line of this number.
     fn follow(&mut self, alloc: Global, number: u64, line: &Line) -> Result<(), AllocError>
         requires room { HasRoomForOne self.old }
         requires in_range { IsInRange line.now }
@@ -189,16 +189,16 @@ impl Summary {
     }
 }
 
-/// What is known of the nodes that the lines so far tell.
+/// What is known of the nodes in the lines so far.
 #[derive(Drop)]
 pub(crate) struct SummedNodes {
     summary: Summary,
-    // takes no bytes
-    pub(crate) lines: PastLines,
+    // has no bytes
+    pub(crate) lines: LineTrace,
 }
 
 impl SummedNodes {
-    /// No line has come.
+    /// Returns the state before the first line.
     pub(crate) fn new(alloc: Global) -> SummedNodes
         ensures lines { result.lines ≡ [] }
         ensures at_hand { result.summary.at_hand ≡ None }
@@ -211,11 +211,11 @@ impl SummedNodes {
                 illegal: None,
                 totals: Vec::new(alloc),
             },
-            lines: PastLines::new(),
+            lines: LineTrace::new(),
         }
     }
 
-    /// The first illegal event, if there is one, and the totals of each node, where no further line comes.
+    /// Returns the first illegal event, if there is one, and the totals of each node, after the last line.
     pub(crate) fn finish(self) -> Result<Summed, AllocError>
         ensures { IfOk result (λ summed. (nodes : List NodeJournal) → Sums nodes self.summary → AreSummed nodes summed) }
     {

@@ -1,23 +1,23 @@
-//! What a check finds that also sums nodes up.
+//! The result of a check that also sums nodes up.
 use crate::illegal::{Illegal, TextFault};
 use std::alloc::AllocError;
 use thp_journal_writer::Totals;
 
-/// What a check finds that also sums nodes up.
+/// The result of a check that also sums nodes up.
 #[derive(Drop)]
 pub struct Summed {
-    /// The first illegal event, in the order of the text, or none where each node's events are legal.
+    /// The first illegal event, in the order of the text; `None` if each node's events are legal.
     pub illegal: Option<Illegal>,
-    /// The totals of each node: of all its events, or of those before its first illegal one.
+    /// The totals of each node, over all its events or over those before its first illegal event.
     pub totals: Vec<Totals>,
 }
 
 /// Why there is no summary.
 #[derive(Clone, Copy, Debug, PartialEq, Eq)]
 pub enum SummaryFault {
-    /// The text has this fault first.
+    /// The first error of the text.
     Text(TextFault),
-    /// Memory was refused.
+    /// Memory could not be allocated.
     OutOfMemory,
 }
 

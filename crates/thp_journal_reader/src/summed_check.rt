@@ -1,11 +1,11 @@
 //! The check of journals of any length that also sums nodes up.
 ghost use Rattle.std.specs.Prelude.{◌≡◌, ◌++◌, Ok, [], IfOk, IfErr};
-ghost use Rattle.thp_journal_reader.specs.Summaries.{AreSummed, TellsSummaryFault};
+ghost use Rattle.thp_journal_reader.specs.Summaries.{AreSummed, ReportsSummaryFault};
 ghost use Rattle.thp_journal_reader.specs.Journals.{journals_within};
 ghost use Rattle.thp_journal_reader.specs.Parts.{told_with};
 ghost use Rattle.thp_journal_reader.specs.declared.journals.Journals.{Journals};
-ghost use Rattle.thp_text.specs.Limits.{max_counted};
-ghost use Rattle.thp_text.specs.Words.{Text};
+ghost use Rattle.thp_script.specs.Limits.{max_counted};
+ghost use Rattle.thp_script.specs.Words.{Text};
 
 use crate::illegal::TextFault;
 use crate::summary::SummedNodes;
@@ -13,10 +13,10 @@ use crate::summed::{SummaryFault, Summed};
 use crate::text_reader::TextReader;
 use std::alloc::{AllocError, Global};
 use std::marker::Model;
-use thp_text::TextInParts;
+use thp_script::TextInParts;
 
-/// A check of journals of any length that also keeps the totals of each node. It is as a [`LongCheck`](crate::LongCheck), but that
-/// behind the first illegal event, too, each further node is replayed up to its own first illegal event.
+/// A check of journals of any length that also stores the totals of each node. It differs from a [`LongCheck`](crate::LongCheck)
+/// in that it continues after the first illegal event: it replays each further node up to that node's first illegal event.
 #[derive(Drop)]
 pub struct SummedCheck {
     text: TextReader<SummedNodes>,
@@ -27,7 +27,7 @@ impl Model for SummedCheck {
     ghost use Rattle.thp_journal_reader.specs.Checking.{nodes_told};
     ghost use Rattle.thp_journal_reader.specs.Parts.{so_far, ReadSoFar};
     ghost use Rattle.thp_journal_reader.specs.Summing.{GoesSummed};
-    ghost use Rattle.thp_text.specs.Limits.{max_counted};
+    ghost use Rattle.thp_script.specs.Limits.{max_counted};
 
     ghost Value = { ReadSoFar };
 
@@ -37,7 +37,7 @@ impl Model for SummedCheck {
 }
 
 impl SummedCheck {
-    /// A check of journals of which nothing has come. They may have any length that a machine can read.
+    /// Creates a check that has read nothing. The journals can have any length.
     pub fn new(alloc: Global) -> SummedCheck
         ensures { (text : Text) → told_with result text ≡ journals_within max_counted text }
     {
@@ -50,8 +50,8 @@ impl SummedCheck {
         }
     }
 
-    /// Reads the next part of the text. Behind the first fault nothing of it is looked at. Fails where the memory for a node's
-    /// replay, for its totals, or for a line that lies in several parts, is refused.
+    /// Reads the next part of the text. After the first error the part is ignored. Fails if memory for a node's replay, for its
+    /// totals, or for a line that spans several parts, can't be allocated.
     pub fn read_part(self, part: &[u8]) -> Result<SummedCheck, AllocError>
         ensures { IfOk result (λ check. (more : Text) → told_with check more ≡ told_with self (part.now ++ more)) }
     {
@@ -59,11 +59,11 @@ impl SummedCheck {
         Ok(SummedCheck { text })
     }
 
-    /// The first illegal event that the whole text tells, and the totals of each node; or the first fault of the text, wherever it
-    /// stands, or that the memory for the last node's totals is refused.
+    /// Returns the first illegal event of the whole text, and the totals of each node. Fails with the first error of the text,
+    /// even if that is after an illegal event, and if memory for the last node's totals can't be allocated.
     pub fn finish(self) -> Result<Summed, SummaryFault>
         ensures summed { IfOk result (λ summed. (journals : Journals) × (told_with self [] ≡ Ok journals) × AreSummed journals.nodes summed) }
-        ensures fault { IfErr result (TellsSummaryFault (told_with self [])) }
+        ensures fault { IfErr result (ReportsSummaryFault (told_with self [])) }
     {
         match self.text.fault() {
             Some((line, kind)) => Err(SummaryFault::Text(TextFault { line, kind })),

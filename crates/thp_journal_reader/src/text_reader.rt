@@ -1,24 +1,24 @@
-//! Journals from bytes that come in parts, whatever is kept of their nodes.
+//! Reads journals whose bytes arrive in parts, for any kind of data about their nodes.
 ghost use Rattle.std.specs.Prelude.{◌≡◌, ◌≤◌, ◌+◌, ◌++◌, Ok, Err, [], IfOk, IfNone, IfSome, length};
 ghost use Rattle.thp_journal_reader.specs.Parts.{journals_in, lines_tell, so_far, told_with};
 ghost use Rattle.thp_journal_reader.specs.Reading.{fault_at};
 ghost use Rattle.thp_journal_reader.specs.declared.place.Place.TheVariants.{Start};
-ghost use Rattle.thp_text.specs.Lines.{fault_behind};
-ghost use Rattle.thp_text.specs.TextInParts.{told_behind, IsCounted};
-ghost use Rattle.thp_text.specs.Words.{Text};
+ghost use Rattle.thp_script.specs.Lines.{fault_after};
+ghost use Rattle.thp_script.specs.TextInParts.{told_after, IsCounted};
+ghost use Rattle.thp_script.specs.Words.{Text};
 
-use crate::event_ahead::event_ahead;
 use crate::keeps_nodes::KeepsNodes;
 use crate::line::Line;
+use crate::parse_event_fast::parse_event_fast;
 use crate::place::{Place, line_in, place_after};
 use std::alloc::{AllocError, Global};
-use thp_text::{TextInParts, TextKind, WholeLine, fault_behind};
+use thp_script::{TextInParts, TextKind, WholeLine, fault_after};
 
-/// The fault of what stands behind the last line, at this place.
+/// Returns the error of the text after the last line, at this position.
 fn fault_at(behind: &[u8], place: Place) -> Option<TextKind>
-    ensures { result ≡ fault_at (fault_behind behind.now) place }
+    ensures { result ≡ fault_at (fault_after behind.now) place }
 {
-    if let Some(kind) = fault_behind(behind) {
+    if let Some(kind) = fault_after(behind) {
         return Some(kind);
     }
     match place {
@@ -27,9 +27,9 @@ fn fault_at(behind: &[u8], place: Place) -> Option<TextKind>
     }
 }
 
-/// Adds the events at the front of what is left of a part, line by line up to the first line that isn't read ahead, and gives what
-/// is left then.
-fn add_ahead<'p, N: KeepsNodes>(
+/// Processes the events at the beginning of the rest of a part, line by line up to the first line that is not parsed fast, and
+/// returns the text from there on.
+fn add_fast<'p, N: KeepsNodes>(
     alloc: Global,
     nodes: &mut N,
     place: Place,
@@ -39,7 +39,7 @@ fn add_ahead<'p, N: KeepsNodes>(
     requires along { N.goes_along text.old.line nodes.old }
     requires limit { text.old.most ≤ N.last_line }
     requires counted { IsCounted part.now text.old }
-    ensures tells { IfOk result (λ rest. (more : Text) → told_behind text.new more (lines_tell (N.told nodes.new) place text.new.line (text.new.begun ++ (rest.now ++ more))) ≡ told_behind text.old more (lines_tell (N.told nodes.old) place text.old.line (text.old.begun ++ (part.now ++ more)))) }
+    ensures tells { IfOk result (λ rest. (more : Text) → told_after text.new more (lines_tell (N.told nodes.new) place text.new.line (text.new.begun ++ (rest.now ++ more))) ≡ told_after text.old more (lines_tell (N.told nodes.old) place text.old.line (text.old.begun ++ (part.now ++ more)))) }
     ensures along { IfOk result (λ _. N.goes_along text.new.line nodes.new) }
     ensures counted { IfOk result (λ rest. IsCounted rest.now text.new) }
     ensures most { IfOk result (λ _. text.new.most ≡ text.old.most) }
@@ -56,7 +56,7 @@ fn add_ahead<'p, N: KeepsNodes>(
         return Ok(part);
     }
     let mut rest = part;
-    while let Some((event, after)) = event_ahead(version, rest) {
+    while let Some((event, after)) = parse_event_fast(version, rest) {
         let (number, _) = text.last_line();
         nodes.add(alloc, number, &Line::Happened(event))?;
         text.pass_line();
@@ -65,18 +65,18 @@ fn add_ahead<'p, N: KeepsNodes>(
     Ok(rest)
 }
 
-/// What was read of a text of journals. Of the text it keeps no more than the line begun.
+/// The state of reading a text of journals. Only the line in progress of the text is stored.
 #[derive(Drop)]
 pub(crate) struct TextReader<N> {
     alloc: Global,
     pub(crate) nodes: N,
-    // behind the last line
+    // after the last line
     pub(crate) place: Place,
     pub(crate) text: TextInParts,
 }
 
 impl<N: KeepsNodes + Drop> TextReader<N> {
-    /// Nothing was read of this text.
+    /// Creates the state before the first byte of this text.
     pub(crate) fn new(alloc: Global, text: TextInParts, nodes: N) -> TextReader<N>
         ensures nodes { result.nodes ≡ nodes }
         ensures place { result.place ≡ Start }
@@ -90,8 +90,7 @@ impl<N: KeepsNodes + Drop> TextReader<N> {
         }
     }
 
-    /// Reads the next part of the text. Behind the first fault, and where more has come than may come, nothing is read of
-    /// it.
+    /// Reads the next part of the text. After the first error, or after more bytes than allowed, the part is ignored.
     pub(crate) fn read_part(self, part: &[u8]) -> Result<TextReader<N>, AllocError>
         requires along { N.goes_along self.text.line self.nodes }
         requires limit { self.text.most ≤ N.last_line }
@@ -106,7 +105,7 @@ impl<N: KeepsNodes + Drop> TextReader<N> {
             mut text,
         } = self;
         let rest = text.next_part(part);
-        let mut rest = add_ahead(alloc, &mut nodes, place, &mut text, rest)?;
+        let mut rest = add_fast(alloc, &mut nodes, place, &mut text, rest)?;
         while let Some(WholeLine { number, bytes }) = text.next_line(&mut rest)? {
             let said = line_in(place, bytes.as_slice());
             drop(bytes);
@@ -114,7 +113,7 @@ impl<N: KeepsNodes + Drop> TextReader<N> {
                 Ok(said) => {
                     nodes.add(alloc, number, &said)?;
                     place = place_after(place, &said);
-                    rest = add_ahead(alloc, &mut nodes, place, &mut text, rest)?;
+                    rest = add_fast(alloc, &mut nodes, place, &mut text, rest)?;
                 }
                 Err(kind) => {
                     text.note_fault(kind);
@@ -130,14 +129,14 @@ impl<N: KeepsNodes + Drop> TextReader<N> {
         })
     }
 
-    /// What was kept of the nodes.
+    /// Returns the data about the nodes.
     pub(crate) fn into_nodes(self) -> N
         ensures { result ≡ self.nodes }
     {
         self.nodes
     }
 
-    /// The first fault of the text, where nothing more comes.
+    /// Returns the first error of the text, if nothing follows.
     pub(crate) fn fault(&self) -> Option<(u64, TextKind)>
         ensures wrong { IfSome result (λ fault. told_with (so_far (N.told self.now.nodes) self.now.place self.now.text) [] ≡ Err fault) }
         ensures sound { IfNone result (told_with (so_far (N.told self.now.nodes) self.now.place self.now.text) [] ≡ Ok (journals_in (N.told self.now.nodes))) }

@@ -100,16 +100,16 @@ caller_first digits (Dropped page) = refl
 caller_first digits Close = refl
 
 -- the line of an event behind a text
-pub event_behind : (t t1 : List ℕ) (caller : ℕ) (e : Event) → caller ≡ e.caller → t1 ≡ t ++ decimal caller ++ 32 ∷ [] → t1 ++ ended (line_of (what_words e.what)) ≡ t ++ ended (event_line e)
+pub event_after : (t t1 : List ℕ) (caller : ℕ) (e : Event) → caller ≡ e.caller → t1 ≡ t ++ decimal caller ++ 32 ∷ [] → t1 ++ ended (line_of (what_words e.what)) ≡ t ++ ended (event_line e)
 unfolding event_line event_words
-event_behind t t1 caller e same e1 =
+event_after t t1 caller e same e1 =
     go t1 t (decimal caller) (decimal e.caller) (line_of (what_words e.what)) (line_of (decimal e.caller ∷ what_words e.what)) e1 (ap decimal same) (caller_first (decimal e.caller) e.what) where
       go : (t1 t c d w l : List ℕ) → t1 ≡ t ++ c ++ 32 ∷ [] → c ≡ d → l ≡ d ++ 32 ∷ w → t1 ++ (w ++ 10 ∷ []) ≡ t ++ (l ++ 10 ∷ [])
       go t1 t c d w l f g h = rw (f, g, h) (simp append_assoc)
 
 -- the first line, piece by piece
-pub version_behind : (t t1 : List ℕ) (n : ℕ) (v : Version) → n ≡ version_number v → t1 ≡ t ++ codes "thp-journal " → t1 ++ decimal n ++ 10 ∷ [] ≡ t ++ ended (version_line v)
-version_behind t t1 n v e f = rw (f, e) (simp append_assoc)
+pub version_after : (t t1 : List ℕ) (n : ℕ) (v : Version) → n ≡ version_number v → t1 ≡ t ++ codes "thp-journal " → t1 ++ decimal n ++ 10 ∷ [] ≡ t ++ ended (version_line v)
+version_after t t1 n v e f = rw (f, e) (simp append_assoc)
 
 -- what a node tells of underused pages and of what was written
 pub told_by_switch : (j : Journal) (b : Bool) → b ≡ shrinks_underused j.0 → b ≡ true → b ≡ tells_underused j

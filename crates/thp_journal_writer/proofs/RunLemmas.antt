@@ -53,8 +53,8 @@ pass_over set (suc n) i h f =
     ∙ ap (λ k. runs_from k (drop k set)) (omega arith)
 
 -- where i isn't in the set, no run begins there
-begins_behind : (set : List Bool) (i : ℕ) → (i < length set → get_or set i false ≡ false) → BeginsFrom (i + 1) (runs_from i (drop i set))
-begins_behind set i f =
+begins_after : (set : List Bool) (i : ℕ) → (i < length set → get_or set i false ≡ false) → BeginsFrom (i + 1) (runs_from i (drop i set))
+begins_after set i f =
     let P : List Bool → Type 0 = λ truths. BeginsFrom (i + 1) (runs_from i truths) in
     elim (cases_lt i (length set)) [
       | inl y ↦ subst P (sym (at_place set i false y (f y))) (runs_from-first (i + 1) (drop (i + 1) set))
@@ -67,7 +67,7 @@ one_run_of : (set : List Bool) (n a : ℕ) → a + suc n ≤ length set → ((k 
 one_run_of set zero a h f g =
     let next : a + suc zero ≡ a + 1 = omega arith in
     ap (λ truths. runs_from a truths) (at_place set a true (omega arith) (f a (omega arith) (omega arith)))
-    ∙ with_number-alone a (runs_from (a + 1) (drop (a + 1) set)) (later (a + 2) (a + 1 + 1) (runs_from (a + 1) (drop (a + 1) set)) (omega arith) (begins_behind set (a + 1) g))
+    ∙ with_number-alone a (runs_from (a + 1) (drop (a + 1) set)) (later (a + 2) (a + 1 + 1) (runs_from (a + 1) (drop (a + 1) set)) (omega arith) (begins_after set (a + 1) g))
     ∙ ap (λ k. (a, k) ∷ runs_from (a + 1) (drop (a + 1) set)) (omega arith)
     ∙ ap (λ k. (a, a + zero) ∷ runs_from k (drop k set)) (sym next)
 one_run_of set (suc n) a h f g =
@@ -103,8 +103,8 @@ next_run set i first after e low some high none all out =
     ∙ ap (λ k. (first, after - 1) ∷ runs_from k (drop k set)) back
 
 -- a run of a number that is in the set isn't empty
-pub run_ends_behind : (set : List Bool) (first after : ℕ) → first < 512 → first ≤ after → get_or set first false ≡ true → (after < 512 → get_or set after false ≡ false) → first < after
-run_ends_behind set first after small low here out =
+pub run_ends_after : (set : List Bool) (first after : ℕ) → first < 512 → first ≤ after → get_or set first false ≡ true → (after < 512 → get_or set after false ≡ false) → first < after
+run_ends_after set first after small low here out =
     elim (cases_lt first after) [
       | inl y ↦ y
       | inr y ↦
@@ -139,5 +139,5 @@ unfolding set_text
 set_text-none set e = ap runs_text e
 
 -- the empty set behind a text
-pub none_behind : (t : List ℕ) (set : List Bool) (after : ℕ) → runs_from 0 set ≡ [] → t ++ (45 ∷ after ∷ []) ≡ t ++ set_text set ++ after ∷ []
-none_behind t set after e = sym (append_assoc t (45 ∷ []) (after ∷ [])) ∙ ap (λ s. t ++ s ++ after ∷ []) (sym (set_text-none set e))
+pub none_after : (t : List ℕ) (set : List Bool) (after : ℕ) → runs_from 0 set ≡ [] → t ++ (45 ∷ after ∷ []) ≡ t ++ set_text set ++ after ∷ []
+none_after t set after e = sym (append_assoc t (45 ∷ []) (after ∷ [])) ∙ ap (λ s. t ++ s ++ after ∷ []) (sym (set_text-none set e))

@@ -1,4 +1,4 @@
--- Events as lines of a journal (this project's journal format). A line stands here without its line feed.
+-- Events as lines of a journal (this project's journal format). Lines are without their line feed here.
 use Rattle.std.specs.Prelude.{◌≡◌, ℕ, ◌<◌, ◌^◌, Bool, List, [], ◌∷◌, length, codes, ⊤, Option, Some, None}
 use Rattle.std.specs.List.{join_with_byte}
 use Rattle.std.specs.Fmt.{decimal}
@@ -10,26 +10,26 @@ use Rattle.thp_model.specs.declared.events.What.{What}
 use Rattle.thp_model.specs.declared.events.What.TheVariants.{Alloc, MapWhole, UnmapWhole, MapSub, UnmapSub, SplitPmd, Pin, Unpin, Write, Zero, Taken, Split, Pinned, Used, Back, Dropped, Close}
 use Rattle.thp_journal_writer.specs.SetTexts.{set_text}
 
--- words with a space (32) between each two
+-- words separated by a space (32)
 abbrev pub line_of : List (List ℕ) → List ℕ
 line_of words = join_with_byte 32 words
 
--- what an unmap or an unpin did to its page
+-- the effect of an unmap or an unpin on its page
 abbrev pub outcome_word : Outcome → List ℕ
 outcome_word Stays = codes "stays"
 outcome_word Queued = codes "queued"
 outcome_word Freed = codes "freed"
 
--- a page's number, behind a name
+-- a name and a page's number
 abbrev pub page_words : List ℕ → ℕ → List (List ℕ)
 page_words name page = name ∷ decimal page ∷ []
 
--- a range of a page's subpages, behind a name
+-- a name and a range of a page's subpages
 abbrev pub range_words : List ℕ → ℕ → ℕ → ℕ → List (List ℕ)
 range_words name page first count = name ∷ decimal page ∷ decimal first ∷ decimal count ∷ []
 
--- what happened: its name, the page, a range where there is one, then the outcome and the set given back where there are.
--- The block of a new page isn't told.
+-- the event: its name, the page, a range if there is one, then the outcome and the set given back if there are. The block of a
+-- new page is not included.
 abbrev pub what_words : What → List (List ℕ)
 what_words (Alloc page block) = page_words (codes "alloc") page
 what_words (MapWhole page) = page_words (codes "mapwhole") page
@@ -49,27 +49,27 @@ what_words (Back page) = page_words (codes "back") page
 what_words (Dropped page) = page_words (codes "dropped") page
 what_words Close = codes "close" ∷ []
 
--- the page that the words name; a close names none
-abbrev pub page_told : What → Option ℕ
-page_told (Alloc page block) = Some page
-page_told (MapWhole page) = Some page
-page_told (UnmapWhole outcome page released) = Some page
-page_told (MapSub page first count) = Some page
-page_told (UnmapSub outcome page first count released) = Some page
-page_told (SplitPmd page) = Some page
-page_told (Pin page) = Some page
-page_told (Unpin outcome page released) = Some page
-page_told (Write page first count) = Some page
-page_told (Zero page first count) = Some page
-page_told (Taken page) = Some page
-page_told (Split page released) = Some page
-page_told (Pinned page) = Some page
-page_told (Used page) = Some page
-page_told (Back page) = Some page
-page_told (Dropped page) = Some page
-page_told Close = None
+-- the page in the words; none for a close
+abbrev pub event_page : What → Option ℕ
+event_page (Alloc page block) = Some page
+event_page (MapWhole page) = Some page
+event_page (UnmapWhole outcome page released) = Some page
+event_page (MapSub page first count) = Some page
+event_page (UnmapSub outcome page first count released) = Some page
+event_page (SplitPmd page) = Some page
+event_page (Pin page) = Some page
+event_page (Unpin outcome page released) = Some page
+event_page (Write page first count) = Some page
+event_page (Zero page first count) = Some page
+event_page (Taken page) = Some page
+event_page (Split page released) = Some page
+event_page (Pinned page) = Some page
+event_page (Used page) = Some page
+event_page (Back page) = Some page
+event_page (Dropped page) = Some page
+event_page Close = None
 
--- the caller's number, then what happened
+-- the caller's number, then the event
 unfoldable pub event_words : Event → List (List ℕ)
 event_words e = decimal e.caller ∷ what_words e.what
 
@@ -85,7 +85,7 @@ IsSmallRange page first count = (page < 2 ^ 64) × (first < 2 ^ 16) × (count < 
 abbrev pub IsSmallLoss : ℕ → List Bool → Type 0
 IsSmallLoss page set = (page < 2 ^ 64) × (length set ≡ max_subpages)
 
--- the numbers of what happened fit the operands of its line
+-- the numbers of the event fit the operands of its line
 abbrev pub HasSmallNumbers : What → Type 0
 HasSmallNumbers (Alloc page block) = page < 2 ^ 64
 HasSmallNumbers (MapWhole page) = page < 2 ^ 64

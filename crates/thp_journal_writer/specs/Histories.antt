@@ -1,4 +1,4 @@
--- The histories of nodes as the journals that a text tells.
+-- The histories of nodes as the journals in a text.
 use Rattle.thp_journal_writer.specs.declared.node_history.NodeHistory.{NodeHistory}
 use Rattle.thp_journal_writer.specs.Journals.{Journal}
 

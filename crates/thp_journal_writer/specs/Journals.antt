@@ -1,4 +1,4 @@
--- Journals as text: what the nodes of a run were, and what happened on each (this project's journal format).
+-- Journals as text: the nodes of a run, and the events of each (this project's journal format).
 use Rattle.std.specs.Prelude.{ℕ, ◌+◌, ◌==◌, ◌||◌, Bool, true, false, List, [], ◌∷◌, ◌++◌, map, Option, Some, None, is_some, codes, if◌then◌else◌}
 use Rattle.std.specs.List.{list_any, list_all, flat_map}
 use Rattle.std.specs.Fmt.{decimal}
@@ -10,7 +10,7 @@ use Rattle.thp_journal_writer.specs.declared.version.Version.{Version}
 use Rattle.thp_journal_writer.specs.declared.version.Version.TheVariants.{Plain, Orders, Underused}
 use Rattle.thp_journal_writer.specs.EventLines.{line_of, event_line}
 
--- the shape of a node, and what happened there
+-- the shape of a node, and its events
 abbrev pub Journal : Type 0
 Journal = Shape × History
 
@@ -20,7 +20,7 @@ is_access (Write page first count) = true
 is_access (Zero page first count) = true
 is_access _ = false
 
--- the node looks for underused pages, or what was written to its pages was recorded
+-- the node looks for underused pages, or writes to its pages were recorded
 unfoldable pub tells_underused : Journal → Bool
 tells_underused journal = is_some journal.0.underused || some_event is_access journal.1
 
@@ -28,7 +28,7 @@ tells_underused journal = is_some journal.0.underused || some_event is_access jo
 abbrev pub has_order_9 : Journal → Bool
 has_order_9 journal = journal.0.order == 9
 
--- the least version that can tell these journals
+-- the least version that suffices for these journals
 unfoldable pub version_of : List Journal → Version
 version_of journals =
     if list_any tells_underused journals then Underused
@@ -58,7 +58,7 @@ blocks_words n s = codes "node" ∷ decimal n ∷ codes "blocks" ∷ decimal s.b
 abbrev pub order_words : ℕ → Shape → List (List ℕ)
 order_words n s = blocks_words n s ++ codes "order" ∷ decimal s.order ∷ []
 
--- what a version tells of node n
+-- the words of node n in a version
 abbrev pub node_words : Version → ℕ → Shape → List (List ℕ)
 node_words Plain n s = blocks_words n s
 node_words Orders n s = order_words n s
@@ -85,6 +85,6 @@ journal_lines journals = version_line (version_of journals) ∷ lines_from (vers
 abbrev pub ended : List ℕ → List ℕ
 ended line = line ++ 10 ∷ []
 
--- the text of the nodes' journals, numbered from 0 on
+-- the text of the nodes' journals, numbered from 0
 unfoldable pub journal_text : List Journal → List ℕ
 journal_text journals = flat_map ended (journal_lines journals)

@@ -13,25 +13,25 @@ use Rattle.thp_journal_writer.specs.declared.version.Version.TheVariants.{Plain,
 use Rattle.thp_journal_writer.specs.EventLines.{event_line}
 use Rattle.thp_journal_writer.specs.Journals.{Journal, ended, journal_text, lines_from, node_line, version_line, version_number, version_of}
 
--- the least version that tells a node of this shape
+-- the least version for a node of this shape
 abbrev pub shape_version : Shape → Version
 shape_version s =
     if is_some s.underused then Underused
     else if s.order == 9 then Plain
     else Orders
 
--- the least version that has a word for what happened
+-- the least version that has a word for the event
 abbrev pub what_version : What → Version
 what_version (Write page first count) = Underused
 what_version (Zero page first count) = Underused
 what_version (Used page) = Underused
 what_version _ = Plain
 
--- a version tells what it and each earlier one can
+-- a version includes itself and each earlier one
 abbrev pub tells : Version → Version → Bool
 tells v least = nat_le (version_number least) (version_number v)
 
--- of a fault that names the least version
+-- a property of the least version, if the fault contains that
 abbrev pub IfTooLow : PutFault → (Version → Type 0) → Type 0
 IfTooLow (VersionTooLow least) P = P least
 IfTooLow OutOfMemory P = ⊤
@@ -44,20 +44,20 @@ text_begun v journals = flat_map ended (version_line v ∷ lines_from v 0 journa
 abbrev pub text_in : Version → List Journal → List ℕ
 text_in v journals = text_begun v journals ++ ended (codes "end")
 
--- before any node comes the line of the version
+-- the line of the version comes before any node
 abbrev pub VersionComesFirst : Type 0
 VersionComesFirst = (v : Version) → text_begun v [] ≡ ended (version_line v)
 
--- one more node is one more line
+-- one more node adds one line
 abbrev pub NodeFollows : Type 0
 NodeFollows = (v : Version) (journals : List Journal) (shape : Shape) →
     text_begun v (journals ++ (shape, []) ∷ []) ≡ text_begun v journals ++ ended (node_line v (length journals) shape)
 
--- one more event of the last node is one more line
+-- one more event of the last node adds one line
 abbrev pub EventFollows : Type 0
 EventFollows = (v : Version) (journals : List Journal) (shape : Shape) (history : History) (e : Event) →
     text_begun v (journals ++ (shape, history ++ e ∷ []) ∷ []) ≡ text_begun v (journals ++ (shape, history) ∷ []) ++ ended (event_line e)
 
--- in the least version that can tell the journals, it is their text
+-- in the least version that suffices for the journals, it is their text
 abbrev pub LeastVersionIsJournalText : Type 0
 LeastVersionIsJournalText = (journals : List Journal) → text_in (version_of journals) journals ≡ journal_text journals

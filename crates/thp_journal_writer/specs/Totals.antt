@@ -11,7 +11,7 @@ use Rattle.thp_model.specs.Places.{queue}
 use Rattle.thp_model.specs.Underused.{shrinks_underused}
 use Rattle.thp_journal_writer.specs.declared.totals.Totals.{Totals}
 
--- the totals of a node of this shape, with this history; the last where its shrinker looks for underused pages
+-- the totals of a node of this shape, with this history; the last one exists if its shrinker looks for underused pages
 abbrev pub totals_of : Shape → History → Totals
 totals_of s h = record {
   pages = allocations h;
@@ -42,7 +42,7 @@ nine_lines n t =
     ++ number_line (codes "thp_deferred_split_page ") t.thp_deferred_split_page
     ++ number_line (codes "thp_split_pmd ") t.thp_split_pmd
 
--- and a tenth where its shrinker looks for underused pages
+-- a tenth line, if the node's shrinker looks for underused pages
 unfoldable pub tenth_line : Option ℕ → List ℕ
 tenth_line None = []
 tenth_line (Some split) = number_line (codes "thp_underused_split_page ") split
@@ -51,7 +51,7 @@ tenth_line (Some split) = number_line (codes "thp_underused_split_page ") split
 abbrev pub totals_lines : ℕ → Totals → List ℕ
 totals_lines n t = nine_lines n t ++ tenth_line t.thp_underused_split_page
 
--- the lines of nodes that are numbered from n on
+-- the lines of nodes that are numbered from n
 abbrev pub lines_from : ℕ → List Totals → List ℕ
 lines_from n [] = []
 lines_from n (totals ∷ more) = totals_lines n totals ++ lines_from (n + 1) more

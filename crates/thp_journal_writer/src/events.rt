@@ -1,7 +1,7 @@
-//! Events behind a text, a line for each.
+//! Appends events to a text, one line each.
 ghost use Rattle.std.specs.Prelude.{◌≡◌, [], ◌∷◌, ◌++◌, OnOk};
 ghost use Rattle.std.specs.Fmt.{decimal};
-ghost use Rattle.thp_journal_writer.specs.EventLines.{line_of, outcome_word, page_told, what_words, event_line};
+ghost use Rattle.thp_journal_writer.specs.EventLines.{line_of, outcome_word, event_page, what_words, event_line};
 ghost use Rattle.thp_journal_writer.specs.Journals.{ended};
 ghost use Rattle.thp_journal_writer.specs.Room.{outcome_room, Takes};
 ghost use Rattle.thp_journal_writer.specs.SetTexts.{set_text};
@@ -11,8 +11,8 @@ use crate::sets::put_set;
 use std::alloc::AllocError;
 use thp_model::{Event, Outcome, PageId, SubSet, What};
 
-/// Writes the line of an event of any kind, with its line feed, whatever version of a text could contain it. On error a prefix of
-/// the line may be in the text.
+/// Appends the line of an event of any kind, with its line feed, for any version of the format. On error the text can contain a
+/// prefix of the line.
 pub fn put_event_line(text: &mut Vec<u8>, event: &Event) -> Result<(), AllocError>
     ensures { OnOk result (text.new.items ≡ text.old.items ++ ended (event_line event.now)) }
 {
@@ -20,9 +20,9 @@ pub fn put_event_line(text: &mut Vec<u8>, event: &Event) -> Result<(), AllocErro
     put_what(text, &event.what)
 }
 
-/// The page that an event's line names. That of a close names none.
-pub fn page_told(what: &What) -> Option<PageId>
-    ensures { result ≡ page_told what.now }
+/// Returns the page in an event's line; `None` for a close.
+pub fn event_page(what: &What) -> Option<PageId>
+    ensures { result ≡ event_page what.now }
 {
     match *what {
         What::Alloc { page, .. }
@@ -45,7 +45,7 @@ pub fn page_told(what: &What) -> Option<PageId>
     }
 }
 
-// what happened, behind the caller
+// the event, after the caller
 fn put_what(text: &mut Vec<u8>, what: &What) -> Result<(), AllocError>
     ensures { OnOk result (text.new.items ≡ text.old.items ++ ended (line_of (what_words what.now))) }
 {
@@ -105,7 +105,7 @@ fn put_what(text: &mut Vec<u8>, what: &What) -> Result<(), AllocError>
     }
 }
 
-// a page behind a name, and a line feed
+// a name, a page, and a line feed
 #[inline(always)]
 fn put_page(text: &mut Vec<u8>, name: &[u8], page: PageId) -> Result<(), AllocError>
     ensures { OnOk result (text.new.items ≡ text.old.items ++ name.now ++ decimal page ++ 10 ∷ []) }
@@ -114,7 +114,7 @@ fn put_page(text: &mut Vec<u8>, name: &[u8], page: PageId) -> Result<(), AllocEr
     put_number(text, page.0, b'\n')
 }
 
-// a range of a page's subpages behind a name, and the byte `after`
+// a name, a range of a page's subpages, and the byte `after`
 #[inline(always)]
 fn put_range(
     text: &mut Vec<u8>,
@@ -132,7 +132,7 @@ fn put_range(
     put_number(text, u64::from(count), after)
 }
 
-/// Writes an outcome and the set given back, and a line feed.
+/// Appends an outcome, the set given back, and a line feed.
 #[inline]
 pub fn put_outcome(
     text: &mut Vec<u8>,

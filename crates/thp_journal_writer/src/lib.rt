@@ -1,5 +1,13 @@
-//! What is written of nodes: the text of journals (what happened on each node, a line for each event) and the lines of their
-//! totals.
+//! The text of journals, and the lines of totals.
+//!
+//! - `writer`: whole journals, exactly `journal_text` (`Journals`); no block appears in it. `version`: the least version of the
+//!   format that can describe a history.
+//! - `stream`: the same line by line, in a version that the caller chooses (`Streams`); `lines_make_a_journal` ensures that such
+//!   lines add up to a journal. `put_fault`: why a line wasn't written.
+//! - `events` (`EventLines`), `sets` (`SetTexts`), `numbers`: the words of a line. `node_history` (`Histories`).
+//! - `totals`, `totals_lines` (`Totals`): nine lines for each node, or ten where underused pages are split. A new number also
+//!   needs `totals_of`, and the two callers that compute totals: `thp_report` and `summary` of `thp_journal_reader`.
+//! - `Room`: how many bytes a line takes at most.
 #![tactic(auto)]
 
 mod events;
@@ -13,7 +21,7 @@ mod totals_lines;
 mod version;
 mod writer;
 
-pub use events::{page_told, put_event_line, put_outcome};
+pub use events::{event_page, put_event_line, put_outcome};
 pub use node_history::NodeHistory;
 pub use numbers::{put, put_number};
 pub use put_fault::PutFault;

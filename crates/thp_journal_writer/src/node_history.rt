@@ -6,15 +6,17 @@ ghost use Rattle.thp_journal_writer.specs.Journals.{is_access, tells_underused a
 
 use thp_model::{Event, Shape, What};
 
-/// The size of a node, and its events, the oldest first.
+/// The size of a node, and its events, oldest first.
 #[derive(Clone, Copy, Debug)]
 pub struct NodeHistory<'a> {
+    /// The shape of the node.
     pub shape: Shape,
+    /// The events, oldest first.
     pub events: &'a [Event],
 }
 
 impl NodeHistory<'_> {
-    // whether the node looks for underused pages, or what was written to its pages was recorded
+    // whether the node looks for underused pages, or writes to its pages were recorded
     pub(crate) fn tells_underused(&self) -> bool
         ensures { result ≡ is_told_underused (journal_of self.now) }
     {

@@ -1,4 +1,4 @@
-//! Numbers and words behind a text.
+//! Appends numbers and words to a text.
 ghost use Rattle.std.specs.Prelude.{◌≡◌, ◌+◌, ◌<◌, [], ◌∷◌, ◌++◌, OnOk, length};
 ghost use Rattle.std.specs.Fmt.{decimal};
 ghost use Rattle.thp_journal_writer.specs.Room.{number_room, Takes};
@@ -6,10 +6,10 @@ ghost use Rattle.thp_journal_writer.specs.Room.{number_room, Takes};
 use itoa::write_digits;
 use std::alloc::AllocError;
 
-// Where a number of 64 bits ends in its buffer: it has at most so many digits.
+// The end of a 64-bit number in its buffer: the greatest number of its digits.
 const DIGITS: usize = 20;
 
-/// Writes the bytes of a word.
+/// Appends the bytes of a word.
 #[inline(always)]
 pub fn put(text: &mut Vec<u8>, word: &[u8]) -> Result<(), AllocError>
     ensures text { OnOk result (text.new.items ≡ text.old.items ++ word.now) }
@@ -18,7 +18,7 @@ pub fn put(text: &mut Vec<u8>, word: &[u8]) -> Result<(), AllocError>
     text.extend_from_slice(word)
 }
 
-/// Writes a number in decimal, and the byte `after` behind it.
+/// Appends a number in decimal, and the byte `after`.
 #[inline]
 pub fn put_number(text: &mut Vec<u8>, number: u64, after: u8) -> Result<(), AllocError>
     ensures text { OnOk result (text.new.items ≡ text.old.items ++ decimal number ++ after ∷ []) }

@@ -1,16 +1,16 @@
-//! Why a line of a journal wasn't written.
+//! Why a line of a journal was not written.
 ghost use Rattle.std.specs.Prelude.{◌≡◌};
 ghost use Rattle.thp_journal_writer.specs.declared.put_fault.PutFault.TheVariants.{OutOfMemory};
 
 use crate::version::Version;
 use std::alloc::AllocError;
 
-/// Why a line of a journal wasn't written.
+/// Why a line of a journal was not written.
 #[derive(Clone, Copy, Debug, PartialEq, Eq)]
 pub enum PutFault {
-    /// Memory for the text was refused. A front of the line may stand in it.
+    /// Memory for the text could not be allocated. The text can contain a prefix of the line.
     OutOfMemory,
-    /// The version of the text is below this one, the least that tells such a line. Nothing was written.
+    /// The version of the text is below this one, the least that has such a line. Nothing was written.
     VersionTooLow(Version),
 }
 

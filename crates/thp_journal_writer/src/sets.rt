@@ -1,4 +1,4 @@
-//! Sets of subpages behind a text.
+//! Appends sets of subpages to a text.
 ghost use Rattle.std.specs.Prelude.{◌≡◌, ◌+◌, ◌<◌, ◌≤◌, [], ◌∷◌, ◌++◌, OnOk, MatchOption, IfSome, drop};
 ghost use Rattle.thp_journal_writer.specs.Room.{set_room, Takes};
 ghost use Rattle.thp_journal_writer.specs.SetTexts.{runs_from, run_text, set_text};
@@ -7,10 +7,10 @@ use crate::numbers::{put, put_number};
 use std::alloc::AllocError;
 use thp_model::SubSet;
 
-// Sets are of numbers below this.
+// The elements of sets are below this number.
 const SUBPAGES: u32 = 512;
 
-/// Writes the text of a set, and the byte `after` behind it.
+/// Appends the text of a set, and the byte `after`.
 pub(crate) fn put_set(text: &mut Vec<u8>, set: &SubSet, after: u8) -> Result<(), AllocError>
     ensures text { OnOk result (text.new.items ≡ text.old.items ++ set_text set.now ++ after ∷ []) }
     ensures room { Takes set_room text.old text.new result }
@@ -26,7 +26,7 @@ pub(crate) fn put_set(text: &mut Vec<u8>, set: &SubSet, after: u8) -> Result<(),
     put_run(text, last, after)
 }
 
-// the first run of the set that begins at `from` or behind it
+// the first run of the set that begins at `from` or later
 fn next_run(set: &SubSet, from: u32) -> Option<(u32, u32)>
     requires { from ≤ 512 }
     ensures ahead { IfSome result (λ run. from ≤ run.1) }
@@ -41,7 +41,7 @@ fn next_run(set: &SubSet, from: u32) -> Option<(u32, u32)>
     Some((first, set.first_out(first) - 1))
 }
 
-// a run, and the byte `after` behind it
+// a run, and the byte `after`
 #[inline]
 fn put_run(text: &mut Vec<u8>, run: (u32, u32), after: u8) -> Result<(), AllocError>
     requires order { run.0 ≤ run.1 }

@@ -1,4 +1,4 @@
-//! Journals written line by line, as what they tell happens.
+//! Writes journals line by line, as the events happen.
 ghost use Rattle.std.specs.Prelude.{◌≡◌, ◌++◌, true, false, IfErr, OnOk, OnErr};
 ghost use Rattle.thp_journal_writer.specs.EventLines.{event_line};
 ghost use Rattle.thp_journal_writer.specs.Journals.{node_line, ended};
@@ -20,7 +20,7 @@ use crate::version::Version;
 use crate::writer::put_node_line;
 use thp_model::{Event, Shape};
 
-/// Writes the line of node n, whose events come next, into a text of this version. Nodes are numbered from 0 on.
+/// Appends the line of node n, whose events follow, to a text of this version. Nodes are numbered from 0.
 pub fn put_node(
     text: &mut Vec<u8>,
     version: Version,
@@ -38,9 +38,9 @@ pub fn put_node(
     Ok(())
 }
 
-/// Writes the line of an event of the last node into a text of this version. The block of a new page isn't told.
+/// Appends the line of an event of the last node to a text of this version. The line does not contain the block of a new page.
 ///
-/// The caller may hand the bytes on and clear the text between any two lines.
+/// Between any two lines the caller may take the bytes and clear the text.
 pub fn put_event(text: &mut Vec<u8>, version: Version, event: &Event) -> Result<(), PutFault>
     ensures line { OnOk result (text.new.items ≡ text.old.items ++ ended (event_line event.now)) }
     ensures told { OnOk result (tells version (what_version event.now.what) ≡ true) }
@@ -53,7 +53,7 @@ pub fn put_event(text: &mut Vec<u8>, version: Version, event: &Event) -> Result<
     Ok(())
 }
 
-// a version that tells what the least one does
+// a version that includes the least one
 #[inline(always)]
 fn expect_version(version: Version, least: Version) -> Result<(), PutFault>
     ensures told { OnOk result (tells version least ≡ true) }
@@ -67,10 +67,10 @@ fn expect_version(version: Version, least: Version) -> Result<(), PutFault>
     }
 }
 
-/// What the lines that are put add up to: the version's line, then for each node its line and those of its events, then the
-/// end. In the least version that can tell the journals it is what `journal_text` writes.
+/// States that the lines form a journal: the version's line, then for each node its line and those of its events, then the end.
+/// In the least version for the journals this is the output of `journal_text`.
 ///
-/// It does nothing: its contract is the law.
+/// The function does nothing: its contract is the law.
 pub fn lines_make_a_journal()
     ensures version { VersionComesFirst }
     ensures node { NodeFollows }

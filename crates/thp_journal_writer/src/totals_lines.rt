@@ -7,8 +7,8 @@ use crate::totals::Totals;
 use itoa::Buffer;
 use std::alloc::AllocError;
 
-/// Puts the lines of the node of this number behind a text: nine, and a tenth where its shrinker looks for underused pages. Where
-/// memory is refused a front of them may stand in the text.
+/// Appends the lines of the node of this number to a text: nine, and a tenth if its shrinker looks for underused pages. If memory
+/// can't be allocated, the text can contain a prefix of them.
 pub fn put_totals(text: &mut Vec<u8>, number: usize, totals: &Totals) -> Result<(), AllocError>
     ensures { OnOk result (text.new.items ≡ text.old.items ++ totals_lines number totals.now) }
 {
@@ -16,7 +16,8 @@ pub fn put_totals(text: &mut Vec<u8>, number: usize, totals: &Totals) -> Result<
     put_tenth_line(text, totals.thp_underused_split_page)
 }
 
-/// Puts the lines of nodes behind a text, which are numbered from 0 on. Where memory is refused a front of them may stand in the text.
+/// Appends the lines of nodes, which are numbered from 0, to a text. If memory can't be allocated, the text can contain a prefix
+/// of them.
 pub fn put_totals_of_each(text: &mut Vec<u8>, totals: &[Totals]) -> Result<(), AllocError>
     ensures { OnOk result (text.new.items ≡ text.old.items ++ lines_from 0 totals.now) }
 {

@@ -1,23 +1,24 @@
-//! Which version of the format tells a journal.
+//! The version of the format for a journal.
 ghost use Rattle.std.specs.Prelude.{◌≡◌};
 ghost use Rattle.thp_journal_writer.specs.Journals.{version_number};
 ghost use Rattle.thp_journal_writer.specs.Streams.{shape_version, tells, what_version};
 
 use thp_model::{Shape, What};
 
-/// The version of a journal's text. Each later one tells more of a node; a text is of the least that can tell its nodes.
+/// The version of a journal's text. Each later one contains more about a node; a text has the least version that suffices for its
+/// nodes.
 #[derive(Clone, Copy, PartialEq, Eq, Debug)]
 pub enum Version {
     /// Version 1: the blocks of each node, whose pages have order 9.
     Plain,
     /// Version 2: also the order of each node's pages.
     Orders,
-    /// Version 3: also whether a node looks for underused pages, and what was written to pages.
+    /// Version 3: also the threshold of a node that looks for underused pages, and writes to pages.
     Underused,
 }
 
 impl Version {
-    /// The number of the version, from 1 on.
+    /// Returns the number of the version, counted from 1.
     pub fn number(self) -> u64
         ensures { result ≡ version_number self }
     {
@@ -28,7 +29,7 @@ impl Version {
         }
     }
 
-    /// The least version that tells a node of this shape.
+    /// Returns the least version for a node of this shape.
     pub fn of_shape(shape: &Shape) -> Version
         ensures { result ≡ shape_version shape.now }
     {
@@ -41,7 +42,7 @@ impl Version {
         }
     }
 
-    /// The least version that has a word for what happened.
+    /// Returns the least version that has a word for this kind of event.
     pub fn of_what(what: &What) -> Version
         ensures { result ≡ what_version what.now }
     {
@@ -51,7 +52,7 @@ impl Version {
         }
     }
 
-    /// Whether this version tells what that one does: it isn't an earlier one.
+    /// Returns whether this version includes that one, that is, whether it is not an earlier one.
     pub fn tells(self, least: Version) -> bool
         ensures { result ≡ tells self least }
     {

@@ -1,4 +1,4 @@
-//! Whole journals as text.
+//! Writes whole journals as text.
 ghost use Rattle.std.specs.Prelude.{◌≡◌, ◌+◌, [], ◌∷◌, ◌++◌, map, OnOk, IfOk, codes};
 ghost use Rattle.std.specs.List.{flat_map, list_any, list_all};
 ghost use Rattle.std.specs.Fmt.{decimal};
@@ -12,10 +12,11 @@ use crate::version::Version;
 use std::alloc::{AllocError, Global};
 use thp_model::Shape;
 
-/// The journal text of these nodes, which are numbered from 0 on: the first line tells the version, which is the least that
-/// can tell these nodes; then for each node come a line with its size and one for each event; the last line is `end`.
+/// Returns the journal text of these nodes, which are numbered from 0.
 ///
-/// The blocks of new pages aren't told. The text is written into one buffer, which grows.
+/// The first line contains the version, the least that suffices for these nodes. For each node a line with its size and one line
+/// for each event follow. The last line is `end`. The text does not contain the blocks of new pages. It is written to one buffer,
+/// which grows.
 pub fn journal_text(alloc: Global, nodes: &[NodeHistory<'_>]) -> Result<Vec<u8>, AllocError>
     ensures { IfOk result (λ text. text.items ≡ text_of (map journal_of nodes.now)) }
 {
@@ -29,7 +30,7 @@ pub fn journal_text(alloc: Global, nodes: &[NodeHistory<'_>]) -> Result<Vec<u8>,
     Ok(text)
 }
 
-// the least version that can tell these nodes
+// the least version that suffices for these nodes
 fn least_version(nodes: &[NodeHistory<'_>]) -> Version
     ensures { result ≡ version_of (map journal_of nodes.now) }
 {
@@ -42,7 +43,7 @@ fn least_version(nodes: &[NodeHistory<'_>]) -> Version
     }
 }
 
-// whether a node looks for underused pages, or what was written to its pages was recorded
+// whether a node looks for underused pages, or writes to its pages were recorded
 fn tell_underused(nodes: &[NodeHistory<'_>]) -> bool
     ensures { result ≡ list_any (λ node. tells_underused (journal_of node)) nodes.now }
 {
@@ -58,7 +59,7 @@ fn have_order_9(nodes: &[NodeHistory<'_>]) -> bool
         .all(|node| node.shape.order == Shape::MAX_ORDER)
 }
 
-/// Writes the first line of a journal, which tells the version.
+/// Appends the first line of a journal, which contains the version.
 pub fn put_version(text: &mut Vec<u8>, version: Version) -> Result<(), AllocError>
     ensures { OnOk result (text.new.items ≡ text.old.items ++ ended (version_line version)) }
 {
@@ -66,7 +67,7 @@ pub fn put_version(text: &mut Vec<u8>, version: Version) -> Result<(), AllocErro
     put_number(text, version.number(), b'\n')
 }
 
-/// Writes the last line of a journal.
+/// Appends the last line of a journal.
 pub fn put_end(text: &mut Vec<u8>) -> Result<(), AllocError>
     ensures { OnOk result (text.new.items ≡ text.old.items ++ ended (codes "end")) }
 {
@@ -89,7 +90,7 @@ fn put_history(
     Ok(())
 }
 
-/// Writes the line of node n.
+/// Appends the line of node n.
 pub(crate) fn put_node_line(
     text: &mut Vec<u8>,
     version: Version,

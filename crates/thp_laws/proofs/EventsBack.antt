@@ -11,12 +11,12 @@ use Rattle.thp_model.specs.declared.events.What.{What}
 use Rattle.thp_model.specs.declared.events.What.TheVariants.{Alloc, MapWhole, UnmapWhole, MapSub, UnmapSub, SplitPmd, Pin, Unpin, Write, Zero, Taken, Split, Pinned, Used, Back, Dropped, Close}
 use Rattle.thp_model.specs.BlockLaws.{event_with, with_block}
 use Rattle.thp_model.specs.History.{by}
-use Rattle.thp_text.specs.declared.fault.TextKind.TheVariants.{BadByte, BadNumber, BadWord}
-use Rattle.thp_text.specs.Commands.{number_up_to}
-use Rattle.thp_text.specs.Lines.{is_empty, is_printable}
-use Rattle.thp_text.specs.Readings.{◌>>=◌}
-use Rattle.thp_text.specs.Words.{Text, words_of}
-use Rattle.thp_text.proofs.NumberLaws.{number_of-decimal}
+use Rattle.thp_script.specs.declared.fault.TextKind.TheVariants.{BadByte, BadNumber, BadWord}
+use Rattle.thp_script.specs.Commands.{number_up_to}
+use Rattle.thp_script.specs.Lines.{is_empty, is_printable}
+use Rattle.thp_script.specs.Readings.{◌>>=◌}
+use Rattle.thp_script.specs.Words.{Text, words_of}
+use Rattle.thp_script.proofs.NumberLaws.{number_of-decimal}
 use Rattle.thp_journal_writer.specs.EventLines as written
 use Rattle.thp_journal_writer.specs.EventLines.{event_words, outcome_word, what_words, HasSmallNumbers}
 use Rattle.thp_journal_writer.specs.SetTexts.{set_text}

@@ -10,8 +10,8 @@ use Rattle.thp_model.specs.declared.events.What.TheVariants.{Alloc, MapWhole, Un
 use Rattle.thp_model.specs.declared.shape.Shape.{Shape}
 use Rattle.thp_model.specs.BlockLaws.{event_with, with_block, with_least_blocks, least_free}
 use Rattle.thp_model.specs.History.{History, by}
-use Rattle.thp_text.specs.Scripts.{Fault}
-use Rattle.thp_text.specs.Words.{lines_of}
+use Rattle.thp_script.specs.Scripts.{Fault}
+use Rattle.thp_script.specs.Words.{lines_of}
 use Rattle.thp_journal_writer.specs.declared.version.Version.{Version as Written}
 use Rattle.thp_journal_writer.specs.EventLines as written
 use Rattle.thp_journal_writer.specs.EventLines.{event_words}
@@ -27,7 +27,7 @@ use Rattle.thp_laws.specs.Tellable.{read_version, IsTellable, IsToldJournal}
 use Rattle.thp_laws.specs.ReadBack.{nodes_from}
 use Rattle.thp_laws.proofs.EventsBack.{event_plain}
 use Rattle.thp_laws.proofs.NodesBack.{node_plain, version_plain, version_words}
-use Rattle.thp_laws.proofs.LinesBack.{all_behind, all_say, happened, node_told, nodes_told, read_all, told}
+use Rattle.thp_laws.proofs.LinesBack.{all_after, all_say, happened, node_told, nodes_told, read_all, told}
 use Rattle.thp_laws.proofs.PlainWords.{line_whole}
 use Rattle.thp_laws.proofs.Splitting.{all_append, is_without, lines_back}
 
@@ -86,10 +86,10 @@ ends_at_node n [] = refl
 ends_at_node n (j ∷ js) = refl
 
 -- the nodes behind events
-behind_events : (line : ℕ) (h : History) (rest : List Line) → nodes_of line (map happened h ++ rest) ≡ nodes_of (line + length h) rest
+after_events : (line : ℕ) (h : History) (rest : List Line) → nodes_of line (map happened h ++ rest) ≡ nodes_of (line + length h) rest
 unfolding happened
-behind_events line [] rest = ap (λ k. nodes_of k rest) (sym (add-zero line))
-behind_events line (e ∷ h) rest = behind_events (line + 1) h rest ∙ ap (λ k. nodes_of k rest) (one_later line (length h)) where
+after_events line [] rest = ap (λ k. nodes_of k rest) (sym (add-zero line))
+after_events line (e ∷ h) rest = after_events (line + 1) h rest ∙ ap (λ k. nodes_of k rest) (one_later line (length h)) where
   one_later : (n k : ℕ) → n + 1 + k ≡ n + suc k
   one_later n k = omega arith
 
@@ -99,7 +99,7 @@ unfolding node_told
 node_back line n j rest ends =
     let events : reading.events_of (map happened j.1 ++ rest) ≡ map (event_with 0) j.1 = events_back j.1 rest ends in
     let least : with_least_blocks j.0 (reading.events_of (map happened j.1 ++ rest)) ≡ with_least_blocks j.0 j.1 = ap (with_least_blocks j.0) events ∙ least_of_none j.0 j.1 in
-    let behind : nodes_of (line + 1) (map happened j.1 ++ rest) ≡ nodes_of (line + 1 + length j.1) rest = behind_events (line + 1) j.1 rest in
+    let behind : nodes_of (line + 1) (map happened j.1 ++ rest) ≡ nodes_of (line + 1 + length j.1) rest = after_events (line + 1) j.1 rest in
     rw (least, behind) refl
 
 -- all nodes
@@ -155,7 +155,7 @@ pub text_back : (js : List Journal) → 0 < length js → length js ≤ 8 → Al
 unfolding journals_within journals_with journal_lines told read
 text_back js some few h short =
     let v : Written = version_of js in
-    let lines : reading.lines_from 1 Start (lines_of (journal_text js)) ≡ Ok (told v js) = ap (reading.lines_from 1 Start) (text_lines js few h) ∙ read_all 1 (read_version v) Start (journal_lines js) (told v js) (all_say v js some few h) (all_behind v js) in
+    let lines : reading.lines_from 1 Start (lines_of (journal_text js)) ≡ Ok (told v js) = ap (reading.lines_from 1 Start) (text_lines js few h) ∙ read_all 1 (read_version v) Start (journal_lines js) (told v js) (all_say v js some few h) (all_after v js) in
     let fits : nat_lt 16777216 (length (journal_text js)) ≡ false = le-ltb _ _ short in
     let nodes : nodes_of 1 (told v js) ≡ nodes_from 2 js = nodes_back 2 0 js in
     rw (fits, lines) (ap (λ ns. read (record { nodes = ns })) nodes)

@@ -7,9 +7,9 @@ use Rattle.std.proofs.Math.Nat.{add-zero}
 use Rattle.thp_model.specs.declared.events.Event.{Event}
 use Rattle.thp_model.specs.BlockLaws.{event_with}
 use Rattle.thp_model.specs.History.{History}
-use Rattle.thp_text.specs.Readings.{◌>>=◌}
-use Rattle.thp_text.specs.Lines.{fault_behind}
-use Rattle.thp_text.specs.Words.{Text}
+use Rattle.thp_script.specs.Readings.{◌>>=◌}
+use Rattle.thp_script.specs.Lines.{fault_after}
+use Rattle.thp_script.specs.Words.{Text}
 use Rattle.thp_journal_writer.specs.declared.version.Version.{Version as Written}
 use Rattle.thp_journal_writer.specs.EventLines as written
 use Rattle.thp_journal_writer.specs.Journals as journal
@@ -36,23 +36,23 @@ Says place [] (line ∷ lines) = ⊥
 Says place (text ∷ texts) [] = ⊥
 
 -- the place behind lines
-pub place_behind : Place → List Line → Place
-place_behind place [] = place
-place_behind place (line ∷ lines) = place_behind (place_after place line) lines
+pub place_following : Place → List Line → Place
+place_following place [] = place
+place_following place (line ∷ lines) = place_following (place_after place line) lines
 
 -- lines and then others
-says_append : (place : Place) (texts others : List Text) (lines more : List Line) → Says place texts lines → Says (place_behind place lines) others more → Says place (texts ++ others) (lines ++ more)
-unfolding Says place_behind
+says_append : (place : Place) (texts others : List Text) (lines more : List Line) → Says place texts lines → Says (place_following place lines) others more → Says place (texts ++ others) (lines ++ more)
+unfolding Says place_following
 says_append place [] others [] more h k = k
 says_append place (text ∷ texts) others (line ∷ lines) more h k = (h.0, says_append (place_after place line) texts others lines more h.1 k)
 says_append place [] others (line ∷ lines) more h k = absurd h
 says_append place (text ∷ texts) others [] more h k = absurd h
 
 -- the place behind both
-behind_append : (place : Place) (lines more : List Line) → place_behind place (lines ++ more) ≡ place_behind (place_behind place lines) more
-unfolding place_behind
-behind_append place [] more = refl
-behind_append place (line ∷ lines) more = behind_append (place_after place line) lines more
+after_append : (place : Place) (lines more : List Line) → place_following place (lines ++ more) ≡ place_following (place_following place lines) more
+unfolding place_following
+after_append place [] more = refl
+after_append place (line ∷ lines) more = after_append (place_after place line) lines more
 
 -- a line that may stand in its place
 stands : (place : Place) (text : Text) (line : Line) → read.line_of (version_at place) text ≡ Ok line → may_stand place line ≡ true → line_in place text ≡ Ok line
@@ -66,12 +66,12 @@ one_more number place text next texts line is = rw is refl
 
 -- behind the end stands nothing
 nothing : (number : ℕ) (v : Version) → reading.lines_from number (Ended v) ([] ∷ []) ≡ Ok []
-unfolding reading.lines_from fault_behind
+unfolding reading.lines_from fault_after
 nothing number v = refl
 
 -- lines that end at the end of the journals are read
-pub read_all : (number : ℕ) (v : Version) (place : Place) (texts : List Text) (lines : List Line) → Says place texts lines → place_behind place lines ≡ Ended v → reading.lines_from number place (texts ++ [] ∷ []) ≡ Ok lines
-unfolding Says place_behind
+pub read_all : (number : ℕ) (v : Version) (place : Place) (texts : List Text) (lines : List Line) → Says place texts lines → place_following place lines ≡ Ended v → reading.lines_from number place (texts ++ [] ∷ []) ≡ Ok lines
+unfolding Says place_following
 read_all number v place [] [] h e = subst (λ p. reading.lines_from number p ([] ∷ []) ≡ Ok []) (sym e) (nothing number v)
 read_all number v place [] (line ∷ lines) h e = absurd h
 read_all number v place (text ∷ texts) [] h e = absurd h
@@ -108,10 +108,10 @@ events_say v nodes [] some h = tt
 events_say v nodes (e ∷ events) some h = (stands (Inside v nodes) (written.event_line e) (happened e) (event_line_back v e h.0) (lt-ltb 0 nodes some), events_say v nodes events some h.1)
 
 -- events leave the place
-events_behind : (place : Place) (h : History) → place_behind place (map happened h) ≡ place
-unfolding place_behind happened
-events_behind place [] = refl
-events_behind place (e ∷ h) = events_behind place h
+events_after : (place : Place) (h : History) → place_following place (map happened h) ≡ place
+unfolding place_following happened
+events_after place [] = refl
+events_after place (e ∷ h) = events_after place h
 
 -- a node
 node_says : (v : Written) (n : ℕ) (j : Journal) → n < 8 → IsToldJournal (read_version v) j → Says (Inside (read_version v) n) (lines_of_node v n j) (node_told n j)
@@ -119,9 +119,9 @@ unfolding Says node_told lines_of_node
 node_says v n j few told = (stands (Inside (read_version v) n) (journal.node_line v n j.0) (Node n j.0) (node_line_back v n j.0 few told.shape told.tells_shape) (eq-eqb n n refl), events_say (read_version v) (n + 1) j.1 (omega arith) told.events)
 
 -- a node is one more
-node_behind : (v : Version) (n : ℕ) (j : Journal) → place_behind (Inside v n) (node_told n j) ≡ Inside v (n + 1)
-unfolding place_behind node_told
-node_behind v n j = events_behind (Inside v (n + 1)) j.1
+node_after : (v : Version) (n : ℕ) (j : Journal) → place_following (Inside v n) (node_told n j) ≡ Inside v (n + 1)
+unfolding place_following node_told
+node_after v n j = events_after (Inside v (n + 1)) j.1
 
 -- nodes
 nodes_say : (v : Written) (n : ℕ) (js : List Journal) → n + length js ≤ 8 → AllByRecursion (IsToldJournal (read_version v)) js → Says (Inside (read_version v) n) (journal.lines_from v n js) (nodes_told n js)
@@ -129,16 +129,16 @@ unfolding Says nodes_told
 nodes_say v n [] few told = tt
 nodes_say v n (j ∷ js) few told =
     says_append (Inside (read_version v) n) (lines_of_node v n j) (journal.lines_from v (n + 1) js) (node_told n j) (nodes_told (n + 1) js) (node_says v n j (omega arith) told.0)
-    (subst (λ p. Says p (journal.lines_from v (n + 1) js) (nodes_told (n + 1) js)) (sym (node_behind (read_version v) n j)) (nodes_say v (n + 1) js (omega arith) told.1))
+    (subst (λ p. Says p (journal.lines_from v (n + 1) js) (nodes_told (n + 1) js)) (sym (node_after (read_version v) n j)) (nodes_say v (n + 1) js (omega arith) told.1))
 
 -- and the place behind them
-nodes_behind : (v : Version) (n : ℕ) (js : List Journal) → place_behind (Inside v n) (nodes_told n js) ≡ Inside v (n + length js)
-unfolding nodes_told place_behind inside
-nodes_behind v n [] = ap (λ k. inside v k) (sym (add-zero n))
-nodes_behind v n (j ∷ js) =
-    behind_append (Inside v n) (node_told n j) (nodes_told (n + 1) js)
-    ∙ ap (λ p. place_behind p (nodes_told (n + 1) js)) (node_behind v n j)
-    ∙ nodes_behind v (n + 1) js
+nodes_after : (v : Version) (n : ℕ) (js : List Journal) → place_following (Inside v n) (nodes_told n js) ≡ Inside v (n + length js)
+unfolding nodes_told place_following inside
+nodes_after v n [] = ap (λ k. inside v k) (sym (add-zero n))
+nodes_after v n (j ∷ js) =
+    after_append (Inside v n) (node_told n j) (nodes_told (n + 1) js)
+    ∙ ap (λ p. place_following p (nodes_told (n + 1) js)) (node_after v n j)
+    ∙ nodes_after v (n + 1) js
     ∙ ap (λ k. inside v k) (one_later n (length js))
 
 -- ---- whole journals
@@ -152,15 +152,15 @@ pub all_say : (v : Written) (js : List Journal) → 0 < length js → length js 
 unfolding Says told
 all_say v js some few h =
     let w : Version = read_version v in
-    let behind : place_behind (Inside w 0) (nodes_told 0 js) ≡ Inside w (0 + length js) = nodes_behind w 0 js in
+    let behind : place_following (Inside w 0) (nodes_told 0 js) ≡ Inside w (0 + length js) = nodes_after w 0 js in
     let last : Says (Inside w (0 + length js)) (codes "end" ∷ []) (End ∷ []) = (stands (Inside w (0 + length js)) (codes "end") End (end_line_back w) (lt-ltb 0 (0 + length js) (omega arith)), tt) in (
       stands Start (journal.version_line v) (Head w) (version_line_back v) refl,
       says_append (Inside w 0) (journal.lines_from v 0 js) (codes "end" ∷ []) (nodes_told 0 js) (End ∷ []) (nodes_say v 0 js (omega arith) h) (subst (λ p. Says p (codes "end" ∷ []) (End ∷ [])) (sym behind) last),
     )
 
 -- and the last stands at the end
-pub all_behind : (v : Written) (js : List Journal) → place_behind Start (told v js) ≡ Ended (read_version v)
-unfolding place_behind told
-all_behind v js =
-    behind_append (Inside (read_version v) 0) (nodes_told 0 js) (End ∷ [])
-    ∙ ap (λ p. place_behind p (End ∷ [])) (nodes_behind (read_version v) 0 js)
+pub all_after : (v : Written) (js : List Journal) → place_following Start (told v js) ≡ Ended (read_version v)
+unfolding place_following told
+all_after v js =
+    after_append (Inside (read_version v) 0) (nodes_told 0 js) (End ∷ [])
+    ∙ ap (λ p. place_following p (End ∷ [])) (nodes_after (read_version v) 0 js)

@@ -8,9 +8,9 @@ use Rattle.std.specs.Str.{bytes_eq}
 use Rattle.std.proofs.lemmas.Bool.{and_parts, and_from, not_from_false, false_from_ne_true, ne_eqb, leb-true, le-leb}
 use Rattle.std.proofs.lemmas.Fmt.{digits_decimal, decimal_nonempty}
 use Rattle.std.proofs.lemmas.Slice.Eq.{bytes_eq-Decides}
-use Rattle.thp_text.specs.Lines.{is_empty, is_printable}
-use Rattle.thp_text.specs.Words.{Text, words_of}
-use Rattle.thp_text.proofs.NumberLaws.{digits}
+use Rattle.thp_script.specs.Lines.{is_empty, is_printable}
+use Rattle.thp_script.specs.Words.{Text, words_of}
+use Rattle.thp_script.proofs.NumberLaws.{digits}
 use Rattle.thp_laws.proofs.Splitting.{all_wider, is_without, joined, all_joined}
 
 -- a printable character, and no space

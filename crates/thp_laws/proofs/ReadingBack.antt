@@ -9,14 +9,14 @@ use Rattle.thp_model.specs.declared.events.Event.{Event}
 use Rattle.thp_model.specs.History.{History}
 use Rattle.thp_model.specs.Legal.{IsLegal}
 use Rattle.thp_model.proofs.LeastBlocks.{least_same, legal_with_least}
-use Rattle.thp_text.specs.Words.{Text}
+use Rattle.thp_script.specs.Words.{Text}
 use Rattle.thp_journal_writer.specs.declared.version.Version.{Version as Written}
 use Rattle.thp_journal_writer.specs.EventLines as written
 use Rattle.thp_journal_writer.specs.Journals as journal
 use Rattle.thp_journal_writer.specs.Journals.{Journal, version_of, lines_of_node, journal_lines, journal_text}
 use Rattle.thp_journal_reader.specs.declared.journals.Journals.{Journals}
 use Rattle.thp_journal_reader.specs.declared.journals.NodeJournal.{NodeJournal}
-use Rattle.thp_journal_reader.specs.Answers.{IsLegalNode, TellsIllegal}
+use Rattle.thp_journal_reader.specs.Answers.{IsLegalNode, ReportsIllegal}
 use Rattle.thp_journal_reader.specs.declared.version.Version.{Version}
 use Rattle.thp_journal_reader.specs.Journals.{node_journal}
 use Rattle.thp_laws.specs.ReadBack.{IsJournal, IsSameNode, nodes_from, with_lines, TextsAreReadBack, TextsAreCalledLegal, NothingElseChanges, WhatIsReadIsLegal}
@@ -118,7 +118,7 @@ node_at P (x ∷ nodes) zero node all e = let same : x ≡ node = cc in subst P 
 node_at P (x ∷ nodes) (suc i) node all e = node_at P nodes i node all.1 e
 
 -- of legal nodes no line is told
-no_line : (nodes : List NodeJournal) (line : Option ℕ) → All IsLegalNode nodes → TellsIllegal nodes line → line ≡ None
+no_line : (nodes : List NodeJournal) (line : Option ℕ) → All IsLegalNode nodes → ReportsIllegal nodes line → line ≡ None
 no_line nodes None legal tells = refl
 no_line nodes (Some line) legal tells =
     let node : IsLegalNode tells.node = node_at IsLegalNode nodes tells.place tells.node (recursion_from_All IsLegalNode nodes legal) tells.here in
@@ -129,4 +129,4 @@ no_line nodes (Some line) legal tells =
 pub called_legal : TextsAreCalledLegal
 called_legal js read line are is tells =
     let same : read ≡ with_lines js = ap (λ r. result_unwrap_or r read) (sym is ∙ all_read_back js are) in
-    no_line (with_lines js).nodes line (all_legal js are) (subst (λ (journals : Journals). TellsIllegal journals.nodes line) same tells)
+    no_line (with_lines js).nodes line (all_legal js are) (subst (λ (journals : Journals). ReportsIllegal journals.nodes line) same tells)

@@ -17,9 +17,9 @@ use Rattle.thp_model.specs.declared.page_call.Gain.TheVariants as gain
 use Rattle.thp_model.specs.declared.page_call.Loss.TheVariants as loss
 use Rattle.thp_model.specs.declared.page_call.PageCall.{PageCall}
 use Rattle.thp_model.specs.declared.page_call.PageCall.TheVariants as either
-use Rattle.thp_sections.specs.declared.steps.NodeCall.{NodeCall}
-use Rattle.thp_sections.specs.declared.steps.NodeCall.TheVariants as node
-use Rattle.thp_sections.specs.Does.{refusal_of_call}
+use Rattle.thp_script.specs.declared.script.Op.{Op}
+use Rattle.thp_script.specs.declared.script.Op.TheVariants as op
+use Rattle.thp_worker.specs.Does.{node_call_of, refusal_of_call}
 use Rattle.thp_laws.proofs.Atoms.{same_allocated, same_closed, same_freed, same_maps, same_pins, same_split, same_unmapped, same_unmaps, same_unpins, same_whole}
 
 -- a test that fails at both or at neither
@@ -61,10 +61,22 @@ module _ (s : Shape) (h k : History) (e : SameButBlocks h k) where
   page_call_alike p (either.Gain gain.Pin) = simp (same_allocated h k e, same_freed h k e, same_split h k e, same_pins h k e, same_unpins h k e)
   page_call_alike p (either.Loss loss.Unpin) = simp (same_allocated h k e, same_freed h k e, same_split h k e, same_pins h k e, same_unpins h k e)
 
-  -- a call of a node is refused for one reason at both, or at neither
-  pub call_alike : (c : NodeCall) → IsLegal s h → IsLegal s k → refusal_of_call s h c ≡ refusal_of_call s k c
+  -- a command that is one call of a node is refused for one reason at both, or at neither
+  pub call_alike : (o : Op) → IsLegal s h → IsLegal s k → refusal_of_call s h (node_call_of o) ≡ refusal_of_call s k (node_call_of o)
   unfolding refusal
-  call_alike node.Alloc l m = alloc_alike l m
-  call_alike (node.Page p c) l m = page_call_alike p c
-  call_alike node.Close l m = rw (same_closed h k e) refl
-  call_alike node.Count l m = refl
+  call_alike op.Alloc l m = alloc_alike l m
+  call_alike (op.MapWhole p) l m = page_call_alike p (either.Gain gain.MapWhole)
+  call_alike (op.UnmapWhole p) l m = page_call_alike p (either.Loss loss.UnmapWhole)
+  call_alike (op.Map first count p) l m = page_call_alike p (either.Gain (gain.MapSub first count))
+  call_alike (op.Unmap first count p) l m = page_call_alike p (either.Loss (loss.UnmapSub first count))
+  call_alike (op.Write first count p) l m = page_call_alike p (either.Gain (gain.Write first count))
+  call_alike (op.Zero first count p) l m = page_call_alike p (either.Gain (gain.Zero first count))
+  call_alike (op.SplitPmd p) l m = page_call_alike p (either.Gain gain.SplitPmd)
+  call_alike (op.Pin p) l m = page_call_alike p (either.Gain gain.Pin)
+  call_alike (op.Unpin p) l m = page_call_alike p (either.Loss loss.Unpin)
+  call_alike op.Close l m = rw (same_closed h k e) refl
+  call_alike (op.Scan count) l m = refl
+  call_alike op.Count l m = refl
+  call_alike (op.Take count) l m = refl
+  call_alike op.SplitNext l m = refl
+  call_alike op.PutBack l m = refl

@@ -13,15 +13,15 @@ use Rattle.thp_report.specs.Answers.{answer_line, answers_text, section_text}
 use Rattle.thp_report.specs.Reports.{report_of, shape_in, told_of}
 use Rattle.thp_report.proofs.TotalsLaws.{totals_blind}
 use Rattle.thp_laws.proofs.OneTotals.{all_bare}
-use Rattle.thp_text.specs.declared.script.Script.{Script}
-use Rattle.thp_text.specs.declared.settings.Report.{Report}
-use Rattle.thp_text.specs.declared.settings.Report.TheVariants as report
-use Rattle.thp_text.specs.declared.settings.Settings.{Settings}
-use Rattle.thp_text.specs.Scripts.{script_of}
-use Rattle.thp_sections.specs.declared.reply.Section.{Section}
-use Rattle.thp_script_runs.specs.NewNodes.{AreNodesFor, histories_of, journal_in, shapes_of}
-use Rattle.thp_script_runs.specs.NewNodes as nodes
-use Rattle.thp_script_runs.specs.Runs.{IsRun}
+use Rattle.thp_script.specs.declared.script.Script.{Script}
+use Rattle.thp_script.specs.declared.settings.Report.{Report}
+use Rattle.thp_script.specs.declared.settings.Report.TheVariants as report
+use Rattle.thp_script.specs.declared.settings.Settings.{Settings}
+use Rattle.thp_script.specs.Scripts.{script_of}
+use Rattle.thp_worker.specs.declared.reply.SectionLog.{SectionLog}
+use Rattle.thp_runner.specs.NewNodes.{AreNodesFor, histories_of, journal_in, shapes_of}
+use Rattle.thp_runner.specs.NewNodes as nodes
+use Rattle.thp_runner.specs.Runs.{IsRun}
 use Rattle.thp_laws.specs.OneRun.{IsSameRun, IsSameSection}
 use Rattle.thp_laws.proofs.WorkersApart.{one_run, some_at}
 use Rattle.thp_laws.specs.OneReport.{WorkersApartHaveOneReport, WorkersApartWriteOneText}
@@ -71,12 +71,12 @@ told_shapes (j ∷ js) [] same = absurd same
 told_shapes (j ∷ js) (k ∷ ks) same = ap₂ (λ s ss. s ∷ ss) same.0.shape (told_shapes js ks same.1)
 
 -- sections with the same answers have one text
-same_section : (shapes : List Shape) (x y : Section) → IsSameSection x y → section_text shapes x ≡ section_text shapes y
+same_section : (shapes : List Shape) (x y : SectionLog) → IsSameSection x y → section_text shapes x ≡ section_text shapes y
 unfolding section_text
 same_section shapes x y same = ap₂ (λ k answers. flat_map (answer_line shapes k) answers) same.number same.answers
 
 -- and so have all sections
-same_sections : (shapes : List Shape) (xs ys : List Section) → AllZip IsSameSection xs ys → answers_text shapes xs ≡ answers_text shapes ys
+same_sections : (shapes : List Shape) (xs ys : List SectionLog) → AllZip IsSameSection xs ys → answers_text shapes xs ≡ answers_text shapes ys
 unfolding answers_text
 same_sections shapes [] [] same = refl
 same_sections shapes [] (y ∷ ys) same = absurd same
@@ -84,7 +84,7 @@ same_sections shapes (x ∷ xs) [] same = absurd same
 same_sections shapes (x ∷ xs) (y ∷ ys) same = ap₂ (λ a b. a ++ b) (same_section shapes x y same.0) (same_sections shapes xs ys same.1)
 
 -- each report is the same
-same_report : (r : Report) (js ks : List Journal) (xs ys : List Section) → AllZip IsSameJournal js ks → AllZip IsSameSection xs ys → report_of r js xs ≡ report_of r ks ys
+same_report : (r : Report) (js ks : List Journal) (xs ys : List SectionLog) → AllZip IsSameJournal js ks → AllZip IsSameSection xs ys → report_of r js xs ≡ report_of r ks ys
 same_report report.Totals js ks xs ys nodes sections = totals_blind js ks (all_bare js ks nodes)
 same_report report.Journal js ks xs ys nodes sections = one_text js ks nodes
 same_report report.Answers js ks xs ys nodes sections = ap (λ shapes. answers_text shapes xs) (told_shapes js ks nodes) ∙ same_sections (map shape_in ks) xs ys sections

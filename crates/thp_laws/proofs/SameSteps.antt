@@ -23,18 +23,20 @@ use Rattle.thp_model.proofs.LegalSteps.{legal_front, legal_last}
 use Rattle.thp_model.proofs.OneAnswer.{one_answer}
 use Rattle.thp_model.specs.PageCalls.{gain_what, loss_what}
 use Rattle.thp_model.specs.declared.page_call.Done.{Done}
+use Rattle.thp_model.specs.declared.page_call.Gain.{Gain}
+use Rattle.thp_model.specs.declared.page_call.Gain.TheVariants as gain
 use Rattle.thp_model.specs.declared.page_call.Loss.{Loss}
 use Rattle.thp_model.specs.declared.page_call.Loss.TheVariants as loss
 use Rattle.thp_model.specs.declared.page_call.PageCall.TheVariants as either
 use Rattle.thp_node.specs.Batches.{back_reply, tried}
 use Rattle.thp_node.specs.declared.answers.BackReply.{BackReply}
 use Rattle.thp_node.specs.declared.answers.Tried.TheVariants as try
-use Rattle.thp_sections.specs.declared.reply.Reply.{Reply}
-use Rattle.thp_sections.specs.declared.reply.Reply.TheVariants as replied
-use Rattle.thp_sections.specs.declared.steps.NodeCall.{NodeCall}
-use Rattle.thp_sections.specs.declared.steps.NodeCall.TheVariants as node
-use Rattle.thp_sections.specs.declared.steps.Step.TheVariants.{One, Take, SplitNext, PutBack}
-use Rattle.thp_sections.specs.Does.{Does, DoesCall, DoesLoss, DoesOne, Nothing, Open, Reaction, Unless, refusal_of_call}
+use Rattle.thp_script.specs.declared.script.Op.{Op}
+use Rattle.thp_script.specs.declared.script.Op.TheVariants as op
+use Rattle.thp_worker.specs.declared.reply.Reply.{Reply}
+use Rattle.thp_worker.specs.declared.reply.Reply.TheVariants as replied
+use Rattle.thp_worker.specs.declared.steps.Step.TheVariants.{One, Take, SplitNext, PutBack}
+use Rattle.thp_worker.specs.Does.{node_call_of, Does, DoesCall, DoesLoss, DoesOne, Nothing, Open, Reaction, Unless, refusal_of_call}
 use Rattle.thp_laws.specs.OneStep.{IsSameStep, StepsHaveOneAnswer}
 use Rattle.thp_laws.proofs.SameRefusals.{call_alike, take_alike}
 
@@ -109,12 +111,29 @@ tells_alike loss.Unpin p o u x y f = (cc, cc)
 said : Reply → Reaction
 said r = Ok r
 
--- a call that isn't refused
-call_twice : (s : Shape) (h k : History) (c : ℕ) (o : NodeCall) (batch : Option Open) (own other : List Event) (answer reply : Reaction) (after later : Option Open) →
+-- a count, and what does as little
+count_twice : (s : Shape) (h k : History) (batch : Option Open) (own other : List Event) (answer reply : Reaction) (after later : Option Open) →
+    SameButBlocks h k →
+    ((own ≡ []) × (answer ≡ Ok (replied.Count (length (queue s h))))) × (after ≡ batch) → ((other ≡ []) × (reply ≡ Ok (replied.Count (length (queue s k))))) × (later ≡ batch) →
+    IsSameStep own other answer reply after later
+count_twice s h k batch own other answer reply after later e a b =
+    record { events = ap without_blocks (a.0.0 ∙ sym b.0.0); answers = a.0.1 ∙ ap counted ((alike h k e).queue s) ∙ sym b.0.1; batches = a.1 ∙ sym b.1 } where
+      counted : List ℕ → Reaction
+      counted ps = Ok (replied.Count (length ps))
+
+-- a loss of page p
+page_loss_twice : (s : Shape) (h k : History) (c p : ℕ) (g : Loss) (batch : Option Open) (own other : List Event) (answer reply : Reaction) (after later : Option Open) →
     SameButBlocks h k → IsLegal s (h ++ own) → IsLegal s (k ++ other) →
-    DoesCall s h c o own answer × (after ≡ batch) → DoesCall s k c o other reply × (later ≡ batch) → IsSameStep own other answer reply after later
+    DoesLoss c (loss_what g p) own answer × (after ≡ batch) → DoesLoss c (loss_what g p) other reply × (later ≡ batch) → IsSameStep own other answer reply after later
+page_loss_twice s h k c p g batch own other answer reply after later e l m a b =
+    loss_twice s h k c (loss_what g p) batch own other answer reply after later e l m (asks_alike g p) (tells_alike g p) a.0 b.0 a.1 b.1
+
+-- a command that is one call of a node, and isn't refused
+call_twice : (s : Shape) (h k : History) (c : ℕ) (o : Op) (batch : Option Open) (own other : List Event) (answer reply : Reaction) (after later : Option Open) →
+    SameButBlocks h k → IsLegal s (h ++ own) → IsLegal s (k ++ other) →
+    DoesCall s h c (node_call_of o) own answer × (after ≡ batch) → DoesCall s k c (node_call_of o) other reply × (later ≡ batch) → IsSameStep own other answer reply after later
 unfolding without_blocks
-call_twice s h k c node.Alloc batch own other answer reply after later e l m a b =
+call_twice s h k c op.Alloc batch own other answer reply after later e l m a b =
     let pages : allocations h ≡ allocations k = (alike h k e).allocations in
     record {
       events = ap without_blocks a.0.1 ∙ ap (λ n. by c (what.Alloc n 0) ∷ []) pages ∙ sym (ap without_blocks b.0.1);
@@ -123,13 +142,21 @@ call_twice s h k c node.Alloc batch own other answer reply after later e l m a b
     } where
       page : ℕ → Reaction
       page n = Ok (replied.Page n)
-call_twice s h k c (node.Page p (either.Gain g)) batch own other answer reply after later e l m a b = one_twice c (gain_what g p) batch own other answer reply after later a.0 b.0 a.1 b.1
-call_twice s h k c (node.Page p (either.Loss g)) batch own other answer reply after later e l m a b = loss_twice s h k c (loss_what g p) batch own other answer reply after later e l m (asks_alike g p) (tells_alike g p) a.0 b.0 a.1 b.1
-call_twice s h k c node.Close batch own other answer reply after later e l m a b = one_twice c what.Close batch own other answer reply after later a.0 b.0 a.1 b.1
-call_twice s h k c node.Count batch own other answer reply after later e l m a b =
-    record { events = ap without_blocks (a.0.0 ∙ sym b.0.0); answers = a.0.1 ∙ ap counted ((alike h k e).queue s) ∙ sym b.0.1; batches = a.1 ∙ sym b.1 } where
-      counted : List ℕ → Reaction
-      counted ps = Ok (replied.Count (length ps))
+call_twice s h k c (op.MapWhole p) batch own other answer reply after later e l m a b = one_twice c (gain_what gain.MapWhole p) batch own other answer reply after later a.0 b.0 a.1 b.1
+call_twice s h k c (op.UnmapWhole p) batch own other answer reply after later e l m a b = page_loss_twice s h k c p loss.UnmapWhole batch own other answer reply after later e l m a b
+call_twice s h k c (op.Map first count p) batch own other answer reply after later e l m a b = one_twice c (gain_what (gain.MapSub first count) p) batch own other answer reply after later a.0 b.0 a.1 b.1
+call_twice s h k c (op.Unmap first count p) batch own other answer reply after later e l m a b = page_loss_twice s h k c p (loss.UnmapSub first count) batch own other answer reply after later e l m a b
+call_twice s h k c (op.Write first count p) batch own other answer reply after later e l m a b = one_twice c (gain_what (gain.Write first count) p) batch own other answer reply after later a.0 b.0 a.1 b.1
+call_twice s h k c (op.Zero first count p) batch own other answer reply after later e l m a b = one_twice c (gain_what (gain.Zero first count) p) batch own other answer reply after later a.0 b.0 a.1 b.1
+call_twice s h k c (op.SplitPmd p) batch own other answer reply after later e l m a b = one_twice c (gain_what gain.SplitPmd p) batch own other answer reply after later a.0 b.0 a.1 b.1
+call_twice s h k c (op.Pin p) batch own other answer reply after later e l m a b = one_twice c (gain_what gain.Pin p) batch own other answer reply after later a.0 b.0 a.1 b.1
+call_twice s h k c (op.Unpin p) batch own other answer reply after later e l m a b = page_loss_twice s h k c p loss.Unpin batch own other answer reply after later e l m a b
+call_twice s h k c op.Close batch own other answer reply after later e l m a b = one_twice c what.Close batch own other answer reply after later a.0 b.0 a.1 b.1
+call_twice s h k c (op.Scan count) batch own other answer reply after later e l m a b = count_twice s h k batch own other answer reply after later e a b
+call_twice s h k c op.Count batch own other answer reply after later e l m a b = count_twice s h k batch own other answer reply after later e a b
+call_twice s h k c (op.Take count) batch own other answer reply after later e l m a b = count_twice s h k batch own other answer reply after later e a b
+call_twice s h k c op.SplitNext batch own other answer reply after later e l m a b = count_twice s h k batch own other answer reply after later e a b
+call_twice s h k c op.PutBack batch own other answer reply after later e l m a b = count_twice s h k batch own other answer reply after later e a b
 
 -- ---- takes, tries, put-backs
 
@@ -235,7 +262,7 @@ tried_batch pages left = Some (record { pages = pages; left = left })
 pub one_step : StepsHaveOneAnswer
 unfolding Does said tried_batch
 one_step s h k c batch (One o) own other answer reply after later e l m a b =
-    unless_twice (refusal_of_call s h o) (refusal_of_call s k o) own other answer reply batch after later _ _ (call_alike s h k e o (legal_front s h own l) (legal_front s k other m)) (call_twice s h k c o batch own other answer reply after later e l m) a b
+    unless_twice (refusal_of_call s h (node_call_of o)) (refusal_of_call s k (node_call_of o)) own other answer reply batch after later _ _ (call_alike s h k e o (legal_front s h own l) (legal_front s k other m)) (call_twice s h k c o batch own other answer reply after later e l m) a b
 one_step s h k c (Some batch) (Take n) own other answer reply after later e l m a b = nothing_twice (Some batch) own other answer reply _ _ after later refl a b
 one_step s h k c None (Take n) own other answer reply after later e l m a b =
     unless_twice (refusal s h (call.take c)) (refusal s k (call.take c)) own other answer reply None after later _ _ (take_alike s h k e c) (taken s h k c n own other answer reply after later e) a b

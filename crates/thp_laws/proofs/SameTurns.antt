@@ -8,16 +8,16 @@ use Rattle.thp_model.specs.History.{History}
 use Rattle.thp_node.specs.declared.answers.BackReply.{BackReply}
 use Rattle.thp_node.specs.declared.answers.Tried.{Tried}
 use Rattle.thp_node.specs.declared.answers.Tried.TheVariants as tried
-use Rattle.thp_text.specs.declared.script.Command.{Command}
-use Rattle.thp_text.specs.declared.script.Op.{Op}
-use Rattle.thp_text.specs.declared.script.Op.TheVariants as op
-use Rattle.thp_sections.specs.declared.reply.Answer.{Answer}
-use Rattle.thp_sections.specs.declared.reply.Reply.TheVariants as reply
-use Rattle.thp_sections.specs.declared.steps.Step.TheVariants.{Take}
-use Rattle.thp_sections.specs.Does.{Open, Reaction}
-use Rattle.thp_sections.specs.Sections.{IsTurn, Made, Turn, answers_from, batches_after, command_of, steps_of, told_by, with_batch}
-use Rattle.thp_sections.specs.Turns.{IsPage, ScanDone, ScanRefused, Told, TurnsOut, counted, first_step, gave_back, took, try_told}
-use Rattle.thp_sections.proofs.StepLaws.{batches_after-append}
+use Rattle.thp_script.specs.declared.script.Command.{Command}
+use Rattle.thp_script.specs.declared.script.Op.{Op}
+use Rattle.thp_script.specs.declared.script.Op.TheVariants as op
+use Rattle.thp_worker.specs.declared.reply.Answer.{Answer}
+use Rattle.thp_worker.specs.declared.reply.Reply.TheVariants as reply
+use Rattle.thp_worker.specs.declared.steps.Step.TheVariants.{Take}
+use Rattle.thp_worker.specs.Does.{Open, Reaction}
+use Rattle.thp_worker.specs.Sections.{IsTurn, Made, Turn, answers_from, batches_after, command_of, steps_of, told_by, with_batch}
+use Rattle.thp_worker.specs.Turns.{IsPage, ScanDone, ScanRefused, StepAnswer, TurnsOut, counted, first_step, answered_put_back, took, answered_try}
+use Rattle.thp_worker.proofs.StepLaws.{batches_after-append}
 use Rattle.thp_laws.proofs.SideBySide.{Pair, next_alike, pair_on}
 
 -- a step on node n
@@ -25,8 +25,8 @@ abbrev IsOn : ℕ → Made → Type 0
 IsOn n m = m.node ≡ n
 
 -- what the steps of a scan behind its take are
-abbrev tries_told : List Tried → BackReply → List Told
-tries_told tries back = map try_told tries ++ try_told tried.Done ∷ [] ++ gave_back back ∷ []
+abbrev tries_told : List Tried → BackReply → List StepAnswer
+tries_told tries back = map answered_try tries ++ answered_try tried.Done ∷ [] ++ answered_put_back back ∷ []
 
 -- what a scan answers
 abbrev scan_answer : ℕ → List Tried → BackReply → Reaction
@@ -40,36 +40,36 @@ same_scan taken other tries others back last e f g = ap₂ (λ n ts. scan_answer
 same_taken : (n m : ℕ) → (took 0 n).answer ≡ (took 0 m).answer → n ≡ m
 same_taken n m e = cc
 
-same_try : (t u : Tried) → (try_told t).answer ≡ (try_told u).answer → t ≡ u
+same_try : (t u : Tried) → (answered_try t).answer ≡ (answered_try u).answer → t ≡ u
 same_try t u e = cc
 
-same_back : (b d : BackReply) → (gave_back b).answer ≡ (gave_back d).answer → b ≡ d
+same_back : (b d : BackReply) → (answered_put_back b).answer ≡ (answered_put_back d).answer → b ≡ d
 same_back b d e = cc
 
 -- the first of some steps
-first_told : (m : Made) (xs : List Made) (x : Told) (ts : List Told) → told_by (m ∷ xs) ≡ x ∷ ts → (m.told ≡ x) × (told_by xs ≡ ts)
+first_told : (m : Made) (xs : List Made) (x : StepAnswer) (ts : List StepAnswer) → told_by (m ∷ xs) ≡ x ∷ ts → (m.told ≡ x) × (told_by xs ≡ ts)
 first_told m xs x ts e = (cc, cc)
 
 -- some steps aren't none
-none_told : (x : Told) (ts : List Told) → told_by [] ≡ x ∷ ts → ⊥
+none_told : (x : StepAnswer) (ts : List StepAnswer) → told_by [] ≡ x ∷ ts → ⊥
 none_told x ts e = cc
 
 -- and more than one aren't one
-more_told : (m l : Made) (xs : List Made) (x : Told) → told_by (m ∷ l ∷ xs) ≡ x ∷ [] → ⊥
+more_told : (m l : Made) (xs : List Made) (x : StepAnswer) → told_by (m ∷ l ∷ xs) ≡ x ∷ [] → ⊥
 more_told m l xs x e = cc
 
 module _ (shape : ℕ → Shape) (h k : ℕ → History) (c : ℕ) (limit bound : ℕ → ℕ) where
   -- the next step of both
-  next : (bs os : ℕ → Option Open) (m q : Made) (ms ks : List Made) (x y : Told) → m.node ≡ q.node → m.told ≡ x → q.told ≡ y → x.step ≡ y.step → Pair shape h k c limit bound bs os (m ∷ ms) (q ∷ ks) →
+  next : (bs os : ℕ → Option Open) (m q : Made) (ms ks : List Made) (x y : StepAnswer) → m.node ≡ q.node → m.told ≡ x → q.told ≡ y → x.step ≡ y.step → Pair shape h k c limit bound bs os (m ∷ ms) (q ∷ ks) →
       (x.answer ≡ y.answer) × Pair shape h k c limit bound (with_batch bs m.node m.after) (with_batch os q.node q.after) ms ks
   next bs os m q ms ks x y at e f s p =
-      let step : m.told.step ≡ q.told.step = ap (λ (t : Told). t.step) e ∙ s ∙ sym (ap (λ (t : Told). t.step) f) in (
-        sym (ap (λ (t : Told). t.answer) e) ∙ (next_alike shape h k c limit bound bs os m q ms ks p at step).answers ∙ ap (λ (t : Told). t.answer) f,
+      let step : m.told.step ≡ q.told.step = ap (λ (t : StepAnswer). t.step) e ∙ s ∙ sym (ap (λ (t : StepAnswer). t.step) f) in (
+        sym (ap (λ (t : StepAnswer). t.answer) e) ∙ (next_alike shape h k c limit bound bs os m q ms ks p at step).answers ∙ ap (λ (t : StepAnswer). t.answer) f,
         pair_on shape h k c limit bound bs os m q ms ks p at step,
       )
 
   -- a command of one step
-  once : (n : ℕ) (bs os : ℕ → Option Open) (xs ys ms ks : List Made) (x y : Told) → AllByRecursion (IsOn n) xs → AllByRecursion (IsOn n) ys → told_by xs ≡ x ∷ [] → told_by ys ≡ y ∷ [] → x.step ≡ y.step →
+  once : (n : ℕ) (bs os : ℕ → Option Open) (xs ys ms ks : List Made) (x y : StepAnswer) → AllByRecursion (IsOn n) xs → AllByRecursion (IsOn n) ys → told_by xs ≡ x ∷ [] → told_by ys ≡ y ∷ [] → x.step ≡ y.step →
       Pair shape h k c limit bound bs os (xs ++ ms) (ys ++ ks) → (x.answer ≡ y.answer) × Pair shape h k c limit bound (batches_after bs xs) (batches_after os ys) ms ks
   unfolding batches_after
   once n bs os [] ys ms ks x y on at e f s p = absurd (none_told x [] e)
@@ -88,25 +88,25 @@ module _ (shape : ℕ → Shape) (h k : ℕ → History) (c : ℕ) (limit bound 
   tries n bs os (m ∷ xs) [] ms ks ts [] b d on at pages found e f p = absurd (none_told _ _ f)
   tries n bs os (m ∷ xs) [] ms ks ts (u ∷ us) b d on at pages found e f p = absurd (none_told _ _ f)
   tries n bs os (m ∷ xs) (q ∷ ys) ms ks [] [] b d on at pages found e f p =
-      let ours = first_told m xs (try_told tried.Done) (gave_back b ∷ []) e in
-      let theirs = first_told q ys (try_told tried.Done) (gave_back d ∷ []) f in
-      let done = next bs os m q (xs ++ ms) (ys ++ ks) (try_told tried.Done) (try_told tried.Done) (on.0 ∙ sym at.0) ours.0 theirs.0 refl p in
-      let last = once n (with_batch bs m.node m.after) (with_batch os q.node q.after) xs ys ms ks (gave_back b) (gave_back d) on.1 at.1 ours.1 theirs.1 refl done.1 in
+      let ours = first_told m xs (answered_try tried.Done) (answered_put_back b ∷ []) e in
+      let theirs = first_told q ys (answered_try tried.Done) (answered_put_back d ∷ []) f in
+      let done = next bs os m q (xs ++ ms) (ys ++ ks) (answered_try tried.Done) (answered_try tried.Done) (on.0 ∙ sym at.0) ours.0 theirs.0 refl p in
+      let last = once n (with_batch bs m.node m.after) (with_batch os q.node q.after) xs ys ms ks (answered_put_back b) (answered_put_back d) on.1 at.1 ours.1 theirs.1 refl done.1 in
       ((refl, same_back b d last.0), last.1)
   tries n bs os (m ∷ xs) (q ∷ ys) ms ks [] (u ∷ us) b d on at pages found e f p =
-      let ours = first_told m xs (try_told tried.Done) (gave_back b ∷ []) e in
-      let theirs = first_told q ys (try_told u) (tries_told us d) f in
-      let done = next bs os m q (xs ++ ms) (ys ++ ks) (try_told tried.Done) (try_told u) (on.0 ∙ sym at.0) ours.0 theirs.0 refl p in
+      let ours = first_told m xs (answered_try tried.Done) (answered_put_back b ∷ []) e in
+      let theirs = first_told q ys (answered_try u) (tries_told us d) f in
+      let done = next bs os m q (xs ++ ms) (ys ++ ks) (answered_try tried.Done) (answered_try u) (on.0 ∙ sym at.0) ours.0 theirs.0 refl p in
       absurd (subst IsPage (sym (same_try tried.Done u done.0)) found.0)
   tries n bs os (m ∷ xs) (q ∷ ys) ms ks (t ∷ ts) [] b d on at pages found e f p =
-      let ours = first_told m xs (try_told t) (tries_told ts b) e in
-      let theirs = first_told q ys (try_told tried.Done) (gave_back d ∷ []) f in
-      let done = next bs os m q (xs ++ ms) (ys ++ ks) (try_told t) (try_told tried.Done) (on.0 ∙ sym at.0) ours.0 theirs.0 refl p in
+      let ours = first_told m xs (answered_try t) (tries_told ts b) e in
+      let theirs = first_told q ys (answered_try tried.Done) (answered_put_back d ∷ []) f in
+      let done = next bs os m q (xs ++ ms) (ys ++ ks) (answered_try t) (answered_try tried.Done) (on.0 ∙ sym at.0) ours.0 theirs.0 refl p in
       absurd (subst IsPage (same_try t tried.Done done.0) pages.0)
   tries n bs os (m ∷ xs) (q ∷ ys) ms ks (t ∷ ts) (u ∷ us) b d on at pages found e f p =
-      let ours = first_told m xs (try_told t) (tries_told ts b) e in
-      let theirs = first_told q ys (try_told u) (tries_told us d) f in
-      let done = next bs os m q (xs ++ ms) (ys ++ ks) (try_told t) (try_told u) (on.0 ∙ sym at.0) ours.0 theirs.0 refl p in
+      let ours = first_told m xs (answered_try t) (tries_told ts b) e in
+      let theirs = first_told q ys (answered_try u) (tries_told us d) f in
+      let done = next bs os m q (xs ++ ms) (ys ++ ks) (answered_try t) (answered_try u) (on.0 ∙ sym at.0) ours.0 theirs.0 refl p in
       let rest = tries n (with_batch bs m.node m.after) (with_batch os q.node q.after) xs ys ms ks ts us b d on.1 at.1 pages.1 found.1 ours.1 theirs.1 done.1 in
       ((ap₂ (λ v vs. v ∷ vs) (same_try t u done.0) rest.0.0, rest.0.1), rest.1)
 

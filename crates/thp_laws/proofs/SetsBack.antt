@@ -9,11 +9,11 @@ use Rattle.std.proofs.Math.Bool.{or_assoc}
 use Rattle.std.proofs.Math.Nat.{add-zero}
 use Rattle.std.proofs.lemmas.Slice.Eq.{bytes_eq-Decides}
 use Rattle.thp_model.specs.Sets.{set_of}
-use Rattle.thp_text.specs.declared.fault.TextKind.{TextKind}
-use Rattle.thp_text.specs.Readings.{◌>>=◌}
-use Rattle.thp_text.specs.Lines.{is_empty}
-use Rattle.thp_text.specs.Words.{Text, number_of, pieces_at}
-use Rattle.thp_text.proofs.NumberLaws.{number_of-decimal}
+use Rattle.thp_script.specs.declared.fault.TextKind.{TextKind}
+use Rattle.thp_script.specs.Readings.{◌>>=◌}
+use Rattle.thp_script.specs.Lines.{is_empty}
+use Rattle.thp_script.specs.Words.{Text, number_of, pieces_at}
+use Rattle.thp_script.proofs.NumberLaws.{number_of-decimal}
 use Rattle.thp_journal_writer.specs.SetTexts.{Run, with_number, runs_from, run_text, runs_text, set_text}
 use Rattle.thp_journal_reader.specs.SetTexts.{covers_number, set_with, subpage_number, longer_run, run_of_numbers, run_of, run_from, runs_of, set_of_text}
 use Rattle.thp_laws.proofs.Splitting.{all_append, all_joined, cut_once, is_without, joined, single}

@@ -5,9 +5,9 @@ use Rattle.thp_model.specs.declared.shape.Shape.{Shape}
 use Rattle.thp_model.specs.BlockLaws.{SameButBlocks, event_with, without_blocks}
 use Rattle.thp_model.specs.History.{History}
 use Rattle.thp_model.specs.Legal.{IsLegal}
-use Rattle.thp_sections.specs.declared.steps.Step.{Step}
-use Rattle.thp_sections.specs.Does.{Does, Open}
-use Rattle.thp_sections.specs.Sections.{Made, with_batch}
+use Rattle.thp_worker.specs.declared.steps.Step.{Step}
+use Rattle.thp_worker.specs.Does.{Does, Open}
+use Rattle.thp_worker.specs.Sections.{Made, with_batch}
 use Rattle.thp_laws.specs.OneStep.{IsSameStep}
 use Rattle.thp_laws.proofs.SameSteps.{one_step}
 use Rattle.thp_laws.proofs.Walks.{Walk, does_next, front_after, legal_after, walk_on}

@@ -4,12 +4,12 @@ use Rattle.std.specs.Prelude.{nat_lt}
 use Rattle.std.specs.List.{range_with_len}
 use Rattle.std.proofs.lemmas.List.{length-map}
 use Rattle.std.proofs.lemmas.List.FromFn.{length-range_with_len}
-use Rattle.thp_text.specs.declared.fault.TextKind.TheVariants.{TooLong}
-use Rattle.thp_text.specs.declared.script.Script.{Script}
-use Rattle.thp_text.specs.declared.settings.Settings.{Settings}
-use Rattle.thp_text.specs.Readings.{◌>>=◌}
-use Rattle.thp_text.specs.Scripts.{Fault, Placed, commands_from, commands_in, script_of, script_with}
-use Rattle.thp_text.specs.Words.{lines_of}
+use Rattle.thp_script.specs.declared.fault.TextKind.TheVariants.{TooLong}
+use Rattle.thp_script.specs.declared.script.Script.{Script}
+use Rattle.thp_script.specs.declared.settings.Settings.{Settings}
+use Rattle.thp_script.specs.Readings.{◌>>=◌}
+use Rattle.thp_script.specs.Scripts.{Fault, Placed, commands_from, commands_in, script_of, script_with}
+use Rattle.thp_script.specs.Words.{lines_of}
 use Rattle.thp_laws.proofs.WorkersApart.{one_is_apart, place_of}
 use Rattle.thp_laws.specs.OneReport.{OneSettingIsApart, OneWorkerIsApart}
 

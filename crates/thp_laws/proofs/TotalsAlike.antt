@@ -17,7 +17,7 @@ use Rattle.thp_model.specs.Shapes.{subpages}
 use Rattle.thp_model.proofs.Alike.{Alike, Blind, alike, count_alike, held_alike}
 use Rattle.thp_model.proofs.LeastBlocks.{least_same, without_blocks_push}
 use Rattle.thp_model.proofs.SumsBelow.{sum_below-ext}
-use Rattle.thp_text.specs.Scripts.{Fault}
+use Rattle.thp_script.specs.Scripts.{Fault}
 use Rattle.thp_journal_writer.specs.Journals.{Journal}
 use Rattle.thp_journal_reader.specs.declared.journals.Journals.{Journals}
 use Rattle.thp_journal_reader.specs.declared.journals.NodeJournal.{NodeJournal}

@@ -10,8 +10,8 @@ use Rattle.thp_model.specs.declared.shape.Shape.{Shape}
 use Rattle.thp_model.specs.History.{History}
 use Rattle.thp_model.specs.Legal.{IsLegal}
 use Rattle.thp_model.proofs.LegalSteps.{legal_take}
-use Rattle.thp_sections.specs.Does.{Does, Open}
-use Rattle.thp_sections.specs.Sections.{Carries, ComesBefore, IsMade, Made, own_events, with_batch}
+use Rattle.thp_worker.specs.Does.{Does, Open}
+use Rattle.thp_worker.specs.Sections.{Carries, ComesBefore, IsMade, Made, own_events, with_batch}
 
 -- what holds of each holds of each by what follows
 each_wider : (P Q : Made → Type 0) → ((m : Made) → P m → Q m) → (ms : List Made) → AllByRecursion P ms → AllByRecursion Q ms

@@ -10,12 +10,12 @@ use Rattle.thp_model.specs.declared.events.Event.{Event}
 use Rattle.thp_model.specs.declared.shape.Shape.{Shape}
 use Rattle.thp_model.specs.BlockLaws.{SameButBlocks}
 use Rattle.thp_model.specs.History.{History, events_of}
-use Rattle.thp_text.specs.declared.script.Command.{Command}
-use Rattle.thp_text.specs.declared.script.Script.{Script}
-use Rattle.thp_sections.specs.declared.reply.Answer.{Answer}
-use Rattle.thp_sections.specs.declared.reply.Section.{Section}
-use Rattle.thp_sections.specs.Sections.{Made, steps_of}
-use Rattle.thp_script_runs.specs.Runs.{IsAnswered, IsRun, IsSection, no_batches, sections_of}
+use Rattle.thp_script.specs.declared.script.Command.{Command}
+use Rattle.thp_script.specs.declared.script.Script.{Script}
+use Rattle.thp_worker.specs.declared.reply.Answer.{Answer}
+use Rattle.thp_worker.specs.declared.reply.SectionLog.{SectionLog}
+use Rattle.thp_worker.specs.Sections.{Made, steps_of}
+use Rattle.thp_runner.specs.Runs.{IsAnswered, IsRun, IsSection, no_batches, sections_of}
 use Rattle.thp_laws.specs.OneRun.{AreApart, HasOneWorker, IsSameSection, OneWorkerHasOneRun, WorkersApartHaveOneRun}
 use Rattle.thp_laws.proofs.SameSections.{none_elsewhere, same_answers, same_nodes, section_among, section_walk}
 use Rattle.thp_laws.proofs.SideBySide.{Pair}
@@ -75,9 +75,9 @@ sole_events c (e ∷ es) some idle =
 
 -- ---- one run
 
-module _ (nodes : ℕ) (shape : ℕ → Shape) (script : Script) (h : ℕ → History) (sections : List Section) (r : IsRun nodes shape script h sections) where
+module _ (nodes : ℕ) (shape : ℕ → Shape) (script : Script) (h : ℕ → History) (sections : List SectionLog) (r : IsRun nodes shape script h sections) where
   -- each section of the script was done
-  answered : (k : ℕ) (commands : List Command) → slice_get (sections_of script) k ≡ Some commands → (section : Section) × IsAnswered nodes shape h k commands section
+  answered : (k : ℕ) (commands : List Command) → slice_get (sections_of script) k ≡ Some commands → (section : SectionLog) × IsAnswered nodes shape h k commands section
   answered k commands at =
       let place = place_of (sections_of script) k commands at in
       let count = r.count in
@@ -109,7 +109,7 @@ module _ (nodes : ℕ) (shape : ℕ → Shape) (script : Script) (h : ℕ → Hi
 
 -- ---- two runs
 
-module _ (nodes : ℕ) (shape : ℕ → Shape) (script : Script) (h k : ℕ → History) (sections others : List Section) (r : IsRun nodes shape script h sections) (t : IsRun nodes shape script k others) where
+module _ (nodes : ℕ) (shape : ℕ → Shape) (script : Script) (h k : ℕ → History) (sections others : List SectionLog) (r : IsRun nodes shape script h sections) (t : IsRun nodes shape script k others) where
   -- setups go side by side
   setups : (xs ys : List Answer) (s : IsSection nodes shape h 0 script.setup xs) (u : IsSection nodes shape k 0 script.setup ys) →
       Pair shape h k 0 (λ n. length (events_of 0 (h n))) (λ n. length (events_of 0 (k n))) no_batches no_batches (steps_of (s.turns ++ s.closed)) (steps_of (u.turns ++ u.closed))
@@ -181,8 +181,8 @@ setup_is_all : (h : History) → take (length (events_of 0 h)) h ≡ events_of 0
 setup_is_all h front full = sym front ∙ take_all (length (events_of 0 h)) h (omega (arith, full))
 
 -- sections with the same answers, one by one
-same_each : (scripts : List (List Command)) (xs ys : List Section) → length xs ≡ length scripts → length ys ≡ length scripts →
-    ((k : ℕ) (commands : List Command) (x y : Section) → slice_get scripts k ≡ Some commands → slice_get xs k ≡ Some x → slice_get ys k ≡ Some y → IsSameSection x y) → AllZip IsSameSection xs ys
+same_each : (scripts : List (List Command)) (xs ys : List SectionLog) → length xs ≡ length scripts → length ys ≡ length scripts →
+    ((k : ℕ) (commands : List Command) (x y : SectionLog) → slice_get scripts k ≡ Some commands → slice_get xs k ≡ Some x → slice_get ys k ≡ Some y → IsSameSection x y) → AllZip IsSameSection xs ys
 same_each scripts [] [] e f each = tt
 same_each scripts [] (y ∷ ys) e f each = absurd (omega (arith, e, f))
 same_each scripts (x ∷ xs) [] e f each = absurd (omega (arith, e, f))
@@ -213,13 +213,13 @@ one_run nodes shape script h k sections others (owner, apart) r t = record {
       full : (h : History) → length (events_of 0 h) + length (events_of (suc (owner n)) h) ≡ length h → events_of (suc (owner n)) h ≡ [] → length (events_of 0 h) ≡ length h
       full h both nothing = let empty : length (events_of (suc (owner n)) h) ≡ 0 = ap length nothing in omega (arith, both, empty)
 
-  alike : (i : ℕ) (commands : List Command) (x y : Section) → slice_get (sections_of script) i ≡ Some commands → slice_get sections i ≡ Some x → slice_get others i ≡ Some y → IsSameSection x y
+  alike : (i : ℕ) (commands : List Command) (x y : SectionLog) → slice_get (sections_of script) i ≡ Some commands → slice_get sections i ≡ Some x → slice_get others i ≡ Some y → IsSameSection x y
   alike i commands x y at here there =
       let one = r.each i commands x at here in
       let other = t.each i commands y at there in
       record { number = one.number ∙ sym other.number; answers = by_section i commands x y at one.done other.done }
     where
-      by_section : (i : ℕ) (commands : List Command) (x y : Section) → slice_get (sections_of script) i ≡ Some commands → IsSection nodes shape h i commands x.answers.items → IsSection nodes shape k i commands y.answers.items → x.answers.items ≡ y.answers.items
+      by_section : (i : ℕ) (commands : List Command) (x y : SectionLog) → slice_get (sections_of script) i ≡ Some commands → IsSection nodes shape h i commands x.answers.items → IsSection nodes shape k i commands y.answers.items → x.answers.items ≡ y.answers.items
       by_section zero commands x y at s u =
           let same : commands ≡ script.setup = cc in
           let one : IsSection nodes shape h 0 script.setup x.answers.items = subst (λ cs. IsSection nodes shape h 0 cs x.answers.items) same s in

@@ -1,20 +1,20 @@
--- One step of a caller: what it does and answers follows from the history before it, but for blocks.
+-- One step of a caller: its effect and result follow from the history before it, except for blocks.
 use Rattle.std.specs.Prelude.{◌≡◌, ℕ, List, ◌++◌, Option}
 use Rattle.thp_model.specs.declared.events.Event.{Event}
 use Rattle.thp_model.specs.declared.shape.Shape.{Shape}
 use Rattle.thp_model.specs.BlockLaws.{SameButBlocks}
 use Rattle.thp_model.specs.History.{History}
 use Rattle.thp_model.specs.Legal.{IsLegal}
-use Rattle.thp_sections.specs.declared.steps.Step.{Step}
-use Rattle.thp_sections.specs.Does.{Does, Open, Reaction}
+use Rattle.thp_worker.specs.declared.steps.Step.{Step}
+use Rattle.thp_worker.specs.Does.{Does, Open, Reaction}
 
--- two steps did and answered the same, but for blocks
+-- two steps had the same effect and result, except for blocks
 pub record IsSameStep (own other : List Event) (answer reply : Reaction) (after later : Option Open) : Type 0 where
   pub events : SameButBlocks own other
   pub answers : answer ≡ reply
   pub batches : after ≡ later
 
--- the same step of the same caller with the same open batch, at legal histories that are the same but for blocks
+-- the same step of the same caller with the same open batch, at legal histories that are equal except for blocks
 abbrev pub StepsHaveOneAnswer : Type 0
 StepsHaveOneAnswer =
     (s : Shape) (h k : History) (c : ℕ) (batch : Option Open) (step : Step) (own other : List Event) (answer reply : Reaction) (after later : Option Open) → SameButBlocks h k →

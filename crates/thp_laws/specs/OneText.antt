@@ -4,7 +4,7 @@ use Rattle.thp_journal_writer.specs.Journals.{Journal, journal_text}
 use Rattle.thp_laws.specs.ReadBack.{AreTellable}
 use Rattle.thp_journal_writer.specs.Totals.{totals_text}
 
--- nodes whose journals have one text have one text of totals
+-- nodes whose journals have the same text have the same text of totals
 abbrev pub OneJournalHasOneTotals : Type 0
 OneJournalHasOneTotals =
     (nodes others : List Journal) → AreTellable nodes → AreTellable others → journal_text nodes ≡ journal_text others → totals_text nodes ≡ totals_text others

@@ -1,59 +1,59 @@
--- What is read of a journal text: the journals that it was written of, but for their blocks.
+-- The result of reading a journal text: the journals that it was written from, except for their blocks.
 use Rattle.std.specs.Prelude.{◌≡◌, ◌≤◌, ◌<◌, ◌+◌, ℕ, All, List, [], ◌∷◌, length, Option, None, Ok}
 use Rattle.std.specs.List.{AllZip}
 use Rattle.thp_model.specs.declared.events.Event.{Event}
 use Rattle.thp_model.specs.Limits.{max_callers}
-use Rattle.thp_text.specs.Limits.{max_input, max_nodes}
+use Rattle.thp_script.specs.Limits.{max_input, max_nodes}
 use Rattle.thp_model.specs.BlockLaws.{SameButBlocks}
 use Rattle.thp_model.specs.Legal.{IsLegal}
 use Rattle.thp_model.specs.Shapes.{IsShape}
 use Rattle.thp_journal_writer.specs.Journals.{Journal, journal_text}
 use Rattle.thp_journal_reader.specs.declared.journals.Journals.{Journals}
 use Rattle.thp_journal_reader.specs.declared.journals.NodeJournal.{NodeJournal}
-use Rattle.thp_journal_reader.specs.Answers.{TellsIllegal}
+use Rattle.thp_journal_reader.specs.Answers.{ReportsIllegal}
 use Rattle.thp_journal_reader.specs.Journals.{journals_of, node_journal}
 
--- what happened on a node is legal, and its callers are some that a node can have
+-- the events of a node are legal, and its callers are numbers that a node can have
 pub record IsJournal (journal : Journal) : Type 0 where
   pub shape : IsShape journal.0
   pub legal : IsLegal journal.0 journal.1
   pub callers : All (λ (e : Event). e.caller < max_callers) journal.1
 
--- one such node or more, up to as many as a run can have, whose text isn't longer than what is read
+-- at least one such node, and at most as many as a run can have, with a text that is not too long to be read
 pub record AreTellable (journals : List Journal) : Type 0 where
   pub some_nodes : 1 ≤ length journals
   pub few_nodes : length journals ≤ max_nodes
   pub each : All IsJournal journals
   pub short : length (journal_text journals) ≤ max_input
 
--- each journal with its shape and its first line, where the line of the first node is line `line`; each new page has the
--- least block that no live page holds
+-- each journal with its shape and its first line, if the line of the first node is line `line`; each new page has the least block
+-- that holds no live page
 abbrev pub nodes_from : ℕ → List Journal → List NodeJournal
 nodes_from line [] = []
 nodes_from line (journal ∷ journals) = node_journal (line + 1) journal.0 journal.1 ∷ nodes_from (line + 1 + length journal.1) journals
 
--- line 1 tells the version, and line 2 the first node
+-- line 1 is that of the version, and line 2 that of the first node
 abbrev pub with_lines : List Journal → Journals
 with_lines journals = record { nodes = nodes_from 2 journals }
 
--- the text of journals is read as those journals, with the least blocks
+-- reading the text of journals returns those journals, with the least blocks
 abbrev pub TextsAreReadBack : Type 0
 TextsAreReadBack = (journals : List Journal) → AreTellable journals → journals_of (journal_text journals) ≡ Ok (with_lines journals)
 
--- the node that was read has the shape of the one that was written, and its events but for their blocks
+-- the node read has the shape of the one written, and its events except for their blocks
 pub record IsSameNode (written : Journal) (read : NodeJournal) : Type 0 where
   pub shape : read.shape ≡ written.0
   pub events : SameButBlocks written.1 read.events
 
--- these are the nodes that were written, in order
+-- the nodes read are those written, in order
 abbrev pub NothingElseChanges : Type 0
 NothingElseChanges = (journals : List Journal) → AllZip IsSameNode journals (with_lines journals).nodes
 
--- and what is read of each node is legal
+-- the nodes read are legal
 abbrev pub WhatIsReadIsLegal : Type 0
 WhatIsReadIsLegal = (journals : List Journal) → AreTellable journals → All (λ (node : NodeJournal). IsLegal node.shape node.events) (with_lines journals).nodes
 
--- so a check of the text tells no line
+-- so a check of the text finds no illegal event
 abbrev pub TextsAreCalledLegal : Type 0
 TextsAreCalledLegal =
-    (journals : List Journal) (read : Journals) (line : Option ℕ) → AreTellable journals → journals_of (journal_text journals) ≡ Ok read → TellsIllegal read.nodes line → line ≡ None
+    (journals : List Journal) (read : Journals) (line : Option ℕ) → AreTellable journals → journals_of (journal_text journals) ≡ Ok read → ReportsIllegal read.nodes line → line ≡ None

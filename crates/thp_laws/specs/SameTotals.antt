@@ -1,4 +1,4 @@
--- Journals with one text are one but for their blocks, and have the same totals.
+-- Journals with the same text are equal except for their blocks, and have the same totals.
 use Rattle.std.specs.Prelude.{◌≡◌, List, length}
 use Rattle.std.specs.List.{AllZip}
 use Rattle.thp_model.specs.BlockLaws.{SameButBlocks}
@@ -9,13 +9,12 @@ use Rattle.thp_model.specs.Places.{queue}
 use Rattle.thp_journal_writer.specs.Journals.{Journal, journal_text}
 use Rattle.thp_laws.specs.ReadBack.{AreTellable}
 
--- the same node, with the same events but for their blocks
+-- the same node, with the same events except for their blocks
 pub record IsSameJournal (j k : Journal) : Type 0 where
   pub shape : j.0 ≡ k.0
   pub events : SameButBlocks j.1 k.1
 
--- the numbers that the totals of a node tell are the same: its pages, the length of its queue, the frames held and given
--- back, and its statistics
+-- the totals of a node are the same: its pages, the length of its queue, the frames held and given back, and its statistics
 pub record HaveSameTotals (j k : Journal) : Type 0 where
   pub shape : j.0 ≡ k.0
   pub pages : allocations j.1 ≡ allocations k.1
@@ -28,11 +27,11 @@ pub record HaveSameTotals (j k : Journal) : Type 0 where
   pub pmd_splits : thp_split_pmd j.1 ≡ thp_split_pmd k.1
   pub underused_splits : thp_underused_split_page j.0 j.1 ≡ thp_underused_split_page k.0 k.1
 
--- no block shows: journals that are the same but for blocks have one text
+-- texts don't depend on blocks: journals that are equal except for blocks have the same text
 abbrev pub NoBlockShows : Type 0
 NoBlockShows = (journals others : List Journal) → AllZip IsSameJournal journals others → journal_text journals ≡ journal_text others
 
--- journals with one text are the same but for blocks
+-- journals with the same text are equal except for blocks
 abbrev pub OneTextIsOfOneRun : Type 0
 OneTextIsOfOneRun =
     (journals others : List Journal) → AreTellable journals → AreTellable others → journal_text journals ≡ journal_text others → AllZip IsSameJournal journals others

@@ -1,4 +1,4 @@
--- Which events a journal's lines can tell.
+-- The events that a journal's lines can contain.
 use Rattle.std.specs.Prelude.{◌≡◌, ◌<◌, None, ⊤}
 use Rattle.std.specs.List.{AllByRecursion}
 use Rattle.thp_model.specs.declared.events.Event.{Event}
@@ -14,20 +14,20 @@ use Rattle.thp_journal_writer.specs.declared.version.Version.TheVariants as writ
 use Rattle.thp_journal_reader.specs.declared.version.Version.{Version}
 use Rattle.thp_journal_reader.specs.declared.version.Version.TheVariants.{Plain, Orders, Underused}
 
--- accesses and pages found in use are told from version 3 on
+-- accesses and pages found in use are possible from version 3 on
 abbrev pub IsFromVersion3 : Version → Type 0
 IsFromVersion3 Plain = ⊥
 IsFromVersion3 Orders = ⊥
 IsFromVersion3 Underused = ⊤
 
--- the version has a line for what happened
+-- the version has a line for this kind of event
 abbrev pub IsOfVersion : Version → What → Type 0
 IsOfVersion v (Write page first count) = IsFromVersion3 v
 IsOfVersion v (Zero page first count) = IsFromVersion3 v
 IsOfVersion v (Used page) = IsFromVersion3 v
 IsOfVersion v _ = ⊤
 
--- a line of the version can tell the event
+-- a line of the version can contain the event
 pub record IsTellable (v : Version) (e : Event) : Type 0 where
   pub caller : e.caller < max_callers
   pub numbers : HasSmallNumbers e.what
@@ -39,13 +39,13 @@ read_version writing.Plain = Plain
 read_version writing.Orders = Orders
 read_version writing.Underused = Underused
 
--- the line of a node in a version tells the shape: without an order it is 9, without a threshold there is none
+-- the line of a node in a version determines the shape: without an order it is 9, without a threshold there is none
 abbrev pub IsToldShape : Version → Shape → Type 0
 IsToldShape Plain s = (s.order ≡ max_order) × (s.underused ≡ None)
 IsToldShape Orders s = s.underused ≡ None
 IsToldShape Underused s = ⊤
 
--- a node's lines can tell its journal
+-- a node's lines can contain its journal
 pub record IsToldJournal (v : Version) (j : Journal) : Type 0 where
   pub shape : IsShape j.0
   pub tells_shape : IsToldShape v j.0

@@ -1,4 +1,4 @@
-//! Laws of journal texts. Each function does nothing: its contract is the law.
+//! Laws of journal texts. The functions do nothing: each contract is the law.
 ghost use Rattle.thp_laws.specs.ReadBack.{
   TextsAreReadBack,
   NothingElseChanges,
@@ -7,9 +7,11 @@ ghost use Rattle.thp_laws.specs.ReadBack.{
 };
 ghost use Rattle.thp_laws.specs.SameTotals.{NoBlockShows, OneTextIsOfOneRun, OneTextHasOneTotal};
 
-/// The text of 1 to 8 legal journals, of callers below 64 and of at most 16,777,216 bytes, is read back as these journals
-/// but for their blocks, which are the least free ones: each with its shape and its first line. What is read is legal, and
-/// a check of the text tells no line.
+/// States that the text of 1 to 8 legal journals is read back as these journals except for their blocks, which are the least free
+/// ones: each with its shape and its first line.
+///
+/// The callers are below 64, and the text has at most 16,777,216 bytes. The journals read are legal, and a check of the text
+/// finds no illegal event.
 pub fn journals_are_read_back()
     ensures read { TextsAreReadBack }
     ensures same { NothingElseChanges }
@@ -17,12 +19,12 @@ pub fn journals_are_read_back()
     ensures called_legal { TextsAreCalledLegal }
 {}
 
-/// No block shows in a text: journals that are the same but for their blocks have one text.
+/// States that a text does not depend on blocks: journals that are equal except for their blocks have the same text.
 pub fn no_block_shows()
     ensures { NoBlockShows }
 {}
 
-/// Two such lists of journals with the same text are the same but for their blocks, and have the same totals.
+/// States that two such lists of journals with the same text are equal except for their blocks, and have the same totals.
 pub fn one_text_is_of_one_run()
     ensures same { OneTextIsOfOneRun }
     ensures totals { OneTextHasOneTotal }

@@ -1,8 +1,12 @@
-//! The laws above the program: what follows from what its parts say, as contracts of functions that do nothing.
+//! Laws of journal texts, runs and reports.
 //!
-//! `journals`: what is written of legal histories is read back; the text of a journal is defined in `thp_journal_writer`, the grammar
-//! that reads it in `thp_journal_reader`, and here the two are said to agree. `runs`: what is done follows from what is asked for.
-//! `reports`: so what is written does, and a journal's text decides the totals.
+//! Each is the contract of an empty function. A definition is stated once in its own crate; here two of them are shown to agree.
+//!
+//! - `journals`: what is written of legal histories is read back (`ReadBack`, `Tellable`); a journal's text determines the
+//!   totals (`SameTotals`). Proofs: `SetsBack`, `EventsBack`, `LinesBack`, `JournalsBack`.
+//! - `runs`: the answer of a step follows from the history (`OneStep`; `SameSteps`, `SameRefusals`); workers on nodes of their
+//!   own, or one worker, have one run (`OneRun`; `Walks`, `SideBySide`, `SameTurns`, `SameSections`, `WorkersApart`).
+//! - `reports`: so they have one report (`OneReport`), and one text one totals report (`OneText`; `OneTotals`).
 #![tactic(auto)]
 
 mod journals;

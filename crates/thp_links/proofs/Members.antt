@@ -32,8 +32,8 @@ Contains-cons_cases x xs i (suc k, below, at) = inr (k, omega arith, at)
 pub absent_head : (x : ℕ) (xs : List ℕ) (i : ℕ) → (Contains (x ∷ xs) i → ⊥) → i ≢ x
 absent_head x xs i out e = out (0, omega arith, sym e)
 
-pub absent_behind : (x : ℕ) (xs : List ℕ) (i : ℕ) → (Contains (x ∷ xs) i → ⊥) → Contains xs i → ⊥
-absent_behind x xs i out m = out (Contains-behind x xs i m)
+pub absent_after : (x : ℕ) (xs : List ℕ) (i : ℕ) → (Contains (x ∷ xs) i → ⊥) → Contains xs i → ⊥
+absent_after x xs i out m = out (Contains-behind x xs i m)
 
 pub absent_cons : (x : ℕ) (xs : List ℕ) (i : ℕ) → i ≢ x → (Contains xs i → ⊥) → Contains (x ∷ xs) i → ⊥
 absent_cons x xs i ne out m = elim (Contains-cons_cases x xs i m) [ inl e ↦ ne e | inr n ↦ out n ]
@@ -130,7 +130,7 @@ without_absent i [] out = refl
 without_absent i (x ∷ xs) out = elim (eqb_tells x i) [
   | inl y ↦ absurd (absent_head x xs i out (sym y.1))
   | inr n ↦ ap (λ (b : Bool). cond (not b) (x ∷ without i xs) (without i xs)) n.0
-      ∙ ap (λ (ys : List ℕ). x ∷ ys) (without_absent i xs (absent_behind x xs i out))
+      ∙ ap (λ (ys : List ℕ). x ∷ ys) (without_absent i xs (absent_after x xs i out))
 ]
 
 -- taking out an index that stands between two parts joins them

@@ -1,4 +1,4 @@
--- What contracts see of an `IndexList`.
+-- The view that contracts have of an `IndexList`.
 use Rattle.std.specs.Prelude.{ℕ, List, [], ◌∷◌, ◌++◌, drop}
 use Rattle.thp_links.specs.Indices.{without}
 use Rattle.thp_links.specs.declared.index_list.Edits.{Edits}

@@ -1,4 +1,4 @@
--- What the fields of a queue and of a chain say of its list. No public clause cites this module.
+-- The relation between the fields of a queue or a chain and its list. No public clause cites this module.
 use Rattle.std.specs.Prelude.{ℕ, ◌≡◌, List, length, slice_index_or}
 use Rattle.std.specs.List.{Contains}
 use Rattle.thp_links.specs.declared.link.TheConstants.{NIL}
@@ -10,7 +10,7 @@ pub record HasEnds (head tail len : ℕ) (xs : List ℕ) : Type 0 where
   pub last : tail ≡ last_or NIL xs
   pub count : len ≡ length xs
 
--- a chain's field is the first index, and tells by `NIL` that there is none
+-- a chain's field is the first index, or `NIL` if there is none
 pub record HasHead (head : ℕ) (xs : List ℕ) : Type 0 where
   pub first : head ≡ slice_index_or xs 0 NIL
   pub real : Contains xs NIL → ⊥

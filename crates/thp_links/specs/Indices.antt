@@ -1,12 +1,12 @@
--- Lists of indices: no index twice, no index in both, and one index taken out.
+-- Lists of indices: without repetition, without common elements, and with one index removed.
 use Rattle.std.specs.Prelude.{ℕ, ◌≢◌, ◌==◌, not, List, [], ◌∷◌}
 use Rattle.std.specs.List.{Contains, AllPairs, filter}
 
--- no index twice
+-- no index occurs twice
 abbrev pub Distinct : List ℕ → Type 0
 Distinct xs = AllPairs (λ x y. x ≢ y) xs
 
--- no index in both lists
+-- no index is in both lists
 pub record Apart (xs ys : List ℕ) : Type 0 where
   pub never_both : (i : ℕ) → Contains xs i → Contains ys i → ⊥
 
@@ -14,7 +14,7 @@ pub record Apart (xs ys : List ℕ) : Type 0 where
 abbrev pub without : ℕ → List ℕ → List ℕ
 without i xs = filter (λ j. not (j == i)) xs
 
--- the last index, or p where there is none
+-- the last index, or p if there is none
 abbrev pub last_or : ℕ → List ℕ → ℕ
 last_or p [] = p
 last_or p (x ∷ xs) = last_or x xs

@@ -2,5 +2,6 @@ pub mod Indices
 pub mod Standing
 pub mod Ends
 pub mod Neighbours
-pub mod Steps
+pub mod AccessChain
 pub mod Edits
+pub mod LinkVecs

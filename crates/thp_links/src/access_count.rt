@@ -1,21 +1,21 @@
-//! The number of accesses to a table, which only contracts see.
+//! The number of accesses to a table, which is visible to contracts only.
 use std::marker::Model;
 use std::snapshot::Snapshot;
 
-// A number, by its steps from 0.
+// A number, represented by its steps from 0.
 #[derive(Drop)]
-enum Steps {
+enum AccessChain {
     Start,
-    Next(Snapshot<Steps>),
+    Next(Snapshot<AccessChain>),
 }
 
-/// A number that only contracts see: it has no bytes, and a step does nothing when it runs.
+/// A number that is visible to contracts only. It has no bytes, and a step does nothing at run time.
 ///
-/// A table that implements [`LinkTable`](crate::LinkTable) and has no use for a count of its own keeps one of these, and
-/// takes a step at each access.
+/// A table that implements [`LinkTable`](crate::LinkTable) and has no count of its own stores one of these and steps it at each
+/// access.
 #[derive(Drop)]
 pub struct AccessCount {
-    steps: Snapshot<Steps>,
+    steps: Snapshot<AccessChain>,
 }
 
 impl Model for AccessCount {
@@ -23,7 +23,7 @@ impl Model for AccessCount {
 
     ghost Value = { ℕ };
 
-    ghost use Rattle.thp_links.specs.Steps.{step_count};
+    ghost use Rattle.thp_links.specs.AccessChain.{step_count};
 
     ghost view = { λ c. step_count c.steps.value };
 }
@@ -31,21 +31,21 @@ impl Model for AccessCount {
 impl AccessCount {
     ghost use Rattle.std.specs.Prelude.{◌≡◌, ◌+◌};
 
-    /// No access so far.
+    /// Returns a count of 0 accesses.
     pub fn new() -> AccessCount
         ensures { result ≡ 0 }
     {
         AccessCount {
-            steps: Snapshot::of(&Steps::Start),
+            steps: Snapshot::of(&AccessChain::Start),
         }
     }
 
-    /// One access more.
+    /// Counts one more access.
     pub fn step(&mut self)
         ensures { self.new ≡ self.old + 1 }
     {
-        let start = Snapshot::of(&Steps::Start);
+        let start = Snapshot::of(&AccessChain::Start);
         let steps = std::mem::replace(&mut self.steps, start);
-        self.steps = Snapshot::of(&Steps::Next(steps));
+        self.steps = Snapshot::of(&AccessChain::Next(steps));
     }
 }

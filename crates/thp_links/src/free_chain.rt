@@ -1,4 +1,4 @@
-//! A chain of free indices, the last one pushed first.
+//! A chain of free indices: last in, first out.
 ghost use Rattle.std.specs.Prelude.{◌≡◌, ℕ, ◌+◌, ◌<◌, ◌≤◌, List, [], ◌∷◌, length, drop, slice_get, Option, Some, None, IfSome, IfNone, Contains};
 ghost use Rattle.thp_links.specs.Standing.{SameOutside, ChainStands};
 
@@ -7,13 +7,12 @@ use crate::link::{Link, NIL};
 use crate::table::LinkTable;
 use std::marker::Model;
 
-/// A chain of indices, linked by the `next` words of a table that each call is given.
+/// A chain of indices, linked through the `next` words of a table that is passed to each call.
 ///
-/// It serves as the store of a node's free blocks. Which of them is given out is this project's profile: the last one
-/// that came back.
+/// It is the store of a node's free blocks. Its order is this project's profile: a node reuses the block that was freed last.
 ///
-/// Contracts see the list of the indices, the last one pushed first. Every call that is given the table asks that this
-/// list stands in its links, and leaves it so. No call takes memory.
+/// Contracts see the list of the indices, the last one pushed first. Every call that is given the table requires the links to
+/// hold this list, and preserves that. No call allocates memory.
 #[derive(Drop)]
 pub struct FreeChain {
     // The first index, or `NIL`.
@@ -34,7 +33,7 @@ impl Model for FreeChain {
 }
 
 impl FreeChain {
-    /// A chain with no index, which stands in any table.
+    /// Returns an empty chain, which is valid for every table.
     pub fn new() -> FreeChain
         ensures { result ≡ [] }
     {
@@ -44,7 +43,7 @@ impl FreeChain {
         }
     }
 
-    /// Puts index `i` before all others.
+    /// Pushes index `i` at the head of the chain.
     pub fn push<T: LinkTable>(&mut self, table: &mut T, i: u32)
         requires stands { ChainStands self.old (T.links table.old) }
         requires inside { i < length (T.links table.old) }
@@ -52,12 +51,12 @@ impl FreeChain {
         ensures list { self.new ≡ i ∷ self.old }
         ensures stands { ChainStands self.new (T.links table.new) }
 
-        // Other pairs, and all else that the table holds, stay.
+        // All other pairs and the rest of the table are unchanged.
         ensures outside { SameOutside self.new (T.links table.old) (T.links table.new) }
         ensures rest { T.same_rest table.old table.new }
         ensures accesses { T.accesses table.new ≤ T.accesses table.old + 2 }
     {
-        // Tells the proof that every index is below `NIL`.
+        // Shows the proof that every index is below `NIL`.
         let _count = table.len();
         table.set_link(
             i,
@@ -70,7 +69,7 @@ impl FreeChain {
         self.list.push_front(i);
     }
 
-    /// Takes the first index out, or answers `None` where there is none.
+    /// Removes the first index and returns it, or `None` if the chain is empty.
     pub fn pop<T: LinkTable>(&mut self, table: &mut T) -> Option<u32>
         requires stands { ChainStands self.old (T.links table.old) }
         ensures value { result ≡ slice_get self.old 0 }
@@ -79,7 +78,7 @@ impl FreeChain {
         ensures stands { ChainStands self.new (T.links table.new) }
         ensures none { IfNone result (table.new ≡ table.old) }
 
-        // Other pairs, and all else that the table holds, stay.
+        // All other pairs and the rest of the table are unchanged.
         ensures outside { SameOutside self.old (T.links table.old) (T.links table.new) }
         ensures rest { T.same_rest table.old table.new }
         ensures accesses { T.accesses table.new ≤ T.accesses table.old + 2 }
@@ -90,7 +89,7 @@ impl FreeChain {
         Some(i)
     }
 
-    /// The first index, if there is one: what `pop` would answer, for no access.
+    /// Returns the first index, if any: the result that `pop` would have, without an access to the table.
     pub fn first(&self) -> Option<u32>
         ensures { result ≡ slice_get self.now 0 }
     {

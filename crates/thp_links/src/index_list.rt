@@ -1,8 +1,8 @@
-//! The list of indices that a queue or a chain stands for, which only contracts see.
+//! The list of indices that a queue or a chain represents, which is visible to contracts only.
 use std::marker::Model;
 use std::snapshot::Snapshot;
 
-// A list, by its edits.
+// A list, represented by its edits.
 #[derive(Drop)]
 enum Edits {
     Empty,
@@ -12,7 +12,7 @@ enum Edits {
     Rest(Snapshot<Edits>),
 }
 
-// A list that only contracts see: it has no bytes, and its calls do nothing when they run.
+// A list that is visible to contracts only: it has no bytes, and its calls do nothing at run time.
 #[derive(Drop)]
 pub(crate) struct IndexList {
     edits: Snapshot<Edits>,

@@ -1,4 +1,4 @@
-//! A queue of indices in the order of entry.
+//! A queue of indices: first in, first out, with removal from any position.
 ghost use Rattle.std.specs.Prelude.{◌≡◌, ℕ, ◌+◌, ◌<◌, ◌≤◌, List, [], ◌∷◌, ◌++◌, length, drop, slice_get, Option, Some, None, IfSome, IfNone, Contains};
 ghost use Rattle.thp_links.specs.Indices.{without};
 ghost use Rattle.thp_links.specs.Standing.{SameOutside, Stands};
@@ -8,20 +8,20 @@ use crate::link::{Link, NIL};
 use crate::table::{LinkTable, set_next, set_prev};
 use std::marker::Model;
 
-/// A queue of indices in the order of entry, linked both ways through a table that each call is given.
+/// A first-in, first-out queue of indices, doubly linked through a table that is passed to each call.
 ///
-/// It serves as the deferred split queue of a node (`mm/transhuge.rst`, "Partial unmap and deferred_split_huge_page()"),
-/// out of which a page that is freed has to come at once from any place. The order of entry is this project's profile.
+/// It is the deferred split queue of a node (`mm/transhuge.rst`, "Partial unmap and deferred_split_huge_page()"): a page that is
+/// freed must be removable at once from any position. The order of entry is this project's profile.
 ///
-/// Contracts see the list of the indices, oldest first. Every call that is given the table asks that this list stands in
-/// its links, and leaves it so. No call takes memory, and none walks the queue.
+/// Contracts see the list of the indices, oldest first. Every call that is given the table requires the links to hold this list,
+/// and preserves that. No call allocates memory, and each makes a constant number of accesses.
 #[derive(Drop)]
 pub struct Queue {
     // The oldest index, or `NIL`.
     head: u32,
     // The newest index, or `NIL`.
     tail: u32,
-    // How many indices the queue holds.
+    // The number of indices in the queue.
     len: u32,
     // The indices in order, for contracts.
     list: IndexList,
@@ -39,7 +39,7 @@ impl Model for Queue {
 }
 
 impl Queue {
-    /// A queue with no index, which stands in any table.
+    /// Returns an empty queue, which is valid for every table.
     pub fn new() -> Queue
         ensures { result ≡ [] }
     {
@@ -51,7 +51,7 @@ impl Queue {
         }
     }
 
-    /// Puts index `i` behind all others.
+    /// Appends index `i` at the tail.
     pub fn push_back<T: LinkTable>(&mut self, table: &mut T, i: u32)
         requires stands { Stands self.old (T.links table.old) }
         requires inside { i < length (T.links table.old) }
@@ -59,12 +59,12 @@ impl Queue {
         ensures list { self.new ≡ self.old ++ i ∷ [] }
         ensures stands { Stands self.new (T.links table.new) }
 
-        // Other pairs, and all else that the table holds, stay.
+        // All other pairs and the rest of the table are unchanged.
         ensures outside { SameOutside self.new (T.links table.old) (T.links table.new) }
         ensures rest { T.same_rest table.old table.new }
         ensures accesses { T.accesses table.new ≤ T.accesses table.old + 4 }
     {
-        // Tells the proof that every index is below `NIL`, as in the calls below.
+        // Shows the proof that every index is below `NIL`, as in the calls below.
         let _count = table.len();
         set_next(table, self.tail, i);
         table.set_link(
@@ -81,14 +81,14 @@ impl Queue {
         self.list.push_back(i);
     }
 
-    /// Takes index `i` out, wherever it stands. The others keep their order.
+    /// Removes index `i` from any position. The other indices keep their order.
     pub fn remove<T: LinkTable>(&mut self, table: &mut T, i: u32)
         requires stands { Stands self.old (T.links table.old) }
         requires present { Contains self.old i }
         ensures list { self.new ≡ without i self.old }
         ensures stands { Stands self.new (T.links table.new) }
 
-        // Other pairs, and all else that the table holds, stay.
+        // All other pairs and the rest of the table are unchanged.
         ensures outside { SameOutside self.old (T.links table.old) (T.links table.new) }
         ensures rest { T.same_rest table.old table.new }
         ensures accesses { T.accesses table.new ≤ T.accesses table.old + 6 }
@@ -113,7 +113,7 @@ impl Queue {
         self.list.remove(i);
     }
 
-    /// Takes the oldest index out, or answers `None` where there is none.
+    /// Removes the oldest index and returns it, or `None` if the queue is empty.
     pub fn pop_front<T: LinkTable>(&mut self, table: &mut T) -> Option<u32>
         requires stands { Stands self.old (T.links table.old) }
         ensures value { result ≡ slice_get self.old 0 }
@@ -122,7 +122,7 @@ impl Queue {
         ensures stands { Stands self.new (T.links table.new) }
         ensures none { IfNone result (table.new ≡ table.old) }
 
-        // Other pairs, and all else that the table holds, stay.
+        // All other pairs and the rest of the table are unchanged.
         ensures outside { SameOutside self.old (T.links table.old) (T.links table.new) }
         ensures rest { T.same_rest table.old table.new }
         ensures accesses { T.accesses table.new ≤ T.accesses table.old + 4 }
@@ -139,14 +139,14 @@ impl Queue {
         Some(i)
     }
 
-    /// The oldest index, if there is one.
+    /// Returns the oldest index, if any.
     pub fn front(&self) -> Option<u32>
         ensures { result ≡ slice_get self.now 0 }
     {
         if self.len == 0 { None } else { Some(self.head) }
     }
 
-    /// How many indices the queue holds.
+    /// Returns the number of indices in the queue.
     pub fn len(&self) -> u32
         ensures { result ≡ length self.now }
     {

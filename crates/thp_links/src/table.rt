@@ -7,22 +7,22 @@ use crate::link::{Link, NIL};
 
 /// A table with a link pair for each of its indices, which are the numbers below `len`.
 ///
-/// A read or a write of a pair is one access. Contracts count accesses; the running table need not.
+/// Each read or write of a pair is one access. Contracts count the accesses; the table itself does not have to at run time.
 pub trait LinkTable {
     // The pair of each index.
     ghost links: { Self → List Link };
 
-    // How many accesses there were so far.
+    // The number of accesses so far.
     ghost accesses: { Self → ℕ };
 
-    // All that the later table holds besides pairs and accesses is as it was in the earlier one.
+    // The later table differs from the earlier one in pairs and accesses only.
     ghost same_rest: { Self → Self → Type 0 };
 
-    /// The number of indices.
+    /// Returns the number of indices.
     fn len(&self) -> u32
         ensures { result ≡ length (links self.now) };
 
-    /// The pair of index `i`.
+    /// Returns the pair of index `i`.
     fn link(&mut self, i: u32) -> Link
         requires inside { i < length (links self.old) }
         ensures value { slice_get (links self.old) i ≡ Some result }
@@ -30,7 +30,7 @@ pub trait LinkTable {
         ensures accesses { accesses self.new ≡ accesses self.old + 1 }
         ensures rest { same_rest self.old self.new };
 
-    /// Makes `link` the pair of index `i`.
+    /// Sets the pair of index `i` to `link`.
     fn set_link(&mut self, i: u32, link: Link)
         requires inside { i < length (links self.old) }
         ensures links { links self.new ≡ slice_set (links self.old) i link }
@@ -42,7 +42,7 @@ pub trait LinkTable {
     ghost same_rest_trans: { (a b c : Self) → same_rest a b → same_rest b c → same_rest a c };
 }
 
-// Sets the successor of `at`, and does nothing at `NIL`. The one equation for both keeps removal free of cases.
+// Sets the successor of `at`; does nothing if `at` is `NIL`. One equation covers both, so removal needs no case analysis.
 pub(crate) fn set_next<T: LinkTable>(table: &mut T, at: u32, next: u32)
     requires small { length (T.links table.old) ≤ NIL }
     requires inside { (at ≡ NIL → ⊥) → at < length (T.links table.old) }
@@ -62,7 +62,7 @@ pub(crate) fn set_next<T: LinkTable>(table: &mut T, at: u32, next: u32)
     }
 }
 
-// Sets the predecessor of `at`, and does nothing at `NIL`.
+// Sets the predecessor of `at`; does nothing if `at` is `NIL`.
 pub(crate) fn set_prev<T: LinkTable>(table: &mut T, at: u32, prev: u32)
     requires small { length (T.links table.old) ≤ NIL }
     requires inside { (at ≡ NIL → ⊥) → at < length (T.links table.old) }

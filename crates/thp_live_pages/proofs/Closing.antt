@@ -13,7 +13,7 @@ use Rattle.thp_model.proofs.Below.{each_below-ext, each-not, some_yes, some_no}
 use Rattle.thp_model.proofs.Numbers.{Fresh}
 use Rattle.thp_page.specs.Table.{Slot, Table}
 use Rattle.thp_page.specs.Slots.{slot_at, HoldsPage}
-use Rattle.thp_live_pages.specs.PlacesState.{HasFree}
+use Rattle.thp_live_pages.specs.PageStoreState.{HasFree}
 use Rattle.thp_live_pages.specs.Holding.{Fills, IsNode}
 use Rattle.thp_live_pages.proofs.Admitting.{found}
 use Rattle.thp_live_pages.proofs.Homing.{in_use, block_free, legal_homed}

@@ -9,13 +9,13 @@ use Rattle.thp_links.proofs.Segments.{Trail-kept}
 use Rattle.thp_page.specs.Slots.{slot_at}
 use Rattle.thp_page.specs.Table.{Slot, Table, SameSlots}
 use Rattle.thp_page.proofs.TableSlots.{slot_at-same}
-use Rattle.thp_live_pages.specs.PlacesState.{PlacesState, Edits}
+use Rattle.thp_live_pages.specs.PageStoreState.{PageStoreState, Edits}
 use Rattle.thp_live_pages.specs.FreeChains.{IsFreeChain}
 use Rattle.thp_live_pages.specs.Linking.{IsListed, IsLinked}
 use Rattle.thp_live_pages.proofs.Relinking.{not_queued}
 
 -- an edit of a block that isn't in the chain
-pub free_chain_kept : (old new : PlacesState) (f : List ℕ) (b : ℕ) (o : Option Slot) (q : List ℕ) (n : ℕ) → IsFreeChain old.table f → Edits old new b o q n → (Contains f b → ⊥) → IsFreeChain new.table f
+pub free_chain_kept : (old new : PageStoreState) (f : List ℕ) (b : ℕ) (o : Option Slot) (q : List ℕ) (n : ℕ) → IsFreeChain old.table f → Edits old new b o q n → (Contains f b → ⊥) → IsFreeChain new.table f
 free_chain_kept old new f b o q n m e out = record {
   stands = record { trail = Trail-kept old.table.links new.table.links f (λ k i. e.links k (apart k i) (m.empty k i)) m.stands.trail; distinct = m.stands.distinct };
   empty = λ k i. ap (λ xs. get_or xs k None) e.slots ∙ get_or-set_other old.table.slots b k o None (apart k i) ∙ m.empty k i;

@@ -12,11 +12,11 @@ use Rattle.thp_model.specs.Counts.{is_alloc}
 use Rattle.thp_model.specs.Frames.{block_in_use}
 use Rattle.thp_model.specs.History.{History, by, count_of, some_event}
 use Rattle.thp_live_pages.specs.declared.page_blocks.Allocation.{Allocation}
-use Rattle.thp_live_pages.specs.declared.pages.Known.{Known}
-use Rattle.thp_live_pages.specs.declared.pages.Known.TheVariants.{Freed, Holds}
+use Rattle.thp_live_pages.specs.declared.pages.PageRecord.{PageRecord}
+use Rattle.thp_live_pages.specs.declared.pages.PageRecord.TheVariants.{Freed, Holds}
 use Rattle.thp_live_pages.specs.Chains.{IsChain, IsCovered}
 use Rattle.thp_live_pages.specs.Freeing.{freed_page}
-use Rattle.thp_live_pages.specs.Holders.{least_of}
+use Rattle.thp_live_pages.specs.BlockHolders.{least_of}
 use Rattle.thp_live_pages.specs.Keeping.{is_unfreed, times_held, blocks_of, IsKnown, Keeps}
 use Rattle.thp_model.proofs.Bools.{and-false, and-true}
 use Rattle.thp_live_pages.proofs.Chaining.{chain_new, chain_kept}
@@ -25,50 +25,50 @@ use Rattle.thp_live_pages.proofs.Held.{held_quiet, held_freed, held_more, held_w
 use Rattle.thp_live_pages.proofs.Least.{first_alike}
 
 -- what is known of a page of which two histories say the same
-known_same : (h k : History) (allocs : List Allocation) (p : ℕ) (x : Known) → is_unfreed k p ≡ is_unfreed h p → blocks_of k p ≡ blocks_of h p → IsKnown h allocs p x → IsKnown k allocs p x
+known_same : (h k : History) (allocs : List Allocation) (p : ℕ) (x : PageRecord) → is_unfreed k p ≡ is_unfreed h p → blocks_of k p ≡ blocks_of h p → IsKnown h allocs p x → IsKnown k allocs p x
 known_same h k allocs p Freed u b i = u ∙ i
 known_same h k allocs p (Holds last) u b i = (u ∙ i.0, subst (λ (bs : List ℕ). IsChain allocs (length allocs) last bs) (sym b) i.1)
 
 -- with one more allocation
-known_more : (h : History) (allocs : List Allocation) (one : Allocation) (p : ℕ) (x : Known) → IsKnown h allocs p x → IsKnown h (allocs ++ one ∷ []) p x
+known_more : (h : History) (allocs : List Allocation) (one : Allocation) (p : ℕ) (x : PageRecord) → IsKnown h allocs p x → IsKnown h (allocs ++ one ∷ []) p x
 known_more h allocs one p Freed i = i
 known_more h allocs one p (Holds last) i = (i.0, chain_kept allocs one last (blocks_of h p) i.1)
 
 -- a page that was freed
-known_freed : (h k : History) (allocs : List Allocation) (p : ℕ) (x : Known) → x ≡ Freed → is_unfreed k p ≡ false → IsKnown k allocs p x
-known_freed h k allocs p x e u = subst (λ (y : Known). IsKnown k allocs p y) (sym e) u
+known_freed : (h k : History) (allocs : List Allocation) (p : ℕ) (x : PageRecord) → x ≡ Freed → is_unfreed k p ≡ false → IsKnown k allocs p x
+known_freed h k allocs p x e u = subst (λ (y : PageRecord). IsKnown k allocs p y) (sym e) u
 
 module _ (s : Shape) where
   -- nothing happened yet
-  pub keeps_first : (known : ℕ → Known) → 1 ≤ s.blocks → ((p : ℕ) → known p ≡ Holds None) → Keeps s [] (replicate s.blocks 0) known []
+  pub keeps_first : (known : ℕ → PageRecord) → 1 ≤ s.blocks → ((p : ℕ) → known p ≡ Holds None) → Keeps s [] (replicate s.blocks 0) known []
   unfolding blocks_of count_of some_event
   keeps_first known some k = record {
     blocks = zeros-length s.blocks;
     some = some;
     held = λ b. zeros-get s.blocks b;
     few = λ b. let z : get_or (replicate s.blocks 0) b 0 ≡ 0 = zeros-get s.blocks b in omega arith;
-    pages = λ p. subst (λ (x : Known). IsKnown [] [] p x) (sym (k p)) (refl, refl);
+    pages = λ p. subst (λ (x : PageRecord). IsKnown [] [] p x) (sym (k p)) (refl, refl);
   }
 
   -- the least free block is the least that is held by none
-  pub least_is : (h : History) (counts : List ℕ) (known : ℕ → Known) (allocs : List Allocation) → Keeps s h counts known allocs → least_of counts ≡ least_free s h
+  pub least_is : (h : History) (counts : List ℕ) (known : ℕ → PageRecord) (allocs : List Allocation) → Keeps s h counts known allocs → least_of counts ≡ least_free s h
   unfolding least_of least_free
   least_is h counts known allocs k =
       first_alike (λ b. nat_eq (get_or counts b 0) 0) (λ b. not (block_in_use h b)) 0 (length counts) (λ b. ap (λ n. nat_eq n 0) (k.held b) ∙ sym (free_is h b))
       ∙ ap (λ n. first_that (λ b. not (block_in_use h b)) (range_with_len 0 n)) k.blocks
 
   -- what is known may be written otherwise
-  pub keeps_known : (h : History) (counts : List ℕ) (known others : ℕ → Known) (allocs : List Allocation) → ((p : ℕ) → others p ≡ known p) → Keeps s h counts known allocs → Keeps s h counts others allocs
+  pub keeps_known : (h : History) (counts : List ℕ) (known others : ℕ → PageRecord) (allocs : List Allocation) → ((p : ℕ) → others p ≡ known p) → Keeps s h counts known allocs → Keeps s h counts others allocs
   keeps_known h counts known others allocs same k = record {
     blocks = k.blocks;
     some = k.some;
     held = k.held;
     few = k.few;
-    pages = λ p. subst (λ (x : Known). IsKnown h allocs p x) (sym (same p)) (k.pages p);
+    pages = λ p. subst (λ (x : PageRecord). IsKnown h allocs p x) (sym (same p)) (k.pages p);
   }
 
   -- an event that neither allocates nor frees
-  pub keeps_quiet : (h : History) (counts : List ℕ) (known : ℕ → Known) (allocs : List Allocation) (e : Event) → Keeps s h counts known allocs →
+  pub keeps_quiet : (h : History) (counts : List ℕ) (known : ℕ → PageRecord) (allocs : List Allocation) (e : Event) → Keeps s h counts known allocs →
       freed_page e.what ≡ None → is_alloc e.what ≡ false → Keeps s (h ++ e ∷ []) counts known allocs
   keeps_quiet h counts known allocs e k f n = record {
     blocks = k.blocks;
@@ -81,11 +81,11 @@ module _ (s : Shape) where
   }
 
   -- whether a page of which that is known was freed
-  freed_then : (h : History) (allocs : List Allocation) (p : ℕ) (x : Known) → x ≡ Freed → IsKnown h allocs p x → is_unfreed h p ≡ false
-  freed_then h allocs p x e i = subst (λ (y : Known). IsKnown h allocs p y) e i
+  freed_then : (h : History) (allocs : List Allocation) (p : ℕ) (x : PageRecord) → x ≡ Freed → IsKnown h allocs p x → is_unfreed h p ≡ false
+  freed_then h allocs p x e i = subst (λ (y : PageRecord). IsKnown h allocs p y) e i
 
   -- an allocation of a page that was freed
-  pub keeps_alloc_freed : (h : History) (counts : List ℕ) (known : ℕ → Known) (allocs : List Allocation) (c p x : ℕ) → Keeps s h counts known allocs →
+  pub keeps_alloc_freed : (h : History) (counts : List ℕ) (known : ℕ → PageRecord) (allocs : List Allocation) (c p x : ℕ) → Keeps s h counts known allocs →
       known p ≡ Freed → Keeps s (h ++ by c (Alloc p x) ∷ []) counts known allocs
   keeps_alloc_freed h counts known allocs c p x k e = record {
     blocks = k.blocks;
@@ -107,7 +107,7 @@ module _ (s : Shape) where
     gone = freed_then h allocs p (known p) e (k.pages p)
 
   -- an allocation of a page that wasn't freed
-  pub keeps_alloc : (h : History) (counts : List ℕ) (known others : ℕ → Known) (allocs : List Allocation) (c p x : ℕ) (before : Option ℕ) → Keeps s h counts known allocs →
+  pub keeps_alloc : (h : History) (counts : List ℕ) (known others : ℕ → PageRecord) (allocs : List Allocation) (c p x : ℕ) (before : Option ℕ) → Keeps s h counts known allocs →
       known p ≡ Holds before → x < length counts → ((q : ℕ) → others q ≡ cond (nat_eq q p) (Holds (Some (length allocs))) (known q)) →
       Keeps s (h ++ by c (Alloc p x) ∷ []) (set counts x (get_or counts x 0 + 1)) others (allocs ++ record { block = x; before = before } ∷ [])
   keeps_alloc h counts known others allocs c p x before k e inside f = record {
@@ -118,14 +118,14 @@ module _ (s : Shape) where
     pages = λ q.
         elim (eqb_tells q p) [
           | inl y ↦
-              subst (λ (z : Known). IsKnown after (allocs ++ one ∷ []) q z) (sym (f q ∙ ap (λ v. cond v (Holds (Some (length allocs))) (known q)) y.0)) (
+              subst (λ (z : PageRecord). IsKnown after (allocs ++ one ∷ []) q z) (sym (f q ∙ ap (λ v. cond v (Holds (Some (length allocs))) (known q)) y.0)) (
                 unfreed_same h (by c (Alloc p x)) q refl ∙ ap (is_unfreed h) y.1 ∙ here.0,
                 subst (λ (bs : List ℕ). IsChain (allocs ++ one ∷ []) (length (allocs ++ one ∷ [])) (Some (length allocs)) bs)
                     (sym (blocks_push h (by c (Alloc p x)) q ∙ ap (λ v. cond v (x ∷ blocks_of h q) (blocks_of h q)) y.0 ∙ ap (λ r. x ∷ blocks_of h r) y.1))
                     (chain_new allocs one (blocks_of h p) here.1),
               )
           | inr y ↦
-              subst (λ (z : Known). IsKnown after (allocs ++ one ∷ []) q z) (sym (f q ∙ ap (λ v. cond v (Holds (Some (length allocs))) (known q)) y.0))
+              subst (λ (z : PageRecord). IsKnown after (allocs ++ one ∷ []) q z) (sym (f q ∙ ap (λ v. cond v (Holds (Some (length allocs))) (known q)) y.0))
               (known_more after allocs one q (known q)
               (known_same h after allocs q (known q) (unfreed_same h (by c (Alloc p x)) q refl)
               (blocks_push h (by c (Alloc p x)) q ∙ ap (λ v. cond v (x ∷ blocks_of h q) (blocks_of h q)) y.0) (k.pages q)))
@@ -138,7 +138,7 @@ module _ (s : Shape) where
     after = h ++ by c (Alloc p x) ∷ []
 
     here : (is_unfreed h p ≡ true) × IsChain allocs (length allocs) before (blocks_of h p)
-    here = subst (λ (y : Known). IsKnown h allocs p y) e (k.pages p)
+    here = subst (λ (y : PageRecord). IsKnown h allocs p y) e (k.pages p)
 
     plain : (n : ℕ) → n ≡ n + 0
     plain n = omega arith
@@ -158,7 +158,7 @@ module _ (s : Shape) where
         ]
 
   -- the blocks of a page that is freed are held
-  pub keeps_covered : (h : History) (counts : List ℕ) (known : ℕ → Known) (allocs : List Allocation) (e : Event) (p : ℕ) (last : Option ℕ) → Keeps s h counts known allocs →
+  pub keeps_covered : (h : History) (counts : List ℕ) (known : ℕ → PageRecord) (allocs : List Allocation) (e : Event) (p : ℕ) (last : Option ℕ) → Keeps s h counts known allocs →
       known p ≡ Holds last → freed_page e.what ≡ Some p → is_alloc e.what ≡ false → IsCovered allocs last counts
   keeps_covered h counts known allocs e p last k x f n = record {
     blocks = blocks_of h p;
@@ -166,10 +166,10 @@ module _ (s : Shape) where
     covered = λ b. let sum : times_held (h ++ e ∷ []) b + count_by (nat_eq b) (blocks_of h p) ≡ times_held h b = held_without h e p b f n here.0 in let now : get_or counts b 0 ≡ times_held h b = k.held b in omega arith;
   } where
     here : (is_unfreed h p ≡ true) × IsChain allocs (length allocs) last (blocks_of h p)
-    here = subst (λ (y : Known). IsKnown h allocs p y) x (k.pages p)
+    here = subst (λ (y : PageRecord). IsKnown h allocs p y) x (k.pages p)
 
   -- a page is freed, and its blocks are given back
-  pub keeps_free : (h : History) (counts others : List ℕ) (known known_then : ℕ → Known) (allocs : List Allocation) (e : Event) (p : ℕ) (last : Option ℕ) → Keeps s h counts known allocs →
+  pub keeps_free : (h : History) (counts others : List ℕ) (known known_then : ℕ → PageRecord) (allocs : List Allocation) (e : Event) (p : ℕ) (last : Option ℕ) → Keeps s h counts known allocs →
       known p ≡ Holds last → freed_page e.what ≡ Some p → is_alloc e.what ≡ false → ((q : ℕ) → known_then q ≡ cond (nat_eq q p) Freed (known q)) → length others ≡ length counts →
       ((bs : List ℕ) → IsChain allocs (length allocs) last bs → (b : ℕ) → get_or others b 0 + count_by (nat_eq b) bs ≡ get_or counts b 0) →
       Keeps s (h ++ e ∷ []) others known_then allocs
@@ -182,10 +182,10 @@ module _ (s : Shape) where
         let less : get_or others b 0 + count_by (nat_eq b) (blocks_of h p) ≡ get_or counts b 0 = given (blocks_of h p) here.1 b in
         omega arith;
     few = λ b. let less : get_or others b 0 + count_by (nat_eq b) (blocks_of h p) ≡ get_or counts b 0 = given (blocks_of h p) here.1 b in let was : get_or counts b 0 ≤ length allocs = k.few b in omega arith;
-    pages = λ q. subst (λ (z : Known). IsKnown (h ++ e ∷ []) allocs q z) (sym (now q)) (one q);
+    pages = λ q. subst (λ (z : PageRecord). IsKnown (h ++ e ∷ []) allocs q z) (sym (now q)) (one q);
   } where
     here : (is_unfreed h p ≡ true) × IsChain allocs (length allocs) last (blocks_of h p)
-    here = subst (λ (y : Known). IsKnown h allocs p y) x (k.pages p)
+    here = subst (λ (y : PageRecord). IsKnown h allocs p y) x (k.pages p)
 
     one : (q : ℕ) → IsKnown (h ++ e ∷ []) allocs q (cond (nat_eq q p) Freed (known q))
     one q =
@@ -201,7 +201,7 @@ module _ (s : Shape) where
         ]
 
   -- a page is freed that was freed before
-  pub keeps_free_again : (h : History) (counts : List ℕ) (known : ℕ → Known) (allocs : List Allocation) (e : Event) (p : ℕ) → Keeps s h counts known allocs →
+  pub keeps_free_again : (h : History) (counts : List ℕ) (known : ℕ → PageRecord) (allocs : List Allocation) (e : Event) (p : ℕ) → Keeps s h counts known allocs →
       known p ≡ Freed → freed_page e.what ≡ Some p → is_alloc e.what ≡ false → Keeps s (h ++ e ∷ []) counts known allocs
   keeps_free_again h counts known allocs e p k x f n = record {
     blocks = k.blocks;

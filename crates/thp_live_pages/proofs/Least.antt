@@ -7,7 +7,7 @@ use Rattle.std.proofs.lemmas.Bool.Decides.{eqb_tells}
 use Rattle.thp_model.specs.BlockLaws.{first_that}
 use Rattle.thp_model.specs.Words.{in_words}
 use Rattle.thp_model.proofs.Bools.{and_both, and-false, and-true}
-use Rattle.thp_live_pages.specs.Holders.{least_of, AreFree}
+use Rattle.thp_live_pages.specs.BlockHolders.{least_of, AreFree}
 use Rattle.thp_live_pages.proofs.FreeWords.{zeros-get, zeros-length}
 
 -- the first number of a range that passes

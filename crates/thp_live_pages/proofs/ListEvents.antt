@@ -8,7 +8,7 @@ use Rattle.thp_model.specs.declared.shape.Shape.{Shape}
 use Rattle.thp_model.specs.History.{History, by, some_event}
 use Rattle.thp_model.specs.Counts.{is_live, is_closed, pins, allocations, frees}
 use Rattle.thp_model.specs.Legal.{Fits}
-use Rattle.thp_model.specs.Pages.{PageState, Tallies, PageSplit, IsFresh, gives_frames, is_worth}
+use Rattle.thp_model.specs.Pages.{PageState, Tallies, PageSplit, IsFresh, gives_frames, is_split_candidate}
 use Rattle.thp_model.specs.Places.{queue, queue_after, flights, flight, has_page, no_pages, is_taking, leaves}
 use Rattle.thp_model.specs.Refusals.{refusal}
 use Rattle.thp_model.specs.Refusals as call
@@ -29,7 +29,7 @@ use Rattle.thp_page.specs.declared.standing.Standing.TheVariants.{Nowhere, Queue
 use Rattle.thp_page.specs.Table.{Slot}
 use Rattle.thp_page.specs.Table.{Table}
 use Rattle.thp_page.specs.Slots.{slot_at}
-use Rattle.thp_live_pages.specs.PlacesState.{PlacesState, Edits, Placed, TakesFirst, new_standing, new_queue}
+use Rattle.thp_live_pages.specs.PageStoreState.{PageStoreState, Edits, Placed, TakesFirst, new_standing, new_queue}
 use Rattle.thp_live_pages.specs.Holding.{IsSlot, Fills, IsNode}
 use Rattle.thp_live_pages.specs.Homes.{block_of, standing_of}
 use Rattle.thp_live_pages.proofs.Homing.{Homed, block_push, block_free}
@@ -101,7 +101,7 @@ module _ (s : Shape) (h : History) (c p b : ℕ) (homed : Homed s h) (fits : Fit
   new_blocks true qs e = blocks_pushed placed_history (queue s h) qs p b (queue_stays ∙ e) new_home
   new_blocks false qs e = queue_stays ∙ e
 
-  pub placed_node : (queued : Bool) (old new : PlacesState) → IsNode s h old.table old.queue → b < length old.table.slots → queued ≡ shrinks_underused s → Placed p queued old new b →
+  pub placed_node : (queued : Bool) (old new : PageStoreState) → IsNode s h old.table old.queue → b < length old.table.slots → queued ≡ shrinks_underused s → Placed p queued old new b →
       IsNode s placed_history new.table new.queue
   placed_node queued old new m inside switch placed =
       let did = placed.edits in
@@ -115,7 +115,7 @@ module _ (s : Shape) (h : History) (c p b : ℕ) (homed : Homed s h) (fits : Fit
       (ap (map (block_of placed_history)) (queue_push s h placed_event ∙ new_joins queued switch) ∙ new_blocks queued old.queue m.queue_is ∙ ap (map (λ n. Some n)) (sym did.queue_is))
 
 -- the oldest page of the queue
-module _ (s : Shape) (h : History) (c : ℕ) (old new : PlacesState) (p : ℕ) (homed : Homed s h) (m : IsNode s h old.table old.queue) (took : TakesFirst old new c p) where
+module _ (s : Shape) (h : History) (c : ℕ) (old new : PageStoreState) (p : ℕ) (homed : Homed s h) (m : IsNode s h old.table old.queue) (took : TakesFirst old new c p) where
   first_parts : (ps : List ℕ) → map (block_of h) ps ≡ map (λ n. Some n) (took.block ∷ drop 1 old.queue) → slice_get ps 0 ≡ Some p × (drop 1 (map (block_of h) ps) ≡ map (λ n. Some n) (drop 1 old.queue))
   first_parts [] e = absurd (cc)
   first_parts (x ∷ ps) e =
@@ -160,7 +160,7 @@ module _ (s : Shape) (h : History) (c : ℕ) (old new : PlacesState) (p : ℕ) (
       ∙ ap (map (λ n. Some n)) (sym took.edits.queue_is))
 
 -- a page in a caller's batch
-module _ (s : Shape) (h : History) (c b : ℕ) (x : Slot) (old new : PlacesState) (homed : Homed s h) (m : IsNode s h old.table old.queue) (at : slot_at old.table b ≡ Some x)
+module _ (s : Shape) (h : History) (c b : ℕ) (x : Slot) (old new : PageStoreState) (homed : Homed s h) (m : IsNode s h old.table old.queue) (at : slot_at old.table b ≡ Some x)
     (flies : x.standing ≡ Batch c) where
   was_slot : IsSlot s h b x
   was_slot = slot_is s h old.table old.queue b x m at
@@ -181,14 +181,14 @@ module _ (s : Shape) (h : History) (c b : ℕ) (x : Slot) (old new : PlacesState
       (omega (arith, homed.grown.sound.once x.id, ap (times x.id) qs, ap (flying x.id) fs, flying-leaves x.id c (flights h) in_flight))
 
   -- whether a split is worth its while, by the page
-  flying_worth : (y : Bool) → is_worth s.underused x.page ≡ y → is_worth_split s h x.id ≡ y
+  flying_worth : (y : Bool) → is_split_candidate s.underused x.page ≡ y → is_worth_split s h x.id ≡ y
   flying_worth y e = sym (worth_is s h x.id x.page was_slot.tallies) ∙ e
 
   -- a try of a page that is worth a split
   tried_worth : is_worth_split s h x.id ≡ true → try_event s h c x.id ≡ by c (cond (nat_eq (pins h x.id) 0) (what.Split x.id (unused s h x.id)) (what.Pinned x.id))
   tried_worth e = ap (λ z. by c (cond z (cond (nat_eq (pins h x.id) 0) (what.Split x.id (unused s h x.id)) (what.Pinned x.id)) (what.Used x.id))) e
 
-  pub split_fits : (page : PageState) (set : List Bool) → PageSplit (shrinks_underused s) x.page page → is_worth s.underused x.page ≡ true → x.page.pins ≡ 0 → set ≡ gives_frames x.page page →
+  pub split_fits : (page : PageState) (set : List Bool) → PageSplit (shrinks_underused s) x.page page → is_split_candidate s.underused x.page ≡ true → x.page.pins ≡ 0 → set ≡ gives_frames x.page page →
       (by c (what.Split x.id set) ≡ try_event s h c x.id) × Fits s h (by c (what.Split x.id set))
   split_fits page set how worth none is =
       let e : Event = by c (what.Split x.id set) in
@@ -222,7 +222,7 @@ module _ (s : Shape) (h : History) (c b : ℕ) (x : Slot) (old new : PlacesState
       })
       (ap (map (block_of k)) (queue_push s h e) ∙ blocks_same h k (queue s h) (λ r y. block_push h e r) ∙ m.queue_is ∙ ap (map (λ n. Some n)) (sym did.queue_is))
 
-  pub pinned_fits : (n : ℕ) → is_worth s.underused x.page ≡ true → x.page.pins ≡ n → 0 < n → (by c (what.Pinned x.id) ≡ try_event s h c x.id) × Fits s h (by c (what.Pinned x.id))
+  pub pinned_fits : (n : ℕ) → is_split_candidate s.underused x.page ≡ true → x.page.pins ≡ n → 0 < n → (by c (what.Pinned x.id) ≡ try_event s h c x.id) × Fits s h (by c (what.Pinned x.id))
   pinned_fits n worth is some =
       let pinned : pins h x.id ≡ n = pins_is s h x.id x.page was_slot.tallies ∙ is in (
         sym (tried_worth (flying_worth true worth) ∙ ap (λ z. by c (cond z (what.Split x.id (unused s h x.id)) (what.Pinned x.id))) (go (pins h x.id) (omega arith))),
@@ -232,7 +232,7 @@ module _ (s : Shape) (h : History) (c b : ℕ) (x : Slot) (old new : PlacesState
         go zero l = absurd (omega arith)
         go (suc a) l = ne_eqb (suc a) 0 (λ y. omega arith)
 
-  pub used_fits : is_worth s.underused x.page ≡ false → (by c (what.Used x.id) ≡ try_event s h c x.id) × Fits s h (by c (what.Used x.id))
+  pub used_fits : is_split_candidate s.underused x.page ≡ false → (by c (what.Used x.id) ≡ try_event s h c x.id) × Fits s h (by c (what.Used x.id))
   used_fits none = (
     sym (ap (λ z. by c (cond z (cond (nat_eq (pins h x.id) 0) (what.Split x.id (unused s h x.id)) (what.Pinned x.id)) (what.Used x.id))) (flying_worth false none)),
     (in_flight, flying_worth false none),

@@ -8,7 +8,7 @@ use Rattle.thp_page.specs.Table.{Slot, Table}
 use Rattle.thp_live_pages.specs.FreeChains.{Relinks}
 use Rattle.thp_live_pages.specs.Holding.{Fills, IsNode}
 use Rattle.thp_live_pages.specs.Linking.{IsListed, IsLinked}
-use Rattle.thp_live_pages.specs.PlacesState.{PlacesState}
+use Rattle.thp_live_pages.specs.PageStoreState.{PageStoreState}
 
 -- the queue stands as it did
 pub linked_read : (t u : Table) (q : List ℕ) → IsLinked t q → u.slots ≡ t.slots → u.links ≡ t.links → IsLinked u q
@@ -19,7 +19,7 @@ linked_read t u q m e f = record {
 }
 
 -- and the table and the queue are still what the history says
-pub node_read : (s : Shape) (h : History) (old new : PlacesState) (most : ℕ) → IsNode s h old.table old.queue → Relinks old new most → IsNode s h new.table new.queue
+pub node_read : (s : Shape) (h : History) (old new : PageStoreState) (most : ℕ) → IsNode s h old.table old.queue → Relinks old new most → IsNode s h new.table new.queue
 node_read s h old new most m r = record {
   legal = m.legal;
   size = ap (λ (xs : List (Option Slot)). length xs) r.slots ∙ m.size;

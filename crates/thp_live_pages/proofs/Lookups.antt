@@ -3,7 +3,7 @@ use Rattle.std.proofs.Common.{◌≡◌, ℕ, suc, zero, ◌<◌, ◌≤◌, Boo
 use Rattle.std.specs.Prelude.{slice_get}
 use Rattle.std.proofs.lemmas.Option.{slice_get_past, slice_get-get_or}
 use Rattle.std.proofs.lemmas.Bool.Decides.{eqb_tells}
-use Rattle.thp_live_pages.specs.declared.pages.Known.{Known}
+use Rattle.thp_live_pages.specs.declared.pages.PageRecord.{PageRecord}
 use Rattle.std.specs.Ordering.{nat_cmp, is_eq}
 use Rattle.std.specs.Cmp.{nat_cmp_is}
 use Rattle.std.specs.declared.cmp.Ordering.TheVariants.{Less, Equal, Greater}
@@ -11,9 +11,9 @@ use Rattle.std.proofs.lemmas.Bool.{cases_lt}
 use Rattle.std.specs.BTreeMap.{get}
 use Rattle.std.specs.Map.{lookup}
 use Rattle.std.proofs.lemmas.Bool.{ltb-false, ltb-true, eqb-true}
-use Rattle.thp_live_pages.specs.declared.pages.Known.TheVariants.{Holds}
+use Rattle.thp_live_pages.specs.declared.pages.PageRecord.TheVariants.{Holds}
 use Rattle.thp_live_pages.specs.declared.pages.Pages.{Pages}
-use Rattle.thp_live_pages.specs.Known.{first_known, known_of}
+use Rattle.thp_live_pages.specs.PageRecord.{first_known, known_of}
 
 -- numbers behind one more
 one_on : (q i : ℕ) → nat_eq (suc q) (suc i) ≡ nat_eq q i
@@ -58,12 +58,12 @@ get-last [] v = refl
 get-last (x ∷ xs) v = get-last xs v
 
 -- a lookup whose first place was changed
-pub known_first : (b : Bool) (k : Known) (o other : Option Known) → first_known (cond b (Some k) o) other ≡ cond b k (first_known o other)
+pub known_first : (b : Bool) (k : PageRecord) (o other : Option PageRecord) → first_known (cond b (Some k) o) other ≡ cond b k (first_known o other)
 known_first true k o other = refl
 known_first false k o other = refl
 
 -- a lookup whose second place was changed
-pub known_second : (b : Bool) (k : Known) (o other : Option Known) → (b ≡ true → o ≡ None) → first_known o (cond b (Some k) other) ≡ cond b k (first_known o other)
+pub known_second : (b : Bool) (k : PageRecord) (o other : Option PageRecord) → (b ≡ true → o ≡ None) → first_known o (cond b (Some k) other) ≡ cond b k (first_known o other)
 known_second true k o other f = ap (λ x. first_known x (Some k)) (f refl)
 known_second false k o other f = refl
 
@@ -80,62 +80,62 @@ at_number p q =
     ]
 
 -- an element that a lookup found
-found_at : (xs : List Known) (i : ℕ) (x : Known) → true ≡ nat_lt i (length xs) → x ≡ get_or xs i x → slice_get xs i ≡ Some x
+found_at : (xs : List PageRecord) (i : ℕ) (x : PageRecord) → true ≡ nat_lt i (length xs) → x ≡ get_or xs i x → slice_get xs i ≡ Some x
 found_at xs i x t e = slice_get-get_or xs i x (ltb-true i (length xs) (sym t)) ∙ ap (λ y. Some y) (sym e)
 
 -- none at a place behind the list
-none_at : (xs : List Known) (i : ℕ) → false ≡ nat_lt i (length xs) → slice_get xs i ≡ None
+none_at : (xs : List PageRecord) (i : ℕ) → false ≡ nat_lt i (length xs) → slice_get xs i ≡ None
 none_at xs i t = slice_get_past xs i (ltb-false i (length xs) (sym t))
 
 -- what is known of a page among the first ones
-pub known_dense : (ps : Pages) (xs : List Known) (i p : ℕ) (x : Known) → xs ≡ ps.dense.items → i ≡ p → true ≡ nat_lt i (length xs) → x ≡ get_or xs i x → x ≡ known_of ps p
+pub known_dense : (ps : Pages) (xs : List PageRecord) (i p : ℕ) (x : PageRecord) → xs ≡ ps.dense.items → i ≡ p → true ≡ nat_lt i (length xs) → x ≡ get_or xs i x → x ≡ known_of ps p
 unfolding known_of
 known_dense ps xs i p x same e t f =
-    sym (ap (λ o. first_known o (get nat_cmp ps.others p)) (ap (λ (ys : List Known). slice_get ys p) (sym same) ∙ ap (λ q. slice_get xs q) (sym e) ∙ found_at xs i x t f))
+    sym (ap (λ o. first_known o (get nat_cmp ps.others p)) (ap (λ (ys : List PageRecord). slice_get ys p) (sym same) ∙ ap (λ q. slice_get xs q) (sym e) ∙ found_at xs i x t f))
 
 -- of another page
-known_other : (ps : Pages) (xs : List Known) (i p : ℕ) (o : Option Known) → xs ≡ ps.dense.items → i ≡ p → false ≡ nat_lt i (length xs) → o ≡ get nat_cmp ps.others i → first_known None o ≡ known_of ps p
+known_other : (ps : Pages) (xs : List PageRecord) (i p : ℕ) (o : Option PageRecord) → xs ≡ ps.dense.items → i ≡ p → false ≡ nat_lt i (length xs) → o ≡ get nat_cmp ps.others i → first_known None o ≡ known_of ps p
 unfolding known_of
 known_other ps xs i p o same e t f =
     ap (λ m. first_known None m) (f ∙ ap (λ q. get nat_cmp ps.others q) e)
-    ∙ sym (ap (λ m. first_known m (get nat_cmp ps.others p)) (ap (λ (ys : List Known). slice_get ys p) (sym same) ∙ ap (λ q. slice_get xs q) (sym e) ∙ none_at xs i t))
+    ∙ sym (ap (λ m. first_known m (get nat_cmp ps.others p)) (ap (λ (ys : List PageRecord). slice_get ys p) (sym same) ∙ ap (λ q. slice_get xs q) (sym e) ∙ none_at xs i t))
 
 -- that was named
-pub known_named : (ps : Pages) (xs : List Known) (i p : ℕ) (x : Known) → xs ≡ ps.dense.items → i ≡ p → false ≡ nat_lt i (length xs) → Some x ≡ get nat_cmp ps.others i → x ≡ known_of ps p
+pub known_named : (ps : Pages) (xs : List PageRecord) (i p : ℕ) (x : PageRecord) → xs ≡ ps.dense.items → i ≡ p → false ≡ nat_lt i (length xs) → Some x ≡ get nat_cmp ps.others i → x ≡ known_of ps p
 known_named ps xs i p x = known_other ps xs i p (Some x)
 
 -- that wasn't
-pub known_unnamed : (ps : Pages) (xs : List Known) (i p : ℕ) → xs ≡ ps.dense.items → i ≡ p → false ≡ nat_lt i (length xs) → None ≡ get nat_cmp ps.others i → Holds None ≡ known_of ps p
+pub known_unnamed : (ps : Pages) (xs : List PageRecord) (i p : ℕ) → xs ≡ ps.dense.items → i ≡ p → false ≡ nat_lt i (length xs) → None ≡ get nat_cmp ps.others i → Holds None ≡ known_of ps p
 known_unnamed ps xs i p = known_other ps xs i p None
 
 -- a write among the first ones
-pub known_set : (ps qs : Pages) (i p : ℕ) (v : Known) (q : ℕ) → i ≡ p → i < length ps.dense.items → qs.dense.items ≡ set ps.dense.items i v → qs.others.entries ≡ ps.others.entries →
+pub known_set : (ps qs : Pages) (i p : ℕ) (v : PageRecord) (q : ℕ) → i ≡ p → i < length ps.dense.items → qs.dense.items ≡ set ps.dense.items i v → qs.others.entries ≡ ps.others.entries →
     known_of qs q ≡ cond (nat_eq q p) v (known_of ps q)
 unfolding known_of
 known_set ps qs i p v q e h d o =
-    ap (λ (xs : List Known). first_known (slice_get xs q) (get nat_cmp qs.others q)) d
+    ap (λ (xs : List PageRecord). first_known (slice_get xs q) (get nat_cmp qs.others q)) d
     ∙ ap (λ m. first_known m (get nat_cmp qs.others q)) (get-set ps.dense.items i v q h)
     ∙ known_first (nat_eq q i) v (slice_get ps.dense.items q) (get nat_cmp qs.others q)
-    ∙ ap (λ (es : List (ℕ × Known)). cond (nat_eq q i) v (first_known (slice_get ps.dense.items q) (lookup (λ k. is_eq (nat_cmp q k)) es))) o
+    ∙ ap (λ (es : List (ℕ × PageRecord)). cond (nat_eq q i) v (first_known (slice_get ps.dense.items q) (lookup (λ k. is_eq (nat_cmp q k)) es))) o
     ∙ ap (λ j. cond (nat_eq q j) v (first_known (slice_get ps.dense.items q) (get nat_cmp ps.others q))) e
 
 -- one more behind them
-pub known_push : (ps qs : Pages) (i p : ℕ) (v : Known) (q : ℕ) → i ≡ p → i ≡ length ps.dense.items → qs.dense.items ≡ ps.dense.items ++ v ∷ [] → qs.others.entries ≡ ps.others.entries →
+pub known_push : (ps qs : Pages) (i p : ℕ) (v : PageRecord) (q : ℕ) → i ≡ p → i ≡ length ps.dense.items → qs.dense.items ≡ ps.dense.items ++ v ∷ [] → qs.others.entries ≡ ps.others.entries →
     known_of qs q ≡ cond (nat_eq q p) v (known_of ps q)
 unfolding known_of
 known_push ps qs i p v q e h d o =
-    ap (λ (xs : List Known). first_known (slice_get xs q) (get nat_cmp qs.others q)) d
+    ap (λ (xs : List PageRecord). first_known (slice_get xs q) (get nat_cmp qs.others q)) d
     ∙ ap (λ m. first_known m (get nat_cmp qs.others q)) (get-push ps.dense.items v q)
     ∙ known_first (nat_eq q (length ps.dense.items)) v (slice_get ps.dense.items q) (get nat_cmp qs.others q)
-    ∙ ap (λ (es : List (ℕ × Known)). cond (nat_eq q (length ps.dense.items)) v (first_known (slice_get ps.dense.items q) (lookup (λ k. is_eq (nat_cmp q k)) es))) o
+    ∙ ap (λ (es : List (ℕ × PageRecord)). cond (nat_eq q (length ps.dense.items)) v (first_known (slice_get ps.dense.items q) (lookup (λ k. is_eq (nat_cmp q k)) es))) o
     ∙ ap (λ j. cond (nat_eq q j) v (first_known (slice_get ps.dense.items q) (get nat_cmp ps.others q))) (sym h ∙ e)
 
 -- a write in the map
-pub known_insert : (ps qs : Pages) (i p : ℕ) (v : Known) (q : ℕ) → i ≡ p → length ps.dense.items ≤ i → qs.dense.items ≡ ps.dense.items →
+pub known_insert : (ps qs : Pages) (i p : ℕ) (v : PageRecord) (q : ℕ) → i ≡ p → length ps.dense.items ≤ i → qs.dense.items ≡ ps.dense.items →
     get nat_cmp qs.others q ≡ cond (is_eq (nat_cmp i q)) (Some v) (get nat_cmp ps.others q) → known_of qs q ≡ cond (nat_eq q p) v (known_of ps q)
 unfolding known_of
 known_insert ps qs i p v q e h d o =
-    ap (λ (xs : List Known). first_known (slice_get xs q) (get nat_cmp qs.others q)) d
+    ap (λ (xs : List PageRecord). first_known (slice_get xs q) (get nat_cmp qs.others q)) d
     ∙ ap (λ m. first_known (slice_get ps.dense.items q) m) (o ∙ ap (λ b. cond b (Some v) (get nat_cmp ps.others q)) (at_number i q))
     ∙ known_second (nat_eq q i) v (slice_get ps.dense.items q) (get nat_cmp ps.others q) (λ t. slice_get_past ps.dense.items q (let same : q ≡ i = eqb-true q i t in omega arith))
     ∙ ap (λ j. cond (nat_eq q j) v (first_known (slice_get ps.dense.items q) (get nat_cmp ps.others q))) e
@@ -144,5 +144,5 @@ known_insert ps qs i p v q e h d o =
 pub known_stays : (ps qs : Pages) (q : ℕ) → qs.dense.items ≡ ps.dense.items → qs.others.entries ≡ ps.others.entries → known_of qs q ≡ known_of ps q
 unfolding known_of
 known_stays ps qs q d o =
-    ap (λ (xs : List Known). first_known (slice_get xs q) (get nat_cmp qs.others q)) d
-    ∙ ap (λ (es : List (ℕ × Known)). first_known (slice_get ps.dense.items q) (lookup (λ k. is_eq (nat_cmp q k)) es)) o
+    ap (λ (xs : List PageRecord). first_known (slice_get xs q) (get nat_cmp qs.others q)) d
+    ∙ ap (λ (es : List (ℕ × PageRecord)). first_known (slice_get ps.dense.items q) (lookup (λ k. is_eq (nat_cmp q k)) es)) o

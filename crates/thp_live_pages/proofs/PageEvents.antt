@@ -31,8 +31,8 @@ use Rattle.thp_model.specs.declared.page_call.Loss.{Loss}
 use Rattle.thp_model.specs.declared.page_call.Loss.TheVariants as loss
 use Rattle.thp_model.specs.declared.page_call.PageCall.{PageCall}
 use Rattle.thp_model.specs.declared.page_call.PageCall.TheVariants as either
-use Rattle.thp_live_pages.specs.PlacesState.{PlacesState, Edits, Lost, slot_after, batch_of, left_by, is_nowhere}
-use Rattle.thp_live_pages.specs.PlacesState as blocks
+use Rattle.thp_live_pages.specs.PageStoreState.{PageStoreState, Edits, Lost, slot_after, batch_of, left_by, is_nowhere}
+use Rattle.thp_live_pages.specs.PageStoreState as blocks
 use Rattle.thp_live_pages.specs.Holding.{IsSlot, Fills, IsNode}
 use Rattle.thp_live_pages.specs.Homes.{block_of, block_after, block_by, standing_of, flier}
 use Rattle.thp_model.specs.PageCalls.{gain_call, loss_call, page_call, gain_what, loss_what, Gains, Loses}
@@ -105,7 +105,7 @@ pub only_in : (h : History) (p b : ℕ) → block_of h p ≡ Some b → OnlyIn h
 only_in h p b e k f = same_some k b (sym f ∙ e)
 
 -- a node whose page gained
-pub gained : (s : Shape) (h : History) (c b : ℕ) (x : Slot) (page : PageState) (g : Gain) (old new : PlacesState) → IsNode s h old.table old.queue →
+pub gained : (s : Shape) (h : History) (c b : ℕ) (x : Slot) (page : PageState) (g : Gain) (old new : PageStoreState) → IsNode s h old.table old.queue →
     slot_at old.table b ≡ Some x → refusal s h (gain_call g x.id) ≡ None → Gains g x.page page → Edits old new b (Some (record x { page = page })) old.queue 0 →
     Fits s h (by c (gain_what g x.id)) × IsNode s (h ++ by c (gain_what g x.id) ∷ []) new.table new.queue
 gained s h c b x page g old new m at allowed how did =
@@ -156,7 +156,7 @@ tallies_loss s h c p (loss.UnmapSub f n) o r old new m w = tallies_unmap_sub s h
 tallies_loss s h c p loss.Unpin o r old new m w = tallies_unpin s h c p o r old new m w
 
 -- the outcome of a loss is the history's
-pub outcome_told : (s : Shape) (h : History) (b : ℕ) (x : Slot) (l : Loss) (closed : Bool) (old new : PlacesState) (done : Done) (left : Option ℕ) → IsSlot s h b x →
+pub outcome_told : (s : Shape) (h : History) (b : ℕ) (x : Slot) (l : Loss) (closed : Bool) (old new : PageStoreState) (done : Done) (left : Option ℕ) → IsSlot s h b x →
     closed ≡ is_closed h → (lost : Lost l closed x old new b done left) → done.outcome ≡ page_outcome x.page lost.page (is_closed h) (stands s h x.id)
 outcome_told s h b x l closed old new done left was shut lost =
     lost.outcome_is ∙ ap₂ (λ a z. page_outcome x.page lost.page a z) shut (ap (λ z. not (is_nowhere z)) was.stands ∙ sym (stands_is s h x.id))
@@ -166,7 +166,7 @@ pub record LossFits (s : Shape) (h : History) (c p : ℕ) (l : Loss) (done : Don
   pub gives : Gives s h (h ++ by c (loss_what l p done.outcome done.released) ∷ []) p done.outcome done.released
   pub fits : Fits s h (by c (loss_what l p done.outcome done.released))
 
-pub loss_fits : (s : Shape) (h : History) (c b : ℕ) (x : Slot) (l : Loss) (closed : Bool) (old new : PlacesState) (done : Done) (left : Option ℕ) → Homed s h → IsSlot s h b x →
+pub loss_fits : (s : Shape) (h : History) (c b : ℕ) (x : Slot) (l : Loss) (closed : Bool) (old new : PageStoreState) (done : Done) (left : Option ℕ) → Homed s h → IsSlot s h b x →
     closed ≡ is_closed h → refusal s h (loss_call l x.id) ≡ None → Lost l closed x old new b done left → LossFits s h c x.id l done
 loss_fits s h c b x l closed old new done left homed was shut allowed lost =
     let w : What = loss_what l x.id done.outcome done.released in
@@ -180,7 +180,7 @@ loss_fits s h c b x l closed old new done left homed was shut allowed lost =
     record { gives = gives; fits = fits_loss s h c x.id l done.outcome done.released allowed gives }
 
 -- the caller that a loss names is that whose flight the page leaves: the one in which it is, where it is freed
-pub loss_left : (s : Shape) (h : History) (b : ℕ) (x : Slot) (l : Loss) (closed : Bool) (old new : PlacesState) (done : Done) (left : Option ℕ) → Homed s h → IsSlot s h b x →
+pub loss_left : (s : Shape) (h : History) (b : ℕ) (x : Slot) (l : Loss) (closed : Bool) (old new : PageStoreState) (done : Done) (left : Option ℕ) → Homed s h → IsSlot s h b x →
     Lost l closed x old new b done left → left ≡ if is_freed done.outcome then flier x.id (flights h) else None
 loss_left s h b x l closed old new done left homed was lost = lost.left_is ∙ ap (left_by done.outcome) was.stands ∙ go done.outcome where
   go : (o : Outcome) → left_by o (standing_of s h x.id) ≡ if is_freed o then flier x.id (flights h) else None
@@ -213,7 +213,7 @@ none_some : (k : ℕ) → ◌≡◌ {A = Option ℕ} None (Some k) → ⊥
 none_some k e = cc
 
 -- a node whose page lost and stays where it is, joins the queue, or goes
-module _ (s : Shape) (h : History) (c b : ℕ) (x : Slot) (l : Loss) (r : List Bool) (page : PageState) (old new : PlacesState) where
+module _ (s : Shape) (h : History) (c b : ℕ) (x : Slot) (l : Loss) (r : List Bool) (page : PageState) (old new : PageStoreState) where
   abbrev lost_event : Outcome → Event
   lost_event o = by c (loss_what l x.id o r)
 
@@ -293,7 +293,7 @@ module _ (s : Shape) (h : History) (c b : ℕ) (x : Slot) (l : Loss) (r : List B
       ∙ left ∙ ap (map (λ n. Some n)) (sym did.queue_is))
 
 -- a node whose page lost
-pub lost_node : (s : Shape) (h : History) (c b : ℕ) (x : Slot) (l : Loss) (closed : Bool) (old new : PlacesState) (done : Done) (left : Option ℕ) → Homed s h →
+pub lost_node : (s : Shape) (h : History) (c b : ℕ) (x : Slot) (l : Loss) (closed : Bool) (old new : PageStoreState) (done : Done) (left : Option ℕ) → Homed s h →
     IsNode s h old.table old.queue → slot_at old.table b ≡ Some x → Lost l closed x old new b done left → LossFits s h c x.id l done →
     IsNode s (h ++ by c (loss_what l x.id done.outcome done.released) ∷ []) new.table new.queue
 lost_node s h c b x l closed old new done left homed m at lost f =

@@ -14,7 +14,7 @@ use Rattle.thp_page.specs.declared.page.Change.{Change}
 use Rattle.thp_page.specs.Changes.{IsChange}
 use Rattle.thp_page.specs.declared.standing.Standing.{Standing}
 use Rattle.thp_page.specs.declared.standing.Standing.TheVariants as standing
-use Rattle.thp_live_pages.specs.PlacesState.{is_nowhere}
+use Rattle.thp_live_pages.specs.PageStoreState.{is_nowhere}
 use Rattle.thp_model.specs.declared.page_call.Loss.{Loss}
 use Rattle.thp_model.specs.declared.page_call.Loss.TheVariants as loss
 use Rattle.thp_model.specs.PageCalls.{Loses}
@@ -95,10 +95,10 @@ released_is_by l old new change closed standing o w c e =
     (λ f. by_bool new.split _
     (λ y. pick (is_freed o && not new.split) (both_no (is_freed o) new.split y) ∙ c.released
     ∙ set_of-ext _ _ (λ i below. partly_kept (holds old i) (holds new i) (is_freed o) f
-    (not_held (nat_lt i (size new)) new.split (nat_lt 0 (total_at new i) && not (new.gave_zero && zero_at new i)) y
-    (λ z. ap (λ u. u && not (new.gave_zero && zero_at new i)) (some_none (size new) (λ j. nat_lt 0 (total_at new j)) (freed_unused old new closed standing o f e) i (below_size i (size new) z))))))
+    (not_held (nat_lt i (size new)) new.split (nat_lt 0 (total_at new i) && not (new.freed_zero_frames && zero_at new i)) y
+    (λ z. ap (λ u. u && not (new.freed_zero_frames && zero_at new i)) (some_none (size new) (λ j. nat_lt 0 (total_at new j)) (freed_unused old new closed standing o f e) i (below_size i (size new) z))))))
     (λ y. all (is_freed o && not new.split) (both_yes (is_freed o) new.split f y)
-    ∙ set_of-ext _ _ (λ i below. whole_gone (nat_lt i (2 ^ new.order)) (nat_lt i (size old)) old.split (nat_lt 0 (total_at old i) && not (old.gave_zero && zero_at old i)) (is_freed o) (holds new i)
+    ∙ set_of-ext _ _ (λ i below. whole_gone (nat_lt i (2 ^ new.order)) (nat_lt i (size old)) old.split (nat_lt 0 (total_at old i) && not (old.freed_zero_frames && zero_at old i)) (is_freed o) (holds new i)
     (ap (nat_lt i) (power_size new ∙ same_sizes new old (sym (loss_order l old new w)))) (loss_split l old new w ∙ y) f)))
     (λ f. pick (is_freed o && not new.split) (ap (λ x. x && not new.split) f) ∙ c.released
     ∙ set_of-ext _ _ (λ i below. ap (λ x. holds old i && (x || not (holds new i))) (sym f))) where

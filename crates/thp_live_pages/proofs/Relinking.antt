@@ -18,7 +18,7 @@ use Rattle.thp_page.specs.declared.standing.Standing.TheVariants.{Nowhere, Queue
 use Rattle.thp_page.specs.Table.{Slot, Table}
 use Rattle.thp_page.specs.Slots.{slot_at, with_slot, stood, paged, page_in}
 use Rattle.thp_page.proofs.TableSlots.{slot_at-with_slot-same, slot_at-inside, slot_at-new}
-use Rattle.thp_live_pages.specs.PlacesState.{PlacesState, Edits, EmptyLinksStay, Placed, slot_after, queue_after}
+use Rattle.thp_live_pages.specs.PageStoreState.{PageStoreState, Edits, EmptyLinksStay, Placed, slot_after, queue_after}
 use Rattle.thp_live_pages.specs.Linking.{IsQueued, IsListed, IsLinked}
 
 queued_none : (o : Option Slot) → IsQueued o → o ≡ None → ⊥
@@ -169,8 +169,8 @@ pub links_outside : (t u : Table) (q r : List ℕ) (b : ℕ) → IsLinked t q �
 links_outside t u q r b m same out k n none = out.same_pairs k (λ i. not_queued t q k m none (same.from k n i))
 
 -- the same, as seen from outside
-pub links_seen : (n : PlacesState) (t u : Table) (q : List ℕ) (b : ℕ) → record { table = t; queue = q } ≡ n → EmptyLinksStay t u b → EmptyLinksStay n.table u b
-links_seen n t u q b e m = subst (λ (z : PlacesState). EmptyLinksStay z.table u b) e m
+pub links_seen : (n : PageStoreState) (t u : Table) (q : List ℕ) (b : ℕ) → record { table = t; queue = q } ≡ n → EmptyLinksStay t u b → EmptyLinksStay n.table u b
+links_seen n t u q b e m = subst (λ (z : PageStoreState). EmptyLinksStay z.table u b) e m
 
 -- after an edit of block b, an edit of it
 pub links_then : (t u v : Table) (b : ℕ) (o : Option Slot) → u.slots ≡ slice_set t.slots b o → EmptyLinksStay t u b → EmptyLinksStay u v b → EmptyLinksStay t v b
@@ -211,11 +211,11 @@ stood_paged t u b x w p at e =
     ∙ set_twice t.slots b (Some (record x { standing = w })) (Some (record x { page = p; standing = w }))
 
 -- what stands in the block that was edited
-pub edited_slot : (old new : PlacesState) (b : ℕ) (x : Slot) (o : Option Slot) (q : List ℕ) (most : ℕ) → slot_at old.table b ≡ Some x → Edits old new b o q most → slot_at new.table b ≡ o
+pub edited_slot : (old new : PageStoreState) (b : ℕ) (x : Slot) (o : Option Slot) (q : List ℕ) (most : ℕ) → slot_at old.table b ≡ Some x → Edits old new b o q most → slot_at new.table b ≡ o
 edited_slot old new b x o q most at e = ap (λ (xs : List (Option Slot)). get_or xs b None) e.slots ∙ get_or-set_same old.table.slots b o None (slot_at-inside old.table b x at)
 
 -- and in a block that was empty before, where it is one of the table's
-pub placed_slot : (old new : PlacesState) (b : ℕ) (o : Option Slot) (q : List ℕ) (most : ℕ) → b < length old.table.slots → Edits old new b o q most → slot_at new.table b ≡ o
+pub placed_slot : (old new : PageStoreState) (b : ℕ) (o : Option Slot) (q : List ℕ) (most : ℕ) → b < length old.table.slots → Edits old new b o q most → slot_at new.table b ≡ o
 placed_slot old new b o q most inside e = ap (λ (xs : List (Option Slot)). get_or xs b None) e.slots ∙ get_or-set_same old.table.slots b o None inside
 
 -- a write of what stands there
@@ -225,11 +225,11 @@ set_same (z ∷ xs) zero x e = ap (λ (o : Option Slot). o ∷ xs) (sym e)
 set_same (z ∷ xs) (suc b) x e = ap (λ zs. z ∷ zs) (set_same xs b x e)
 
 -- no edit
-pub edits_none : (old : PlacesState) (b : ℕ) (x : Slot) → slot_at old.table b ≡ Some x → Edits old old b (Some x) old.queue 0
+pub edits_none : (old : PageStoreState) (b : ℕ) (x : Slot) → slot_at old.table b ≡ Some x → Edits old old b (Some x) old.queue 0
 edits_none old b x at = record { slots = sym (set_same old.table.slots b x at); order = refl; queue_is = refl; links = λ k n e. refl; work = omega arith }
 
 -- an edit after an edit of the same block
-pub edits_then : (old mid new : PlacesState) (b : ℕ) (o p : Option Slot) (q r : List ℕ) (m n : ℕ) → Edits old mid b o q m → Edits mid new b p r n → Edits old new b p r (m + n)
+pub edits_then : (old mid new : PageStoreState) (b : ℕ) (o p : Option Slot) (q r : List ℕ) (m n : ℕ) → Edits old mid b o q m → Edits mid new b p r n → Edits old new b p r (m + n)
 edits_then old mid new b o p q r m n d e = record {
   slots = e.slots ∙ ap (λ (xs : List (Option Slot)). slice_set xs b p) d.slots ∙ set_twice old.table.slots b o p;
   order = e.order ∙ d.order;
@@ -239,11 +239,11 @@ edits_then old mid new b o p q r m n d e = record {
 }
 
 -- an edit with another queue of the same blocks, within more accesses
-pub edits_as : (old new : PlacesState) (b : ℕ) (o : Option Slot) (q r : List ℕ) (m n : ℕ) → q ≡ r → m ≤ n → Edits old new b o q m → Edits old new b o r n
+pub edits_as : (old new : PageStoreState) (b : ℕ) (o : Option Slot) (q r : List ℕ) (m n : ℕ) → q ≡ r → m ≤ n → Edits old new b o q m → Edits old new b o r n
 edits_as old new b o q r m n same l e = record { slots = e.slots; order = e.order; queue_is = e.queue_is ∙ same; links = e.links; work = omega (arith, e.work, l) }
 
 -- a new page and then its place in the queue
-pub placed_queued : (id : ℕ) (old mid new : PlacesState) (b : ℕ) → b < length old.table.slots → Placed id false old mid b →
+pub placed_queued : (id : ℕ) (old mid new : PageStoreState) (b : ℕ) → b < length old.table.slots → Placed id false old mid b →
     ((x : Slot) → slot_at mid.table b ≡ Some x → Edits mid new b (Some (record x { standing = Queued })) (mid.queue ++ b ∷ []) 4) → Placed id true old new b
 placed_queued id old mid new b inside d e =
     let x : Slot = record { id = id; page = d.page; standing = Nowhere } in
@@ -256,7 +256,7 @@ placed_queued id old mid new b inside d e =
     }
 
 -- a page changes and then goes where its outcome says
-pub edits_settled : (old mid new : PlacesState) (b : ℕ) (y : Slot) (o : Outcome) (n : ℕ) → Edits old mid b (Some y) old.queue 0 → Edits mid new b (slot_after o y) (queue_after o b mid.queue) n → n ≤ 6 →
+pub edits_settled : (old mid new : PageStoreState) (b : ℕ) (y : Slot) (o : Outcome) (n : ℕ) → Edits old mid b (Some y) old.queue 0 → Edits mid new b (slot_after o y) (queue_after o b mid.queue) n → n ≤ 6 →
     Edits old new b (slot_after o y) (queue_after o b old.queue) 6
 edits_settled old mid new b y o n d e l =
     edits_as old new b (slot_after o y) (queue_after o b mid.queue) (queue_after o b old.queue) (0 + n) 6 (ap (queue_after o b) d.queue_is) (omega (arith, l))

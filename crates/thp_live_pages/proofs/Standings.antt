@@ -19,7 +19,7 @@ use Rattle.thp_model.proofs.Counting.{count_any}
 use Rattle.thp_model.proofs.Pushes.{queue_push, flights_push}
 use Rattle.thp_model.proofs.Standing.{Sound, stand, times, flying, flying-cons, flying-leaves, pages, any-pages}
 use Rattle.thp_page.specs.declared.standing.Standing.TheVariants.{Nowhere, Queued, Batch}
-use Rattle.thp_live_pages.specs.PlacesState.{batch_of, is_nowhere}
+use Rattle.thp_live_pages.specs.PageStoreState.{batch_of, is_nowhere}
 use Rattle.thp_live_pages.specs.Homes.{standing_of, flier, stands_by}
 
 -- the page that an event moves or changes

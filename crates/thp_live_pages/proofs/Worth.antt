@@ -2,7 +2,7 @@
 use Rattle.std.proofs.Common.{◌≡◌, ℕ, Bool, cond, ◌||◌, ap, ap₂, ◌∙◌}
 use Rattle.thp_model.specs.declared.shape.Shape.{Shape}
 use Rattle.thp_model.specs.History.{History}
-use Rattle.thp_model.specs.Pages.{PageState, Tallies, is_worth, zero_at, zero_count}
+use Rattle.thp_model.specs.Pages.{PageState, Tallies, is_split_candidate, zero_at, zero_count}
 use Rattle.thp_model.specs.Sets.{count_below}
 use Rattle.thp_model.specs.Shapes.{subpages}
 use Rattle.thp_model.specs.Underused.{is_above, is_worth_split, is_zero_filled, zero_filled}
@@ -16,5 +16,5 @@ zero_count_is s h p t m =
     ∙ sum_below-ext (subpages s) (λ i. cond (zero_at t i) 1 0) (λ i. cond (is_zero_filled h p i) 1 0) (λ i below. ap (λ (z : Bool). cond z 1 0) (m.zero i below))
 
 -- and the page is worth a split where the history says so
-pub worth_is : (s : Shape) (h : History) (p : ℕ) (t : PageState) → Tallies s h p t → is_worth s.underused t ≡ is_worth_split s h p
+pub worth_is : (s : Shape) (h : History) (p : ℕ) (t : PageState) → Tallies s h p t → is_split_candidate s.underused t ≡ is_worth_split s h p
 worth_is s h p t m = ap₂ (λ (a : Bool) (n : ℕ). a || is_above s.underused n) m.partly (zero_count_is s h p t m)

@@ -1,10 +1,10 @@
--- Where a page in flight lies.
+-- The block of a page in flight.
 use Rattle.std.specs.Prelude.{◌≡◌, ℕ, Some}
 use Rattle.thp_page.specs.declared.standing.Standing.TheVariants.{Batch}
 use Rattle.thp_page.specs.Table.{Slot, Table}
 use Rattle.thp_page.specs.Slots.{slot_at}
 
--- page p lies in block b and stands in a batch of caller c
+-- page p is in block b and in a batch of caller c
 pub record IsFlyingAt (t : Table) (c p b : ℕ) : Type 0 where
   pub slot : Slot
   pub at : slot_at t b ≡ Some slot

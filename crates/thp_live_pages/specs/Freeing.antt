@@ -1,11 +1,11 @@
--- Which page an event frees, and in which block it allocates. No public clause cites this module.
+-- The page that an event frees, and the block of an allocation. No public clause cites this module.
 use Rattle.std.specs.Prelude.{ℕ, ◌<◌, ⊤, Option, Some, None}
 use Rattle.thp_model.specs.declared.events.Outcome.{Outcome}
 use Rattle.thp_model.specs.declared.events.Outcome.TheVariants.{Freed}
 use Rattle.thp_model.specs.declared.events.What.{What}
 use Rattle.thp_model.specs.declared.events.What.TheVariants.{Alloc, UnmapWhole, UnmapSub, Unpin}
 
--- the page, where the outcome is that it is freed
+-- the page, if the outcome is that it is freed
 abbrev pub freed_by : ℕ → Outcome → Option ℕ
 freed_by p Freed = Some p
 freed_by p _ = None
@@ -17,7 +17,7 @@ freed_page (UnmapSub outcome p first count set) = freed_by p outcome
 freed_page (Unpin outcome p set) = freed_by p outcome
 freed_page _ = None
 
--- where the event is an allocation its block is below n
+-- the block of an allocation is below n
 abbrev pub IsInside : ℕ → What → Type 0
 IsInside n (Alloc p b) = b < n
 IsInside n _ = ⊤

@@ -1,4 +1,4 @@
--- What a node's table and queue keep of its history.
+-- What a node's table and queue represent of its history.
 use Rattle.std.specs.Prelude.{◌≡◌, ℕ, length, map, List, Option, Some, None}
 use Rattle.thp_model.specs.declared.shape.Shape.{Shape}
 use Rattle.thp_model.specs.History.{History}
@@ -10,18 +10,18 @@ use Rattle.thp_page.specs.Table.{Table}
 use Rattle.thp_page.specs.Slots.{slot_at, HoldsPage}
 use Rattle.thp_live_pages.specs.Homes.{block_of, standing_of}
 
--- what stands in block b is what the history says of its page
+-- the content of block b is the state that the history gives its page
 pub record IsSlot (s : Shape) (h : History) (b : ℕ) (x : Slot) : Type 0 where
   pub home : block_of h x.id ≡ Some b
   pub tallies : Tallies s h x.id x.page
   pub stands : x.standing ≡ standing_of s h x.id
 
--- block b holds what it should: the page that lies there, or nothing where none does
+-- block b has the right content: its page, or nothing if it has none
 abbrev pub Fills : Shape → History → ℕ → Option Slot → Type 0
 Fills s h b None = (p : ℕ) → block_of h p ≡ Some b → ⊥
 Fills s h b (Some x) = IsSlot s h b x
 
--- page p stands in some block
+-- page p is in some block
 abbrev pub HasBlock : Table → ℕ → Type 0
 HasBlock t p = (b : ℕ) × HoldsPage (slot_at t b) p
 

@@ -1,4 +1,4 @@
--- Where a history says that a live page lies, and in which flight it is.
+-- The block of a live page according to a history, and the flight that it is in.
 use Rattle.std.specs.Prelude.{◌≡◌, ◌↔◌, ℕ, Bool, true, false, nat_eq, if◌then◌else◌, List, [], ◌∷◌, Option, Some, None}
 use Rattle.std.specs.List.{fold}
 use Rattle.thp_model.specs.declared.events.Event.{Event}
@@ -13,7 +13,7 @@ use Rattle.thp_model.specs.Places.{queue, flights, has_page}
 use Rattle.thp_page.specs.declared.standing.Standing.{Standing}
 use Rattle.thp_page.specs.declared.standing.Standing.TheVariants.{Nowhere, Queued, Batch}
 
--- the block of page p after an outcome of page q: none where p was freed
+-- the block of page p after an outcome of page q: none if p was freed
 abbrev pub block_by : ℕ → Option ℕ → ℕ → Outcome → Option ℕ
 block_by p o q outcome = if nat_eq p q then (if is_freed outcome then None else o) else o
 
@@ -25,7 +25,7 @@ block_after p o (UnmapSub outcome q first count set) = block_by p o q outcome
 block_after p o (Unpin outcome q set) = block_by p o q outcome
 block_after p o _ = o
 
--- the block in which live page p lies
+-- the block of live page p
 unfoldable pub block_of : History → ℕ → Option ℕ
 block_of h p = fold (λ o (e : Event). block_after p o e.what) None h
 
@@ -43,6 +43,6 @@ stands_by true o = Queued
 stands_by false None = Nowhere
 stands_by false (Some c) = Batch c
 
--- where page p stands: in the queue, in a caller's batch, or nowhere
+-- the list that page p is on: the queue, a caller's batch, or none
 unfoldable pub standing_of : Shape → History → ℕ → Standing
 standing_of s h p = stands_by (has_page p (queue s h)) (flier p (flights h))

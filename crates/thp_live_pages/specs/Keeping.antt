@@ -1,4 +1,4 @@
--- What is kept of the events so far. No public clause cites this module.
+-- The data about the events so far. No public clause cites this module.
 use Rattle.std.specs.Prelude.{◌≡◌, ℕ, ◌≤◌, Bool, true, false, not, ◌&&◌, nat_eq, cond, List, [], ◌∷◌, length, slice_index}
 use Rattle.std.specs.List.{fold}
 use Rattle.thp_model.specs.declared.events.Event.{Event}
@@ -8,8 +8,8 @@ use Rattle.thp_model.specs.declared.shape.Shape.{Shape}
 use Rattle.thp_model.specs.Counts.{frees}
 use Rattle.thp_model.specs.History.{History, count_of, some_event}
 use Rattle.thp_live_pages.specs.declared.page_blocks.Allocation.{Allocation}
-use Rattle.thp_live_pages.specs.declared.pages.Known.{Known}
-use Rattle.thp_live_pages.specs.declared.pages.Known.TheVariants.{Freed, Holds}
+use Rattle.thp_live_pages.specs.declared.pages.PageRecord.{PageRecord}
+use Rattle.thp_live_pages.specs.declared.pages.PageRecord.TheVariants.{Freed, Holds}
 use Rattle.thp_live_pages.specs.Chains.{IsChain}
 
 -- page p wasn't freed
@@ -21,7 +21,7 @@ abbrev pub holds_one : (ℕ → Bool) → ℕ → What → Bool
 holds_one some b (Alloc p c) = nat_eq b c && some p
 holds_one some b _ = false
 
--- how often block b is held: once for each allocation there whose page wasn't freed
+-- the number of holders of block b: the allocations there whose page was not freed
 abbrev pub times_held : History → ℕ → ℕ
 times_held h b = count_of (holds_one (is_unfreed h) b) h
 
@@ -30,17 +30,17 @@ abbrev pub with_its_block : ℕ → List ℕ → What → List ℕ
 with_its_block p bs (Alloc q b) = cond (nat_eq p q) (b ∷ bs) bs
 with_its_block p bs _ = bs
 
--- the blocks of page p's allocations, the newest first
+-- the blocks of page p's allocations, newest first
 unfoldable pub blocks_of : History → ℕ → List ℕ
 blocks_of h p = fold (λ bs (e : Event). with_its_block p bs e.what) [] h
 
--- what is known of page p is so
-abbrev pub IsKnown : History → List Allocation → ℕ → Known → Type 0
+-- the record of page p is right
+abbrev pub IsKnown : History → List Allocation → ℕ → PageRecord → Type 0
 IsKnown h allocs p Freed = is_unfreed h p ≡ false
 IsKnown h allocs p (Holds last) = (is_unfreed h p ≡ true) × IsChain allocs (length allocs) last (blocks_of h p)
 
--- the numbers by block, what is known of the pages and the chained allocations say what the history says
-pub record Keeps (s : Shape) (h : History) (counts : List ℕ) (known : ℕ → Known) (allocs : List Allocation) : Type 0 where
+-- the numbers by block, the records of the pages and the linked allocations agree with the history
+pub record Keeps (s : Shape) (h : History) (counts : List ℕ) (known : ℕ → PageRecord) (allocs : List Allocation) : Type 0 where
   pub blocks : length counts ≡ s.blocks
   pub some : 1 ≤ s.blocks
   pub held : (b : ℕ) → slice_index counts b ≡ times_held h b

@@ -1,4 +1,4 @@
--- What the queue keeps of the table of pages. No public clause cites this module.
+-- The relation between the queue and the table of pages. No public clause cites this module.
 use Rattle.std.specs.Prelude.{◌≡◌, ℕ, length, List, Option, Some, None}
 use Rattle.std.specs.List.{Contains}
 use Rattle.thp_links.specs.Standing.{Stands}
@@ -6,17 +6,17 @@ use Rattle.thp_page.specs.declared.standing.Standing.TheVariants.{Queued}
 use Rattle.thp_page.specs.Table.{Slot, Table}
 use Rattle.thp_page.specs.Slots.{slot_at}
 
--- a page stands in the queue
+-- a page is in the queue
 abbrev pub IsQueued : Option Slot → Type 0
 IsQueued None = ⊥
 IsQueued (Some x) = x.standing ≡ Queued
 
--- index b is in the queue exactly where what stands there is
+-- index b is in the queue exactly if its content is
 pub record IsListed (o : Option Slot) (q : List ℕ) (b : ℕ) : Type 0 where
   pub queued : Contains q b → IsQueued o
   pub in_queue : IsQueued o → Contains q b
 
--- the queue stands in the table's links, with the blocks that it should have
+-- the table's links hold the queue, with the right blocks
 pub record IsLinked (t : Table) (q : List ℕ) : Type 0 where
   pub sizes : length t.slots ≡ length t.links
   pub queue_stands : Stands q t.links

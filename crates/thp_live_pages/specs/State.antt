@@ -1,4 +1,4 @@
--- What contracts see of the choice of blocks.
+-- The view that contracts have of the choice of blocks.
 use Rattle.std.specs.Prelude.{[], ◌∷◌, ◌++◌}
 use Rattle.thp_model.specs.declared.events.Event.{Event}
 use Rattle.thp_model.specs.declared.shape.Shape.{Shape}

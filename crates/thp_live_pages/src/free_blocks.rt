@@ -1,4 +1,4 @@
-//! The blocks that no page holds.
+//! The free blocks of a node.
 ghost use Rattle.std.specs.Prelude.{◌≡◌, ◌<◌, ◌≤◌, ◌*◌, ◌/◌, ◌^◌, ℕ, cond, nat_eq, nat_lt, true, false, length, IfOk, IfSome, IfNone};
 ghost use Rattle.thp_model.specs.Words.{in_words};
 
@@ -22,7 +22,7 @@ impl Model for FreeBlocks {
 }
 
 impl FreeBlocks {
-    /// Each block below `count`. Fails where its memory is refused.
+    /// Creates the set of all blocks below `count`. Fails if its memory can't be allocated.
     pub fn new(alloc: Global, count: u32) -> Result<FreeBlocks, AllocError>
         ensures all { IfOk result (λ f. (b : ℕ) → in_words f b ≡ nat_lt b count) }
         ensures size { IfOk result (λ f. count ≤ 64 * length f) }
@@ -35,7 +35,7 @@ impl FreeBlocks {
         Ok(free)
     }
 
-    /// Puts a block into the set.
+    /// Inserts a block into the set.
     pub fn insert(&mut self, block: u32)
         requires { block < 64 * length self.old }
         ensures with_it { (b : ℕ) → in_words self.new b ≡ cond (nat_eq b block) true (in_words self.old b) }
@@ -45,7 +45,7 @@ impl FreeBlocks {
         self.words[at] |= 1u64 << (block % 64);
     }
 
-    /// Takes a block out of the set.
+    /// Removes a block from the set.
     pub fn remove(&mut self, block: u32)
         requires { block < 64 * length self.old }
         ensures without_it { (b : ℕ) → in_words self.new b ≡ cond (nat_eq b block) false (in_words self.old b) }
@@ -55,7 +55,7 @@ impl FreeBlocks {
         self.words[at] &= !(1u64 << (block % 64));
     }
 
-    /// The least block of the set.
+    /// Returns the least block of the set, if any.
     pub fn least(&self) -> Option<u32>
         ensures there { IfSome result (λ b. in_words self.now b ≡ true) }
         ensures least { IfSome result (λ b. (k : ℕ) → k < b → in_words self.now k ≡ false) }

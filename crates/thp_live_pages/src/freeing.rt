@@ -1,10 +1,10 @@
-//! Which page an event frees.
+//! The page that an event frees.
 ghost use Rattle.std.specs.Prelude.{◌≡◌, ℕ, true, Some, IfSome};
 ghost use Rattle.thp_model.specs.Counts.{frees};
 
 use thp_model::{Outcome, PageId, What};
 
-/// The page that an event tells to be freed, if it tells so of one.
+/// Returns the page that an event frees, if any.
 pub fn freed_page(what: &What) -> Option<PageId>
     ensures frees { IfSome result (λ p. frees p what.now ≡ true) }
     ensures no_other { (p : ℕ) → frees p what.now ≡ true → result ≡ Some p }

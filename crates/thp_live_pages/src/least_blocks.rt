@@ -5,25 +5,24 @@ ghost use Rattle.thp_live_pages.specs.State.{with_event};
 ghost use Rattle.thp_model.specs.BlockLaws.{event_with, least_free};
 
 use crate::freeing::freed_page;
-use crate::holders::Holders;
+use crate::holders::BlockHolders;
 use crate::page_blocks::PageBlocks;
-use crate::pages::Known;
-use crate::past::Past;
+use crate::pages::PageRecord;
+use crate::past::EventTrace;
 use std::alloc::{AllocError, Global};
 use std::marker::Model;
 use thp_model::{Event, PageId, Shape, What};
 
-/// Goes along with a node's events and chooses the blocks of their allocations: each page gets the least block that no live
-/// page holds, or block 0 where each is held.
+/// Follows a node's events and chooses the blocks of their allocations: each page gets the least block that holds no live page,
+/// or block 0 if every block is held.
 ///
-/// Contracts see the node's shape and the events so far, with their blocks. The events may be any, legal or not: a page
-/// may be allocated twice, and then holds both blocks until it is freed; a page that was freed never lives again, and holds
-/// none.
+/// Contracts see the node's shape and the events so far, with their blocks. The events need not be legal. A page that is
+/// allocated twice holds both blocks until it is freed. A page that was freed never becomes live again, and holds no block.
 #[derive(Drop)]
 pub struct LeastBlocks {
     shape: Shape,
-    past: Past,
-    holders: Holders,
+    past: EventTrace,
+    holders: BlockHolders,
     pages: PageBlocks,
 }
 
@@ -33,7 +32,7 @@ impl Model for LeastBlocks {
     ghost Value = { BlocksState };
 
     ghost use Rattle.thp_live_pages.specs.Keeping.{Keeps};
-    ghost use Rattle.thp_live_pages.specs.Known.{known_of};
+    ghost use Rattle.thp_live_pages.specs.PageRecord.{known_of};
 
     ghost view = { λ b. record { shape = b.shape; history = b.past } };
 
@@ -41,23 +40,23 @@ impl Model for LeastBlocks {
 }
 
 impl LeastBlocks {
-    /// No events so far, on a node of this shape. Fails where the memory for its blocks is refused.
+    /// Creates the state before the first event, on a node of this shape. Fails if memory for its blocks can't be allocated.
     pub fn new(alloc: Global, shape: Shape) -> Result<LeastBlocks, AllocError>
         requires { 1 ≤ shape.blocks }
         ensures shape { IfOk result (λ b. b.shape ≡ shape) }
         ensures none { IfOk result (λ b. b.history ≡ []) }
     {
-        let holders = Holders::new(alloc, shape.blocks)?;
+        let holders = BlockHolders::new(alloc, shape.blocks)?;
         Ok(LeastBlocks {
             shape,
-            past: Past::new(),
+            past: EventTrace::new(),
             holders,
             pages: PageBlocks::new(alloc),
         })
     }
 
-    /// The event with the least free block where it is an allocation, and the same event where it isn't; from then on it is
-    /// one of the events so far. Fails where the memory for what is known of its page is refused: then nothing changes.
+    /// Adds an event to the events so far, and returns it; an allocation gets the least free block. Fails if memory for its page
+    /// can't be allocated, and then changes nothing.
     pub fn place(&mut self, event: Event) -> Result<Event, AllocError>
         ensures placed { IfOk result (λ e. e ≡ event_with (least_free self.old.shape self.old.history) event) }
         ensures shape { self.new.shape ≡ self.old.shape }
@@ -71,7 +70,7 @@ impl LeastBlocks {
         Ok(placed)
     }
 
-    // The event with the least free block, where it is an allocation.
+    // The event; an allocation gets the least free block.
     fn with_block(&self, event: &Event) -> Event
         ensures placed { result ≡ event_with (least_free self.now.shape self.now.history) event.now }
         ensures inside { IsInside self.now.shape.blocks result.what }
@@ -88,7 +87,7 @@ impl LeastBlocks {
         }
     }
 
-    // The event happened, in a block of the node where it is an allocation.
+    // Adds the event; an allocation has a block of the node.
     fn note(&mut self, event: &Event) -> Result<(), AllocError>
         requires { IsInside self.old.shape.blocks event.now.what }
         ensures noted { OnOk result (self.new ≡ with_event self.old event.now) }
@@ -104,14 +103,14 @@ impl LeastBlocks {
         Ok(())
     }
 
-    // The event allocates the page in the block.
+    // Records that the event allocates the page in the block.
     fn note_alloc(&mut self, event: &Event, page: PageId, block: u32) -> Result<(), AllocError>
         requires is_so { event.now.what ≡ What.Alloc page block }
         requires inside { block < self.old.shape.blocks }
         ensures noted { OnOk result (self.new ≡ with_event self.old event.now) }
         ensures failed { OnErr result (self.new ≡ self.old) }
     {
-        if let Known::Holds { last } = self.pages.known(page) {
+        if let PageRecord::Holds { last } = self.pages.known(page) {
             if let Err(_) = self.pages.add(page, block, last) {
                 return Err(AllocError);
             }
@@ -123,13 +122,13 @@ impl LeastBlocks {
         Ok(())
     }
 
-    // The event frees the page.
+    // Records that the event frees the page.
     fn note_freed(&mut self, event: &Event, page: PageId) -> Result<(), AllocError>
         requires frees { freed_page event.now.what ≡ Some page }
         ensures noted { OnOk result (self.new ≡ with_event self.old event.now) }
         ensures failed { OnErr result (self.new ≡ self.old) }
     {
-        if let Known::Holds { last } = self.pages.known(page) {
+        if let PageRecord::Holds { last } = self.pages.known(page) {
             if let Err(_) = self.pages.free(page) {
                 return Err(AllocError);
             }

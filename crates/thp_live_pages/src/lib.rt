@@ -1,20 +1,16 @@
-//! The pages of a node with their places: which block each lies in, and whether it stands in the queue or in a batch.
+//! The live pages of a node by block, with their queue.
 //!
-//! [`Places`] has the table of pages and the deferred split queue that is linked through it. A caller tests first
-//! ([`Places::refusal`], [`Places::is_free`], [`Places::find_in_batch`]) and acts then, by calls that ask that nothing is
-//! refused. A page call is a [`Gain`] or a [`Loss`]. None of this knows of histories; that what stands there is what a
-//! history says, and stays so by each call, is what the lemmas are for.
+//! - `page_store`: the table of pages and the deferred split queue linked through it (`PageStoreState`). A caller tests first
+//!   (`PageStore::refusal`, `is_free`, `find_in_batch`), then acts. `page_call`: what an unmap or unpin does to a page
+//!   (`Outcomes`).
+//! - `Homes` and `Holding` define which block, standing and state a history gives each page, `Flying` whose flight it is in.
+//! - `least_blocks`: gives each allocation of a journal, legal or not, its least free block (`State`); built from `free_blocks`,
+//!   `holders`, `page_blocks`, `past` (a list of events that takes no memory), `freeing`.
+//! - `walk`: the blocks of the queue in order.
 //!
-//! A journal's text says which pages were allocated, and not in which blocks. [`LeastBlocks`] goes along with its events and
-//! gives each allocation the least block that no live page holds, or block 0 where each is held (`thp_model`,
-//! `least_free`). The events needn't be legal. [`FreeBlocks`], [`Past`] and [`freed_page`], of which it is made, serve the check
-//! of a history, too.
-//!
-//! For callers' proofs, in `proofs/`: `Homing` says where a legal history puts a page, `Standings` where the page stands,
-//! `Keeping` what an event leaves as it is. `Admitting` finds the page of a call and says why it is refused, `Closing` says
-//! so of a close and an allocation. `PageEvents` goes on by a page call, `ListEvents` by any other event, and `Starting`
-//! begins; `Worth` says whether a page is worth a split. `Relinking` has what an edit does to one slot, and `FreeChains` how
-//! a chain of free blocks gets by.
+//! For callers' proofs: `Homing`, `Standings` (block and standing of a page in a legal history), `Keeping`, `Admitting`,
+//! `Closing` (refusals), `PageEvents`, `ListEvents`, `Starting` (the store after each event), `Worth` (split candidates),
+//! `Relinking` (one edit), `FreeChains` (a chain of free blocks in the same links).
 #![tactic(auto)]
 
 mod free_blocks;
@@ -23,15 +19,15 @@ mod holders;
 mod least_blocks;
 mod page_blocks;
 mod page_call;
+mod page_store;
 mod pages;
 mod past;
-mod places;
 mod slices;
 mod walk;
 
 pub use free_blocks::FreeBlocks;
 pub use freeing::freed_page;
 pub use least_blocks::LeastBlocks;
-pub use past::Past;
-pub use places::Places;
+pub use page_store::PageStore;
+pub use past::EventTrace;
 pub use slices::with_least_blocks;

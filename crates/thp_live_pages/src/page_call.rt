@@ -1,17 +1,17 @@
-//! What a call asks of one page, and what it does to the page.
+//! A call about one page, and its effect on the page.
 ghost use Rattle.std.specs.Prelude.{◌≡◌, ℕ, not, OnOk, OnErr};
 ghost use Rattle.std.specs.Result.{result_err};
 ghost use Rattle.thp_model.specs.PageCalls.{loss_call, Loses};
 ghost use Rattle.thp_model.specs.Pages.{page_refusal};
 ghost use Rattle.thp_model.specs.PageChanges.{page_outcome, page_released};
 ghost use Rattle.thp_live_pages.specs.Outcomes.{outcome_by, released_after};
-ghost use Rattle.thp_live_pages.specs.PlacesState.{is_nowhere};
+ghost use Rattle.thp_live_pages.specs.PageStoreState.{is_nowhere};
 
 use thp_model::{Done, Loss, Outcome, Refusal, SubSet};
 use thp_page::{Change, Page, Standing};
 
-// Takes it from a page that stands there, on a node that is closed or not, unless that is refused. What becomes of the page,
-// and the frames given back, then stand in `done`.
+// Removes mappings or a pin of a page on this list, on a node that is closed or not, unless that is refused. `done` is then the
+// outcome and the frames given back.
 #[inline(always)]
 pub(crate) fn lose_by(
     loss: Loss,
@@ -36,7 +36,7 @@ pub(crate) fn lose_by(
     Ok(())
 }
 
-// What a change comes to, by the page after it.
+// The outcome of a change, computed from the page after it.
 fn outcome_of(page: &Page, change: &Change, standing: Standing, closed: bool) -> Outcome
     ensures { result ≡ outcome_by page.now change.now closed (is_nowhere standing) }
 {
@@ -51,7 +51,7 @@ fn outcome_of(page: &Page, change: &Change, standing: Standing, closed: bool) ->
     }
 }
 
-// The frames that a change gives back: all, where it frees a page that isn't split.
+// The frames that a change gives back: all frames if it frees a page that is not split.
 fn give_back(page: &Page, change: &Change, outcome: Outcome, released: &mut SubSet)
     ensures { released.new ≡ released_after page.now change.now outcome }
 {

@@ -1,6 +1,6 @@
 //! What is known of each page.
 ghost use Rattle.std.specs.Prelude.{◌≡◌, ℕ, cond, nat_eq, OnOk, OnErr};
-ghost use Rattle.thp_live_pages.specs.Known.{known_of};
+ghost use Rattle.thp_live_pages.specs.PageRecord.{known_of};
 
 use std::alloc::{AllocError, Global};
 use std::collections::BTreeMap;
@@ -8,26 +8,26 @@ use thp_model::PageId;
 
 // What is known of a page.
 #[derive(Clone, Copy)]
-pub(crate) enum Known {
-    // It was freed, and holds nothing from then on.
+pub(crate) enum PageRecord {
+    // It was freed, and holds nothing afterwards.
     Freed,
-    // It wasn't freed, and holds the blocks of its allocations: `last` is the place of the last one, if there is any.
+    // It was not freed, and holds the blocks of its allocations: `last` is the index of the last one, if any.
     Holds { last: Option<u32> },
 }
 
-// What is known of each page, by number. Of a page that wasn't named yet it is that it holds no block.
+// What is known of each page, by number. A page that was not named yet holds no block.
 #[derive(Drop)]
 pub(crate) struct Pages {
-    // the pages from 0 on: where numbers are given one after the other, these are all
-    dense: Vec<Known>,
-    // others; of a page that `dense` has too, what stands here is out of date
-    others: BTreeMap<u64, Known>,
+    // the pages from 0 on: these are all, if numbers are assigned consecutively
+    dense: Vec<PageRecord>,
+    // other pages; an entry is out of date if `dense` has the page too
+    others: BTreeMap<u64, PageRecord>,
 }
 
 impl Pages {
     // No page was named.
     pub(crate) fn new(alloc: Global) -> Pages
-        ensures { (p : ℕ) → known_of result p ≡ Known.Holds None }
+        ensures { (p : ℕ) → known_of result p ≡ PageRecord.Holds None }
     {
         Pages {
             dense: Vec::new(alloc),
@@ -36,7 +36,7 @@ impl Pages {
     }
 
     // What is known of a page.
-    pub(crate) fn known(&self, page: PageId) -> Known
+    pub(crate) fn known(&self, page: PageId) -> PageRecord
         ensures { result ≡ known_of self.now page }
     {
         if let Some(known) = self.dense.get(page.0 as usize) {
@@ -44,12 +44,12 @@ impl Pages {
         }
         match self.others.get(&page.0) {
             Some(known) => *known,
-            None => Known::Holds { last: None },
+            None => PageRecord::Holds { last: None },
         }
     }
 
-    // From now on this is known of the page. Fails where memory is refused: then nothing changes.
-    pub(crate) fn set(&mut self, page: PageId, known: Known) -> Result<(), AllocError>
+    // Sets what is known of the page. Fails if memory can't be allocated, and then changes nothing.
+    pub(crate) fn set(&mut self, page: PageId, known: PageRecord) -> Result<(), AllocError>
         ensures done { OnOk result ((p : ℕ) → known_of self.new p ≡ cond (nat_eq p page) known (known_of self.old p)) }
         ensures failed { OnErr result ((p : ℕ) → known_of self.new p ≡ known_of self.old p) }
     {

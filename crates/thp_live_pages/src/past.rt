@@ -1,49 +1,49 @@
-//! The events so far, for contracts alone.
+//! The events so far, which are visible to contracts only.
 use std::marker::Model;
 use std::snapshot::Snapshot;
 use thp_model::Event;
 
 // The events one after the other, the newest outside.
 #[derive(Drop)]
-enum Steps {
+enum EventChain {
     Start,
-    Then(Event, Snapshot<Steps>),
+    Then(Event, Snapshot<EventChain>),
 }
 
-/// A list of events that takes no memory: only contracts see it.
+/// A list of events that is visible to contracts only and has no bytes.
 #[derive(Drop)]
-pub struct Past {
-    steps: Snapshot<Steps>,
+pub struct EventTrace {
+    steps: Snapshot<EventChain>,
 }
 
-impl Model for Past {
+impl Model for EventTrace {
     ghost use Rattle.thp_model.specs.History.{History};
 
     ghost Value = { History };
 
-    ghost use Rattle.thp_live_pages.specs.Past.{history_of};
+    ghost use Rattle.thp_live_pages.specs.EventTrace.{history_of};
 
     ghost view = { λ p. history_of p.steps.value };
 }
 
-impl Past {
+impl EventTrace {
     ghost use Rattle.std.specs.Prelude.{◌≡◌, [], ◌∷◌, ◌++◌};
 
-    /// No event.
-    pub fn new() -> Past
+    /// Returns the empty list.
+    pub fn new() -> EventTrace
         ensures { result ≡ [] }
     {
-        Past {
-            steps: Snapshot::of(&Steps::Start),
+        EventTrace {
+            steps: Snapshot::of(&EventChain::Start),
         }
     }
 
-    /// One more event.
+    /// Appends an event.
     pub fn push(&mut self, event: &Event)
         ensures { self.new ≡ self.old ++ event.now ∷ [] }
     {
-        let start = Snapshot::of(&Steps::Start);
+        let start = Snapshot::of(&EventChain::Start);
         let steps = std::mem::replace(&mut self.steps, start);
-        self.steps = Snapshot::of(&Steps::Then(*event, steps));
+        self.steps = Snapshot::of(&EventChain::Then(*event, steps));
     }
 }

@@ -1,4 +1,4 @@
-//! The blocks of a whole history.
+//! The least free blocks of a whole history.
 ghost use Rattle.std.specs.Prelude.{◌≡◌, ◌≤◌, IfOk};
 ghost use Rattle.thp_model.specs.BlockLaws.{with_least_blocks};
 
@@ -6,8 +6,8 @@ use crate::least_blocks::LeastBlocks;
 use std::alloc::{AllocError, Global};
 use thp_model::{Event, Shape};
 
-/// The events with the least free block in each allocation, on a node of this shape (`thp_model`, `with_least_blocks`). Where
-/// some choice of blocks makes the events legal, this one does (`least_blocks_are_legal`). Fails where memory is refused.
+/// Returns the events with the least free block in each allocation, on a node of this shape (`thp_model`, `with_least_blocks`).
+/// If some choice of blocks makes the events legal, this one does (`least_blocks_are_legal`). Fails if memory can't be allocated.
 pub fn with_least_blocks(
     alloc: Global,
     shape: Shape,

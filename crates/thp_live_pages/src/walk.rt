@@ -7,7 +7,7 @@ use std::alloc::{AllocError, Global};
 use thp_links::{LinkTable, Queue};
 use thp_page::PageTable;
 
-// The blocks of a queue that stands in the table's links, the oldest first. Each link pair is read once.
+// The blocks of a queue in the table's links, oldest first. Each link pair is read once.
 pub(crate) fn blocks_of(
     table: &mut PageTable,
     queue: &Queue,

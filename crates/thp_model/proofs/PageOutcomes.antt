@@ -78,7 +78,7 @@ pub unused_is : (shape : Shape) (h : History) (p : ℕ) (old new : PageState) �
 unused_is shape h p old new m l s w =
     set_of-ext _ _ (λ i below. by_bool (nat_lt i (subpages shape)) _
     (λ y. yes (nat_lt i (subpages shape)) (nat_lt i (size old)) (nat_lt i (size new)) (is_live h p) old.split new.split _ _ _ _ _ _ _ _ y (inside i) (inside' i) l s w.split
-    (total_is shape h p i old m (ltb-true i (subpages shape) y)) (same i (ltb-true i (subpages shape) y)) w.gave_zero (ap (λ z. has z i) w.zero ∙ m.zero i (ltb-true i (subpages shape) y)))
+    (total_is shape h p i old m (ltb-true i (subpages shape) y)) (same i (ltb-true i (subpages shape) y)) w.freed_zero_frames (ap (λ z. has z i) w.zero ∙ m.zero i (ltb-true i (subpages shape) y)))
     (λ y. no (nat_lt i (subpages shape)) (nat_lt i (size old)) _ _ _ y (inside i))) where
       inside : (i : ℕ) → nat_lt i (subpages shape) ≡ nat_lt i (size old)
       inside i = ap (λ n. nat_lt i n) (sym (size_is shape h p old m))

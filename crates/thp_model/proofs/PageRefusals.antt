@@ -24,7 +24,7 @@ some_is shape h p t f g m e = some_below-ext (subpages shape) f g e ∙ ap (λ n
 pub held_is : (shape : Shape) (h : History) (p i : ℕ) (t : PageState) → Tallies shape h p t → is_live h p ≡ true → is_held shape h p i ≡ holds t i
 held_is shape h p i t m l =
     go _ _ _ _ _ (shrinks_underused shape) _ _ _ _ _ (λ y. total_is shape h p i t m (ltb-true i (subpages shape) y)) (λ y. m.zero i (ltb-true i (subpages shape) y))
-    (ap (λ n. nat_lt i n) (sym (size_is shape h p t m))) l (sym m.split) m.gave_zero where
+    (ap (λ n. nat_lt i n) (sym (size_is shape h p t m))) l (sym m.split) m.freed_zero_frames where
       go : (x x' l s s' on g z z' : Bool) (u u' : ℕ) → (x ≡ true → u ≡ u') → (x ≡ true → z' ≡ z) → x ≡ x' → l ≡ true → s ≡ s' → (s' ≡ true → g ≡ on) →
           (x && (l && (not s || ((l && nat_lt 0 u) && not (on && z))))) ≡ (x' && (not s' || (nat_lt 0 u' && not (g && z'))))
       go true x' l s true on g z z' u u' a b d e f j = rw (sym d, e, f, j refl, a refl, b refl) refl

@@ -13,7 +13,7 @@ use Rattle.thp_model.specs.Shapes.{subpages}
 use Rattle.thp_model.specs.History.{History, count_of, by}
 use Rattle.thp_model.specs.Counts.{maps, unmaps, maps_whole, unmaps_whole, pins_page, unpins_page, is_split, splits, total, whole, own, pins, is_mapped, loses_use}
 use Rattle.thp_model.specs.Underused.{shrinks_underused, zeroes, writes, unmaps_some, is_zero_filled, is_partly_mapped, is_worth_split, is_above, zero_filled}
-use Rattle.thp_model.specs.Pages.{PageState, size, own_at, total_at, zero_at, zero_count, zero_set, has_use, drops_use, partly_after, is_worth, KeepsZero, KeepsCounts, WholeMapped, WholeUnmapped, RangeMapped, RangeUnmapped, PmdSplit, Pinned, PageSplit, RangeWritten, RangeZeroed, IsFresh, Tallies}
+use Rattle.thp_model.specs.Pages.{PageState, size, own_at, total_at, zero_at, zero_count, zero_set, has_use, drops_use, partly_after, is_split_candidate, KeepsZero, KeepsCounts, WholeMapped, WholeUnmapped, RangeMapped, RangeUnmapped, PmdSplit, Pinned, PageSplit, RangeWritten, RangeZeroed, IsFresh, Tallies}
 use Rattle.thp_model.proofs.Below.{some_below-ext}
 use Rattle.thp_model.proofs.Bools.{by_bool, or_first, and_no, none_if}
 use Rattle.thp_model.proofs.Numbers.{Fresh}
@@ -59,8 +59,8 @@ zero_kept shape h e p old new m k z w i below = ap (λ s. has s i) k.zero ∙ m.
 
 -- the same of what its split gave back
 gave_kept : (shape : Shape) (h : History) (p : ℕ) (old new : PageState) → Tallies shape h p old → KeepsZero old new → new.split ≡ old.split →
-    new.split ≡ true → new.gave_zero ≡ shrinks_underused shape
-gave_kept shape h p old new m k s g = k.gave_zero ∙ m.gave_zero (sym s ∙ g)
+    new.split ≡ true → new.freed_zero_frames ≡ shrinks_underused shape
+gave_kept shape h p old new m k s g = k.freed_zero_frames ∙ m.freed_zero_frames (sym s ∙ g)
 
 -- an event that unmaps nothing leaves whether the page is partly mapped
 partly_kept : (shape : Shape) (h : History) (e : Event) (p : ℕ) (old new : PageState) → Tallies shape h p old → new.partly ≡ old.partly → unmaps_some p e.what ≡ false →
@@ -96,7 +96,7 @@ tallies_stay shape h e p t u m = record {
   split = m.split ∙ sym (some_same (splits p) h e u.no_split);
   zero = λ i below. m.zero i below ∙ sym (zero_stays h e p i (u.no_zeroes i) (u.no_writes i));
   partly = m.partly ∙ sym (partly_stays shape h e p u.no_unmap);
-  gave_zero = m.gave_zero;
+  freed_zero_frames = m.freed_zero_frames;
 }
 
 -- a subpage of the node's pages is one of the page
@@ -136,7 +136,7 @@ tallies_alloc shape h c p b new f m =
       split = m.split ∙ sym (some_same (splits p) h e refl ∙ f.not_split);
       zero = λ i below. m.zero i (omega (arith, below, fresh_size shape new m)) ∙ sym (is_zero_filled_push p i h e ∙ or_first (nat_eq p p) _ (eq-eqb p p refl));
       partly = m.partly ∙ sym (partly_stays shape h e p refl ∙ f.not_partly shape);
-      gave_zero = λ g. absurd (let z : true ≡ false = sym g ∙ m.split in cc);
+      freed_zero_frames = λ g. absurd (let z : true ≡ false = sym g ∙ m.split in cc);
     }
 
 -- one more mapping of the whole page
@@ -153,7 +153,7 @@ tallies_map_whole shape h c p old new t s w =
       split = w.split ∙ t.split ∙ sym (some_same (splits p) h e refl);
       zero = zero_kept shape h e p old new t w.kept (λ i. refl) (λ i. refl);
       partly = partly_kept shape h e p old new t w.partly refl;
-      gave_zero = gave_kept shape h p old new t w.kept w.split;
+      freed_zero_frames = gave_kept shape h p old new t w.kept w.split;
     }
 
 -- one mapping of the whole page less
@@ -172,7 +172,7 @@ tallies_unmap_whole shape h c p o r old new t w =
       split = w.split ∙ t.split ∙ sym (some_same (splits p) h e refl);
       zero = zero_kept shape h e p old new t w.kept (λ i. refl) (λ i. refl);
       partly = partly_unmapped shape h e p old new t w.order totals w.partly (eq-eqb p p refl);
-      gave_zero = gave_kept shape h p old new t w.kept w.split;
+      freed_zero_frames = gave_kept shape h p old new t w.kept w.split;
     }
 
 -- one more mapping of each subpage of a range
@@ -190,7 +190,7 @@ tallies_map_sub shape h c p first count old new t u =
       split = u.split ∙ t.split ∙ sym (some_same (splits p) h e refl);
       zero = zero_kept shape h e p old new t u.kept (λ i. refl) (λ i. refl);
       partly = partly_kept shape h e p old new t u.partly refl;
-      gave_zero = gave_kept shape h p old new t u.kept u.split;
+      freed_zero_frames = gave_kept shape h p old new t u.kept u.split;
     }
 
 -- one mapping of each subpage of a range less
@@ -210,7 +210,7 @@ tallies_unmap_sub shape h c p first count o r old new t u =
       split = u.split ∙ t.split ∙ sym (some_same (splits p) h e refl);
       zero = zero_kept shape h e p old new t u.kept (λ i. refl) (λ i. refl);
       partly = partly_unmapped shape h e p old new t u.order totals u.partly (eq-eqb p p refl);
-      gave_zero = gave_kept shape h p old new t u.kept u.split;
+      freed_zero_frames = gave_kept shape h p old new t u.kept u.split;
     }
 
 -- a mapping of the whole page made into one of each subpage
@@ -227,7 +227,7 @@ tallies_split_pmd shape h c p old new t w =
       split = w.split ∙ t.split ∙ sym (some_same (splits p) h e refl);
       zero = zero_kept shape h e p old new t w.kept (λ i. refl) (λ i. refl);
       partly = partly_kept shape h e p old new t w.partly refl;
-      gave_zero = gave_kept shape h p old new t w.kept w.split;
+      freed_zero_frames = gave_kept shape h p old new t w.kept w.split;
     }
 
 -- one more pin
@@ -243,7 +243,7 @@ tallies_pin shape h c p old new t w =
       split = w.split ∙ t.split ∙ sym (some_same (splits p) h e refl);
       zero = zero_kept shape h e p old new t w.kept (λ i. refl) (λ i. refl);
       partly = partly_kept shape h e p old new t w.partly refl;
-      gave_zero = gave_kept shape h p old new t w.kept w.split;
+      freed_zero_frames = gave_kept shape h p old new t w.kept w.split;
     }
 
 -- one pin less
@@ -251,7 +251,7 @@ pub tallies_unpin : (shape : Shape) (h : History) (c p : ℕ) (o : Outcome) (r :
     Tallies shape (h ++ by c (Unpin o p r) ∷ []) p new
 tallies_unpin shape h c p o r old new t w =
     let e : Event = by c (Unpin o p r) in
-    let back : KeepsZero old new = record { zero = sym w.kept.zero; gave_zero = sym w.kept.gave_zero } in
+    let back : KeepsZero old new = record { zero = sym w.kept.zero; freed_zero_frames = sym w.kept.freed_zero_frames } in
     record {
       order = sym w.order ∙ t.order;
       totals = λ i below. omega (arith, count_same (maps p i) h e refl, count_same (unmaps p i) h e refl, t.totals i below, w.whole, w.own i (omega (arith, in_size shape h p old t i below, same_size old new w.order)));
@@ -261,7 +261,7 @@ tallies_unpin shape h c p o r old new t w =
       split = sym w.split ∙ t.split ∙ sym (some_same (splits p) h e refl);
       zero = zero_kept shape h e p old new t back (λ i. refl) (λ i. refl);
       partly = partly_kept shape h e p old new t (sym w.partly) refl;
-      gave_zero = gave_kept shape h p old new t back (sym w.split);
+      freed_zero_frames = gave_kept shape h p old new t back (sym w.split);
     }
 
 -- the page split into base pages
@@ -279,7 +279,7 @@ tallies_split shape h c p r old new t w =
       split = w.split ∙ sym now;
       zero = λ i below. ap (λ s. has s i) w.zero ∙ t.zero i below ∙ sym (zero_stays h e p i refl refl);
       partly = partly_kept shape h e p old new t w.partly refl;
-      gave_zero = λ g. w.gave_zero;
+      freed_zero_frames = λ g. w.freed_zero_frames;
     } where
       go : (a b : Bool) → b ≡ true → (a || b) ≡ true
       go true b e = refl
@@ -297,7 +297,7 @@ counts_kept shape h e p old new t k u zero = record {
   split = k.split ∙ t.split ∙ sym (some_same (splits p) h e u.no_split);
   zero = zero;
   partly = partly_kept shape h e p old new t k.partly u.no_unmap;
-  gave_zero = λ g. k.gave_zero ∙ t.gave_zero (sym k.split ∙ g);
+  freed_zero_frames = λ g. k.freed_zero_frames ∙ t.freed_zero_frames (sym k.split ∙ g);
 }
 
 -- data written to a range
@@ -347,7 +347,7 @@ zero_set_size t small =
       past i n h = grind (arith, nat_tests)
 
 -- whether a split of the page is worth its while
-pub worth_is : (shape : Shape) (h : History) (p : ℕ) (t : PageState) → Tallies shape h p t → is_worth_split shape h p ≡ is_worth shape.underused t
+pub worth_is : (shape : Shape) (h : History) (p : ℕ) (t : PageState) → Tallies shape h p t → is_worth_split shape h p ≡ is_split_candidate shape.underused t
 worth_is shape h p t m = both _ _ _ _ (sym m.partly) (ap (λ n. is_above shape.underused n) (zero_count_is shape h p t m)) where
   both : (a a' b b' : Bool) → a ≡ a' → b ≡ b' → (a || b) ≡ (a' || b')
   both a a' b b' e f = cc

@@ -47,23 +47,23 @@ word_fits : (ws : List ℕ) (at : ℕ) → AreWords ws → at < 512 → get_or w
 word_fits ws at a h = a.fit (at / 64) 0 (omega (arith, a.eight))
 
 -- a number of this word at or behind a place
-bit_ahead : (m at i : ℕ) → at ≤ i → i / 64 ≡ at / 64 → bit_at m (i % 64) ≡ bit_at (m / 2 ^ (at % 64)) (i - at)
-bit_ahead m at i h e = ap (λ r. bit_at m r) (there at i h e) ∙ sym (bit_at-shifted m (at % 64) (i - at)) where
+parse_bit_fast : (m at i : ℕ) → at ≤ i → i / 64 ≡ at / 64 → bit_at m (i % 64) ≡ bit_at (m / 2 ^ (at % 64)) (i - at)
+parse_bit_fast m at i h e = ap (λ r. bit_at m r) (there at i h e) ∙ sym (bit_at-shifted m (at % 64) (i - at)) where
   there : (at i : ℕ) → at ≤ i → i / 64 ≡ at / 64 → i % 64 ≡ at % 64 + (i - at)
   there at i h e = omega arith
 
 -- where no mark is ahead in the word, none of its numbers from here on is as was asked for
-pub none_ahead : (ws : List ℕ) (b : Bool) (at i : ℕ) → AreWords ws → at < 512 → marks b (get_or ws (at / 64) 0) / 2 ^ (at % 64) ≡ 0 →
+pub parse_none_fast : (ws : List ℕ) (b : Bool) (at i : ℕ) → AreWords ws → at < 512 → marks b (get_or ws (at / 64) 0) / 2 ^ (at % 64) ≡ 0 →
     at ≤ i → i < at + (64 - at % 64) → has (set_of (in_words ws)) i ≡ not b
-none_ahead ws b at i a h e low high =
+parse_none_fast ws b at i a h e low high =
     let w : ℕ = get_or ws (at / 64) 0 in
     let same : i / 64 ≡ at / 64 = omega arith in
     has_bit ws at i (omega arith) same
     ∙ unmarked b w (i % 64) (word_fits ws at a h) (omega arith)
-    (bit_ahead (marks b w) at i low same ∙ ap (λ n. bit_at n (i - at)) e ∙ bit_at-zero (i - at))
+    (parse_bit_fast (marks b w) at i low same ∙ ap (λ n. bit_at n (i - at)) e ∙ bit_at-zero (i - at))
 
 -- where a mark is ahead, the lowest is in the same word, and its number is the first that is as was asked for
-pub record FirstAhead (set : List Bool) (b : Bool) (at z : ℕ) : Type 0 where
+pub record FastFirst (set : List Bool) (b : Bool) (at z : ℕ) : Type 0 where
   pub inside : at + z < 512
   pub found : has set (at + z) ≡ b
   pub none_before : (i : ℕ) → at ≤ i → i < at + z → has set i ≡ not b
@@ -76,7 +76,7 @@ mark_below m r f e = elim (cases_lt r 64) [ inl y ↦ y | inr y ↦ absurd (go (
 
 -- what the bits of the word at hand say of its numbers
 first_in_word : (ws : List ℕ) (b : Bool) (at z : ℕ) → AreWords ws → at < 512 → bit_at (marks b (get_or ws (at / 64) 0)) (at % 64 + z) ≡ 1 →
-    ((i : ℕ) → i < z → bit_at (marks b (get_or ws (at / 64) 0)) (at % 64 + i) ≡ 0) → FirstAhead (set_of (in_words ws)) b at z
+    ((i : ℕ) → i < z → bit_at (marks b (get_or ws (at / 64) 0)) (at % 64 + i) ≡ 0) → FastFirst (set_of (in_words ws)) b at z
 first_in_word ws b at z a h e f =
     let w : ℕ = get_or ws (at / 64) 0 in
     let fits : w < 2 ^ 64 = word_fits ws at a h in
@@ -97,9 +97,9 @@ first_in_word ws b at z a h e f =
       behind at z i h low high = omega arith
 
 -- the lowest mark ahead is the first number that is as was asked for
-pub first_ahead : (ws : List ℕ) (b : Bool) (at : ℕ) → AreWords ws → at < 512 → 0 < marks b (get_or ws (at / 64) 0) / 2 ^ (at % 64) →
-    FirstAhead (set_of (in_words ws)) b at (trailing_zeros w64 (marks b (get_or ws (at / 64) 0) / 2 ^ (at % 64)))
-first_ahead ws b at a h pos =
+pub parse_first_fast : (ws : List ℕ) (b : Bool) (at : ℕ) → AreWords ws → at < 512 → 0 < marks b (get_or ws (at / 64) 0) / 2 ^ (at % 64) →
+    FastFirst (set_of (in_words ws)) b at (trailing_zeros w64 (marks b (get_or ws (at / 64) 0) / 2 ^ (at % 64)))
+parse_first_fast ws b at a h pos =
     let m : ℕ = marks b (get_or ws (at / 64) 0) in
     let fits : m < 2 ^ 64 = marks_fit b (get_or ws (at / 64) 0) (word_fits ws at a h) in
     let lowest : (trailing_zeros w64 (m / 2 ^ (at % 64)) < 64) × (bit_at (m / 2 ^ (at % 64)) (trailing_zeros w64 (m / 2 ^ (at % 64))) ≡ 1) × ((i : ℕ) → i < trailing_zeros w64 (m / 2 ^ (at % 64)) → bit_at (m / 2 ^ (at % 64)) i ≡ 0) =
@@ -109,17 +109,17 @@ first_ahead ws b at a h pos =
     (λ i below. sym (bit_at-shifted m (at % 64) i) ∙ lowest.2 i below)
 
 -- the same of a set and of marks by their equations, as the code knows them
-pub found_ahead : (ws : List ℕ) (set : List Bool) (b : Bool) (at m : ℕ) → set_of (in_words ws) ≡ set → m ≡ marks b (get_or ws (at / 64) 0) → AreWords ws → at < 512 →
-    0 < m / 2 ^ (at % 64) → FirstAhead set b at (trailing_zeros w64 (m / 2 ^ (at % 64)))
-found_ahead ws set b at m view e a h pos =
-    let P : List Bool → Type 0 = λ t. FirstAhead t b at (trailing_zeros w64 (m / 2 ^ (at % 64))) in
-    let Q : ℕ → Type 0 = λ n. 0 < n / 2 ^ (at % 64) → FirstAhead (set_of (in_words ws)) b at (trailing_zeros w64 (n / 2 ^ (at % 64))) in
-    subst P view (subst Q (sym e) (λ p. first_ahead ws b at a h p) pos)
+pub parse_found_fast : (ws : List ℕ) (set : List Bool) (b : Bool) (at m : ℕ) → set_of (in_words ws) ≡ set → m ≡ marks b (get_or ws (at / 64) 0) → AreWords ws → at < 512 →
+    0 < m / 2 ^ (at % 64) → FastFirst set b at (trailing_zeros w64 (m / 2 ^ (at % 64)))
+parse_found_fast ws set b at m view e a h pos =
+    let P : List Bool → Type 0 = λ t. FastFirst t b at (trailing_zeros w64 (m / 2 ^ (at % 64))) in
+    let Q : ℕ → Type 0 = λ n. 0 < n / 2 ^ (at % 64) → FastFirst (set_of (in_words ws)) b at (trailing_zeros w64 (n / 2 ^ (at % 64))) in
+    subst P view (subst Q (sym e) (λ p. parse_first_fast ws b at a h p) pos)
 
-pub nothing_ahead : (ws : List ℕ) (set : List Bool) (b : Bool) (at m : ℕ) → set_of (in_words ws) ≡ set → m ≡ marks b (get_or ws (at / 64) 0) → AreWords ws → at < 512 →
+pub parse_nothing_fast : (ws : List ℕ) (set : List Bool) (b : Bool) (at m : ℕ) → set_of (in_words ws) ≡ set → m ≡ marks b (get_or ws (at / 64) 0) → AreWords ws → at < 512 →
     m / 2 ^ (at % 64) ≡ 0 → (i : ℕ) → at ≤ i → i < at + (64 - at % 64) → has set i ≡ not b
-nothing_ahead ws set b at m view e a h none i low high =
-    ap (λ t. has t i) (sym view) ∙ none_ahead ws b at i a h (ap (λ n. n / 2 ^ (at % 64)) (sym e) ∙ none) low high
+parse_nothing_fast ws set b at m view e a h none i low high =
+    ap (λ t. has t i) (sym view) ∙ parse_none_fast ws b at i a h (ap (λ n. n / 2 ^ (at % 64)) (sym e) ∙ none) low high
 
 -- a set is a list of 512 truths
 pub size_is : (ws : List ℕ) (set : List Bool) → set_of (in_words ws) ≡ set → length set ≡ 512

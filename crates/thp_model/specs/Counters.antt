@@ -1,5 +1,5 @@
--- The node's statistics, by the names of /proc/vmstat.
--- (admin-guide/mm/transhuge.rst, "Monitoring usage", for the names; when each rises is this project's profile)
+-- The node's statistics, named as in /proc/vmstat. (admin-guide/mm/transhuge.rst, "Monitoring usage", for the names; when each of
+-- them increases is this project's profile)
 use Rattle.std.specs.Prelude.{ℕ, ◌+◌, Bool, true, false, if◌then◌else◌, [], ◌∷◌, ◌++◌}
 use Rattle.std.specs.List.{fold}
 use Rattle.thp_model.specs.declared.events.Event.{Event}
@@ -18,26 +18,26 @@ abbrev pub is_failed_try : What → Bool
 is_failed_try (Pinned p) = true
 is_failed_try _ = false
 
--- the event's outcome is that its page was queued; neither a put-back nor an allocation counts
+-- the event's outcome is that its page was queued; a put back or an allocation doesn't count
 abbrev pub queues : What → Bool
 queues (UnmapWhole outcome p set) = is_queued outcome
 queues (UnmapSub outcome p first count set) = is_queued outcome
 queues (Unpin outcome p set) = is_queued outcome
 queues _ = false
 
--- how many pages were split
+-- the number of pages split
 abbrev pub thp_split_page : History → ℕ
 thp_split_page h = count_of is_page_split h
 
--- how many tries of a page failed
+-- the number of tries that failed
 abbrev pub thp_split_page_failed : History → ℕ
 thp_split_page_failed h = count_of is_failed_try h
 
--- how often a page was queued
+-- the number of times that a page was queued
 abbrev pub thp_deferred_split_page : History → ℕ
 thp_deferred_split_page h = count_of queues h
 
--- how many PMD mappings an event splits at h: one, or all that a page has when it is split itself
+-- the number of PMD mappings that an event splits at h: one, or all mappings of the whole page if the page itself is split
 abbrev pub splits_pmds : History → What → ℕ
 splits_pmds h (SplitPmd p) = 1
 splits_pmds h (Split p set) = whole h p
@@ -47,11 +47,11 @@ splits_pmds h _ = 0
 abbrev pub add_split_pmds : History × ℕ → Event → History × ℕ
 add_split_pmds sofar e = (sofar.0 ++ e ∷ [], sofar.1 + splits_pmds sofar.0 e.what)
 
--- how many PMD mappings were split
+-- the number of PMD mappings split
 unfoldable pub thp_split_pmd : History → ℕ
 thp_split_pmd h = (fold add_split_pmds ([], 0) h).1
 
--- how many pages an event splits at h that weren't partly mapped: they were split as underused
+-- the number of pages that an event splits at h although they are not partly mapped: they are split as underused
 abbrev pub splits_underused : Shape → History → What → ℕ
 splits_underused s h (Split p set) = if is_partly_mapped s h p then 0 else 1
 splits_underused s h _ = 0
@@ -60,6 +60,6 @@ splits_underused s h _ = 0
 abbrev pub add_split_underused : Shape → History × ℕ → Event → History × ℕ
 add_split_underused s sofar e = (sofar.0 ++ e ∷ [], sofar.1 + splits_underused s sofar.0 e.what)
 
--- how many pages were split as underused
+-- the number of pages split as underused
 unfoldable pub thp_underused_split_page : Shape → History → ℕ
 thp_underused_split_page s h = (fold (add_split_underused s) ([], 0) h).1

@@ -1,5 +1,5 @@
--- What a history says of one page: its map counts, its pins and its states. Each is a count over the history's events.
--- (mm/transhuge.rst, "Refcounts and transparent huge pages"; the count of each page by itself is this project's profile)
+-- The state of one page after a history: its map counts, its pins and its states. Each is a count of the history's events.
+-- (mm/transhuge.rst, "Refcounts and transparent huge pages"; the separate count for the whole page is this project's profile)
 use Rattle.std.specs.Prelude.{ℕ, ◌-◌, Bool, true, false, not, ◌&&◌, if◌then◌else◌, nat_eq, nat_lt, IsTrue}
 use Rattle.thp_model.specs.declared.events.Outcome.{Outcome}
 use Rattle.thp_model.specs.declared.events.Outcome.TheVariants.{Freed, Queued}
@@ -17,7 +17,7 @@ maps p i (MapWhole q) = nat_eq p q
 maps p i (MapSub q first count) = nat_eq p q && covers first count i
 maps p i _ = false
 
--- the event takes a mapping of subpage i of page p away
+-- the event removes a mapping of subpage i of page p
 abbrev pub unmaps : ℕ → ℕ → What → Bool
 unmaps p i (UnmapWhole outcome q released) = nat_eq p q
 unmaps p i (UnmapSub outcome q first count released) = nat_eq p q && covers first count i
@@ -29,7 +29,7 @@ maps_whole p (Alloc q block) = nat_eq p q
 maps_whole p (MapWhole q) = nat_eq p q
 maps_whole p _ = false
 
--- the event takes a mapping of the whole page p away, or makes it one of each subpage
+-- the event removes a mapping of the whole page p, or replaces it by one of each subpage
 abbrev pub unmaps_whole : ℕ → What → Bool
 unmaps_whole p (UnmapWhole outcome q released) = nat_eq p q
 unmaps_whole p (SplitPmd q) = nat_eq p q
@@ -40,7 +40,7 @@ abbrev pub pins_page : ℕ → What → Bool
 pins_page p (Pin q) = nat_eq p q
 pins_page p _ = false
 
--- the event takes a pin of page p away
+-- the event removes a pin of page p
 abbrev pub unpins_page : ℕ → What → Bool
 unpins_page p (Unpin outcome q released) = nat_eq p q
 unpins_page p _ = false
@@ -79,11 +79,11 @@ abbrev pub closes : What → Bool
 closes Close = true
 closes _ = false
 
--- how many pages were allocated
+-- the number of pages allocated
 abbrev pub allocations : History → ℕ
 allocations h = count_of is_alloc h
 
--- how often subpage i of page p is mapped, by PMD and by PTE entries
+-- the number of mappings of subpage i of page p, by PMD and by PTE entries
 abbrev pub total : History → ℕ → ℕ → ℕ
 total h p i = count_of (maps p i) h - count_of (unmaps p i) h
 
@@ -91,15 +91,15 @@ total h p i = count_of (maps p i) h - count_of (unmaps p i) h
 abbrev pub is_split : History → ℕ → Bool
 is_split h p = some_event (splits p) h
 
--- the entire map count of page p: how often it is mapped by a PMD entry
+-- the entire map count of page p: the number of PMD entries that map it
 abbrev pub whole : History → ℕ → ℕ
 whole h p = if is_split h p then 0 else count_of (maps_whole p) h - count_of (unmaps_whole p) h
 
--- the own map count of subpage i: how often it is mapped by a PTE entry
+-- the own map count of subpage i: the number of PTE entries that map it
 abbrev pub own : History → ℕ → ℕ → ℕ
 own h p i = total h p i - whole h p
 
--- the extra pins of page p
+-- the number of extra pins of page p
 abbrev pub pins : History → ℕ → ℕ
 pins h p = count_of (pins_page p) h - count_of (unpins_page p) h
 
@@ -107,7 +107,7 @@ pins h p = count_of (pins_page p) h - count_of (unpins_page p) h
 abbrev pub is_mapped : Shape → History → ℕ → Bool
 is_mapped s h p = some_below (subpages s) (λ i. nat_lt 0 (total h p i))
 
--- some subpage of page p was mapped before and isn't after
+-- some subpage of page p was mapped before and is not mapped after
 abbrev pub loses_use : Shape → History → History → ℕ → Bool
 loses_use s before after p = some_below (subpages s) (λ i. nat_lt 0 (total before p i) && nat_eq (total after p i) 0)
 
@@ -123,7 +123,7 @@ is_closed h = some_event closes h
 abbrev pub is_used : History → ℕ → ℕ → Bool
 is_used h p i = is_live h p && nat_lt 0 (total h p i)
 
--- the same as facts
+-- the same as propositions
 abbrev pub IsLive : History → ℕ → Type 0
 IsLive h p = IsTrue (is_live h p)
 

@@ -19,19 +19,19 @@ gives_frame p i (Unpin outcome q released) = nat_eq p q && has released i
 gives_frame p i (Split q released) = nat_eq p q && has released i
 gives_frame p i _ = false
 
--- each frame of each allocated page is held and was never given back, or isn't held and was given back once: its being
--- held, as 0 or 1, and the events that gave it back make 1, and 0 for a page that wasn't allocated
+-- each frame of each allocated page is either held and was never given back, or not held and given back once: 1 if it is held,
+-- plus the number of events that gave it back, is 1 for an allocated page, and 0 for any other
 abbrev pub EachFrameOnce : Type 0
 EachFrameOnce =
     (s : Shape) (h : History) → IsShape s → IsLegal s h → (p i : ℕ) → i < subpages s →
     cond (is_held s h p i) 1 0 + count_of (gives_frame p i) h ≡ cond (nat_lt p (allocations h)) 1 0
 
--- in sum, the frames of all pages allocated are those held and those given back
+-- in sum, the frames of all allocated pages are those held and those given back
 abbrev pub FramesAreKept : Type 0
 FramesAreKept = (s : Shape) (h : History) → IsShape s → IsLegal s h → subpages s * allocations h ≡ frames_held s h + frames_given h
 
--- a page holds a frame exactly while it lives, but for a split page where the switch is on, whose mappings may all be of the
--- shared zero page: so while the switch is off a block of no live page is one none of whose frames is held
+-- a page holds a frame exactly while it is live, with one exception: while the switch is on, a split page may have only mappings
+-- of the shared zero page. While the switch is off, a block is therefore free exactly if none of its frames is held
 abbrev pub LivePagesHoldFrames : Type 0
 LivePagesHoldFrames =
     (s : Shape) (h : History) (p : ℕ) → IsLegal s h → (shrinks_underused s && is_split h p) ≡ false →

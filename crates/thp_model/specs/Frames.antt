@@ -15,12 +15,12 @@ use Rattle.thp_model.specs.Counts.{pins, is_live, is_split, is_closed, is_used, 
 use Rattle.thp_model.specs.Underused.{shrinks_underused, is_zero_filled}
 use Rattle.thp_model.specs.Places.{stands}
 
--- a split of page p leaves subpage i its frame: the subpage is in use, and isn't zero-filled where the switch is on (then
--- its mappings become ones of the shared zero page)
+-- a split of page p leaves subpage i its frame: the subpage is in use, and, if the switch is on, not zero-filled (a zero-filled
+-- one is then mapped to the shared zero page)
 abbrev pub keeps_frame : Shape → History → ℕ → ℕ → Bool
 keeps_frame s h p i = is_used h p i && not (shrinks_underused s && is_zero_filled h p i)
 
--- page p holds the frame of its subpage i: all frames until it is split, those that the split left from then on, each
+-- page p holds the frame of its subpage i: every frame until the page is split, and afterwards those that the split left, each
 -- while its subpage is in use
 abbrev pub is_held : Shape → History → ℕ → ℕ → Bool
 is_held s h p i = nat_lt i (subpages s) && (is_live h p && (not (is_split h p) || keeps_frame s h p i))
@@ -28,12 +28,12 @@ is_held s h p i = nat_lt i (subpages s) && (is_live h p && (not (is_split h p) |
 abbrev pub IsHeld : Shape → History → ℕ → ℕ → Type 0
 IsHeld s h p i = IsTrue (is_held s h p i)
 
--- the frames of page p that are held before and not after
+-- the frames of page p that are held before and not held after
 abbrev pub released : Shape → History → History → ℕ → List Bool
 released s before after p = set_of (λ i. is_held s before p i && not (is_held s after p i))
 
--- the outcome for page p of an unmap or an unpin: freed where no mapping and no pin is left; queued where a subpage of
--- a page that isn't split went out of use, another is in use, the node is open and the page stands nowhere yet
+-- the outcome for page p of an unmap or an unpin: freed if no mapping and no pin is left; queued if a subpage of a page that is
+-- not split went out of use, another one is in use, the node is open and the page is on no list yet
 abbrev pub outcome : Shape → History → History → ℕ → Outcome
 outcome s before after p =
     if not (is_mapped s after p) && nat_eq (pins after p) 0
@@ -55,11 +55,11 @@ abbrev pub places_live : History → ℕ → What → Bool
 places_live h b (Alloc p c) = nat_eq b c && is_live h p
 places_live h b _ = false
 
--- block b is that of a live page
+-- block b holds a live page
 abbrev pub block_in_use : History → ℕ → Bool
 block_in_use h b = some_event (places_live h b) h
 
--- the page of an event and the frames of it that the event gave back
+-- the page of an event, and the frames of it that the event gave back
 abbrev pub gives_back : Event → Option (ℕ × List Bool)
 gives_back e = by_kind e.what where
   by_kind : What → Option (ℕ × List Bool)
@@ -69,14 +69,14 @@ gives_back e = by_kind e.what where
   by_kind (Split p set) = Some (p, set)
   by_kind _ = None
 
--- the record of frames given back: a page and a set for each event that has one, in order
+-- the record of frames given back: a page and a set for each event that gives frames back, in order
 unfoldable pub given : History → List (ℕ × List Bool)
 given h = filter_map gives_back h
 
--- how many frames were given back
+-- the number of frames given back
 abbrev pub frames_given : History → ℕ
 frames_given h = sum_by (λ (g : ℕ × List Bool). set_size g.1) (given h)
 
--- how many frames are held: the pairs of a page and a subpage
+-- the number of frames held: pairs of a page and a subpage
 abbrev pub frames_held : Shape → History → ℕ
 frames_held s h = sum_below (allocations h) (λ p. count_below (subpages s) (is_held s h p))

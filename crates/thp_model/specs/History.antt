@@ -4,11 +4,11 @@ use Rattle.std.specs.List.{filter, count_by, list_any}
 use Rattle.thp_model.specs.declared.events.Event.{Event}
 use Rattle.thp_model.specs.declared.events.What.{What}
 
--- the events of one node, the oldest first
+-- the events of one node, oldest first
 abbrev pub History : Type 0
 History = List Event
 
--- the event by which caller c did w
+-- the event that caller c did w
 abbrev pub by : ℕ → What → Event
 by c w = record { caller = c; what = w }
 
@@ -16,10 +16,10 @@ by c w = record { caller = c; what = w }
 unfoldable pub events_of : ℕ → History → History
 events_of c h = filter (λ (e : Event). nat_eq e.caller c) h
 
--- how many events pass a test of what happened
+-- the number of events that pass a test
 unfoldable pub count_of : (What → Bool) → History → ℕ
 count_of test h = count_by (λ (e : Event). test e.what) h
 
--- some event passes a test of what happened
+-- some event passes a test
 unfoldable pub some_event : (What → Bool) → History → Bool
 some_event test h = list_any (λ (e : Event). test e.what) h

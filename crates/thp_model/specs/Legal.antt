@@ -13,36 +13,36 @@ use Rattle.thp_model.specs.Refusals.{refusal}
 use Rattle.thp_model.specs.Underused.{is_partly_mapped, is_worth_split}
 use Rattle.thp_model.specs.Refusals as call
 
--- the call of an event of page p isn't refused at h, and the event tells its outcome and the set that it gives back;
--- k is h with the event
+-- the call of an event of page p is not refused at h, and the event contains its outcome and the set of frames that it gives
+-- back; k is h with the event
 pub record Gives (s : Shape) (h k : History) (p : ℕ) (o : Outcome) (set : List Bool) : Type 0 where
   pub outcome_is : o ≡ outcome s h k p
   pub set_is : set ≡ released s h k p
 
--- a new page has the next number, and a block of no live page; which one is free to choose
+-- a new page has the next number, and a block that holds no live page; any such block may be chosen
 pub record FitsAlloc (s : Shape) (h : History) (p b : ℕ) : Type 0 where
   pub allowed : refusal s h call.alloc_page ≡ None
   pub number : p ≡ allocations h
   pub inside : b < s.blocks
   pub free : block_in_use h b ≡ false
 
--- a take is of the oldest page, by a caller with no page in flight or one that goes on taking
+-- a take is of the oldest page, by a caller that has no page in flight or continues its take
 pub record FitsTaken (s : Shape) (h : History) (c p : ℕ) : Type 0 where
   pub oldest : slice_get (queue s h) 0 ≡ Some p
   pub may_take : (no_pages (flight h c) || is_taking h c) ≡ true
 
--- a split is of a page in the caller's flight that is worth it and has no pins
+-- a split is of a page in the caller's flight that is worth a split and has no pins
 pub record FitsSplit (s : Shape) (h k : History) (c p : ℕ) (set : List Bool) : Type 0 where
   pub in_flight : has_page p (flight h c) ≡ true
   pub worth : is_worth_split s h p ≡ true
   pub unpinned : pins h p ≡ 0
   pub set_is : set ≡ released s h k p
 
--- a page that leaves its batch joins the queue's tail where it was partly unmapped and the node is open; else it is dropped
+-- a page that leaves its batch joins the queue's tail if it is partly mapped and the node is open; otherwise it is dropped
 abbrev pub is_dropped : Shape → History → ℕ → Bool
 is_dropped s h p = is_closed h || not (is_partly_mapped s h p)
 
--- what c does fits the history h, and makes of it the history k
+-- the event of caller c fits the history h, and extends it to the history k
 abbrev pub FitsBy : Shape → History → History → ℕ → What → Type 0
 FitsBy s h k c (Alloc p b) = FitsAlloc s h p b
 FitsBy s h k c (MapWhole p) = refusal s h (call.map_whole p) ≡ None
@@ -70,7 +70,7 @@ Fits s h e = FitsBy s h (h ++ e ∷ []) e.caller e.what
 pub record IsLegal (s : Shape) (h : History) : Type 0 where
   pub each : (k : ℕ) (e : Event) → slice_get h k ≡ Some e → Fits s (take k h) e
 
--- the event at k is the first that doesn't fit
+-- the event at k is the first that does not fit
 pub record IsFirstMisfit (s : Shape) (h : History) (k : ℕ) : Type 0 where
   pub legal_before : IsLegal s (take k h)
   pub misfit : (e : Event) × (slice_get h k ≡ Some e) × (Fits s (take k h) e → ⊥)

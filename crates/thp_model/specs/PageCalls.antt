@@ -1,4 +1,4 @@
--- What a call asks of one page: the call, its event, and what it does to the page.
+-- A call about one page: the call of the node, its event, and its effect on the page.
 use Rattle.std.specs.Prelude.{ℕ, List, Bool, false, nat_eq, Option, None}
 use Rattle.thp_model.specs.declared.events.Outcome.{Outcome}
 use Rattle.thp_model.specs.declared.events.What.{What}
@@ -48,7 +48,7 @@ loss_what loss.UnmapWhole p outcome set = what.UnmapWhole outcome p set
 loss_what (loss.UnmapSub first count) p outcome set = what.UnmapSub outcome p first count set
 loss_what loss.Unpin p outcome set = what.Unpin outcome p set
 
--- what it does to the page
+-- its effect on the page
 abbrev pub Gains : Gain → PageState → PageState → Type 0
 Gains gain.MapWhole old new = WholeMapped old new
 Gains (gain.MapSub first count) old new = RangeMapped first count old new
@@ -62,12 +62,12 @@ Loses loss.UnmapWhole old new = WholeUnmapped old new
 Loses (loss.UnmapSub first count) old new = RangeUnmapped first count old new
 Loses loss.Unpin old new = Pinned new old
 
--- how many PMD mappings it splits
+-- the number of PMD mappings that it splits
 abbrev pub gain_splits : Gain → ℕ
 gain_splits gain.SplitPmd = 1
 gain_splits g = 0
 
--- an event is about page p and changes it, or what the history says of it
+-- an event is about page p and changes it, or its state by the history
 abbrev pub is_about : ℕ → What → Bool
 is_about p (what.Alloc q block) = nat_eq p q
 is_about p (what.MapWhole q) = nat_eq p q
@@ -87,7 +87,7 @@ is_about p (what.Back q) = false
 is_about p (what.Dropped q) = false
 is_about p what.Close = false
 
--- the refusal at h of the page call or the close that an event tells
+-- the refusal at h of the page call or the close that an event records
 abbrev pub refusal_of : Shape → History → What → Option Refusal
 refusal_of s h (what.MapWhole p) = refusal s h (call.map_whole p)
 refusal_of s h (what.UnmapWhole o p set) = refusal s h (call.unmap_whole p)

@@ -1,4 +1,4 @@
--- What an unmap or an unpin of a page comes to, by the page's state before and after.
+-- The result of an unmap or an unpin, computed from the page's state before and after.
 use Rattle.std.specs.Prelude.{Bool, not, ◌&&◌, ◌||◌, nat_eq, if◌then◌else◌, List}
 use Rattle.thp_model.specs.declared.events.Outcome.{Outcome}
 use Rattle.thp_model.specs.declared.events.Outcome.TheVariants.{Freed, Queued, Stays}
@@ -6,7 +6,7 @@ use Rattle.thp_model.specs.Sets.{set_of}
 use Rattle.thp_model.specs.Counts.{is_freed}
 use Rattle.thp_model.specs.Pages.{PageState, has_use, drops_use, holds}
 
--- the outcome, on a node that is closed or not, for a page that stands in the queue or a flight or doesn't
+-- the outcome, on an open or a closed node, for a page that is on a list or on none
 abbrev pub page_outcome : PageState → PageState → Bool → Bool → Outcome
 page_outcome old new closed standing =
     if not (has_use new) && nat_eq new.pins 0
@@ -16,6 +16,6 @@ page_outcome old new closed standing =
     then Queued
     else Stays
 
--- the frames given back: all that were held where the page is freed, else those that aren't held any more
+-- the frames given back: all frames held if the page is freed, otherwise those that are no longer held
 abbrev pub page_released : PageState → PageState → Outcome → List Bool
 page_released old new o = set_of (λ i. holds old i && (is_freed o || not (holds new i)))

@@ -1,4 +1,4 @@
--- One page by itself: its counts, what each page call does to them, and when they are what a history says.
+-- One page: its counts, the effect of each page call on them, and their agreement with a history.
 use Rattle.std.specs.Prelude.{◌≡◌, ◌<◌, ◌≤◌, ℕ, ◌+◌, ◌^◌, Bool, true, false, not, cond, ◌&&◌, ◌||◌, nat_eq, nat_lt, List, [], ◌∷◌, slice_index_or, Option, None}
 use Rattle.thp_model.specs.declared.refusal.Refusal.{Refusal}
 use Rattle.thp_model.specs.declared.refusal.Refusal.TheVariants as reason
@@ -11,7 +11,7 @@ use Rattle.thp_model.specs.Underused.{shrinks_underused, is_zero_filled, is_part
 use Rattle.thp_model.specs.Refusals.{Call, map_whole, unmap_whole, map_sub, unmap_sub, split_pmd, pin, unpin, write, zero_fill, first_of, most}
 
 -- a page's order, its entire map count, the own map counts of its subpages, its pins, and whether it is split; which of its
--- subpages are zero-filled, whether it is partly mapped, and whether its split gave back the frames of the zero-filled ones
+-- subpages are zero-filled, whether it is partly mapped, and whether its split gave back the frames of the zero-filled subpages
 pub record PageState : Type 0 where
   pub order : ℕ
   pub whole : ℕ
@@ -20,13 +20,13 @@ pub record PageState : Type 0 where
   pub split : Bool
   pub zero : List Bool
   pub partly : Bool
-  pub gave_zero : Bool
+  pub freed_zero_frames : Bool
 
--- how many subpages the page has
+-- the number of the page's subpages
 unfoldable pub size : PageState → ℕ
 size t = 2 ^ t.order
 
--- the own map count of subpage i, and how often it is mapped in all
+-- the own map count of subpage i, and its total map count
 abbrev pub own_at : PageState → ℕ → ℕ
 own_at t i = slice_index_or t.own i 0
 
@@ -45,30 +45,31 @@ used_set t = set_of (λ i. nat_lt i (size t) && nat_lt 0 (total_at t i))
 abbrev pub zero_at : PageState → ℕ → Bool
 zero_at t i = has t.zero i
 
--- the zero-filled subpages, and how many they are
+-- the set of the zero-filled subpages, and their number
 abbrev pub zero_set : PageState → List Bool
 zero_set t = set_of (λ i. nat_lt i (size t) && zero_at t i)
 
 abbrev pub zero_count : PageState → ℕ
 zero_count t = count_below (size t) (zero_at t)
 
--- a split of the page is worth its while, where a page is underused above this threshold
-abbrev pub is_worth : Option ℕ → PageState → Bool
-is_worth threshold t = t.partly || is_above threshold (zero_count t)
+-- the page is worth a split, if pages are underused above this threshold
+abbrev pub is_split_candidate : Option ℕ → PageState → Bool
+is_split_candidate threshold t = t.partly || is_above threshold (zero_count t)
 
--- the page, while it lives, holds the frame of subpage i: each before its split, and after it those that the split left
+-- the page, while it is live, holds the frame of subpage i: every frame before its split, and afterwards those that the split
+-- left
 abbrev pub holds : PageState → ℕ → Bool
-holds t i = nat_lt i (size t) && (not t.split || (nat_lt 0 (total_at t i) && not (t.gave_zero && zero_at t i)))
+holds t i = nat_lt i (size t) && (not t.split || (nat_lt 0 (total_at t i) && not (t.freed_zero_frames && zero_at t i)))
 
--- some subpage in use before isn't after
+-- some subpage was in use before and is not in use after
 abbrev pub drops_use : PageState → PageState → Bool
 drops_use old new = some_below (size old) (λ i. nat_lt 0 (total_at old i) && nat_eq (total_at new i) 0)
 
--- the frames held before and not after
+-- the frames held before and not held after
 abbrev pub gives_frames : PageState → PageState → List Bool
 gives_frames old new = set_of (λ i. holds old i && not (holds new i))
 
--- what every page keeps
+-- the invariant of every page
 pub record IsPage (t : PageState) : Type 0 where
   pub least_order : 2 ≤ t.order
   pub most_order : t.order ≤ 9
@@ -77,7 +78,7 @@ pub record IsPage (t : PageState) : Type 0 where
   pub no_whole : t.split ≡ true → t.whole ≡ 0
   pub no_pins : t.split ≡ true → t.pins ≡ 0
 
--- what a page call can be refused for, by the page alone
+-- the reasons to refuse a page call that depend on the page only
 abbrev pub is_split_page : PageState → Bool × Refusal
 is_split_page t = (t.split, reason.IsSplit)
 
@@ -87,7 +88,7 @@ is_bad_range t first count = (nat_eq count 0 || nat_lt (size t) (first + count),
 abbrev pub some_in_range : PageState → ℕ → ℕ → (ℕ → Bool) → Bool
 some_in_range t first count test = some_below (size t) (λ i. covers first count i && test i)
 
--- what a write can be refused for, of data or of zeros
+-- the reasons to refuse a write of data or zeros
 abbrev pub page_write_reasons : PageState → ℕ → ℕ → List (Bool × Refusal)
 page_write_reasons t first count =
     is_bad_range t first count ∷ is_split_page t ∷ (some_in_range t first count (λ i. nat_eq (total_at t i) 0), reason.NotMapped) ∷ []
@@ -111,10 +112,10 @@ page_refusal t (write p first count) = first_of (page_write_reasons t first coun
 page_refusal t (zero_fill p first count) = first_of (page_write_reasons t first count)
 page_refusal t _ = None
 
--- what a call leaves that is about mappings or pins alone: the zero-filled subpages, and what was given back
+-- what a call about mappings or pins does not change: the zero-filled subpages, and whether their frames were given back
 pub record KeepsZero (old new : PageState) : Type 0 where
   pub zero : new.zero ≡ old.zero
-  pub gave_zero : new.gave_zero ≡ old.gave_zero
+  pub freed_zero_frames : new.freed_zero_frames ≡ old.freed_zero_frames
 
 -- one more mapping of the whole page
 pub record WholeMapped (old new : PageState) : Type 0 where
@@ -126,11 +127,11 @@ pub record WholeMapped (old new : PageState) : Type 0 where
   pub partly : new.partly ≡ old.partly
   pub kept : KeepsZero old new
 
--- the page is partly mapped after an unmap: it was before, or a subpage went out of use and another is in use
+-- the page is partly mapped after an unmap: it was before, or a subpage went out of use and another one is in use
 abbrev pub partly_after : PageState → PageState → Bool
 partly_after old new = old.partly || (drops_use old new && has_use new)
 
--- one mapping of the whole page less
+-- one mapping of the whole page removed
 pub record WholeUnmapped (old new : PageState) : Type 0 where
   pub order : new.order ≡ old.order
   pub whole : old.whole ≡ new.whole + 1
@@ -150,7 +151,7 @@ pub record RangeMapped (first count : ℕ) (old new : PageState) : Type 0 where
   pub partly : new.partly ≡ old.partly
   pub kept : KeepsZero old new
 
--- one mapping of each subpage of a range less
+-- one mapping of each subpage of a range removed
 pub record RangeUnmapped (first count : ℕ) (old new : PageState) : Type 0 where
   pub order : new.order ≡ old.order
   pub whole : new.whole ≡ old.whole
@@ -160,7 +161,7 @@ pub record RangeUnmapped (first count : ℕ) (old new : PageState) : Type 0 wher
   pub partly : new.partly ≡ partly_after old new
   pub kept : KeepsZero old new
 
--- one mapping of the whole page made into one of each subpage
+-- one mapping of the whole page replaced by one of each subpage
 pub record PmdSplit (old new : PageState) : Type 0 where
   pub order : new.order ≡ old.order
   pub whole : old.whole ≡ new.whole + 1
@@ -170,7 +171,7 @@ pub record PmdSplit (old new : PageState) : Type 0 where
   pub partly : new.partly ≡ old.partly
   pub kept : KeepsZero old new
 
--- one more pin; the other way round one less
+-- one more pin; with the states exchanged, one pin removed
 pub record Pinned (old new : PageState) : Type 0 where
   pub order : new.order ≡ old.order
   pub whole : new.whole ≡ old.whole
@@ -180,7 +181,7 @@ pub record Pinned (old new : PageState) : Type 0 where
   pub partly : new.partly ≡ old.partly
   pub kept : KeepsZero old new
 
--- what a call leaves that writes subpages: all but which of them are zero-filled
+-- what a call that writes subpages does not change: everything except which of them are zero-filled
 pub record KeepsCounts (old new : PageState) : Type 0 where
   pub order : new.order ≡ old.order
   pub whole : new.whole ≡ old.whole
@@ -188,7 +189,7 @@ pub record KeepsCounts (old new : PageState) : Type 0 where
   pub pins : new.pins ≡ old.pins
   pub split : new.split ≡ old.split
   pub partly : new.partly ≡ old.partly
-  pub gave_zero : new.gave_zero ≡ old.gave_zero
+  pub freed_zero_frames : new.freed_zero_frames ≡ old.freed_zero_frames
 
 -- data written to each subpage of a range: none of them is zero-filled
 pub record RangeWritten (first count : ℕ) (old new : PageState) : Type 0 where
@@ -200,7 +201,8 @@ pub record RangeZeroed (first count : ℕ) (old new : PageState) : Type 0 where
   pub kept : KeepsCounts old new
   pub zero : (i : ℕ) → i < size old → zero_at new i ≡ (zero_at old i || covers first count i)
 
--- the page split into base pages: each subpage keeps its mappings as its own; zero-filled ones keep their frames or don't
+-- the page split into base pages: each subpage keeps its mappings as its own; zero-filled subpages give their frames back if
+-- give_zero is true
 pub record PageSplit (give_zero : Bool) (old new : PageState) : Type 0 where
   pub order : new.order ≡ old.order
   pub whole : new.whole ≡ 0
@@ -209,9 +211,9 @@ pub record PageSplit (give_zero : Bool) (old new : PageState) : Type 0 where
   pub split : new.split ≡ true
   pub zero : new.zero ≡ old.zero
   pub partly : new.partly ≡ old.partly
-  pub gave_zero : new.gave_zero ≡ give_zero
+  pub freed_zero_frames : new.freed_zero_frames ≡ give_zero
 
--- a page just allocated: mapped whole once, and all zero-filled
+-- a page just allocated: mapped whole once, with all subpages zero-filled
 pub record IsFresh (order : ℕ) (t : PageState) : Type 0 where
   pub order_is : t.order ≡ order
   pub whole : t.whole ≡ 1
@@ -220,9 +222,9 @@ pub record IsFresh (order : ℕ) (t : PageState) : Type 0 where
   pub split : t.split ≡ false
   pub zero : (i : ℕ) → i < size t → zero_at t i ≡ true
   pub partly : t.partly ≡ false
-  pub gave_zero : t.gave_zero ≡ false
+  pub freed_zero_frames : t.freed_zero_frames ≡ false
 
--- the page's state is what the history says of page p
+-- the page's state is the one that the history gives page p
 pub record Tallies (s : Shape) (h : History) (p : ℕ) (t : PageState) : Type 0 where
   pub order : t.order ≡ s.order
   pub totals : (i : ℕ) → i < subpages s → count_of (maps p i) h ≡ count_of (unmaps p i) h + total_at t i
@@ -232,4 +234,4 @@ pub record Tallies (s : Shape) (h : History) (p : ℕ) (t : PageState) : Type 0 
   pub split : t.split ≡ is_split h p
   pub zero : (i : ℕ) → i < subpages s → zero_at t i ≡ is_zero_filled h p i
   pub partly : t.partly ≡ is_partly_mapped s h p
-  pub gave_zero : t.split ≡ true → t.gave_zero ≡ shrinks_underused s
+  pub freed_zero_frames : t.split ≡ true → t.freed_zero_frames ≡ shrinks_underused s

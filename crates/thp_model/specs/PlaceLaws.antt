@@ -13,20 +13,20 @@ use Rattle.thp_model.specs.Legal.{IsLegal}
 use Rattle.thp_model.specs.PageCalls.{is_about}
 use Rattle.thp_model.specs.Runs.{still_flying}
 
--- the queue and all flights joined repeat no page
+-- no page occurs twice in the queue and all flights together
 abbrev pub NoPageTwice : Type 0
 NoPageTwice = (s : Shape) (h : History) → IsLegal s h → (p : ℕ) → count_by (λ q. nat_eq q p) (standing s h) ≤ 1
 
--- each page there is live and not split
+-- each page in the queue or a flight is live and not split
 abbrev pub StandingPagesAreWhole : Type 0
 StandingPagesAreWhole =
     (s : Shape) (h : History) → IsLegal s h → (p : ℕ) → stands s h p ≡ true → (is_live h p ≡ true) × (is_split h p ≡ false)
 
--- takes of these pages by caller c, one after another
+-- takes of these pages by caller c, one after the other
 abbrev pub takes_of : ℕ → List ℕ → History
 takes_of c ps = map (λ p. by c (Taken p)) ps
 
--- a run of takes by one caller takes the first pages of the queue, in order
+-- consecutive takes by one caller take the first pages of the queue, in order
 abbrev pub OldestAreTaken : Type 0
 OldestAreTaken =
     (s : Shape) (h : History) (c : ℕ) (ps : List ℕ) → IsLegal s (h ++ takes_of c ps) → ps ≡ take (length ps) (queue s h)
@@ -41,19 +41,19 @@ acts_on p (Back q) = nat_eq p q
 acts_on p (Dropped q) = nat_eq p q
 acts_on p w = is_about p w
 
--- at each event about a page, the page was allocated before and not freed: so no freed page is ever taken, split, put
--- back or dropped
+-- at each event about a page, the page was allocated before and was not freed: no freed page is ever taken, split, put back or
+-- dropped
 abbrev pub FreedPagesAreLeftAlone : Type 0
 FreedPagesAreLeftAlone =
     (s : Shape) (h : History) → IsLegal s h → (k : ℕ) (e : Event) (p : ℕ) → slice_get h k ≡ Some e → acts_on p e.what ≡ true → is_live (take k h) p ≡ true
 
--- and a page is allocated once
+-- a page is allocated once only
 abbrev pub PagesAreNewOnce : Type 0
 PagesAreNewOnce =
     (s : Shape) (h : History) → IsLegal s h → (k : ℕ) (e : Event) (p : ℕ) → slice_get h k ≡ Some e → allocates p e.what ≡ true →
     some_event (allocates p) (take k h) ≡ false
 
--- the event puts a page into the queue, or makes a page
+-- the event queues a page, or allocates one
 abbrev pub enters : What → Bool
 enters (Alloc p block) = true
 enters (UnmapWhole outcome p released) = is_queued outcome
@@ -62,38 +62,38 @@ enters (Unpin outcome p released) = is_queued outcome
 enters (Back p) = true
 enters _ = false
 
--- after a close no event does
+-- no such event follows a close
 abbrev pub NothingEntersAfterClose : Type 0
 NothingEntersAfterClose =
     (s : Shape) (h : History) → IsLegal s h → (k : ℕ) (e : Event) → slice_get h k ≡ Some e → is_closed (take k h) ≡ true → enters e.what ≡ false
 
--- the events are all of callers other than c
+-- all events are of callers other than c
 abbrev pub is_others : ℕ → History → Bool
 is_others c es = list_all (λ (e : Event). not (nat_eq e.caller c)) es
 
--- others' events change a flight only by taking freed pages out, in the same order
+-- events of other callers change a flight only by removing freed pages, and keep the order of the rest
 abbrev pub OthersOnlyFree : Type 0
 OthersOnlyFree =
     (s : Shape) (h es : History) (c : ℕ) → IsLegal s h → is_others c es ≡ true → flight (h ++ es) c ≡ filter (is_live (h ++ es)) (flight h c)
 
--- so what was a front of the flight stays one, once the freed pages are taken out of both
+-- so a prefix of the flight remains a prefix after the freed pages are removed from both
 abbrev pub FrontsStayInFront : Type 0
 FrontsStayInFront =
     (s : Shape) (h es : History) (c : ℕ) (ps qs : List ℕ) → IsLegal s h → is_others c es ≡ true → flight h c ≡ ps ++ qs →
     flight (h ++ es) c ≡ filter (is_live (h ++ es)) ps ++ filter (is_live (h ++ es)) qs
 
--- and where what is left of a batch was the front of its flight, it still is
+-- if the remaining pages of a batch were a prefix of its flight, they still are
 abbrev pub BatchStaysInFront : Type 0
 BatchStaysInFront =
     (s : Shape) (h es : History) (c : ℕ) (ps qs : List ℕ) → IsLegal s h → is_others c es ≡ true → flight h c ≡ still_flying h c ps ++ qs →
     flight (h ++ es) c ≡ still_flying (h ++ es) c ps ++ filter (is_live (h ++ es)) qs
 
--- a flight starts empty and goes on event by event, whatever the history
+-- a flight starts empty and changes event by event, in any history
 pub record FlightsGoByEvents : Type 0 where
   pub starts : (c : ℕ) → flight [] c ≡ []
   pub goes_on : (h : History) (e : Event) (c : ℕ) → flight (h ++ e ∷ []) c ≡ flight_after c (flight h c) e.caller e.what
 
--- and so does the queue
+-- the queue does too
 pub record QueueGoesByEvents : Type 0 where
   pub starts : (s : Shape) → queue s [] ≡ []
   pub goes_on : (s : Shape) (h : History) (e : Event) → queue s (h ++ e ∷ []) ≡ queue_after s (queue s h) e.what

@@ -1,4 +1,4 @@
--- The refusal of each call at a history: of the reasons that the call can have, the first that holds.
+-- The refusal of each call at a history: the first reason that holds, of the reasons that the call can have.
 use Rattle.std.specs.Prelude.{ℕ, Bool, not, ◌&&◌, ◌||◌, nat_eq, nat_lt, ◌+◌, List, [], ◌∷◌, if◌then◌else◌, Option, Some, None}
 use Rattle.thp_model.specs.declared.refusal.Refusal.{Refusal}
 use Rattle.thp_model.specs.declared.refusal.Refusal.TheVariants as reason
@@ -48,7 +48,7 @@ split_page h p = (is_split h p, reason.IsSplit)
 abbrev pub some_of : Shape → ℕ → ℕ → (ℕ → Bool) → Bool
 some_of s first count test = some_below (subpages s) (λ i. covers first count i && test i)
 
--- what a write can be refused for, of data or of zeros
+-- the reasons to refuse a write of data or zeros
 abbrev pub write_reasons : Shape → History → ℕ → ℕ → ℕ → List (Bool × Refusal)
 write_reasons s h p first count =
     no_page h p
@@ -57,7 +57,7 @@ write_reasons s h p first count =
     ∷ (some_of s first count (λ i. nat_eq (total h p i) 0), reason.NotMapped)
     ∷ []
 
--- what each call can be refused for at a history, in the order of the tests
+-- the reasons to refuse each call at a history, in the order of the tests
 unfoldable pub refusal : Shape → History → Call → Option Refusal
 refusal s h alloc_page = first_of ((is_closed h, reason.Closed) ∷ (each_below s.blocks (block_in_use h), reason.NoBlock) ∷ [])
 refusal s h (map_whole p) =

@@ -1,4 +1,4 @@
--- Laws of every legal history on requests and answers: the answers follow from the requests, but for the blocks.
+-- Laws of every legal history about requests and results: the requests determine the results, except for the blocks.
 use Rattle.std.specs.Prelude.{◌≡◌, ℕ, [], ◌∷◌, ◌++◌, map}
 use Rattle.thp_model.specs.declared.events.Event.{Event}
 use Rattle.thp_model.specs.declared.events.Outcome.TheVariants.{Stays}
@@ -9,8 +9,8 @@ use Rattle.thp_model.specs.History.{History, by}
 use Rattle.thp_model.specs.Legal.{IsLegal, FitsBy}
 use Rattle.thp_model.specs.BlockLaws.{SameButBlocks, with_block}
 
--- what was asked for, without its answer: an allocation, a take and a return choose no page, and a try says no more
--- than its page
+-- the request of an event, without its result: an allocation, a take and a return choose no page, and a try contains its page
+-- only
 abbrev pub asked : What → What
 asked (Alloc p block) = Alloc 0 0
 asked (UnmapWhole outcome p released) = UnmapWhole Stays p []
@@ -23,16 +23,16 @@ asked (Back p) = Back 0
 asked (Dropped p) = Back 0
 asked w = w
 
--- the same request, at histories that are equal but for their blocks, has one answer but for its block
+-- the same request, at histories that are equal except for their blocks, has one result except for its block
 abbrev pub AnswersAreOne : Type 0
 AnswersAreOne =
     (s : Shape) (h k : History) (c : ℕ) (v w : What) → SameButBlocks h k → asked v ≡ asked w →
     FitsBy s h (h ++ by c v ∷ []) c v → FitsBy s k (k ++ by c w ∷ []) c w → with_block 0 v ≡ with_block 0 w
 
--- who asked for what, in order
+-- the requests with their callers, in order
 unfoldable pub requests : History → History
 requests h = map (λ (e : Event). by e.caller (asked e.what)) h
 
--- legal histories of the same requests are equal but for their blocks
+-- legal histories of the same requests are equal except for their blocks
 abbrev pub RequestsDecide : Type 0
 RequestsDecide = (s : Shape) (h k : History) → IsLegal s h → IsLegal s k → requests h ≡ requests k → SameButBlocks h k

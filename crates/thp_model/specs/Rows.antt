@@ -1,4 +1,4 @@
--- Worked histories, event by event, with what they come to.
+-- Worked histories, event by event, with their totals.
 use Rattle.std.specs.Prelude.{◌≡◌, ℕ, Some, None, ◌++◌, Bool, false, ◌||◌, nat_eq, List, [], ◌∷◌, length}
 use Rattle.thp_model.specs.declared.events.Outcome.TheVariants.{Queued, Stays, Freed}
 use Rattle.thp_model.specs.declared.events.What.TheVariants.{Alloc, UnmapSub, SplitPmd, Pin, Unpin, Write, Taken, Split, Pinned, Used, Back, Dropped}
@@ -17,11 +17,11 @@ large_pages = record { blocks = 16; order = 9; underused = None }
 abbrev pub small_pages : Shape
 small_pages = record { blocks = 16; order = 2; underused = None }
 
--- one of 4 blocks whose pages have 4 subpages and are underused where more than one of them is zero-filled
+-- a node of 4 blocks whose pages have 4 subpages; a page is underused if more than one of them is zero-filled
 abbrev pub few_used : Shape
 few_used = record { blocks = 4; order = 2; underused = Some 1 }
 
--- the `count` subpages from `first` on, and none
+-- the set of the `count` subpages from `first` on, and the empty set
 abbrev pub subpages_of : ℕ → ℕ → List Bool
 subpages_of first count = set_of (covers first count)
 
@@ -32,7 +32,7 @@ nothing = set_of (λ i. false)
 abbrev pub queue_page : ℕ → ℕ → History
 queue_page p count = by 0 (Alloc p p) ∷ by 0 (SplitPmd p) ∷ by 0 (UnmapSub Queued p 0 count nothing) ∷ []
 
--- what a history comes to
+-- the totals of a history
 pub record HasTotals (s : Shape) (h : History) (pages queued held given split failed deferred pmds underused : ℕ) : Type 0 where
   pub pages_are : allocations h ≡ pages
   pub queue_is : length (queue s h) ≡ queued
@@ -48,7 +48,7 @@ pub record HasTotals (s : Shape) (h : History) (pages queued held given split fa
 abbrev pub first_run : History
 first_run = queue_page 0 256 ++ by 0 (Taken 0) ∷ by 0 (Split 0 (subpages_of 0 256)) ∷ []
 
--- of three queued pages the second is pinned: a scan puts it back at the tail; unpinned, it is split by the next
+-- the second of three queued pages is pinned: a scan puts it back at the tail; after the unpin the next scan splits it
 abbrev pub pinned_goes_to_the_tail : History
 pinned_goes_to_the_tail =
     queue_page 0 1 ++ queue_page 1 1 ++ queue_page 2 1 ++ by 0 (Pin 1)
@@ -61,8 +61,9 @@ pinned_goes_to_the_tail =
 abbrev pub small_page_split : History
 small_page_split = queue_page 0 3 ++ by 0 (Taken 0) ∷ by 0 (Split 0 (subpages_of 0 3)) ∷ []
 
--- a scan finds a page with one zero-filled subpage in use; partly unmapped, the page is split, and its zero-filled subpage gives
--- its frame back too: the later unmap of that subpage gives nothing back, and the last unmap the two frames that are left
+-- a scan finds a page with one zero-filled subpage in use. After a partial unmap the page is split, and its zero-filled subpage
+-- gives its frame back too: the later unmap of that subpage gives nothing back, and the last unmap gives back the remaining two
+-- frames
 abbrev pub underused_scan : History
 underused_scan =
     by 0 (Alloc 0 0) ∷ by 0 (Write 0 0 3) ∷ by 0 (Taken 0) ∷ by 0 (Used 0)
@@ -70,7 +71,7 @@ underused_scan =
     ∷ by 0 (Taken 0) ∷ by 0 (Split 0 (set_of (λ i. nat_eq i 0 || nat_eq i 3)))
     ∷ by 0 (UnmapSub Stays 0 3 1 nothing) ∷ by 0 (UnmapSub Freed 0 1 2 (subpages_of 1 2)) ∷ []
 
--- of two underused pages the second is pinned: a scan splits the first, and drops the second, which isn't partly mapped
+-- the second of two underused pages is pinned: a scan splits the first, and drops the second, which is not partly mapped
 abbrev pub underused_pinned : History
 underused_pinned =
     by 0 (Alloc 0 0) ∷ by 0 (Alloc 1 1) ∷ by 0 (Write 0 0 2) ∷ by 0 (Pin 1)

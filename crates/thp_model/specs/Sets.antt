@@ -1,4 +1,4 @@
--- Sets of subpages, as lists of 512 truth values: subpage i is in the set where the i-th is true.
+-- Sets of subpages, as lists of 512 truth values: subpage i is in the set if the i-th value is true.
 use Rattle.std.specs.Prelude.{ℕ, zero, suc, Bool, false, not, ◌&&◌, ◌||◌, ◌+◌, nat_le, nat_lt, cond, List, map, slice_index_or}
 use Rattle.std.specs.List.{range_with_len, count_by, list_any, list_all}
 use Rattle.std.specs.Cmp.{IsEquivalence, IsPartialEquivalence, bool_eq_equiv, partial_equiv_from_equiv}
@@ -15,7 +15,7 @@ set_of test = map test (range_with_len 0 max_subpages)
 abbrev pub has : List Bool → ℕ → Bool
 has set i = slice_index_or set i false
 
--- how many numbers the set has
+-- the number of elements of the set
 abbrev pub set_size : List Bool → ℕ
 set_size set = count_by (λ b. b) set
 
@@ -23,7 +23,7 @@ set_size set = count_by (λ b. b) set
 abbrev pub covers : ℕ → ℕ → ℕ → Bool
 covers first count i = nat_le first i && nat_lt i (first + count)
 
--- one of two truths holds without the other
+-- exactly one of two truth values holds
 abbrev pub one_alone : Bool → Bool → Bool
 one_alone a b = (a && not b) || (b && not a)
 
@@ -40,11 +40,11 @@ unfoldable pub sum_below : ℕ → (ℕ → ℕ) → ℕ
 sum_below zero f = 0
 sum_below (suc n) f = sum_below n f + f n
 
--- how many numbers below n pass a test
+-- the number of numbers below n that pass a test
 abbrev pub count_below : ℕ → (ℕ → Bool) → ℕ
 count_below n test = sum_below n (λ i. cond (test i) 1 0)
 
--- two sets have the same numbers, truth for truth
+-- two sets have the same elements, compared value by value
 abbrev pub same_set : List Bool → List Bool → Bool
 same_set s t = pointwise beq s t
 

@@ -3,7 +3,7 @@ use Rattle.std.specs.Prelude.{◌≡◌, ℕ, ◌^◌, ◌≤◌, ◌<◌, Some}
 use Rattle.thp_model.specs.Limits.{max_blocks, max_order, min_order}
 use Rattle.thp_model.specs.declared.shape.Shape.{Shape}
 
--- how many subpages a page of the node has, and how many frames a block
+-- the number of subpages of a page of the node, which is the number of frames of a block
 unfoldable pub subpages : Shape → ℕ
 subpages s = 2 ^ s.order
 

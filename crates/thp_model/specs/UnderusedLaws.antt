@@ -20,11 +20,11 @@ abbrev pub finds_used : What → Bool
 finds_used (Used p) = true
 finds_used _ = false
 
--- so no page is found in use
+-- no page is found in use
 abbrev pub NoPageIsFoundUsed : Type 0
 NoPageIsFoundUsed =
     (s : Shape) (h : History) → shrinks_underused s ≡ false → IsLegal s h → (k : ℕ) (e : Event) → slice_get h k ≡ Some e → finds_used e.what ≡ false
 
--- and none is split as underused
+-- no page is split as underused
 abbrev pub NoPageIsSplitAsUnderused : Type 0
 NoPageIsSplitAsUnderused = (s : Shape) (h : History) → shrinks_underused s ≡ false → IsLegal s h → thp_underused_split_page s h ≡ 0

@@ -1,10 +1,10 @@
-//! What a check of a history tells where it doesn't find it legal.
+//! Why the check of a history fails.
 
-/// Why a history wasn't found legal.
+/// Why a history was not found legal.
 #[derive(Clone, Copy, PartialEq, Eq, Debug)]
 pub enum CheckFault {
-    /// The event at this place, counted from 0, is the first that doesn't fit the events before it.
+    /// The event at this index, counted from 0, is the first that does not fit the events before it.
     Illegal(usize),
-    /// The memory for the check wasn't there.
+    /// Memory for the check could not be allocated.
     OutOfMemory,
 }

@@ -1,8 +1,8 @@
-//! What happens on a node: its events, each with the caller who made it.
+//! The events of a node, each with the caller that made it.
 use crate::sub_set::SubSet;
 use std::marker::Model;
 
-/// A page's number on its node: how many pages were allocated before it. Numbers don't come again.
+/// A page's number on its node: the number of pages allocated before it. Numbers are never reused.
 #[derive(Clone, Copy, PartialEq, Eq, Debug, Default)]
 pub struct PageId(pub u64);
 
@@ -16,45 +16,45 @@ impl Model for PageId {
     ghost inverse = { λ n. record { 0 = n } };
 }
 
-/// What an unmap or an unpin did to its page.
+/// The effect of an unmap or an unpin on its page.
 #[derive(Clone, Copy, PartialEq, Eq, Debug)]
 pub enum Outcome {
-    /// The page lives on where it stood.
+    /// The page stays live, on the list that it was on.
     Stays,
     /// The page joined the deferred split queue.
     Queued,
-    /// The page is gone: its last mapping or pin went.
+    /// The page was freed: its last mapping or pin was removed.
     Freed,
 }
 
-/// What happened to a page, or to the node.
+/// The kind of an event: what happened to a page or to the node.
 ///
-/// `first` and `count` name a range of subpages; `released` is the set of subpages whose frames the event gave back. The
-/// outcome stands first, where it lies beside the tag: so an event takes a word less.
+/// `first` and `count` are a range of subpages. `released` is the set of subpages whose frames the event gave back. The outcome
+/// is the first field, next to the tag, which makes an event one word smaller.
 #[derive(Clone, Copy, PartialEq, Eq, Debug)]
 pub enum What {
-    /// A new page, mapped whole once, in a block of frames.
+    /// A page was allocated, mapped whole once, in a block of frames.
     Alloc {
         page: PageId,
         block: u32,
     },
-    /// One more mapping of the whole page, by a PMD entry.
+    /// The whole page was mapped once more, by a PMD entry.
     MapWhole {
         page: PageId,
     },
-    /// One mapping of the whole page less.
+    /// One mapping of the whole page was removed.
     UnmapWhole {
         outcome: Outcome,
         page: PageId,
         released: SubSet,
     },
-    /// One more mapping of each subpage of a range, by PTE entries.
+    /// Each subpage of a range was mapped once more, by PTE entries.
     MapSub {
         page: PageId,
         first: u32,
         count: u32,
     },
-    /// One mapping of each subpage of a range less.
+    /// One mapping of each subpage of a range was removed.
     UnmapSub {
         outcome: Outcome,
         page: PageId,
@@ -62,15 +62,15 @@ pub enum What {
         count: u32,
         released: SubSet,
     },
-    /// A mapping of the whole page became one of each subpage.
+    /// A mapping of the whole page was replaced by one of each subpage.
     SplitPmd {
         page: PageId,
     },
-    /// One more pin.
+    /// A pin was added.
     Pin {
         page: PageId,
     },
-    /// One pin less.
+    /// A pin was removed.
     Unpin {
         outcome: Outcome,
         page: PageId,
@@ -88,7 +88,7 @@ pub enum What {
         first: u32,
         count: u32,
     },
-    /// The shrinker took the page from the queue into the caller's batch.
+    /// The shrinker moved the page from the queue to the caller's batch.
     Taken {
         page: PageId,
     },
@@ -97,29 +97,31 @@ pub enum What {
         page: PageId,
         released: SubSet,
     },
-    /// The page couldn't be split, since it has pins.
+    /// The page could not be split, because it has pins.
     Pinned {
         page: PageId,
     },
-    /// The page wasn't worth a split, being neither partly mapped nor underused, and left its batch.
+    /// The page was not worth a split, being neither partly mapped nor underused, and left its batch.
     Used {
         page: PageId,
     },
-    /// The page went from its batch back to the queue's tail.
+    /// The page moved from its batch to the tail of the queue.
     Back {
         page: PageId,
     },
-    /// The page left its batch and stands nowhere, since the node is closed or the page isn't partly mapped.
+    /// The page left its batch and is on no list, because the node is closed or the page is not partly mapped.
     Dropped {
         page: PageId,
     },
-    /// From here on nothing enters the queue and no page is allocated.
+    /// The node was closed: no page is queued or allocated afterwards.
     Close,
 }
 
-/// An event, and the caller who made it.
+/// An event and the caller that made it.
 #[derive(Clone, Copy, PartialEq, Eq, Debug)]
 pub struct Event {
+    /// The caller, below the number of callers.
     pub caller: u32,
+    /// What the caller did.
     pub what: What,
 }

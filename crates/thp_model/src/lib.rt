@@ -1,12 +1,16 @@
-//! Events of one memory node, and which histories of them are legal.
+//! Events of one memory node, and which histories are legal.
 //!
-//! The definitions stand in `specs/`, each in a file of its notion; docs/MODEL.md tells them in plain words. The laws of
-//! every legal history are the contracts of functions that do nothing, in `laws`, and worked histories those of `rows`.
+//! This is the part to believe: `specs/` has the definitions that all contracts cite; docs/MODEL.md explains them.
 //!
-//! For callers' proofs: `proofs/Pushes` (`history_pushes`) has each definition at a history with one more event,
-//! `proofs/Tallying` (`page_tallies`) a page's state after each event, `proofs/PageRefusals` (`page_refusals`) and
-//! `proofs/PageOutcomes` what calls of a page answer by its counts, `proofs/Allowed` what it says that a call isn't
-//! refused, and `proofs/TakeRuns`, `TryRuns`, `ReturnRuns` and `ScanRuns` the events of the longer calls one by one.
+//! - Values: `events` (`Event`, `What`, `Outcome`, `PageId`), `page_call` (`Gain`, `Loss`, `PageCall`, `Done`), `refusal`,
+//!   `shape`, `limits`, `sub_set` (a set of subpages as 512 bits; proofs `WordSpans`, `WordMarks`).
+//! - Laws of every legal history, as contracts of empty functions: `laws`; worked histories likewise: `rows`.
+//! - `slow_check` and its modules read the definitions one for one. A definition that changes is changed there, too.
+//! - A page by itself: `Pages`, `PageCalls`, `PageChanges`; proof `PageRefusals`: its refusals are those of the history.
+//! - Underused pages: `Underused`, `UnderusedLaws`; proof `PartlyStands` shows that nothing of them happens with the switch off.
+//!
+//! For callers' proofs: `Pushes` (each definition at a history with one more event), `Tallying` (a page's state after each
+//! event), `PageRefusals`, `PageOutcomes`, `Allowed`, and `TakeRuns`, `TryRuns`, `ReturnRuns`, `ScanRuns` (longer calls).
 #![tactic(auto)]
 
 mod check_fault;

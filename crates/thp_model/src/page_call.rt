@@ -1,4 +1,4 @@
-//! What a call asks of one page, as a value, and the event that it leaves.
+//! A call about one page as a value, and the event that it records.
 ghost use Rattle.std.specs.Prelude.{◌≡◌, false, min};
 ghost use Rattle.thp_model.specs.Sets.{set_of};
 ghost use Rattle.thp_model.specs.PageCalls.{gain_splits, gain_what, loss_what};
@@ -6,51 +6,54 @@ ghost use Rattle.thp_model.specs.PageCalls.{gain_splits, gain_what, loss_what};
 use crate::events::{Outcome, PageId, What};
 use crate::sub_set::SubSet;
 
-/// What gives a page mappings or a pin, turns one mapping into smaller ones, or fills subpages. The page stays where it
-/// stands.
+/// A call that adds mappings or a pin, splits a PMD mapping, or fills subpages. The page stays on the list that it is on.
 #[derive(Clone, Copy, PartialEq, Eq, Debug)]
 pub enum Gain {
-    /// One more mapping of the whole page.
+    /// Adds a mapping of the whole page.
     MapWhole,
-    /// One more mapping of each of the `count` subpages from `first` on.
+    /// Adds a mapping of each of the `count` subpages from `first` on.
     MapSub { first: u16, count: u16 },
-    /// One mapping of the whole page becomes one of each subpage.
+    /// Replaces a mapping of the whole page by one of each subpage.
     SplitPmd,
-    /// One more pin.
+    /// Adds a pin.
     Pin,
-    /// Data into each of the `count` subpages from `first` on.
+    /// Writes data to each of the `count` subpages from `first` on.
     Write { first: u16, count: u16 },
-    /// Zeros into each of the `count` subpages from `first` on.
+    /// Writes zeros to each of the `count` subpages from `first` on.
     Zero { first: u16, count: u16 },
 }
 
-/// What takes mappings or a pin away. The page can be queued or freed by it.
+/// A call that removes mappings or a pin. It can queue or free the page.
 #[derive(Clone, Copy, PartialEq, Eq, Debug)]
 pub enum Loss {
-    /// One mapping of the whole page less.
+    /// Removes a mapping of the whole page.
     UnmapWhole,
-    /// One mapping of each of the `count` subpages from `first` on less.
+    /// Removes a mapping of each of the `count` subpages from `first` on.
     UnmapSub { first: u16, count: u16 },
-    /// One pin less.
+    /// Removes a pin.
     Unpin,
 }
 
 /// A call about one page.
 #[derive(Clone, Copy, PartialEq, Eq, Debug)]
 pub enum PageCall {
+    /// A call that keeps the page on its list.
     Gain(Gain),
+    /// A call that can queue or free the page.
     Loss(Loss),
 }
 
-/// What an unmap or an unpin did to its page, and the subpages whose frames it gave back.
+/// The result of an unmap or an unpin: its outcome, and the subpages whose frames it gave back.
 #[derive(Clone, Copy, PartialEq, Eq, Debug)]
 pub struct Done {
+    /// What the call did to the page.
     pub outcome: Outcome,
+    /// The subpages whose frames the call gave back.
     pub released: SubSet,
 }
 
-/// An operand of a page call in 16 bits, the greatest such number for each above it. A page has 512 subpages at most, so a
-/// range with either number is refused alike.
+/// Narrows an operand of a page call to 16 bits; greater values become 65,535. A page has at most 512 subpages, so a range with
+/// either number has the same refusal.
 #[inline(always)]
 pub fn narrowed(operand: u32) -> u16
     ensures { result ≡ min operand 65535 }
@@ -63,7 +66,7 @@ pub fn narrowed(operand: u32) -> u16
 }
 
 impl Done {
-    /// What a call that did nothing to its page says: it stays, and no frame was given back.
+    /// Returns the result of a call without effect: the page stays, and no frame is given back.
     #[inline(always)]
     pub fn none() -> Done
         ensures { result ≡ record { outcome = Outcome.Stays; released = set_of (λ i. false) } }
@@ -76,7 +79,7 @@ impl Done {
 }
 
 impl Gain {
-    /// The event of a page that gained this.
+    /// Returns the event that this call records on `page`.
     #[inline(always)]
     pub fn what(self, page: PageId) -> What
         ensures { result ≡ gain_what self page }
@@ -103,7 +106,7 @@ impl Gain {
         }
     }
 
-    /// How many PMD mappings it splits.
+    /// Returns the number of PMD mappings that this call splits.
     pub fn split_pmds(self) -> u32
         ensures { result ≡ gain_splits self }
     {
@@ -115,7 +118,7 @@ impl Gain {
 }
 
 impl Loss {
-    /// The event of a page that lost this.
+    /// Returns the event that this call records on `page`.
     #[inline(always)]
     pub fn what(self, page: PageId, done: &Done) -> What
         ensures { result ≡ loss_what self page done.now.outcome done.now.released }

@@ -1,15 +1,15 @@
 //! Why a call is refused.
 
-/// Why a call was refused, in the order in which the tests are made. A refused call changes nothing and leaves no event.
+/// Why a call is refused, in the order in which the reasons are tested. A refused call changes nothing and records no event.
 #[derive(Clone, Copy, PartialEq, Eq, Debug)]
 pub enum Refusal {
     /// The page was never allocated, or was freed.
     NoPage,
-    /// The range has no subpage, or one that the page hasn't.
+    /// The range is empty, or is not within the page.
     BadRange,
     /// The page is split into base pages.
     IsSplit,
-    /// There is no such mapping to take away.
+    /// There is no such mapping to remove.
     NotMapped,
     /// A frame of the range was given back.
     Gone,
@@ -19,10 +19,10 @@ pub enum Refusal {
     TooMany,
     /// The node is closed.
     Closed,
-    /// Each block is that of a live page.
+    /// Every block holds a live page.
     NoBlock,
-    /// The caller has pages in flight.
+    /// The caller already has pages in flight.
     HasBatch,
-    /// The journal couldn't grow.
+    /// Memory for the journal could not be allocated.
     OutOfMemory,
 }

@@ -7,7 +7,7 @@ ghost use Rattle.thp_model.specs.Sets.{has, set_of, set_size, covers, one_alone,
 use crate::limits::MAX_SUBPAGES;
 use std::marker::Model;
 
-/// A set of subpages: numbers below 512, which contracts see as a list of 512 truth values.
+/// A set of subpages: numbers below 512. Contracts see it as a list of 512 truth values.
 #[derive(Clone, Copy, Debug)]
 pub struct SubSet {
     // subpage i is bit i % 64 of word i / 64
@@ -46,15 +46,15 @@ impl Eq for SubSet {
 }
 
 impl SubSet {
-    /// The set of no subpage.
+    /// Returns the empty set.
     pub fn empty() -> SubSet
         ensures { result ≡ set_of (λ i. false) }
     {
         SubSet { words: [0; 8] }
     }
 
-    /// The set of every subpage of a page of this order.
-    // out of line: where a branch alone wants it, LLVM would work it out before the branch
+    /// Returns the set of all subpages of a page of this order.
+    // out of line: if only one branch needs it, LLVM would otherwise compute it before the branch
     #[inline(never)]
     pub fn full(order: u32) -> SubSet
         requires { order ≤ max_order }
@@ -63,7 +63,7 @@ impl SubSet {
         SubSet::range(0, 1 << order)
     }
 
-    /// The `count` subpages from `first` on.
+    /// Returns the set of the `count` subpages from `first` on.
     pub fn range(first: u32, count: u32) -> SubSet
         requires { first + count ≤ max_subpages }
         ensures { result ≡ set_of (covers first count) }
@@ -72,14 +72,14 @@ impl SubSet {
             return SubSet::empty();
         }
         if count == MAX_SUBPAGES as u32 {
-            // All subpages of a page of the greatest order, the most frequent of long ranges: no word is cut.
+            // All subpages of a page of the greatest order, the most frequent long range: no word is cut.
             return SubSet {
                 words: [u64::MAX; 8],
             };
         }
         let end = first + count;
         let (start, last) = (first / 64, (end - 1) / 64);
-        // Long ranges are those of whole pages most often, so it is words that are taken out.
+        // Most long ranges are whole pages, so words are removed.
         let mut words = [u64::MAX; 8];
         for k in 0..start {
             words[k as usize] = 0;
@@ -87,13 +87,13 @@ impl SubSet {
         for k in last + 1..8 {
             words[k as usize] = 0;
         }
-        // no word between the first and the last has a subpage outside the range
+        // no word between the first and the last contains a subpage outside the range
         words[start as usize] &= !word_below(first, start);
         words[last as usize] &= word_below(end, last);
         SubSet { words }
     }
 
-    /// Whether the set has no subpage.
+    /// Returns whether the set is empty.
     pub fn is_empty(&self) -> bool
         ensures empty { IsTrue result ↔ (self.now ≡ set_of (λ i. false)) }
         ensures none { result ≡ not (some_below max_subpages (has self.now)) }
@@ -101,7 +101,7 @@ impl SubSet {
         self.words == [0; 8]
     }
 
-    /// Whether subpage `i` is in the set.
+    /// Returns whether subpage `i` is in the set.
     pub fn contains(&self, i: u32) -> bool
         requires { i < max_subpages }
         ensures { result ≡ has self.now i }
@@ -110,7 +110,7 @@ impl SubSet {
         (word >> (i % 64)) & 1 == 1
     }
 
-    /// Puts subpage `i` into the set.
+    /// Inserts subpage `i` into the set.
     pub fn insert(&mut self, i: u32)
         requires { i < max_subpages }
         ensures { self.new ≡ slice_set self.old i true }
@@ -119,7 +119,7 @@ impl SubSet {
         self.words[at] |= 1u64 << (i % 64);
     }
 
-    /// The subpages of either set.
+    /// Returns the subpages that are in either set.
     pub fn union(self, other: SubSet) -> SubSet
         ensures { result ≡ set_of (λ i. has self i || has other i) }
     {
@@ -138,7 +138,7 @@ impl SubSet {
         }
     }
 
-    /// The subpages of this set that aren't in the other.
+    /// Returns the subpages of this set that are not in the other.
     pub fn difference(self, other: SubSet) -> SubSet
         ensures { result ≡ set_of (λ i. has self i && not (has other i)) }
     {
@@ -157,7 +157,7 @@ impl SubSet {
         }
     }
 
-    /// The subpages of both sets.
+    /// Returns the subpages that are in both sets.
     pub fn intersection(self, other: SubSet) -> SubSet
         ensures { result ≡ set_of (λ i. has self i && has other i) }
     {
@@ -176,7 +176,7 @@ impl SubSet {
         }
     }
 
-    /// The subpages of one of the sets that aren't in the other.
+    /// Returns the subpages that are in exactly one of the sets.
     pub fn symmetric_difference(self, other: SubSet) -> SubSet
         ensures { result ≡ set_of (λ i. one_alone (has self i) (has other i)) }
     {
@@ -195,7 +195,7 @@ impl SubSet {
         }
     }
 
-    /// Which of the 64 subpages from `64 * at` on are in the set: bit k is set where subpage `64 * at + k` is.
+    /// Returns which of the 64 subpages from `64 * at` on are in the set: bit k is set if subpage `64 * at + k` is.
     pub fn word(&self, at: usize) -> u64
         requires { at < 8 }
         ensures { (i : ℕ) → i / 64 ≡ at → nat_eq (bit_at result (i % 64)) 1 ≡ has self.now i }
@@ -203,7 +203,7 @@ impl SubSet {
         self.words[at]
     }
 
-    /// Puts those of the 64 subpages from `64 * at` on into the set whose bits are set, and takes the others of them out.
+    /// Replaces the 64 subpages from `64 * at` on: subpage `64 * at + k` is in the set afterwards if bit k is set.
     pub fn set_word(&mut self, at: usize, word: u64)
         requires { at < 8 }
         ensures { self.new ≡ set_of (λ i. if nat_eq (i / 64) at then nat_eq (bit_at word (i % 64)) 1 else has self.old i) }
@@ -211,7 +211,7 @@ impl SubSet {
         self.words[at] = word;
     }
 
-    /// How many subpages the set has.
+    /// Returns the number of subpages in the set.
     pub fn count(&self) -> u32
         ensures { result ≡ set_size self.now }
     {
@@ -222,7 +222,7 @@ impl SubSet {
         count
     }
 
-    /// The first subpage from `from` on that is in the set, or 512 where there is none.
+    /// Returns the first subpage from `from` on that is in the set, or 512 if there is none.
     pub fn first_in(&self, from: u32) -> u32
         requires { from ≤ max_subpages }
         ensures size { length self.now ≡ max_subpages }
@@ -234,7 +234,7 @@ impl SubSet {
         self.first_that(true, from)
     }
 
-    /// The first subpage from `from` on that isn't in the set, or 512 where there is none.
+    /// Returns the first subpage from `from` on that is not in the set, or 512 if there is none.
     pub fn first_out(&self, from: u32) -> u32
         requires { from ≤ max_subpages }
         ensures from { from ≤ result }
@@ -245,7 +245,7 @@ impl SubSet {
         self.first_that(false, from)
     }
 
-    // the first number from `from` on that is in the set as `is_in` says, or 512
+    // the first number from `from` on whose membership is `is_in`, or 512
     fn first_that(&self, is_in: bool, from: u32) -> u32
         requires { from ≤ max_subpages }
         ensures size { length self.now ≡ max_subpages }
@@ -267,14 +267,14 @@ impl SubSet {
     }
 }
 
-// the bits of a word that are set as `is_in` says
+// the bits of a word whose value is `is_in`
 fn marks(word: u64, is_in: bool) -> u64
     ensures { result ≡ (if is_in then word else 18446744073709551615 - word) }
 {
     if is_in { word } else { !word }
 }
 
-// word k of the set of the numbers below n: so many ones
+// word k of the set of the numbers below n: that many ones
 fn word_below(n: u32, k: u32) -> u64
     requires { k < 8 }
     ensures { result ≡ 2 ^ min 64 (n - 64 * k) - 1 }

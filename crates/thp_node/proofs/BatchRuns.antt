@@ -10,7 +10,7 @@ use Rattle.thp_model.specs.declared.shape.Shape.{Shape}
 use Rattle.thp_model.specs.History.{History, by}
 use Rattle.thp_model.specs.Legal.{IsLegal, Fits}
 use Rattle.thp_model.specs.Counts.{pins, whole}
-use Rattle.thp_model.specs.Pages.{PageState, PageSplit, gives_frames, is_worth}
+use Rattle.thp_model.specs.Pages.{PageState, PageSplit, gives_frames, is_split_candidate}
 use Rattle.thp_model.specs.Underused.{is_worth_split, is_partly_mapped, shrinks_underused}
 use Rattle.thp_model.specs.Places.{queue, flight, no_pages, is_taking, has_page}
 use Rattle.thp_model.specs.Refusals.{refusal}
@@ -23,7 +23,7 @@ use Rattle.thp_model.proofs.TakeRuns.{more_taken, take_events_more}
 use Rattle.thp_node.specs.declared.answers.Tried.{Tried}
 use Rattle.thp_node.specs.declared.answers.Tried.TheVariants as answer
 use Rattle.thp_node.specs.Batches.{tried}
-use Rattle.thp_live_pages.specs.PlacesState.{PlacesState, AtSlot, Edits}
+use Rattle.thp_live_pages.specs.PageStoreState.{PageStoreState, AtSlot, Edits}
 use Rattle.thp_node.specs.Calls.{Did}
 use Rattle.thp_live_pages.specs.Flying.{IsFlyingAt, IsUnpinnedAt}
 use Rattle.thp_live_pages.specs.Holding.{IsNode, IsSlot}
@@ -42,7 +42,7 @@ use Rattle.thp_live_pages.proofs.PageEvents.{slot_is}
 use Rattle.thp_live_pages.proofs.Standings.{batch_has}
 
 -- the node once its journal has recorded an event
-pub node_recorded : (s t : Shape) (k h : History) (e : Event) (b : PlacesState) → s ≡ t → k ≡ h ++ e ∷ [] → IsNode t (h ++ e ∷ []) b.table b.queue → IsNode s k b.table b.queue
+pub node_recorded : (s t : Shape) (k h : History) (e : Event) (b : PageStoreState) → s ≡ t → k ≡ h ++ e ∷ [] → IsNode t (h ++ e ∷ []) b.table b.queue → IsNode s k b.table b.queue
 node_recorded s t k h e b same is m =
     subst (λ x. IsNode s x b.table b.queue) (sym is) (subst (λ x. IsNode x (h ++ e ∷ []) b.table b.queue) (sym same) m)
 
@@ -114,7 +114,7 @@ pub tried_used : (s : Shape) (h : History) (p : ℕ) → is_worth_split s h p �
 tried_used s h p w = sym (ap (λ b. tried_as p b (nat_eq (pins h p) 0)) w)
 
 -- a page was split off its batch
-pub record SplitOff (s : Shape) (h : History) (c p : ℕ) (set : List Bool) (old new : PlacesState) : Type 0 where
+pub record SplitOff (s : Shape) (h : History) (c p : ℕ) (set : List Bool) (old new : PageStoreState) : Type 0 where
   pub is : by c (what.Split p set) ≡ try_event s h c p
   pub fits : Fits s h (by c (what.Split p set))
   pub node : IsNode s (h ++ by c (what.Split p set) ∷ []) new.table new.queue
@@ -127,7 +127,7 @@ pub record FoundPinned (s : Shape) (h : History) (c p : ℕ) (t : Table) (q : Li
   pub node : IsNode s (h ++ by c (what.Pinned p) ∷ []) t q
 
 -- a page was found in use
-pub record FoundUsed (s : Shape) (h : History) (c p : ℕ) (old new : PlacesState) : Type 0 where
+pub record FoundUsed (s : Shape) (h : History) (c p : ℕ) (old new : PageStoreState) : Type 0 where
   pub is : by c (what.Used p) ≡ try_event s h c p
   pub fits : Fits s h (by c (what.Used p))
   pub node : IsNode s (h ++ by c (what.Used p) ∷ []) new.table new.queue
@@ -140,7 +140,7 @@ not_queued : (z : Standing) (c : ℕ) → z ≡ Batch c → z ≢ Queued
 not_queued z c e f = cc
 
 -- the page of a block that is in a caller's flight
-module _ (s : Shape) (h : History) (c p b : ℕ) (old : PlacesState) (m : IsNode s h old.table old.queue) (w : IsFlyingAt old.table c p b) where
+module _ (s : Shape) (h : History) (c p b : ℕ) (old : PageStoreState) (m : IsNode s h old.table old.queue) (w : IsFlyingAt old.table c p b) where
   homed : Homed s h
   homed = legal_homed s h m.legal
 
@@ -158,15 +158,15 @@ module _ (s : Shape) (h : History) (c p b : ℕ) (old : PlacesState) (m : IsNode
       let P : Slot → Type 0 = λ y. (y.page.split ≡ false) × (y.page.pins ≡ 0) × (y.standing ≢ Queued) in
       subst P (same_slot w.slot x (sym w.at ∙ at)) (flying_whole s h c b w.slot old old homed m w.at w.stands, none, not_queued w.slot.standing c w.stands)
 
-  pub worth_there : is_worth_split s h p ≡ is_worth s.underused w.slot.page
+  pub worth_there : is_worth_split s h p ≡ is_split_candidate s.underused w.slot.page
   worth_there = ap (is_worth_split s h) (sym w.id_is) ∙ worth_is s h w.slot.id w.slot.page is_slot.tallies
 
   pub partly_there : is_partly_mapped s h p ≡ w.slot.page.partly
   partly_there = ap (is_partly_mapped s h) (sym w.id_is) ∙ sym is_slot.tallies.partly
 
-  pub split_off : (new : PlacesState) (set : List Bool) (give : Bool) → give ≡ shrinks_underused s →
+  pub split_off : (new : PageStoreState) (set : List Bool) (give : Bool) → give ≡ shrinks_underused s →
       AtSlot old.table b (λ x. (q : PageState) × PageSplit give x.page q × (set ≡ gives_frames x.page q) × Edits old new b (Some (record x { page = q; standing = Nowhere })) old.queue 0) →
-      is_worth s.underused w.slot.page ≡ true → w.slot.page.pins ≡ 0 → SplitOff s h c p set old new
+      is_split_candidate s.underused w.slot.page ≡ true → w.slot.page.pins ≡ 0 → SplitOff s h c p set old new
   split_off new set give switch did worth none =
       let d = did w.slot w.at in
       let how : PageSplit (shrinks_underused s) w.slot.page d.0 = subst (λ g. PageSplit g w.slot.page d.0) switch d.1 in
@@ -174,13 +174,13 @@ module _ (s : Shape) (h : History) (c p b : ℕ) (old : PlacesState) (m : IsNode
       let P : ℕ → Type 0 = λ r. SplitOff s h c r set old new in
       subst P w.id_is (record { is = f.0; fits = f.1; node = split_node s h c b w.slot old new homed m w.at w.stands d.0 set how f.1 d.3; work = d.3.work })
 
-  pub found_pinned : is_worth s.underused w.slot.page ≡ true → 0 < w.slot.page.pins → FoundPinned s h c p old.table old.queue
+  pub found_pinned : is_split_candidate s.underused w.slot.page ≡ true → 0 < w.slot.page.pins → FoundPinned s h c p old.table old.queue
   found_pinned worth some =
       let f = pinned_fits s h c b w.slot old old homed m w.at w.stands w.slot.page.pins worth refl some in
       let P : ℕ → Type 0 = λ r. FoundPinned s h c r old.table old.queue in
       subst P w.id_is (record { is = f.0; fits = f.1; node = pinned_node s h c w.slot.id old.table old.queue m f.1 })
 
-  pub found_used : (new : PlacesState) → AtSlot old.table b (λ x. Edits old new b (Some (record x { standing = Nowhere })) old.queue 0) → is_worth s.underused w.slot.page ≡ false → FoundUsed s h c p old new
+  pub found_used : (new : PageStoreState) → AtSlot old.table b (λ x. Edits old new b (Some (record x { standing = Nowhere })) old.queue 0) → is_split_candidate s.underused w.slot.page ≡ false → FoundUsed s h c p old new
   found_used new did none =
       let f = used_fits s h c b w.slot old new homed m w.at w.stands none in
       let P : ℕ → Type 0 = λ r. FoundUsed s h c r old new in

@@ -8,13 +8,13 @@ use Rattle.thp_model.specs.declared.events.What.{What}
 use Rattle.thp_model.specs.History.{by}
 use Rattle.thp_model.specs.Legal.{IsLegal}
 use Rattle.thp_model.proofs.ListPlaces.{append_none}
-use Rattle.thp_live_pages.specs.PlacesState.{PlacesState}
+use Rattle.thp_live_pages.specs.PageStoreState.{PageStoreState}
 use Rattle.thp_node.specs.Calls.{Did, Refused}
 use Rattle.thp_node.specs.Journals.{JournalState}
 use Rattle.thp_node.specs.NodeState.{NodeState}
 
 -- what contracts see of a node that has this journal and these blocks
-abbrev pub node_of : JournalState → PlacesState → NodeState
+abbrev pub node_of : JournalState → PageStoreState → NodeState
 node_of j b = record { shape = j.shape; journal = j.events; room = j.room; table = b.table; queue = b.queue }
 
 -- each event of a list is by caller c

@@ -15,23 +15,23 @@ use Rattle.thp_page.proofs.TableSlots.{slot_at-inside}
 use Rattle.thp_model.specs.declared.page_call.Done.{Done}
 use Rattle.thp_model.specs.declared.page_call.Loss.{Loss}
 use Rattle.thp_live_pages.specs.FreeChains.{IsFreeChain, Relinks}
-use Rattle.thp_live_pages.specs.PlacesState.{PlacesState, Edits, HasFree, Lost, slot_after, queue_after}
+use Rattle.thp_live_pages.specs.PageStoreState.{PageStoreState, Edits, HasFree, Lost, slot_after, queue_after}
 use Rattle.thp_live_pages.proofs.FreeChains.{free_chain_kept, not_free}
 use Rattle.thp_live_pages.proofs.Relinking.{edited_slot, taken}
 use Rattle.thp_node.specs.Chaining.{HasChain}
 
 -- another block stands as it did
-other_slot : (old new : PlacesState) (b k : ℕ) (o : Option Slot) (q : List ℕ) (n : ℕ) → Edits old new b o q n → (k ≢ b) → slot_at new.table k ≡ slot_at old.table k
+other_slot : (old new : PageStoreState) (b k : ℕ) (o : Option Slot) (q : List ℕ) (n : ℕ) → Edits old new b o q n → (k ≢ b) → slot_at new.table k ≡ slot_at old.table k
 other_slot old new b k o q n e apart = ap (λ xs. get_or xs k None) e.slots ∙ get_or-set_other old.table.slots b k o None apart
 
 -- an edit leaves a chain that hasn't its block, but for the block
-edited_chain : (old new : PlacesState) (f : List ℕ) (b : ℕ) (x : Slot) (o : Option Slot) (q : List ℕ) (n : ℕ) → HasChain old.table f → slot_at old.table b ≡ Some x → Edits old new b o q n →
+edited_chain : (old new : PageStoreState) (f : List ℕ) (b : ℕ) (x : Slot) (o : Option Slot) (q : List ℕ) (n : ℕ) → HasChain old.table f → slot_at old.table b ≡ Some x → Edits old new b o q n →
     (k : ℕ) → k ≢ b → k < length new.table.slots → slot_at new.table k ≡ None → Contains f k
 edited_chain old new f b x o q n m at e k apart below none =
     m.all k (omega (arith, ap length e.slots, length-set old.table.slots b o)) (sym (other_slot old new b k o q n e apart) ∙ none)
 
 -- while a block keeps a page the chain stays
-pub chain_edited : (old new : PlacesState) (f : List ℕ) (b : ℕ) (x y : Slot) (q : List ℕ) (n : ℕ) → HasChain old.table f → slot_at old.table b ≡ Some x → Edits old new b (Some y) q n → HasChain new.table f
+pub chain_edited : (old new : PageStoreState) (f : List ℕ) (b : ℕ) (x y : Slot) (q : List ℕ) (n : ℕ) → HasChain old.table f → slot_at old.table b ≡ Some x → Edits old new b (Some y) q n → HasChain new.table f
 chain_edited old new f b x y q n m at e = record {
   chain = free_chain_kept old new f b (Some y) q n m.chain e (not_free old.table f b x m.chain at);
   inside = λ k i. omega (arith, m.inside k i, ap length e.slots, length-set old.table.slots b (Some y));
@@ -45,7 +45,7 @@ chain_edited old new f b x y q n m at e = record {
   some_none o y p q = cc
 
 -- a block that lost its page goes into the chain
-pub chain_pushed : (old mid new : PlacesState) (f g : List ℕ) (b : ℕ) (x : Slot) (q : List ℕ) (n : ℕ) → HasChain old.table f → slot_at old.table b ≡ Some x → Edits old mid b None q n →
+pub chain_pushed : (old mid new : PageStoreState) (f g : List ℕ) (b : ℕ) (x : Slot) (q : List ℕ) (n : ℕ) → HasChain old.table f → slot_at old.table b ≡ Some x → Edits old mid b None q n →
     g ≡ b ∷ f → IsFreeChain new.table g → Relinks mid new 2 → HasChain new.table g
 chain_pushed old mid new f g b x q n m at e list chain r = record {
   chain = chain;
@@ -67,31 +67,31 @@ chain_pushed old mid new f g b x q n m at e list chain r = record {
 }
 
 -- block b has a page still
-pub record KeepsPage (old new : PlacesState) (b : ℕ) : Type 0 where
+pub record KeepsPage (old new : PageStoreState) (b : ℕ) : Type 0 where
   pub slot : Slot
   pub queue : List ℕ
   pub most : ℕ
   pub edits : Edits old new b (Some slot) queue most
 
-pub chain_stays : (now old new : PlacesState) (f : List ℕ) (b : ℕ) → HasChain old.table f → old ≡ now → IsSome (slot_at now.table b) → ((x : Slot) → slot_at old.table b ≡ Some x → KeepsPage old new b) →
+pub chain_stays : (now old new : PageStoreState) (f : List ℕ) (b : ℕ) → HasChain old.table f → old ≡ now → IsSome (slot_at now.table b) → ((x : Slot) → slot_at old.table b ≡ Some x → KeepsPage old new b) →
     HasChain new.table f
 chain_stays now old new f b m is some keeps =
-    let P : PlacesState → Type 0 = λ n. IsSome (slot_at n.table b) in
+    let P : PageStoreState → Type 0 = λ n. IsSome (slot_at n.table b) in
     let w = taken (slot_at old.table b) (subst P (sym is) some) in
     let k : KeepsPage old new b = keeps w.0 w.1 in
     chain_edited old new f b w.0 k.slot k.queue k.most m w.1 k.edits
 
 -- a loss that freed its page: block b had a page, and has none now
-pub record Freed (old new : PlacesState) (b : ℕ) : Type 0 where
+pub record Freed (old new : PageStoreState) (b : ℕ) : Type 0 where
   pub slot : Slot
   pub queue : List ℕ
   pub at : slot_at old.table b ≡ Some slot
   pub edits : Edits old new b None queue 6
 
-pub freed_there : (loss : Loss) (closed : Bool) (now old new : PlacesState) (b : ℕ) (done : Done) (left : Option ℕ) → old ≡ now → IsSome (slot_at now.table b) →
+pub freed_there : (loss : Loss) (closed : Bool) (now old new : PageStoreState) (b : ℕ) (done : Done) (left : Option ℕ) → old ≡ now → IsSome (slot_at now.table b) →
     ((x : Slot) → slot_at old.table b ≡ Some x → Lost loss closed x old new b done left) → done.outcome ≡ outcome.Freed → Freed old new b
 freed_there loss closed now old new b done left is some lost e =
-    let P : PlacesState → Type 0 = λ n. IsSome (slot_at n.table b) in
+    let P : PageStoreState → Type 0 = λ n. IsSome (slot_at n.table b) in
     let w = taken (slot_at old.table b) (subst P (sym is) some) in
     let m : Lost loss closed w.0 old new b done left = lost w.0 w.1 in
     let E : Outcome → Type 0 = λ o. Edits old new b (slot_after o (record w.0 { page = m.page })) (queue_after o b old.queue) 6 in
@@ -99,7 +99,7 @@ freed_there loss closed now old new b done left is some lost e =
     record { slot = w.0; queue = queue_after outcome.Freed b old.queue; at = w.1; edits = f }
 
 -- a loss that didn't
-pub loss_keeps : (loss : Loss) (closed : Bool) (x : Slot) (old new : PlacesState) (b : ℕ) (done : Done) (left : Option ℕ) → Lost loss closed x old new b done left → (done.outcome ≡ outcome.Freed → ⊥) →
+pub loss_keeps : (loss : Loss) (closed : Bool) (x : Slot) (old new : PageStoreState) (b : ℕ) (done : Done) (left : Option ℕ) → Lost loss closed x old new b done left → (done.outcome ≡ outcome.Freed → ⊥) →
     KeepsPage old new b
 loss_keeps loss closed x old new b done left lost unfreed = go done.outcome unfreed lost.edits where
   y : Slot
@@ -123,7 +123,7 @@ chain_none t f m none b inside = go (slot_at t b) refl where
       absurd (Contains-nil b (subst P (empty_from_first f none) (m.all b inside e)))
 
 -- the first block of the chain goes out of it, and gets a page
-pub chain_placed : (old mid new : PlacesState) (f g : List ℕ) (b : ℕ) (y : Slot) (q : List ℕ) (n : ℕ) → HasChain old.table f → slice_get f 0 ≡ Some b → Distinct f → g ≡ drop 1 f →
+pub chain_placed : (old mid new : PageStoreState) (f g : List ℕ) (b : ℕ) (y : Slot) (q : List ℕ) (n : ℕ) → HasChain old.table f → slice_get f 0 ≡ Some b → Distinct f → g ≡ drop 1 f →
     IsFreeChain mid.table g → Relinks old mid 2 → Edits mid new b (Some y) q n → HasChain new.table g
 chain_placed old mid new f g b y q n m first apart list chain r e = record {
   chain = free_chain_kept mid new g b (Some y) q n chain e out;

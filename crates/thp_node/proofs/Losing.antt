@@ -13,20 +13,20 @@ use Rattle.thp_page.specs.Slots.{slot_at}
 use Rattle.thp_model.specs.declared.page_call.Done.{Done}
 use Rattle.thp_model.specs.declared.page_call.Loss.{Loss}
 use Rattle.thp_model.specs.declared.page_call.Loss.TheVariants as loss
-use Rattle.thp_live_pages.specs.PlacesState.{PlacesState}
+use Rattle.thp_live_pages.specs.PageStoreState.{PageStoreState}
 use Rattle.thp_live_pages.specs.Holding.{IsNode, Fills}
 use Rattle.thp_live_pages.specs.Homes.{block_of, flier}
 use Rattle.thp_live_pages.specs.FreeChains.{Relinks}
-use Rattle.thp_node.specs.declared.journal.Unsaid.TheVariants.{FreedFrom}
+use Rattle.thp_node.specs.declared.journal.EventContext.TheVariants.{FreedFrom}
 use Rattle.thp_node.specs.Chaining.{LostChained}
-use Rattle.thp_node.specs.Journals.{unsaid_of}
+use Rattle.thp_node.specs.Journals.{context_of}
 use Rattle.thp_model.specs.PageCalls.{loss_call, loss_what}
 use Rattle.thp_live_pages.proofs.Admitting.{Found, at_home}
 use Rattle.thp_live_pages.proofs.Homing.{legal_homed}
 use Rattle.thp_live_pages.proofs.PageEvents.{LossFits, loss_fits, loss_left, lost_node}
 
 -- a node whose links alone changed
-pub node_relinked : (s : Shape) (h : History) (old new : PlacesState) (n : ℕ) → Relinks old new n → IsNode s h old.table old.queue → IsNode s h new.table new.queue
+pub node_relinked : (s : Shape) (h : History) (old new : PageStoreState) (n : ℕ) → Relinks old new n → IsNode s h old.table old.queue → IsNode s h new.table new.queue
 node_relinked s h old new n r m = record {
   legal = m.legal;
   size = ap length r.slots ∙ m.size;
@@ -37,32 +37,32 @@ node_relinked s h old new n r m = record {
 
 -- out of whose flight a loss freed its page is what its event leaves unsaid
 loss_unsaid : (s : Shape) (h : History) (c p : ℕ) (l : Loss) (o : Outcome) (set : List Bool) →
-    FreedFrom (if is_freed o then flier p (flights h) else None) ≡ unsaid_of s h (loss_what l p o set)
+    FreedFrom (if is_freed o then flier p (flights h) else None) ≡ context_of s h (loss_what l p o set)
 loss_unsaid s h c p l Freed set = by_loss l where
-  by_loss : (l : Loss) → FreedFrom (flier p (flights h)) ≡ unsaid_of s h (loss_what l p Freed set)
+  by_loss : (l : Loss) → FreedFrom (flier p (flights h)) ≡ context_of s h (loss_what l p Freed set)
   by_loss loss.UnmapWhole = refl
   by_loss (loss.UnmapSub first count) = refl
   by_loss loss.Unpin = refl
 loss_unsaid s h c p l Queued set = by_loss l where
-  by_loss : (l : Loss) → FreedFrom None ≡ unsaid_of s h (loss_what l p Queued set)
+  by_loss : (l : Loss) → FreedFrom None ≡ context_of s h (loss_what l p Queued set)
   by_loss loss.UnmapWhole = refl
   by_loss (loss.UnmapSub first count) = refl
   by_loss loss.Unpin = refl
 loss_unsaid s h c p l Stays set = by_loss l where
-  by_loss : (l : Loss) → FreedFrom None ≡ unsaid_of s h (loss_what l p Stays set)
+  by_loss : (l : Loss) → FreedFrom None ≡ context_of s h (loss_what l p Stays set)
   by_loss loss.UnmapWhole = refl
   by_loss (loss.UnmapSub first count) = refl
   by_loss loss.Unpin = refl
 
 -- the event fits and tells what it did, with out of whose flight the page went, and the node holds what it should
-pub record Losing (s : Shape) (h : History) (c p : ℕ) (l : Loss) (old new : PlacesState) (done : Done) (left : Option ℕ) : Type 0 where
+pub record Losing (s : Shape) (h : History) (c p : ℕ) (l : Loss) (old new : PageStoreState) (done : Done) (left : Option ℕ) : Type 0 where
   pub gives : Gives s h (h ++ by c (loss_what l p done.outcome done.released) ∷ []) p done.outcome done.released
   pub fits : Fits s h (by c (loss_what l p done.outcome done.released))
-  pub unsaid_is : FreedFrom left ≡ unsaid_of s h (loss_what l p done.outcome done.released)
+  pub unsaid_is : FreedFrom left ≡ context_of s h (loss_what l p done.outcome done.released)
   pub node : IsNode s (h ++ by c (loss_what l p done.outcome done.released) ∷ []) new.table new.queue
   pub work : new.table.accesses ≤ old.table.accesses + 8
 
-pub losing : (s : Shape) (h : History) (c p b : ℕ) (l : Loss) (closed : Bool) (old new : PlacesState) (done : Done) (left : Option ℕ) → IsNode s h old.table old.queue →
+pub losing : (s : Shape) (h : History) (c p b : ℕ) (l : Loss) (closed : Bool) (old new : PageStoreState) (done : Done) (left : Option ℕ) → IsNode s h old.table old.queue →
     block_of h p ≡ Some b → closed ≡ is_closed h → refusal s h (loss_call l p) ≡ None → ((x : Slot) → slot_at old.table b ≡ Some x → LostChained l closed x old new b done left) →
     Losing s h c p l old new done left
 losing s h c p b l closed old new done left m home shut allowed lost =

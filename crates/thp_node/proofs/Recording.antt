@@ -24,9 +24,9 @@ use Rattle.thp_model.proofs.LegalSteps.{legal_none, legal_push}
 use Rattle.thp_model.proofs.Pushes.{count_of_push, some_event_push, thp_split_pmd_push, thp_underused_split_page_push}
 use Rattle.thp_node.specs.declared.answers.Counters.{Counters}
 use Rattle.thp_node.specs.declared.journal.Tally.{Tally}
-use Rattle.thp_node.specs.declared.journal.Unsaid.{Unsaid}
-use Rattle.thp_node.specs.declared.journal.Unsaid.TheVariants.{FreedFrom}
-use Rattle.thp_node.specs.Journals.{HasFlightRoom, IsJournal, leaves_of, unsaid_of, leaves_by, pmds_by, splits_as_underused, joins_of, freed_from, one_for, frames_of, CanJoin, CanLeave, HasCountRoom, Moves, Counts}
+use Rattle.thp_node.specs.declared.journal.EventContext.{EventContext}
+use Rattle.thp_node.specs.declared.journal.EventContext.TheVariants.{FreedFrom}
+use Rattle.thp_node.specs.Journals.{HasFlightRoom, IsJournal, leaves_of, context_of, leaves_by, pmds_by, splits_as_underused, joins_of, freed_from, one_for, frames_of, CanJoin, CanLeave, HasCountRoom, Moves, Counts}
 use Rattle.thp_node.proofs.JournalLemmas.{few_frames_given, flight_moves, leaves_one}
 use Rattle.thp_live_pages.proofs.Starting.{few_events}
 
@@ -102,7 +102,7 @@ may_leave shape h c w flying None l f e g = tt
 may_leave shape h c w flying (Some d) l f e g = omega (arith, g d, leaves_one shape h c d w l f e)
 
 -- what an event leaves unsaid tells out of which flight its page goes, and how many PMD mappings it splits
-pub leaves_told : (s : Shape) (h : History) (c : ℕ) (w : What) → leaves_by c w (unsaid_of s h w) ≡ leaves_of h c w
+pub leaves_told : (s : Shape) (h : History) (c : ℕ) (w : What) → leaves_by c w (context_of s h w) ≡ leaves_of h c w
 leaves_told s h c (UnmapWhole o p r) = refl
 leaves_told s h c (UnmapSub o p a n r) = refl
 leaves_told s h c (Unpin o p r) = refl
@@ -112,13 +112,13 @@ leaves_told s h c (Back p) = refl
 leaves_told s h c (Dropped p) = refl
 leaves_told s h c w = refl
 
-pmds_told : (s : Shape) (h : History) (w : What) → pmds_by w (unsaid_of s h w) ≡ splits_pmds h w
+pmds_told : (s : Shape) (h : History) (w : What) → pmds_by w (context_of s h w) ≡ splits_pmds h w
 pmds_told s h (SplitPmd p) = refl
 pmds_told s h (Split p r) = refl
 pmds_told s h w = refl
 
 -- and whether it splits an underused page
-underused_told : (s : Shape) (h : History) (w : What) → from_bool (splits_as_underused w (unsaid_of s h w)) ≡ splits_underused s h w
+underused_told : (s : Shape) (h : History) (w : What) → from_bool (splits_as_underused w (context_of s h w)) ≡ splits_underused s h w
 underused_told s h (Split p r) = go (is_partly_mapped s h p) where
   go : (b : Bool) → from_bool (not b) ≡ if b then 0 else 1
   go true = refl
@@ -135,8 +135,8 @@ same_counters : (a b c d e f g h i j : ℕ) → a ≡ f → b ≡ g → c ≡ h 
 same_counters a b c d e f g h i j k l m n o = cc
 
 -- with an event that fits, and the numbers that it is counted in
-pub journal_push : (shape : Shape) (h : History) (c : ℕ) (w : What) (u : Unsaid) (old new : Tally) →
-    IsJournal shape h old → Fits shape h (by c w) → u ≡ unsaid_of shape h w → Counts old new c w u →
+pub journal_push : (shape : Shape) (h : History) (c : ℕ) (w : What) (u : EventContext) (old new : Tally) →
+    IsJournal shape h old → Fits shape h (by c w) → u ≡ context_of shape h w → Counts old new c w u →
     IsJournal shape (h ++ by c w ∷ []) new
 journal_push shape h c w u old new j f said a =
     let e : Event = by c w in
@@ -167,7 +167,7 @@ journal_push shape h c w u old new j f said a =
 -- ---- an unmap or an unpin
 
 -- what adds frames and queued pages alone
-lost : (old new : Tally) (c : ℕ) (w : What) (o : Outcome) (set : List Bool) (u : Unsaid) → Moves old.flying new.flying None (freed_from u) →
+lost : (old new : Tally) (c : ℕ) (w : What) (o : Outcome) (set : List Bool) (u : EventContext) → Moves old.flying new.flying None (freed_from u) →
     new ≡ record old { flying = new.flying; frames_given = old.frames_given + set_size set; counters = record old.counters { deferred_split_page = old.counters.deferred_split_page + from_bool (is_queued o) } } →
     is_alloc w ≡ false → closes w ≡ false → joins_of c w ≡ None → leaves_by c w u ≡ freed_from u → frames_of w ≡ set_size set →
     is_page_split w ≡ false → is_failed_try w ≡ false → queues w ≡ is_queued o → splits_as_underused w u ≡ false → pmds_by w u ≡ 0 →
@@ -192,14 +192,14 @@ lost old new c w o set u moves e new_page closing joins leaves frames splits fai
   or_none false b e = sym e
 
 -- out of whose flight its page goes
-pub left_told : (s : Shape) (h : History) (c p : ℕ) (l : Loss) (o : Outcome) (set : List Bool) (left : Option ℕ) → FreedFrom left ≡ unsaid_of s h (loss_what l p o set) →
+pub left_told : (s : Shape) (h : History) (c p : ℕ) (l : Loss) (o : Outcome) (set : List Bool) (left : Option ℕ) → FreedFrom left ≡ context_of s h (loss_what l p o set) →
     left ≡ leaves_of h c (loss_what l p o set)
 left_told s h c p loss.UnmapWhole o set left e = ap freed_from e
 left_told s h c p (loss.UnmapSub a n) o set left e = ap freed_from e
 left_told s h c p loss.Unpin o set left e = ap freed_from e
 
 -- what it adds to the numbers
-pub counts_lost : (old new : Tally) (c p : ℕ) (l : Loss) (o : Outcome) (set : List Bool) (u : Unsaid) → Moves old.flying new.flying None (freed_from u) →
+pub counts_lost : (old new : Tally) (c p : ℕ) (l : Loss) (o : Outcome) (set : List Bool) (u : EventContext) → Moves old.flying new.flying None (freed_from u) →
     new ≡ record old { flying = new.flying; frames_given = old.frames_given + set_size set; counters = record old.counters { deferred_split_page = old.counters.deferred_split_page + from_bool (is_queued o) } } →
     Counts old new c (loss_what l p o set) u
 counts_lost old new c p loss.UnmapWhole o set u moves e = lost old new c (UnmapWhole o p set) o set u moves e refl refl refl refl refl refl refl refl refl refl

@@ -22,7 +22,7 @@ use Rattle.thp_page.specs.declared.standing.Standing.TheVariants.{Nowhere, Queue
 use Rattle.thp_page.specs.Table.{Slot}
 use Rattle.thp_page.specs.Table.{Table}
 use Rattle.thp_page.specs.Slots.{slot_at}
-use Rattle.thp_live_pages.specs.PlacesState.{PlacesState, Edits, AtSlot}
+use Rattle.thp_live_pages.specs.PageStoreState.{PageStoreState, Edits, AtSlot}
 use Rattle.thp_node.specs.Batches.{BatchState, IsInFront, back_reply}
 use Rattle.thp_node.specs.declared.answers.BackReply.{BackReply}
 use Rattle.thp_node.specs.Calls.{Did}
@@ -46,7 +46,7 @@ from_cond true = refl
 from_cond false = refl
 
 -- the node once a page of a batch was dropped
-pub dropped_all : (s r : Shape) (h k : History) (c p b : ℕ) (old new : PlacesState) → IsNode s h old.table old.queue → IsFlyingAt old.table c p b → Fits s h (by c (what.Dropped p)) →
+pub dropped_all : (s r : Shape) (h k : History) (c p b : ℕ) (old new : PageStoreState) → IsNode s h old.table old.queue → IsFlyingAt old.table c p b → Fits s h (by c (what.Dropped p)) →
     AtSlot old.table b (λ x. Edits old new b (Some (record x { standing = Nowhere })) old.queue 0) → r ≡ s → k ≡ h ++ by c (what.Dropped p) ∷ [] → IsNode r k new.table new.queue
 dropped_all s r h k c p b old new m w f edits e g =
     let F : ℕ → Type 0 = λ z. Fits s h (by c (what.Dropped z)) in
@@ -56,7 +56,7 @@ dropped_all s r h k c p b old new m w f edits e g =
     subst (λ t. N t k) (sym e) (subst (λ j. N s j) (ap (λ z. h ++ by c (what.Dropped z) ∷ []) w.id_is ∙ sym g) node)
 
 -- the node once a page of a batch was put back
-pub back_all : (s r : Shape) (h k : History) (c p b : ℕ) (old new : PlacesState) → IsNode s h old.table old.queue → IsFlyingAt old.table c p b → Fits s h (by c (what.Back p)) →
+pub back_all : (s r : Shape) (h k : History) (c p b : ℕ) (old new : PageStoreState) → IsNode s h old.table old.queue → IsFlyingAt old.table c p b → Fits s h (by c (what.Back p)) →
     AtSlot old.table b (λ x. Edits old new b (Some (record x { standing = Queued })) (old.queue ++ b ∷ []) 4) → r ≡ s → k ≡ h ++ by c (what.Back p) ∷ [] → IsNode r k new.table new.queue
 back_all s r h k c p b old new m w f edits e g =
     let F : ℕ → Type 0 = λ z. Fits s h (by c (what.Back z)) in
@@ -66,7 +66,7 @@ back_all s r h k c p b old new m w f edits e g =
     subst (λ t. N t k) (sym e) (subst (λ j. N s j) (ap (λ z. h ++ by c (what.Back z) ∷ []) w.id_is ∙ sym g) node)
 
 -- whether a page goes back is told by the node and by the page
-pub goes_back_told : (s : Shape) (h : History) (c p b : ℕ) (old : PlacesState) (z partly : Bool) → IsNode s h old.table old.queue → (w : IsFlyingAt old.table c p b) → z ≡ is_closed h →
+pub goes_back_told : (s : Shape) (h : History) (c p b : ℕ) (old : PageStoreState) (z partly : Bool) → IsNode s h old.table old.queue → (w : IsFlyingAt old.table c p b) → z ≡ is_closed h →
     AtSlot old.table b (λ x. partly ≡ x.page.partly) → (not z && partly) ≡ goes_back s h p
 goes_back_told s h c p b old z partly m w shut told =
     ap₂ (λ x y. not x && y) shut (told w.slot w.at ∙ sym (partly_there s h c p b old m w)) ∙ go (is_closed h) (is_partly_mapped s h p) where

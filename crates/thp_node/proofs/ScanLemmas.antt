@@ -36,7 +36,7 @@ use Rattle.thp_node.specs.declared.answers.BackReply.{BackReply}
 use Rattle.thp_node.specs.declared.answers.ScanReply.{ScanReply}
 use Rattle.thp_node.specs.Calls.{Did, Refused}
 use Rattle.thp_node.specs.NodeState.{NodeState}
-use Rattle.thp_node.specs.Scanning.{events_behind, is_used, used_count}
+use Rattle.thp_node.specs.Scanning.{events_after, is_used, used_count}
 use Rattle.thp_node.proofs.CallLemmas.{did_then}
 
 in_middle : (p : ℕ) (xs ys : List ℕ) → has_page p (xs ++ p ∷ ys) ≡ true
@@ -302,14 +302,14 @@ counts_returns s h c (q ∷ qs) =
       go true = (refl, refl, refl, refl, refl, refl)
       go false = (refl, refl, refl, refl, refl, refl)
 
-pub counts_behind : (s : Shape) (h : History) (c : ℕ) (ps : List ℕ) →
-    Counts (events_behind s h c ps) 0 (count_by (gets_split s h) ps) (count_by (is_pinned s h) ps)
+pub counts_after : (s : Shape) (h : History) (c : ℕ) (ps : List ℕ) →
+    Counts (events_after s h c ps) 0 (count_by (gets_split s h) ps) (count_by (is_pinned s h) ps)
     (count_by (goes_back s h) (filter (is_pinned s h) ps)) (count_by (drops s h) (filter (is_pinned s h) ps)) (count_by (is_used s h) ps)
-counts_behind s h c ps =
+counts_after s h c ps =
     let qs : List ℕ = filter (is_pinned s h) ps in
     let r = counts_both (map (try_event s h c) ps) (map (return_event s h c) qs) 0 (count_by (gets_split s h) ps) (count_by (is_pinned s h) ps) 0 0 (count_by (is_used s h) ps)
     0 0 0 (count_by (goes_back s h) qs) (count_by (drops s h) qs) 0 (counts_tries s h c ps) (counts_returns s h c qs) in
-    counts_as (events_behind s h c ps) _ _ _ _ _ _ 0 (count_by (gets_split s h) ps) (count_by (is_pinned s h) ps) (count_by (goes_back s h) qs) (count_by (drops s h) qs) (count_by (is_used s h) ps) r
+    counts_as (events_after s h c ps) _ _ _ _ _ _ 0 (count_by (gets_split s h) ps) (count_by (is_pinned s h) ps) (count_by (goes_back s h) qs) (count_by (drops s h) qs) (count_by (is_used s h) ps) r
     (omega arith) (omega arith) (omega arith) (omega arith) (omega arith) (omega arith)
 
 -- each page that is tried is split, found pinned or found in use
@@ -350,20 +350,20 @@ abbrev the_scan : ℕ → ℕ → ℕ → ℕ → ℕ → ℕ → ScanReply
 the_scan a b d e f g = record { taken = a; split = b; pinned = d; back = e; dropped = f; used = g }
 
 -- the reply of a scan behind its take, by that of the put-back and the pages found in use
-pub behind_reply : (s : Shape) (h k : History) (c : ℕ) (ps : List ℕ) (back dropped n used : ℕ) → AllTried s h k c ps → the_reply back dropped ≡ back_reply s k (still_flying k c ps) →
+pub after_reply : (s : Shape) (h k : History) (c : ℕ) (ps : List ℕ) (back dropped n used : ℕ) → AllTried s h k c ps → the_reply back dropped ≡ back_reply s k (still_flying k c ps) →
     n ≡ length ps → used ≡ count_by (is_used s h) ps →
-    (used + (back + dropped) ≤ n) × (the_scan n (n - used - (back + dropped)) (back + dropped) back dropped used ≡ record (scan_reply (events_behind s h c ps)) { taken = length ps })
-behind_reply s h k c ps back dropped n used a e is u =
+    (used + (back + dropped) ≤ n) × (the_scan n (n - used - (back + dropped)) (back + dropped) back dropped used ≡ record (scan_reply (events_after s h c ps)) { taken = length ps })
+after_reply s h k c ps back dropped n used a e is u =
     let qs : List ℕ = filter (is_pinned s h) ps in
     let backs : back ≡ count_by (goes_back s h) qs =
     ap (λ (x : BackReply). x.back) e ∙ ap (count_by (goes_back s k)) a.still ∙ count_same (goes_back s k) (goes_back s h) qs (λ q. ap not (a.dropped q)) in
     let drops_are : dropped ≡ count_by (drops s h) qs =
     ap (λ (x : BackReply). x.dropped) e ∙ ap (count_by (drops s k)) a.still ∙ count_same (drops s k) (drops s h) qs a.dropped in
     let pinned : back + dropped ≡ count_by (is_pinned s h) ps = omega (arith, backs, drops_are, two_kinds s h qs, length-filter (is_pinned s h) ps) in
-    let r = counts_behind s h c ps in
+    let r = counts_after s h c ps in
     let all = three_kinds s h ps in (
       omega (arith, pinned, all, is, u),
-      sym (numbers (scan_reply (events_behind s h c ps)) is (r.split_is ∙ omega (arith, pinned, all, is, u)) (r.pinned_is ∙ sym pinned) (r.back_is ∙ sym backs) (r.dropped_is ∙ sym drops_are) (r.used_is ∙ sym u)),
+      sym (numbers (scan_reply (events_after s h c ps)) is (r.split_is ∙ omega (arith, pinned, all, is, u)) (r.pinned_is ∙ sym pinned) (r.back_is ∙ sym backs) (r.dropped_is ∙ sym drops_are) (r.used_is ∙ sym u)),
     ) where
       numbers : (x : ScanReply) → n ≡ length ps → x.split ≡ n - used - (back + dropped) → x.pinned ≡ back + dropped → x.back ≡ back → x.dropped ≡ dropped → x.used ≡ used →
           record x { taken = length ps } ≡ the_scan n (n - used - (back + dropped)) (back + dropped) back dropped used
@@ -396,7 +396,7 @@ module _ (a b : NodeState) (t : BatchState) (c : ℕ) (ps : List ℕ) (l : IsLeg
       )
 
   -- what was done with it
-  pub tried_returned : (d : NodeState) → Did b d t.caller (put_back_events b.shape b.journal t.caller t.pages) → Did a d c (events_behind a.shape a.journal c ps)
+  pub tried_returned : (d : NodeState) → Did b d t.caller (put_back_events b.shape b.journal t.caller t.pages) → Did a d c (events_after a.shape a.journal c ps)
   tried_returned d m =
       let S : Shape → Type 0 = λ z. Did b d t.caller (put_back_events z b.journal t.caller t.pages) in
       let C : ℕ → Type 0 = λ x. Did b d x (put_back_events a.shape b.journal x t.pages) in
@@ -408,9 +408,9 @@ module _ (a b : NodeState) (t : BatchState) (c : ℕ) (ps : List ℕ) (l : IsLeg
   -- what is answered
   pub tried_reply : (r : BackReply) (n used : ℕ) → r ≡ back_reply b.shape b.journal (still_flying b.journal t.caller t.pages) → n ≡ length ps → used ≡ count_by (is_used a.shape a.journal) ps →
       (used + (r.back + r.dropped) ≤ n)
-      × (the_scan n (n - used - (r.back + r.dropped)) (r.back + r.dropped) r.back r.dropped used ≡ record (scan_reply (events_behind a.shape a.journal c ps)) { taken = length ps })
+      × (the_scan n (n - used - (r.back + r.dropped)) (r.back + r.dropped) r.back r.dropped used ≡ record (scan_reply (events_after a.shape a.journal c ps)) { taken = length ps })
   tried_reply r n used e is u =
-      behind_reply a.shape a.journal b.journal c ps r.back r.dropped n used tried (e ∙ ap (λ z. back_reply z b.journal (still_flying b.journal t.caller t.pages)) did.shape ∙ ap (back_reply a.shape b.journal) same_still) is u
+      after_reply a.shape a.journal b.journal c ps r.back r.dropped n used tried (e ∙ ap (λ z. back_reply z b.journal (still_flying b.journal t.caller t.pages)) did.shape ∙ ap (back_reply a.shape b.journal) same_still) is u
 
 -- a scan is refused as a take is
 pub scan_as_take : (s : Shape) (h : History) (c : ℕ) → refusal s h (call.scan c) ≡ refusal s h (call.take c)
@@ -451,8 +451,8 @@ module _ (a m b : NodeState) (c n k : ℕ) (same : m ≡ record a { room = m.roo
       (ap (λ (x : NodeState). take k (queue x.shape x.journal)) same ∙ ap (λ i. take i (queue a.shape a.journal)) is ∙ take_min n (queue a.shape a.journal))
 
 -- takes leave what is behind them
-behind_takes : (s : Shape) (h k : History) (c : ℕ) (ps : List ℕ) → TakesLeave s h k c → events_behind s k c ps ≡ events_behind s h c ps
-behind_takes s h k c ps t =
+after_takes : (s : Shape) (h k : History) (c : ℕ) (ps : List ℕ) → TakesLeave s h k c → events_after s k c ps ≡ events_after s h c ps
+after_takes s h k c ps t =
     ap₂ (λ xs ys. xs ++ ys) (map_same (try_event s k c) (try_event s h c) t.tries ps)
     (ap (map (return_event s k c)) (filter_in (is_pinned s k) (is_pinned s h) ps (λ q y. t.pinned q)) ∙ map_same (return_event s k c) (return_event s h c) (λ q. ap (λ z. return_as z c q) (t.dropped q)) (filter (is_pinned s h) ps))
 
@@ -470,43 +470,43 @@ module _ (a b : NodeState) (t : BatchState) (c n : ℕ) (l : IsLegal a.shape a.j
       ∙ (take_runs a.shape a.journal c n l (none_flies (flight a.journal c) none)).joined ∙ ap (λ ps. ps ++ take n (queue a.shape a.journal)) (empty_list (flight a.journal c) none)
       ∙ sym (ap (λ (x : BatchState). x.pages) is)
 
-  behind_is : events_behind b.shape b.journal t.caller t.pages ≡ events_behind a.shape a.journal c (take n (queue a.shape a.journal))
-  behind_is =
+  after_is : events_after b.shape b.journal t.caller t.pages ≡ events_after a.shape a.journal c (take n (queue a.shape a.journal))
+  after_is =
       let ps : List ℕ = take n (queue a.shape a.journal) in
-      ap (λ (x : BatchState). events_behind b.shape b.journal x.caller x.pages) is
-      ∙ ap₂ (λ s h. events_behind s h c ps) took.shape took.journal
-      ∙ behind_takes a.shape a.journal (a.journal ++ take_events a.shape a.journal c n) c ps (takes_leave a.shape a.journal c ps)
+      ap (λ (x : BatchState). events_after b.shape b.journal x.caller x.pages) is
+      ∙ ap₂ (λ s h. events_after s h c ps) took.shape took.journal
+      ∙ after_takes a.shape a.journal (a.journal ++ take_events a.shape a.journal c n) c ps (takes_leave a.shape a.journal c ps)
 
-  whole_scan : take_events a.shape a.journal c n ++ events_behind a.shape a.journal c (take n (queue a.shape a.journal)) ≡ scan_events a.shape a.journal c n
+  whole_scan : take_events a.shape a.journal c n ++ events_after a.shape a.journal c (take n (queue a.shape a.journal)) ≡ scan_events a.shape a.journal c n
   whole_scan =
       let ps : List ℕ = take n (queue a.shape a.journal) in
       sym (append_assoc (take_events a.shape a.journal c n) (map (try_event a.shape a.journal c) ps) (map (return_event a.shape a.journal c) (filter (is_pinned a.shape a.journal) ps)))
 
   -- with what is behind the take it is the scan
-  pub scan_recorded : (d : NodeState) → Did b d t.caller (events_behind b.shape b.journal t.caller t.pages) → Did a d c (scan_events a.shape a.journal c n)
+  pub scan_recorded : (d : NodeState) → Did b d t.caller (events_after b.shape b.journal t.caller t.pages) → Did a d c (scan_events a.shape a.journal c n)
   scan_recorded d m =
-      let es : List Event = events_behind a.shape a.journal c (take n (queue a.shape a.journal)) in
+      let es : List Event = events_after a.shape a.journal c (take n (queue a.shape a.journal)) in
       let B : List Event → Type 0 = λ xs. Did b d t.caller xs in
       let C : ℕ → Type 0 = λ x. Did b d x es in
       let D : List Event → Type 0 = λ xs. Did a d c xs in
-      subst D whole_scan (did_then a b d c (take_events a.shape a.journal c n) es took (subst C (ap (λ (x : BatchState). x.caller) is) (subst B behind_is m)))
+      subst D whole_scan (did_then a b d c (take_events a.shape a.journal c n) es took (subst C (ap (λ (x : BatchState). x.caller) is) (subst B after_is m)))
 
-  pub scan_replied : (x : ScanReply) → x ≡ record (scan_reply (events_behind b.shape b.journal t.caller t.pages)) { taken = length t.pages } →
+  pub scan_replied : (x : ScanReply) → x ≡ record (scan_reply (events_after b.shape b.journal t.caller t.pages)) { taken = length t.pages } →
       x ≡ scan_reply (scan_events a.shape a.journal c n)
   scan_replied x e =
       let ps : List ℕ = take n (queue a.shape a.journal) in
       let s : Shape = a.shape in
       let h : History = a.journal in
-      let es : List Event = events_behind s h c ps in
+      let es : List Event = events_after s h c ps in
       let qs : List ℕ = filter (is_pinned s h) ps in
       let split : ℕ = count_by (gets_split s h) ps in
       let pinned : ℕ = count_by (is_pinned s h) ps in
       let back : ℕ = count_by (goes_back s h) qs in
       let dropped : ℕ = count_by (drops s h) qs in
       let used : ℕ = count_by (is_used s h) ps in
-      let r : Counts es 0 split pinned back dropped used = counts_behind s h c ps in
+      let r : Counts es 0 split pinned back dropped used = counts_after s h c ps in
       let all = counts_both (takes_of c ps) es (length ps) 0 0 0 0 0 0 split pinned back dropped used (counts_takes c ps) r in
-      e ∙ ap₂ (λ xs (k : ℕ). let y : ScanReply = record (scan_reply xs) { taken = k } in y) behind_is (ap (λ (y : BatchState). length y.pages) is)
+      e ∙ ap₂ (λ xs (k : ℕ). let y : ScanReply = record (scan_reply xs) { taken = k } in y) after_is (ap (λ (y : BatchState). length y.pages) is)
       ∙ rw (r.split_is, r.pinned_is, r.back_is, r.dropped_is, r.used_is) refl
       ∙ sym (counted_reply (takes_of c ps ++ es) (the_scan (length ps) split pinned back dropped used)
       (counts_as (takes_of c ps ++ es) _ _ _ _ _ _ (length ps) split pinned back dropped used all (omega arith) (omega arith) (omega arith) (omega arith) (omega arith) (omega arith)))

@@ -1,4 +1,4 @@
--- What contracts see of a batch, what a try and a put-back answer, and what a scan counts.
+-- The view that contracts have of a batch, the results of a try and a put back, and the counts of a scan.
 use Rattle.std.specs.Prelude.{◌≡◌, ◌≢◌, ℕ, ◌≤◌, ◌<◌, length, count_by, nat_eq, if◌then◌else◌, Bool, true, false, List, [], ◌++◌, drop, Option, Some, None}
 use Rattle.std.specs.List.{All}
 use Rattle.thp_model.specs.Limits.{max_batch, max_callers}
@@ -17,13 +17,13 @@ use Rattle.thp_node.specs.declared.answers.Tried.TheVariants.{Split, Pinned, Use
 use Rattle.thp_node.specs.declared.answers.BackReply.{BackReply}
 use Rattle.thp_node.specs.declared.answers.ScanReply.{ScanReply}
 
--- the caller, the pages taken in order, and how many of them were tried
+-- the caller, the pages taken in order, and the number of them that were tried
 pub record BatchState : Type 0 where
   pub caller : ℕ
   pub pages : List ℕ
   pub place : ℕ
 
--- a batch without a page, of nobody in particular
+-- an empty batch of no particular caller
 abbrev pub no_batch : BatchState
 no_batch = record { caller = 0; pages = []; place = 0 }
 
@@ -31,35 +31,35 @@ no_batch = record { caller = 0; pages = []; place = 0 }
 abbrev pub rest : BatchState → List ℕ
 rest b = drop b.place b.pages
 
--- what a batch keeps
+-- the invariant of a batch
 pub record IsBatch (b : BatchState) : Type 0 where
   pub caller : b.caller < max_callers
   pub few : length b.pages ≤ max_batch
   pub inside : b.place ≤ length b.pages
 
--- the pages of the batch that are still in flight come first in the flight of its caller
+-- the pages of the batch that are still in flight are a prefix of its caller's flight
 pub record IsInFront (h : History) (b : BatchState) : Type 0 where
   pub others : List ℕ
   pub front : flight h b.caller ≡ still_flying h b.caller b.pages ++ others
 
--- every batch that is in front of its flight at h is so at k
+-- every batch that is a prefix of its flight at h is one at k
 abbrev pub FrontsStay : History → History → Type 0
 FrontsStay h k = (b : BatchState) → IsInFront h b → IsInFront k b
 
--- every batch of a caller other than c
+-- the same for every batch of a caller other than c
 abbrev pub OtherFrontsStay : ℕ → History → History → Type 0
 OtherFrontsStay c h k = (b : BatchState) → b.caller ≢ c → IsInFront h b → IsInFront k b
 
--- a batch of caller c that has none of the pages ps, which are those of its flight, is in front of the flight at h
+-- a batch of caller c that contains none of the pages ps, which are those of its flight, is a prefix of the flight at h
 abbrev pub OlderAreInFront : ℕ → List ℕ → History → Type 0
 OlderAreInFront c ps h = (b : BatchState) → b.caller ≡ c → All (λ p. has_page p ps ≡ false) b.pages → IsInFront h b
 
--- what a try of the next page answers
+-- the result of a try of the next page
 abbrev pub tried : Shape → History → Option ℕ → Tried
 tried s h None = Done
 tried s h (Some p) = if is_worth_split s h p then if nat_eq (pins h p) 0 then Split p else Pinned p else Used p
 
--- what a put-back of these pages answers: how many go back, and how many are dropped
+-- the result of a put back of these pages: the numbers of pages put back and dropped
 abbrev pub back_reply : Shape → History → List ℕ → BackReply
 back_reply s h ps = record { back = count_by (goes_back s h) ps; dropped = count_by (drops s h) ps }
 
@@ -87,7 +87,7 @@ abbrev pub is_dropped : What → Bool
 is_dropped (Dropped p) = true
 is_dropped _ = false
 
--- what a scan answers: how many events of each kind it recorded
+-- the result of a scan: the number of events of each kind that it recorded
 abbrev pub scan_reply : List Event → ScanReply
 scan_reply es = record {
   taken = count_of is_taken es;

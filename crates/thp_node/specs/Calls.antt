@@ -1,4 +1,4 @@
--- What every call of a node does, and what it leaves where it is refused.
+-- What every call of a node guarantees, and what a refused one does.
 use Rattle.std.specs.Prelude.{◌≡◌, ℕ, ◌+◌, ◌*◌, ◌<◌, ◌≤◌, length, List, [], ◌∷◌, ◌++◌, Option, None, Some, ◌⊎◌}
 use Rattle.std.specs.List.{All}
 use Rattle.thp_model.specs.declared.events.Event.{Event}
@@ -9,8 +9,8 @@ use Rattle.thp_model.specs.History.{by}
 use Rattle.thp_model.specs.Legal.{IsLegal}
 use Rattle.thp_node.specs.NodeState.{NodeState}
 
--- the call recorded these events, all of them caller c's own: the journal stays legal, the room lessens by at most their
--- number, and the links are accessed at most eight times for each
+-- the call recorded these events, all of caller c: the journal stays legal, the room shrinks by at most their number, and each of
+-- them accesses the links at most eight times
 pub record Did (old new : NodeState) (c : ℕ) (es : List Event) : Type 0 where
   pub shape : new.shape ≡ old.shape
   pub journal : new.journal ≡ old.journal ++ es
@@ -24,8 +24,8 @@ pub record DidAlloc (old new : NodeState) (c p : ℕ) : Type 0 where
   pub block : ℕ
   pub did : Did old new c (by c (Alloc p block) ∷ [])
 
--- the call was refused with r and changed nothing: for the reason that there is at the journal, or else for want of
--- memory, where the room was too small for its m events
+-- the call was refused with r and changed nothing: r is the reason that holds at the journal, or else lack of memory, if the room
+-- was too small for its m events
 pub record Refused (old new : NodeState) (why : Option Refusal) (m : ℕ) (r : Refusal) : Type 0 where
   pub same : new ≡ old
   pub cause : (why ≡ Some r) ⊎ ((why ≡ None) × (r ≡ OutOfMemory) × (old.room < m))

@@ -1,4 +1,4 @@
--- What the laws of every legal history say of the journal of a node.
+-- The laws of every legal history, for the journal of a node.
 use Rattle.std.specs.Prelude.{◌≡◌, ℕ, ◌+◌, ◌*◌, ◌<◌, ◌≤◌, true, false, ◌&&◌, cond, nat_eq, nat_lt, List, [], ◌∷◌, ◌++◌, Some, slice_get, take, length, count_by}
 use Rattle.std.specs.List.{filter}
 use Rattle.thp_model.specs.declared.events.Event.{Event}
@@ -16,19 +16,19 @@ use Rattle.thp_model.specs.UnderusedLaws.{finds_used}
 use Rattle.thp_model.specs.Counters.{thp_underused_split_page}
 use Rattle.thp_model.specs.Underused.{shrinks_underused, is_partly_mapped}
 
--- the queue and all flights joined repeat no page
+-- no page occurs twice in the queue and all flights together
 unfoldable pub StandsOnce : Shape → History → Type 0
 StandsOnce s h = (p : ℕ) → count_by (λ q. nat_eq q p) (standing s h) ≤ 1
 
--- each page there is live and not split
+-- each page in the queue or a flight is live and not split
 unfoldable pub StandsWhole : Shape → History → Type 0
 StandsWhole s h = (p : ℕ) → stands s h p ≡ true → (is_live h p ≡ true) × (is_split h p ≡ false)
 
--- each run of takes by one caller took the first pages of the queue, in order
+-- consecutive takes by one caller took the first pages of the queue, in order
 unfoldable pub TakesOldest : Shape → History → Type 0
 TakesOldest s h = (before after : History) (c : ℕ) (ps : List ℕ) → h ≡ before ++ takes_of c ps ++ after → ps ≡ take (length ps) (queue s before)
 
--- at each event about a page but its allocation the page was live: no freed page was taken, split, put back or dropped
+-- at each event about a page except its allocation the page was live: no freed page was taken, split, put back or dropped
 unfoldable pub LeavesFreedAlone : History → Type 0
 LeavesFreedAlone h = (k : ℕ) (e : Event) (p : ℕ) → slice_get h k ≡ Some e → acts_on p e.what ≡ true → is_live (take k h) p ≡ true
 
@@ -37,20 +37,20 @@ unfoldable pub AllocatesOnce : History → Type 0
 AllocatesOnce h =
     (k : ℕ) (e : Event) (p : ℕ) → slice_get h k ≡ Some e → allocates p e.what ≡ true → some_event (allocates p) (take k h) ≡ false
 
--- after a close nothing entered the queue, and no page was allocated
+-- after a close no page was queued or allocated
 unfoldable pub NothingEnters : History → Type 0
 NothingEnters h = (k : ℕ) (e : Event) → slice_get h k ≡ Some e → is_closed (take k h) ≡ true → enters e.what ≡ false
 
--- each frame of each allocated page is held and was never given back, or isn't held and was given back once
+-- each frame of each allocated page is either held and was never given back, or not held and given back once
 unfoldable pub HasFramesOnce : Shape → History → Type 0
 HasFramesOnce s h =
     (p i : ℕ) → i < subpages s → cond (is_held s h p i) 1 0 + count_of (gives_frame p i) h ≡ cond (nat_lt p (allocations h)) 1 0
 
--- the frames of all pages allocated are those held and those given back
+-- the frames of all allocated pages are those held and those given back
 unfoldable pub KeepsFrames : Shape → History → Type 0
 KeepsFrames s h = subpages s * allocations h ≡ frames_held s h + frames_given h
 
--- a page holds a frame exactly while it lives, but for a split page where the switch is on
+-- a page holds a frame exactly while it is live, except a split page while the switch is on
 unfoldable pub HoldsWhileLive : Shape → History → Type 0
 HoldsWhileLive s h = (p : ℕ) → (shrinks_underused s && is_split h p) ≡ false → some_below (subpages s) (is_held s h p) ≡ is_live h p
 
@@ -68,18 +68,18 @@ unfoldable pub LivesApart : History → Type 0
 LivesApart h =
     (p q b : ℕ) → is_live h p ≡ true → is_live h q ≡ true → some_event (places p b) h ≡ true → some_event (places q b) h ≡ true → p ≡ q
 
--- events of others took out of a caller's flight only the pages that they freed, and kept its order
+-- events of other callers removed from a caller's flight only the pages that they freed, and kept its order
 unfoldable pub OthersFree : History → Type 0
 OthersFree h =
     (before es after : History) (c : ℕ) → h ≡ before ++ es ++ after → is_others c es ≡ true →
     flight (before ++ es) c ≡ filter (is_live (before ++ es)) (flight before c)
 
--- each flight went on from event to event by what was done
+-- each flight changed from event to event by what was done
 unfoldable pub FlightsGoOn : History → Type 0
 FlightsGoOn h =
     (before after : History) (e : Event) (c : ℕ) → h ≡ before ++ e ∷ after →
     flight (before ++ e ∷ []) c ≡ flight_after c (flight before c) e.caller e.what
 
--- and so did the queue
+-- the queue did too
 unfoldable pub QueueGoesOn : Shape → History → Type 0
 QueueGoesOn s h = (before after : History) (e : Event) → h ≡ before ++ e ∷ after → queue s (before ++ e ∷ []) ≡ queue_after s (queue s before) e.what

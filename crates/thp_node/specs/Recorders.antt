@@ -1,8 +1,8 @@
--- What contracts see of a recorder.
+-- The view that contracts have of a recorder.
 use Rattle.std.specs.Prelude.{ℕ}
 use Rattle.thp_model.specs.History.{History}
 
--- what was recorded, and how many events more it can take before it needs memory
+-- the events recorded, and the number of events that it can record without an allocation
 pub record Recorded : Type 0 where
   pub history : History
   pub room : ℕ

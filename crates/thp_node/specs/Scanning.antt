@@ -1,4 +1,4 @@
--- What a scan does behind its take. No public clause cites this module.
+-- The effect of a scan after its take. No public clause cites this module.
 use Rattle.std.specs.Prelude.{ℕ, Bool, not, List, ◌++◌, map}
 use Rattle.std.specs.List.{filter}
 use Rattle.thp_model.specs.declared.events.Event.{Event}
@@ -9,9 +9,9 @@ use Rattle.thp_node.specs.declared.answers.Tried.TheVariants.{Used}
 use Rattle.thp_model.specs.Runs.{try_event, return_event, is_pinned}
 use Rattle.thp_model.specs.Underused.{is_worth_split}
 
--- a try of each of these pages, and the return of those that are pinned
-abbrev pub events_behind : Shape → History → ℕ → List ℕ → List Event
-events_behind s h c ps = map (try_event s h c) ps ++ map (return_event s h c) (filter (is_pinned s h) ps)
+-- a try of each of these pages, and the return of the pinned ones
+abbrev pub events_after : Shape → History → ℕ → List ℕ → List Event
+events_after s h c ps = map (try_event s h c) ps ++ map (return_event s h c) (filter (is_pinned s h) ps)
 
 -- a try of page p finds it in use
 abbrev pub is_used : Shape → History → ℕ → Bool

@@ -1,59 +1,68 @@
-//! What the calls of a node answer.
+//! The results of a node's calls.
 use thp_model::PageId;
 
-/// Why a node wasn't made.
+/// Why a node could not be created.
 #[derive(Clone, Copy, PartialEq, Eq, Debug)]
 pub enum NewFault {
-    /// The shape isn't one that a node can have: 1 to 4,096 blocks, order 2 to 9.
+    /// The shape or the number of callers is outside the limits: a node has 1 to 4,096 blocks, pages of order 2 to 9 and a
+    /// threshold below the number of subpages; a cell has 1 to 64 callers.
     BadSize,
-    /// The memory for the table of pages wasn't there.
+    /// Memory for the table of pages could not be allocated.
     OutOfMemory,
 }
 
-/// What a try of a batch's next page did.
+/// The effect of a try of a batch's next page.
 #[derive(Clone, Copy, PartialEq, Eq, Debug)]
 pub enum Tried {
     /// The page was split into base pages.
     Split(PageId),
     /// The page has pins and stays in the batch.
     Pinned(PageId),
-    /// The page isn't worth a split, being neither partly mapped nor underused, and left the batch.
+    /// The page is not worth a split, being neither partly mapped nor underused, and left the batch.
     Used(PageId),
     /// No page of the batch is left to try.
     Done,
 }
 
-/// What a put-back did: how many pages went back to the queue's tail, and how many were dropped, since the node is closed or
-/// they aren't partly mapped.
+/// The result of a put back: the numbers of pages returned to the queue's tail, and of pages dropped because the node is closed
+/// or they are not partly mapped.
 #[derive(Clone, Copy, PartialEq, Eq, Debug)]
 pub struct BackReply {
+    /// The number of pages returned to the tail of the queue.
     pub back: u32,
+    /// The number of pages dropped.
     pub dropped: u32,
 }
 
-/// What a scan did: how many pages it took, split, found pinned, put back, dropped, and found in use.
+/// The result of a scan: the numbers of pages taken, split, found pinned, put back, dropped, and found in use.
 #[derive(Clone, Copy, PartialEq, Eq, Debug)]
 pub struct ScanReply {
+    /// The number of pages taken from the queue.
     pub taken: u32,
+    /// The number of pages split.
     pub split: u32,
+    /// The number of pages found pinned.
     pub pinned: u32,
+    /// The number of pinned pages returned to the tail of the queue.
     pub back: u32,
+    /// The number of pinned pages dropped.
     pub dropped: u32,
+    /// The number of pages found in use, that is, not worth a split.
     pub used: u32,
 }
 
-/// The node's statistics, by the names of /proc/vmstat without their `thp_`
-/// (admin-guide/mm/transhuge.rst, "Monitoring usage"; when each rises is this project's profile).
+/// The node's statistics, named as in /proc/vmstat without the prefix `thp_` (admin-guide/mm/transhuge.rst, "Monitoring usage";
+/// when each of them increases is this project's profile).
 #[derive(Clone, Copy, PartialEq, Eq, Debug)]
 pub struct Counters {
-    /// Pages split.
+    /// The number of pages split.
     pub split_page: u64,
-    /// Tries that found a page pinned.
+    /// The number of tries that found a page pinned.
     pub split_page_failed: u64,
-    /// Times a page was queued; neither a put-back nor an allocation counts.
+    /// The number of times that an unmap or an unpin queued a page. A put back or an allocation doesn't count.
     pub deferred_split_page: u64,
-    /// Pages split that weren't partly mapped, but underused.
+    /// The number of pages split that were underused and not partly mapped.
     pub underused_split_page: u64,
-    /// PMD mappings split: one for each `split_pmd`, and all that a page has when it is split itself.
+    /// The number of PMD mappings split: one for each `split_pmd`, and all mappings of the whole page for each page split.
     pub split_pmd: u128,
 }

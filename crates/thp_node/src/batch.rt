@@ -7,15 +7,15 @@ use arrayvec::ArrayVec;
 use std::marker::Model;
 use thp_model::{MAX_BATCH, PageId};
 
-/// The pages of one take, oldest first, and how far they were tried.
+/// The pages of one take, oldest first, and how many of them were tried.
 ///
-/// A page of the batch leaves the caller's flight where another caller's call frees it. The batch still names it then, and
-/// `Node::split_next` and `Node::put_back` pass over it. A batch that is dropped leaves its pages in the flight.
+/// A page of the batch leaves the caller's flight when another caller's call frees it. The batch still contains its number, and
+/// `Node::split_next` and `Node::put_back` skip it. Dropping a batch leaves its pages in the flight.
 #[derive(Drop)]
 pub struct Batch {
     caller: u32,
     pages: ArrayVec<PageId, MAX_BATCH>,
-    // how many pages stand before the place where the next try begins
+    // the number of pages before the one with which the next try begins
     place: usize,
 }
 
@@ -30,7 +30,7 @@ impl Model for Batch {
 }
 
 impl Batch {
-    /// The caller that took the pages.
+    /// Returns the caller that took the pages.
     pub fn caller(&self) -> u32
         ensures value { result ≡ self.now.caller }
         ensures small { result < max_callers }
@@ -38,7 +38,7 @@ impl Batch {
         self.caller
     }
 
-    /// The pages taken, oldest first.
+    /// Returns the pages taken, oldest first.
     pub fn pages(&self) -> &[PageId]
         ensures value { result.now ≡ self.now.pages }
         ensures few { length result.now ≤ max_batch }
@@ -46,7 +46,7 @@ impl Batch {
         &self.pages
     }
 
-    /// A batch without a page, to be taken into.
+    /// Returns an empty batch, for `take_into`.
     pub fn none() -> Batch
         ensures { result ≡ no_batch }
     {
@@ -57,13 +57,13 @@ impl Batch {
         }
     }
 
-    /// Lets the batch go, which always works. No node takes part, so nothing is recorded and nothing else changes: the pages
-    /// stay in the caller's flight, out of the queue, and the caller has a batch that it can't put back any more.
+    /// Discards the batch; this can't fail. No node is involved, so nothing is recorded. The pages stay in the caller's flight,
+    /// out of the queue, and the caller can no longer put them back.
     pub fn abandon(self)
         ensures { result ≡ tt }
     {}
 
-    // Makes it a caller's batch with no page yet.
+    // Makes it an empty batch of a caller.
     pub(crate) fn clear(&mut self, caller: u32)
         requires { caller < max_callers }
         ensures { self.new ≡ record { caller = caller; pages = []; place = 0 } }
@@ -73,7 +73,7 @@ impl Batch {
         self.place = 0;
     }
 
-    // One page more.
+    // Appends a page.
     pub(crate) fn push(&mut self, page: PageId)
         requires { length self.old.pages < max_batch }
         ensures { self.new ≡ record self.old { pages = self.old.pages ++ page ∷ [] } }
@@ -88,7 +88,7 @@ impl Batch {
         &self.pages[self.place..]
     }
 
-    // Passes over `count` of them.
+    // Skips `count` of them.
     pub(crate) fn advance(&mut self, count: usize)
         requires { count ≤ length (rest self.old) }
         ensures rest { rest self.new ≡ drop count (rest self.old) }
@@ -98,7 +98,7 @@ impl Batch {
         self.place += count;
     }
 
-    // Passes over all of them.
+    // Skips all of them.
     pub(crate) fn finish(&mut self)
         ensures rest { rest self.new ≡ [] }
         ensures caller { self.new.caller ≡ self.old.caller }

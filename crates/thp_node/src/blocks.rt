@@ -1,37 +1,37 @@
-//! The blocks of a node: the pages that lie in them, and the chain of those that are free.
+//! The blocks of a node: the pages in them, and the chain of free blocks.
 ghost use Rattle.std.specs.Prelude.{◌≡◌, ◌≢◌, ℕ, ◌<◌, [], ◌∷◌, ◌++◌, false, length, ◌↔◌, IsTrue, Option, Some, None, IsSome, IfOk, OnOk, OnErr, MatchOption};
 ghost use Rattle.std.specs.Bool.{OnTrue, OnFalse};
 ghost use Rattle.std.specs.Result.{result_err};
 ghost use Rattle.thp_links.specs.Standing.{Stands};
 ghost use Rattle.thp_model.specs.Shapes.{IsShape};
-ghost use Rattle.thp_model.specs.Pages.{page_refusal, gives_frames, is_worth, PageState, PageSplit};
+ghost use Rattle.thp_model.specs.Pages.{page_refusal, gives_frames, is_split_candidate, PageState, PageSplit};
 ghost use Rattle.thp_page.specs.Slots.{slot_at, HoldsPage};
 ghost use Rattle.thp_page.specs.Table.{Slot};
 ghost use Rattle.thp_model.specs.PageCalls.{gain_call, loss_call, page_call, Gains};
-ghost use Rattle.thp_live_pages.specs.PlacesState.{AtSlot, Edits, TakesFirst, HasFree};
-ghost use Rattle.thp_node.specs.Chaining.{LostChained, PlacesFresh};
+ghost use Rattle.thp_live_pages.specs.PageStoreState.{AtSlot, Edits, TakesFirst, HasFree};
+ghost use Rattle.thp_node.specs.Chaining.{LostChained, StoresFresh};
 
 use std::alloc::{AllocError, Global};
 use std::marker::Model;
 use thp_links::{FreeChain, Queue};
-use thp_live_pages::Places;
+use thp_live_pages::PageStore;
 use thp_model::{Done, Gain, Loss, Outcome, PageCall, PageId, Refusal, Shape, SubSet};
 use thp_page::{PageTable, Standing};
 
-// The pages of a node by block, with its queue, and the chain of its free blocks, which stands in the same links.
+// The pages of a node by block, with its queue, and the chain of its free blocks, which shares the queue's links.
 //
-// A block is in the chain exactly where it has no page.
+// A block is in the chain exactly if it has no page.
 #[derive(Drop)]
 pub(crate) struct Blocks {
-    places: Places,
+    places: PageStore,
     free: FreeChain,
 }
 
 impl Model for Blocks {
-    ghost use Rattle.thp_live_pages.specs.PlacesState.{PlacesState};
+    ghost use Rattle.thp_live_pages.specs.PageStoreState.{PageStoreState};
     ghost use Rattle.thp_node.specs.Chaining.{HasChain};
 
-    ghost Value = { PlacesState };
+    ghost Value = { PageStoreState };
 
     ghost view = { λ b. b.places };
 
@@ -39,7 +39,7 @@ impl Model for Blocks {
 }
 
 impl Blocks {
-    // Blocks without pages.
+    // A table of blocks without pages.
     pub(crate) fn new(alloc: Global, shape: Shape) -> Result<Blocks, AllocError>
         requires { IsShape shape }
         ensures size { IfOk result (λ b. length b.table.slots ≡ shape.blocks) }
@@ -47,7 +47,7 @@ impl Blocks {
         ensures empty { IfOk result (λ b. (i : ℕ) → slot_at b.table i ≡ None) }
         ensures queue { IfOk result (λ b. b.queue ≡ []) }
     {
-        let mut places = Places::new(alloc, shape)?;
+        let mut places = PageStore::new(alloc, shape)?;
         let mut free = FreeChain::new();
         for block in (0..shape.blocks).rev() {
             places.push_free(&mut free, block);
@@ -72,7 +72,7 @@ impl Blocks {
         self.places.refusal(block, call)
     }
 
-    // Gives the page of a block mappings or a pin, or fills subpages of it, unless the page refuses that.
+    // Adds mappings or a pin, or fills subpages of the page of a block, unless the page refuses that.
     #[inline(always)]
     pub(crate) fn gain(&mut self, block: u32, gain: Gain) -> Result<(), Refusal>
         requires occupied { IsSome (slot_at self.old.table block) }
@@ -84,8 +84,8 @@ impl Blocks {
         Ok(())
     }
 
-    // Takes mappings or a pin from the page of a block, unless the page refuses that, and then queues or frees the page, or
-    // leaves it. Answers that and the frames given back, and the caller whose batch the page left.
+    // Removes mappings or a pin of the page of a block, unless the page refuses that, and then queues the page, frees it, or
+    // leaves it where it is. Returns that outcome, the frames given back, and the caller whose batch the page left.
     #[inline(always)]
     pub(crate) fn lose(
         &mut self,
@@ -117,7 +117,7 @@ impl Blocks {
         self.places.take_first(caller)
     }
 
-    // Whether the page of a block stands in a caller's batch.
+    // Whether the page of a block is in a caller's batch.
     pub(crate) fn is_in_batch(&self, block: u32, caller: u32) -> bool
         requires { IsSome (slot_at self.now.table block) }
         ensures { AtSlot self.now.table block (λ x. IsTrue result ↔ (x.standing ≡ Standing.Batch caller)) }
@@ -155,15 +155,15 @@ impl Blocks {
         self.places.is_partly(block)
     }
 
-    pub(crate) fn is_worth(&self, block: u32, threshold: Option<u32>) -> bool
+    pub(crate) fn is_split_candidate(&self, block: u32, threshold: Option<u32>) -> bool
         requires { IsSome (slot_at self.now.table block) }
-        ensures { AtSlot self.now.table block (λ x. result ≡ is_worth threshold x.page) }
+        ensures { AtSlot self.now.table block (λ x. result ≡ is_split_candidate threshold x.page) }
     {
-        self.places.is_worth(block, threshold)
+        self.places.is_split_candidate(block, threshold)
     }
 
-    // Splits the page of a block, which stands in a batch, and takes it out of the batch. Answers the frames given back,
-    // which are those of zero-filled subpages too where `give_zero` says so.
+    // Splits the page of a block, which is in a batch, and removes it from the batch. Returns the frames given back, which
+    // include those of zero-filled subpages if `give_zero` is true.
     pub(crate) fn split(&mut self, block: u32, give_zero: bool) -> SubSet
         requires occupied { IsSome (slot_at self.old.table block) }
         requires allowed { AtSlot self.old.table block (λ x. (x.page.split ≡ false) × (x.page.pins ≡ 0) × (x.standing ≢ Standing.Queued)) }
@@ -172,7 +172,7 @@ impl Blocks {
         self.places.split(block, give_zero)
     }
 
-    // Puts the page of a block, which isn't in the queue, at the queue's tail.
+    // Appends the page of a block, which is not in the queue, to the queue.
     pub(crate) fn enqueue(&mut self, block: u32)
         requires occupied { IsSome (slot_at self.old.table block) }
         requires outside { AtSlot self.old.table block (λ x. x.standing ≢ Standing.Queued) }
@@ -181,7 +181,7 @@ impl Blocks {
         self.places.enqueue(block);
     }
 
-    // Takes the page of a block, which isn't in the queue, out of its batch.
+    // Removes the page of a block, which is not in the queue, from its batch.
     pub(crate) fn drop_out(&mut self, block: u32)
         requires occupied { IsSome (slot_at self.old.table block) }
         requires outside { AtSlot self.old.table block (λ x. x.standing ≢ Standing.Queued) }
@@ -201,13 +201,13 @@ impl Blocks {
         }
     }
 
-    // Puts a new page into a free block, and at the queue's tail where it is to be queued.
+    // Places a new page in a free block, and appends it to the queue if `queued` is true. Returns the block.
     pub(crate) fn place(&mut self, page: PageId, queued: bool) -> u32
         requires free { HasFree self.old.table }
         requires new { (b : ℕ) → HoldsPage (slot_at self.old.table b) page → ⊥ }
         ensures inside { result < length self.old.table.slots }
         ensures free { slot_at self.old.table result ≡ None }
-        ensures placed { PlacesFresh self.old self.new result page queued }
+        ensures placed { StoresFresh self.old self.new result page queued }
     {
         match self.places.pop_free(&mut self.free) {
             Some(block) => {

@@ -1,4 +1,4 @@
-//! The journal of a node, and the numbers that are kept beside it.
+//! The journal of a node, and the numbers that are maintained with it.
 ghost use Rattle.std.specs.Prelude.{◌≡◌, ℕ, ◌+◌, ◌<◌, ◌≤◌, [], ◌∷◌, ◌++◌, ◌^◌, length, OnOk, OnErr, IfSome, IsTrue, ◌↔◌, None, Some, not};
 ghost use Rattle.std.specs.Int.{from_bool};
 ghost use Rattle.thp_model.specs.Limits.{max_callers};
@@ -10,29 +10,29 @@ ghost use Rattle.thp_model.specs.Frames.{frames_given, frames_held};
 ghost use Rattle.thp_model.specs.Places.{flight};
 ghost use Rattle.thp_model.specs.Legal.{IsLegal, Fits};
 ghost use Rattle.thp_model.specs.PageCalls.{loss_what};
-ghost use Rattle.thp_node.specs.Journals.{HasFlightRoom, unsaid_of, leaves_by, joins_of, counters_of, HasCountRoom, CanJoin, CanLeave, Moves, Counts, freed_from, mappings_of, is_underused};
+ghost use Rattle.thp_node.specs.Journals.{HasFlightRoom, context_of, leaves_by, joins_of, counters_of, HasCountRoom, CanJoin, CanLeave, Moves, Counts, freed_from, mappings_of, is_underused};
 
 use crate::answers::Counters;
-use crate::recorder::{Kept, Recorder};
+use crate::recorder::{FullLog, Recorder};
 use std::alloc::{AllocError, Global};
 use std::marker::Model;
 use thp_model::{Done, Event, Loss, MAX_CALLERS, Outcome, PageId, Shape, SubSet, What};
 
-// What an event does that it doesn't say itself.
+// The facts about an event that the event itself does not contain.
 #[derive(Clone, Copy)]
-pub(crate) enum Unsaid {
-    // Nothing.
+pub(crate) enum EventContext {
+    // None.
     Nothing,
-    // Out of whose flight, if any, an unmap or an unpin freed its page.
+    // The caller, if any, from whose flight an unmap or an unpin freed its page.
     FreedFrom(Option<u32>),
-    // How many PMD mappings a page had that its caller split, and whether it was partly mapped.
+    // The number of PMD mappings of a page that was split, and whether it was partly mapped.
     OfSplit { mappings: u32, partly: bool },
 }
 
-// How many callers a journal counts for.
+// The number of callers that a journal counts for.
 const SEATS: usize = MAX_CALLERS as usize;
 
-// What happened on a node, and the numbers of it that the calls need at once.
+// The history of a node, and the numbers about it that calls need in constant time.
 #[derive(Drop)]
 pub(crate) struct Journal<R: Recorder> {
     shape: Shape,
@@ -43,10 +43,10 @@ pub(crate) struct Journal<R: Recorder> {
 // The numbers of a journal's events.
 #[derive(Drop)]
 struct Tally {
-    // how many pages were allocated: the next page's number
+    // the number of pages allocated: the next page's number
     next: u64,
     closed: bool,
-    // how many pages each caller has in flight
+    // the number of pages that each caller has in flight
     flying: [u8; SEATS],
     frames_given: u128,
     counters: Counters,
@@ -88,7 +88,7 @@ impl<R: Recorder> Journal<R> {
         }
     }
 
-    // Makes room for `count` events.
+    // Reserves room for `count` events.
     pub(crate) fn reserve(&mut self, count: usize) -> Result<(), AllocError>
         ensures shape { self.new.shape ≡ self.old.shape }
         ensures events { self.new.events ≡ self.old.events }
@@ -100,7 +100,7 @@ impl<R: Recorder> Journal<R> {
         self.events.reserve(count)
     }
 
-    // Whether an event can be recorded before the journal has to grow.
+    // Whether an event can be recorded without an allocation.
     #[inline(always)]
     pub(crate) fn has_room(&self) -> bool
         ensures { IsTrue result ↔ (0 < self.now.room) }
@@ -108,27 +108,27 @@ impl<R: Recorder> Journal<R> {
         self.events.has_room()
     }
 
-    // Records what a caller did, which fits, with what the event leaves unsaid. It is inlined, so that a caller who knows the
-    // kind of its event writes and counts that kind alone.
+    // Records an event of a caller, which must fit, and the facts that it does not contain. Inlined, so that a caller with a
+    // known kind of event writes and counts that kind only.
     #[inline(always)]
-    pub(crate) fn record(&mut self, caller: u32, what: What, unsaid: Unsaid)
+    pub(crate) fn record(&mut self, caller: u32, what: What, unsaid: EventContext)
         requires caller { caller < max_callers }
         requires room { 0 < self.old.room }
         requires fits { Fits self.old.shape self.old.events (by caller what) }
         requires flight { HasFlightRoom self.old.events caller what }
-        requires unsaid { unsaid ≡ unsaid_of self.old.shape self.old.events what }
+        requires unsaid { unsaid ≡ context_of self.old.shape self.old.events what }
         ensures shape { self.new.shape ≡ self.old.shape }
         ensures events { self.new.events ≡ self.old.events ++ by caller what ∷ [] }
         ensures room { self.new.room + 1 ≡ self.old.room }
         ensures legal { IsLegal self.new.shape self.new.events }
     {
         self.events.record(caller, what);
-        // Tells the proof that the number of events, and with it each of the numbers of the tally, is bounded.
+        // Shows the proof that the number of events, and therefore each number of the tally, is bounded.
         let _events = self.events.count();
         self.tally.count(caller, &what, unsaid);
     }
 
-    // Records an unmap or an unpin, as `record` does. The numbers are told by `done`: a node that keeps no events makes none.
+    // Records an unmap or an unpin, as `record` does. The numbers are taken from `done`: a node that keeps no events builds none.
     #[inline(always)]
     pub(crate) fn record_loss(
         &mut self,
@@ -141,17 +141,16 @@ impl<R: Recorder> Journal<R> {
         requires caller { caller < max_callers }
         requires room { 0 < self.old.room }
         requires fits { Fits self.old.shape self.old.events (by caller (loss_what loss page done.now.outcome done.now.released)) }
-        requires unsaid { Unsaid.FreedFrom left ≡ unsaid_of self.old.shape self.old.events (loss_what loss page done.now.outcome done.now.released) }
+        requires unsaid { EventContext.FreedFrom left ≡ context_of self.old.shape self.old.events (loss_what loss page done.now.outcome done.now.released) }
         ensures shape { self.new.shape ≡ self.old.shape }
         ensures events { self.new.events ≡ self.old.events ++ by caller (loss_what loss page done.now.outcome done.now.released) ∷ [] }
         ensures room { self.new.room + 1 ≡ self.old.room }
         ensures legal { IsLegal self.new.shape self.new.events }
     {
         self.events.record(caller, loss.what(page, done));
-        // Tells the proof that the number of events, and with it each of the numbers of the tally, is bounded.
+        // Shows the proof that the number of events, and therefore each number of the tally, is bounded.
         let _events = self.events.count();
-        self.tally
-            .count_loss(done.outcome, &done.released, Unsaid::FreedFrom(left));
+        self.tally.count_loss(done.outcome, &done.released, EventContext::FreedFrom(left));
     }
 
     // The shape of the node.
@@ -162,14 +161,14 @@ impl<R: Recorder> Journal<R> {
         self.shape
     }
 
-    // How many events there are.
+    // The number of events.
     pub(crate) fn count(&self) -> u64
         ensures { result ≡ length self.now.events }
     {
         self.events.count()
     }
 
-    // How many pages were allocated: the number of the next.
+    // The number of pages allocated: the number of the next page.
     pub(crate) fn next(&self) -> u64
         ensures { result ≡ allocations self.now.events }
     {
@@ -183,7 +182,7 @@ impl<R: Recorder> Journal<R> {
         self.tally.closed
     }
 
-    // How many pages a caller has in flight.
+    // The number of pages that a caller has in flight.
     pub(crate) fn flying(&self, caller: u32) -> u64
         requires { caller < max_callers }
         ensures { result ≡ length (flight self.now.events caller) }
@@ -191,14 +190,14 @@ impl<R: Recorder> Journal<R> {
         u64::from(self.tally.flying[caller as usize])
     }
 
-    // How many frames were given back.
+    // The number of frames given back.
     pub(crate) fn frames_given(&self) -> u128
         ensures { result ≡ frames_given self.now.events }
     {
         self.tally.frames_given
     }
 
-    // How many frames the live pages hold: those of all pages ever allocated, but for those given back.
+    // The number of frames that the live pages hold: those of all pages ever allocated, except those given back.
     pub(crate) fn frames_held(&self) -> u128
         ensures { result ≡ frames_held self.now.shape self.now.events }
     {
@@ -213,8 +212,8 @@ impl<R: Recorder> Journal<R> {
     }
 }
 
-impl Journal<Kept> {
-    // What happened so far, the oldest event first.
+impl Journal<FullLog> {
+    // The events so far, oldest first.
     pub(crate) fn events(&self) -> &[Event]
         ensures value { result.now ≡ self.now.events }
     {
@@ -223,9 +222,9 @@ impl Journal<Kept> {
 }
 
 impl Tally {
-    // Counts one more event of a caller, by what its kind of event changes. It is inlined with `record`.
+    // Counts one more event of a caller: changes the numbers that its kind of event changes. Inlined with `record`.
     #[inline(always)]
-    fn count(&mut self, caller: u32, what: &What, unsaid: Unsaid)
+    fn count(&mut self, caller: u32, what: &What, unsaid: EventContext)
         requires room { HasCountRoom self.old }
         requires joins { IfSome (joins_of caller what.now) (CanJoin self.old.flying) }
         requires leaves { IfSome (leaves_by caller what.now unsaid) (CanLeave self.old.flying) }
@@ -262,7 +261,7 @@ impl Tally {
 
     // Counts an unmap or an unpin.
     #[inline(always)]
-    fn count_loss(&mut self, outcome: Outcome, released: &SubSet, unsaid: Unsaid)
+    fn count_loss(&mut self, outcome: Outcome, released: &SubSet, unsaid: EventContext)
         requires room { HasCountRoom self.old }
         requires leaves { IfSome (freed_from unsaid) (CanLeave self.old.flying) }
         ensures flying { Moves self.old.flying self.new.flying None (freed_from unsaid) }
@@ -274,7 +273,7 @@ impl Tally {
     }
 
     // Counts the split of a page in a caller's flight.
-    fn count_split(&mut self, caller: u32, released: &SubSet, unsaid: Unsaid)
+    fn count_split(&mut self, caller: u32, released: &SubSet, unsaid: EventContext)
         requires room { HasCountRoom self.old }
         requires leaves { CanLeave self.old.flying caller }
         ensures flying { Moves self.old.flying self.new.flying None (Some caller) }
@@ -289,33 +288,33 @@ impl Tally {
     }
 }
 
-impl Unsaid {
-    // Out of whose flight, if any, the event freed its page.
+impl EventContext {
+    // The caller, if any, from whose flight the event freed its page.
     fn freed_from(self) -> Option<u32>
         ensures { result ≡ freed_from self }
     {
         match self {
-            Unsaid::FreedFrom(flier) => flier,
+            EventContext::FreedFrom(flier) => flier,
             _ => None,
         }
     }
 
-    // How many PMD mappings a page had that the event split.
+    // The number of PMD mappings of the page that the event split.
     fn mappings(self) -> u32
         ensures value { result ≡ mappings_of self }
         ensures few { result < 2 ^ 32 }
     {
         match self {
-            Unsaid::OfSplit { mappings, .. } => mappings,
+            EventContext::OfSplit { mappings, .. } => mappings,
             _ => 0,
         }
     }
 
-    // Whether the event split a page that isn't partly mapped.
+    // Whether the event split a page that is not partly mapped.
     fn is_underused(self) -> bool
         ensures { result ≡ is_underused self }
     {
-        matches!(self, Unsaid::OfSplit { partly: false, .. })
+        matches!(self, EventContext::OfSplit { partly: false, .. })
     }
 }
 

@@ -1,20 +1,20 @@
-//! A memory node, used by one thread: its pages, their deferred split queue, and the journal of all that happened.
+//! A memory node for one thread: pages, queue and journal.
 //!
-//! [`Node`] is the engine. Each call that succeeds records its event, or its run of events, in the journal, which is legal
-//! at every moment; a call that is refused changes nothing. What the calls record and answer, and when they are refused,
-//! is said by the definitions of `thp_model`; what every call keeps is said once, in `specs/Calls.antt`.
+//! [`Node`] is the engine. A call that succeeds records its event, or its run of events, in the journal, which is legal at every
+//! moment; a refused call changes nothing. `Calls` states what every call does, the definitions of `thp_model` the rest.
 //!
-//! What a node records its events in is its parameter, a [`Recorder`]: [`Kept`] keeps each event, [`Unkept`] counts them alone.
-//! Contracts see the same journal of both; `journal` hands it out, where it is kept.
+//! - Public: [`Node`] (`new`, `with_recorder`, `reserve`; `alloc_page`, `close`; `gain`, `lose` and each page call by name;
+//!   `take`, `split_next`, `put_back`, `scan`; readers such as `journal`), [`Batch`] (`caller`, `pages`, `abandon`), recorders,
+//!   results.
+//! - `node`: construction and readers. `node/page_calls`, `list_calls`, `batch_calls`, `return_calls`: the calls.
+//! - `batch`, `answers`: batches and results (`Batches`); `Takings`, `Returning`, `Scanning` are for longer calls.
+//! - `journal`: events, statistics, and the event context they need (`Journals`); `recorder`: [`FullLog`] keeps each event,
+//!   [`CountOnly`] counts them, and contracts see one history of both (`Recorders`). A caller's flight is counted in a byte.
+//! - `blocks`: the page store and the chain of free blocks (`Chaining`, proof `ChainLemmas`).
+//! - `laws` and `journal` ensure the laws of `JournalLaws`; proof `JournalFacts` has them for every legal history.
 //!
-//! The public surface: `Node::new`, `with_recorder`, `reserve`; `alloc_page`, `close`; `gain` and `lose`, and each page
-//! call by its name; `take`, `split_next`, `put_back`, `scan`; the readers `shape`, `journal`, `laws`, `event_count`, `table`,
-//! `queue`, `queue_len`, `frames_given`, `frames_held`, `counters`; `Batch` with `caller`, `pages`, `abandon`; the values `Gain`,
-//! `Loss`; and the answers `NewFault`, `Done`, `Tried`, `BackReply`, `ScanReply`, `Counters`.
-//!
-//! For callers' proofs: `laws` and `journal` ensure the laws of `specs/JournalLaws.antt`, which `proofs/JournalFacts` has for every legal
-//! history. What `put_back` requires of its batch is ensured by `take` and handed on by every call, clauses `front`, `fronts`
-//! and `older`; `proofs/Fronts` says the same of histories that grow. The pages with their places are `thp_live_pages`'.
+//! `put_back` requires that its batch is a prefix of its flight; `take` ensures it and every call preserves it (`front`,
+//! `fronts`, `older`; proof `Fronts`).
 #![tactic(auto)]
 
 mod answers;
@@ -27,7 +27,7 @@ mod recorder;
 pub use answers::{BackReply, Counters, NewFault, ScanReply, Tried};
 pub use batch::Batch;
 pub use node::Node;
-pub use recorder::{Kept, Recorder, Unkept};
+pub use recorder::{CountOnly, FullLog, Recorder};
 pub use thp_links::Queue;
 pub use thp_model::{Done, Event, Gain, Loss, Outcome, PageId, Refusal, Shape, SubSet, What};
 pub use thp_page::PageTable;

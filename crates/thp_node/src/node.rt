@@ -1,4 +1,4 @@
-//! A memory node: what it is made of, how it is made, and what can be read of it.
+//! A memory node: its parts, its constructors, and what can be read of it.
 ghost use Rattle.std.specs.Prelude.{◌≡◌, ℕ, ◌<◌, ◌≤◌, true, [], length, map, Some, ◌↔◌, Err, IfOk, IfErr, OnOk, OnErr};
 ghost use Rattle.thp_links.specs.Standing.{Stands};
 ghost use Rattle.thp_model.specs.Counts.{allocations, is_live};
@@ -20,20 +20,20 @@ mod return_calls;
 use crate::answers::{Counters, NewFault};
 use crate::blocks::Blocks;
 use crate::journal::Journal;
-use crate::recorder::{Kept, Recorder};
+use crate::recorder::{FullLog, Recorder};
 use std::alloc::Global;
 use std::marker::Model;
 use thp_links::Queue;
 use thp_model::{Event, Refusal, Shape};
 use thp_page::PageTable;
 
-/// A memory node, used by one thread, which records its events in an `R`.
+/// A memory node, used by one thread, that records its events in an `R`.
 ///
-/// Contracts see its shape, its journal, its room, its table of pages and the blocks of its queue. The room is the number
-/// of events that can be recorded before the journal has to grow: a call whose events fit the room is never refused as
-/// `OutOfMemory`.
+/// Callers are numbered from 0 to 63. Contracts see the node's shape, its journal, its room, its table of pages and the blocks of
+/// its queue. The room is the number of events that can be recorded without an allocation: a call whose events fit the room never
+/// fails with `OutOfMemory`. A call that fails changes nothing.
 #[derive(Drop)]
-pub struct Node<R: Recorder = Kept> {
+pub struct Node<R: Recorder = FullLog> {
     journal: Journal<R>,
     blocks: Blocks,
 }
@@ -50,7 +50,8 @@ impl<R: Recorder> Model for Node<R> {
 }
 
 impl<R: Recorder> Node<R> {
-    /// A node with no page, whose journal is empty, over any recorder.
+    /// Creates a node with no page and an empty journal, for any recorder. Fails with `BadSize` if the shape is not valid, and
+    /// with `OutOfMemory` if the table of pages can't be allocated.
     pub fn with_recorder(alloc: Global, shape: Shape) -> Result<Node<R>, NewFault>
         ensures bad_size { (result ≡ Err NewFault.BadSize) ↔ ¬ IsShape shape }
         ensures shape { IfOk result (λ n. n.shape ≡ shape) }
@@ -68,8 +69,8 @@ impl<R: Recorder> Node<R> {
         }
     }
 
-    /// Makes room for `k` events, or answers `OutOfMemory` and changes nothing. A scan counts here as three events for each
-    /// page that it takes.
+    /// Reserves room for `k` events. For this purpose a scan needs three events for each page that it takes. Fails with
+    /// `OutOfMemory`, and then changes nothing.
     pub fn reserve(&mut self, k: u32) -> Result<(), Refusal>
         ensures same { self.new ≡ record self.old { room = self.new.room } }
         ensures more { self.old.room ≤ self.new.room }
@@ -84,7 +85,7 @@ impl<R: Recorder> Node<R> {
         }
     }
 
-    /// The node's shape.
+    /// Returns the node's shape.
     pub fn shape(&self) -> Shape
         ensures value { result ≡ self.now.shape }
         ensures valid { IsShape self.now.shape }
@@ -92,7 +93,8 @@ impl<R: Recorder> Node<R> {
         self.journal.shape()
     }
 
-    /// Nothing, but for contracts: what happened so far is a legal history, and the laws of every legal history at this one.
+    /// Does nothing at run time. Its contract states that the journal is a legal history, and the laws of every legal history at
+    /// this one.
     pub fn laws(&self)
         ensures legal { IsLegal self.now.shape self.now.journal }
         // the laws of every legal history, at this one
@@ -114,15 +116,15 @@ impl<R: Recorder> Node<R> {
         let _shape = self.journal.shape();
     }
 
-    /// How many events happened so far.
+    /// Returns the number of events so far.
     pub fn event_count(&self) -> u64
         ensures { result ≡ length self.now.journal }
     {
         self.journal.count()
     }
 
-    /// The table of pages, in whose links the queue stands. Its slots are the live pages, each in the block of its
-    /// allocation and with the counts and the standing that the journal gives it.
+    /// Returns the table of pages, whose links hold the queue. Its slots are the live pages: each in the block of its allocation,
+    /// in the state and on the list that the journal gives it.
     pub fn table(&self) -> &PageTable
         ensures value { result.now ≡ self.now.table }
         ensures size { length self.now.table.slots ≡ self.now.shape.blocks }
@@ -134,7 +136,7 @@ impl<R: Recorder> Node<R> {
         self.blocks.table()
     }
 
-    /// The deferred split queue: the blocks of the queued pages, the oldest first.
+    /// Returns the deferred split queue: the blocks of the queued pages, oldest first.
     pub fn queue(&self) -> &Queue
         ensures value { result.now ≡ self.now.queue }
         ensures stands { Stands self.now.queue self.now.table.links }
@@ -143,35 +145,35 @@ impl<R: Recorder> Node<R> {
         self.blocks.queue()
     }
 
-    /// How many pages were allocated, those that were freed since counted in.
+    /// Returns the number of pages ever allocated, including those that were freed.
     pub fn allocations(&self) -> u64
         ensures { result ≡ allocations self.now.journal }
     {
         self.journal.next()
     }
 
-    /// How many pages are queued, which is what the shrinker counts.
+    /// Returns the number of queued pages, which is the shrinker's count.
     pub fn queue_len(&self) -> u32
         ensures { result ≡ length (queue self.now.shape self.now.journal) }
     {
         self.blocks.queue().len()
     }
 
-    /// How many frames were given back.
+    /// Returns the number of frames given back.
     pub fn frames_given(&self) -> u128
         ensures { result ≡ frames_given self.now.journal }
     {
         self.journal.frames_given()
     }
 
-    /// How many frames the live pages hold.
+    /// Returns the number of frames that the live pages hold.
     pub fn frames_held(&self) -> u128
         ensures { result ≡ frames_held self.now.shape self.now.journal }
     {
         self.journal.frames_held()
     }
 
-    /// The node's statistics.
+    /// Returns the node's statistics.
     pub fn counters(&self) -> Counters
         ensures { result ≡ counters_of self.now.shape self.now.journal }
     {
@@ -179,8 +181,9 @@ impl<R: Recorder> Node<R> {
     }
 }
 
-impl Node<Kept> {
-    /// A node with no page, whose journal is empty.
+impl Node<FullLog> {
+    /// Creates a node with no page and an empty journal, which keeps its events. Fails with `BadSize` if the shape is not valid,
+    /// and with `OutOfMemory` if the table of pages can't be allocated.
     pub fn new(alloc: Global, shape: Shape) -> Result<Node, NewFault>
         ensures bad_size { (result ≡ Err NewFault.BadSize) ↔ ¬ IsShape shape }
         ensures shape { IfOk result (λ n. n.shape ≡ shape) }
@@ -189,7 +192,7 @@ impl Node<Kept> {
         Node::with_recorder(alloc, shape)
     }
 
-    /// What happened so far, the oldest event first: a legal history.
+    /// Returns the events so far, oldest first: a legal history.
     pub fn journal(&self) -> &[Event]
         ensures value { result.now ≡ self.now.journal }
         ensures legal { IsLegal self.now.shape self.now.journal }

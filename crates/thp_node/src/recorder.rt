@@ -1,25 +1,25 @@
-//! What a node does with its events: it keeps them, or it counts them.
+//! What a node does with its events: it stores them, or it only counts them.
 ghost use Rattle.std.specs.Prelude.{◌≡◌, ℕ, ◌+◌, ◌<◌, ◌≤◌, ◌↔◌, [], ◌∷◌, ◌++◌, length, IsTrue, OnOk, OnErr};
 ghost use Rattle.thp_model.specs.History.{History, by};
 
 use std::alloc::{AllocError, Global};
 use std::marker::Model;
-use thp_live_pages::Past;
+use thp_live_pages::EventTrace;
 use thp_model::{Event, What};
 
-/// What a node does with its events. To contracts they are the same history whether a recorder keeps them or not.
+/// The store of a node's events. Contracts see the same history whether a recorder stores the events or only counts them.
 pub trait Recorder: Drop {
-    // What was recorded so far, the oldest event first.
+    // The events recorded so far, oldest first.
     ghost history: { Self → History };
 
-    // How many events more it can take before it needs memory.
+    // The number of events that it can record without an allocation.
     ghost room: { Self → ℕ };
 
-    /// A recorder that has recorded nothing.
+    /// Returns a recorder with no events.
     fn empty(alloc: Global) -> Self
         ensures { history result ≡ [] };
 
-    /// Makes room for so many events, or leaves everything as it was.
+    /// Reserves room for `count` more events. On error nothing is changed.
     fn reserve(&mut self, count: usize) -> Result<(), AllocError>
         ensures history { history self.new ≡ history self.old }
         ensures room { room self.old ≤ room self.new }
@@ -27,28 +27,28 @@ pub trait Recorder: Drop {
         ensures full { OnErr result (room self.old < count) }
         ensures err { OnErr result (room self.new ≡ room self.old) };
 
-    /// Whether there is room for an event.
+    /// Returns whether there is room for an event.
     fn has_room(&self) -> bool
         ensures { IsTrue result ↔ (0 < room self.now) };
 
-    /// Records what a caller did.
+    /// Records an event of a caller. There must be room for it.
     fn record(&mut self, caller: u32, what: What)
         requires { 0 < room self.old }
         ensures history { history self.new ≡ history self.old ++ by caller what ∷ [] }
         ensures room { room self.new + 1 ≡ room self.old };
 
-    /// How many events were recorded.
+    /// Returns the number of events recorded.
     fn count(&self) -> u64
         ensures { result ≡ length (history self.now) };
 }
 
-/// Keeps each event, so that a node's journal can be read.
+/// A recorder that stores each event, so that a node's journal can be read.
 #[derive(Drop)]
-pub struct Kept {
+pub struct FullLog {
     events: Vec<Event>,
 }
 
-impl Model for Kept {
+impl Model for FullLog {
     ghost use Rattle.std.specs.Prelude.{◌-◌, vec_len, vec_capacity};
     ghost use Rattle.thp_node.specs.Recorders.{Recorded};
 
@@ -57,8 +57,8 @@ impl Model for Kept {
     ghost view = { λ k. record { history = k.events.items; room = vec_capacity k.events - vec_len k.events } };
 }
 
-impl Kept {
-    /// The events, the oldest first.
+impl FullLog {
+    /// Returns the events, oldest first.
     pub fn events(&self) -> &[Event]
         ensures { result.now ≡ self.now.history }
     {
@@ -66,13 +66,13 @@ impl Kept {
     }
 }
 
-impl Recorder for Kept {
+impl Recorder for FullLog {
     ghost history = { λ k. k.history };
 
     ghost room = { λ k. k.room };
 
-    fn empty(alloc: Global) -> Kept {
-        Kept {
+    fn empty(alloc: Global) -> FullLog {
+        FullLog {
             events: Vec::new(alloc),
         }
     }
@@ -96,15 +96,15 @@ impl Recorder for Kept {
     }
 }
 
-/// Keeps no event and takes no memory: it counts them alone.
+/// A recorder that only counts events and allocates no memory.
 #[derive(Drop)]
-pub struct Unkept {
+pub struct CountOnly {
     count: u64,
-    // takes no bytes
-    past: Past,
+    // has no bytes
+    past: EventTrace,
 }
 
-impl Model for Unkept {
+impl Model for CountOnly {
     ghost use Rattle.std.specs.Prelude.{◌≡◌, ◌-◌, ◌^◌, length};
     ghost use Rattle.thp_node.specs.Recorders.{Recorded};
 
@@ -115,15 +115,15 @@ impl Model for Unkept {
     ghost invariant = { λ u. u.count ≡ length u.past };
 }
 
-impl Recorder for Unkept {
+impl Recorder for CountOnly {
     ghost history = { λ u. u.history };
 
     ghost room = { λ u. u.room };
 
-    fn empty(_alloc: Global) -> Unkept {
-        Unkept {
+    fn empty(_alloc: Global) -> CountOnly {
+        CountOnly {
             count: 0,
-            past: Past::new(),
+            past: EventTrace::new(),
         }
     }
 

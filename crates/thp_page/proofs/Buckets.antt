@@ -6,7 +6,7 @@ use Rattle.thp_links.specs.declared.link.TheConstants.{NIL}
 use Rattle.thp_links.specs.Indices.{without}
 use Rattle.thp_links.proofs.Members.{Contains-nil, Contains-head, Contains-behind, Contains-cons_cases, Contains-without, Contains-from_without, Distinct-nil}
 use Rattle.thp_page.specs.Searching.{bucket_at, IsOfBucket, IsChain, IsUnlinked, IsBucket, IsSearchable}
-use Rattle.thp_page.proofs.Chains.{chain_behind, chain_begins, chain_kept, chain_elsewhere, chain_pushed}
+use Rattle.thp_page.proofs.Chains.{chain_after, chain_begins, chain_kept, chain_elsewhere, chain_pushed}
 
 -- a block is of one bucket
 one_bucket : (o : Option ℕ) (j k : ℕ) → IsOfBucket j o → IsOfBucket k o → j ≡ k
@@ -182,7 +182,7 @@ search_on numbers nexts id at w real other = go w.rest w.chain w.ahead where
   go [] c ahead = absurd (real c.linked)
   go (x ∷ xs) c ahead = record {
     rest = xs;
-    chain = chain_behind nexts at x xs c;
+    chain = chain_after nexts at x xs c;
     ahead = λ b e. elim (Contains-cons_cases x xs b (ahead b e)) [
       | inl f ↦ absurd (other (ap (λ y. get_or numbers y None) (c.linked.0 ∙ sym f) ∙ e))
       | inr n ↦ n

@@ -141,8 +141,8 @@ ends_even count less old p true e h = absurd (cc)
 ends_even count less old p false e h = omega (arith, h)
 
 -- no set of 512 truths has a number behind them
-has_behind : (test : ℕ → Bool) (i : ℕ) → 512 ≤ i → has (set_of test) i ≡ false
-has_behind test i h = get_or-eq_default (set_of test) false {n = i} (omega (arith, length-set_of test))
+has_after : (test : ℕ → Bool) (i : ℕ) → 512 ≤ i → has (set_of test) i ≡ false
+has_after test i h = get_or-eq_default (set_of test) false {n = i} (omega (arith, length-set_of test))
 
 -- an empty plane adds nothing
 pub adds_nothing : (new old : ℕ) (empty : List Bool) (i p : ℕ) → empty ≡ set_of (λ j. false) → new ≡ old + cond (has empty i) p 0 → new ≡ old
@@ -151,7 +151,7 @@ adds_nothing new old empty i p e h = h ∙ ap (λ b. old + cond b p 0) (ap (λ s
   none i =
       elim (cases_lt i 512) [
         | inl y ↦ get_or-set_of (λ j. false) i y
-        | inr y ↦ has_behind (λ j. false) i y
+        | inr y ↦ has_after (λ j. false) i y
       ]
 
   zero_more : (m : ℕ) → m + 0 ≡ m

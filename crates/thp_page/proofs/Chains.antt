@@ -17,27 +17,27 @@ first_in nexts at [] l real = absurd (real l)
 first_in nexts at (b ∷ bs) l real = let P : ℕ → Type 0 = λ x. Contains (b ∷ bs) x in subst P (sym l.0) (Contains-head b bs)
 
 -- the block behind one of the chain is behind its first
-next_behind : (nexts : List ℕ) (at a x : ℕ) (xs : List ℕ) → IsLinked nexts at (x ∷ xs) → get_or nexts a 0 ≢ NIL → Contains (x ∷ xs) a → Contains xs (get_or nexts a 0)
-next_behind nexts at a x [] l real m = elim (Contains-cons_cases x [] a m) [
+next_after : (nexts : List ℕ) (at a x : ℕ) (xs : List ℕ) → IsLinked nexts at (x ∷ xs) → get_or nexts a 0 ≢ NIL → Contains (x ∷ xs) a → Contains xs (get_or nexts a 0)
+next_after nexts at a x [] l real m = elim (Contains-cons_cases x [] a m) [
   | inl e ↦ absurd (real (ap (λ y. get_or nexts y 0) e ∙ l.1))
   | inr n ↦ absurd (Contains-nil a n)
 ]
-next_behind nexts at a x (y ∷ ys) l real m = elim (Contains-cons_cases x (y ∷ ys) a m) [
+next_after nexts at a x (y ∷ ys) l real m = elim (Contains-cons_cases x (y ∷ ys) a m) [
   | inl e ↦ (
       let P : ℕ → Type 0 = λ z. Contains (y ∷ ys) z in
       let is : get_or nexts a 0 ≡ y = ap (λ z. get_or nexts z 0) e ∙ l.1.0 in
       subst P (sym is) (Contains-head y ys))
-  | inr n ↦ Contains-behind y ys (get_or nexts a 0) (next_behind nexts (get_or nexts x 0) a y ys l.1 real n)
+  | inr n ↦ Contains-behind y ys (get_or nexts a 0) (next_after nexts (get_or nexts x 0) a y ys l.1 real n)
 ]
 
 -- and is one of the chain
 next_in : (nexts : List ℕ) (at a : ℕ) (bs : List ℕ) → IsLinked nexts at bs → get_or nexts a 0 ≢ NIL → Contains bs a → Contains bs (get_or nexts a 0)
 next_in nexts at a [] l real m = absurd (Contains-nil a m)
-next_in nexts at a (b ∷ bs) l real m = Contains-behind b bs (get_or nexts a 0) (next_behind nexts at a b bs l real m)
+next_in nexts at a (b ∷ bs) l real m = Contains-behind b bs (get_or nexts a 0) (next_after nexts at a b bs l real m)
 
 -- a chain from its second block on
-pub chain_behind : (nexts : List ℕ) (at b : ℕ) (bs : List ℕ) → IsChain nexts at (b ∷ bs) → IsChain nexts (get_or nexts at 0) bs
-chain_behind nexts at b bs c = record {
+pub chain_after : (nexts : List ℕ) (at b : ℕ) (bs : List ℕ) → IsChain nexts at (b ∷ bs) → IsChain nexts (get_or nexts at 0) bs
+chain_after nexts at b bs c = record {
   linked = (let P : ℕ → Type 0 = λ x. IsLinked nexts (get_or nexts x 0) bs in subst P (sym c.linked.0) c.linked.1);
   distinct = Distinct-behind b bs c.distinct;
   inside = λ x m. c.inside x (Contains-behind b bs x m);
@@ -76,7 +76,7 @@ pub left_falls : (nexts : List ℕ) (at : ℕ) (bs : List ℕ) → length nexts 
 left_falls nexts at [] small c real = absurd (real c.linked)
 left_falls nexts at (b ∷ bs) small c real =
     let now : left_from (length nexts) nexts at ≡ suc (length bs) = left_chain nexts at (b ∷ bs) small c in
-    let then : left_from (length nexts) nexts (get_or nexts at 0) ≡ length bs = left_chain nexts (get_or nexts at 0) bs small (chain_behind nexts at b bs c) in
+    let then : left_from (length nexts) nexts (get_or nexts at 0) ≡ length bs = left_chain nexts (get_or nexts at 0) bs small (chain_after nexts at b bs c) in
     omega arith
 
 -- a chain stays where its blocks lead on as before
@@ -122,9 +122,9 @@ without_later : (b x : ℕ) (bs : List ℕ) → x ≢ b → without b (x ∷ bs)
 without_later b x bs other = ap (λ t. cond (not t) (x ∷ without b bs) (without b bs)) (ne_eqb x b other)
 
 -- a chain without its first block
-linked_behind : (old new : List ℕ) (b : ℕ) (bs : List ℕ) → IsLinked old b bs → Distinct bs → b ≢ NIL → ((x : ℕ) → Contains bs x → get_or new x 0 ≡ get_or old x 0) → IsLinked new (get_or old b 0) (without b bs)
-linked_behind old new b [] l d real same = absurd (real l)
-linked_behind old new b (x ∷ xs) l d real same =
+linked_after : (old new : List ℕ) (b : ℕ) (bs : List ℕ) → IsLinked old b bs → Distinct bs → b ≢ NIL → ((x : ℕ) → Contains bs x → get_or new x 0 ≡ get_or old x 0) → IsLinked new (get_or old b 0) (without b bs)
+linked_after old new b [] l d real same = absurd (real l)
+linked_after old new b (x ∷ xs) l d real same =
     let P : ℕ → Type 0 = λ y. IsLinked new (get_or old y 0) (without y (x ∷ xs)) in
     let Q : List ℕ → Type 0 = λ ys. IsLinked new (get_or old x 0) ys in
     let rest : IsLinked new (get_or old x 0) xs = linked_kept old new (get_or old x 0) xs (λ y m. same y (Contains-behind x xs y m)) l.1 in
@@ -136,7 +136,7 @@ linked_past nexts at a b [] l d real leads inside m = absurd (Contains-nil a m)
 linked_past nexts at a b (x ∷ xs) l d real leads inside m =
     let next : ℕ = get_or nexts b 0 in
     let R : ℕ → Type 0 = λ y. Contains xs y in
-    let behind : Contains xs b = subst R leads (next_behind nexts at a x xs l (λ e. real (sym leads ∙ e)) m) in
+    let behind : Contains xs b = subst R leads (next_after nexts at a x xs l (λ e. real (sym leads ∙ e)) m) in
     let other : x ≢ b = λ e. Distinct-head x xs d (subst R (sym e) behind) in
     let P : List ℕ → Type 0 = λ ys. IsLinked (set nexts a next) at ys in
     let Q : ℕ → Type 0 = λ y. IsLinked (set nexts a next) y (without b xs) in
@@ -147,7 +147,7 @@ linked_past nexts at a b (x ∷ xs) l d real leads inside m =
           let to_b : get_or nexts x 0 ≡ b = ap (λ y. get_or nexts y 0) (sym e) ∙ leads in
           let out : Contains xs a → ⊥ = subst S (sym e) (Distinct-head x xs d) in
           let here : get_or (set nexts a next) x 0 ≡ next = ap (λ y. get_or (set nexts a next) y 0) (sym e) ∙ get_or-set_same nexts a next 0 inside in
-          subst Q (sym here) (linked_behind nexts (set nexts a next) b xs (subst L to_b l.1) (Distinct-behind x xs d) real (elsewhere nexts a next xs out)))
+          subst Q (sym here) (linked_after nexts (set nexts a next) b xs (subst L to_b l.1) (Distinct-behind x xs d) real (elsewhere nexts a next xs out)))
       | inr n ↦ (
           let ne : x ≢ a = λ e. Distinct-head x xs d (subst R (sym e) n) in
           subst Q (sym (get_or-set_other nexts a x next 0 ne)) (linked_past nexts (get_or nexts x 0) a b xs l.1 (Distinct-behind x xs d) real leads inside n))
@@ -165,7 +165,7 @@ unlinked_first nexts first b small is = record {
   shorter = λ bs c m. (
       let L : ℕ → Type 0 = λ y. IsLinked nexts y bs in
       record {
-        linked = linked_behind nexts nexts b bs (subst L is c.linked) c.distinct (chain_real nexts first b bs small c m) (λ x n. refl);
+        linked = linked_after nexts nexts b bs (subst L is c.linked) c.distinct (chain_real nexts first b bs small c m) (λ x n. refl);
         distinct = Distinct-without b bs c.distinct;
         inside = left_inside nexts first b bs c;
       });
@@ -216,7 +216,7 @@ walk_on nexts first b at small w other = go w.rest w.chain w.ahead where
   go : (rest : List ℕ) → IsChain nexts at rest → Contains rest b → IsWalkedTo nexts first b (get_or nexts at 0)
   go [] c m = absurd (Contains-nil b m)
   go (x ∷ xs) c m =
-      let behind : IsChain nexts (get_or nexts at 0) xs = chain_behind nexts at x xs c in
+      let behind : IsChain nexts (get_or nexts at 0) xs = chain_after nexts at x xs c in
       let ahead : Contains xs b = elim (Contains-cons_cases x xs b m) [
         | inl e ↦ absurd (w.other (c.linked.0 ∙ sym e))
         | inr n ↦ n

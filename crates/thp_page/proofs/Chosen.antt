@@ -30,9 +30,9 @@ alike_before planes n i b = and_true b _ (sym (ap (λ m. nat_eq m (n % 2 ^ 0)) (
 
 -- one bit more of a number
 bits_of : (n k : ℕ) → n % 2 ^ (k + 1) ≡ n % 2 ^ k + cond (nat_eq (bit_at n k) 1) (2 ^ k) 0
-bits_of n k = ap (λ m. n % 2 ^ m) (turn k) ∙ mod-pow-add n 1 k ∙ digit (bit_at n k) (2 ^ k) (n % 2 ^ k) (bit_at-lt n k) where
-  turn : (k : ℕ) → k + 1 ≡ 1 + k
-  turn k = omega arith
+bits_of n k = ap (λ m. n % 2 ^ m) (toggle k) ∙ mod-pow-add n 1 k ∙ digit (bit_at n k) (2 ^ k) (n % 2 ^ k) (bit_at-lt n k) where
+  toggle : (k : ℕ) → k + 1 ≡ 1 + k
+  toggle k = omega arith
 
   digit : (b p r : ℕ) → b < 2 → b * p + r ≡ r + cond (nat_eq b 1) p 0
   digit b p r h = grind (arith, nat_tests)

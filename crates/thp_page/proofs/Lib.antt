@@ -5,7 +5,7 @@ pub mod PageSizes
 pub mod PageRefusals
 pub mod PageChanges
 pub mod PageUse
-pub mod Behind
+pub mod Trailing
 pub mod ZeroSets
 pub mod Chains
 pub mod Buckets

@@ -7,7 +7,7 @@ use Rattle.thp_model.specs.Refusals as call
 use Rattle.thp_model.specs.Pages.{PageState, size, own_at, total_at, has_use, partly_after, zero_set, page_refusal, IsPage, IsFresh, KeepsCounts, WholeMapped, WholeUnmapped, RangeMapped, RangeUnmapped, PmdSplit, Pinned, PageSplit}
 use Rattle.thp_page.specs.Fresh.{fresh_page}
 use Rattle.thp_page.specs.declared.page.Page.TheInside.{Inside}
-use Rattle.thp_page.specs.PageView.{state_of, IsKept, NothingBehind}
+use Rattle.thp_page.specs.PageView.{state_of, IsKept, NothingAfter}
 use Rattle.thp_page.proofs.SubSets.{set_of-ext}
 use Rattle.thp_page.proofs.PageSizes.{same_size, size_most}
 use Rattle.thp_page.proofs.PageRefusals.{map_whole_allowed, unmap_whole_allowed, map_sub_allowed, split_pmd_allowed, pin_allowed, unpin_allowed}
@@ -28,7 +28,7 @@ fresh_page_is_fresh order most = record {
   split = refl;
   zero = λ i below. get_or-set_of (λ j. nat_lt j (2 ^ order)) i (omega (arith, size_most (fresh_page order) most)) ∙ lt-ltb i (2 ^ order) below;
   partly = refl;
-  gave_zero = refl;
+  freed_zero_frames = refl;
 }
 
 pub IsPage-fresh_page : (order : ℕ) → 2 ≤ order → order ≤ 9 → IsPage (fresh_page order)
@@ -211,6 +211,6 @@ fresh_made order own all e f = ap₂ (λ (o : List ℕ) (z : List Bool). record 
 pub fresh_kept : (order : ℕ) (p : Inside) → 2 ≤ order → order ≤ 9 → state_of p ≡ fresh_page order → IsKept p
 fresh_kept order p least most same = record {
   page = subst (λ (t : PageState). IsPage t) (sym same) (IsPage-fresh_page order least most);
-  behind = subst (λ (t : PageState). NothingBehind t) (sym same) (λ i above short. (fresh_page_is_fresh order most).own i);
+  behind = subst (λ (t : PageState). NothingAfter t) (sym same) (λ i above short. (fresh_page_is_fresh order most).own i);
   zero_inside = subst (λ (t : PageState). t.zero ≡ zero_set t) (sym same) (zero_inside-fresh_page order);
 }

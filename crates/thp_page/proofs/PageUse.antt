@@ -6,10 +6,10 @@ use Rattle.thp_model.specs.Sets.{covers, set_of, has, some_below}
 use Rattle.thp_model.specs.Words.{get_or-set_of}
 use Rattle.thp_model.specs.Pages.{PageState, size, own_at, total_at, holds, used_set, has_use, drops_use, gives_frames, zero_at, zero_set, WholeUnmapped, RangeUnmapped, PageSplit, Pinned}
 use Rattle.thp_page.specs.Changes.{IsChange, split_set}
-use Rattle.thp_page.specs.PageView.{NothingBehind}
+use Rattle.thp_page.specs.PageView.{NothingAfter}
 use Rattle.thp_page.specs.Ranges.{some_count}
 use Rattle.thp_model.proofs.Below.{some_yes, some_no, some_below-ext}
-use Rattle.thp_page.proofs.Behind.{mapped_inside}
+use Rattle.thp_page.proofs.Trailing.{mapped_inside}
 use Rattle.thp_page.proofs.SubSets.{set_of-ext}
 use Rattle.thp_page.proofs.PageSizes.{size_least, size_most, range_test, same_size}
 
@@ -57,27 +57,27 @@ drops_use-range t u first count most r inside unmapped =
 pub gives_frames-unsplit : (t u : PageState) → u.order ≡ t.order → t.split ≡ false → u.split ≡ false → gives_frames t u ≡ set_of (λ i. false)
 gives_frames-unsplit t u order whole still =
     set_of-ext (λ i. holds t i && not (holds u i)) (λ i. false)
-    (λ i below. go (nat_lt i (size t)) (nat_lt i (size u)) t.split u.split (nat_lt 0 (total_at t i) && not (t.gave_zero && zero_at t i)) (nat_lt 0 (total_at u i) && not (u.gave_zero && zero_at u i)) (ap (λ n. nat_lt i n) (same_size t u order)) whole still) where
+    (λ i below. go (nat_lt i (size t)) (nat_lt i (size u)) t.split u.split (nat_lt 0 (total_at t i) && not (t.freed_zero_frames && zero_at t i)) (nat_lt 0 (total_at u i) && not (u.freed_zero_frames && zero_at u i)) (ap (λ n. nat_lt i n) (same_size t u order)) whole still) where
       go : (a b s v x y : Bool) → b ≡ a → s ≡ false → v ≡ false → ((a && (not s || x)) && not (b && (not v || y))) ≡ false
       go true b s v x y e f g = cc
       go false b s v x y e f g = refl
 
 -- a split page gives back the frames of the subpages of the range that have no mapping any more, but those that its split gave
 pub gives_frames-range : (t u : PageState) (first count : ℕ) (bare : List Bool) → RangeUnmapped first count t u → first + count ≤ size t → t.split ≡ true → t.whole ≡ 0 →
-    bare ≡ set_of (λ i. covers first count i && nat_eq (own_at u i) 0) → gives_frames t u ≡ set_of (λ i. has bare i && not (u.gave_zero && zero_at u i))
+    bare ≡ set_of (λ i. covers first count i && nat_eq (own_at u i) 0) → gives_frames t u ≡ set_of (λ i. has bare i && not (u.freed_zero_frames && zero_at u i))
 gives_frames-range t u first count bare r inside split unmapped is =
-    set_of-ext (λ i. holds t i && not (holds u i)) (λ i. has bare i && not (u.gave_zero && zero_at u i))
+    set_of-ext (λ i. holds t i && not (holds u i)) (λ i. has bare i && not (u.freed_zero_frames && zero_at u i))
     (λ i short.
     elim (cases_lt i (size t)) [
       | inl below ↦
           let long : size u ≡ size t = same_size t u r.order in
-          let given : (u.gave_zero && zero_at u i) ≡ (t.gave_zero && zero_at t i) = ap₂ (λ a z. a && has z i) r.kept.gave_zero r.kept.zero in
-          here i (size t) (size u) t.split u.split t.whole u.whole (own_at t i) (own_at u i) (covers first count i) (t.gave_zero && zero_at t i) (u.gave_zero && zero_at u i)
+          let given : (u.freed_zero_frames && zero_at u i) ≡ (t.freed_zero_frames && zero_at t i) = ap₂ (λ a z. a && has z i) r.kept.freed_zero_frames r.kept.zero in
+          here i (size t) (size u) t.split u.split t.whole u.whole (own_at t i) (own_at u i) (covers first count i) (t.freed_zero_frames && zero_at t i) (u.freed_zero_frames && zero_at u i)
           below long split (r.split ∙ split) unmapped (sym r.whole) (r.own i below) given
       | inr above ↦
-          there i (size t) first count (not t.split || (nat_lt 0 (total_at t i) && not (t.gave_zero && zero_at t i))) (not (holds u i)) (nat_eq (own_at u i) 0) (not (u.gave_zero && zero_at u i)) above inside
+          there i (size t) first count (not t.split || (nat_lt 0 (total_at t i) && not (t.freed_zero_frames && zero_at t i))) (not (holds u i)) (nat_eq (own_at u i) 0) (not (u.freed_zero_frames && zero_at u i)) above inside
     ]
-    ∙ ap (λ b. b && not (u.gave_zero && zero_at u i)) (sym (ap (λ s. has s i) is ∙ get_or-set_of (λ j. covers first count j && nat_eq (own_at u j) 0) i short))) where
+    ∙ ap (λ b. b && not (u.freed_zero_frames && zero_at u i)) (sym (ap (λ s. has s i) is ∙ get_or-set_of (λ j. covers first count j && nat_eq (own_at u j) 0) i short))) where
       here : (i n m : ℕ) (s v : Bool) (w x y z : ℕ) (b g g' : Bool) → i < n → m ≡ n → s ≡ true → v ≡ true → w ≡ 0 → w ≡ x → y ≡ z + cond b 1 0 → g' ≡ g →
           ((nat_lt i n && (not s || (nat_lt 0 (w + y) && not g))) && not (nat_lt i m && (not v || (nat_lt 0 (x + z) && not g')))) ≡ ((b && nat_eq z 0) && not g')
       here i n m s v w x y z true true g' below long e f unmapped same g same_given = grind (arith, nat_tests)
@@ -94,11 +94,11 @@ gives_frames-split give t u r whole =
     set_of-ext (λ i. holds t i && not (holds u i)) (λ i. nat_lt i (size t) && (not (nat_lt 0 (total_at t i)) || (give && zero_at t i)))
     (λ i short. elim (cases_lt i (size t)) [
       | inl below ↦
-          let given : (u.gave_zero && zero_at u i) ≡ (give && zero_at t i) = ap₂ (λ a z. a && has z i) r.gave_zero r.zero in
-          here i (size t) (size u) t.split u.split (total_at t i) (total_at u i) (nat_lt 0 (total_at t i) && not (t.gave_zero && zero_at t i)) (give && zero_at t i) (u.gave_zero && zero_at u i)
+          let given : (u.freed_zero_frames && zero_at u i) ≡ (give && zero_at t i) = ap₂ (λ a z. a && has z i) r.freed_zero_frames r.zero in
+          here i (size t) (size u) t.split u.split (total_at t i) (total_at u i) (nat_lt 0 (total_at t i) && not (t.freed_zero_frames && zero_at t i)) (give && zero_at t i) (u.freed_zero_frames && zero_at u i)
           below (same_size t u r.order) whole r.split (now (total_at t i) u.whole (own_at u i) r.whole (r.own i below)) given
       | inr above ↦
-          there i (size t) (not t.split || (nat_lt 0 (total_at t i) && not (t.gave_zero && zero_at t i))) (not (holds u i)) (not (nat_lt 0 (total_at t i)) || (give && zero_at t i)) above
+          there i (size t) (not t.split || (nat_lt 0 (total_at t i) && not (t.freed_zero_frames && zero_at t i))) (not (holds u i)) (not (nat_lt 0 (total_at t i)) || (give && zero_at t i)) above
     ]) where
       now : (n w y : ℕ) → w ≡ 0 → y ≡ n → w + y ≡ n
       now n w y e f = omega arith
@@ -175,7 +175,7 @@ used_set-mapped t mapped =
       go b w x h = grind (arith, nat_tests)
 
 -- the subpages of another page that are in use are those that have a mapping of their own
-pub used_set-unmapped : (t : PageState) (mapped : List Bool) → NothingBehind t → t.whole ≡ 0 → mapped ≡ set_of (λ i. nat_lt 0 (own_at t i)) → mapped ≡ used_set t
+pub used_set-unmapped : (t : PageState) (mapped : List Bool) → NothingAfter t → t.whole ≡ 0 → mapped ≡ set_of (λ i. nat_lt 0 (own_at t i)) → mapped ≡ used_set t
 used_set-unmapped t mapped none unmapped e =
     e
     ∙ set_of-ext (λ i. nat_lt 0 (own_at t i)) (λ i. nat_lt i (size t) && nat_lt 0 (total_at t i))
@@ -213,7 +213,7 @@ unpin_change old new used none p u n = record {
   totals i below = ap₂ (λ a b. a + b) p.whole (p.own i (omega (arith, same_sizes old new p.order)))
 
   same : (i : ℕ) → holds old i ≡ holds new i
-  same i = same_use _ _ _ _ _ _ _ _ _ _ (ap (nat_lt i) (same_sizes old new p.order)) p.split p.kept.gave_zero (ap (λ (set : List Bool). has set i) p.kept.zero) (λ y. totals i (below_size i (size old) y))
+  same i = same_use _ _ _ _ _ _ _ _ _ _ (ap (nat_lt i) (same_sizes old new p.order)) p.split p.kept.freed_zero_frames (ap (λ (set : List Bool). has set i) p.kept.zero) (λ y. totals i (below_size i (size old) y))
 
   gone : (a b : Bool) → a ≡ b → (a && not b) ≡ false
   gone true true e = refl

@@ -9,8 +9,8 @@ covers_inside first count i least most = grind (arith, nat_tests)
 pub covers_before : (first count i : ℕ) → i < first → covers first count i ≡ false
 covers_before first count i below = grind (arith, nat_tests)
 
-pub covers_behind : (first count i : ℕ) → first + count ≤ i → covers first count i ≡ false
-covers_behind first count i above = grind (arith, nat_tests)
+pub covers_after : (first count i : ℕ) → first + count ≤ i → covers first count i ≡ false
+covers_after first count i above = grind (arith, nat_tests)
 
 -- a subpage that is covered stands in the range
 pub covers_true : (first count i : ℕ) → covers first count i ≡ true → (first ≤ i) × (i < first + count)

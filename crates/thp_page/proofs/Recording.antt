@@ -15,7 +15,7 @@ use Rattle.thp_model.proofs.PageRefusals.{refusal_map_whole, refusal_unmap_whole
 use Rattle.thp_model.proofs.Pushes.{some_event_push, live_stays}
 use Rattle.thp_model.proofs.Tallying.{tallies_alloc, tallies_map_whole, tallies_unmap_whole, tallies_map_sub, tallies_unmap_sub, tallies_split_pmd, tallies_pin, tallies_unpin, tallies_write, tallies_zero, tallies_split, tallies_stay, pins_is, worth_is}
 use Rattle.thp_model.proofs.Untouched.{Untouched, untouched}
-use Rattle.thp_page.specs.Bridge.{OthersLeavePages, RefusalsAgree, FreshPageIsRecorded, GainIsRecorded, LossIsRecorded, WorthAgrees, SplitIsRecorded}
+use Rattle.thp_page.specs.Bridge.{OthersLeavePages, RefusalsAgree, FreshPageIsRecorded, GainIsRecorded, LossIsRecorded, CandidatesAgree, SplitIsRecorded}
 use Rattle.thp_model.specs.declared.page_call.Gain.TheVariants as gain
 use Rattle.thp_model.specs.declared.page_call.Loss.TheVariants as loss
 use Rattle.thp_model.specs.declared.page_call.PageCall.TheVariants as either
@@ -115,8 +115,8 @@ loss_is_recorded shape h c p loss.Unpin old new at allowed r =
       live = lives_on h e p at.live refl;
     }
 
-pub worth_agrees : WorthAgrees
-worth_agrees shape h p t at = worth_is shape h p t at.tallies
+pub candidates_agree : CandidatesAgree
+candidates_agree shape h p t at = worth_is shape h p t at.tallies
 
 pub split_is_recorded : SplitIsRecorded
 split_is_recorded shape h c p old new at flying worth whole unpinned r =

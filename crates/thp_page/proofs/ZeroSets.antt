@@ -36,17 +36,17 @@ some_zero t first count range common empty inside most is_range is_common told =
     (λ i short.
     ap (λ s. has s i) is_common ∙ get_or-set_of (λ j. has t.zero j && has range j) i short
     ∙ ap (λ b. zero_at t i && b) (ap (λ s. has s i) is_range ∙ get_or-set_of (covers first count) i short)
-    ∙ turn (zero_at t i) (covers first count i))
+    ∙ toggle (zero_at t i) (covers first count i))
     ∙ sym (range_test (size t) first count (zero_at t) inside most) where
       twice : (b : Bool) → not (not b) ≡ b
       twice true = refl
       twice false = refl
 
-      turn : (a b : Bool) → (a && b) ≡ (b && a)
-      turn true true = refl
-      turn true false = refl
-      turn false true = refl
-      turn false false = refl
+      toggle : (a b : Bool) → (a && b) ≡ (b && a)
+      toggle true true = refl
+      toggle true false = refl
+      toggle false true = refl
+      toggle false false = refl
 
 -- one of two tests passes somewhere where one of them does, or a third that says just that
 either : (n : ℕ) (f g h : ℕ → Bool) (a : Bool) → ((i : ℕ) → i < n → h i ≡ ((a && f i) || g i)) → ((a && some_below n f) || some_below n g) ≡ some_below n h
@@ -71,12 +71,12 @@ either n f g h a same =
 
 -- in a split page a subpage has no frame where no entry maps it, or where it is zero-filled and the split gave those
 pub some_gone : (t : PageState) (first count : ℕ) (given bare : Bool) → t.split ≡ true → t.whole ≡ 0 →
-    given ≡ (t.gave_zero && some_in_range t first count (zero_at t)) → bare ≡ some_in_range t first count (λ i. nat_eq (own_at t i) 0) →
+    given ≡ (t.freed_zero_frames && some_in_range t first count (zero_at t)) → bare ≡ some_in_range t first count (λ i. nat_eq (own_at t i) 0) →
     (given || bare) ≡ some_in_range t first count (λ i. not (holds t i))
 some_gone t first count given bare split unmapped is_given is_bare =
     ap₂ (λ a b. a || b) is_given is_bare
-    ∙ either (size t) (λ i. covers first count i && zero_at t i) (λ i. covers first count i && nat_eq (own_at t i) 0) (λ i. covers first count i && not (holds t i)) t.gave_zero
-    (λ i below. here i (size t) t.split t.gave_zero (covers first count i) (zero_at t i) t.whole (own_at t i) below split unmapped) where
+    ∙ either (size t) (λ i. covers first count i && zero_at t i) (λ i. covers first count i && nat_eq (own_at t i) 0) (λ i. covers first count i && not (holds t i)) t.freed_zero_frames
+    (λ i below. here i (size t) t.split t.freed_zero_frames (covers first count i) (zero_at t i) t.whole (own_at t i) below split unmapped) where
       here : (i n : ℕ) (s g b z : Bool) (w x : ℕ) → i < n → s ≡ true → w ≡ 0 →
           (b && not (nat_lt i n && (not s || (nat_lt 0 (w + x) && not (g && z))))) ≡ ((g && (b && z)) || (b && nat_eq x 0))
       here i n s true b true w x below e f = grind (arith, nat_tests)
@@ -87,7 +87,7 @@ some_gone t first count given bare split unmapped is_given is_bare =
 pub written : (t : PageState) (first count : ℕ) (range new : List Bool) → t.order ≤ 9 → range ≡ set_of (covers first count) → new ≡ set_of (λ i. has t.zero i && not (has range i)) →
     RangeWritten first count t (record t { zero = new })
 written t first count range new most is_range is_new = record {
-  kept = record { order = refl; whole = refl; own = refl; pins = refl; split = refl; partly = refl; gave_zero = refl };
+  kept = record { order = refl; whole = refl; own = refl; pins = refl; split = refl; partly = refl; freed_zero_frames = refl };
   zero = λ i below. (let short : i < 512 = omega (arith, size_most t most) in
       ap (λ s. has s i) is_new ∙ get_or-set_of (λ j. has t.zero j && not (has range j)) i short
       ∙ ap (λ b. zero_at t i && not b) (ap (λ s. has s i) is_range ∙ get_or-set_of (covers first count) i short));
@@ -106,7 +106,7 @@ written_inside t range new inside is_new =
 pub zeroed : (t : PageState) (first count : ℕ) (range new : List Bool) → t.order ≤ 9 → range ≡ set_of (covers first count) → new ≡ set_of (λ i. has t.zero i || has range i) →
     RangeZeroed first count t (record t { zero = new })
 zeroed t first count range new most is_range is_new = record {
-  kept = record { order = refl; whole = refl; own = refl; pins = refl; split = refl; partly = refl; gave_zero = refl };
+  kept = record { order = refl; whole = refl; own = refl; pins = refl; split = refl; partly = refl; freed_zero_frames = refl };
   zero = λ i below. (let short : i < 512 = omega (arith, size_most t most) in
       ap (λ s. has s i) is_new ∙ get_or-set_of (λ j. has t.zero j || has range j) i short
       ∙ ap (λ b. zero_at t i || b) (ap (λ s. has s i) is_range ∙ get_or-set_of (covers first count) i short));

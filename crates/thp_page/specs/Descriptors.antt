@@ -1,4 +1,4 @@
--- How the fields of a table make up what contracts see of it.
+-- How the view of a table is computed from its fields.
 use Rattle.thp_model.specs.Limits.{max_order, min_order}
 use Rattle.std.specs.Prelude.{◌≡◌, ◌<◌, ◌≤◌, ℕ, ◌^◌, List, [], ◌∷◌, map, length, Option, Some, None}
 use Rattle.thp_links.specs.declared.link.Link.{Link}
@@ -12,7 +12,7 @@ use Rattle.thp_page.specs.Table.{Slot}
 abbrev pub links_of : List Descriptor → List Link
 links_of ds = map (λ d. d.link) ds
 
--- a block is taken where it has a number; the descriptor of an empty block keeps what stood there last
+-- a block is in use if it has a number; the descriptor of an empty block keeps its last content
 abbrev pub slot_of : Option ℕ → Descriptor → Option Slot
 slot_of None d = None
 slot_of (Some n) d = Some (record { id = n; page = d.page; standing = d.standing })
@@ -29,6 +29,6 @@ pub record IsSized (order : ℕ) (numbers : List (Option ℕ)) (descriptors : Li
   pub small : length descriptors < 2 ^ 32
   pub numbered : length numbers ≡ length descriptors
 
--- the descriptor of a block that nothing stood in
+-- the descriptor of a block that was never used
 abbrev pub blank_descriptor : ℕ → Descriptor
 blank_descriptor order = record { link = record { prev = NIL; next = NIL }; page = fresh_page order; standing = Nowhere }

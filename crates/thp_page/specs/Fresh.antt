@@ -14,5 +14,5 @@ fresh_page order = record {
   split = false;
   zero = set_of (λ i. nat_lt i (2 ^ order));
   partly = false;
-  gave_zero = false;
+  freed_zero_frames = false;
 }

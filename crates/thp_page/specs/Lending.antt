@@ -1,4 +1,4 @@
--- What a page that was lent leaves behind in its table.
+-- How a borrowed page changes its table.
 use Rattle.std.specs.Prelude.{ℕ, Option}
 use Rattle.std.specs.Borrow.{LendsIf, MutBor, Fml}
 use Rattle.thp_model.specs.Pages.{PageState}
@@ -13,10 +13,10 @@ use Rattle.thp_page.specs.Slots.{slot_at, with_slot, paged}
 abbrev pub with_page : Descriptor → PageState → Descriptor
 with_page d p = record d { page = p }
 
--- the descriptor ends with the last page that was written through the loan
+-- the descriptor finally holds the last page that was written through the loan
 abbrev pub lends_own_page : MutBor Descriptor → Option (MutBor PageState) → Fml
 lends_own_page d r = LendsIf D.the_row P.the_row d r (with_page d.now) d.now
 
--- and so does the slot of the block
+-- the same for the slot of the block
 abbrev pub lends_page : MutBor Table → ℕ → Option (MutBor PageState) → Fml
 lends_page t b r = LendsIf T.the_row P.the_row t r (λ p. with_slot t.now b (paged (slot_at t.now b) p)) t.now

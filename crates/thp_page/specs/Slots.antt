@@ -1,4 +1,4 @@
--- What a table has at a block, and what it becomes where a call changes that.
+-- The slot of a table at a block, and the table after a call changes it.
 use Rattle.std.specs.Prelude.{◌≡◌, ℕ, Option, Some, None, slice_index_or, slice_set}
 use Rattle.thp_model.specs.Pages.{PageState}
 use Rattle.thp_page.specs.declared.standing.Standing.{Standing}
@@ -6,11 +6,11 @@ use Rattle.thp_page.specs.declared.standing.Standing.TheVariants.{Nowhere}
 use Rattle.thp_page.specs.Fresh.{fresh_page}
 use Rattle.thp_page.specs.Table.{Slot, Table}
 
--- what stands in block b; nothing where it is empty
+-- the content of block b; none if it is empty
 abbrev pub slot_at : Table → ℕ → Option Slot
 slot_at t b = slice_index_or t.slots b None
 
--- the table with this in block b, and all else as it was
+-- the table with this in block b, and otherwise unchanged
 abbrev pub with_slot : Table → ℕ → Option Slot → Table
 with_slot t b o = record t { slots = slice_set t.slots b o }
 
@@ -32,12 +32,12 @@ abbrev pub paged : Option Slot → PageState → Option Slot
 paged None p = None
 paged (Some s) p = Some (record s { page = p })
 
--- the slot with its page standing elsewhere
+-- the slot with its page on another list
 abbrev pub stood : Option Slot → Standing → Option Slot
 stood None w = None
 stood (Some s) w = Some (record s { standing = w })
 
--- the page of this number stands in the slot
+-- the slot holds the page of this number
 abbrev pub HoldsPage : Option Slot → ℕ → Type 0
 HoldsPage None id = ⊥
 HoldsPage (Some s) id = s.id ≡ id

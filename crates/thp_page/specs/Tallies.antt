@@ -1,4 +1,4 @@
--- The counts that planes keep.
+-- The counts that planes represent.
 use Rattle.std.specs.Prelude.{ℕ}
 use Rattle.thp_page.specs.Planes.{count_in}
 use Rattle.thp_page.specs.declared.planes.Planes.{Planes}

@@ -1,6 +1,12 @@
-//! The pages of a node, and the table of their descriptors.
+//! Page descriptors, and the table of them by block.
 //!
-//! How often each subpage of a page is mapped on its own is kept as bit planes (`map_counts`).
+//! - `page` and `page/calls`: one page, each call by value and by name, with its refusal and its change (`PageView`, `Fresh`).
+//! - `map_counts`: own map counts, seen as 512 numbers (`MapCounts`) and stored as bit planes. `planes` carries and borrows
+//!   (`Planes`, proofs `Carries`, `Chosen`, `Seen`); `subpages`, `one_word` do the same for one word of a set (`WordBits`).
+//! - `page_table`: for each block a link pair, and where it is taken a page and its standing (`Table`, `Slots`, `Changes`,
+//!   `Lending`).
+//! - `page_numbers`: finds the block of a page number, by hash chains (`Searching`; proofs `Chains`, `Buckets`).
+//! - `bridge`: empty functions whose contracts connect a page with the history of its node (`Bridge`).
 #![tactic(auto)]
 
 pub mod bridge;

@@ -1,4 +1,4 @@
-//! A page's own map counts, seen as 512 numbers.
+//! A page's own map counts, which contracts see as 512 numbers.
 ghost use Rattle.std.specs.Prelude.{◌≡◌, ℕ, ◌+◌, ◌<◌, ◌≤◌, ◌&&◌, true, cond, nat_eq, nat_lt, replicate, slice_index};
 ghost use Rattle.thp_model.specs.Limits.{max_subpages};
 ghost use Rattle.thp_model.specs.Sets.{covers, has, set_of, some_below};
@@ -10,13 +10,14 @@ use crate::subpages::Subpages;
 use std::marker::Model;
 use thp_model::SubSet;
 
-/// How often each of a page's 512 subpages is mapped on its own. Contracts see a list of 512 numbers, each below 65,536.
+/// The own map count of each of a page's 512 subpages. Contracts see a list of 512 numbers, each below 65,536.
 ///
-/// A change of a range takes a few words for each bit that a count has needed since the last [`clear`](MapCounts::clear), and
-/// of one that stands in 64 subpages a word for each. Which counts are 0 is kept beside them.
+/// A change of a range reads and writes a few words for each bit that a count has needed since the last
+/// [`clear`](MapCounts::clear). A change within 64 aligned subpages takes one word for each such bit. The set of the counts that
+/// are not 0 is stored as well.
 #[derive(Drop)]
 pub struct MapCounts {
-    // The subpages whose count isn't 0.
+    // The subpages whose count is not 0.
     mapped: SubSet,
     // The counts, bit by bit.
     planes: Planes,
@@ -35,7 +36,7 @@ impl Model for MapCounts {
 }
 
 impl MapCounts {
-    /// No subpage is mapped.
+    /// Returns counts of 0: no subpage is mapped.
     pub fn none() -> MapCounts
         ensures { result ≡ replicate max_subpages 0 }
     {
@@ -45,7 +46,7 @@ impl MapCounts {
         }
     }
 
-    /// No subpage is mapped any more. No plane is written.
+    /// Sets all counts to 0. Writes no plane.
     #[inline(always)]
     pub fn clear(&mut self)
         ensures { self.new ≡ replicate max_subpages 0 }
@@ -54,7 +55,7 @@ impl MapCounts {
         self.planes.used = 0;
     }
 
-    /// Whether subpage `i` is mapped.
+    /// Returns whether subpage `i` is mapped.
     #[inline(always)]
     pub fn is_mapped(&self, i: usize) -> bool
         requires { i < max_subpages }
@@ -63,7 +64,7 @@ impl MapCounts {
         self.mapped.contains(i as u32)
     }
 
-    /// How often subpage `i` is mapped. It looks at a bit of each plane.
+    /// Returns the count of subpage `i`. Reads one bit of each plane.
     pub fn count(&self, i: usize) -> u32
         requires { i < max_subpages }
         ensures { result ≡ slice_index self.now i }
@@ -71,7 +72,7 @@ impl MapCounts {
         self.planes.count(i as u32)
     }
 
-    /// The subpages that are mapped.
+    /// Returns the subpages that are mapped.
     #[inline(always)]
     pub fn mapped(&self) -> SubSet
         ensures { result ≡ set_of (λ i. nat_lt 0 (slice_index self.now i)) }
@@ -79,7 +80,7 @@ impl MapCounts {
         self.mapped
     }
 
-    /// Whether some subpage is mapped.
+    /// Returns whether some subpage is mapped.
     #[inline(always)]
     pub fn has_mapped(&self) -> bool
         ensures { result ≡ some_below max_subpages (λ i. nat_lt 0 (slice_index self.now i)) }
@@ -87,7 +88,7 @@ impl MapCounts {
         !self.mapped.is_empty()
     }
 
-    /// Whether a subpage of the range isn't mapped.
+    /// Returns whether some subpage of the range is not mapped.
     #[inline(always)]
     pub fn has_unmapped(&self, first: usize, count: usize) -> bool
         requires { first + count ≤ max_subpages }
@@ -104,7 +105,7 @@ impl MapCounts {
         }
     }
 
-    /// Whether a count of the range is `n`.
+    /// Returns whether some count of the range is `n`.
     #[inline(always)]
     pub fn has_count(&self, first: usize, count: usize, n: u16) -> bool
         requires { first + count ≤ max_subpages }
@@ -124,7 +125,7 @@ impl MapCounts {
         }
     }
 
-    /// One more mapping of each subpage of the range.
+    /// Adds a mapping of each subpage of the range.
     #[inline(always)]
     pub fn map(&mut self, first: usize, count: usize)
         requires inside { first + count ≤ max_subpages }
@@ -138,17 +139,17 @@ impl MapCounts {
         }
     }
 
-    // The same of any subpages.
+    // The same for any subpages.
     #[inline(always)]
     fn map_each<S: Subpages>(&mut self, subpages: S)
         requires { (i : ℕ) → i < max_subpages → S.chosen subpages i ≡ true → slice_index self.old i < 65535 }
         ensures { (i : ℕ) → i < max_subpages → slice_index self.new i ≡ slice_index self.old i + cond (S.chosen subpages i) 1 0 }
     {
         self.planes.add(subpages, 0);
-        subpages.outside(&self.mapped).turn(&mut self.mapped);
+        subpages.outside(&self.mapped).toggle(&mut self.mapped);
     }
 
-    /// One mapping of each subpage of the range less, and whether one of them isn't mapped any more.
+    /// Removes a mapping of each subpage of the range, and returns whether one of them is now unmapped.
     #[inline(always)]
     pub fn unmap(&mut self, first: usize, count: usize) -> bool
         requires inside { first + count ≤ max_subpages }
@@ -163,7 +164,7 @@ impl MapCounts {
         }
     }
 
-    // The same of any subpages.
+    // The same for any subpages.
     #[inline(always)]
     fn unmap_each<S: Subpages>(&mut self, subpages: S) -> bool
         requires { (i : ℕ) → i < max_subpages → S.chosen subpages i ≡ true → 1 ≤ slice_index self.old i }
@@ -172,7 +173,7 @@ impl MapCounts {
     {
         self.planes.take(subpages);
         let unmapped = self.planes.with_count(subpages, 0);
-        unmapped.turn(&mut self.mapped);
+        unmapped.toggle(&mut self.mapped);
         !unmapped.is_empty()
     }
 }

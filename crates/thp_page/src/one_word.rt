@@ -1,4 +1,4 @@
-//! Subpages that stand in one word of a set.
+//! Subpages that lie in one word of a set.
 ghost use Rattle.std.specs.Prelude.{◌≡◌, ℕ, ◌+◌, ◌-◌, ◌*◌, ◌/◌, ◌%◌, ◌^◌, ◌<◌, ◌≤◌, true};
 ghost use Rattle.thp_model.specs.Limits.{max_subpages};
 ghost use Rattle.thp_model.specs.Sets.{covers};
@@ -18,7 +18,7 @@ pub(crate) struct OneWord {
 }
 
 impl OneWord {
-    // Whether a range has a subpage and stands in one word.
+    // Whether a range is not empty and lies in one word.
     #[inline(always)]
     pub(crate) fn holds(first: usize, count: usize) -> bool
         requires { first + count ≤ max_subpages }
@@ -63,7 +63,7 @@ impl Subpages for OneWord {
     }
 
     #[inline(always)]
-    fn turn(&self, set: &mut SubSet) {
+    fn toggle(&self, set: &mut SubSet) {
         set.set_word(self.at, set.word(self.at) ^ self.bits);
     }
 

@@ -1,7 +1,7 @@
 //! One page: its map counts, its pins, whether it is split, and which of its subpages are zero-filled.
 ghost use Rattle.std.specs.Prelude.{◌≡◌, ◌+◌, ◌<◌, ◌≤◌, true, false, not, ◌&&◌, ◌||◌, cond, nat_eq, nat_lt, length, Option, None};
 ghost use Rattle.thp_model.specs.Limits.{max_order, max_subpages, min_order};
-ghost use Rattle.thp_model.specs.Pages.{size, own_at, total_at, zero_at, holds, used_set, has_use, zero_set, zero_count, is_worth, gives_frames, some_in_range, IsFresh, PageSplit};
+ghost use Rattle.thp_model.specs.Pages.{size, own_at, total_at, zero_at, holds, used_set, has_use, zero_set, zero_count, is_split_candidate, gives_frames, some_in_range, IsFresh, PageSplit};
 ghost use Rattle.thp_model.specs.Sets.{set_of, has};
 ghost use Rattle.thp_model.specs.Refusals.{most};
 ghost use Rattle.thp_page.specs.Fresh.{fresh_page};
@@ -12,19 +12,19 @@ use crate::map_counts::MapCounts;
 use std::marker::Model;
 use thp_model::SubSet;
 
-/// What an unmap did to the use of its page.
+/// The effect of an unmap on the use of its page.
 #[derive(Clone, Copy, PartialEq, Eq, Debug)]
 pub struct Change {
-    /// A subpage that was in use isn't any more.
+    /// A subpage that was in use no longer is.
     pub unused: bool,
     /// A subpage is still in use.
     pub used_left: bool,
-    /// The subpages whose frames were given back, since the page is split.
+    /// The subpages whose frames were given back, if the page is split.
     pub released: SubSet,
 }
 
 impl Change {
-    /// No change: nothing in use before or after, and no frame given back.
+    /// Returns no change: nothing in use before or after, and no frame given back.
     pub fn none() -> Change
         ensures { result ≡ record { unused = false; used_left = false; released = set_of (λ i. false) } }
     {
@@ -38,28 +38,28 @@ impl Change {
 
 /// The map counts, the pins, the split state and the zero-filled subpages of one page.
 ///
-/// A mapping of the whole page by a PMD entry counts in `whole`, and one of a subpage by a PTE entry in that subpage's own
-/// count; a subpage is in use while either is positive (mm/transhuge.rst, "Refcounts and transparent huge pages"; this
-/// project's profile keeps a count for the page by itself). A subpage is zero-filled until data is written to it, and again
-/// after zeros are (admin-guide/mm/transhuge.rst, "shrink_underused"; that writes tell it is this project's profile). No call
-/// takes memory, and none copies the counts.
+/// A mapping of the whole page by a PMD entry counts in `whole`, and one of a subpage by a PTE entry in that subpage's own count.
+/// A subpage is in use while either count is positive (mm/transhuge.rst, "Refcounts and transparent huge pages"; the separate
+/// count for the whole page is this project's profile). A subpage is zero-filled from its allocation until data is written to it,
+/// and again after zeros are written (admin-guide/mm/transhuge.rst, "shrink_underused"; that recorded writes decide it is this
+/// project's profile). No call allocates memory, and none copies the counts.
 #[derive(Drop)]
 pub struct Page {
     // The page has `2 ^ order` subpages.
     order: u32,
-    // How often a PMD entry maps the page.
+    // The number of PMD entries that map the page.
     whole: u16,
-    // The extra pins.
+    // The number of extra pins.
     pins: u16,
     // The page was split into base pages.
     split: bool,
-    // An unmap took a subpage out of use and left another in use.
+    // An unmap removed a subpage's last mapping and left another subpage in use.
     partly: bool,
     // The split gave back the frames of the zero-filled subpages too.
-    gave_zero: bool,
+    freed_zero_frames: bool,
     // The zero-filled subpages.
     zero: SubSet,
-    // How often a PTE entry maps each subpage. No call looks behind the page's last subpage.
+    // The number of PTE entries that map each subpage. No call reads beyond the page's last subpage.
     own: MapCounts,
 }
 
@@ -78,7 +78,7 @@ impl Model for Page {
 impl Page {
     ghost use Rattle.thp_page.specs.Changes.{IsChange, split_set};
 
-    /// A page that was just allocated: mapped whole once, and all zero-filled.
+    /// Returns a page that was just allocated: mapped whole once, with all subpages zero-filled.
     pub fn fresh(order: u32) -> Page
         requires least { min_order ≤ order }
         requires most { order ≤ max_order }
@@ -91,13 +91,13 @@ impl Page {
             pins: 0,
             split: false,
             partly: false,
-            gave_zero: false,
+            freed_zero_frames: false,
             zero: SubSet::full(order),
             own: MapCounts::none(),
         }
     }
 
-    // Makes a page of another life one that was just allocated. The counts are dropped where they stand.
+    // Turns a freed page into one that was just allocated. The counts are reset in place.
     pub(crate) fn renew(&mut self, order: u32)
         requires least { min_order ≤ order }
         requires most { order ≤ max_order }
@@ -109,14 +109,16 @@ impl Page {
         self.pins = 0;
         self.split = false;
         self.partly = false;
-        self.gave_zero = false;
+        self.freed_zero_frames = false;
         self.zero = SubSet::full(order);
         self.own.clear();
     }
 
-    /// Splits the page into base pages, each with all its mappings as its own, and answers the subpages whose frames that
-    /// gives back: those that aren't in use (mm/transhuge.rst, "Partial unmap and deferred_split_huge_page()"), and where
-    /// `give_zero`, the zero-filled ones too. The mappings of those stay, as mappings of the shared zero page.
+    /// Splits the page into base pages, and returns the subpages whose frames that gives back.
+    ///
+    /// Each base page keeps all its mappings as its own. The subpages that are not in use give their frames back
+    /// (mm/transhuge.rst, "Partial unmap and deferred_split_huge_page()"), and so do the zero-filled ones if `give_zero` is true.
+    /// The mappings of those remain, as mappings of the shared zero page.
     pub fn split(&mut self, give_zero: bool) -> SubSet
         requires whole { self.old.split ≡ false }
         requires unpinned { self.old.pins ≡ 0 }
@@ -133,7 +135,7 @@ impl Page {
         self.own.add(subpages, self.whole);
         self.whole = 0;
         self.split = true;
-        self.gave_zero = give_zero;
+        self.freed_zero_frames = give_zero;
         if give_zero {
             unused.union(self.zero)
         } else {
@@ -141,7 +143,7 @@ impl Page {
         }
     }
 
-    /// The page's order.
+    /// Returns the page's order.
     pub fn order(&self) -> u32
         ensures value { result ≡ self.now.order }
         ensures most { result ≤ max_order }
@@ -149,7 +151,7 @@ impl Page {
         self.order
     }
 
-    /// Whether subpage `i` is in use. Beyond the page nothing is.
+    /// Returns whether subpage `i` is in use; `false` beyond the page's last subpage.
     pub fn in_use(&self, i: u32) -> bool
         ensures { result ≡ (nat_lt i (size self.now) && nat_lt 0 (total_at self.now i)) }
     {
@@ -157,7 +159,7 @@ impl Page {
         i < self.subpages() && (self.whole > 0 || self.own.is_mapped(i))
     }
 
-    /// Whether some subpage is in use.
+    /// Returns whether some subpage is in use.
     #[inline(always)]
     pub fn has_use(&self) -> bool
         ensures { result ≡ has_use self.now }
@@ -165,7 +167,7 @@ impl Page {
         self.whole > 0 || self.own.has_mapped()
     }
 
-    /// The subpages in use.
+    /// Returns the subpages in use.
     pub fn in_use_set(&self) -> SubSet
         ensures { result ≡ used_set self.now }
     {
@@ -176,31 +178,31 @@ impl Page {
         }
     }
 
-    /// The zero-filled subpages.
+    /// Returns the zero-filled subpages.
     pub fn zero_set(&self) -> SubSet
         ensures { result ≡ zero_set self.now }
     {
         self.zero
     }
 
-    /// How many subpages are zero-filled.
+    /// Returns the number of zero-filled subpages.
     pub fn zero_count(&self) -> u32
         ensures { result ≡ zero_count self.now }
     {
         self.zero.count()
     }
 
-    /// Whether the page is partly mapped: an unmap took a subpage out of use and left another in use.
+    /// Returns whether the page is partly mapped: an unmap removed a subpage's last mapping and left another subpage in use.
     pub fn is_partly(&self) -> bool
         ensures { result ≡ self.now.partly }
     {
         self.partly
     }
 
-    /// Whether a split of the page is worth its while: it is partly mapped, or more of its subpages are zero-filled than
-    /// the threshold says, if there is one.
-    pub fn is_worth(&self, threshold: Option<u32>) -> bool
-        ensures { result ≡ is_worth threshold self.now }
+    /// Returns whether the page is worth a split: it is partly mapped, or `threshold` is given and more subpages than that are
+    /// zero-filled.
+    pub fn is_split_candidate(&self, threshold: Option<u32>) -> bool
+        ensures { result ≡ is_split_candidate threshold self.now }
     {
         self.partly
             || match threshold {
@@ -209,14 +211,14 @@ impl Page {
             }
     }
 
-    /// How often a PMD entry maps the whole page.
+    /// Returns the number of PMD entries that map the whole page.
     pub fn whole(&self) -> u32
         ensures { result ≡ self.now.whole }
     {
         u32::from(self.whole)
     }
 
-    /// How often a PTE entry maps subpage `i`. Beyond the page nothing is mapped.
+    /// Returns the number of PTE entries that map subpage `i`; 0 beyond the page's last subpage.
     pub fn own(&self, i: u32) -> u32
         ensures { result ≡ cond (nat_lt i (size self.now)) (own_at self.now i) 0 }
     {
@@ -228,21 +230,21 @@ impl Page {
         }
     }
 
-    /// The extra pins, which keep the page from being split.
+    /// Returns the number of extra pins, which prevent the page from being split.
     pub fn pins(&self) -> u32
         ensures { result ≡ self.now.pins }
     {
         u32::from(self.pins)
     }
 
-    /// Whether the page was split into base pages.
+    /// Returns whether the page was split into base pages.
     pub fn is_split(&self) -> bool
         ensures { result ≡ self.now.split }
     {
         self.split
     }
 
-    // How many subpages the page has.
+    // The number of the page's subpages.
     fn subpages(&self) -> usize
         ensures size { result ≡ size self.now }
         ensures most { result ≤ max_subpages }
@@ -250,7 +252,7 @@ impl Page {
         1 << self.order
     }
 
-    // Whether a range has no subpage, or one that the page hasn't.
+    // Whether a range is empty or is not within the page.
     #[inline(always)]
     fn is_bad_range(&self, first: u16, count: u16) -> bool
         ensures { result ≡ (nat_eq count 0 || nat_lt (size self.now) (first + count)) }
@@ -274,7 +276,7 @@ impl Page {
         requires inside { first + count ≤ size self.now }
         ensures { result ≡ some_in_range self.now first count (λ i. not (holds self.now i)) }
     {
-        let given = self.gave_zero && self.has_zero_filled(first, count);
+        let given = self.freed_zero_frames && self.has_zero_filled(first, count);
         given || self.has_unmapped(first, count)
     }
 
@@ -305,12 +307,12 @@ impl Page {
         self.whole == 0 && self.has_unmapped(first, count)
     }
 
-    // The subpages of a set but those whose frames the page's split gave back as zero-filled.
+    // A set of subpages without those whose frames the page's split gave back as zero-filled.
     fn without_given(&self, subpages: SubSet) -> SubSet
         requires { length subpages ≡ max_subpages }
-        ensures { result ≡ set_of (λ i. has subpages i && not (self.now.gave_zero && zero_at self.now i)) }
+        ensures { result ≡ set_of (λ i. has subpages i && not (self.now.freed_zero_frames && zero_at self.now i)) }
     {
-        if self.gave_zero {
+        if self.freed_zero_frames {
             subpages.difference(self.zero)
         } else {
             subpages

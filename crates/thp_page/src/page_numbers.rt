@@ -8,17 +8,16 @@ use std::marker::Model;
 use thp_links::NIL;
 use thp_model::PageId;
 
-// How many buckets there are. A node has half as many blocks at most, so pages that are allocated one after the other have a
-// bucket each.
+// The number of buckets. A node has at most half as many blocks, so pages allocated one after the other are in different buckets.
 const BUCKETS: u64 = 8192;
 
-// The numbers of the pages of a table, by block. The blocks whose numbers are of one bucket are in one chain.
+// The numbers of the pages of a table, by block. Blocks whose numbers share a bucket are in one chain.
 #[derive(Drop)]
 pub(crate) struct PageNumbers {
     numbers: Vec<Option<PageId>>,
-    // By block the next one of its chain, or `NIL`. That of an empty block may be any.
+    // For each block the next one of its chain, or `NIL`. The entry of an empty block is arbitrary.
     nexts: Vec<u32>,
-    // By bucket the first block of its chain, the one that was given its number last, or `NIL`.
+    // For each bucket the first block of its chain, the one whose number was set last, or `NIL`.
     firsts: Vec<u32>,
 }
 
@@ -34,7 +33,7 @@ impl Model for PageNumbers {
 }
 
 impl PageNumbers {
-    // No number in any block.
+    // A table whose blocks have no numbers.
     pub(crate) fn new(alloc: Global, blocks: u32) -> Result<PageNumbers, AllocError>
         ensures { IfOk result (λ p. p ≡ replicate blocks None) }
     {
@@ -57,7 +56,7 @@ impl PageNumbers {
         self.numbers[block as usize]
     }
 
-    // Puts a number into a block that has none.
+    // Sets the number of a block that has none.
     pub(crate) fn place(&mut self, block: u32, id: PageId)
         requires inside { block < length self.old }
         requires empty { slice_index_or self.old block None ≡ None }
@@ -69,7 +68,7 @@ impl PageNumbers {
         self.firsts[bucket] = block;
     }
 
-    // Empties a block that has a number.
+    // Clears the number of a block.
     pub(crate) fn clear(&mut self, block: u32)
         requires inside { block < length self.old }
         requires taken { IsSome (slice_index_or self.old block None) }
@@ -84,7 +83,7 @@ impl PageNumbers {
         self.numbers[block as usize] = None;
     }
 
-    // A block with this number.
+    // The block with this number, if any.
     pub(crate) fn block_of(&self, id: PageId) -> Option<u32>
         ensures found { IfSome result (λ b. slice_index_or self.now b None ≡ Some id) }
         ensures inside { IfSome result (λ b. b < length self.now) }
@@ -94,7 +93,7 @@ impl PageNumbers {
     }
 }
 
-// A block with this number, by the chain of its bucket, which begins with `first`.
+// The block with this number, if any, in the chain of its bucket, which begins with `first`.
 fn find(numbers: &[Option<PageId>], nexts: &[u32], first: u32, id: PageId) -> Option<u32>
     requires small { length nexts.now < 2 ^ 32 }
     requires sizes { length numbers.now ≡ length nexts.now }
@@ -124,7 +123,7 @@ fn is_number(number: Option<PageId>, id: PageId) -> bool
     }
 }
 
-// Takes a block out of its chain, which begins with `first`, and tells with which block it begins then.
+// Removes a block from its chain, which begins with `first`, and returns the chain's new first block.
 fn unlink(nexts: &mut [u32], first: u32, block: u32) -> u32
     requires small { length nexts.old < 2 ^ 32 }
     requires chain { IsInChain nexts.old first block }
@@ -139,7 +138,7 @@ fn unlink(nexts: &mut [u32], first: u32, block: u32) -> u32
     first
 }
 
-// The block that leads to this one in its chain, which begins with `first`, another block.
+// The block before this one in its chain, which begins with `first`, another block.
 fn block_before(nexts: &[u32], first: u32, block: u32) -> u32
     requires small { length nexts.now < 2 ^ 32 }
     requires chain { IsInChain nexts.now first block }

@@ -1,4 +1,4 @@
-//! The table of page descriptors: for each block of a node a link pair and, where it is taken, a page.
+//! The table of page descriptors: a link pair for each block of a node, and a page for each block in use.
 ghost use Rattle.std.specs.Prelude.{◌≡◌, ◌<◌, ◌≤◌, ℕ, ◌+◌, length, replicate, IsSome, IfOk, IfSome, IfNone, Option, Some, None};
 ghost use Rattle.std.specs.Option.{option_map, option_copied_mut};
 ghost use Rattle.thp_model.specs.Limits.{max_order, min_order};
@@ -15,7 +15,7 @@ use std::marker::Model;
 use thp_links::{AccessCount, Link, LinkTable, NIL};
 use thp_model::PageId;
 
-// What the table keeps for a block, taken or not. An empty block keeps what stood there last.
+// What the table stores for a block, in use or not. An empty block keeps the contents of its last page.
 #[derive(Drop)]
 struct Descriptor {
     link: Link,
@@ -27,7 +27,7 @@ struct Descriptor {
 #[derive(Drop)]
 pub struct PageTable {
     order: u32,
-    // A block is taken exactly where it has a number.
+    // A block is in use exactly if it has a number.
     numbers: PageNumbers,
     descriptors: Vec<Descriptor>,
     accesses: AccessCount,
@@ -49,7 +49,7 @@ impl Descriptor {
     ghost use Rattle.std.specs.Prelude.{cond};
     ghost use Rattle.thp_page.specs.Lending.{lends_own_page};
 
-    // The page, if the block is taken.
+    // The page, if the block is in use.
     fn page_mut(&mut self, taken: bool) -> Option<&mut Page>
         ensures* writes_back { sem 𝓛 (lends_own_page self.entry result) }
         ensures value { option_copied_mut result ≡ cond taken (Some self.old.page) None }
@@ -62,7 +62,8 @@ impl PageTable {
     ghost use Rattle.std.specs.Borrow.{sem};
     ghost use Rattle.thp_page.specs.Lending.{lends_page};
 
-    /// A table of `blocks` empty blocks, for pages of `2 ^ order` subpages. It takes all memory that the table will need.
+    /// Creates a table of `blocks` empty blocks, for pages of `2 ^ order` subpages. Allocates all memory that the table will ever
+    /// use, and fails if it can't be allocated.
     pub fn new(alloc: Global, blocks: u32, order: u32) -> Result<PageTable, AllocError>
         requires least { min_order ≤ order }
         requires most { order ≤ max_order }
@@ -90,7 +91,7 @@ impl PageTable {
         })
     }
 
-    /// The block of the page of this number; where no block has it, `None`.
+    /// Returns the block of the page with this number, or `None` if no block holds it.
     pub fn block_of(&self, id: PageId) -> Option<u32>
         ensures found { IfSome result (λ b. HoldsPage (slot_at self.now b) id) }
         ensures inside { IfSome result (λ b. b < length self.now.links) }
@@ -100,7 +101,7 @@ impl PageTable {
         self.numbers.block_of(id)
     }
 
-    /// The page of a block with its number; `None` where the block is empty.
+    /// Returns the page of a block and its number, or `None` if the block is empty.
     pub fn page(&self, block: u32) -> Option<(PageId, &Page)>
         requires inside { block < length self.now.links }
         ensures number { option_map (λ r. r.0) result ≡ number_in (slot_at self.now block) }
@@ -112,7 +113,7 @@ impl PageTable {
         }
     }
 
-    /// The page of a block, to be changed; `None` where the block is empty.
+    /// Returns the page of a block for changes, or `None` if the block is empty.
     pub fn page_mut(&mut self, block: u32) -> Option<&mut Page>
         requires inside { block < length self.old.links }
         ensures* writes_back { sem 𝓛 (lends_page self.entry block result) }
@@ -122,7 +123,7 @@ impl PageTable {
         self.descriptors[block as usize].page_mut(taken)
     }
 
-    /// Puts a fresh page of this number into an empty block. It stands nowhere.
+    /// Places a new page with this number in an empty block. The page is on no list.
     pub fn place(&mut self, block: u32, id: PageId)
         requires inside { block < length self.old.links }
         requires empty { slot_at self.old block ≡ None }
@@ -136,7 +137,7 @@ impl PageTable {
         self.numbers.place(block, id);
     }
 
-    /// Empties a block that is taken.
+    /// Empties a block that is in use.
     pub fn clear(&mut self, block: u32)
         requires inside { block < length self.old.links }
         requires occupied { IsSome (slot_at self.old block) }
@@ -145,7 +146,7 @@ impl PageTable {
         self.numbers.clear(block);
     }
 
-    /// Where the page of a block stands.
+    /// Returns the list that the page of a block is on.
     pub fn standing(&self, block: u32) -> Standing
         requires inside { block < length self.now.links }
         requires occupied { IsSome (slot_at self.now block) }
@@ -154,7 +155,7 @@ impl PageTable {
         self.descriptors[block as usize].standing
     }
 
-    /// Says where the page of a block stands from now on.
+    /// Sets the list that the page of a block is on.
     pub fn set_standing(&mut self, block: u32, standing: Standing)
         requires inside { block < length self.old.links }
         requires occupied { IsSome (slot_at self.old block) }

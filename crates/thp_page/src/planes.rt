@@ -7,15 +7,15 @@ ghost use Rattle.thp_page.specs.Tallies.{tally};
 use crate::subpages::Subpages;
 use thp_model::SubSet;
 
-// How many planes there are: a count has 16 bits.
+// The number of planes: a count has 16 bits.
 pub(crate) const PLANES: usize = 16;
 
 // The bits of 512 counts.
 #[derive(Drop)]
 pub(crate) struct Planes {
-    // How many planes count. What stands in the others means nothing.
+    // The number of planes in use. The content of the others is unspecified.
     pub(crate) used: usize,
-    // Plane k has the subpages whose count has bit k.
+    // Plane k is the set of the subpages whose count has bit k.
     pub(crate) sets: [SubSet; PLANES],
 }
 
@@ -51,12 +51,12 @@ impl Planes {
                 return;
             }
             let next = carry.within(&self.sets[k]);
-            carry.turn(&mut self.sets[k]);
+            carry.toggle(&mut self.sets[k]);
             carry = next;
         }
     }
 
-    // One plane more counts. What stood in it meant nothing.
+    // Adds a plane to those in use. Its former content was unspecified.
     #[inline(never)]
     fn open(&mut self, set: SubSet)
         requires { self.old.used < 16 }
@@ -67,7 +67,7 @@ impl Planes {
         self.used += 1;
     }
 
-    // At least `wanted` planes count, with the same counts.
+    // Makes at least `wanted` planes be in use. The counts don't change.
     pub(crate) fn widen(&mut self, wanted: usize)
         requires most { self.old.used ≤ 16 }
         requires wanted { wanted ≤ 16 }
@@ -80,7 +80,7 @@ impl Planes {
         }
     }
 
-    // Takes one from the count of each of these subpages: a borrow that ripples up from the lowest plane.
+    // Subtracts one from the count of each of these subpages: a borrow that ripples up from the lowest plane.
     #[inline(always)]
     pub(crate) fn take<S: Subpages>(&mut self, subpages: S)
         requires most { self.old.used ≤ 16 }
@@ -93,7 +93,7 @@ impl Planes {
             if borrow.is_empty() {
                 return;
             }
-            borrow.turn(&mut self.sets[k]);
+            borrow.toggle(&mut self.sets[k]);
             borrow = borrow.within(&self.sets[k]);
         }
     }
@@ -113,7 +113,7 @@ impl Planes {
         count
     }
 
-    // Those of these subpages whose count is `n`, a number that has no more bits than there are planes that count.
+    // Those of these subpages whose count is `n`, a number with no more bits than there are planes in use.
     #[inline(always)]
     pub(crate) fn with_count<S: Subpages>(&self, subpages: S, n: u16) -> S
         requires most { self.now.used ≤ 16 }
@@ -141,11 +141,11 @@ impl Planes {
         requires inside { first + count ≤ max_subpages }
         ensures { result ≡ some_below max_subpages (λ i. covers first count i && nat_eq (tally self.now i) n) }
     {
-        // A number with more bits than there are planes is no count.
+        // A number with more bits than there are planes equals no count.
         u32::from(n) >> self.used == 0 && self.has_small_count(first, count, n)
     }
 
-    // The same of a number that has no more bits than there are planes that count.
+    // The same for a number with no more bits than there are planes in use.
     #[inline(never)]
     fn has_small_count(&self, first: usize, count: usize, n: u16) -> bool
         requires most { self.now.used ≤ 16 }

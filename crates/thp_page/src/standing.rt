@@ -1,9 +1,9 @@
-//! Where a page stands among the lists of its node.
+//! The list that a page is on.
 
-/// Where a page stands: in no list, in the deferred split queue, or in the batch of a caller that took it from there.
+/// The list that a page is on: none, the deferred split queue, or the batch of the caller that isolated it.
 #[derive(Clone, Copy, PartialEq, Eq, Debug)]
 pub enum Standing {
-    /// In no list.
+    /// On no list.
     Nowhere,
     /// In the deferred split queue.
     Queued,

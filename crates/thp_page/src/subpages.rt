@@ -5,28 +5,28 @@ ghost use Rattle.thp_model.specs.Sets.{has, set_of, one_alone, some_below};
 
 use thp_model::SubSet;
 
-/// Subpages of a page whose counts change together: any set of them, or some that stand in one word of a set.
+/// Subpages of a page whose counts change together: any set, or some that lie in one word of a set.
 pub(crate) trait Subpages: Copy {
-    // Which subpages they are.
+    // The subpages chosen.
     ghost chosen: { Self → ℕ → Bool };
 
-    /// Those of them that are in the set.
+    /// Returns those that are in the set.
     fn within(&self, set: &SubSet) -> Self
         ensures { (i : ℕ) → i < max_subpages → chosen result i ≡ (chosen self.now i && has set.now i) };
 
-    /// Those of them that aren't in the set.
+    /// Returns those that are not in the set.
     fn outside(&self, set: &SubSet) -> Self
         ensures { (i : ℕ) → i < max_subpages → chosen result i ≡ (chosen self.now i && not (has set.now i)) };
 
-    /// Takes those of them that are in the set out of it, and puts the others of them in.
-    fn turn(&self, set: &mut SubSet)
+    /// Toggles the membership in the set of each of these subpages.
+    fn toggle(&self, set: &mut SubSet)
         ensures { set.new ≡ set_of (λ i. one_alone (has set.old i) (chosen self.now i)) };
 
-    /// Whether there is none.
+    /// Returns whether there is none.
     fn is_empty(&self) -> bool
         ensures { result ≡ not (some_below max_subpages (chosen self.now)) };
 
-    /// The set of them.
+    /// Returns them as a set.
     fn to_set(&self) -> SubSet
         ensures { (i : ℕ) → i < max_subpages → has result i ≡ chosen self.now i };
 }
@@ -45,7 +45,7 @@ impl Subpages for SubSet {
     }
 
     #[inline(always)]
-    fn turn(&self, set: &mut SubSet) {
+    fn toggle(&self, set: &mut SubSet) {
         *set = set.symmetric_difference(*self);
     }
 

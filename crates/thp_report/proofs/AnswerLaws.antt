@@ -6,9 +6,9 @@ use Rattle.std.proofs.lemmas.Option.{get_or_from_slice_get, slice_get_within}
 use Rattle.std.specs.declared.alloc.AllocError.{AllocError}
 use Rattle.thp_node.specs.declared.answers.Tried.{Tried}
 use Rattle.thp_node.specs.declared.answers.Tried.TheVariants as tried
-use Rattle.thp_sections.specs.declared.reply.Reply.{Reply}
-use Rattle.thp_sections.specs.declared.reply.Reply.TheVariants as reply
-use Rattle.thp_sections.specs.Does.{Reaction}
+use Rattle.thp_worker.specs.declared.reply.Reply.{Reply}
+use Rattle.thp_worker.specs.declared.reply.Reply.TheVariants as reply
+use Rattle.thp_worker.specs.Does.{Reaction}
 use Rattle.thp_journal_writer.specs.EventLines.{line_of}
 use Rattle.thp_journal_writer.specs.Journals.{ended}
 use Rattle.thp_report.specs.Answers.{tried_words, reply_words, reaction_words}

@@ -6,18 +6,18 @@ use Rattle.std.proofs.lemmas.List.{drop_all, drop_more}
 use Rattle.thp_model.specs.declared.shape.Shape.{Shape}
 use Rattle.thp_report.specs.Answers.{answer_line, answers_text, section_text}
 use Rattle.thp_report.specs.Parts.{text_from}
-use Rattle.thp_sections.specs.declared.reply.Answer.{Answer}
-use Rattle.thp_sections.specs.declared.reply.Section.{Section}
+use Rattle.thp_worker.specs.declared.reply.Answer.{Answer}
+use Rattle.thp_worker.specs.declared.reply.SectionLog.{SectionLog}
 use Rattle.thp_report.proofs.AnswerLaws.{drop_at_get}
 
 -- from the first answer on stands the whole text
-pub from_start : (shapes : List Shape) (sections : List Section) → text_from shapes 0 sections ≡ answers_text shapes sections
+pub from_start : (shapes : List Shape) (sections : List SectionLog) → text_from shapes 0 sections ≡ answers_text shapes sections
 unfolding text_from answers_text section_text
 from_start shapes [] = refl
 from_start shapes (s ∷ sections) = refl
 
 -- no text is left behind the last section
-pub none_left : (shapes : List Shape) (place n : ℕ) (sections : List Section) → length sections ≤ n → text_from shapes place (drop n sections) ≡ []
+pub none_left : (shapes : List Shape) (place n : ℕ) (sections : List SectionLog) → length sections ≤ n → text_from shapes place (drop n sections) ≡ []
 unfolding text_from
 none_left shapes place n sections h = ap (text_from shapes place) (drop_all n sections h)
 
@@ -26,13 +26,13 @@ pub nothing_was : (part left was : List ℕ) → part ++ left ≡ was → left �
 nothing_was part left was e f g = sym e ∙ ap (λ x. part ++ x) f ∙ ap (λ x. x ++ []) g
 
 -- what is left at a section: its answers, and the sections behind it
-left_at : (shapes : List Shape) (place n : ℕ) (sections : List Section) (s : Section) → n < length sections → s ≡ get_or sections n s →
+left_at : (shapes : List Shape) (place n : ℕ) (sections : List SectionLog) (s : SectionLog) → n < length sections → s ≡ get_or sections n s →
     text_from shapes place (drop n sections) ≡ flat_map (answer_line shapes s.worker) (drop place s.answers.items) ++ answers_text shapes (drop (n + 1) sections)
 unfolding text_from
 left_at shapes place n sections s h is = ap (text_from shapes place) (drop_more sections n s h ∙ ap (λ x. x ∷ drop (n + 1) sections) (sym is))
 
 -- some answers of a section were put behind a part
-pub some_put : (shapes : List Shape) (place next n : ℕ) (sections : List Section) (s : Section) (t more was : List ℕ) → n < length sections → s ≡ get_or sections n s →
+pub some_put : (shapes : List Shape) (place next n : ℕ) (sections : List SectionLog) (s : SectionLog) (t more was : List ℕ) → n < length sections → s ≡ get_or sections n s →
     more ++ flat_map (answer_line shapes s.worker) (drop next s.answers.items) ≡ t ++ flat_map (answer_line shapes s.worker) (drop place s.answers.items) →
     t ++ text_from shapes place (drop n sections) ≡ was → more ++ text_from shapes next (drop n sections) ≡ was
 some_put shapes place next n sections s t more was h is e f =
@@ -45,7 +45,7 @@ some_put shapes place next n sections s t more was h is e f =
     ∙ f
 
 -- all answers of a section were put
-pub all_put : (shapes : List Shape) (place n : ℕ) (sections : List Section) (s : Section) (t more was : List ℕ) → n < length sections → s ≡ get_or sections n s →
+pub all_put : (shapes : List Shape) (place n : ℕ) (sections : List SectionLog) (s : SectionLog) (t more was : List ℕ) → n < length sections → s ≡ get_or sections n s →
     more ≡ t ++ flat_map (answer_line shapes s.worker) (drop place s.answers.items) →
     t ++ text_from shapes place (drop n sections) ≡ was → more ++ text_from shapes 0 (drop (n + 1) sections) ≡ was
 all_put shapes place n sections s t more was h is e f =

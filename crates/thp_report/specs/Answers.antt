@@ -12,13 +12,13 @@ use Rattle.thp_model.specs.Underused.{shrinks_underused}
 use Rattle.thp_node.specs.declared.answers.ScanReply.{ScanReply}
 use Rattle.thp_node.specs.declared.answers.Tried.{Tried}
 use Rattle.thp_node.specs.declared.answers.Tried.TheVariants as tried
-use Rattle.thp_sections.specs.declared.reply.Answer.{Answer}
-use Rattle.thp_sections.specs.declared.reply.Reply.{Reply}
-use Rattle.thp_sections.specs.declared.reply.Reply.TheVariants as reply
-use Rattle.thp_sections.specs.declared.reply.Section.{Section}
-use Rattle.thp_sections.specs.Does.{Reaction}
+use Rattle.thp_worker.specs.declared.reply.Answer.{Answer}
+use Rattle.thp_worker.specs.declared.reply.Reply.{Reply}
+use Rattle.thp_worker.specs.declared.reply.Reply.TheVariants as reply
+use Rattle.thp_worker.specs.declared.reply.SectionLog.{SectionLog}
+use Rattle.thp_worker.specs.Does.{Reaction}
 
--- why a command was refused; there is no word for want of memory, which ends a run without a report
+-- why a command was refused; there is no word for lack of memory, which ends a run without a report
 abbrev pub refusal_word : Refusal → List ℕ
 refusal_word NoPage = codes "no-page"
 refusal_word BadRange = codes "bad-range"
@@ -32,27 +32,27 @@ refusal_word NoBlock = codes "no-block"
 refusal_word HasBatch = codes "has-batch"
 refusal_word OutOfMemory = []
 
--- what a try did
+-- the result of a try
 abbrev pub tried_words : Tried → List (List ℕ)
 tried_words (tried.Split p) = page_words (codes "split") p
 tried_words (tried.Pinned p) = page_words (codes "pinned") p
 tried_words (tried.Used p) = page_words (codes "used") p
 tried_words tried.Done = codes "done" ∷ []
 
--- how many pages went back to the queue, and how many were dropped
+-- the number of pages put back, and the number dropped
 abbrev pub back_words : ℕ → ℕ → List (List ℕ)
 back_words back dropped = codes "back" ∷ decimal back ∷ codes "dropped" ∷ decimal dropped ∷ []
 
--- what a scan counts on every node
+-- the counts of a scan on any node
 abbrev pub scan_words : ScanReply → List (List ℕ)
 scan_words r = codes "taken" ∷ decimal r.taken ∷ codes "split" ∷ decimal r.split ∷ codes "pinned" ∷ decimal r.pinned ∷ back_words r.back r.dropped
 
--- and what it counts besides where the shrinker looks for underused pages
+-- the further count of a scan if the shrinker looks for underused pages
 abbrev pub used_words : Bool → ScanReply → List (List ℕ)
 used_words false r = []
 used_words true r = codes "used" ∷ decimal r.used ∷ []
 
--- the reply to a command, on a node whose shrinker looks for underused pages or doesn't
+-- the reply to a command, on a node whose shrinker looks for underused pages or not
 abbrev pub reply_words : Bool → Reply → List (List ℕ)
 reply_words looks (reply.Page p) = page_words (codes "page") p
 reply_words looks reply.Unit = codes "ok" ∷ []
@@ -64,7 +64,7 @@ reply_words looks (reply.Tried t) = tried_words t
 reply_words looks (reply.Back r) = back_words r.back r.dropped
 reply_words looks reply.NoBatch = codes "no-batch" ∷ []
 
--- what a command is answered
+-- the answer to a command
 abbrev pub reaction_words : Bool → Reaction → List (List ℕ)
 reaction_words looks (Ok r) = reply_words looks r
 reaction_words looks (Err why) = codes "refused" ∷ refusal_word why ∷ []
@@ -77,14 +77,14 @@ looks_on None = false
 abbrev pub looks : List Shape → ℕ → Bool
 looks shapes n = looks_on (slice_get shapes n)
 
--- an answer: the section's number, the command's place in the section, counted from 1, and what the command was answered
+-- an answer: the section's number, the command's index in the section, counted from 1, and the answer to the command
 unfoldable pub answer_line : List Shape → ℕ → Answer → List ℕ
 answer_line shapes section a = ended (line_of (decimal section ∷ decimal (a.command + 1) ∷ reaction_words (looks shapes a.node) a.reply))
 
 -- the answers of a section: setup is section 0, and worker k's section is k
-unfoldable pub section_text : List Shape → Section → List ℕ
+unfoldable pub section_text : List Shape → SectionLog → List ℕ
 section_text shapes section = flat_map (answer_line shapes section.worker) section.answers.items
 
 -- the answers of all sections, in order, on nodes of these shapes
-unfoldable pub answers_text : List Shape → List Section → List ℕ
+unfoldable pub answers_text : List Shape → List SectionLog → List ℕ
 answers_text shapes sections = flat_map (section_text shapes) sections

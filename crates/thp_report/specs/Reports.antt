@@ -5,23 +5,23 @@ use Rattle.thp_model.specs.declared.shape.Shape.{Shape}
 use Rattle.thp_node.specs.NodeState.{NodeState}
 use Rattle.thp_report.specs.Answers.{answers_text}
 use Rattle.thp_journal_writer.specs.Totals.{totals_text}
-use Rattle.thp_text.specs.declared.settings.Report.{Report}
-use Rattle.thp_text.specs.declared.settings.Report.TheVariants as report
-use Rattle.thp_sections.specs.declared.reply.Section.{Section}
+use Rattle.thp_script.specs.declared.settings.Report.{Report}
+use Rattle.thp_script.specs.declared.settings.Report.TheVariants as report
+use Rattle.thp_worker.specs.declared.reply.SectionLog.{SectionLog}
 
--- what reports tell of a node: its shape, and what happened on it
+-- the data about a node in reports: its shape, and its events
 abbrev pub told_of : NodeState → Journal
 told_of n = (n.shape, n.journal)
 
 abbrev pub shape_of : NodeState → Shape
 shape_of n = n.shape
 
--- the shape of a node that was told
+-- the shape of such a node
 abbrev pub shape_in : Journal → Shape
 shape_in node = node.0
 
--- what is written at the end of a run, of its nodes and of the answers of its sections
-abbrev pub report_of : Report → List Journal → List Section → List ℕ
+-- the output at the end of a run, from its nodes and the answers of its sections
+abbrev pub report_of : Report → List Journal → List SectionLog → List ℕ
 report_of report.Totals nodes sections = totals_text nodes
 report_of report.Journal nodes sections = journal_text nodes
 report_of report.Answers nodes sections = answers_text (map shape_in nodes) sections

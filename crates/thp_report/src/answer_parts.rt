@@ -1,4 +1,4 @@
-//! The text of answers, part by part, from one buffer.
+//! The text of answers, produced in parts in one buffer.
 ghost use Rattle.std.specs.Prelude.{◌≡◌, ◌<◌, ◌≤◌, ◌+◌, ◌++◌, [], IfOk, IfSome, MatchOption, drop, length, map, vec_capacity, vec_len};
 ghost use Rattle.std.specs.List.{flat_map};
 ghost use Rattle.thp_report.specs.Answers.{answer_line, answers_text};
@@ -9,24 +9,24 @@ use crate::answers::put_answer;
 use std::alloc::{AllocError, Global};
 use std::marker::Model;
 use thp_node::{Node, Recorder};
-use thp_sections::{KeptAnswers, KeptSection};
+use thp_worker::{KeptAnswers, KeptSection};
 
-// A part of so many bytes takes no further line.
+// A part of this many bytes is full: no further line is added.
 const FULL_PART: usize = 65_536;
 
-// No line is longer.
+// The greatest length of a line.
 const MAX_LINE: usize = 4_145;
 
-/// The text of the answers of sections, of which each part is made when it is asked for. Contracts see the part that was made
-/// last, and the text that is left behind it.
+/// The text of the answers of sections, whose parts are produced one by one. Contracts see the current part, and the rest of the
+/// text after it.
 #[derive(Drop)]
 pub struct AnswerParts<'a, R: Recorder> {
     nodes: &'a [Node<R>],
     sections: &'a [KeptSection],
-    // the answer that comes next: its section, and its place there
+    // the next answer: its section, and its index there
     section: usize,
     place: usize,
-    // it has room for one more line than makes it full
+    // has room for one more line than a full part
     part: Vec<u8>,
 }
 
@@ -43,7 +43,7 @@ impl<'a, R: Recorder> Model for AnswerParts<'a, R> {
 }
 
 impl<'a, R: Recorder> AnswerParts<'a, R> {
-    /// All of the text, of which no part was made. The buffer of the parts is taken here: no further memory is asked for.
+    /// Returns the whole text, before its first part. Allocates the buffer of the parts; no later call allocates memory.
     pub fn new(
         alloc: Global,
         nodes: &'a [Node<R>],
@@ -60,8 +60,8 @@ impl<'a, R: Recorder> AnswerParts<'a, R> {
         })
     }
 
-    /// Makes the next part, in the place of the last one. It is empty only where nothing was left, full unless it is the last, and at most
-    /// a line longer than that.
+    /// Replaces the part by the next one. A part is empty only at the end of the text. Every part except the last is full, and
+    /// exceeds that by at most a line.
     pub fn fill(&mut self)
         ensures text { self.new.part ++ self.new.rest ≡ self.old.rest }
         ensures end { self.new.part ≡ [] → self.old.rest ≡ [] }
@@ -86,7 +86,7 @@ impl<'a, R: Recorder> AnswerParts<'a, R> {
         }
     }
 
-    /// The part that was made last.
+    /// Returns the current part.
     pub fn part(&self) -> &[u8]
         ensures { result.now ≡ self.now.part }
     {
@@ -94,7 +94,7 @@ impl<'a, R: Recorder> AnswerParts<'a, R> {
     }
 }
 
-// Puts the answers of a worker's section from a place on into a part, until it is full: then the next answer's place is given.
+// Appends the answers of a worker's section, from an index on, to a part until it is full. Returns the index of the next answer.
 fn put_from<R: Recorder>(
     part: &mut Vec<u8>,
     nodes: &[Node<R>],

@@ -1,4 +1,4 @@
-//! The answers to commands as text.
+//! The answers to commands, as text.
 ghost use Rattle.std.specs.Prelude.{◌≡◌, ◌+◌, ◌++◌, ◌≤◌, ◌∷◌, [], OnOk, IfOk, codes, length, map};
 ghost use Rattle.std.specs.Fmt.{decimal};
 ghost use Rattle.thp_journal_writer.specs.EventLines.{line_of};
@@ -7,15 +7,15 @@ ghost use Rattle.thp_journal_writer.specs.Room.{number_room, outcome_room, Takes
 ghost use Rattle.thp_report.specs.Answers.{refusal_word, tried_words, back_words, scan_words, used_words, reply_words, looks, answer_line, section_text, answers_text as text_of};
 ghost use Rattle.thp_report.specs.Parts.{line_room};
 ghost use Rattle.thp_report.specs.Reports.{shape_of};
-ghost use Rattle.thp_sections.specs.Logs.{kept_log};
+ghost use Rattle.thp_worker.specs.Logs.{kept_log};
 
 use std::alloc::{AllocError, Global};
 use thp_journal_writer::{put, put_number, put_outcome};
 use thp_model::Refusal;
 use thp_node::{Node, Recorder, ScanReply, Tried};
-use thp_sections::{Answer, KeptAnswers, KeptSection, Reply};
+use thp_worker::{Answer, KeptAnswers, KeptSection, Reply};
 
-/// The answers of the sections, in order, a line for each, whatever the nodes keep of their events.
+/// Returns the answers of the sections, in order, one line each. The nodes need not store their events.
 #[tactic(auto, unfolding(crate::specs::Answers::answers_text))]
 pub fn answers_text<R: Recorder>(
     alloc: Global,
@@ -50,7 +50,7 @@ fn put_section<R: Recorder>(
     Ok(())
 }
 
-/// Writes an answer, behind its section and its place there.
+/// Appends an answer, after its section and its index there.
 pub(crate) fn put_answer<R: Recorder>(
     text: &mut Vec<u8>,
     nodes: &[Node<R>],
@@ -68,7 +68,7 @@ pub(crate) fn put_answer<R: Recorder>(
     }
 }
 
-// the reply to a command that wasn't refused, on a node whose shrinker looks for underused pages or doesn't
+// the reply to a command that was not refused, on a node whose shrinker looks for underused pages or not
 fn put_reply(text: &mut Vec<u8>, looks: bool, reply: &Reply) -> Result<(), AllocError>
     ensures text { OnOk result (text.new.items ≡ text.old.items ++ ended (line_of (reply_words looks reply.now))) }
     ensures room { Takes outcome_room text.old text.new result }
@@ -86,7 +86,7 @@ fn put_reply(text: &mut Vec<u8>, looks: bool, reply: &Reply) -> Result<(), Alloc
     }
 }
 
-// what a try did
+// the result of a try
 fn put_tried(text: &mut Vec<u8>, tried: Tried) -> Result<(), AllocError>
     ensures text { OnOk result (text.new.items ≡ text.old.items ++ ended (line_of (tried_words tried))) }
     ensures room { Takes 28 text.old text.new result }
@@ -99,7 +99,7 @@ fn put_tried(text: &mut Vec<u8>, tried: Tried) -> Result<(), AllocError>
     }
 }
 
-// what a scan counted
+// the counts of a scan
 fn put_scan(text: &mut Vec<u8>, looks: bool, counted: ScanReply) -> Result<(), AllocError>
     ensures text { OnOk result (text.new.items ≡ text.old.items ++ ended (line_of (scan_words counted ++ used_words looks counted))) }
     ensures room { Takes 163 text.old text.new result }
@@ -115,7 +115,7 @@ fn put_scan(text: &mut Vec<u8>, looks: bool, counted: ScanReply) -> Result<(), A
     }
 }
 
-// how many pages went back and were dropped, and the byte `after`
+// the numbers of pages put back and dropped, and the byte `after`
 #[inline]
 fn put_back(text: &mut Vec<u8>, back: u32, dropped: u32, after: u8) -> Result<(), AllocError>
     ensures text { OnOk result (text.new.items ≡ text.old.items ++ (line_of (back_words back dropped) ++ after ∷ [])) }
@@ -155,7 +155,7 @@ fn word_of(refusal: Refusal) -> &'static str
     }
 }
 
-// a number behind a name, and the byte `after`
+// a name, a number, and the byte `after`
 #[inline]
 fn put_named(text: &mut Vec<u8>, name: &[u8], number: u64, after: u8) -> Result<(), AllocError>
     ensures text { OnOk result (text.new.items ≡ text.old.items ++ (name.now ++ (decimal number ++ after ∷ []))) }

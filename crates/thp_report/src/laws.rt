@@ -1,7 +1,7 @@
-//! Laws of reports. Each function does nothing: its contract is the law.
+//! Laws of reports. The functions do nothing: each contract is the law.
 ghost use Rattle.thp_report.specs.Laws.{TotalsTellNoBlock};
 
-/// Nodes that are equal but for the blocks of their pages have the same totals.
+/// States that nodes that are equal except for the blocks of their pages have the same totals.
 pub fn totals_tell_no_block()
     ensures { TotalsTellNoBlock }
 {}

@@ -1,7 +1,11 @@
-//! Reports of a run: the totals of its nodes, the answers to its commands, and its journals, as text.
+//! Reports of a run as text: totals, answers, journals.
 //!
-//! A report is a function of the nodes' shapes and histories and of the sections' answers, said in `specs/`: `Answers`,
-//! `Reports`, and `Totals` of `thp_journal_writer`. No block shows in any.
+//! A report is a function of the nodes' shapes and histories and of the sections' answers: `report_of` (`Reports`), over
+//! `Answers`, and `Totals` and `Journals` of `thp_journal_writer`. No block appears in it.
+//!
+//! - `report`, `totals`, `answers`: whole texts.
+//! - `answer_parts` (`Parts`, proof `PartLaws`): the answers part by part from one buffer; `line_room` bounds a line.
+//! - `laws` (`Laws`): totals do not depend on blocks.
 #![tactic(auto)]
 
 mod answer_parts;

@@ -8,20 +8,19 @@ use crate::totals::totals_text;
 use std::alloc::{AllocError, Global};
 use thp_journal_writer::{NodeHistory, journal_text};
 use thp_node::Node;
-use thp_sections::KeptSection;
-use thp_text::{Report, Settings};
+use thp_script::{Report, Settings};
+use thp_worker::KeptSection;
 
-/// The report that the settings ask for, of nodes that are numbered from 0 on and of the answers to the sections' commands.
+/// Returns the report that the settings select, for nodes numbered from 0 and the answers to the sections' commands.
 ///
-/// - totals: nine lines for each node, and a tenth where its shrinker looks for underused pages;
-/// - journal: what happened on each node, event by event;
-/// - answers: a line for each answer, `S I ANSWER`, where section S is 0 for setup and K for worker K, and I is the command's
-///   place in its section, from 1 on.
+/// - totals: nine lines for each node, and a tenth if its shrinker looks for underused pages;
+/// - journal: the events of each node, in order;
+/// - answers: a line `S I ANSWER` for each answer, where section S is 0 for setup and K for worker K, and I is the index of the
+///   command in its section, counted from 1.
 ///
-/// Answers that were only counted can't be told, so the sections are such as keep theirs; the other reports don't look at them.
-///
-/// The text is written into one buffer, which grows. The only error is that it couldn't. A refusal for want of memory has no
-/// word: such a run has no report.
+/// A report of answers requires sections that store their answers; the other reports ignore the sections. The text is written to
+/// one buffer, which grows. The call fails only if that is not possible. A refusal for lack of memory has no word: such a run has
+/// no report.
 #[tactic(auto, using(crate::proofs::ReportLaws::shapes_told))]
 pub fn report_text(
     alloc: Global,
@@ -38,7 +37,7 @@ pub fn report_text(
     }
 }
 
-/// The journals of the nodes, in order.
+/// Returns the journals of the nodes, in order.
 pub fn journals_text(alloc: Global, nodes: &[Node]) -> Result<Vec<u8>, AllocError>
     ensures { IfOk result (λ text. text.items ≡ journals_told (map told_of nodes.now)) }
 {

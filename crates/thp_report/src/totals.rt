@@ -7,7 +7,7 @@ use std::alloc::{AllocError, Global};
 use thp_journal_writer::{Totals, put_totals};
 use thp_node::{Node, Recorder};
 
-/// The totals of the nodes, in order, whatever the nodes keep of their events.
+/// Returns the totals of the nodes, in order. The nodes need not store their events.
 pub fn totals_text<R: Recorder>(alloc: Global, nodes: &[Node<R>]) -> Result<Vec<u8>, AllocError>
     ensures { IfOk result (λ text. text.items ≡ totals_text (map told_of nodes.now)) }
 {
@@ -18,7 +18,7 @@ pub fn totals_text<R: Recorder>(alloc: Global, nodes: &[Node<R>]) -> Result<Vec<
     Ok(text)
 }
 
-/// The totals of a node.
+/// Returns the totals of a node.
 fn totals_of<R: Recorder>(node: &Node<R>) -> Totals
     ensures { result ≡ totals_of node.now.shape node.now.journal }
 {

@@ -1,24 +1,33 @@
 -- Scripts that are run as they are read: how such a run begins and ends.
-use Rattle.std.proofs.Common.{◌≡◌, ◌∙◌, ℕ, Bool, false, List, [], Ok, ap, arith, refl, sym}
+use Rattle.std.proofs.Common.{◌≡◌, ◌∙◌, ℕ, Bool, false, List, [], Err, Ok, Option, ap, arith, inl, refl, sym}
+use Rattle.std.specs.Prelude.{IfErr, IfSome, Result}
 use Rattle.std.proofs.lemmas.List.{append-nil}
 use Rattle.atomic_table.specs.Seated.{TableId}
 use Rattle.thp_cell.specs.Views.{PassState}
-use Rattle.thp_programs.specs.Calls.{ReadsOn}
-use Rattle.thp_programs.specs.declared.calls.Call.{Call}
-use Rattle.thp_script_runs.specs.InParts.{HasBegun}
-use Rattle.thp_script_runs.proofs.BegunLaws.{begun_all, begun_nodes, starts_new}
-use Rattle.thp_sections.specs.declared.in_parts.SectionInParts.{SectionInParts}
-use Rattle.thp_sections.specs.Passes.{fronts_in, Passes}
-use Rattle.thp_sections.proofs.StepLaws.{goes_trans}
-use Rattle.thp_text.specs.declared.script.Script.{Script}
-use Rattle.thp_text.specs.declared.settings.Settings.{Settings}
-use Rattle.thp_text.specs.Parts.{behind_setup, read_behind, spelled_with, ReadSoFar}
-use Rattle.thp_text.specs.Scripts.{script_of}
-use Rattle.thp_run.specs.Underway.{HasRead, IsUnderway}
+use Rattle.thp_cli.specs.Calls.{ReadsOn}
+use Rattle.thp_cli.proofs.CallLaws.{reading_ended, reading_none}
+use Rattle.thp_script.specs.Limits.{max_input}
+use Rattle.thp_cli.specs.declared.calls.DeviceCall.{DeviceCall}
+use Rattle.thp_runner.specs.InParts.{HasBegun}
+use Rattle.thp_runner.proofs.BegunLaws.{begun_all, begun_nodes, starts_new}
+use Rattle.thp_worker.specs.declared.in_parts.SectionInParts.{SectionInParts}
+use Rattle.thp_worker.specs.Passes.{fronts_in, Passes}
+use Rattle.thp_worker.proofs.StepLaws.{goes_trans}
+use Rattle.thp_script.specs.declared.script.Script.{Script}
+use Rattle.thp_script.specs.declared.settings.Settings.{Settings}
+use Rattle.thp_script.specs.Parts.{after_setup, read_after, spelled_with, ReadSoFar}
+use Rattle.thp_script.specs.Scripts.{script_of}
+use Rattle.thp_script.specs.Scripts.{Fault, ReportsFault}
+use Rattle.thp_script.specs.declared.fault.ReadFault.{ReadFault}
+use Rattle.thp_script.specs.declared.fault.ReadFault.TheVariants as reading
+use Rattle.thp_cli.specs.Devices.{IsInputOf}
+use Rattle.thp_cli.specs.RunFaults.{run_fault}
+use Rattle.thp_cli.specs.declared.fault.RunFault.{RunFault}
+use Rattle.thp_run.specs.ScriptInProgress.{EndsBeforeRun, HasRead, IsScriptInProgress}
 
 -- a run that has just begun, and a script of which nothing has come
-pub is_underway : (s : Settings) (cells : List TableId) (old : List PassState) (q : Passes) (setup : SectionInParts) (script : ReadSoFar) → HasBegun s cells old (fronts_in q) [] (fronts_in q) setup → script.settings ≡ s → IsUnderway script q setup
-is_underway s cells old q setup script b is =
+pub is_script_in_progress : (s : Settings) (cells : List TableId) (old : List PassState) (q : Passes) (setup : SectionInParts) (script : ReadSoFar) → HasBegun s cells old (fronts_in q) [] (fronts_in q) setup → script.settings ≡ s → IsScriptInProgress script q setup
+is_script_in_progress s cells old q setup script b is =
     let new = starts_new s cells old b.new (fronts_in q) b.starts s.workers refl in
     record {
       nodes = begun_nodes s cells old (fronts_in q) [] (fronts_in q) setup b ∙ sym (ap (λ (t : Settings). t.nodes) is);
@@ -38,11 +47,24 @@ begun_read s cells old script script' q q' setup setup' bytes b r = record {
 }
 
 -- no read was made
-pub reads_none : (failed : Bool) (calls : List Call) → failed ≡ false → ReadsOn failed calls calls
-reads_none failed calls is = rw is (record { count = 0; grown = sym (append-nil calls) })
+pub reads_none : (failed : Bool) (calls : List DeviceCall) → failed ≡ false → ReadsOn max_input failed calls calls
+reads_none failed calls is = rw is (reading_ended max_input max_input false calls calls [] calls (reading_none max_input calls) (inl refl) (omega arith) (sym (append-nil calls)))
 
 -- all that was read, and what was read behind the commands that are done
 pub read_whole : (s : Settings) (script script' : ReadSoFar) (q q' : Passes) (setup setup' : SectionInParts) (bytes : List ℕ) (rest : Script) → (r : HasRead script q setup bytes script' q' setup') → spelled_with script bytes ≡ script_of s bytes
-    → spelled_with script' [] ≡ Ok rest → script_of s bytes ≡ Ok (behind_setup r.commands rest)
+    → spelled_with script' [] ≡ Ok rest → script_of s bytes ≡ Ok (after_setup r.commands rest)
 read_whole s script script' q q' setup setup' bytes rest r begins is =
-    sym begins ∙ ap (spelled_with script) (sym (append-nil bytes)) ∙ r.text [] ∙ ap (read_behind r.commands) is
+    sym begins ∙ ap (spelled_with script) (sym (append-nil bytes)) ∙ r.text [] ∙ ap (read_after r.commands) is
+
+-- the first error of what was read after the commands that are done
+read_faulty : (s : Settings) (script script' : ReadSoFar) (q q' : Passes) (setup setup' : SectionInParts) (bytes : List ℕ) (fault : Fault) → (r : HasRead script q setup bytes script' q' setup') → spelled_with script bytes ≡ script_of s bytes
+    → spelled_with script' [] ≡ Err fault → script_of s bytes ≡ Err fault
+read_faulty s script script' q q' setup setup' bytes fault r begins is =
+    sym begins ∙ ap (spelled_with script) (sym (append-nil bytes)) ∙ r.text [] ∙ ap (read_after r.commands) is
+
+-- a script with an error, or too little memory for it, ends before its run
+pub ends_at_fault : {A : Type 0} (s : Settings) (known : Option (List ℕ)) (failed : Bool) (script script' : ReadSoFar) (q q' : Passes) (setup setup' : SectionInParts) (bytes : List ℕ) → IfSome known (IsInputOf bytes) → (r : HasRead script q setup bytes script' q' setup')
+    → spelled_with script bytes ≡ script_of s bytes → failed ≡ false → (fault : ReadFault) → ReportsFault (spelled_with script' []) fault → (result : Result A RunFault) → result ≡ Err (run_fault fault) → IfErr result (EndsBeforeRun s known failed)
+ends_at_fault s known failed script script' q q' setup setup' bytes read r begins flag (reading.Text line kind) told result is =
+    rw is (flag, record { bytes = bytes; read = read; told = read_faulty s script script' q q' setup setup' bytes (line, kind) r begins told })
+ends_at_fault s known failed script script' q q' setup setup' bytes read r begins flag reading.OutOfMemory told result is = rw is flag

@@ -5,28 +5,28 @@ use Rattle.std.proofs.lemmas.List.Elements.{All-head, All-tail}
 use Rattle.thp_node.specs.NodeState.{NodeState}
 use Rattle.thp_report.specs.Answers.{answers_text}
 use Rattle.thp_report.specs.Reports.{report_of, shape_in, told_of}
-use Rattle.thp_script_runs.specs.NewNodes.{histories_of, shapes_of, AreNodesFor}
-use Rattle.thp_script_runs.specs.Runs.{IsRun}
-use Rattle.thp_script_runs.specs.Sections.{SectionAnswersAre}
-use Rattle.thp_sections.specs.declared.answer_log.Answers.TheVariants.{Kept}
-use Rattle.thp_sections.specs.declared.reply.Section.{Section}
-use Rattle.thp_sections.specs.KeptSections.{has_kept}
-use Rattle.thp_sections.specs.Logs.{is_kept}
-use Rattle.thp_text.specs.declared.script.Script.{Script}
-use Rattle.thp_text.specs.declared.settings.Report.{Report}
-use Rattle.thp_text.specs.declared.settings.Report.TheVariants as report
-use Rattle.thp_text.specs.declared.settings.Settings.{Settings}
-use Rattle.thp_text.specs.Scripts.{script_of}
+use Rattle.thp_runner.specs.NewNodes.{histories_of, shapes_of, AreNodesFor}
+use Rattle.thp_runner.specs.Runs.{IsRun}
+use Rattle.thp_runner.specs.Sections.{SectionAnswersAre}
+use Rattle.thp_worker.specs.declared.answer_log.Answers.TheVariants.{Kept}
+use Rattle.thp_worker.specs.declared.reply.SectionLog.{SectionLog}
+use Rattle.thp_worker.specs.KeptSections.{has_kept}
+use Rattle.thp_worker.specs.Logs.{is_kept}
+use Rattle.thp_script.specs.declared.script.Script.{Script}
+use Rattle.thp_script.specs.declared.settings.Report.{Report}
+use Rattle.thp_script.specs.declared.settings.Report.TheVariants as report
+use Rattle.thp_script.specs.declared.settings.Settings.{Settings}
+use Rattle.thp_script.specs.Scripts.{script_of}
 use Rattle.thp_run.specs.Programs.{IsReport}
 
 -- sections of which each keeps its answers are all among those that do
-all_kept : (sections : List Section) → All (SectionAnswersAre Kept) sections → filter has_kept sections ≡ sections
+all_kept : (sections : List SectionLog) → All (SectionAnswersAre Kept) sections → filter has_kept sections ≡ sections
 all_kept [] all = refl
 all_kept (s ∷ sections) all =
     rw (ap is_kept (All-head (SectionAnswersAre Kept) s sections all)) (ap (λ rest. s ∷ rest) (all_kept sections (All-tail (SectionAnswersAre Kept) s sections all)))
 
 -- a report doesn't look at answers, or all of them are kept
-kept_report : (r : Report) (nodes : List NodeState) (sections : List Section) → (r ≡ report.Answers → All (SectionAnswersAre Kept) sections) →
+kept_report : (r : Report) (nodes : List NodeState) (sections : List SectionLog) → (r ≡ report.Answers → All (SectionAnswersAre Kept) sections) →
     report_of r (map told_of nodes) (filter has_kept sections) ≡ report_of r (map told_of nodes) sections
 kept_report report.Totals nodes sections kept = refl
 kept_report report.Journal nodes sections kept = refl
@@ -37,7 +37,7 @@ abbrev pub IsReportOf : Settings → Script → List ℕ → Type 0
 IsReportOf s script text = (input : List ℕ) → script_of s input ≡ Ok script → IsReport s input text
 
 -- what is told of a run is its report
-pub is_report : (s : Settings) (script : Script) (nodes : List NodeState) (sections : List Section) (text : List ℕ) → AreNodesFor s nodes →
+pub is_report : (s : Settings) (script : Script) (nodes : List NodeState) (sections : List SectionLog) (text : List ℕ) → AreNodesFor s nodes →
     IsRun s.nodes (shapes_of nodes) script (histories_of nodes) sections → text ≡ report_of s.report (map told_of nodes) sections → IsReportOf s script text
 is_report s script nodes sections text made run told = λ input spelled. record {
   script = script;
@@ -50,7 +50,7 @@ is_report s script nodes sections text made run told = λ input spelled. record 
 }
 
 -- and so is what is told of the answers that it kept
-pub is_kept_report : (s : Settings) (script : Script) (nodes : List NodeState) (sections kept : List Section) (text : List ℕ) → AreNodesFor s nodes →
+pub is_kept_report : (s : Settings) (script : Script) (nodes : List NodeState) (sections kept : List SectionLog) (text : List ℕ) → AreNodesFor s nodes →
     IsRun s.nodes (shapes_of nodes) script (histories_of nodes) sections → (s.report ≡ report.Answers → All (SectionAnswersAre Kept) sections) → kept ≡ filter has_kept sections →
     text ≡ report_of s.report (map told_of nodes) kept → IsReportOf s script text
 is_kept_report s script nodes sections kept text made run all is told =

@@ -1,5 +1,4 @@
 pub mod PassageLaws
-pub mod OutcomeLaws
 pub mod KeptLaws
 pub mod ListedLaws
 pub mod BegunLaws

@@ -4,13 +4,13 @@ use Rattle.std.specs.Prelude.{slice_get, Bool, IfOk, Result, Vec}
 use Rattle.std.specs.declared.alloc.Global.{Global}
 use Rattle.std.specs.declared.alloc.AllocError.{AllocError}
 use Rattle.thp_report.proofs.AnswerLaws.{drop_at_get}
-use Rattle.thp_sections.specs.declared.answer_log.Answers.{Answers}
-use Rattle.thp_sections.specs.declared.reply.Answer.{Answer}
-use Rattle.thp_sections.specs.declared.reply.Worked.{Worked}
-use Rattle.thp_sections.specs.Fronts.{Fronts}
-use Rattle.thp_sections.specs.Logs.{LogState}
-use Rattle.thp_sections.specs.Sections.{Works}
-use Rattle.thp_text.specs.declared.script.Command.{Command}
+use Rattle.thp_worker.specs.declared.answer_log.Answers.{Answers}
+use Rattle.thp_worker.specs.declared.reply.Answer.{Answer}
+use Rattle.thp_worker.specs.declared.reply.SectionOutcome.{SectionOutcome}
+use Rattle.thp_worker.specs.Fronts.{Fronts}
+use Rattle.thp_worker.specs.Logs.{LogState}
+use Rattle.thp_worker.specs.Sections.{Works}
+use Rattle.thp_script.specs.declared.script.Command.{Command}
 use Rattle.thp_run.specs.Listed.{WorkedList, WorksOn}
 
 -- a log by what contracts see of it
@@ -23,7 +23,7 @@ one_more front all place answer had is =
     append_assoc front (answer ∷ []) (drop (place + 1) all) ∙ ap (λ left. front ++ left) (sym (drop_at_get all place answer (sym is))) ∙ had
 
 -- what a section's rest leads to by a log, it leads to by the vector
-pub rest_works : (c : ℕ) (old mid new : Fronts) (commands : List Command) (w : WorkedList) (log : LogState) (opened : Vec Bool Global) (room : ℕ) (done : Worked) (r : Result WorkedList AllocError) →
+pub rest_works : (c : ℕ) (old mid new : Fronts) (commands : List Command) (w : WorkedList) (log : LogState) (opened : Vec Bool Global) (room : ℕ) (done : SectionOutcome) (r : Result WorkedList AllocError) →
     log.items ≡ w.answers → opened.items ≡ w.opened → log.room ≡ room → length commands ≤ room → (Works c old mid commands (record { answers = log; rest = w.rest; opened = opened }) → Works c old new commands done) →
     IfOk r (λ l. l.answers ≡ done.answers.items) → IfOk r (λ l. l.rest ≡ done.rest) → IfOk r (λ l. l.opened ≡ done.opened.items) → WorksOn c old mid commands w → IfOk r (WorksOn c old new commands)
 rest_works c old mid new commands w log opened room done (Err e) items same is le go answers rest left given = tt

@@ -4,24 +4,24 @@ use Rattle.std.specs.Prelude.{IfNone, IfSome, Result, filter, ok_or}
 use Rattle.std.specs.Io.KnownBytes.{Appends}
 use Rattle.std.proofs.lemmas.Bool.{cases_lt}
 use Rattle.std.proofs.lemmas.List.{append-nil, length-append}
-use Rattle.thp_text.specs.declared.fault.ReadFault.TheVariants as reading
-use Rattle.thp_text.specs.declared.script.Script.{Script}
-use Rattle.thp_text.specs.declared.settings.Settings.{Settings}
-use Rattle.thp_text.specs.Limits.{max_input}
-use Rattle.thp_text.specs.Scripts.{Fault, script_of}
-use Rattle.thp_text.proofs.ScriptLaws.{too_long}
-use Rattle.thp_programs.specs.declared.fault.RunFault.{RunFault}
-use Rattle.thp_programs.specs.declared.fault.RunFault.TheVariants.{Text, OutOfMemory, Read, Write}
-use Rattle.thp_programs.specs.Devices.{IsInputOf, WritesFront}
-use Rattle.thp_programs.specs.declared.calls.Call.{Call}
-use Rattle.thp_programs.specs.Passages.{WritesAnswer}
-use Rattle.thp_programs.proofs.PassageLaws.{ends_early, keeps_same}
+use Rattle.thp_script.specs.declared.fault.ReadFault.TheVariants as reading
+use Rattle.thp_script.specs.declared.script.Script.{Script}
+use Rattle.thp_script.specs.declared.settings.Settings.{Settings}
+use Rattle.thp_script.specs.Limits.{max_input}
+use Rattle.thp_script.specs.Scripts.{Fault, script_of}
+use Rattle.thp_script.proofs.ScriptLaws.{too_long}
+use Rattle.thp_cli.specs.declared.fault.RunFault.{RunFault}
+use Rattle.thp_cli.specs.declared.fault.RunFault.TheVariants.{Text, OutOfMemory, Read, Write}
+use Rattle.thp_cli.specs.Devices.{IsInputOf, WritesFront}
+use Rattle.thp_cli.specs.declared.calls.DeviceCall.{DeviceCall}
+use Rattle.thp_cli.specs.Passages.{WritesAnswer}
+use Rattle.thp_cli.proofs.PassageLaws.{ends_early, keeps_same}
 use Rattle.thp_node.specs.NodeState.{NodeState}
 use Rattle.thp_report.specs.Reports.{report_of, told_of}
-use Rattle.thp_sections.specs.declared.reply.Section.{Section}
-use Rattle.thp_sections.specs.KeptSections.{has_kept}
+use Rattle.thp_worker.specs.declared.reply.SectionLog.{SectionLog}
+use Rattle.thp_worker.specs.KeptSections.{has_kept}
 use Rattle.thp_run.specs.Programs.{IsReport, RunEnds}
-use Rattle.thp_run.specs.Underway.{HasRun, NotRun}
+use Rattle.thp_run.specs.ScriptInProgress.{HasRun, EndsBeforeRun}
 use Rattle.thp_run.specs.Written.{Wrote}
 use Rattle.thp_run.proofs.KeptLaws.{is_kept_report, is_report, IsReportOf}
 
@@ -71,28 +71,28 @@ wrote_ends s script text old new failed (Err Read) is w input spelled = absurd w
 wrote_ends s script text old new failed (Err Write) is w input spelled = ((tt, text, is input spelled, w.0), refl, w.1)
 
 -- a script was run, and its report was written, or a front of it
-pub run_wrote : (s : Settings) (known : Option (List ℕ)) (nodes : List NodeState) (sections : List Section) (text : List ℕ) (old new : Option (List ℕ)) (reader_failed writer_failed : Bool) (r : Result (Unit {0}) RunFault) → HasRun s known nodes sections
+pub run_wrote : (s : Settings) (known : Option (List ℕ)) (nodes : List NodeState) (sections : List SectionLog) (text : List ℕ) (old new : Option (List ℕ)) (reader_failed writer_failed : Bool) (r : Result (Unit {0}) RunFault) → HasRun s known nodes sections
     → text ≡ report_of s.report (map told_of nodes) sections → Wrote text old new writer_failed r → reader_failed ≡ false → RunEnds s known old new reader_failed writer_failed r
 run_wrote s known nodes sections text old new rf wf r ran told w e =
     ends_of_input s known old new ran.bytes rf wf r ran.read
     (wrote_ends s ran.script text old new wf r (is_report s ran.script nodes sections text ran.nodes_are ran.is_run told) w ran.bytes ran.spelled) e
 
 -- the same of the answers that it kept
-pub run_wrote_kept : (s : Settings) (known : Option (List ℕ)) (nodes : List NodeState) (sections : List Section) (text : List ℕ) (old new : Option (List ℕ)) (reader_failed writer_failed : Bool) (r : Result (Unit {0}) RunFault) → HasRun s known nodes sections
+pub run_wrote_kept : (s : Settings) (known : Option (List ℕ)) (nodes : List NodeState) (sections : List SectionLog) (text : List ℕ) (old new : Option (List ℕ)) (reader_failed writer_failed : Bool) (r : Result (Unit {0}) RunFault) → HasRun s known nodes sections
     → text ≡ report_of s.report (map told_of nodes) (filter has_kept sections) → Wrote text old new writer_failed r → reader_failed ≡ false → RunEnds s known old new reader_failed writer_failed r
 run_wrote_kept s known nodes sections text old new rf wf r ran told w e =
     ends_of_input s known old new ran.bytes rf wf r ran.read
     (wrote_ends s ran.script text old new wf r (is_kept_report s ran.script nodes sections (filter has_kept sections) text ran.nodes_are ran.is_run ran.kept refl told) w ran.bytes ran.spelled) e
 
 -- no script was run
-pub not_run_ends : (s : Settings) (known old : Option (List ℕ)) (reader_failed writer_failed : Bool) (fault : RunFault) (r : Result (Unit {0}) RunFault) → NotRun s known reader_failed fault → writer_failed ≡ false → r ≡ Err fault → RunEnds s known old old reader_failed writer_failed r
+pub not_run_ends : (s : Settings) (known old : Option (List ℕ)) (reader_failed writer_failed : Bool) (fault : RunFault) (r : Result (Unit {0}) RunFault) → EndsBeforeRun s known reader_failed fault → writer_failed ≡ false → r ≡ Err fault → RunEnds s known old old reader_failed writer_failed r
 not_run_ends s known old rf wf (Text line kind) r n f is =
     ends_early max_input (λ input v t. IsReport s input t) (λ input f. script_of s input ≡ Err f) (report_of_input s) (fault_of_script s) known n.1.bytes n.1.read old rf wf (reading.Text line kind) r n.1.told n.0 f is
 not_run_ends s known old rf wf OutOfMemory r n f is = rw is (keeps_same old, n, f)
 not_run_ends s known old rf wf Read r n f is = rw is (keeps_same old, n, f)
 not_run_ends s known old rf wf Write r n f is = absurd n
 
-pub not_run_writes : (s : Settings) (known : Option (List ℕ)) (reader_failed writer_failed : Bool) (fault : RunFault) (calls : List Call) (r : Result (Unit {0}) RunFault) → NotRun s known reader_failed fault → r ≡ Err fault → WritesAnswer r writer_failed calls calls
+pub not_run_writes : (s : Settings) (known : Option (List ℕ)) (reader_failed writer_failed : Bool) (fault : RunFault) (calls : List DeviceCall) (r : Result (Unit {0}) RunFault) → EndsBeforeRun s known reader_failed fault → r ≡ Err fault → WritesAnswer r writer_failed calls calls
 not_run_writes s known rf wf (Text line kind) calls r n is = rw is refl
 not_run_writes s known rf wf OutOfMemory calls r n is = rw is refl
 not_run_writes s known rf wf Read calls r n is = rw is refl

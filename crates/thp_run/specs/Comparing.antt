@@ -1,4 +1,4 @@
--- When two sections whose answers stand in vectors are equal: field by field, and answer by answer.
+-- The equality of two sections whose answers are stored in vectors: field by field, and answer by answer.
 use Rattle.std.specs.Prelude.{Bool, nat_eq}
 use Rattle.std.specs.Cmp.{IsEquivalence, IsPartialEquivalence, bool_eq_equiv, partial_equiv_from_equiv}
 use Rattle.std.specs.Cmp.Lexicographic.{options_equiv, pointwise}
@@ -6,12 +6,12 @@ use Rattle.std.specs.Option.{option_eq}
 use Rattle.std.specs.Ordering.{on, eq_of_both}
 use Rattle.std.proofs.Math.Bool.{beq}
 use Rattle.std.proofs.lemmas.Cmp.{and_equiv, lists_equiv, nat_eq_equiv, on_equiv}
-use Rattle.thp_sections.specs.contracts.reply.AnswerEq.TheImpl.Laws as answer_laws
-use Rattle.thp_sections.specs.contracts.reply.AnswerPartialEq.TheImpl as answer_eq
-use Rattle.thp_sections.specs.contracts.reply.RestEq.TheImpl.Laws as rest_laws
-use Rattle.thp_sections.specs.contracts.reply.RestPartialEq.TheImpl as rest_eq
-use Rattle.thp_sections.specs.declared.reply.Answer.{Answer}
-use Rattle.thp_sections.specs.declared.reply.Rest.{Rest}
+use Rattle.thp_worker.specs.contracts.reply.AnswerEq.TheImpl.Laws as answer_laws
+use Rattle.thp_worker.specs.contracts.reply.AnswerPartialEq.TheImpl as answer_eq
+use Rattle.thp_worker.specs.contracts.reply.RestEq.TheImpl.Laws as rest_laws
+use Rattle.thp_worker.specs.contracts.reply.RestPartialEq.TheImpl as rest_eq
+use Rattle.thp_worker.specs.declared.reply.Answer.{Answer}
+use Rattle.thp_worker.specs.declared.reply.Rest.{Rest}
 use Rattle.thp_run.specs.Listed.{SectionList, WorkedList}
 
 -- two answers, and two places where a section stopped, are equal field by field

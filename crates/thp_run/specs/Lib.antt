@@ -3,6 +3,6 @@ pub mod Choices
 pub mod Outcomes
 pub mod Listed
 pub mod Comparing
-pub mod Underway
-pub mod UnderwayLaws
+pub mod ScriptInProgress
+pub mod ScriptInProgressLaws
 pub mod Written

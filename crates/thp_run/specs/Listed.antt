@@ -1,14 +1,14 @@
--- Sections whose answers stand in vectors, which contracts see as lists.
+-- Sections whose answers are stored in vectors, which contracts see as lists.
 use Rattle.std.specs.Prelude.{◌≡◌, ℕ, Bool, List, length, map, None, Option}
-use Rattle.thp_sections.specs.declared.answer_log.Answers.TheVariants.{Kept}
-use Rattle.thp_sections.specs.declared.reply.Answer.{Answer}
-use Rattle.thp_sections.specs.declared.reply.Rest.{Rest}
-use Rattle.thp_sections.specs.declared.reply.Section.{Section}
-use Rattle.thp_sections.specs.Fronts.{Fronts}
-use Rattle.thp_sections.specs.Sections.{WorksTo}
-use Rattle.thp_text.specs.declared.script.Command.{Command}
+use Rattle.thp_worker.specs.declared.answer_log.Answers.TheVariants.{Kept}
+use Rattle.thp_worker.specs.declared.reply.Answer.{Answer}
+use Rattle.thp_worker.specs.declared.reply.Rest.{Rest}
+use Rattle.thp_worker.specs.declared.reply.SectionLog.{SectionLog}
+use Rattle.thp_worker.specs.Fronts.{Fronts}
+use Rattle.thp_worker.specs.Sections.{WorksTo}
+use Rattle.thp_script.specs.declared.script.Command.{Command}
 
--- what became of a section: its answers, where it stopped, and by node whether it left a batch open
+-- the result of a section: its answers, where it stopped, and for each node whether it left a batch open
 pub record WorkedList : Type 0 where
   pub answers : List Answer
   pub rest : Option Rest
@@ -19,7 +19,7 @@ pub record SectionList : Type 0 where
   pub worker : ℕ
   pub answers : List Answer
 
--- caller c did the commands of its section and the put-backs at its end, all or up to where it stopped
+-- caller c executed the commands of its section and the put backs at its end, all or up to where it stopped
 abbrev pub WorksOn : ℕ → Fronts → Fronts → List Command → WorkedList → Type 0
 WorksOn c old new commands w = WorksTo c old new commands w.answers w.opened w.rest
 
@@ -27,9 +27,9 @@ WorksOn c old new commands w = WorksTo c old new commands w.answers w.opened w.r
 abbrev pub IsWhole : WorkedList → Type 0
 IsWhole w = w.rest ≡ None
 
--- a section as reports see it: all of its answers are kept
-abbrev pub section_of : SectionList → Section
+-- a section as reports see it: all of its answers are stored
+abbrev pub section_of : SectionList → SectionLog
 section_of s = record { worker = s.worker; answers = record { items = s.answers; are = Kept; room = length s.answers } }
 
-abbrev pub sections_of : List SectionList → List Section
+abbrev pub sections_of : List SectionList → List SectionLog
 sections_of = map section_of

@@ -1,40 +1,41 @@
--- What the program does with its words, its input and its outputs, and its exit status (this project's profile).
+-- The effect of the program on its words, its input and its outputs, and its exit status (this project's profile).
 use Rattle.std.specs.Prelude.{◌≡◌, ◌⊎◌, ℕ, Bool, true, false, List, Result, Ok, Err}
-use Rattle.thp_programs.specs.declared.line.Line.{Line}
-use Rattle.thp_programs.specs.CommandLine.{FailsAsWords, HoldsWords}
-use Rattle.thp_programs.specs.declared.ending.Ending.{Ending}
-use Rattle.thp_programs.specs.declared.ending.Ending.TheVariants.{Written, Illegal}
-use Rattle.thp_programs.specs.declared.ending.Program.TheVariants.{Thpsplit}
-use Rattle.thp_programs.specs.declared.ending.ProgramFault.{ProgramFault}
-use Rattle.thp_programs.specs.declared.ending.ProgramFault.TheVariants.{Run, Usage, NoText, Orders, Underused}
-use Rattle.thp_programs.specs.declared.ending.WordsFault.{WordsFault}
-use Rattle.thp_programs.specs.declared.ending.WordsFault.TheVariants as words
-use Rattle.thp_programs.specs.declared.fault.RunFault.{RunFault}
-use Rattle.thp_programs.specs.Calls.{ReadsOn}
-use Rattle.thp_programs.specs.Outcomes.{Device, IsShort, IsUnread, IsUntouched, Source, Tells, WasAnsweredBy}
-use Rattle.thp_programs.specs.Passages.{WritesAnswer}
-use Rattle.thp_programs.specs.Verdicts.{CheckEnds}
-use Rattle.thp_text.specs.declared.settings.Settings.{Settings}
+use Rattle.thp_cli.specs.declared.line.Line.{Line}
+use Rattle.thp_cli.specs.CommandLine.{FailsAsWords, HoldsWords}
+use Rattle.thp_cli.specs.declared.ending.Ending.{Ending}
+use Rattle.thp_cli.specs.declared.ending.Ending.TheVariants.{Written, Illegal}
+use Rattle.thp_cli.specs.declared.ending.Program.TheVariants.{Thpsplit}
+use Rattle.thp_cli.specs.declared.ending.ProgramFault.{ProgramFault}
+use Rattle.thp_cli.specs.declared.ending.ProgramFault.TheVariants.{Run, Usage, NoText, Orders, Underused}
+use Rattle.thp_cli.specs.declared.ending.WordsFault.{WordsFault}
+use Rattle.thp_cli.specs.declared.ending.WordsFault.TheVariants as words
+use Rattle.thp_cli.specs.declared.fault.RunFault.{RunFault}
+use Rattle.thp_cli.specs.Calls.{ReadsOn}
+use Rattle.thp_script.specs.Limits.{max_input}
+use Rattle.thp_cli.specs.Outcomes.{Device, IsShort, IsUnread, IsUntouched, Source, WritesMessage, WasAnsweredBy}
+use Rattle.thp_cli.specs.Passages.{WritesAnswer}
+use Rattle.thp_cli.specs.Verdicts.{CheckEnds}
+use Rattle.thp_script.specs.declared.settings.Settings.{Settings}
 use Rattle.thp_run.specs.Choices.{HasBadOrders, HasOnlyBadThresholds, IsSettingsOf}
 use Rattle.thp_run.specs.Programs.{RunEnds}
 
--- the run that a line asks for ended so
+-- the run that a line requests ended like this
 pub record Runs (line : Line) (input : Source) (output : Device) (result : Result (Unit {0}) RunFault) : Type 0 where
   pub asked : line.check ≡ false
   pub settings : Settings
   pub settings_are : IsSettingsOf line settings
   pub ends : RunEnds settings input.bytes output.before output.after input.failed output.failed result
-  pub reads : ReadsOn input.failed input.called input.calls
+  pub reads : ReadsOn max_input input.failed input.called input.calls
   pub writes : WritesAnswer result output.failed output.called output.calls
 
--- the check that a line asks for ended so
+-- the check that a line requests ended like this
 pub record Checks (line : Line) (input : Source) (output : Device) (result : Result Bool RunFault) : Type 0 where
   pub asked : line.check ≡ true
   pub ends : CheckEnds input.bytes output.before output.after input.failed output.failed result
-  pub reads : ReadsOn input.failed input.called input.calls
+  pub reads : ReadsOn max_input input.failed input.called input.calls
   pub writes : WritesAnswer result output.failed output.called output.calls
 
--- what was done for a line, by how it ended; options that don't fit are judged before anything is read
+-- what was done for a line, by how it ended; options that are not valid are rejected before anything is read
 abbrev pub Does : Line → Source → Device → Result Ending ProgramFault → Type 0
 Does line input output (Ok Written) = Runs line input output (Ok tt) ⊎ Checks line input output (Ok true)
 Does line input output (Ok Illegal) = Checks line input output (Ok false)
@@ -44,14 +45,14 @@ Does line input output (Err Underused) = (line.check ≡ false) × HasOnlyBadThr
 Does line input output (Err (Usage text)) = ⊥
 Does line input output (Err NoText) = ⊥
 
--- the words ask for this line, and that was done
+-- the words request this line, and that was done
 pub record DidLine (words : List (List ℕ)) (input : Source) (output : Device) (result : Result Ending ProgramFault) : Type 0 where
   pub line : Line
   pub held : HoldsWords words line
   pub accepted : FailsAsWords words (Ok line)
   pub does : Does line input output result
 
--- the words were answered by an error
+-- the command line was rejected, or requested a text
 abbrev pub WasAnswered : List (List ℕ) → Source → Device → Result Ending ProgramFault → Type 0
 WasAnswered words = WasAnsweredBy (λ error. FailsAsWords words (Err error))
 
@@ -61,8 +62,8 @@ Served (Ok words) input output result = DidLine words input output result ⊎ (W
 Served (Err words.NotText) input output result = (result ≡ Err NoText) × IsUntouched output × IsUnread input
 Served (Err words.OutOfMemory) input output result = IsShort input output result
 
--- how the program ends: what it did, what it told of that and its exit status
+-- how the program ends: what it did, what it reported about that and its exit status
 pub record Finishes (given : Result (List (List ℕ)) WordsFault) (input : Source) (output errors : Device) (status : ℕ) : Type 0 where
   pub end : Result Ending ProgramFault
   pub served : Served given input output end
-  pub told : Tells Thpsplit errors status end
+  pub told : WritesMessage Thpsplit errors status end

@@ -1,14 +1,14 @@
-//! The settings that a command line asks for.
+//! The settings that a command line selects.
 ghost use Rattle.std.specs.Prelude.{◌≡◌, ◌++◌, IfSome, IfNone, None, drop, replicate};
 ghost use Rattle.thp_model.specs.Limits.{max_order};
-ghost use Rattle.thp_text.specs.Limits.{max_nodes};
-ghost use Rattle.thp_programs.specs.CommandLine.{IsLineWithinLimits};
+ghost use Rattle.thp_script.specs.Limits.{max_nodes};
+ghost use Rattle.thp_cli.specs.CommandLine.{IsLineWithinLimits};
 ghost use Rattle.thp_run.specs.Choices.{Chooses, HasBadOrders, HasBadThresholds, HasOrders, HasThresholds};
 
-use thp_programs::{Line, ProgramFault};
-use thp_text::{Settings, read_orders, read_underused};
+use thp_cli::{Line, ProgramFault};
+use thp_script::{Settings, read_orders, read_underused};
 
-/// The line's numbers and report as settings.
+/// Converts the numbers and the report of a command line to settings.
 fn numbers_of(line: &Line) -> Settings
     requires { IsLineWithinLimits line.now }
     ensures nodes { result.nodes ≡ line.now.nodes }
@@ -21,7 +21,7 @@ fn numbers_of(line: &Line) -> Settings
     Settings::new(line.nodes, line.blocks, line.workers, line.report).unwrap()
 }
 
-/// The settings with the orders that the option `--orders` gives, if any.
+/// Returns the settings with the orders of the option `--orders`, if it is given; `None` if they are not valid.
 fn with_orders(settings: Settings, option: Option<&str>) -> Option<Settings>
     requires orders { settings.orders ≡ replicate max_nodes max_order }
     requires underused { settings.underused ≡ replicate max_nodes None }
@@ -40,7 +40,7 @@ fn with_orders(settings: Settings, option: Option<&str>) -> Option<Settings>
     settings.with_orders(&orders)
 }
 
-/// The settings with the thresholds that the option `--underused` gives, if any.
+/// Returns the settings with the thresholds of the option `--underused`, if it is given; `None` if they are not valid.
 fn with_underused(settings: Settings, option: Option<&str>) -> Option<Settings>
     requires { settings.underused ≡ replicate max_nodes None }
     ensures chosen { IfSome result (λ chosen. HasThresholds option.entry settings.nodes settings.orders chosen.underused) }
@@ -58,7 +58,7 @@ fn with_underused(settings: Settings, option: Option<&str>) -> Option<Settings>
     settings.with_underused(&thresholds)
 }
 
-/// The settings that a line asks for. Orders are looked at before thresholds.
+/// Returns the settings that a command line selects. Orders are checked before thresholds.
 pub(crate) fn settings_of(line: &Line) -> Result<Settings, ProgramFault>
     requires { IsLineWithinLimits line.now }
     ensures { Chooses line.now result }

@@ -1,29 +1,29 @@
-//! Sections whose answers stand in vectors: the calls of `thp_sections` and `thp_report`, whose logs keep answers in less
-//! room or only count them, for callers that want all answers as values.
+//! Sections whose answers are stored in vectors: the calls of `thp_worker` and `thp_report`, whose logs store answers in less
+//! memory or only count them, for callers that need all answers as values.
 ghost use Rattle.std.specs.Prelude.{◌≡◌, ◌+◌, ◌<◌, ◌≤◌, ◌^◌, ◌++◌, ◌∷◌, [], All, IfOk, OnOk, Some, length, map, slice_get};
 ghost use Rattle.thp_report.specs.Reports.{report_of, told_of};
 ghost use Rattle.thp_run.specs.Listed.{section_of, sections_of, IsWhole, WorksOn};
-ghost use Rattle.thp_sections.specs.Fronts.{Fronts, Goes, HasAll, HasCaller};
-ghost use Rattle.thp_sections.specs.OpenBatches.{HasNoBatch};
-ghost use Rattle.thp_sections.specs.Sections.{IsCommandFor};
-ghost use Rattle.thp_sections.specs.declared.answer_log.Answers.TheVariants.{Kept};
-ghost use Rattle.thp_sections.specs.declared.reply.Answer.{Answer as KeptAnswer};
+ghost use Rattle.thp_worker.specs.Fronts.{Fronts, Goes, HoldsAllCallers, HoldsCaller};
+ghost use Rattle.thp_worker.specs.OpenBatches.{HasNoBatch};
+ghost use Rattle.thp_worker.specs.Sections.{IsCommandFor};
+ghost use Rattle.thp_worker.specs.declared.answer_log.Answers.TheVariants.{Kept};
+ghost use Rattle.thp_worker.specs.declared.reply.Answer.{Answer as KeptAnswer};
 
 use std::alloc::{AllocError, Global};
 use std::marker::Model;
 use thp_model::Refusal;
 use thp_node::{Node, Tried};
-use thp_sections::{
-    Answer, AnswerLog, Answers, Gate, KeptAnswers, KeptSection, Reply, Rest, Steps,
-};
-use thp_text::{Command, Settings};
+use thp_script::{Command, Settings};
+use thp_worker::{Answer, AnswerLog, Answers, Gate, KeptAnswers, KeptSection, Reply, Rest, Steps};
 
-/// What became of a section: the answers to its commands, in order, and where it stopped, if it did.
+/// The result of a section: the answers to its commands, in order, and the place where it stopped, if it did.
 #[derive(Debug, Drop)]
 pub struct Worked {
+    /// The answers, in the order of the commands.
     pub answers: Vec<Answer>,
+    /// Where the section stopped; `None` if it was finished.
     pub rest: Option<Rest>,
-    /// By node, whether a batch that the section's commands opened there is open still.
+    /// For each node, whether a batch that the section's commands opened there is still open.
     pub opened: Vec<bool>,
 }
 
@@ -53,10 +53,12 @@ impl Eq for Worked {
     ghost laws = { same_worked-equiv };
 }
 
-/// The answers to the commands of a worker, in order; setup is worker 0.
+/// The answers to the commands of one worker, in order. Worker 0 is setup.
 #[derive(Debug, Drop)]
 pub struct Section {
+    /// The number of the worker; 0 is setup.
     pub worker: u32,
+    /// The answers, in the order of the commands.
     pub answers: Vec<Answer>,
 }
 
@@ -86,9 +88,9 @@ impl Eq for Section {
     ghost laws = { same_section-equiv };
 }
 
-/// Does the commands of a section, in order, as steps of one caller, and puts back the batches that it left open.
+/// Executes the commands of a section, in order, as steps of one caller, and puts back the batches left open.
 ///
-/// It stops at the first step that stays busy, and tells where. Room for all answers is taken before the first step.
+/// Stops at the first step that stays busy and returns its place. Memory for all answers is allocated before the first step.
 pub fn work<S: Steps, G: Gate>(
     alloc: Global,
     commands: &[Command],
@@ -96,21 +98,21 @@ pub fn work<S: Steps, G: Gate>(
     steps: &mut S,
     gate: &G,
 ) -> Result<Worked, AllocError>
-    requires caller { HasCaller (S.fronts steps.old) worker }
+    requires caller { HoldsCaller (S.fronts steps.old) worker }
     requires few { length commands.now < 2 ^ 32 }
     requires commands { All (IsCommandFor (S.fronts steps.old).nodes) commands.now }
     requires shut { HasNoBatch worker (S.fronts steps.old) }
     ensures goes { Goes worker (S.fronts steps.old) (S.fronts steps.new) }
     ensures works { IfOk result (WorksOn worker (S.fronts steps.old) (S.fronts steps.new) commands.now) }
-    ensures done { HasAll (S.fronts steps.old) → IfOk result IsWhole }
+    ensures done { HoldsAllCallers (S.fronts steps.old) → IfOk result IsWhole }
 {
     let room = Vec::with_capacity(alloc, commands.len())?;
-    let worked = thp_sections::work(alloc, commands, worker, Answers::Kept, steps, gate)?;
+    let worked = thp_worker::work(alloc, commands, worker, Answers::Kept, steps, gate)?;
     from_log(room, worked)
 }
 
-/// Does what is left of a section that stopped, by the passes of all callers, which are never busy. Room for all answers is taken
-/// before the first step.
+/// Executes the rest of a section that stopped, with the passes of all callers, which are never busy. Memory for all answers is
+/// allocated before the first step.
 pub fn work_rest<S: Steps>(
     alloc: Global,
     commands: &[Command],
@@ -118,13 +120,13 @@ pub fn work_rest<S: Steps>(
     worked: Worked,
     steps: &mut S,
 ) -> Result<Worked, AllocError>
-    requires caller { HasCaller (S.fronts steps.old) worker }
+    requires caller { HoldsCaller (S.fronts steps.old) worker }
     requires few { length commands.now < 2 ^ 32 }
     requires commands { All (IsCommandFor (S.fronts steps.old).nodes) commands.now }
     requires worked { (old : Fronts) × WorksOn worker old (S.fronts steps.old) commands.now worked }
     ensures goes { Goes worker (S.fronts steps.old) (S.fronts steps.new) }
     ensures works { (old : Fronts) → WorksOn worker old (S.fronts steps.old) commands.now worked → IfOk result (WorksOn worker old (S.fronts steps.new) commands.now) }
-    ensures done { HasAll (S.fronts steps.old) → IfOk result IsWhole }
+    ensures done { HoldsAllCallers (S.fronts steps.old) → IfOk result IsWhole }
 {
     let Worked {
         answers,
@@ -134,16 +136,16 @@ pub fn work_rest<S: Steps>(
     let room = commands.len().max(answers.len());
     let list = Vec::with_capacity(alloc, room)?;
     let log = to_log(alloc, room, answers.as_slice())?;
-    let begun = thp_sections::Worked {
+    let begun = thp_worker::SectionOutcome {
         answers: log,
         rest,
         opened,
     };
-    let worked = thp_sections::work_rest(commands, worker, begun, steps)?;
+    let worked = thp_worker::work_rest(commands, worker, begun, steps)?;
     from_log(list, worked)
 }
 
-/// The report that the settings ask for, of nodes that are numbered from 0 on and of the answers to the sections' commands.
+/// Returns the report that the settings select, for nodes numbered from 0 and the answers to the sections' commands.
 pub fn report_text(
     alloc: Global,
     settings: &Settings,
@@ -159,15 +161,15 @@ pub fn report_text(
     thp_report::report_text(alloc, settings, nodes, kept.as_slice())
 }
 
-/// What a log kept, in a vector that has none yet. Where that has room for them, it takes no memory.
-fn from_log(list: Vec<Answer>, worked: thp_sections::Worked) -> Result<Worked, AllocError>
+/// Copies the content of a log to a vector that has none yet. Allocates nothing if that vector has room.
+fn from_log(list: Vec<Answer>, worked: thp_worker::SectionOutcome) -> Result<Worked, AllocError>
     requires none { list.items ≡ [] }
     requires kept { worked.answers.are ≡ Kept }
     ensures answers { IfOk result (λ list. list.answers ≡ worked.answers.items) }
     ensures rest { IfOk result (λ list. list.rest ≡ worked.rest) }
     ensures opened { IfOk result (λ list. list.opened ≡ worked.opened.items) }
 {
-    let thp_sections::Worked {
+    let thp_worker::SectionOutcome {
         answers: log,
         rest,
         opened,
@@ -181,7 +183,7 @@ fn from_log(list: Vec<Answer>, worked: thp_sections::Worked) -> Result<Worked, A
     filled(begun, &kept)
 }
 
-/// The answers of a log that keeps them.
+/// Returns the answers of a log that stores them.
 fn kept_by(log: AnswerLog) -> KeptAnswers
     requires { log.are ≡ Kept }
     ensures items { result.items ≡ log.items }
@@ -193,7 +195,7 @@ fn kept_by(log: AnswerLog) -> KeptAnswers
     }
 }
 
-/// What became of a section, with the answers that were kept in place of none.
+/// Returns the result of a section with the answers of `kept`; `begun` has none yet.
 #[tactic(auto, using(crate::proofs::ListedLaws::one_more))]
 fn filled(begun: Worked, kept: &KeptAnswers) -> Result<Worked, AllocError>
     requires { begun.answers ≡ [] }
@@ -209,21 +211,21 @@ fn filled(begun: Worked, kept: &KeptAnswers) -> Result<Worked, AllocError>
 }
 
 impl Worked {
-    /// Adds the answer at a place.
+    /// Appends the answer at a place.
     fn push_at(&mut self, kept: &KeptAnswers, place: usize) -> Result<(), AllocError>
         requires { place < length kept.now.items }
         ensures answers { OnOk result ((answer : KeptAnswer) × (slice_get kept.now.items place ≡ Some answer) × (self.new.answers ≡ self.old.answers ++ answer ∷ [])) }
         ensures rest { OnOk result (self.new.rest ≡ self.old.rest) }
         ensures opened { OnOk result (self.new.opened ≡ self.old.opened) }
     {
-        // the toolchain finds these types, which stand in answers, only in functions that name them
+        // the toolchain finds these types, which answers contain, only in functions that name them
         let _in_answers = (Reply::Tried(Tried::Done), Refusal::NoPage);
         self.answers.push(answer_at(kept, place))?;
         Ok(())
     }
 }
 
-/// The answer at a place.
+/// Returns the answer at a place.
 fn answer_at(kept: &KeptAnswers, place: usize) -> Answer
     requires { place < length kept.now.items }
     ensures { slice_get kept.now.items place ≡ Some result }
@@ -234,7 +236,7 @@ fn answer_at(kept: &KeptAnswers, place: usize) -> Answer
     }
 }
 
-/// A section with its answers in less room.
+/// Converts a section to its compact form.
 fn to_kept(alloc: Global, section: &Section) -> Result<KeptSection, AllocError>
     ensures { IfOk result (λ kept. kept ≡ section_of section.now) }
 {
@@ -246,7 +248,7 @@ fn to_kept(alloc: Global, section: &Section) -> Result<KeptSection, AllocError>
     })
 }
 
-/// A log that keeps these answers, with room for so many in all.
+/// Returns a log that stores these answers, with room for `room` in all.
 fn to_log(alloc: Global, room: usize, answers: &[Answer]) -> Result<AnswerLog, AllocError>
     requires { length answers.now ≤ room }
     ensures items { IfOk result (λ log. log.items ≡ answers.now) }
@@ -260,7 +262,7 @@ fn to_log(alloc: Global, room: usize, answers: &[Answer]) -> Result<AnswerLog, A
     Ok(log)
 }
 
-/// Adds an answer to a log that has room for it.
+/// Appends an answer to a log that has room for it.
 fn put(log: &mut AnswerLog, answer: &Answer)
     requires { length log.old.items < log.old.room }
     ensures items { log.new.items ≡ log.old.items ++ answer.now ∷ [] }

@@ -1,21 +1,21 @@
 //! The program: from the words of its command line to its exit status.
 ghost use Rattle.std.specs.Prelude.{◌≡◌, false};
-ghost use Rattle.thp_programs.specs.CommandLine.{IsLineWithinLimits};
+ghost use Rattle.thp_cli.specs.CommandLine.{IsLineWithinLimits};
 ghost use Rattle.thp_run.specs.Outcomes.{Does, Finishes, Served};
-ghost use Rattle.thp_programs.specs.Outcomes.{device_of, given_words, source_of};
+ghost use Rattle.thp_cli.specs.Outcomes.{device_of, given_words, source_of};
 
 use crate::choice::settings_of;
 use crate::running::run;
 use std::alloc::Global;
 use std::io::{Read, Write};
 use std::thread::Threads;
-use thp_programs::{
+use thp_cli::{
     Ending, Line, Program, ProgramFault, RunFault, Watched, WordsFault, answer, check_run,
     read_line, status_of_ending, tell, texts_of,
 };
-use thp_sections::NoGate;
+use thp_worker::NoGate;
 
-/// Runs a script or checks a journal, as a command line asks for.
+/// Runs a script or checks a journal, as a command line requests.
 fn do_line<T: Threads + Sync, R: Read, W: Write>(
     rt: &T,
     alloc: Global,
@@ -39,7 +39,7 @@ fn do_line<T: Threads + Sync, R: Read, W: Write>(
     Ok(Ending::Written)
 }
 
-/// Does what the words ask for.
+/// Executes what the words request.
 fn serve<T: Threads + Sync, R: Read, W: Write>(
     rt: &T,
     alloc: Global,
@@ -66,12 +66,14 @@ fn serve<T: Threads + Sync, R: Read, W: Write>(
     }
 }
 
-/// The program: does what the words of its command line ask for, tells on standard error why it didn't, and gives the
-/// exit status.
+/// Runs the program for the words of its command line and returns the exit status. Messages about failures go to standard error.
 ///
-/// 0 where the report, or the help or version that was asked for, was written, or a journal is legal; 1 where a journal is
-/// illegal; 2 where the script, the journal or the words are at fault; 3 where memory was refused, or a read or a write
-/// failed.
+/// | Status | Meaning |
+/// | --- | --- |
+/// | 0 | the report, the help or the version was written, or the journal is legal |
+/// | 1 | the journal is illegal |
+/// | 2 | the script, the journal or the command line has an error |
+/// | 3 | memory could not be allocated, or a read or a write failed |
 pub fn run_program<T: Threads + Sync, R: Read, W: Write, E: Write>(
     rt: &T,
     alloc: Global,
@@ -87,6 +89,6 @@ pub fn run_program<T: Threads + Sync, R: Read, W: Write, E: Write>(
 {
     match serve(rt, alloc, &words, reader, output) {
         Ok(ending) => status_of_ending(ending),
-        Err(fault) => tell(alloc, Program::Thpsplit, fault, errors),
+        Err(fault) => tell(Program::Thpsplit, fault, errors),
     }
 }

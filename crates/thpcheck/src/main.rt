@@ -1,14 +1,19 @@
-//! The program `thpcheck`: a journal of any length on standard input, and whether it is legal on standard output.
+//! The program `thpcheck`: reads a journal of any length from standard input, and writes to standard output whether it is legal.
 //!
-//! Its exit status is 0 where the journal is legal, or the help or version that was asked for was written; 1 where the journal
-//! is illegal; 2 where the journal or the command line is at fault; 3 where memory was refused, or a read or a write failed.
-//! Faults are told on standard error, and there it is shown how far the check is. What it does is
-//! `thp_journal_programs::run_check_program`; here it gets its words, the streams and the clock.
+//! Exit status:
+//!
+//! - 0: the journal is legal, or the help or the version was written
+//! - 1: the journal is illegal
+//! - 2: the journal or the command line has an error
+//! - 3: memory could not be allocated, or a read or a write failed
+//!
+//! Error messages and the progress of the check go to standard error. The work is done by `thp_journal_tools::run_check_program`;
+//! this crate passes it the words, the streams and the clock.
 #![tactic(auto)]
 
 use std::io::IsTerminal;
 use std::process::ExitCode;
-use thp_journal_programs::{Screen, Watched, run_check_program, words_of};
+use thp_journal_tools::{Screen, Watched, run_check_program, words_of};
 
 fn main(rt: HostRuntime) -> ExitCode {
     let words = words_of(&rt);

@@ -1,14 +1,20 @@
-//! The program `thpdraw`: a journal of any length on standard input, and what is drawn of its nodes on standard output.
+//! The program `thpdraw`: reads a journal of any length from standard input, and writes a drawing of its nodes to standard
+//! output.
 //!
-//! Its exit status is 0 where the nodes were drawn, or the help or version that was asked for was written; 1 where some node has an
-//! illegal event, up to which it was drawn; 2 where the journal or the command line is at fault; 3 where memory was refused, or a read
-//! or a write failed. Faults are told on standard error, and there it is shown how far the reading is. What it does is
-//! `thp_journal_programs::run_draw_program`; here it gets its words, the streams and the clock.
+//! Exit status:
+//!
+//! - 0: the nodes were drawn, or the help or the version was written
+//! - 1: some node has an illegal event, and was drawn up to it
+//! - 2: the journal or the command line has an error
+//! - 3: memory could not be allocated, or a read or a write failed
+//!
+//! Error messages and the progress of the reading go to standard error. The work is done by
+//! `thp_journal_tools::run_draw_program`; this crate passes it the words, the streams and the clock.
 #![tactic(auto)]
 
 use std::io::IsTerminal;
 use std::process::ExitCode;
-use thp_journal_programs::{Screen, Watched, run_draw_program, words_of};
+use thp_journal_tools::{Screen, Watched, run_draw_program, words_of};
 
 fn main(rt: HostRuntime) -> ExitCode {
     let words = words_of(&rt);

@@ -12,13 +12,13 @@ use thp_cell::{CellFault, NodeCell, Pass};
 use thp_model::{Done, PageId};
 use thp_node::Batch;
 
-// Rounds of one cell, so many that the growth of its journal shows in none.
+// Rounds on one cell, few enough that the growth of its journal affects none.
 const EACH: u32 = 2500;
 
 // Pages of a batch.
 const BATCH: u32 = 8;
 
-// What a round does to page 0, or to a batch of pages that are pinned.
+// What a round does to page 0, or to a batch of pinned pages.
 #[derive(Clone, Copy)]
 enum Round {
     Count,
@@ -28,7 +28,7 @@ enum Round {
     Batch,
 }
 
-// What bench/calls calls a round, and the round.
+// The name that bench/calls gives a round, and the round.
 const KINDS: [(&str, Round); 5] = [
     ("a pass: count", Round::Count),
     ("a pass: pin, refused", Round::Refused),
@@ -37,7 +37,7 @@ const KINDS: [(&str, Round); 5] = [
     ("a pass: take, 8 split_next, put_back", Round::Batch),
 ];
 
-/// Makes so many rounds of each kind, or as many as one cell has.
+/// Makes `rounds` rounds of each kind, or as many as one cell allows.
 pub(crate) fn time_rounds<R: CpuClock + Eprint + AllocGlobal>(rt: &R, rounds: u32) -> Result<()> {
     for (what, round) in KINDS {
         time_one(rt, what, round, rounds)?;
@@ -69,7 +69,7 @@ fn time_one<R: CpuClock + Eprint + AllocGlobal>(
     tell_nanos(rt, what, cells.saturating_mul(EACH), spent, sum)
 }
 
-// Has the pages of a batch queued and pinned.
+// Queues and pins the pages of a batch.
 fn queue_pinned(cell: &NodeCell, pass: &mut Pass)
     requires cell { pass.old.cell ≡ cell.now }
     requires caller { HasCaller pass.old 0 }
@@ -83,7 +83,7 @@ fn queue_pinned(cell: &NodeCell, pass: &mut Pass)
     }
 }
 
-// One round, and a number of what it answered.
+// One round, and a number computed from its result.
 fn once(cell: &NodeCell, pass: &mut Pass, round: Round) -> u64
     requires cell { pass.old.cell ≡ cell.now }
     requires caller { HasCaller pass.old 0 }
@@ -168,7 +168,7 @@ fn try_all(cell: &NodeCell, pass: &mut Pass, batch: &mut Batch) -> u64
     tried
 }
 
-// A word of the frames that came back.
+// One word of the frames given back.
 fn frames(answer: Result<Done, CellFault>) -> u64 {
     match answer {
         Ok(done) => done.released.word(0),

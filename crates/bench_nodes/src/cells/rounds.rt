@@ -8,7 +8,7 @@ use std::alloc::Global;
 use thp_cell::{CellFault, NodeCell, Pass};
 use thp_model::PageId;
 
-/// How many calls were answered, and how many found the node taken.
+/// The numbers of successful calls, and of calls that found the node busy.
 #[derive(Clone, Copy)]
 pub(crate) struct Tally {
     pub done: u64,
@@ -66,7 +66,7 @@ pub(crate) fn cell_rounds(cell: &NodeCell, pass: Pass, caller: u32, rounds: u32)
     (pass, tally)
 }
 
-/// Rounds on a cell of the thread's own. Without memory for it there are none.
+/// Rounds on a cell of the thread's own; none if memory can't be allocated.
 pub(crate) fn own_rounds(alloc: Global, rounds: u32) -> Tally {
     match new_cell(alloc, 1) {
         Some((cell, pass)) => {

@@ -55,7 +55,7 @@ pub(crate) fn four_on_one<R: Threads + Sync>(
     (cell.join(low, high), one.with(two).with(three.with(four)))
 }
 
-// Two threads, with two callers that follow one another.
+// Two threads, with two adjacent callers.
 fn pair<R: Threads + Sync>(
     rt: &R,
     cell: &NodeCell,

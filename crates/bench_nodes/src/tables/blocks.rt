@@ -9,10 +9,10 @@ use std::time::CpuClock;
 use thp_model::PageId;
 use thp_page::PageTable;
 
-// Numbers this far apart have the same low bits, so that all their blocks are in one chain.
+// Numbers this far apart have the same low bits, so all their blocks are in one chain.
 const ALIKE: u64 = 65_536;
 
-// Numbers of pages by block: from each block to the next they rise by `apart`.
+// Numbers of pages by block: they increase by `apart` from each block to the next.
 #[derive(Clone, Copy)]
 struct Numbers {
     first: u64,
@@ -26,8 +26,8 @@ impl Numbers {
     }
 }
 
-/// Looks up numbers that are there and others that aren't, in a full table: in one whose numbers follow one another, and in
-/// one where all have the same low bits.
+/// Looks up existing and missing numbers in a full table: in one with consecutive numbers, and in one whose numbers all have the
+/// same low bits.
 pub(crate) fn time_block_of<R: CpuClock + Eprint + AllocGlobal>(
     rt: &R,
     blocks: u32,

@@ -9,10 +9,10 @@ use std::time::CpuClock;
 use thp_links::{LinkTable, Queue};
 use thp_page::PageTable;
 
-// From one block that is taken out of the queue to the next.
+// The distance from one block that is removed from the queue to the next.
 const STEP: u32 = 5;
 
-/// Takes the oldest block out and puts it back, at a queue of this many blocks.
+/// Removes the oldest block and appends it again, with a queue of this many blocks.
 pub(crate) fn time_front<R: CpuClock + Eprint + AllocGlobal>(
     rt: &R,
     blocks: u32,
@@ -30,7 +30,7 @@ pub(crate) fn time_front<R: CpuClock + Eprint + AllocGlobal>(
     watch.tell(rt, what, rounds, sum)
 }
 
-// Takes the oldest block out and puts it behind all others.
+// Removes the oldest block and appends it to the queue.
 fn rotate(table: &mut PageTable, queue: &mut Queue) -> Option<u32>
     requires { Stands queue.old table.old.links }
     ensures { Stands queue.new table.new.links }
@@ -40,7 +40,7 @@ fn rotate(table: &mut PageTable, queue: &mut Queue) -> Option<u32>
     Some(i)
 }
 
-/// Takes a block out of the middle and puts it back, at a queue of this many blocks.
+/// Removes a block from the middle and appends it again, with a queue of this many blocks.
 pub(crate) fn time_middle<R: CpuClock + Eprint + AllocGlobal>(
     rt: &R,
     blocks: u32,
@@ -62,7 +62,7 @@ pub(crate) fn time_middle<R: CpuClock + Eprint + AllocGlobal>(
     watch.tell(rt, what, rounds, sum)
 }
 
-// The block to be taken out after this one.
+// The block to be removed after this one.
 pub(crate) fn after(i: u32, blocks: u32) -> u32
     requires { 0 < blocks }
     ensures { result < blocks }

@@ -8,7 +8,7 @@ use std::time::CpuClock;
 use thp_model::PageId;
 use thp_node::{Done, Node, Refusal};
 
-// Rounds of one node, so few that none waits for fresh memory; and the most events of a round.
+// Rounds on one node, few enough that none waits for fresh memory; and the greatest number of events of a round.
 const EACH: u32 = 250;
 
 const EVENTS: u32 = 3 * BATCH;
@@ -16,7 +16,7 @@ const EVENTS: u32 = 3 * BATCH;
 // Pages of a batch.
 const BATCH: u32 = 8;
 
-// What a round does to page 0, to a page of its own, or to a batch of pages that are pinned.
+// What a round does to page 0, to a page of its own, or to a batch of pinned pages.
 #[derive(Clone, Copy)]
 enum Round {
     Count,
@@ -29,7 +29,7 @@ enum Round {
     Batch,
 }
 
-// What bench/calls calls a round, and the round.
+// The name that bench/calls gives a round, and the round.
 const KINDS: [(&str, Round); 8] = [
     ("queue_length", Round::Count),
     ("pin, refused: no such page", Round::Refused),
@@ -44,7 +44,7 @@ const KINDS: [(&str, Round); 8] = [
     ("take, 8 split_next, put_back", Round::Batch),
 ];
 
-/// Makes so many rounds of each kind.
+/// Makes `rounds` rounds of each kind.
 pub(crate) fn time_rounds<R: CpuClock + Eprint + AllocGlobal>(rt: &R, rounds: u32) -> Result<()> {
     for (what, round) in KINDS {
         time_one(rt, what, round, rounds)?;
@@ -91,7 +91,7 @@ fn made(alloc: Global, round: Round) -> Option<Node> {
     Some(node)
 }
 
-// One round, and a number of what it answered.
+// One round, and a number computed from its result.
 fn once(node: &mut Node, round: Round) -> u64 {
     match round {
         Round::Count => count(node),
@@ -174,7 +174,7 @@ fn try_batch(node: &mut Node) -> u64 {
     }
 }
 
-// A word of the frames that came back.
+// One word of the frames given back.
 fn frames(answer: Result<Done, Refusal>) -> u64 {
     match answer {
         Ok(done) => done.released.word(0),

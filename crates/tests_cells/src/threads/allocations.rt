@@ -1,4 +1,4 @@
-//! Two threads that work side by side on one cell.
+//! Two concurrent threads on one cell.
 ghost use Rattle.std.specs.Prelude.{◌≡◌};
 ghost use Rattle.thp_cell.specs.Views.{HasCaller};
 ghost use Rattle.thp_cell.specs.Calls.{at_front};
@@ -9,7 +9,7 @@ use std::thread;
 use thp_cell::{NodeCell, Pass};
 use thp_model::{Event, PageId};
 
-// Allocates until 20 pages were answered, or gives up after 50,000,000 calls.
+// Allocates 20 pages, or gives up after 50,000,000 calls.
 fn allocate_20(cell: &NodeCell, pass: Pass, caller: u32) -> (Pass, u32)
     requires cell { pass.cell ≡ cell.now }
     requires caller { HasCaller pass caller }

@@ -1,5 +1,5 @@
-//! Four threads with mixed calls on a shared node. Each keeps a log of what it was answered, which is to be its part of the
-//! journal, and the journal passes the check of a history.
+//! Four threads with mixed calls on a shared node. Each logs the results of its calls, which must be its part of the journal, and
+//! the journal must pass the check of a history.
 ghost use Rattle.std.specs.Prelude.{◌≡◌, ◌<◌, ◌≤◌, ◌+◌, false, IfSome};
 ghost use Rattle.std.specs.Thread.{IsSync};
 ghost use Rattle.thp_node.specs.Batches.{IsInFront};
@@ -16,10 +16,10 @@ use thp_check::check;
 use thp_model::{Event, Outcome, PageId, What};
 use thp_node::{BackReply, Batch, Tried};
 
-// The pass of a thread that is done, and what its calls were answered.
+// The pass of a thread that has finished, and the results of its calls.
 type Logged = (Pass, Vec<Answer>);
 
-// What a call was answered, as far as the answer tells it.
+// The result of a call, as far as a journal contains it.
 #[derive(Clone, Copy, PartialEq, Eq)]
 enum Answer {
     Page(PageId),
@@ -34,7 +34,7 @@ enum Answer {
     Other,
 }
 
-// The answer that an event is.
+// The result in an event.
 fn answer_of(what: What) -> Answer {
     match what {
         What::Alloc { page, block: _ } => Answer::Page(page),
@@ -83,7 +83,7 @@ fn note(log: &mut Vec<Answer>, answer: Answer) {
     let _ = log.push(answer);
 }
 
-// One call about the newest page of the caller, by turns; answers the newest page.
+// One call about the newest page of the caller, of alternating kinds; returns the newest page.
 fn change(
     cell: &NodeCell,
     pass: &mut Pass,
@@ -133,7 +133,7 @@ fn change(
     page
 }
 
-// One call of the shrinker: a take where the caller has no batch, else by turns a try or a put-back.
+// One call of the shrinker: a take if the caller has no batch, otherwise alternately a try or a put back.
 fn shrink(
     cell: &NodeCell,
     pass: &mut Pass,

@@ -23,7 +23,7 @@ fn node_of_pinned(rt: &impl Abort, alloc: Global) -> Node {
     node
 }
 
-// What a take of all pages, a try of each and a put-back record at this place.
+// The event at this index of a take of all pages, a try of each and a put back.
 fn event_at(place: u64) -> What {
     let page = PageId(place % MOST);
     match place / MOST {
@@ -54,7 +54,7 @@ fn scan_of_a_full_batch(rt: HostRuntime) {
     expect_round(&rt, &node, from);
 }
 
-// The pages 0 to 127, and what a try of each answers before the last try finds none left.
+// The pages 0 to 127, and the results of a try of each, before the last try finds none left.
 fn pages_and_tries(alloc: Global) -> Result<(Vec<PageId>, Vec<Tried>), AllocError> {
     let mut pages = Vec::new(alloc);
     let mut tries = Vec::new(alloc);

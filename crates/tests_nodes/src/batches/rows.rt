@@ -1,4 +1,4 @@
-//! Rows on batches: takes, tries and put-backs in calls of their own.
+//! Rows on batches: takes, tries and put backs as separate calls.
 use crate::batches::steps::{
     expect_has_batch, expect_put_back, expect_scan, expect_tries, take_these,
 };
@@ -70,7 +70,7 @@ fn one_batch_at_a_time(rt: HostRuntime) {
     expect_put_back(&rt, &mut node, batch, 0, 0);
 }
 
-// A batch that nothing is left of may be let go.
+// A batch without remaining pages may be discarded.
 #[test]
 fn abandoned_after_its_split(rt: HostRuntime) {
     let mut node = node_with_queued(&rt, rt.alloc(), 1);
@@ -105,7 +105,7 @@ fn batches_of_two_callers(rt: HostRuntime) {
     expect_has_batch(&rt, &mut node, 1, 1);
 }
 
-// A batch is in front of its flight still after calls of others and of its own caller, whatever they free.
+// A batch is still a prefix of its flight after calls of others and of its own caller, whatever they free.
 #[test]
 fn freed_around_a_batch(rt: HostRuntime) {
     let mut node = node_with_queued(&rt, rt.alloc(), 3);
@@ -137,7 +137,7 @@ fn only_block(rt: &impl Abort, node: &Node) -> Option<u32> {
     node.queue().front()
 }
 
-// The queue stands in the table's links, by the blocks of its pages.
+// The queue is in the table's links, by the blocks of its pages.
 #[test]
 fn queue_stands_in_the_table(rt: HostRuntime) {
     let mut node = node_with_queued(&rt, rt.alloc(), 2);

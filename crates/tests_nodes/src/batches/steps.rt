@@ -1,4 +1,4 @@
-//! Takes, tries, put-backs and scans with the answers that a row expects.
+//! Takes, tries, put backs and scans with the results that a row expects.
 ghost use Rattle.std.specs.Prelude.{◌≡◌, ◌<◌, ◌≤◌};
 ghost use Rattle.thp_node.specs.Batches.{IsInFront, FrontsStay, OtherFrontsStay};
 
@@ -39,7 +39,7 @@ pub(crate) fn take_these(
     batch
 }
 
-// Tries pages of a batch, one for each of these answers.
+// Tries pages of a batch, one for each of these results.
 pub(crate) fn expect_tries(rt: &impl Abort, node: &mut Node, batch: &mut Batch, answers: &[Tried])
     requires { IsInFront node.old.journal batch.old }
     ensures front { IsInFront node.new.journal batch.new }
@@ -52,7 +52,7 @@ pub(crate) fn expect_tries(rt: &impl Abort, node: &mut Node, batch: &mut Batch, 
     }
 }
 
-// Puts the rest of a batch back: so many pages return, and so many are dropped.
+// Puts the rest of a batch back, with the numbers of pages returned and dropped.
 pub(crate) fn expect_put_back(
     rt: &impl Abort,
     node: &mut Node,
@@ -78,7 +78,7 @@ pub(crate) fn expect_scan(rt: &impl Abort, node: &mut Node, caller: u32, n: u32,
     assert!(rt; node.scan(caller, n) == Ok(want));
 }
 
-// A caller that has a batch may neither take nor scan, and what it tries of that changes nothing.
+// A caller that has a batch may neither take nor scan; an attempt changes nothing.
 pub(crate) fn expect_has_batch(rt: &impl Abort, node: &mut Node, caller: u32, n: u32)
     requires caller { caller < 64 }
     requires count { n ≤ 128 }

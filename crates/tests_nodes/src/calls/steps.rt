@@ -4,22 +4,22 @@ use tests_steps::{Answer, Call, answer_of};
 use thp_model::{Event, What};
 use thp_node::{Counters, Node, ScanReply};
 
-// A step of caller 0 on a node, or a look at the node, with what is to be answered or seen.
+// A step of caller 0 on a node, or a query of the node, with the expected result.
 #[derive(Clone, Copy)]
 pub(crate) enum Step {
     Call(Call, Answer),
-    // the same call so many times
+    // the same call this many times
     Times(u32, Call, Answer),
-    // a scan of up to so many pages
+    // a scan of up to this many pages
     Scan(u32, ScanReply),
     // how many pages the queue has
     Queued(u32),
-    // how many frames the pages hold, and how many were given back
+    // the number of frames that the pages hold, and of frames given back
     Frames(u128, u128),
     Counters(Counters),
 }
 
-// Makes the steps of a row on a node, one after the other, and gives the node as they leave it.
+// Makes the steps of a row on a node, one after the other, and returns the node.
 pub(crate) fn expect_row(rt: &impl Abort, node: Node, steps: &[Step]) -> Node {
     let mut node = node;
     for (place, &step) in steps.iter().enumerate() {
@@ -43,7 +43,7 @@ pub(crate) fn expect_row(rt: &impl Abort, node: Node, steps: &[Step]) -> Node {
     node
 }
 
-// A call is answered so each of so many times.
+// Each of this many calls has this result.
 fn expect_times(rt: &impl Abort, node: &mut Node, place: usize, times: u32, step: (Call, Answer)) {
     let (call, want) = step;
     for _time in 0..times {
@@ -51,7 +51,7 @@ fn expect_times(rt: &impl Abort, node: &mut Node, place: usize, times: u32, step
     }
 }
 
-// What caller 0 did since the journal had `from` events.
+// The events of caller 0 since the journal had `from` events.
 pub(crate) fn expect_since(rt: &impl Abort, node: &Node, from: usize, whats: &[What]) {
     let events = node.journal();
     assert!(rt; events.len() == from.saturating_add(whats.len()));

@@ -1,4 +1,4 @@
-//! For each kind of event, and for each reason, what is said of an event that doesn't fit.
+//! The explanation of an event that does not fit, for each kind of event and each reason.
 ghost use Rattle.std.specs.Prelude.{◌≤◌};
 
 use crate::checks::histories::{
@@ -28,7 +28,7 @@ fn expect_text(rt: &impl Abort, alloc: Global, shape: Shape, events: &[Event], w
     expect_words(rt, alloc, event, &misfit, want);
 }
 
-// Behind so many queued pages the last of these events doesn't fit on a large node, and is explained so.
+// After this many queued pages, the last of these events does not fit on a large node, and has this explanation.
 fn last_text(rt: &impl Abort, alloc: Global, queued: u32, then: &[Event], want: &str) {
     let events = queued_then(rt, alloc, queued, then);
     expect_text(rt, alloc, large(), &events, want);
@@ -55,23 +55,23 @@ fn one_event_is_explained(rt: HostRuntime) {
                     count: 2,
                 },
             ),
-            "line 7: 0 mapsub 0 511 2\nexpected: nothing\nwhy: refused bad-range: the range has no subpage, or one that the page hasn't\n",
+            "line 7: 0 mapsub 0 511 2\nexpected: nothing\nwhy: refused bad-range: the range is empty or exceeds the page\n",
         ),
         (
             split_pmd(ZERO),
-            "line 7: 0 splitpmd 0\nexpected: nothing\nwhy: refused not-mapped: there is no such mapping\n",
+            "line 7: 0 splitpmd 0\nexpected: nothing\nwhy: refused not-mapped: the mapping does not exist\n",
         ),
         (
             unmap_whole(ZERO, Outcome::Stays, none),
-            "line 7: 0 unmapwhole 0 stays -\nexpected: nothing\nwhy: refused not-mapped: there is no such mapping\n",
+            "line 7: 0 unmapwhole 0 stays -\nexpected: nothing\nwhy: refused not-mapped: the mapping does not exist\n",
         ),
         (
             write(ZERO, 0, 1),
-            "line 7: 0 write 0 0 1\nexpected: nothing\nwhy: refused not-mapped: there is no such mapping\n",
+            "line 7: 0 write 0 0 1\nexpected: nothing\nwhy: refused not-mapped: the mapping does not exist\n",
         ),
         (
             zero(ZERO, 0, 1),
-            "line 7: 0 zero 0 0 1\nexpected: nothing\nwhy: refused not-mapped: there is no such mapping\n",
+            "line 7: 0 zero 0 0 1\nexpected: nothing\nwhy: refused not-mapped: the mapping does not exist\n",
         ),
         (
             unpin(ZERO, Outcome::Stays, none),
@@ -79,7 +79,7 @@ fn one_event_is_explained(rt: HostRuntime) {
         ),
         (
             alloc_in(ZERO, 1),
-            "line 7: 0 alloc 0\nexpected: 0 alloc 1\nwhy: the next page has the number 1\n",
+            "line 7: 0 alloc 0\nexpected: 0 alloc 1\nwhy: the next page number is 1\n",
         ),
         (
             alloc_in(ONE, 0),
@@ -87,11 +87,11 @@ fn one_event_is_explained(rt: HostRuntime) {
         ),
         (
             unmap(ZERO, 1, 1, Outcome::Queued, none),
-            "line 7: 0 unmapsub 0 1 1 queued -\nexpected: 0 unmapsub 0 1 1 stays -\nwhy: page 0 is mapped or pinned and doesn't join the queue; frames go only where it is split\n",
+            "line 7: 0 unmapsub 0 1 1 queued -\nexpected: 0 unmapsub 0 1 1 stays -\nwhy: page 0 is still mapped or pinned and does not join the queue; only a split page gives back frames\n",
         ),
         (
             unmap(ZERO, 1, 511, Outcome::Stays, none),
-            "line 7: 0 unmapsub 0 1 511 stays -\nexpected: 0 unmapsub 0 1 511 freed 0-511\nwhy: page 0 has no mapping and no pin left: it is freed, with the frames that it held\n",
+            "line 7: 0 unmapsub 0 1 511 stays -\nexpected: 0 unmapsub 0 1 511 freed 0-511\nwhy: page 0 has no mapping and no pin left: it is freed with all frames that it held\n",
         ),
         (
             taken(ONE),
@@ -99,7 +99,7 @@ fn one_event_is_explained(rt: HostRuntime) {
         ),
         (
             split(ZERO, first()),
-            "line 7: 0 split 0 0\nexpected: nothing\nwhy: page 0 isn't in the flight of caller 0\n",
+            "line 7: 0 split 0 0\nexpected: nothing\nwhy: page 0 is not in the flight of caller 0\n",
         ),
         (
             back(ZERO),
@@ -127,7 +127,7 @@ fn event_behind_another_is_explained(rt: HostRuntime) {
         (
             taken(ZERO),
             used(ZERO),
-            "line 7: 0 used 0\nexpected: 0 pinned 0\nor: a split of page 0\nwhy: page 0 is worth a split: it is partly mapped or underused\n",
+            "line 7: 0 used 0\nexpected: 0 pinned 0\nor: a split of page 0\nwhy: page 0 is a split candidate: it is partly mapped or underused\n",
         ),
         (
             taken(ZERO),
@@ -137,7 +137,7 @@ fn event_behind_another_is_explained(rt: HostRuntime) {
         (
             taken(ZERO),
             split(ZERO, none),
-            "line 7: 0 split 0 -\nexpected: 0 split 0 0\nwhy: page 0 gives back these frames by its split\n",
+            "line 7: 0 split 0 -\nexpected: 0 split 0 0\nwhy: page 0 releases these frames when it is split\n",
         ),
         (
             taken(ZERO),
@@ -163,7 +163,7 @@ fn event_behind_others_is_explained(rt: HostRuntime) {
             taken(ZERO),
             pin(ONE),
             taken(ONE),
-            "line 7: 0 taken 1\nexpected: nothing\nwhy: caller 0 has pages in flight, and the event before is no take of its own\n",
+            "line 7: 0 taken 1\nexpected: nothing\nwhy: caller 0 has pages in flight, and the previous event is not one of its takes\n",
         ),
         (
             pin(ZERO),
@@ -175,7 +175,7 @@ fn event_behind_others_is_explained(rt: HostRuntime) {
             taken(ZERO),
             close(),
             back(ZERO),
-            "line 7: 0 back 0\nexpected: 0 dropped 0\nwhy: page 0 isn't partly mapped, or the node is closed\n",
+            "line 7: 0 back 0\nexpected: 0 dropped 0\nwhy: page 0 is not partly mapped, or the node is closed\n",
         ),
         (
             taken(ZERO),
@@ -200,7 +200,7 @@ fn event_behind_others_is_explained(rt: HostRuntime) {
             alloc_in(second, 2),
             split_pmd(second),
             unmap(second, 0, 1, Outcome::Stays, none),
-            "line 7: 0 unmapsub 2 0 1 stays -\nexpected: 0 unmapsub 2 0 1 queued -\nwhy: page 2 has a subpage that went out of use and one in use, and stands nowhere: it joins the queue\n",
+            "line 7: 0 unmapsub 2 0 1 stays -\nexpected: 0 unmapsub 2 0 1 queued -\nwhy: page 2 lost the last mapping of a subpage, has another mapped one, and is on no list: it joins the queue\n",
         ),
     ] {
         last_text(&rt, rt.alloc(), 2, &[one, two, three], want);
@@ -216,13 +216,13 @@ fn event_behind_others_is_explained(rt: HostRuntime) {
         rt.alloc(),
         small(4),
         &in_use,
-        "line 7: 0 split 0 0\nexpected: 0 used 0\nwhy: page 0 isn't worth a split: it is neither partly mapped nor underused\n",
+        "line 7: 0 split 0 0\nexpected: 0 used 0\nwhy: page 0 is no split candidate: it is neither partly mapped nor underused\n",
     );
     expect_words(
         &rt,
         rt.alloc(),
         &pin(ZERO),
         &Misfit::Refused(Refusal::TooMany),
-        "line 7: 0 pin 0\nexpected: nothing\nwhy: refused too-many: the count is at 65535\n",
+        "line 7: 0 pin 0\nexpected: nothing\nwhy: refused too-many: the count is already 65535\n",
     );
 }

@@ -139,7 +139,7 @@ pub(crate) fn large() -> Shape
     }
 }
 
-// The place of the first event that doesn't fit on a node of this shape, and why it doesn't, where there is one.
+// The index of the first event that does not fit on a node of this shape, and the reason, if there is one.
 pub(crate) fn first_misfit(
     rt: &impl Abort,
     alloc: Global,
@@ -159,7 +159,7 @@ pub(crate) fn first_misfit(
     None
 }
 
-// The place of the first event that a replay doesn't admit, where there is one.
+// The index of the first event that a replay does not admit, if there is one.
 fn admitted(rt: &impl Abort, alloc: Global, shape: Shape, events: &[Event]) -> Option<usize>
     requires least { 2 ≤ shape.order }
     requires most { shape.order ≤ 9 }
@@ -204,13 +204,13 @@ pub(crate) fn expect_misfit(
     );
 }
 
-// So many queued pages and then these events are legal on a large node.
+// This many queued pages and then these events are legal on a large node.
 pub(crate) fn legal(rt: &impl Abort, alloc: Global, queued: u32, then: &[Event]) {
     let events = queued_then(rt, alloc, queued, then);
     expect_legal(rt, alloc, large(), &events);
 }
 
-// Behind so many queued pages the last of these events doesn't fit on a large node.
+// After this many queued pages, the last of these events does not fit on a large node.
 pub(crate) fn last_misfits(
     rt: &impl Abort,
     alloc: Global,

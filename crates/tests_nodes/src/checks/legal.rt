@@ -101,7 +101,7 @@ fn small_page_split_is_legal(rt: HostRuntime) {
     expect_legal(&rt, rt.alloc(), shape, &events);
 }
 
-// Want of memory is told as such.
+// Lack of memory is reported as such.
 #[test]
 fn each_growth_refused(rt: HostRuntime) {
     let events = [

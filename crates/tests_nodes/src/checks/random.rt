@@ -1,4 +1,4 @@
-//! Histories of random events, on which the check and the slow check must say the same.
+//! Histories of random events, on which the check and the slow check must agree.
 ghost use Rattle.std.specs.Prelude.{◌≡◌, ◌+◌, ◌<◌};
 
 use crate::checks::histories::by;
@@ -47,7 +47,7 @@ impl Dice {
         }
     }
 
-    // What an unmap or an unpin may tell.
+    // A possible event of an unmap or an unpin.
     fn loss(&mut self, page: PageId, first: u32, count: u32) -> What
         requires { first + count < 512 }
     {
@@ -122,7 +122,7 @@ impl Dice {
     }
 }
 
-// Each event is kept where it fits, so the histories grow, and most events don't fit.
+// Each event is kept if it fits, so the histories grow, and most events don't fit.
 #[test]
 fn both_checks_agree(rt: HostRuntime) {
     let mut dice = Dice { state: 1 };

@@ -1,4 +1,4 @@
-//! What a replay tells of the events that it met.
+//! The state that a replay shows after its events.
 ghost use Rattle.std.specs.Prelude.{◌≤◌};
 
 use crate::checks::histories::{
@@ -37,8 +37,8 @@ fn replay_tells_of_its_node(rt: HostRuntime) {
     assert!(rt; closed.oldest() == Some(ZERO));
 }
 
-// Pages 0 to 3 of a large node were queued, and page 3 freed. Caller 0 took two of them, and caller 64, whose flight stands in
-// the same list, one.
+// Pages 0 to 3 of a large node were queued, and page 3 freed. Caller 0 took two of them, and caller 64, whose flight is in the
+// same list, took one.
 #[test]
 fn replay_tells_where_pages_stand(rt: HostRuntime) {
     let alloc = rt.alloc();

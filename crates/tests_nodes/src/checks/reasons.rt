@@ -30,7 +30,7 @@ fn expect_reason(
     );
 }
 
-// Behind so many queued pages the last of these events doesn't fit on a large node, for this reason.
+// After this many queued pages, the last of these events does not fit on a large node, for this reason.
 fn last_reason(
     rt: &impl Abort,
     alloc: Global,
@@ -138,8 +138,8 @@ fn reasons_of_pages(rt: HostRuntime) {
     for (name, event, reason) in [
         ("a number again", alloc_in(ZERO, 1), Misfit::Number(ONE)),
         ("too high", alloc_in(PageId(2), 1), Misfit::Number(ONE)),
-        ("a block in use", alloc_in(ONE, 0), Misfit::Block),
-        ("no such block", alloc_in(ONE, 16), Misfit::Block),
+        ("a block in use", alloc_in(ONE, 0), Misfit::BlockTaken),
+        ("no such block", alloc_in(ONE, 16), Misfit::BlockTaken),
         (
             "queued twice",
             unmap(ZERO, 1, 1, Outcome::Queued, none),
@@ -192,7 +192,7 @@ fn reasons_after_another_event(rt: HostRuntime) {
             Misfit::Released(first),
         ),
         ("no pins", taken(ZERO), pinned(ZERO), Misfit::NoPins),
-        ("worth a split", taken(ZERO), used(ZERO), Misfit::Worth),
+        ("worth a split", taken(ZERO), used(ZERO), Misfit::WorthSplit),
         (
             "of another",
             others(),
@@ -202,7 +202,7 @@ fn reasons_after_another_event(rt: HostRuntime) {
         ("back of another", others(), back(ZERO), Misfit::First(None)),
         ("back", taken(ZERO), back(ONE), zero_is_first()),
         ("dropped", taken(ZERO), dropped(ONE), zero_is_first()),
-        ("goes back", taken(ZERO), dropped(ZERO), Misfit::GoesBack),
+        ("goes back", taken(ZERO), dropped(ZERO), Misfit::MustRequeue),
         ("closed twice", close(), close(), is_closed()),
         ("after the close", close(), alloc_in(ONE, 1), is_closed()),
     ] {
@@ -243,7 +243,7 @@ fn reasons_of_batches(rt: HostRuntime) {
             Misfit::HasPins,
         ),
         ("order", taken(ZERO), taken(ONE), back(ONE), zero_is_first()),
-        ("drops", taken(ZERO), close(), back(ZERO), Misfit::Drops),
+        ("drops", taken(ZERO), close(), back(ZERO), Misfit::MustDrop),
         (
             "split and mapped",
             taken(ZERO),
@@ -270,8 +270,8 @@ fn reasons_of_pages_in_use(rt: HostRuntime) {
     let frames = SubSet::range(3, 1);
     for (name, before, event, reason) in [
         ("split", full(), split(ZERO, frames), Misfit::InUse),
-        ("underused", pin(ZERO), back(ZERO), Misfit::Drops),
-        ("a new page", pin(ZERO), used(ZERO), Misfit::Worth),
+        ("underused", pin(ZERO), back(ZERO), Misfit::MustDrop),
+        ("a new page", pin(ZERO), used(ZERO), Misfit::WorthSplit),
         ("no pins first", full(), pinned(ZERO), Misfit::NoPins),
     ] {
         let events = [alloc_in(ZERO, 0), before, taken(ZERO), event];

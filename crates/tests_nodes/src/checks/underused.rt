@@ -72,7 +72,7 @@ fn underused_pinned(rt: HostRuntime) {
     expect_legal(&rt, rt.alloc(), small(4), &events);
 }
 
-// A page all of whose frames were given back has its block until it is freed.
+// A page whose frames were all given back keeps its block until it is freed.
 #[test]
 fn block_of_a_live_page(rt: HostRuntime) {
     let freed = [
@@ -107,7 +107,7 @@ fn write_and_zero_refusals(rt: HostRuntime) {
     expect_legal(&rt, rt.alloc(), small(4), &events);
 }
 
-// What three new pages go through until each was looked at: one is in use, one is split, one is pinned.
+// The events of three new pages until each was tried: one is in use, one is split, one is pinned.
 fn looked_at() -> [Event; 15] {
     [
         alloc_in(ZERO, 0),
@@ -128,7 +128,7 @@ fn looked_at() -> [Event; 15] {
     ]
 }
 
-// What they go through from there until all of them are freed.
+// Their events from there until all of them are freed.
 fn freed_at_last() -> [Event; 17] {
     [
         by(1, What::MapWhole { page: ZERO }),
@@ -161,7 +161,7 @@ fn every_kind_is_legal(rt: HostRuntime) {
     expect_legal(&rt, rt.alloc(), small(3), &events);
 }
 
-// Behind a new page the last of these events doesn't fit on a small node.
+// After a new page, the last of these events does not fit on a small node.
 fn misfit(rt: &impl Abort, alloc: Global, name: &str, then: &[Event]) {
     let mut events = Vec::new(alloc);
     events.push(alloc_in(ZERO, 0)).expect(rt, "memory");
@@ -244,7 +244,7 @@ fn misfits_behind_tries(rt: HostRuntime) {
     misfit(&rt, alloc, "frames given back twice", &twice);
 }
 
-// With the switch off writes and zeros are recorded all the same, and change nothing of what is split.
+// With the switch off, writes and zeros are recorded, and don't change what is split.
 #[test]
 fn switch_is_off(rt: HostRuntime) {
     let first = SubSet::range(0, 1);

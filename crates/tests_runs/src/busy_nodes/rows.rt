@@ -1,13 +1,8 @@
 //! Rows of a section on a node that is busy at chosen calls.
-use crate::busy_nodes::sections::{
-    BusyCalls, Told, section_on_new, section_on_pinned, section_on_queued,
-};
+use crate::busy_nodes::sections::{BusyCalls, Queued, SectionResult, section};
 use thp_model::{PageId, Refusal};
 use thp_node::{ScanReply, Tried};
-use thp_sections::{Answer, AnswerLog, Command, NodeCall, Op, Reply, Step};
-
-// How many pages are queued, asked by caller 0.
-const COUNT: (u32, Step) = (0, Step::One(NodeCall::Count));
+use thp_worker::{Answer, Command, Op, Reply};
 
 const ALLOC_AND_CLOSE: [Command; 2] = [
     Command {
@@ -26,21 +21,21 @@ const SCAN: [Command; 1] = [Command {
 }];
 
 // The reply to a command.
-fn reply_at(answers: &AnswerLog, command: usize) -> Option<Result<Reply, Refusal>> {
-    let answer = answers.kept()?.get(command)?;
+fn reply_at(answers: &Vec<Answer>, command: usize) -> Option<Result<Reply, Refusal>> {
+    let answer = answers.get(command)?;
     Some(answer.reply)
 }
 
 // The section is done, and has so many answers.
-fn is_done(told: &Told, answers: usize) -> bool {
-    told.worked.rest.is_none() && told.worked.answers.len() == answers
+fn is_done(section: &SectionResult, answers: usize) -> bool {
+    section.worked.rest.is_none() && section.worked.answers.len() == answers
 }
 
 // The section stopped at this command, when so many of its steps and so many commands were answered.
-fn stopped_at(told: &Told, command: u32, steps: u32, answers: usize) -> bool {
+fn stopped_at(section: &SectionResult, command: u32, steps: u32, answers: usize) -> bool {
     let is_there =
-        matches!(told.stopped, Some((at, so_many, _)) if at == command && so_many == steps);
-    is_there && told.answered_then.len() == answers
+        matches!(section.stopped, Some((at, so_many, _)) if at == command && so_many == steps);
+    is_there && section.answered_then.len() == answers
 }
 
 #[test]
@@ -50,9 +45,9 @@ fn busy_63_times(rt: HostRuntime) {
         to: 63,
         period: 64,
     };
-    let told = section_on_new(&rt, rt.alloc(), busy, &ALLOC_AND_CLOSE, COUNT);
-    assert!(rt; told.stopped.is_none());
-    assert!(rt; is_done(&told, 2));
+    let section = section(&rt, rt.alloc(), Queued::Nothing, busy, &ALLOC_AND_CLOSE);
+    assert!(rt; section.stopped.is_none());
+    assert!(rt; is_done(&section, 2));
 }
 
 #[test]
@@ -62,19 +57,19 @@ fn busy_64_times(rt: HostRuntime) {
         to: 64,
         period: 1000,
     };
-    let told = section_on_new(&rt, rt.alloc(), busy, &ALLOC_AND_CLOSE, COUNT);
-    assert!(rt; stopped_at(&told, 0, 0, 0));
-    assert!(rt; is_done(&told, 2));
-    let answers = &told.worked.answers;
+    let section = section(&rt, rt.alloc(), Queued::Nothing, busy, &ALLOC_AND_CLOSE);
+    assert!(rt; stopped_at(&section, 0, 0, 0));
+    assert!(rt; is_done(&section, 2));
+    let answers = &section.worked.answers;
     assert!(rt; matches!(reply_at(answers, 0), Some(Ok(Reply::Page(PageId(0))))));
     assert!(rt; matches!(reply_at(answers, 1), Some(Ok(Reply::Unit))));
 }
 
 // One page was split, and one was pinned and went back.
-fn is_scanned(told: &Told) -> bool {
-    is_done(told, 1)
+fn is_scanned(section: &SectionResult) -> bool {
+    is_done(section, 1)
         && matches!(
-            reply_at(&told.worked.answers, 0),
+            reply_at(&section.worked.answers, 0),
             Some(Ok(Reply::Scan(ScanReply {
                 taken: 2,
                 split: 1,
@@ -93,15 +88,15 @@ fn scan_often_busy(rt: HostRuntime) {
         to: 63,
         period: 64,
     };
-    let told = section_on_queued(&rt, rt.alloc(), busy, &SCAN, COUNT);
-    assert!(rt; told.stopped.is_none());
-    assert!(rt; is_scanned(&told));
+    let section = section(&rt, rt.alloc(), Queued::TwoOnePinned, busy, &SCAN);
+    assert!(rt; section.stopped.is_none());
+    assert!(rt; is_scanned(&section));
 }
 
 // A scan that has taken two pages and split one of them by then.
-fn has_split_one_of_two(told: &Told) -> bool {
+fn has_split_one_of_two(section: &SectionResult) -> bool {
     matches!(
-        told.stopped,
+        section.stopped,
         Some((
             _,
             _,
@@ -124,10 +119,10 @@ fn scan_interrupted(rt: HostRuntime) {
         to: 66,
         period: 1000,
     };
-    let told = section_on_queued(&rt, rt.alloc(), busy, &SCAN, COUNT);
-    assert!(rt; stopped_at(&told, 0, 2, 0));
-    assert!(rt; has_split_one_of_two(&told));
-    assert!(rt; is_scanned(&told));
+    let section = section(&rt, rt.alloc(), Queued::TwoOnePinned, busy, &SCAN);
+    assert!(rt; stopped_at(&section, 0, 2, 0));
+    assert!(rt; has_split_one_of_two(&section));
+    assert!(rt; is_scanned(&section));
 }
 
 #[test]
@@ -151,10 +146,10 @@ fn open_batch_postponed(rt: HostRuntime) {
         to: 65,
         period: 1000,
     };
-    let told = section_on_pinned(&rt, rt.alloc(), busy, &commands, COUNT);
-    assert!(rt; stopped_at(&told, 1, 0, 1));
-    assert!(rt; is_done(&told, 3));
-    let answers = &told.worked.answers;
+    let section = section(&rt, rt.alloc(), Queued::OnePinned, busy, &commands);
+    assert!(rt; stopped_at(&section, 1, 0, 1));
+    assert!(rt; is_done(&section, 3));
+    let answers = &section.worked.answers;
     assert!(rt; matches!(reply_at(answers, 0), Some(Ok(Reply::Taken(1)))));
     assert!(rt;
         matches!(
@@ -164,7 +159,7 @@ fn open_batch_postponed(rt: HostRuntime) {
     );
     assert!(rt; matches!(reply_at(answers, 2), Some(Ok(Reply::Unit))));
     // the page was dropped, since the node was closed
-    assert!(rt; matches!(told.behind, Ok(Reply::Count(0))));
+    assert!(rt; matches!(section.queued, Ok(Reply::Count(0))));
 }
 
 #[test]
@@ -184,9 +179,9 @@ fn put_back_postponed(rt: HostRuntime) {
         to: 66,
         period: 1000,
     };
-    let told = section_on_queued(&rt, rt.alloc(), busy, &commands, COUNT);
-    assert!(rt; stopped_at(&told, 2, 0, 2));
-    let second = told.answered_then.get(1);
+    let section = section(&rt, rt.alloc(), Queued::TwoOnePinned, busy, &commands);
+    assert!(rt; stopped_at(&section, 2, 0, 2));
+    let second = section.answered_then.get(1);
     assert!(rt;
         matches!(
             second,
@@ -196,6 +191,6 @@ fn put_back_postponed(rt: HostRuntime) {
             })
         )
     );
-    assert!(rt; is_done(&told, 2));
-    assert!(rt; matches!(told.behind, Ok(Reply::Count(2))));
+    assert!(rt; is_done(&section, 2));
+    assert!(rt; matches!(section.queued, Ok(Reply::Count(2))));
 }

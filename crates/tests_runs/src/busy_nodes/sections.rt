@@ -1,56 +1,59 @@
-//! Sections on one node of two callers, from its making on.
-ghost use Rattle.std.specs.Prelude.{◌≡◌, ◌<◌, ◌^◌, All, length};
-ghost use Rattle.thp_sections.specs.Does.{IsStep};
-ghost use Rattle.thp_sections.specs.Fronts.{Goes};
-ghost use Rattle.thp_sections.specs.OpenBatches.{HasNoBatch};
-ghost use Rattle.thp_sections.specs.Passes.{fronts_in};
-ghost use Rattle.thp_sections.specs.Sections.{IsCommandFor};
+//! Sections on one node of two callers, from its making on. Want of memory is returned, so that each allocation can be made to fail.
+ghost use Rattle.std.specs.Prelude.{◌≡◌, ◌<◌, ◌^◌, All, IfOk, length};
+ghost use Rattle.thp_run.specs.Listed.{WorksOn};
+ghost use Rattle.thp_worker.specs.Does.{IsStep};
+ghost use Rattle.thp_worker.specs.Fronts.{Goes};
+ghost use Rattle.thp_worker.specs.OpenBatches.{HasNoBatch};
+ghost use Rattle.thp_worker.specs.Passes.{fronts_in};
+ghost use Rattle.thp_worker.specs.Sections.{IsCommandFor};
 ghost use Rattle.tests_runs.specs.Sharing.{OfTwo, WasWorked};
 
 use crate::busy_nodes::stutter::Stutter;
-use std::alloc::Global;
+use std::alloc::{AllocError, Global};
 use std::process::Abort;
 use thp_cell::{CellFault, NodeCell, Pass};
-use thp_model::{Gain, Loss, PageCall, Shape};
+use thp_model::{Refusal, Shape};
 use thp_node::{Node, ScanReply};
-use thp_sections::{
-    Answer, AnswerLog, Answers, Command, NoGate, NodeCall, NodePass, NodePasses, Reply, Step,
-    Steps, Worked, work, work_rest,
-};
+use thp_run::{Worked, work, work_rest};
+use thp_worker::{Answer, Command, NoGate, NodePass, NodePasses, Op, Reply, Step, Steps};
 
 // A node of 16 blocks of order 9, for two callers.
-pub fn cell_of(rt: &impl Abort, alloc: Global) -> (NodeCell, Pass)
-    ensures cell { result.1.cell ≡ result.0 }
-    ensures callers { result.1.callers ≡ 2 }
-    ensures first { result.1.first ≡ 0 }
-    ensures end { result.1.end ≡ 2 }
+pub fn cell_of(alloc: Global) -> Result<(NodeCell, Pass), AllocError>
+    ensures cell { IfOk result (λ r. r.1.cell ≡ r.0) }
+    ensures callers { IfOk result (λ r. r.1.callers ≡ 2) }
+    ensures first { IfOk result (λ r. r.1.first ≡ 0) }
+    ensures end { IfOk result (λ r. r.1.end ≡ 2) }
 {
     let shape = Shape {
         blocks: 16,
         order: 9,
         underused: None,
     };
-    let node = Node::new(alloc, shape).expect(rt, "a node");
-    NodeCell::new(alloc, node, 2).expect(rt, "a cell")
+    let Ok(node) = Node::new(alloc, shape) else {
+        return Err(AllocError);
+    };
+    match NodeCell::new(alloc, node, 2) {
+        Ok(made) => Ok(made),
+        Err(_) => Err(AllocError),
+    }
 }
 
 pub fn passes_of<'a>(
-    rt: &impl Abort,
     alloc: Global,
     cell: &'a NodeCell,
     pass: Pass,
-) -> NodePasses<'a>
+) -> Result<NodePasses<'a>, AllocError>
     requires cell { pass.cell ≡ cell.now }
     requires callers { pass.callers ≡ 2 }
     requires first { pass.first ≡ 0 }
     requires end { pass.end ≡ 2 }
-    ensures two { OfTwo (fronts_in result) }
-    ensures shut { HasNoBatch 1 (fronts_in result) }
+    ensures two { IfOk result (λ r. OfTwo (fronts_in r)) }
+    ensures shut { IfOk result (λ r. HasNoBatch 1 (fronts_in r)) }
 {
-    let node = NodePass::new(alloc, cell, pass).expect(rt, "room");
+    let node = NodePass::new(alloc, cell, pass)?;
     let mut nodes = Vec::new(alloc);
-    nodes.push(node).expect(rt, "room");
-    NodePasses::new(nodes, 2, 0, 2)
+    nodes.push(node)?;
+    Ok(NodePasses::new(nodes, 2, 0, 2))
 }
 
 // One step of a caller on the node.
@@ -74,18 +77,17 @@ pub struct BusyCalls {
 
 // A section of caller 1 on a node that is busy at chosen calls.
 pub fn begin<'a>(
-    rt: &impl Abort,
     alloc: Global,
     passes: NodePasses<'a>,
     busy: BusyCalls,
     commands: &[Command],
-) -> (NodePasses<'a>, Worked)
+) -> Result<(NodePasses<'a>, Worked), AllocError>
     requires two { OfTwo (fronts_in passes) }
     requires shut { HasNoBatch 1 (fronts_in passes) }
     requires few { length commands.now < 2 ^ 32 }
     requires commands { All (IsCommandFor 1) commands.now }
-    ensures two { OfTwo (fronts_in result.0) }
-    ensures worked { WasWorked 1 (fronts_in result.0) commands.now result.1 }
+    ensures two { IfOk result (λ r. OfTwo (fronts_in r.0)) }
+    ensures worked { IfOk result (λ r. WasWorked 1 (fronts_in r.0) commands.now r.1) }
 {
     let mut nodes = Stutter {
         inner: passes,
@@ -94,7 +96,7 @@ pub fn begin<'a>(
         to: busy.to,
         period: busy.period,
     };
-    let worked = work(alloc, commands, 1, Answers::Kept, &mut nodes, &NoGate).expect(rt, "memory");
+    let worked = work(alloc, commands, 1, &mut nodes, &NoGate)?;
     let Stutter {
         inner,
         calls: _,
@@ -102,180 +104,174 @@ pub fn begin<'a>(
         to: _,
         period: _,
     } = nodes;
-    (inner, worked)
+    Ok((inner, worked))
 }
 
 // What is left of the section, on a node that is never busy.
 pub fn go_on(
-    rt: &impl Abort,
+    alloc: Global,
     passes: &mut NodePasses<'_>,
     commands: &[Command],
     worked: Worked,
-) -> Worked
+) -> Result<Worked, AllocError>
     requires two { OfTwo (fronts_in passes.old) }
     requires few { length commands.now < 2 ^ 32 }
     requires commands { All (IsCommandFor 1) commands.now }
     requires worked { WasWorked 1 (fronts_in passes.old) commands.now worked }
     ensures two { OfTwo (fronts_in passes.new) }
 {
-    work_rest(commands, 1, worked, passes).expect(rt, "memory")
+    work_rest(alloc, commands, 1, worked, passes)
+}
+
+// What a step was answered; the test fails at any other refusal than want of memory.
+fn answered(rt: &impl Abort, called: Result<Reply, CellFault>) -> Result<Reply, AllocError> {
+    match called {
+        Ok(reply) => Ok(reply),
+        Err(fault) => {
+            assert!(rt; matches!(fault, CellFault::Refused(Refusal::OutOfMemory)));
+            Err(AllocError)
+        }
+    }
 }
 
 // Allocates the next page and unmaps its first subpage, so that it is queued.
-fn queue(rt: &impl Abort, passes: &mut NodePasses<'_>, page: u64)
+fn queue(rt: &impl Abort, passes: &mut NodePasses<'_>, page: u64) -> Result<(), AllocError>
     requires two { OfTwo (fronts_in passes.old) }
     ensures two { OfTwo (fronts_in passes.new) }
     ensures goes { Goes 0 (fronts_in passes.old) (fronts_in passes.new) }
 {
-    let alloc = Step::One(NodeCall::Alloc);
-    let allocated = step(passes, 0, alloc);
-    assert!(rt; matches!(allocated, Ok(Reply::Page(_))));
-    let split = Step::One(NodeCall::Page {
+    let allocated = answered(rt, step(passes, 0, Step::One(Op::Alloc)))?;
+    assert!(rt; matches!(allocated, Reply::Page(_)));
+    let divided = answered(rt, step(passes, 0, Step::One(Op::SplitPmd { page })))?;
+    assert!(rt; matches!(divided, Reply::Unit));
+    let unmap = Step::One(Op::Unmap {
+        first: 0,
+        count: 1,
         page,
-        call: PageCall::Gain(Gain::SplitPmd),
     });
-    let divided = step(passes, 0, split);
-    assert!(rt; matches!(divided, Ok(Reply::Unit)));
-    let unmap = Step::One(NodeCall::Page {
-        page,
-        call: PageCall::Loss(Loss::UnmapSub { first: 0, count: 1 }),
-    });
-    let queued = step(passes, 0, unmap);
-    assert!(rt; matches!(queued, Ok(Reply::Done(_))));
+    let queued = answered(rt, step(passes, 0, unmap))?;
+    assert!(rt; matches!(queued, Reply::Done(_)));
+    Ok(())
 }
 
 // Queues the next page, and pins it.
-fn queue_pinned(rt: &impl Abort, passes: &mut NodePasses<'_>, page: u64)
+fn queue_pinned(rt: &impl Abort, passes: &mut NodePasses<'_>, page: u64) -> Result<(), AllocError>
     requires two { OfTwo (fronts_in passes.old) }
     requires shut { HasNoBatch 1 (fronts_in passes.old) }
     ensures two { OfTwo (fronts_in passes.new) }
     ensures shut { HasNoBatch 1 (fronts_in passes.new) }
 {
-    queue(rt, passes, page);
-    let pin = Step::One(NodeCall::Page {
-        page,
-        call: PageCall::Gain(Gain::Pin),
-    });
-    assert!(rt; matches!(step(passes, 0, pin), Ok(Reply::Unit)));
+    queue(rt, passes, page)?;
+    let pinned = answered(rt, step(passes, 0, Step::One(Op::Pin { page })))?;
+    assert!(rt; matches!(pinned, Reply::Unit));
+    Ok(())
 }
 
 // Pages 0 and 1 are queued, and page 1 is pinned.
-fn queue_two(rt: &impl Abort, passes: &mut NodePasses<'_>)
+fn queue_two(rt: &impl Abort, passes: &mut NodePasses<'_>) -> Result<(), AllocError>
     requires two { OfTwo (fronts_in passes.old) }
     requires shut { HasNoBatch 1 (fronts_in passes.old) }
     ensures two { OfTwo (fronts_in passes.new) }
     ensures shut { HasNoBatch 1 (fronts_in passes.new) }
 {
-    queue(rt, passes, 0);
-    queue_pinned(rt, passes, 1);
+    queue(rt, passes, 0)?;
+    queue_pinned(rt, passes, 1)
 }
 
-// All answers of a log.
-fn answers_in(rt: &impl Abort, alloc: Global, log: &AnswerLog) -> Vec<Answer> {
-    let kept = log.kept().expect(rt, "answers that are kept");
-    let mut answers = Vec::new(alloc);
-    for place in 0..kept.len() {
-        let answer = kept.get(place).expect(rt, "an answer");
-        answers.push(answer).expect(rt, "room");
+// The pages that are queued before a section begins.
+#[derive(Clone, Copy)]
+pub enum Queued {
+    // None.
+    Nothing,
+    // Page 0, which is pinned.
+    OnePinned,
+    // Pages 0 and 1, of which page 1 is pinned.
+    TwoOnePinned,
+}
+
+fn queue_before(
+    rt: &impl Abort,
+    passes: &mut NodePasses<'_>,
+    queued: Queued,
+) -> Result<(), AllocError>
+    requires two { OfTwo (fronts_in passes.old) }
+    requires shut { HasNoBatch 1 (fronts_in passes.old) }
+    ensures two { OfTwo (fronts_in passes.new) }
+    ensures shut { HasNoBatch 1 (fronts_in passes.new) }
+{
+    match queued {
+        Queued::Nothing => Ok(()),
+        Queued::OnePinned => queue_pinned(rt, passes, 0),
+        Queued::TwoOnePinned => queue_two(rt, passes),
     }
-    answers
 }
 
-// What became of a section that was gone on with where it stopped.
+// A copy of answers.
+fn copied(alloc: Global, answers: &[Answer]) -> Result<Vec<Answer>, AllocError> {
+    let mut copies = Vec::new(alloc);
+    for answer in answers {
+        copies.push(*answer)?;
+    }
+    Ok(copies)
+}
+
+// A section that stopped and was continued where it stopped.
 #[derive(Drop)]
-pub struct Told {
+pub struct SectionResult {
     // the command where it stopped, how many of its steps were answered by then, and what these came to
     pub stopped: Option<(u32, u32, ScanReply)>,
     pub answered_then: Vec<Answer>,
     pub worked: Worked,
-    // the answer to a step behind the section
-    pub behind: Result<Reply, CellFault>,
+    // the length of the queue after the section
+    pub queued: Result<Reply, CellFault>,
 }
 
-// A section of caller 1 on a new node that is busy at chosen calls, what is left of it once the node is busy no more, and a
-// step of a caller behind it.
-pub fn section_on_new(
+// A section of caller 1 on a new node that is busy at chosen calls, and what is left of it once the node is busy no more.
+fn try_section(
     rt: &impl Abort,
     alloc: Global,
+    queued: Queued,
     busy: BusyCalls,
     commands: &[Command],
-    behind: (u32, Step),
-) -> Told
+) -> Result<SectionResult, AllocError>
     requires few { length commands.now < 2 ^ 32 }
     requires commands { All (IsCommandFor 1) commands.now }
-    requires caller { behind.0 < 2 }
-    requires step { IsStep behind.1 }
 {
-    let (cell, pass) = cell_of(rt, alloc);
-    let passes = passes_of(rt, alloc, &cell, pass);
-    go_through(rt, alloc, passes, busy, commands, behind)
-}
-
-// The same on a node whose queue has the pages 0 and 1, and page 1 is pinned.
-pub fn section_on_queued(
-    rt: &impl Abort,
-    alloc: Global,
-    busy: BusyCalls,
-    commands: &[Command],
-    behind: (u32, Step),
-) -> Told
-    requires few { length commands.now < 2 ^ 32 }
-    requires commands { All (IsCommandFor 1) commands.now }
-    requires caller { behind.0 < 2 }
-    requires step { IsStep behind.1 }
-{
-    let (cell, pass) = cell_of(rt, alloc);
-    let mut passes = passes_of(rt, alloc, &cell, pass);
-    queue_two(rt, &mut passes);
-    go_through(rt, alloc, passes, busy, commands, behind)
-}
-
-// The same on a node whose queue has page 0 alone, which is pinned.
-pub fn section_on_pinned(
-    rt: &impl Abort,
-    alloc: Global,
-    busy: BusyCalls,
-    commands: &[Command],
-    behind: (u32, Step),
-) -> Told
-    requires few { length commands.now < 2 ^ 32 }
-    requires commands { All (IsCommandFor 1) commands.now }
-    requires caller { behind.0 < 2 }
-    requires step { IsStep behind.1 }
-{
-    let (cell, pass) = cell_of(rt, alloc);
-    let mut passes = passes_of(rt, alloc, &cell, pass);
-    queue_pinned(rt, &mut passes, 0);
-    go_through(rt, alloc, passes, busy, commands, behind)
-}
-
-fn go_through(
-    rt: &impl Abort,
-    alloc: Global,
-    passes: NodePasses<'_>,
-    busy: BusyCalls,
-    commands: &[Command],
-    behind: (u32, Step),
-) -> Told
-    requires two { OfTwo (fronts_in passes) }
-    requires shut { HasNoBatch 1 (fronts_in passes) }
-    requires few { length commands.now < 2 ^ 32 }
-    requires commands { All (IsCommandFor 1) commands.now }
-    requires caller { behind.0 < 2 }
-    requires step { IsStep behind.1 }
-{
-    let (mut passes, worked) = begin(rt, alloc, passes, busy, commands);
+    let (cell, pass) = cell_of(alloc)?;
+    let mut passes = passes_of(alloc, &cell, pass)?;
+    queue_before(rt, &mut passes, queued)?;
+    let (mut passes, worked) = begin(alloc, passes, busy, commands)?;
     let stopped = match &worked.rest {
         Some(rest) => Some((rest.command, rest.steps, rest.so_far)),
         None => None,
     };
-    let answered_then = answers_in(rt, alloc, &worked.answers);
-    let worked = go_on(rt, &mut passes, commands, worked);
-    let behind = step(&mut passes, behind.0, behind.1);
-    Told {
+    let answered_then = copied(alloc, worked.answers.as_slice())?;
+    let worked = go_on(alloc, &mut passes, commands, worked)?;
+    let queued = step(&mut passes, 0, Step::One(Op::Count));
+    Ok(SectionResult {
         stopped,
         answered_then,
         worked,
-        behind,
+        queued,
+    })
+}
+
+// The same at the second try at the latest: only the first may lack memory.
+pub fn section(
+    rt: &(impl Abort + Print),
+    alloc: Global,
+    queued: Queued,
+    busy: BusyCalls,
+    commands: &[Command],
+) -> SectionResult
+    requires few { length commands.now < 2 ^ 32 }
+    requires commands { All (IsCommandFor 1) commands.now }
+{
+    match try_section(rt, alloc, queued, busy, commands) {
+        Ok(result) => result,
+        Err(_) => {
+            println!(rt; "refused: a section on a busy node").expect(rt, "standard output");
+            try_section(rt, alloc, queued, busy, commands).expect(rt, "memory at the second try")
+        }
     }
 }

@@ -1,11 +1,11 @@
 //! Nodes that are busy at chosen calls.
 ghost use Rattle.std.specs.Prelude.{◌≡◌};
-ghost use Rattle.thp_sections.specs.Passes.{fronts_in};
+ghost use Rattle.thp_worker.specs.Passes.{fronts_in};
 
 use thp_cell::CellFault;
-use thp_sections::{NodePasses, Reply, Step, Steps};
+use thp_worker::{NodePasses, Reply, Step, Steps};
 
-/// Nodes that answer `Busy` to the calls from `from` on and before `to`, counted from 0 and anew after each `period`, and hand
+/// Nodes that return `Busy` to the calls from `from` on and before `to`, counted from 0 and again after each `period`, and pass
 /// all others on.
 ///
 /// They count as shared with another holder, since a holder of all callers is never busy.
@@ -19,7 +19,7 @@ pub struct Stutter<'a> {
 }
 
 impl<'a> Steps for Stutter<'a> {
-    ghost use Rattle.thp_sections.specs.Passes.{fronts_in};
+    ghost use Rattle.thp_worker.specs.Passes.{fronts_in};
     ghost use Rattle.tests_runs.specs.Sharing.{shared};
 
     ghost fronts = { λ s. shared (fronts_in s.inner) };

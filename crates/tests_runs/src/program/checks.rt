@@ -4,7 +4,7 @@ use crate::program::whole_runs::FIRST_SCRIPT;
 use std::alloc::Global;
 use thp_run::{Report, RunFault, Settings, TextKind, Watched, check_run};
 
-/// What is written about a journal, and whether it is legal.
+/// The output for a journal, and whether it is legal.
 fn checked(alloc: Global, journal: &[u8]) -> Result<(bool, Vec<u8>), RunFault> {
     let mut reader = Watched::new(journal);
     let mut writer: Watched<Vec<u8>> = Watched::new(Vec::new(alloc));
@@ -12,7 +12,7 @@ fn checked(alloc: Global, journal: &[u8]) -> Result<(bool, Vec<u8>), RunFault> {
     Ok((legal, writer.into_inner()))
 }
 
-/// Whether a journal is told to be legal or not, by this text.
+/// Whether a journal is reported as legal or not, by this text.
 pub(crate) fn tells(alloc: Global, journal: &[u8], legal: bool, text: &[u8]) -> bool {
     match checked(alloc, journal) {
         Ok((told, written)) => told == legal && written.as_slice() == text,
@@ -20,7 +20,7 @@ pub(crate) fn tells(alloc: Global, journal: &[u8], legal: bool, text: &[u8]) -> 
     }
 }
 
-/// The first fault of a journal by line and kind.
+/// The first error of a journal by line and kind.
 fn first_fault(alloc: Global, journal: &[u8]) -> Option<(u32, TextKind)> {
     match checked(alloc, journal) {
         Err(RunFault::Text { line, kind }) => Some((line, kind)),
@@ -95,7 +95,7 @@ fn journal_check_and_cuts(rt: HostRuntime) {
     assert!(rt; tells(alloc, TAKES_THE_SECOND, false, b"illegal line 9\n"));
     assert!(rt; tells(alloc, TAKES_THE_FIRST, true, b"legal\n"));
     let length = TAKES_THE_FIRST.len();
-    // cut within line 9, and behind it
+    // cut within line 9, and after it
     assert!(rt; first_fault(alloc, &TAKES_THE_FIRST[..length - 8]) == Some((9, TextKind::Cut)));
     assert!(rt; first_fault(alloc, &TAKES_THE_FIRST[..length - 4]) == Some((10, TextKind::Cut)));
 }
@@ -110,7 +110,7 @@ fn journal_of_a_run(rt: HostRuntime) {
     };
     let journal = journal.as_slice();
     assert!(rt; tells(alloc, journal, true, b"legal\n"));
-    // each front of it is cut, and tells where
+    // each prefix of it is cut, with the line reported
     for count in 0..journal.len() {
         let front = &journal[..count];
         let lines = front.iter().filter(|b| **b == b'\n').count();

@@ -15,7 +15,7 @@ impl Read for NoReads {
     }
 }
 
-/// A writer that takes so many bytes, then fails; it may fail when it is flushed, too.
+/// A writer that takes this many bytes, then fails; it may fail when it is flushed, too.
 #[derive(Drop)]
 struct Takes {
     room: usize,
@@ -45,7 +45,7 @@ impl Write for Takes {
     }
 }
 
-/// Faults in the words of commands, each in line 2.
+/// Errors in the words of commands, each in line 2.
 const COMMAND_FAULTS: [(&[u8], &str); 14] = [
     (b"setup\nmapwhole 0\n", "line 2: bad-count"),
     (b"setup\nunmapwhole 0 0 0\n", "line 2: bad-count"),

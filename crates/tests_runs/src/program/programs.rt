@@ -1,10 +1,10 @@
-//! The program: from the words of its command line to its exit status and what it writes.
+//! The program: from the words of its command line to its exit status and its output.
 use crate::program::whole_runs::FIRST_SCRIPT;
 use std::alloc::{AllocError, Global};
 use std::thread::Threads;
 use thp_run::{Watched, run_program};
 
-/// What the program does: its exit status, standard output and standard error.
+/// The result of the program: its exit status, standard output and standard error.
 struct Ended {
     status: u8,
     output: Vec<u8>,

@@ -1,4 +1,4 @@
-//! What rows of runs share: a run on memory, and what it is compared with.
+//! Shared parts of rows of runs: a run in memory, and comparisons of its result.
 use std::alloc::Global;
 use std::thread::Threads;
 use thp_run::{NoGate, Report, RunFault, Settings, Watched, run};
@@ -16,7 +16,7 @@ pub(crate) fn run_with<T: Threads + Sync>(
     Ok(writer.into_inner())
 }
 
-/// The totals of a script on a node of so many blocks.
+/// The totals of a script on a node of this many blocks.
 fn totals_of<T: Threads + Sync>(
     rt: &T,
     alloc: Global,

@@ -1,7 +1,7 @@
 //! Rows of open batches in sections.
-use crate::scripts::runs::{Said, are_answers, events_on, ran, settings_of};
+use crate::scripts::runs::{ExpectedAnswer, are_answers, events_on, ran, settings_of};
 use thp_model::{Outcome, Refusal};
-use thp_sections::NoGate;
+use thp_worker::NoGate;
 
 #[test]
 fn freed_from_a_batch_and_block_reused(rt: HostRuntime) {
@@ -10,15 +10,15 @@ fn freed_from_a_batch_and_block_reused(rt: HostRuntime) {
         b"setup\nalloc 0\nsplitpmd 0 0\nunmap 0 0 0 1\ntake 0 8\nunmap 0 0 1 511\nalloc 0\nsplitnext 0\nputback 0\ncount 0\n";
     let run = ran(&rt, rt.alloc(), &settings, script.as_slice(), &NoGate);
     let wanted = [
-        Said::Page(0),
-        Said::Done,
-        Said::Lost(Outcome::Queued),
-        Said::Taken(1),
-        Said::Lost(Outcome::Freed),
-        Said::Page(1),
-        Said::NoMore,
-        Said::Back(0, 0),
-        Said::Queued(0),
+        ExpectedAnswer::Page(0),
+        ExpectedAnswer::Done,
+        ExpectedAnswer::Lost(Outcome::Queued),
+        ExpectedAnswer::Taken(1),
+        ExpectedAnswer::Lost(Outcome::Freed),
+        ExpectedAnswer::Page(1),
+        ExpectedAnswer::NoMore,
+        ExpectedAnswer::Back(0, 0),
+        ExpectedAnswer::Queued(0),
     ];
     assert!(&rt; are_answers(&run, 0, &wanted));
     assert!(&rt; are_answers(&run, 1, &[]));
@@ -31,24 +31,24 @@ fn closed_node_drops(rt: HostRuntime) {
         b"setup\nalloc 0\nsplitpmd 0 0\nunmap 0 0 0 1\nalloc 0\nsplitpmd 0 1\nunmap 0 1 0 1\npin 0 0\npin 0 1\ntake 0 1\nclose 0\nsplitnext 0\nputback 0\nscan 0 8\nalloc 0\nclose 0\nunpin 0 0\nunmap 0 0 1 1\ncount 0\n";
     let run = ran(&rt, rt.alloc(), &settings, script.as_slice(), &NoGate);
     let wanted = [
-        Said::Page(0),
-        Said::Done,
-        Said::Lost(Outcome::Queued),
-        Said::Page(1),
-        Said::Done,
-        Said::Lost(Outcome::Queued),
-        Said::Done,
-        Said::Done,
-        Said::Taken(1),
-        Said::Done,
-        Said::Pinned(0),
-        Said::Back(0, 1),
-        Said::Scanned(1, 0, 1, 0, 1),
-        Said::Refused(Refusal::Closed),
-        Said::Refused(Refusal::Closed),
-        Said::Lost(Outcome::Stays),
-        Said::Lost(Outcome::Stays),
-        Said::Queued(0),
+        ExpectedAnswer::Page(0),
+        ExpectedAnswer::Done,
+        ExpectedAnswer::Lost(Outcome::Queued),
+        ExpectedAnswer::Page(1),
+        ExpectedAnswer::Done,
+        ExpectedAnswer::Lost(Outcome::Queued),
+        ExpectedAnswer::Done,
+        ExpectedAnswer::Done,
+        ExpectedAnswer::Taken(1),
+        ExpectedAnswer::Done,
+        ExpectedAnswer::Pinned(0),
+        ExpectedAnswer::Back(0, 1),
+        ExpectedAnswer::Scanned(1, 0, 1, 0, 1),
+        ExpectedAnswer::Refused(Refusal::Closed),
+        ExpectedAnswer::Refused(Refusal::Closed),
+        ExpectedAnswer::Lost(Outcome::Stays),
+        ExpectedAnswer::Lost(Outcome::Stays),
+        ExpectedAnswer::Queued(0),
     ];
     assert!(&rt; are_answers(&run, 0, &wanted));
 }
@@ -60,22 +60,22 @@ fn one_batch_at_a_time(rt: HostRuntime) {
         b"worker 1\nalloc 0\nsplitpmd 0 0\nunmap 0 0 0 1\ntake 0 8\ntake 0 8\nscan 0 1\nsplitnext 0\nputback 0\nputback 0\nsplitnext 0\n";
     let run = ran(&rt, rt.alloc(), &settings, script.as_slice(), &NoGate);
     let wanted = [
-        Said::Page(0),
-        Said::Done,
-        Said::Lost(Outcome::Queued),
-        Said::Taken(1),
-        Said::Refused(Refusal::HasBatch),
-        Said::Refused(Refusal::HasBatch),
-        Said::Split(0),
-        Said::Back(0, 0),
-        Said::NoBatch,
-        Said::NoBatch,
+        ExpectedAnswer::Page(0),
+        ExpectedAnswer::Done,
+        ExpectedAnswer::Lost(Outcome::Queued),
+        ExpectedAnswer::Taken(1),
+        ExpectedAnswer::Refused(Refusal::HasBatch),
+        ExpectedAnswer::Refused(Refusal::HasBatch),
+        ExpectedAnswer::Split(0),
+        ExpectedAnswer::Back(0, 0),
+        ExpectedAnswer::NoBatch,
+        ExpectedAnswer::NoBatch,
     ];
     assert!(&rt; are_answers(&run, 0, &[]));
     assert!(&rt; are_answers(&run, 1, &wanted));
 }
 
-// A batch that setup leaves open goes back before the workers start: the worker finds the page queued.
+// A batch that setup leaves open is put back before the workers start: the worker finds the page queued.
 #[test]
 fn open_batch_goes_back_at_a_sections_end(rt: HostRuntime) {
     let settings = settings_of(&rt, 1, 16, 1);
@@ -83,13 +83,19 @@ fn open_batch_goes_back_at_a_sections_end(rt: HostRuntime) {
         b"setup\nalloc 0\nsplitpmd 0 0\nunmap 0 0 0 1\ntake 0 8\nworker 1\ncount 0\ntake 0 8\n";
     let run = ran(&rt, rt.alloc(), &settings, script.as_slice(), &NoGate);
     let wanted = [
-        Said::Page(0),
-        Said::Done,
-        Said::Lost(Outcome::Queued),
-        Said::Taken(1),
+        ExpectedAnswer::Page(0),
+        ExpectedAnswer::Done,
+        ExpectedAnswer::Lost(Outcome::Queued),
+        ExpectedAnswer::Taken(1),
     ];
     assert!(&rt; are_answers(&run, 0, &wanted));
-    assert!(&rt; are_answers(&run, 1, &[Said::Queued(1), Said::Taken(1)]));
+    assert!(&rt;
+        are_answers(
+            &run,
+            1,
+            &[ExpectedAnswer::Queued(1), ExpectedAnswer::Taken(1)]
+        )
+    );
     // the page was taken and put back twice
     assert_eq!(&rt; events_on(&run, 0), 7);
 }
@@ -101,10 +107,10 @@ fn pinned_goes_to_the_tail(rt: HostRuntime) {
         b"setup\nalloc 0\nsplitpmd 0 0\nunmap 0 0 0 1\nalloc 0\nsplitpmd 0 1\nunmap 0 1 0 1\npin 0 0\nworker 1\nscan 0 3\nscan 0 0\nunpin 0 0\nscan 0 3\n";
     let run = ran(&rt, rt.alloc(), &settings, script.as_slice(), &NoGate);
     let wanted = [
-        Said::Scanned(2, 1, 1, 1, 0),
-        Said::Scanned(0, 0, 0, 0, 0),
-        Said::Lost(Outcome::Stays),
-        Said::Scanned(1, 1, 0, 0, 0),
+        ExpectedAnswer::Scanned(2, 1, 1, 1, 0),
+        ExpectedAnswer::Scanned(0, 0, 0, 0, 0),
+        ExpectedAnswer::Lost(Outcome::Stays),
+        ExpectedAnswer::Scanned(1, 1, 0, 0, 0),
     ];
     assert!(&rt; are_answers(&run, 1, &wanted));
 }

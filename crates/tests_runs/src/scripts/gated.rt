@@ -1,20 +1,20 @@
 //! Two workers whose commands are done in a chosen order, by a gate that holds them up.
-use crate::scripts::runs::{Said, are_answers, events_on, ran, settings_of};
+use crate::scripts::runs::{ExpectedAnswer, are_answers, events_on, ran, settings_of};
 use crate::turns::InTurns;
-use std::alloc::Global;
+use std::alloc::{AllocError, Global};
 use std::process::Abort;
 use std::thread::Threads;
-use thp_script_runs::Ran;
+use thp_runner::RunResult;
 
-// Runs a script of two workers with two commands each, `first` before `other`, and looks at the answers of both.
+// Runs a script of two workers with two commands each, `first` before `other`, and checks the answers of both.
 fn take_turns<R: Threads + Abort + Sync>(
     rt: &R,
     alloc: Global,
     first: u32,
     other: u32,
     script: &[u8],
-    wanted: [&[Said]; 2],
-) -> Ran {
+    wanted: [&[ExpectedAnswer]; 2],
+) -> RunResult {
     let settings = settings_of(rt, 1, 16, first.max(other));
     let gate = InTurns::new(first, other);
     let run = ran(rt, alloc, &settings, script, &gate);
@@ -28,10 +28,10 @@ const TWO_ALLOCATIONS: &[u8] = b"worker 1\nalloc 0\nalloc 0\nworker 2\nalloc 0\n
 
 const BY_9_AND_63: &[u8] = b"worker 9\nalloc 0\nalloc 0\nworker 63\nalloc 0\nalloc 0\n";
 
-// What the worker that goes first is answered, and what the other one.
-const EARLIER: &[Said] = &[Said::Page(0), Said::Page(2)];
+// The answers of the worker that goes first, and of the other one.
+const EARLIER: &[ExpectedAnswer] = &[ExpectedAnswer::Page(0), ExpectedAnswer::Page(2)];
 
-const LATER: &[Said] = &[Said::Page(1), Said::Page(3)];
+const LATER: &[ExpectedAnswer] = &[ExpectedAnswer::Page(1), ExpectedAnswer::Page(3)];
 
 #[test]
 fn gated_workers(rt: HostRuntime) {
@@ -58,7 +58,27 @@ fn gated_worker_63(rt: HostRuntime) {
 fn gated_batches(rt: HostRuntime) {
     let script =
         b"setup\nalloc 0\nsplitpmd 0 0\nunmap 0 0 0 1\nalloc 0\nsplitpmd 0 1\nunmap 0 1 0 1\nworker 1\ntake 0 1\nputback 0\nworker 2\ntake 0 1\nputback 0\n";
-    let wanted: &[Said] = &[Said::Taken(1), Said::Back(1, 0)];
+    let wanted: &[ExpectedAnswer] = &[ExpectedAnswer::Taken(1), ExpectedAnswer::Back(1, 0)];
     let run = take_turns(&rt, rt.alloc(), 2, 1, script.as_slice(), [wanted, wanted]);
     assert_eq!(rt; events_on(&run, 0), 10);
+}
+
+// A script of `setup` that allocates and frees 4,096 pages and then has two more, each of which a worker pins twice.
+fn late_pages(alloc: Global) -> Result<String, AllocError> {
+    let mut text = String::from_str(alloc, "setup\n")?;
+    for page in 0..4_096u32 {
+        let lines = format!(in alloc; "alloc 0\nunmapwhole 0 {page}\n")?;
+        text.push_str(lines.as_str())?;
+    }
+    text.push_str("alloc 0\nalloc 0\n")?;
+    text.push_str("worker 1\npin 0 4096\npin 0 4096\nworker 2\npin 0 4097\npin 0 4097\n")?;
+    Ok(text)
+}
+
+// Pages of high numbers are reached while the other worker has its pass, too.
+#[test]
+fn gated_late_pages(rt: HostRuntime) {
+    let script = late_pages(rt.alloc()).expect(&rt, "a script");
+    let wanted: &[ExpectedAnswer] = &[ExpectedAnswer::Done, ExpectedAnswer::Done];
+    let _run = take_turns(&rt, rt.alloc(), 1, 2, script.as_bytes(), [wanted, wanted]);
 }

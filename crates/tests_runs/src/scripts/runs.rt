@@ -1,16 +1,16 @@
-//! Runs of scripts that are given as texts, and what their commands are answered.
+//! Runs of scripts that are given as texts, and the answers to their commands.
 use std::alloc::Global;
 use std::process::Abort;
 use std::thread::Threads;
 use thp_model::{Outcome, PageId, Refusal};
 use thp_node::{BackReply, ScanReply, Tried};
-use thp_script_runs::{Ran, run_script};
-use thp_sections::{Answer, Gate, Reply};
-use thp_text::{Report, Settings, read_script};
+use thp_runner::{RunResult, run_script};
+use thp_script::{Report, Settings, read_script};
+use thp_worker::{Answer, Gate, Reply};
 
-// An answer, as far as rows tell it.
+// An answer, as far as rows show it.
 #[derive(Clone, Copy, PartialEq, Eq, Debug)]
-pub(crate) enum Said {
+pub(crate) enum ExpectedAnswer {
     Page(u64),
     Done,
     Lost(Outcome),
@@ -27,11 +27,11 @@ pub(crate) enum Said {
     Refused(Refusal),
 }
 
-fn said_of(reply: Reply) -> Said {
+fn expected_of(reply: Reply) -> ExpectedAnswer {
     match reply {
-        Reply::Page(PageId(page)) => Said::Page(page),
-        Reply::Unit => Said::Done,
-        Reply::Done(done) => Said::Lost(done.outcome),
+        Reply::Page(PageId(page)) => ExpectedAnswer::Page(page),
+        Reply::Unit => ExpectedAnswer::Done,
+        Reply::Done(done) => ExpectedAnswer::Lost(done.outcome),
         Reply::Scan(
             ScanReply {
                 taken,
@@ -41,26 +41,27 @@ fn said_of(reply: Reply) -> Said {
                 dropped,
                 used: _,
             },
-        ) => Said::Scanned(taken, split, pinned, back, dropped),
-        Reply::Count(count) => Said::Queued(count),
-        Reply::Taken(taken) => Said::Taken(taken),
-        Reply::Tried(Tried::Split(PageId(page))) => Said::Split(page),
-        Reply::Tried(Tried::Pinned(PageId(page)) | Tried::Used(PageId(page))) => Said::Pinned(page),
-        Reply::Tried(Tried::Done) => Said::NoMore,
-        Reply::Back(BackReply { back, dropped }) => Said::Back(back, dropped),
-        Reply::NoBatch => Said::NoBatch,
+        ) => ExpectedAnswer::Scanned(taken, split, pinned, back, dropped),
+        Reply::Count(count) => ExpectedAnswer::Queued(count),
+        Reply::Taken(taken) => ExpectedAnswer::Taken(taken),
+        Reply::Tried(Tried::Split(PageId(page))) => ExpectedAnswer::Split(page),
+        Reply::Tried(Tried::Pinned(PageId(page)) | Tried::Used(PageId(page))) =>
+            ExpectedAnswer::Pinned(page),
+        Reply::Tried(Tried::Done) => ExpectedAnswer::NoMore,
+        Reply::Back(BackReply { back, dropped }) => ExpectedAnswer::Back(back, dropped),
+        Reply::NoBatch => ExpectedAnswer::NoBatch,
     }
 }
 
-fn answered(answer: Answer) -> Said {
+fn answered(answer: Answer) -> ExpectedAnswer {
     match answer.reply {
-        Ok(reply) => said_of(reply),
-        Err(refusal) => Said::Refused(refusal),
+        Ok(reply) => expected_of(reply),
+        Err(refusal) => ExpectedAnswer::Refused(refusal),
     }
 }
 
 // The answers of a section are these.
-pub(crate) fn are_answers(ran: &Ran, section: usize, wanted: &[Said]) -> bool {
+pub(crate) fn are_answers(ran: &RunResult, section: usize, wanted: &[ExpectedAnswer]) -> bool {
     match ran.sections.get(section) {
         Some(section) => match section.answers.kept() {
             Some(answers) => {
@@ -77,7 +78,7 @@ pub(crate) fn are_answers(ran: &Ran, section: usize, wanted: &[Said]) -> bool {
 }
 
 // How many events the journal of a node has.
-pub(crate) fn events_on(ran: &Ran, node: usize) -> usize {
+pub(crate) fn events_on(ran: &RunResult, node: usize) -> usize {
     match ran.nodes.get(node) {
         Some(node) => node.journal().len(),
         None => 0,
@@ -91,12 +92,12 @@ pub(crate) fn ran<R: Threads + Abort + Sync, G: Gate + Sync>(
     settings: &Settings,
     text: &[u8],
     gate: &G,
-) -> Ran {
+) -> RunResult {
     let script = read_script(alloc, settings, text).expect(rt, "a script");
     run_script(rt, alloc, settings, script, gate).expect(rt, "memory")
 }
 
-// So many nodes of so many blocks, and workers.
+// Settings of this many nodes, blocks and workers.
 pub(crate) fn settings_of(rt: &impl Abort, nodes: u32, blocks: u32, workers: u32) -> Settings {
     Settings::new(nodes, blocks, workers, Report::Answers).expect(rt, "settings")
 }

@@ -1,4 +1,4 @@
-//! Open batches as a caller's own events tell them.
+//! Open batches, reconstructed from a caller's own events.
 use crate::stress::parts::Part;
 use crate::stress::tallies::Tally;
 use std::alloc::Global;
@@ -13,7 +13,7 @@ pub(crate) struct Batch {
 }
 
 impl Batch {
-    // The batch that the caller's next events take, so many.
+    // The batch that the caller's next `count` events take.
     pub(crate) fn take(alloc: Global, part: &mut Part<'_>, count: u32) -> Option<Batch> {
         let mut pages = Vec::new(alloc);
         for _ in 0..count {
@@ -25,7 +25,7 @@ impl Batch {
         Some(Batch { pages, passed: 0 })
     }
 
-    // Goes to a page behind those that were passed, past freed pages alone; answers its place.
+    // Moves to a page after those that were passed, passing only freed pages; returns its index.
     fn go_to(&mut self, tally: &Tally, page: PageId) -> Option<usize> {
         for place in self.passed..self.pages.len() {
             if let Some(other) = self.pages[place] {
@@ -41,7 +41,7 @@ impl Batch {
         None
     }
 
-    // No page but freed ones stands behind those that were passed.
+    // Only freed pages follow those that were passed.
     pub(crate) fn is_passed(&self, tally: &Tally) -> bool {
         for place in self.passed..self.pages.len() {
             if let Some(page) = self.pages[place] {
@@ -80,7 +80,7 @@ impl Batch {
         }
     }
 
-    // The put-back that is the caller's next events, so many: each page that is left goes back or is dropped, in order.
+    // The put back in the caller's next events: each remaining page is put back or dropped, in order.
     pub(crate) fn put_back(
         self,
         tally: &Tally,

@@ -1,9 +1,9 @@
-//! What a command's answer says of its events.
+//! The events that a command's answer implies.
 use thp_model::{PageId, Refusal, What};
-use thp_sections::Reply;
-use thp_text::Op;
+use thp_script::Op;
+use thp_worker::Reply;
 
-// The event that a command of one call left, by its answer. Blocks aren't told.
+// The event that a command of one call left, according to its answer. Blocks are not included.
 pub(crate) fn event_of(op: Op, reply: Reply) -> Option<What> {
     match (op, reply) {
         (Op::Alloc, Reply::Page(page)) => Some(What::Alloc { page, block: 0 }),
@@ -55,7 +55,7 @@ pub(crate) fn without_block(what: What) -> What {
     }
 }
 
-// Whether a command of this kind may be refused so. Want of memory is no answer of a run.
+// Whether a command of this kind may have this refusal. Lack of memory is no answer of a run.
 pub(crate) fn may_refuse(op: Op, refusal: Refusal) -> bool {
     match refusal {
         Refusal::OutOfMemory => false,

@@ -1,7 +1,7 @@
-//! A page as the events of its node tell it.
+//! A page, reconstructed from the events of its node.
 use std::alloc::{AllocError, Global};
 
-// A page's mappings, counted one by one, and where it stands.
+// A page's mappings, counted one by one, and the list that it is on.
 #[derive(Drop)]
 pub(crate) struct PageSeen {
     pub(crate) whole: u32,
@@ -74,7 +74,7 @@ impl PageSeen {
         Some(())
     }
 
-    // So many mappings of the whole page become mappings of each subpage.
+    // This many mappings of the whole page become mappings of each subpage.
     pub(crate) fn spread(&mut self, mappings: u32) -> Option<()> {
         self.whole = self.whole.checked_sub(mappings)?;
         for own in self.own.iter_mut() {

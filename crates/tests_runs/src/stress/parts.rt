@@ -6,13 +6,13 @@ use thp_model::{Event, What};
 #[derive(Drop)]
 pub(crate) struct Part<'a> {
     events: &'a [Event],
-    // where the caller's events stand
+    // the indices of the caller's events
     places: Vec<usize>,
     explained: usize,
 }
 
 impl<'a> Part<'a> {
-    // The part of a caller, of which nothing is explained.
+    // The part of a caller, before any of it is explained.
     pub(crate) fn new(
         alloc: Global,
         events: &'a [Event],
@@ -44,7 +44,7 @@ impl<'a> Part<'a> {
         self.places.len().saturating_sub(self.explained)
     }
 
-    // How many events of the node stand before what the caller does next: at least, and at most.
+    // The number of events of the node before the caller's next event: at least, and at most.
     pub(crate) fn before(&self) -> (usize, usize) {
         let least = match self.explained.checked_sub(1) {
             Some(last) => match self.places.get(last) {

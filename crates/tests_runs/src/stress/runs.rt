@@ -6,12 +6,12 @@ use std::sync::atomic::{AtomicU32, Ordering};
 use std::thread;
 use std::thread::Threads;
 use std::time::{Clock, Duration};
-use thp_script_runs::{Ran, run_script};
-use thp_sections::Gate;
-use thp_text::{Report, Script, Settings, read_script};
+use thp_runner::{RunResult, run_script};
+use thp_script::{Report, Script, Settings, read_script};
+use thp_worker::Gate;
 
-// Lets workers do their commands one at a time, each two of them at most before another's, if they are to take turns at
-// all. Who waits long goes on.
+// Lets workers execute their commands one at a time, at most two in a row before another's, if they take turns at all. A worker
+// that waits long continues.
 #[derive(Drop)]
 struct Turns<'r, R> {
     rt: &'r R,
@@ -68,13 +68,13 @@ pub(crate) fn settings_of(rt: &impl Abort, plan: &Plan) -> Settings {
         .expect(rt, "thresholds")
 }
 
-// The script of a plan, and what its run leaves.
+// The script of a plan, and the result of its run.
 pub(crate) fn ran<R: Threads + Clock + Abort + Sync>(
     rt: &R,
     alloc: Global,
     plan: &Plan,
     settings: &Settings,
-) -> (Script, Ran) {
+) -> (Script, RunResult) {
     let text = script(alloc, plan).expect(rt, "room");
     let commands = read_script(alloc, settings, text.as_bytes()).expect(rt, "a script");
     let script = read_script(alloc, settings, text.as_bytes()).expect(rt, "a script");

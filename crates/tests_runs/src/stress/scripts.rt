@@ -15,7 +15,7 @@ pub(crate) const UNDERUSED: [Option<u32>; 8] = [
     None,
 ];
 
-// What a script is made of.
+// The parameters of a script.
 #[derive(Clone, Copy)]
 pub(crate) struct Plan {
     pub(crate) seed: u64,
@@ -25,7 +25,7 @@ pub(crate) struct Plan {
     pub(crate) commands: u32,
     // how many commands of a worker pass until its pages are one number further
     pub(crate) pace: u64,
-    // whether the workers take turns, or all go on at once
+    // whether the workers take turns, or all run at once
     pub(crate) take_turns: bool,
 }
 
@@ -53,7 +53,7 @@ fn order_of(node: u64) -> u32 {
     }
 }
 
-// Writes a command about a page, chosen by a number. Subpage 0 comes and goes on its own, the others together.
+// Writes a command about a page, chosen by a number. Subpage 0 is mapped and unmapped on its own, the others together.
 fn write_page_command(
     text: &mut String,
     state: u64,

@@ -10,11 +10,11 @@ use std::thread::Threads;
 use std::time::Clock;
 use thp_check::check;
 use thp_node::Node;
-use thp_script_runs::Ran;
-use thp_sections::{KeptSection, kept_sections};
-use thp_text::{Script, Settings};
+use thp_runner::RunResult;
+use thp_script::{Script, Settings};
+use thp_worker::{KeptSection, kept_sections};
 
-// What the events of each node add up to.
+// The sums of the events of each node.
 fn tallies_of(alloc: Global, nodes: &[Node]) -> Option<Vec<Tally>> {
     let mut tallies = Vec::new(alloc);
     for node in nodes {
@@ -45,7 +45,7 @@ fn explain_sections(
     }
 }
 
-// The reports tell what the nodes and the answers say.
+// The reports agree with the nodes and the answers.
 fn tell_the_run(
     rt: &impl Abort,
     alloc: Global,
@@ -59,8 +59,9 @@ fn tell_the_run(
     assert!(rt; are_answers(alloc, settings, nodes, sections) == Some(true));
 }
 
-// How often an event of a worker from the ninth on stands right behind one of another such worker. Were they all told
-// that the nodes are busy, each would do its section alone at the end, and they would change some sixty times on a node.
+// The number of times that an event of a worker from the ninth on directly follows one of another such worker. If all of them
+// always found the nodes busy, each would execute its section alone at the end, and there would be some sixty such changes on a
+// node.
 fn changes_of(nodes: &[Node]) -> usize {
     let mut changes = 0usize;
     for node in nodes {
@@ -75,11 +76,11 @@ fn changes_of(nodes: &[Node]) -> usize {
     changes
 }
 
-// Runs the script of a plan, goes over what it left, and answers how often later workers change.
+// Runs the script of a plan, checks the result, and returns how often later workers alternate.
 fn run_plan<R: Threads + Clock + Abort + Sync>(rt: &R, alloc: Global, plan: &Plan) -> usize {
     let settings = settings_of(rt, plan);
     let (script, ran) = ran(rt, alloc, plan, &settings);
-    let Ran { nodes, sections } = ran;
+    let RunResult { nodes, sections } = ran;
     let nodes = nodes.as_slice();
     assert!(rt; nodes.len() == 8);
     for node in nodes {
@@ -94,7 +95,8 @@ fn run_plan<R: Threads + Clock + Abort + Sync>(rt: &R, alloc: Global, plan: &Pla
     changes_of(nodes)
 }
 
-// Where workers take turns, of some 100,000 events; a worker that met its nodes busy and was postponed changes once.
+// The least number if workers take turns, of some 100,000 events; a worker that found its nodes busy and was postponed alternates
+// once.
 const LEAST_CHANGES: usize = 1_000;
 
 #[test]

@@ -1,4 +1,4 @@
-//! What the events of a node add up to, counted one by one.
+//! The sums of the events of a node, counted one by one.
 use crate::stress::pages::PageSeen;
 use crate::stress::scripts::subpages_of;
 use std::alloc::{AllocError, Global};
@@ -24,7 +24,7 @@ pub(crate) struct Tally {
 }
 
 impl Tally {
-    // The tally of a node's journal; none where an event can't be counted, or without memory.
+    // The tally of a node's journal; none if an event can't be counted, or without memory.
     pub(crate) fn of(alloc: Global, node: &Node) -> Option<Tally> {
         let shape = node.shape();
         let mut tally = Tally {
@@ -56,7 +56,7 @@ impl Tally {
         }
     }
 
-    // Whether the queue had this length after so many events, or after more of them up to `most`.
+    // Whether the queue had this length after `least` to `most` events.
     pub(crate) fn had_length(&self, length: u32, least: usize, most: usize) -> bool {
         match self.lengths.get(least..=most) {
             Some(lengths) => lengths.contains(&length),

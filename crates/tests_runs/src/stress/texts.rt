@@ -1,4 +1,4 @@
-//! The reports of a run, beside what the nodes and answers say.
+//! The reports of a run, compared with the nodes and the answers.
 use crate::stress::commands::without_block;
 use crate::stress::tallies::Tally;
 use std::alloc::{AllocError, Global};
@@ -6,8 +6,8 @@ use thp_journal_reader::{NodeJournal, check_text, read_journal};
 use thp_model::{Event, Outcome, PageId, Refusal, SubSet};
 use thp_node::{BackReply, Node, ScanReply, Tried};
 use thp_report::report_text;
-use thp_sections::{KeptSection, Reply};
-use thp_text::{Report, Settings};
+use thp_script::{Report, Settings};
+use thp_worker::{KeptSection, Reply};
 
 // The report of this kind.
 fn report_of(
@@ -22,7 +22,7 @@ fn report_of(
     report_text(alloc, &settings, nodes, sections).ok()
 }
 
-// Whether the report `totals` is what the journals add up to.
+// Whether the report `totals` has the sums of the journals.
 pub(crate) fn are_totals(
     alloc: Global,
     settings: &Settings,
@@ -37,7 +37,7 @@ pub(crate) fn are_totals(
     Some(told.as_slice() == text.as_bytes())
 }
 
-// Whether the report `journal` is legal, and read back it tells the nodes' events, but for blocks.
+// Whether the report `journal` is legal and, read back, has the nodes' events, except for blocks.
 pub(crate) fn is_journal(alloc: Global, settings: &Settings, nodes: &[Node]) -> Option<bool> {
     let text = report_of(alloc, settings, Report::Journal, nodes, &[])?;
     if check_text(alloc, text.as_slice()).ok()?.is_some() {

@@ -1,4 +1,4 @@
-//! A caller's answers, gone over command by command against its own events.
+//! A caller's answers, checked command by command against its own events.
 use crate::stress::batches::Batch;
 use crate::stress::commands::{event_of, may_refuse, without_block};
 use crate::stress::parts::Part;
@@ -6,8 +6,8 @@ use crate::stress::tallies::Tally;
 use std::alloc::Global;
 use thp_model::Refusal;
 use thp_node::{Node, ScanReply, Tried};
-use thp_sections::{KeptAnswers, KeptSection, Reply};
-use thp_text::{Command, Op};
+use thp_script::{Command, Op};
+use thp_worker::{KeptAnswers, KeptSection, Reply};
 
 // A caller on a node: the events that aren't explained yet, and the open batch.
 #[derive(Drop)]
@@ -76,7 +76,7 @@ impl<'a> Walk<'a> {
         is_so(batch.try_next(self.tally, &mut self.part)? == tried)
     }
 
-    // The events of a scan are its takes, its tries, and what it puts back.
+    // The events of a scan are its takes, its tries, and its put backs.
     fn explain_scan(&mut self, alloc: Global, count: u32, scan: ScanReply) -> Option<()> {
         if self.open.is_some() || scan.taken > count {
             return None;
@@ -100,7 +100,7 @@ impl<'a> Walk<'a> {
         is_so(used == scan.used && reply.back == scan.back && reply.dropped == scan.dropped)
     }
 
-    // At the end of a section what is left is the put-back of its open batch.
+    // The rest at the end of a section is the put back of its open batch.
     fn end(self) -> Option<()> {
         let Walk { part, tally, open } = self;
         let mut part = part;
@@ -119,7 +119,7 @@ fn is_so(holds: bool) -> Option<()> {
     if holds { Some(()) } else { None }
 }
 
-// Goes over the answers of a section, each with its command.
+// Checks the answers of a section, each with its command.
 fn explain_answers(
     alloc: Global,
     commands: &[Command],

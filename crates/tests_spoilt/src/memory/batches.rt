@@ -1,4 +1,4 @@
-//! Takes, tries and put-backs of a batch, where the journal has so many events.
+//! Takes, tries and put backs of a batch, when the journal has this many events.
 ghost use Rattle.std.specs.Prelude.{◌<◌, ◌≤◌};
 ghost use Rattle.thp_node.specs.Batches.{IsInFront};
 
@@ -8,7 +8,7 @@ use std::process::Abort;
 use thp_model::PageId;
 use thp_node::{BackReply, Batch, Node, Tried};
 
-/// Takes so many pages, at the second try at the latest.
+/// Takes this many pages, at the second try at the latest.
 pub(crate) fn take_at_last(rt: &(impl Abort + Print), node: &mut Node, caller: u32, n: u32) -> Batch
     requires caller { caller < 64 }
     requires few { n ≤ 128 }
@@ -64,7 +64,7 @@ fn is_back(reply: BackReply) -> bool {
     reply.back == 1 && reply.dropped == 0
 }
 
-/// Whether the queue holds the page, and the journal so many events.
+/// Whether the queue contains the page, and the journal has this many events.
 fn is_as_before(node: &Node, events: usize) -> bool {
     node.queue_len() == 1 && node.journal().len() == events
 }

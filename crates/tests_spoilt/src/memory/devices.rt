@@ -1,8 +1,8 @@
-//! Devices that take no memory, and where it is told which call was refused memory.
+//! Devices that allocate no memory, and the report of which call failed for lack of memory.
 use std::io;
 use std::io::Write;
 
-/// Tells that a call was refused memory.
+/// Reports that a call failed for lack of memory.
 pub(crate) fn tell(rt: &impl Print, call: &str) {
     let _ = rt.print("refused: ");
     let _ = rt.println(call);

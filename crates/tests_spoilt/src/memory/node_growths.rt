@@ -1,5 +1,5 @@
-//! Each growth refused in turn: the tests pass with ample memory, and go on where a call answers that memory is wanting.
-//! Such a call changes nothing, and works at the second try.
+//! Every allocation made to fail in turn: the tests pass with ample memory, and continue if a call reports lack of memory. Such a
+//! call changes nothing, and works at the second try.
 ghost use Rattle.std.specs.Prelude.{◌<◌, ◌≤◌};
 ghost use Rattle.thp_node.specs.Batches.{IsInFront, FrontsStay};
 
@@ -10,7 +10,7 @@ use tests_steps::{Answer, Call, STAYS, answer_of, first_wrong, queueing, shape_o
 use thp_model::{PageId, Refusal, Shape};
 use thp_node::{BackReply, Batch, Node, ScanReply, Tried};
 
-// Makes these calls one after the other, each with its answer at the second try at the latest.
+// Makes these calls one after the other, each with its result at the second try at the latest.
 fn expect_at_last(rt: &(impl Abort + Print), node: &mut Node, caller: u32, steps: &[(Call, Answer)])
     requires { caller < 64 }
     ensures { FrontsStay node.old.journal node.new.journal }
@@ -89,7 +89,7 @@ fn return_at_last(rt: &(impl Abort + Print), node: &mut Node, batch: Batch) -> B
     }
 }
 
-// A page is queued and gets so many pins; then it is taken, tried and put back.
+// A page is queued and gets this many pins; then it is taken, tried and put back.
 fn put_back_after_pins(rt: &(impl Abort + Print), alloc: Global, pins: usize) {
     let page = PageId(0);
     let mut node = node_at_last(rt, alloc, shape_of(16));
@@ -112,7 +112,7 @@ fn put_back_after_pins(rt: &(impl Abort + Print), alloc: Global, pins: usize) {
     assert!(rt; node.queue_len() == 1);
 }
 
-// The growth that is refused falls into the put-back for some of these numbers of pins.
+// For some of these numbers of pins, the failing allocation is in the put back.
 #[test]
 fn put_back_without_memory(rt: HostRuntime) {
     for pins in 1..65 {
@@ -120,7 +120,7 @@ fn put_back_without_memory(rt: HostRuntime) {
     }
 }
 
-// A page is queued, and goes through every other call that needs no batch.
+// A page is queued, and passes every other call that involves no batch.
 fn calls_about_one_page(rt: &(impl Abort + Print), node: &mut Node, page: PageId) {
     expect_at_last(rt, node, 0, &queueing(page));
     expect_at_last(rt, node, 0, &[(Call::Pin(page), Answer::Done)]);
@@ -173,7 +173,7 @@ fn each_growth_refused(rt: HostRuntime) {
     assert!(rt; node.queue_len() == 4);
 }
 
-// A `reserve` that succeeds leaves room for what it was asked for.
+// A `reserve` that succeeds leaves room for what was requested.
 #[test]
 fn reserved_calls_want_no_memory(rt: HostRuntime) {
     let mut node = node_at_last(&rt, rt.alloc(), shape_of(1));

@@ -1,16 +1,16 @@
-//! Each call of a node that records, made where the journal has so many events, so that some of them make it grow.
+//! Each call of a node that records events, made when the journal has this many events, so that some of them make it grow.
 use crate::memory::devices::tell;
 use std::alloc::Global;
 use std::process::Abort;
 use thp_model::{PageId, Refusal, Shape};
 use thp_node::{Counters, NewFault, Node};
 
-/// How many events there are at most before a call.
+/// The greatest number of events before a call.
 pub(crate) const MOST: usize = 70;
 
 const PAGE: PageId = PageId(0);
 
-/// A call, about page 0 where it is one about a page.
+/// A call, on page 0 if it is about a page.
 #[derive(Clone, Copy)]
 pub(crate) enum Call {
     AllocPage,
@@ -29,7 +29,7 @@ pub(crate) enum Call {
     Reserve,
 }
 
-/// What makes a page of a node stand in the queue, mapped as a whole and pinned, so that each call has something to do.
+/// The calls that queue a page of a node, mapped as a whole and pinned, so that each call has something to do.
 pub(crate) const BEFORE: [Call; 5] = [
     Call::AllocPage,
     Call::SplitPmd,
@@ -60,7 +60,7 @@ fn call_of(number: u32) -> Call {
 /// The number of `Reserve`.
 const LAST: u32 = 12;
 
-/// How many events a call records there.
+/// The number of events that a call records there.
 fn events_of(call: Call) -> usize {
     match call {
         // a take, a find that the page is pinned, and its return
@@ -82,7 +82,7 @@ fn make(node: &mut Node, call: Call) -> Result<(), Refusal> {
     }
 }
 
-/// Makes a call of the whole node, or one that answers more than that it is done.
+/// Makes a call of the whole node, or one with a value.
 fn make_other(node: &mut Node, call: Call) -> Result<(), Refusal> {
     match call {
         Call::AllocPage => {
@@ -126,7 +126,7 @@ pub(crate) fn view_of(node: &Node) -> View {
     }
 }
 
-/// A call was refused for want of memory alone, and changed nothing.
+/// A call failed for lack of memory only, and changed nothing.
 pub(crate) fn expect_unchanged(
     rt: &(impl Abort + Print),
     node: &Node,
@@ -177,7 +177,7 @@ fn name_of(call: Call) -> &'static str {
     }
 }
 
-/// A node of two blocks with a page that is queued and pinned, and so many writes after that.
+/// A node of two blocks with a page that is queued and pinned, followed by this many writes.
 pub(crate) fn node_after(rt: &(impl Abort + Print), alloc: Global, writes: usize) -> Node {
     let shape = Shape {
         blocks: 2,
@@ -194,18 +194,18 @@ pub(crate) fn node_after(rt: &(impl Abort + Print), alloc: Global, writes: usize
     node
 }
 
-/// Whether the node refuses an allocation since it is closed.
+/// Whether the node refuses an allocation because it is closed.
 fn is_closed(node: &mut Node) -> bool {
     matches!(node.alloc_page(1), Err(Refusal::Closed))
 }
 
-/// Makes a call on a node with so many writes before, and then closes the node.
+/// Makes a call on a node after this many writes, and then closes the node.
 fn make_one(rt: &(impl Abort + Print), alloc: Global, writes: usize, call: Call) {
     let mut node = node_after(rt, alloc, writes);
     let wanted = node.journal().len().saturating_add(events_of(call));
     make_at_last(rt, &mut node, call, name_of(call));
     assert!(rt; node.journal().len() == wanted);
-    // and the node goes on
+    // and the node continues
     if !matches!(call, Call::Close) {
         make_at_last(rt, &mut node, Call::Close, "Node::close");
     }

@@ -1,16 +1,16 @@
-//! The calls that runs and checks are made of, each at the second try at the latest.
+//! The calls that runs and checks consist of, each at the second try at the latest.
 use crate::memory::devices::tell;
 use crate::memory::runs::{JOURNAL, SCRIPT};
 use std::alloc::Global;
 use std::process::Abort;
 use thp_check::{CheckFault, check};
+use thp_cli::read_line;
 use thp_journal_reader::{check_text, read_journal};
 use thp_journal_writer::{NodeHistory, journal_text};
-use thp_live_pages::{LeastBlocks, Places};
+use thp_live_pages::{LeastBlocks, PageStore};
 use thp_model::{Event, PageId, Shape, What};
 use thp_page::PageTable;
-use thp_programs::read_line;
-use thp_text::{ReadFault, Report, Settings, read_script};
+use thp_script::{ReadFault, Report, Settings, read_script};
 
 const SHAPE: Shape = Shape {
     blocks: 64,
@@ -23,7 +23,7 @@ fn is_table_refused(alloc: Global) -> bool {
 }
 
 fn are_places_refused(alloc: Global) -> bool {
-    Places::new(alloc, SHAPE).is_err()
+    PageStore::new(alloc, SHAPE).is_err()
 }
 
 #[test]
@@ -33,7 +33,7 @@ fn tables_and_places(rt: HostRuntime) {
         assert!(rt; !is_table_refused(rt.alloc()));
     }
     if are_places_refused(rt.alloc()) {
-        tell(&rt, "Places::new");
+        tell(&rt, "PageStore::new");
         assert!(rt; !are_places_refused(rt.alloc()));
     }
 }
@@ -57,7 +57,7 @@ fn block_of(placed: Option<Event>) -> Option<u64> {
     }
 }
 
-/// Gives the next page its block, which has its number, at the second try at the latest.
+/// Assigns the next page its block, which has the same number, at the second try at the latest.
 fn place_at_last(rt: &(impl Abort + Print), blocks: &mut LeastBlocks, page: u64) {
     let mut placed = blocks.place(allocation(page));
     if placed.is_err() {
@@ -104,7 +104,7 @@ fn texts(rt: HostRuntime) {
     }
 }
 
-/// Whether the memory for a check of these events was refused; else they must be legal.
+/// Whether memory for a check of these events could not be allocated; otherwise they must be legal.
 fn is_check_refused(rt: &impl Abort, alloc: Global, events: &[Event]) -> bool {
     match check(alloc, SHAPE, events) {
         Ok(()) => false,
@@ -115,7 +115,7 @@ fn is_check_refused(rt: &impl Abort, alloc: Global, events: &[Event]) -> bool {
     }
 }
 
-/// Whether the memory for the journal of these events was refused.
+/// Whether memory for the journal of these events could not be allocated.
 fn is_text_refused(alloc: Global, events: &[Event]) -> bool {
     let nodes = [NodeHistory {
         shape: SHAPE,

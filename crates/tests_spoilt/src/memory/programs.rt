@@ -1,4 +1,4 @@
-//! The program without memory: its exit status, and what it tells on standard error.
+//! The program without memory: its exit status, and its messages on standard error.
 use crate::memory::devices::{Compares, tell};
 use crate::memory::runs::JOURNAL;
 use std::alloc::{AllocError, Global};
@@ -6,7 +6,7 @@ use std::process::Abort;
 use std::thread::Threads;
 use thp_run::{Watched, run_program};
 
-/// Words of a command line, what is read, and what is wanted: the exit status, standard output and standard error.
+/// Words of a command line, the input, and the expected exit status, standard output and standard error.
 #[derive(Clone, Copy)]
 struct Task {
     words: [&'static str; 3],
@@ -55,7 +55,7 @@ fn words_of(alloc: Global, words: &[&str]) -> Result<Vec<String>, AllocError> {
     Ok(all)
 }
 
-/// The words, at the second try at the latest: their memory isn't the program's.
+/// The words, at the second try at the latest: their memory is not the program's.
 fn words_at_last(rt: &impl Abort, alloc: Global, words: &[&str]) -> Vec<String> {
     match words_of(alloc, words) {
         Ok(words) => words,
@@ -63,7 +63,8 @@ fn words_at_last(rt: &impl Abort, alloc: Global, words: &[&str]) -> Vec<String> 
     }
 }
 
-/// Whether memory was refused: nothing was written, and the status is 3. `None` where the program ended wrong otherwise.
+/// Whether memory could not be allocated: nothing was written, and the status is 3. `None` if the program ended wrong in another
+/// way.
 fn is_refused(task: &Task, status: u8, output: &Compares, told: &Compares) -> Option<bool> {
     let is_right = if status == 3 {
         output.has_nothing()
@@ -73,7 +74,8 @@ fn is_refused(task: &Task, status: u8, output: &Compares, told: &Compares) -> Op
     if is_right { Some(status == 3) } else { None }
 }
 
-/// Runs the program, and tells whether memory was refused: then it writes nothing, tells that, and ends with status 3.
+/// Runs the program, and returns whether memory could not be allocated: then it writes nothing, reports that, and ends with
+/// status 3.
 fn end_once<T: Threads + Sync + Abort>(rt: &T, alloc: Global, task: &Task) -> bool {
     let words = words_at_last(rt, alloc, task.words.as_slice());
     let mut reader = Watched::new(task.input);

@@ -1,4 +1,4 @@
-//! Runs of scripts by workers, and checks of journals: without memory nothing is written, and the next run is whole.
+//! Runs of scripts by workers, and checks of journals: without memory nothing is written, and the next run is complete.
 use crate::memory::devices::{Compares, tell};
 use std::alloc::Global;
 use std::process::Abort;
@@ -9,7 +9,7 @@ use thp_run::{NoGate, Report, RunFault, Settings, Watched, check_run, run};
 pub(crate) const SCRIPT: &[u8] =
     b"setup\nalloc 0\nalloc 1\nalloc 2\npin 1 0\nworker 1\nsplitpmd 0 0\nunmap 0 0 0 256\nscan 0 8\nalloc 0\nsplitpmd 0 1\nunmap 0 1 0 1\ntake 0 8\nworker 2\nsplitpmd 1 0\nunmap 1 0 0 1\ntake 1 8\nsplitnext 1\nputback 1\ncount 1\nworker 3\nunmapwhole 2 0\nalloc 2\nmap 2 1 0 3\nwrite 2 1 0 4\nzero 2 1 0 1\nclose 2\n";
 
-/// The reports of its run, as the model of `tests/` gives them.
+/// The reports of its run, as computed by the model in `tests/`.
 const TOTALS: &[u8] =
     b"node 0\npages 2\nqueue 1\nframes_held 768\nframes_given 256\nthp_split_page 1\nthp_split_page_failed 0\nthp_deferred_split_page 2\nthp_split_pmd 2\nnode 1\npages 1\nqueue 1\nframes_held 512\nframes_given 0\nthp_split_page 0\nthp_split_page_failed 1\nthp_deferred_split_page 1\nthp_split_pmd 1\nnode 2\npages 2\nqueue 0\nframes_held 512\nframes_given 512\nthp_split_page 0\nthp_split_page_failed 0\nthp_deferred_split_page 0\nthp_split_pmd 0\n";
 
@@ -19,7 +19,7 @@ const ANSWERS: &[u8] =
 pub(crate) const JOURNAL: &[u8] =
     b"thp-journal 3\nnode 0 blocks 16 order 9 underused off\n0 alloc 0\n1 splitpmd 0\n1 unmapsub 0 0 256 queued -\n1 taken 0\n1 split 0 0-255\n1 alloc 1\n1 splitpmd 1\n1 unmapsub 1 0 1 queued -\n1 taken 1\n1 back 1\nnode 1 blocks 16 order 9 underused off\n0 alloc 0\n0 pin 0\n2 splitpmd 0\n2 unmapsub 0 0 1 queued -\n2 taken 0\n2 pinned 0\n2 back 0\nnode 2 blocks 16 order 9 underused off\n0 alloc 0\n3 unmapwhole 0 freed 0-511\n3 alloc 1\n3 mapsub 1 0 3\n3 write 1 0 4\n3 zero 1 0 1\n3 close\nend\n";
 
-/// Whether memory was refused: a run or a check ends in no other fault.
+/// Whether memory could not be allocated: a run or a check ends with no other error.
 fn is_refused<T: Drop>(rt: &impl Abort, done: Result<T, RunFault>) -> bool {
     match done {
         Ok(_) => false,
@@ -30,7 +30,7 @@ fn is_refused<T: Drop>(rt: &impl Abort, done: Result<T, RunFault>) -> bool {
     }
 }
 
-/// Nothing was written where memory was refused, else the whole text.
+/// Nothing was written if memory could not be allocated, otherwise the whole text.
 fn expect_written(rt: &impl Abort, writer: Watched<Compares>, is_refused: bool) {
     let writer = writer.into_inner();
     if is_refused {
@@ -40,7 +40,7 @@ fn expect_written(rt: &impl Abort, writer: Watched<Compares>, is_refused: bool) 
     }
 }
 
-/// Runs the script, and tells whether memory was refused.
+/// Runs the script, and returns whether memory could not be allocated.
 fn run_once<T: Threads + Sync + Abort>(
     rt: &T,
     alloc: Global,
@@ -76,7 +76,7 @@ fn run_of_workers(rt: HostRuntime) {
     run_at_last(&rt, rt.alloc(), Report::Answers, ANSWERS);
 }
 
-/// Checks a journal, and tells whether memory was refused.
+/// Checks a journal, and returns whether memory could not be allocated.
 fn check_once(rt: &impl Abort, alloc: Global, journal: &[u8], text: &'static [u8]) -> bool {
     let mut reader = Watched::new(journal);
     let mut writer = Watched::new(Compares::new(text));

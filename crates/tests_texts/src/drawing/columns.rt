@@ -1,8 +1,8 @@
-//! Columns of numbers made up.
+//! Columns of invented numbers.
 use std::process::Abort;
-use thp_series::{Column, Columns, MAX_COLUMNS, Numbers, Pages, SHOWN_PAGES, Span};
+use thp_metrics::{Column, Columns, MAX_COLUMNS, Numbers, Pages, SHOWN_PAGES, Span};
 
-// A prefix with this number in each place, and all pages allocated.
+// A prefix with this number in each field, and all pages allocated.
 fn all(number: u64) -> Numbers {
     Numbers {
         queue: number,
@@ -25,7 +25,7 @@ fn all(number: u64) -> Numbers {
     }
 }
 
-// The column at this place, from 0.
+// The column at this index, counted from 0.
 pub(crate) fn at(rt: &impl Abort, told: &[Column], place: usize) -> Column {
     *told.get(place).expect(rt, "a column")
 }

@@ -4,8 +4,8 @@ ghost use Rattle.std.specs.Prelude.{◌≡◌, ◌<◌, length};
 use crate::drawing::columns::at;
 use std::alloc::Global;
 use std::process::Abort;
+use thp_metrics::{NodeSeries, Pages, Span, StuckPage};
 use thp_model::{Event, Outcome, PageId, Shape, SubSet, What};
-use thp_series::{NodeSeries, Pages, Span, StuckPage};
 
 /// 16 blocks of 512 subpages each.
 pub(crate) const LARGE: Shape = Shape {
@@ -17,7 +17,7 @@ pub(crate) const LARGE: Shape = Shape {
 /// The page of the first run.
 pub(crate) const PAGE: PageId = PageId(0);
 
-// What happens when page 0 of a large node is allocated, half of it is unmapped, and it is taken and split.
+// The events of an allocation of page 0 of a large node, an unmap of half of it, its take and its split.
 pub(crate) fn first_run() -> [What; 5]
     ensures { length result ≡ 5 }
 {

@@ -2,7 +2,7 @@
 use crate::drawing::nodes::{LARGE, first_run, followed};
 use thp_drawing::{DrawnNode, put_escaped, put_picture};
 
-// As it was worked out by hand; looked at in a browser, on a light and on a dark ground.
+// Written out manually, and looked at in a browser, on a light and on a dark background.
 const PICTURE: &[u8] = b"<svg xmlns=\"http://www.w3.org/2000/svg\" viewBox=\"0 0 7200 7680\">\n\
 <style>\n\
 svg{display:block;width:100%;max-width:1080px;height:auto;margin:0 auto;color-scheme:light dark}\n\

@@ -3,7 +3,7 @@ use crate::drawing::nodes::{LARGE, PAGE, first_run, followed};
 use thp_drawing::{DrawnNode, IllegalEvent, put_table};
 use thp_model::{Event, What};
 
-// What a plain program outside tells of the same events.
+// The output of a plain external program for the same events.
 const TABLE: &[u8] =
     b"#node\tnode\tblocks\torder\tunderused\tlegal\twidth\tqueue-last\tin-batches-last\theld-last\tgiven-last\t\
 splits-last\tunderused-splits-last\tpinned-tries-last\twait-last\tallocated-last\tpartly-mapped-last\tqueued-last\t\

@@ -1,19 +1,19 @@
 //! Settings, words of a command line, and lists.
 use std::alloc::Global;
-use thp_programs::{Line, read_line};
-use thp_text::{Command, Op, Report, Sequence, Settings, read_orders, read_underused};
+use thp_cli::{Line, read_line};
+use thp_script::{Command, Op, Report, Sequence, Settings, read_orders, read_underused};
 
-// Whether there are settings of so many nodes, blocks and workers.
+// Whether there are settings of this many nodes, blocks and workers.
 fn are_settings(nodes: u32, blocks: u32, workers: u32) -> bool {
     Settings::new(nodes, blocks, workers, Report::Totals).is_some()
 }
 
-// What these words ask for, if they are read.
+// The request of these words, if they are accepted.
 fn line_of<'a>(alloc: Global, words: &'a [&'a str]) -> Option<Line<'a>> {
     read_line(alloc, words).ok()
 }
 
-// Whether these words leave all as it is by default.
+// Whether these words leave all defaults.
 fn is_default(alloc: Global, words: &[&str]) -> bool {
     matches!(
         line_of(alloc, words),
@@ -48,12 +48,12 @@ fn limits_and_constructors(rt: HostRuntime) {
     assert!(rt; is_default(rt.alloc(), ["thpsplit"].as_slice()));
 }
 
-// The settings with these orders, if they fit.
+// The settings with these orders, if they are valid.
 fn with_orders(settings: Settings, orders: &[u32]) -> Option<Settings> {
     settings.with_orders(orders)
 }
 
-// The settings with these thresholds, if they fit.
+// The settings with these thresholds, if they are valid.
 fn with_underused(settings: Settings, thresholds: &[Option<u32>]) -> Option<Settings> {
     settings.with_underused(thresholds)
 }

@@ -1,14 +1,14 @@
-//! Scripts whose text comes in parts.
+//! Scripts whose text arrives in parts.
 ghost use Rattle.std.specs.Prelude.{◌<◌};
 
 use std::alloc::Global;
-use thp_text::{
+use thp_script::{
     Command, Op, ReadFault, Report, Script, ScriptReader, Settings, TextInParts, TextKind,
 };
 
 const SCRIPT: &[u8] = b"# pages\nsetup\nalloc 0\nalloc 0\n\nworker 1\npin 0 1\ncount 0\n";
 
-/// The script of a text that comes in parts of so many bytes.
+/// The script of a text that arrives in parts of this many bytes.
 fn by_parts(
     alloc: Global,
     settings: &Settings,

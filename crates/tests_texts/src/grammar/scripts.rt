@@ -1,8 +1,10 @@
-//! Scripts as the whole grammar reads them: sections of workers, all commands, and first faults.
+//! Scripts as the whole grammar parses them: sections of workers, all commands, and first errors.
 use std::alloc::Global;
-use thp_text::{Command, Op, ReadFault, Report, Script, Sequence, Settings, TextKind, read_script};
+use thp_script::{
+    Command, Op, ReadFault, Report, Script, Sequence, Settings, TextKind, read_script,
+};
 
-/// What a script of one node and one worker is read as.
+/// The result of parsing a script of one node and one worker.
 fn read(alloc: Global, script: &[u8]) -> Result<Script, ReadFault> {
     match Settings::new(1, 16, 1, Report::Totals) {
         Some(settings) => read_script(alloc, &settings, script),
@@ -10,7 +12,7 @@ fn read(alloc: Global, script: &[u8]) -> Result<Script, ReadFault> {
     }
 }
 
-/// The first fault of a script by line and kind, `None` where it has none.
+/// The first error of a script by line and kind, `None` if it has none.
 fn first_fault(alloc: Global, script: &[u8]) -> Option<(u32, TextKind)> {
     match read(alloc, script) {
         Err(ReadFault::Text { line, kind }) => Some((line, kind)),
@@ -18,7 +20,7 @@ fn first_fault(alloc: Global, script: &[u8]) -> Option<(u32, TextKind)> {
     }
 }
 
-/// Whether a script is read as these commands of the setup and those of the worker.
+/// Whether a script is parsed as these commands of the setup and those of the worker.
 fn reads(alloc: Global, text: &[u8], setup: &[Command], worker: &[Command]) -> bool {
     match read(alloc, text) {
         Ok(script) => {

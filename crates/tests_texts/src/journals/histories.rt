@@ -1,4 +1,4 @@
-//! Events and nodes in short forms, and whether their journal is the text that is wanted.
+//! Events and nodes in short forms, and the comparison of their journal with the expected text.
 
 use std::alloc::Global;
 use std::process::Abort;

@@ -1,4 +1,4 @@
-//! Lines of every kind of event, numbers and sets of every length, and what makes a text of each version.
+//! Lines of every kind of event, numbers and sets of every length, and the reasons for each version of a text.
 use crate::journals::histories::{
     ONE, ZERO, by, expect_text, expect_texts, large, queued, small, split, unmap,
 };
@@ -102,7 +102,7 @@ end
     expect_text(&rt, rt.alloc(), large(1), &events, text);
 }
 
-// A switch that is on in one node, or zeros that were written, make a text of version 3, which tells of each node.
+// A switch that is on in one node, or zeros that were written, make a text of version 3, which includes that of each node.
 #[test]
 fn versions(rt: HostRuntime) {
     let zeroed = [by(

@@ -158,7 +158,7 @@ fn refused_memory_is_a_fault(rt: HostRuntime) {
     assert!(rt; PutFault::from(AllocError) == PutFault::OutOfMemory);
 }
 
-// A recorder hands each line on and clears the text.
+// A recorder passes each line on and clears the text.
 #[test]
 fn lines_are_checked_as_they_are_put(rt: HostRuntime) {
     let mut text = Vec::new(rt.alloc());

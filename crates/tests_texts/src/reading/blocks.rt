@@ -2,7 +2,7 @@
 use thp_journal_reader::{NodeJournal, read_journal};
 use thp_model::{Event, What};
 
-/// The block of the allocation at a place, `None` where no allocation stands there.
+/// The block of the allocation at an index, `None` if that is no allocation.
 fn block_at(node: &NodeJournal, place: usize) -> Option<u32> {
     match node.events.as_slice().get(place) {
         Some(

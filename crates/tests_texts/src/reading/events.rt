@@ -3,7 +3,7 @@ use std::alloc::Global;
 use thp_journal_reader::{Version, read_event};
 use thp_journal_writer::{Version as Written, put_event};
 use thp_model::{Event, Outcome, PageId, SubSet, What};
-use thp_text::TextKind;
+use thp_script::TextKind;
 
 const PAGE: PageId = PageId(7);
 

@@ -1,7 +1,7 @@
 //! The first faults of journal texts, by line and kind.
 use std::alloc::Global;
 use thp_journal_reader::check_text;
-use thp_text::{MAX_INPUT, ReadFault, Report, Settings, TextKind, read_script};
+use thp_script::{MAX_INPUT, ReadFault, Report, Settings, TextKind, read_script};
 
 /// The first fault of a text by line and kind, `None` where it has none.
 fn first_fault(alloc: Global, text: &[u8]) -> Option<(u32, TextKind)> {

@@ -7,7 +7,7 @@ use thp_journal_reader::{
     Illegal, JournalCheck, JournalReader, LongCheck, TextFault, check_journals,
 };
 use thp_model::{Event, PageId, What};
-use thp_text::{ReadFault, TextKind};
+use thp_script::{ReadFault, TextKind};
 
 /// The first illegal line of a text that comes in parts of so many bytes.
 fn by_parts(alloc: Global, text: &[u8], size: usize) -> Result<Option<u32>, ReadFault>
@@ -75,7 +75,7 @@ fn an_illegal_page_has_the_least_block(rt: HostRuntime) {
                         block: 0
                     }
                 },
-                misfit: Misfit::Block
+                misfit: Misfit::BlockTaken
             })))
         )
     );

@@ -4,8 +4,8 @@ use std::alloc::Global;
 use std::process::Abort;
 use thp_model::{Outcome, PageId, Refusal, SubSet};
 use thp_node::{BackReply, Done, ScanReply, Tried};
-use thp_sections::{KeptAnswers, KeptSection, Reply};
-use thp_text::Report;
+use thp_script::Report;
+use thp_worker::{KeptAnswers, KeptSection, Reply};
 
 // The answers to the commands of a section, all on one node.
 pub(crate) fn section(
@@ -97,7 +97,7 @@ fn each_refusal_has_its_word(rt: HostRuntime) {
     expect(&rt, rt.alloc(), Report::Answers, &nodes, &sections, want);
 }
 
-// Only the scans of node 1, whose switch is on, tell the pages found in use.
+// Only the scans of node 1, whose switch is on, contain the pages found in use.
 #[test]
 fn sections_stand_in_order(rt: HostRuntime) {
     let nodes = [empty_node(&rt, rt.alloc()), small_node(&rt, rt.alloc())];

@@ -1,6 +1,6 @@
 //! Journals of nodes.
 use crate::reports::nodes::{empty_node, expect, first_run, underused_scan};
-use thp_text::Report;
+use thp_script::Report;
 
 #[test]
 fn the_empty_input_has_a_journal_of_no_events(rt: HostRuntime) {
@@ -25,7 +25,7 @@ fn an_underused_scan_is_told_in_version_3(rt: HostRuntime) {
     expect(&rt, rt.alloc(), Report::Journal, &nodes, &[], want);
 }
 
-// Each node's events stand behind its own line.
+// Each node's events follow its own line.
 #[test]
 fn two_nodes_stand_in_order(rt: HostRuntime) {
     let nodes = [first_run(&rt, rt.alloc()), empty_node(&rt, rt.alloc())];

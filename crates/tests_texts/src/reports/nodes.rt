@@ -4,8 +4,8 @@ use std::process::Abort;
 use thp_model::{PageId, Shape};
 use thp_node::Node;
 use thp_report::report_text;
-use thp_sections::KeptSection;
-use thp_text::{Report, Settings};
+use thp_script::{Report, Settings};
+use thp_worker::KeptSection;
 
 // A node of 16 blocks of order 9 whose shrinker looks for partly mapped pages alone.
 pub(crate) fn empty_node(rt: &impl Abort, alloc: Global) -> Node {
@@ -29,7 +29,7 @@ pub(crate) fn small_node(rt: &impl Abort, alloc: Global) -> Node {
 
 const PAGE: PageId = PageId(0);
 
-// What caller 0 does, and whether that is answered.
+// An allocation of caller 0, and whether it succeeds.
 fn allocates(node: &mut Node) -> bool {
     node.alloc_page(0).is_ok()
 }

@@ -6,9 +6,9 @@ use std::process::Abort;
 use thp_model::{Outcome, PageId, Refusal, SubSet};
 use thp_node::Node;
 use thp_report::{AnswerParts, answers_text};
-use thp_sections::{KeptSection, Reply};
+use thp_worker::{KeptSection, Reply};
 
-// A part isn't full before it has so many bytes, and no line is longer than the room behind them.
+// A part isn't full before it has so many bytes, and no line is longer than the room after them.
 const FULL_PART: usize = 65_536;
 
 const MAX_LINE: usize = 4_145;
@@ -66,7 +66,7 @@ fn a_few_answers_are_one_part(rt: HostRuntime) {
     assert!(rt; parts_of(&rt, rt.alloc(), &nodes, &sections) == 1);
 }
 
-// 3 sections of 5,000 answers each: 261,679 bytes, so that parts end within sections and go on behind their ends.
+// 3 sections of 5,000 answers each: 261,679 bytes, so that parts end within sections and continue after their ends.
 #[test]
 fn many_answers_are_several_parts(rt: HostRuntime) {
     let nodes = [empty_node(&rt, rt.alloc())];

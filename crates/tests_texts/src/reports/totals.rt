@@ -1,6 +1,6 @@
 //! Totals of nodes.
 use crate::reports::nodes::{empty_node, expect, first_run, underused_pinned};
-use thp_text::Report;
+use thp_script::Report;
 
 const EMPTY: &str =
     "node 0\npages 0\nqueue 0\nframes_held 0\nframes_given 0\nthp_split_page 0\nthp_split_page_failed 0\nthp_deferred_split_page 0\nthp_split_pmd 0\n";

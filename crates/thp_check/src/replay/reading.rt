@@ -1,4 +1,4 @@
-//! What a tool shows of a replay: its queue, its flights and its pages, and what its events add up to.
+//! The state of a replay for display: its queue, its flights and its pages, and the sums of its events.
 ghost use Rattle.std.specs.Prelude.{◌≡◌, ℕ, length, map, slice_get, is_some, IfOk, IfSome, IsSome, Some, ◌&&◌, nat_lt};
 ghost use Rattle.std.specs.List.{filter, range_with_len};
 ghost use Rattle.thp_model.specs.Counters.{thp_split_page, thp_split_page_failed, thp_deferred_split_page, thp_split_pmd, thp_underused_split_page};
@@ -12,15 +12,15 @@ ghost use Rattle.thp_page.specs.Slots.{slot_at};
 ghost use Rattle.thp_live_pages.specs.Homes.{block_of, standing_of};
 ghost use Rattle.thp_check.specs.Showing.{is_taken, page_at};
 
-use crate::live_page::{LivePage, Whereabouts};
+use crate::live_page::{LivePage, PageLocation};
 use crate::replay::Replay;
 use std::alloc::{AllocError, Global};
-use thp_live_pages::Places;
+use thp_live_pages::PageStore;
 use thp_model::PageId;
 
 impl Replay {
-    /// The pages in the deferred split queue, the oldest first. The replay is lent to be changed, since each look at a link of the
-    /// queue is counted; it stays what it is.
+    /// Returns the pages in the deferred split queue, oldest first. It takes `&mut self` because each read of a link is counted;
+    /// the replay does not change.
     pub fn queue(&mut self, alloc: Global) -> Result<Vec<PageId>, AllocError>
         ensures pages { IfOk result (λ pages. pages.items ≡ queue self.old.shape self.old.history) }
         ensures same { self.new ≡ self.old }
@@ -29,7 +29,7 @@ impl Replay {
         pages_of(&self.state.places, alloc, &blocks)
     }
 
-    /// The pages that a caller took and that are still in its batch, in the order in which it took them.
+    /// Returns the pages that a caller took and that are still in its batch, in the order of the takes.
     pub fn flight(&self, alloc: Global, caller: u32) -> Result<Vec<PageId>, AllocError>
         ensures { IfOk result (λ pages. pages.items ≡ flight self.now.history caller) }
     {
@@ -37,7 +37,7 @@ impl Replay {
         pages_of(&self.state.places, alloc, &blocks)
     }
 
-    /// The pages that live, in the order of the blocks in which they lie.
+    /// Returns the live pages, in the order of their blocks.
     pub fn live_pages(&self, alloc: Global) -> Result<Vec<PageId>, AllocError>
         ensures { IfOk result (λ pages. map (block_of self.now.history) pages.items ≡ map (λ b. Some b) (filter (block_in_use self.now.history) (range_with_len 0 self.now.shape.blocks))) }
     {
@@ -46,7 +46,7 @@ impl Replay {
         pages_of(places, alloc, &blocks)
     }
 
-    /// A page as the events so far leave it; `None` where it doesn't live.
+    /// Returns the state of a page after the events so far, or `None` if it is not live.
     pub fn page(&self, page: PageId) -> Option<LivePage>
         ensures live { is_some result ≡ is_live self.now.history page }
         ensures block { IfSome result (λ x. block_of self.now.history page ≡ Some x.block) }
@@ -77,8 +77,8 @@ impl Replay {
         }
     }
 
-    /// Where a page is in its life; `None` where it doesn't live. No set of subpages is made for that.
-    pub fn whereabouts(&self, page: PageId) -> Option<Whereabouts>
+    /// Returns the position of a page in its life, or `None` if it is not live. Builds no set of subpages.
+    pub fn whereabouts(&self, page: PageId) -> Option<PageLocation>
         ensures live { is_some result ≡ is_live self.now.history page }
         ensures block { IfSome result (λ x. block_of self.now.history page ≡ Some x.block) }
         ensures standing { IfSome result (λ x. x.standing ≡ standing_of self.now.shape self.now.history page) }
@@ -92,7 +92,7 @@ impl Replay {
         };
         let standing = table.standing(block);
         match table.page(block) {
-            Some((_, state)) => Some(Whereabouts {
+            Some((_, state)) => Some(PageLocation {
                 block,
                 standing,
                 split: state.is_split(),
@@ -102,8 +102,8 @@ impl Replay {
         }
     }
 
-    /// How often a PTE entry maps subpage `i` of a page: its own map count. `None` where the page doesn't live or has no such
-    /// subpage.
+    /// Returns the own map count of subpage `i` of a page: the number of PTE entries that map it. `None` if the page is not live
+    /// or has no such subpage.
     pub fn own(&self, page: PageId, i: u32) -> Option<u32>
         ensures there { is_some result ≡ (nat_lt i (subpages self.now.shape) && is_live self.now.history page) }
         ensures own { IfSome result (λ count. count ≡ own self.now.history page i) }
@@ -122,7 +122,7 @@ impl Replay {
         }
     }
 
-    /// How many frames the live pages hold.
+    /// Returns the number of frames that the live pages hold.
     pub fn frames_held(&self) -> u128
         ensures { result ≡ frames_held self.now.shape self.now.history }
     {
@@ -130,42 +130,42 @@ impl Replay {
             - self.tally.frames_given
     }
 
-    /// How many frames were given back.
+    /// Returns the number of frames given back.
     pub fn frames_given(&self) -> u128
         ensures { result ≡ frames_given self.now.history }
     {
         self.tally.frames_given
     }
 
-    /// How many pages were split.
+    /// Returns the number of pages split.
     pub fn thp_split_page(&self) -> u64
         ensures { result ≡ thp_split_page self.now.history }
     {
         self.tally.split_page
     }
 
-    /// How many tries found a page pinned.
+    /// Returns the number of tries that found a page pinned.
     pub fn thp_split_page_failed(&self) -> u64
         ensures { result ≡ thp_split_page_failed self.now.history }
     {
         self.tally.split_page_failed
     }
 
-    /// How often a page was queued; neither a put-back nor an allocation counts.
+    /// Returns the number of times that an unmap or an unpin queued a page. A put back or an allocation doesn't count.
     pub fn thp_deferred_split_page(&self) -> u64
         ensures { result ≡ thp_deferred_split_page self.now.history }
     {
         self.tally.deferred_split_page
     }
 
-    /// How many PMD mappings were split: one for each `SplitPmd`, and all that a page had when it was split itself.
+    /// Returns the number of PMD mappings split: one for each `SplitPmd`, and all mappings of the whole page for each page split.
     pub fn thp_split_pmd(&self) -> u128
         ensures { result ≡ thp_split_pmd self.now.history }
     {
         self.tally.split_pmd
     }
 
-    /// How many pages were split that weren't partly mapped, but underused.
+    /// Returns the number of pages split that were underused and not partly mapped.
     pub fn thp_underused_split_page(&self) -> u64
         ensures { result ≡ thp_underused_split_page self.now.shape self.now.history }
     {
@@ -173,8 +173,8 @@ impl Replay {
     }
 }
 
-// The blocks where a page lies, ascending, of so many.
-fn taken_blocks(places: &Places, alloc: Global, count: u32) -> Result<Vec<u32>, AllocError>
+// The blocks below `count` that have a page, in ascending order.
+fn taken_blocks(places: &PageStore, alloc: Global, count: u32) -> Result<Vec<u32>, AllocError>
     requires { length places.now.table.slots ≡ count }
     ensures { IfOk result (λ blocks. blocks.items ≡ filter (is_taken places.now.table) (range_with_len 0 count)) }
 {
@@ -188,7 +188,7 @@ fn taken_blocks(places: &Places, alloc: Global, count: u32) -> Result<Vec<u32>, 
 }
 
 // The numbers of the pages in these blocks, in the same order.
-fn pages_of(places: &Places, alloc: Global, blocks: &[u32]) -> Result<Vec<PageId>, AllocError>
+fn pages_of(places: &PageStore, alloc: Global, blocks: &[u32]) -> Result<Vec<PageId>, AllocError>
     requires { (k b : ℕ) → slice_get blocks.now k ≡ Some b → IsSome (slot_at places.now.table b) }
     ensures { IfOk result (λ pages. pages.items ≡ map (page_at places.now.table) blocks.now) }
 {

@@ -234,7 +234,7 @@ fn gone(shape: Shape, events: &[Event], page: PageId, first: u32, count: u32) ->
     (is_split(events, page) && some_gone, Refusal::Gone)
 }
 
-// Of a new page.
+// Why an allocation is refused.
 fn of_alloc(shape: Shape, events: &[Event]) -> Option<Refusal>
     ensures { result ≡ refusal shape events.now call.alloc_page }
 {
@@ -257,7 +257,7 @@ fn of_map_whole(shape: Shape, events: &[Event], page: PageId) -> Option<Refusal>
     ])
 }
 
-// Of a call that takes a mapping of the whole page: an unmap of it, or the split of its PMD.
+// Why a call that removes a mapping of the whole page is refused: an unmap of it, or the split of its PMD.
 fn of_taking_whole(events: &[Event], page: PageId) -> Option<Refusal>
     ensures unmap { (s : Shape) → result ≡ refusal s events.now (call.unmap_whole page) }
     ensures split { (s : Shape) → result ≡ refusal s events.now (call.split_pmd page) }
@@ -330,7 +330,7 @@ fn of_unpin(events: &[Event], page: PageId) -> Option<Refusal>
     ])
 }
 
-// Of a write, of data or of zeros.
+// Why a write of data or zeros is refused.
 fn of_write(shape: Shape, events: &[Event], page: PageId, first: u32, count: u32) -> Option<Refusal>
     requires { shape.order ≤ max_order }
     ensures data { result ≡ refusal shape events.now (call.write page first count) }
@@ -427,7 +427,7 @@ fn fits_alloc(shape: Shape, before: &[Event], page: PageId, block: u32) -> bool
         && !block_in_use(before, block)
 }
 
-// An unmap or an unpin that isn't refused tells its outcome and the frames that it gives back.
+// An unmap or an unpin that is not refused records its outcome and the frames that it gives back.
 fn fits_loss(
     alloc: Global,
     shape: Shape,
@@ -445,14 +445,14 @@ fn fits_loss(
     Ok(refusal.is_none() && gives)
 }
 
-// Whether an event tells the outcome and the frames that there were.
+// Whether an event records the outcome and the frames that the model computes.
 fn is_told(told: &Done, outcome: Outcome, released: SubSet) -> bool
     ensures { IsTrue result ↔ ((told.now.outcome ≡ outcome) × (told.now.released ≡ released)) }
 {
     told.outcome == outcome && told.released == released
 }
 
-// A take is of the oldest page, by a caller with no page in flight or one that goes on taking.
+// A take is of the oldest page, by a caller that has no page in flight or continues its take.
 fn fits_taken(
     alloc: Global,
     shape: Shape,
@@ -468,7 +468,7 @@ fn fits_taken(
     Ok(is_first(page, &queue) && may_take)
 }
 
-// A split is of a page in the caller's flight that is worth it and has no pins.
+// A split is of a page in the caller's flight that is worth a split and has no pins.
 fn fits_split(
     alloc: Global,
     shape: Shape,

@@ -1,4 +1,4 @@
-//! What a history says of one page: its map counts, its pins and its states.
+//! The state of one page after a history: its map counts, its pins and its states.
 ghost use Rattle.std.specs.Prelude.{◌≡◌, ◌≤◌};
 ghost use Rattle.thp_model.specs.Limits.{max_order};
 ghost use Rattle.thp_model.specs.Counts.{allocations, total, is_split, whole, own, pins, is_mapped, loses_use, is_live, is_closed, is_used};

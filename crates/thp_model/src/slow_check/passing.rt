@@ -1,4 +1,4 @@
-//! What passes a test: of some events, or of the numbers below a bound.
+//! Counts and tests over events, and over the numbers below a bound.
 ghost use Rattle.std.specs.Prelude.{◌≡◌, ℕ, Bool};
 ghost use Rattle.thp_model.specs.declared.events.What.{What};
 ghost use Rattle.thp_model.specs.Asking.{AsksBelow, AsksEvents};

@@ -1,4 +1,4 @@
-//! Where pages stand: in the queue, or in the flight of a caller that took them.
+//! The list that each page is on: the queue, or the flight of the caller that took it.
 ghost use Rattle.std.specs.Prelude.{◌≡◌, ◌↔◌, IsTrue, IfOk, OnOk, Some, slice_get};
 ghost use Rattle.thp_model.specs.Places.{queue, queue_by, queue_after, flights, flights_by, flights_after, flight, leaves, standing, stands, has_page, takes_by, is_taking};
 
@@ -72,7 +72,7 @@ fn flights_outcome(flights: &mut Vec<(u32, PageId)>, page: PageId, outcome: Outc
     }
 }
 
-// The flights where the page leaves that of the caller.
+// The flights after the page leaves that of the caller.
 fn leave(flights: &mut Vec<(u32, PageId)>, caller: u32, page: PageId)
     ensures { flights.new.items ≡ leaves caller page flights.old.items }
 {
@@ -97,7 +97,7 @@ fn flights_event(flights: &mut Vec<(u32, PageId)>, event: &Event) -> Result<(), 
     Ok(())
 }
 
-// The pages in flight, each behind its caller, in the order of taking.
+// The pages in flight, each with its caller, in the order of the takes.
 pub(super) fn flights(alloc: Global, events: &[Event]) -> Result<Vec<(u32, PageId)>, AllocError>
     ensures { IfOk result (λ f. f.items ≡ flights events.now) }
 {
@@ -155,7 +155,7 @@ pub(super) fn is_first(page: PageId, pages: &VecDeque<PageId>) -> bool
     }
 }
 
-// Whether the page stands in the queue or in a flight.
+// Whether the page is in the queue or in a flight.
 pub(super) fn stands(
     alloc: Global,
     shape: Shape,

@@ -21,7 +21,7 @@ pub(super) fn is_zero_filled(events: &[Event], page: PageId, i: u32) -> bool
     zero
 }
 
-// Whether what happened unmaps a subpage of the page for the last time and leaves another mapped.
+// Whether the event removes the last mapping of a subpage of the page and leaves another subpage mapped.
 fn unmaps_part(shape: Shape, before: &[Event], after: &[Event], page: PageId, what: &What) -> bool
     requires { shape.order ≤ max_order }
     ensures { result ≡ (unmaps_some page what.now && (loses_use shape before.now after.now page && is_mapped shape after.now page)) }
@@ -31,7 +31,7 @@ fn unmaps_part(shape: Shape, before: &[Event], after: &[Event], page: PageId, wh
         && is_mapped(shape, after, page)
 }
 
-// Whether the page is partly mapped: some event unmapped a part of it and left another.
+// Whether the page is partly mapped: some event unmapped a part of it and left another part mapped.
 pub(super) fn is_partly_mapped(shape: Shape, events: &[Event], page: PageId) -> bool
     requires { shape.order ≤ max_order }
     ensures { result ≡ is_partly_mapped shape events.now page }
@@ -71,7 +71,7 @@ fn is_underused(shape: Shape, events: &[Event], page: PageId) -> bool
     is_above(shape.underused, zero_filled(shape, events, page))
 }
 
-// Whether a split of the page is worth its while.
+// Whether the page is worth a split.
 pub(super) fn is_worth_split(shape: Shape, events: &[Event], page: PageId) -> bool
     requires { shape.order ≤ max_order }
     ensures { result ≡ is_worth_split shape events.now page }

@@ -1,4 +1,4 @@
-//! The shrinker's calls: a take, tries, a put-back, and the scan that is made of them.
+//! The shrinker's calls: a take, tries, a put back, and the scan that combines them.
 ghost use Rattle.std.specs.Prelude.{◌≡◌, ℕ, ◌+◌, ◌*◌, ◌<◌, ◌≤◌, Bool, true, false, ◌||◌, [], ◌∷◌, length, drop, take, slice_get, min, Option, None, Some, IsSome, IfOk, IfErr, IfSome, IfNone, OnOk, OnErr};
 ghost use Rattle.thp_model.specs.Limits.{max_batch, max_callers};
 ghost use Rattle.thp_model.specs.History.{by};
@@ -14,19 +14,20 @@ ghost use Rattle.thp_live_pages.specs.Homes.{block_of};
 
 use crate::answers::{BackReply, ScanReply, Tried};
 use crate::batch::Batch;
-use crate::journal::Unsaid;
+use crate::journal::EventContext;
 use crate::node::Node;
 use crate::recorder::Recorder;
 use thp_model::{PageId, Refusal, What};
 
 impl<R: Recorder> Node<R> {
-    ghost use Rattle.thp_model.specs.Pages.{is_worth};
+    ghost use Rattle.thp_model.specs.Pages.{is_split_candidate};
     ghost use Rattle.thp_model.specs.Underused.{is_worth_split};
     ghost use Rattle.thp_page.specs.Slots.{slot_at};
     ghost use Rattle.thp_live_pages.specs.Flying.{IsFlyingAt, IsUnpinnedAt};
-    ghost use Rattle.thp_live_pages.specs.PlacesState.{AtSlot};
+    ghost use Rattle.thp_live_pages.specs.PageStoreState.{AtSlot};
 
-    /// Takes up to `n` pages, the oldest of the queue in order, into a batch of the caller. Refused as `HasBatch`.
+    /// Takes up to `n` of the oldest queued pages (at most 128), in order, into a batch of the caller. Fails with `HasBatch` if
+    /// the caller has pages in flight, and with `OutOfMemory`.
     pub fn take(&mut self, caller: u32, n: u32) -> Result<Batch, Refusal>
         requires caller { caller < max_callers }
         requires count { n ≤ max_batch }
@@ -36,7 +37,7 @@ impl<R: Recorder> Node<R> {
         ensures refused { IfErr result (Refused self.old self.new (refusal self.old.shape self.old.journal (call.take caller)) (length (take_events self.old.shape self.old.journal caller n))) }
         ensures front { IfOk result (IsInFront self.new.journal) }
         ensures fronts { OtherFrontsStay caller self.old.journal self.new.journal }
-        // a batch that the caller took before, as long as this take brought back none of its pages
+        // a batch that the caller took before, provided that this take took none of its pages again
         ensures older { IfOk result (λ b. OlderAreInFront caller b.pages self.new.journal) }
     {
         let mut batch = Batch::none();
@@ -46,8 +47,8 @@ impl<R: Recorder> Node<R> {
         }
     }
 
-    /// A take, as `take` makes it, into a batch that lies somewhere already. What was in that is forgotten; after a refusal it
-    /// is as it was.
+    /// Takes as `take` does, into a batch that the caller provides. On success the batch's former content is discarded; on error
+    /// it is unchanged.
     pub fn take_into(&mut self, caller: u32, n: u32, batch: &mut Batch) -> Result<(), Refusal>
         requires caller { caller < max_callers }
         requires count { n ≤ max_batch }
@@ -65,7 +66,7 @@ impl<R: Recorder> Node<R> {
         Ok(())
     }
 
-    // How many pages a take of up to `n` gets, with room in the journal for `each` events of each of them; or why it is
+    // The number of pages that a take of up to `n` gets, with room in the journal for `each` events of each of them; or why it is
     // refused.
     pub(super) fn admit_take(&mut self, caller: u32, n: u32, each: u32) -> Result<u32, Refusal>
         requires caller { caller < max_callers }
@@ -120,14 +121,20 @@ impl<R: Recorder> Node<R> {
     {
         let page = self.blocks.take_first(caller);
         self.journal
-            .record(caller, What::Taken { page }, Unsaid::Nothing);
+            .record(caller, What::Taken { page }, EventContext::Nothing);
         page
     }
 
-    /// Tries the next page of a batch that is still in the flight of the batch's caller: lets it go where it isn't worth a
-    /// split, else splits it, or finds it pinned and leaves it in the flight. `Done` where no page is left to be tried.
+    /// Tries the next page of a batch that is still in the flight of the batch's caller.
     ///
-    /// A page of the batch that was freed since is passed over, whatever page lies in its block now.
+    /// | Result | Meaning |
+    /// | --- | --- |
+    /// | `Split` | the page was split into base pages |
+    /// | `Pinned` | the page is worth a split, but has pins; it stays in the flight |
+    /// | `Used` | the page is not worth a split, and left the batch |
+    /// | `Done` | no page is left to try |
+    ///
+    /// The call skips a page of the batch that was freed since the take, whatever page its block holds. Fails with `OutOfMemory`.
     pub fn split_next(&mut self, batch: &mut Batch) -> Result<Tried, Refusal>
         ensures tried { IfOk result (λ t. t ≡ tried self.old.shape self.old.journal (next_page self.old.journal batch.old.caller (rest batch.old))) }
         ensures recorded { OnOk result (Did self.old self.new batch.old.caller (split_next_events self.old.shape self.old.journal batch.old.caller (rest batch.old))) }
@@ -155,7 +162,7 @@ impl<R: Recorder> Node<R> {
         }
     }
 
-    // The first of some pages that is in a caller's flight: how many stand before it, its block and its number.
+    // The first of some pages that is in a caller's flight: the number of pages before it, its block and its number.
     fn next_flying(&self, caller: u32, pages: &[PageId]) -> Option<(usize, u32, PageId)>
         requires { caller < max_callers }
         ensures none { IfNone result (next_page self.now.journal caller pages.now ≡ None) }
@@ -192,15 +199,16 @@ impl<R: Recorder> Node<R> {
     }
 
     // Whether the page of a block is worth a split: partly mapped, or underused.
-    fn is_worth(&self, block: u32) -> bool
+    fn is_split_candidate(&self, block: u32) -> bool
         requires { IsSome (slot_at self.now.table block) }
-        ensures page { AtSlot self.now.table block (λ x. result ≡ is_worth self.now.shape.underused x.page) }
+        ensures page { AtSlot self.now.table block (λ x. result ≡ is_split_candidate self.now.shape.underused x.page) }
         ensures worth { (c p : ℕ) → IsFlyingAt self.now.table c p block → result ≡ is_worth_split self.now.shape self.now.journal p }
     {
-        self.blocks.is_worth(block, self.journal.shape().underused)
+        self.blocks
+            .is_split_candidate(block, self.journal.shape().underused)
     }
 
-    // Tries the page of a block, which is in the caller's flight: lets it go, splits it, or finds it pinned.
+    // Tries the page of a block, which is in the caller's flight: removes it from the batch, splits it, or finds it pinned.
     fn try_page(&mut self, caller: u32, block: u32, page: PageId) -> Tried
         requires caller { caller < max_callers }
         requires room { 0 < self.old.room }
@@ -208,7 +216,7 @@ impl<R: Recorder> Node<R> {
         ensures tried { result ≡ tried self.old.shape self.old.journal (Some page) }
         ensures did { Did self.old self.new caller (try_event self.old.shape self.old.journal caller page ∷ []) }
     {
-        if !self.is_worth(block) {
+        if !self.is_split_candidate(block) {
             self.let_go(caller, block, page);
             Tried::Used(page)
         } else if self.blocks.pins(block) == 0 {
@@ -216,34 +224,34 @@ impl<R: Recorder> Node<R> {
             Tried::Split(page)
         } else {
             self.journal
-                .record(caller, What::Pinned { page }, Unsaid::Nothing);
+                .record(caller, What::Pinned { page }, EventContext::Nothing);
             Tried::Pinned(page)
         }
     }
 
-    // Lets the page of a block go, which is in the caller's flight and isn't worth a split.
+    // Removes the page of a block, which is not worth a split, from the caller's flight.
     fn let_go(&mut self, caller: u32, block: u32, page: PageId)
         requires caller { caller < max_callers }
         requires room { 0 < self.old.room }
         requires flies { IsFlyingAt self.old.table caller page block }
-        requires used { AtSlot self.old.table block (λ x. is_worth self.old.shape.underused x.page ≡ false) }
+        requires used { AtSlot self.old.table block (λ x. is_split_candidate self.old.shape.underused x.page ≡ false) }
         ensures did { Did self.old self.new caller (try_event self.old.shape self.old.journal caller page ∷ []) }
     {
         self.blocks.drop_out(block);
         self.journal
-            .record(caller, What::Used { page }, Unsaid::Nothing);
+            .record(caller, What::Used { page }, EventContext::Nothing);
     }
 
-    // Splits the page of a block, which is in the caller's flight, is worth it and has no pins.
+    // Splits the page of a block, which is in the caller's flight, is worth a split and has no pins.
     fn split_page(&mut self, caller: u32, block: u32, page: PageId)
         requires caller { caller < max_callers }
         requires room { 0 < self.old.room }
         requires flies { IsFlyingAt self.old.table caller page block }
-        requires worth { AtSlot self.old.table block (λ x. is_worth self.old.shape.underused x.page ≡ true) }
+        requires worth { AtSlot self.old.table block (λ x. is_split_candidate self.old.shape.underused x.page ≡ true) }
         requires unpinned { IsUnpinnedAt self.old.table block }
         ensures did { Did self.old self.new caller (try_event self.old.shape self.old.journal caller page ∷ []) }
     {
-        let unsaid = Unsaid::OfSplit {
+        let unsaid = EventContext::OfSplit {
             mappings: self.blocks.whole(block),
             partly: self.blocks.is_partly(block),
         };

@@ -1,4 +1,4 @@
-//! The calls about the node: a new page, and the close.
+//! The calls about the node: an allocation, and the close.
 ghost use Rattle.std.specs.Prelude.{◌≡◌, ℕ, ◌<◌, [], ◌∷◌, None, IfOk, IfErr, OnOk};
 ghost use Rattle.thp_model.specs.Limits.{max_callers};
 ghost use Rattle.thp_model.specs.Counts.{allocations};
@@ -8,14 +8,14 @@ ghost use Rattle.thp_model.specs.Refusals as call;
 ghost use Rattle.thp_node.specs.Batches.{FrontsStay};
 ghost use Rattle.thp_node.specs.Calls.{Did, DidAlloc, Refused};
 
-use crate::journal::Unsaid;
+use crate::journal::EventContext;
 use crate::node::Node;
 use crate::recorder::Recorder;
 use thp_model::{PageId, Refusal, What};
 
 impl<R: Recorder> Node<R> {
-    /// A new page, mapped whole once, in a block of no live page. Its number is the count of allocations before it. It is
-    /// queued where the shrinker looks for underused pages. Refused as `Closed` and `NoBlock`.
+    /// Allocates a page, mapped whole once, in a block that holds no live page. The page's number is the number of allocations
+    /// before it. The page is queued if the shrinker looks for underused pages. Fails with `Closed`, `NoBlock` or `OutOfMemory`.
     pub fn alloc_page(&mut self, caller: u32) -> Result<PageId, Refusal>
         requires { caller < max_callers }
         ensures allowed { OnOk result (refusal self.old.shape self.old.journal call.alloc_page ≡ None) }
@@ -37,11 +37,11 @@ impl<R: Recorder> Node<R> {
         let queued = self.journal.shape().shrinks_underused();
         let block = self.blocks.place(page, queued);
         self.journal
-            .record(caller, What::Alloc { page, block }, Unsaid::Nothing);
+            .record(caller, What::Alloc { page, block }, EventContext::Nothing);
         Ok(page)
     }
 
-    /// Closes the node: from here on nothing enters the queue and no page is allocated. Refused as `Closed`.
+    /// Closes the node: no page is queued or allocated afterwards. Fails with `Closed` or `OutOfMemory`.
     pub fn close(&mut self, caller: u32) -> Result<(), Refusal>
         requires { caller < max_callers }
         ensures allowed { OnOk result (refusal self.old.shape self.old.journal call.close ≡ None) }
@@ -55,7 +55,8 @@ impl<R: Recorder> Node<R> {
         if let Err(_) = self.journal.reserve(1) {
             return Err(Refusal::OutOfMemory);
         }
-        self.journal.record(caller, What::Close, Unsaid::Nothing);
+        self.journal
+            .record(caller, What::Close, EventContext::Nothing);
         Ok(())
     }
 }

@@ -1,4 +1,4 @@
-//! The calls about one page: its mappings and its pins.
+//! The calls about one page: its mappings, its pins, and writes to it.
 ghost use Rattle.std.specs.Prelude.{◌≡◌, ℕ, ◌<◌, ◌≤◌, [], ◌∷◌, None, Some, IfOk, IfErr, OnOk, min};
 ghost use Rattle.thp_model.specs.Limits.{max_callers, max_order};
 ghost use Rattle.thp_model.specs.History.{by};
@@ -11,13 +11,13 @@ ghost use Rattle.thp_page.specs.Slots.{slot_at, HoldsPage};
 ghost use Rattle.thp_live_pages.specs.Homes.{block_of};
 ghost use Rattle.thp_model.specs.PageCalls.{gain_call, loss_call, page_call, gain_what, loss_what};
 
-use crate::journal::Unsaid;
+use crate::journal::EventContext;
 use crate::node::Node;
 use crate::recorder::Recorder;
 use thp_model::{Done, Gain, Loss, PageCall, PageId, Refusal, What, narrowed};
 
 impl<R: Recorder> Node<R> {
-    /// One more mapping of the whole page, by a PMD entry. Refused as `NoPage`, `IsSplit` and `TooMany`.
+    /// Maps the whole page once more, by a PMD entry. Fails with `NoPage`, `IsSplit`, `TooMany` or `OutOfMemory`.
     pub fn map_whole(&mut self, caller: u32, page: PageId) -> Result<(), Refusal>
         requires { caller < max_callers }
         ensures allowed { OnOk result (refusal self.old.shape self.old.journal (call.map_whole page) ≡ None) }
@@ -28,7 +28,7 @@ impl<R: Recorder> Node<R> {
         self.gain(caller, page, Gain::MapWhole)
     }
 
-    /// One mapping of the whole page less. Refused as `NoPage`, `IsSplit` and `NotMapped`.
+    /// Removes one mapping of the whole page. Fails with `NoPage`, `IsSplit`, `NotMapped` or `OutOfMemory`.
     pub fn unmap_whole(&mut self, caller: u32, page: PageId) -> Result<Done, Refusal>
         requires { caller < max_callers }
         ensures allowed { OnOk result (refusal self.old.shape self.old.journal (call.unmap_whole page) ≡ None) }
@@ -41,8 +41,8 @@ impl<R: Recorder> Node<R> {
         self.lose(caller, page, Loss::UnmapWhole)
     }
 
-    /// One more mapping of each of the `count` subpages from `first` on, by PTE entries. Refused as `NoPage`, `BadRange`,
-    /// `Gone` and `TooMany`.
+    /// Maps each of the `count` subpages from `first` on once more, by PTE entries. Fails with `NoPage`, `BadRange`, `Gone`,
+    /// `TooMany` or `OutOfMemory`.
     pub fn map_sub(
         &mut self,
         caller: u32,
@@ -60,9 +60,10 @@ impl<R: Recorder> Node<R> {
         self.gain(caller, page, Gain::MapSub { first, count })
     }
 
-    /// One mapping of each of the `count` subpages from `first` on less. Refused as `NoPage`, `BadRange` and `NotMapped`.
+    /// Removes one mapping of each of the `count` subpages from `first` on. Fails with `NoPage`, `BadRange`, `NotMapped` or
+    /// `OutOfMemory`.
     ///
-    /// Where that leaves the page partly in use it is queued for splitting, and nothing is freed at once
+    /// If this leaves the page partly in use, the page is queued for splitting and no frame is given back at once
     /// (mm/transhuge.rst, "Partial unmap and deferred_split_huge_page()").
     pub fn unmap_sub(
         &mut self,
@@ -83,8 +84,8 @@ impl<R: Recorder> Node<R> {
         self.lose(caller, page, Loss::UnmapSub { first, count })
     }
 
-    /// Makes one mapping of the whole page into one of each subpage, whatever references there are. Refused as `NoPage`,
-    /// `IsSplit` and `NotMapped`.
+    /// Replaces one mapping of the whole page by one of each subpage, even if the page has pins. Fails with `NoPage`, `IsSplit`,
+    /// `NotMapped` or `OutOfMemory`.
     pub fn split_pmd(&mut self, caller: u32, page: PageId) -> Result<(), Refusal>
         requires { caller < max_callers }
         ensures allowed { OnOk result (refusal self.old.shape self.old.journal (call.split_pmd page) ≡ None) }
@@ -95,7 +96,7 @@ impl<R: Recorder> Node<R> {
         self.gain(caller, page, Gain::SplitPmd)
     }
 
-    /// One more pin, which keeps the page from being split. Refused as `NoPage`, `IsSplit` and `TooMany`.
+    /// Adds a pin, which prevents the page from being split. Fails with `NoPage`, `IsSplit`, `TooMany` or `OutOfMemory`.
     pub fn pin(&mut self, caller: u32, page: PageId) -> Result<(), Refusal>
         requires { caller < max_callers }
         ensures allowed { OnOk result (refusal self.old.shape self.old.journal (call.pin page) ≡ None) }
@@ -106,7 +107,7 @@ impl<R: Recorder> Node<R> {
         self.gain(caller, page, Gain::Pin)
     }
 
-    /// One pin less. Refused as `NoPage`, `IsSplit` and `NotPinned`.
+    /// Removes a pin, which can free the page. Fails with `NoPage`, `IsSplit`, `NotPinned` or `OutOfMemory`.
     pub fn unpin(&mut self, caller: u32, page: PageId) -> Result<Done, Refusal>
         requires { caller < max_callers }
         ensures allowed { OnOk result (refusal self.old.shape self.old.journal (call.unpin page) ≡ None) }
@@ -119,8 +120,8 @@ impl<R: Recorder> Node<R> {
         self.lose(caller, page, Loss::Unpin)
     }
 
-    /// Data is written to each of the `count` subpages from `first` on, which are no longer zero-filled. Refused as `NoPage`,
-    /// `BadRange`, `IsSplit` and `NotMapped` where one of them isn't mapped.
+    /// Records that data is written to each of the `count` subpages from `first` on, which are not zero-filled afterwards. Fails
+    /// with `NoPage`, `BadRange`, `IsSplit`, with `NotMapped` if one of them is not mapped, or with `OutOfMemory`.
     pub fn write(
         &mut self,
         caller: u32,
@@ -138,7 +139,8 @@ impl<R: Recorder> Node<R> {
         self.gain(caller, page, Gain::Write { first, count })
     }
 
-    /// Zeros are written to each of the `count` subpages from `first` on, which are zero-filled then. Refused as `write` is.
+    /// Records that zeros are written to each of the `count` subpages from `first` on, which are zero-filled afterwards. Fails as
+    /// `write` does.
     pub fn zero(&mut self, caller: u32, page: PageId, first: u32, count: u32) -> Result<(), Refusal>
         requires { caller < max_callers }
         ensures allowed { OnOk result (refusal self.old.shape self.old.journal (call.zero_fill page first count) ≡ None) }
@@ -150,8 +152,8 @@ impl<R: Recorder> Node<R> {
         self.gain(caller, page, Gain::Zero { first, count })
     }
 
-    /// Gives a page mappings or a pin, or fills subpages of it. Refused as the page refuses it. It is inlined, as `lose` is, so
-    /// that a call of a known kind does that kind alone.
+    /// Adds mappings or a pin, or fills subpages of the page. Fails as the corresponding method does: `map_whole`, `map_sub`,
+    /// `split_pmd`, `pin`, `write` or `zero`. Inlined, as `lose` is, so that a call of a known kind executes that kind only.
     #[inline(always)]
     pub fn gain(&mut self, caller: u32, page: PageId, gain: Gain) -> Result<(), Refusal>
         requires { caller < max_callers }
@@ -166,11 +168,12 @@ impl<R: Recorder> Node<R> {
             Err(refusal) => return Err(refusal),
         }
         self.journal
-            .record(caller, gain.what(page), Unsaid::Nothing);
+            .record(caller, gain.what(page), EventContext::Nothing);
         Ok(())
     }
 
-    /// Takes mappings or a pin from a page, which can queue or free it. Refused as the page refuses it.
+    /// Removes mappings or a pin of the page, which can queue or free it. Fails as the corresponding method does: `unmap_whole`,
+    /// `unmap_sub` or `unpin`.
     #[inline(always)]
     pub fn lose(&mut self, caller: u32, page: PageId, loss: Loss) -> Result<Done, Refusal>
         requires { caller < max_callers }
@@ -192,20 +195,20 @@ impl<R: Recorder> Node<R> {
         Ok(done)
     }
 
-    // The operands of a range as a page call keeps them.
+    // Converts the operands of a range to those of a page call.
     #[inline(always)]
     fn operands(&self, first: u32, count: u32) -> (u16, u16)
         ensures first { result.0 ≡ min first 65535 }
         ensures count { result.1 ≡ min count 65535 }
         ensures low { self.now.shape.order ≤ max_order }
     {
-        // Tells the proof of what order the pages are at most.
+        // Shows the proof the greatest order of the pages.
         let _ = self.shape();
         (narrowed(first), narrowed(count))
     }
 
-    // The block of a page, with room in the journal for an event. Where there is no room, a call that the page refuses is
-    // refused first, so that it leaves the journal as it was.
+    // The block of a page, after reserving room in the journal for an event. If there is no room, a refusal by the page is
+    // reported first, so that it leaves the journal unchanged.
     #[inline(always)]
     fn admit(&mut self, page: PageId, call: PageCall) -> Result<u32, Refusal>
         ensures block { IfOk result (λ b. block_of self.old.journal page ≡ Some b) }
@@ -226,7 +229,7 @@ impl<R: Recorder> Node<R> {
         Ok(block)
     }
 
-    // Room in the journal for the event of a call of the page of a block, unless the page refuses the call.
+    // Reserves room in the journal for the event of a call of the page of a block, unless the page refuses the call.
     #[cold]
     #[inline(never)]
     fn make_room(&mut self, page: PageId, block: u32, call: PageCall) -> Result<(), Refusal>

@@ -1,4 +1,4 @@
-//! The calls by which pages leave a batch together: a put-back, and the scan that is a take, tries and a put-back.
+//! The calls by which pages leave a batch together: a put back, and the scan, which is a take, tries and a put back.
 ghost use Rattle.std.specs.Prelude.{◌≡◌, not, ◌&&◌, ℕ, ◌*◌, ◌<◌, ◌≤◌, [], ◌∷◌, length, map, take, count_by, slice_get, None, Some, IfOk, IfErr, OnOk};
 ghost use Rattle.thp_model.specs.Limits.{max_batch, max_callers};
 ghost use Rattle.thp_model.specs.Legal.{IsLegal};
@@ -13,7 +13,7 @@ ghost use Rattle.thp_node.specs.Scanning.{used_count};
 
 use crate::answers::{BackReply, ScanReply, Tried};
 use crate::batch::Batch;
-use crate::journal::Unsaid;
+use crate::journal::EventContext;
 use crate::node::Node;
 use crate::recorder::Recorder;
 use arrayvec::ArrayVec;
@@ -22,14 +22,14 @@ use thp_model::{MAX_BATCH, PageId, Refusal, What};
 impl<R: Recorder> Node<R> {
     ghost use Rattle.thp_live_pages.specs.Flying.{IsFlyingAt};
     ghost use Rattle.thp_node.specs.Returning.{BeginsIn, return_first, OneBack};
-    ghost use Rattle.thp_node.specs.Scanning.{events_behind, is_used};
+    ghost use Rattle.thp_node.specs.Scanning.{events_after, is_used};
 
-    /// Returns the pages of a batch that are still in the flight of the batch's caller, in the batch's order: those that are
-    /// partly mapped to the tail of the queue, others nowhere, and none on a closed node. With no memory for that it hands
-    /// the batch back.
+    /// Returns the pages of a batch that are still in the flight of the batch's caller to the node, in the batch's order.
     ///
-    /// A page of the batch that was freed or split since is passed over.
-    /// Those still in flight have to come first in the caller's flight: so they do behind `take`, and every call leaves it so.
+    /// Partly mapped pages go to the tail of the queue; other pages are dropped, and on a closed node all are. Fails with
+    /// `OutOfMemory`, and then returns the batch to the caller. The call skips pages of the batch that were freed or split since
+    /// the take. The remaining pages must be a prefix of the caller's flight. `take` establishes this and every call preserves
+    /// it.
     pub fn put_back(&mut self, batch: Batch) -> Result<BackReply, (Batch, Refusal)>
         requires front { IsInFront self.old.journal batch }
         ensures reply { IfOk result (λ r. r ≡ back_reply self.old.shape self.old.journal (still_flying self.old.journal batch.caller batch.pages)) }
@@ -44,7 +44,7 @@ impl<R: Recorder> Node<R> {
         }
     }
 
-    /// A put-back, as `put_back` makes it, of a batch that stays where it lies. Behind it no page of that is in the flight.
+    /// Puts back as `put_back` does, without consuming the batch. Afterwards none of the batch's pages is in the flight.
     pub fn put_back_all(&mut self, batch: &Batch) -> Result<BackReply, Refusal>
         requires front { IsInFront self.old.journal batch.now }
         ensures reply { IfOk result (λ r. r ≡ back_reply self.old.shape self.old.journal (still_flying self.old.journal batch.now.caller batch.now.pages)) }
@@ -80,8 +80,8 @@ impl<R: Recorder> Node<R> {
         blocks
     }
 
-    // Returns the first pages of a caller's flight, which lie in these blocks and for which there is room. Answers how many
-    // went back to the queue.
+    // Returns the first pages of a caller's flight, which are in these blocks and for which there is room. The result is the
+    // number of pages that went back to the queue.
     fn return_all(&mut self, caller: u32, blocks: &[u32]) -> u32
         requires caller { caller < max_callers }
         requires legal { IsLegal self.old.shape self.old.journal }
@@ -98,7 +98,7 @@ impl<R: Recorder> Node<R> {
         back
     }
 
-    // Returns the first page of a caller's flight, which lies in this block. Answers whether it went back to the queue.
+    // Returns the first page of a caller's flight, which is in this block. The result is whether it went back to the queue.
     fn return_first(&mut self, caller: u32, block: u32) -> bool
         requires caller { caller < max_callers }
         requires room { 0 < self.old.room }
@@ -110,7 +110,7 @@ impl<R: Recorder> Node<R> {
         self.return_page(caller, block, page)
     }
 
-    // Returns the page of a block, which is the first of the caller's flight. Answers whether it went back to the queue.
+    // Returns the page of a block, which is the first of the caller's flight. The result is whether it went back to the queue.
     fn return_page(&mut self, caller: u32, block: u32, page: PageId) -> bool
         requires caller { caller < max_callers }
         requires room { 0 < self.old.room }
@@ -125,19 +125,20 @@ impl<R: Recorder> Node<R> {
         if is_back {
             self.blocks.enqueue(block);
             self.journal
-                .record(caller, What::Back { page }, Unsaid::Nothing);
+                .record(caller, What::Back { page }, EventContext::Nothing);
         } else {
             self.blocks.drop_out(block);
             self.journal
-                .record(caller, What::Dropped { page }, Unsaid::Nothing);
+                .record(caller, What::Dropped { page }, EventContext::Nothing);
         }
         is_back
     }
 
-    /// Takes up to `n` pages, the oldest of the queue in order, tries each of them, and returns those that are found pinned as
-    /// `put_back` does. Refused as `HasBatch`.
+    /// Takes up to `n` of the oldest queued pages (at most 128), in order, tries each of them, and returns the pinned ones as
+    /// `put_back` does. Fails with `HasBatch` if the caller has pages in flight.
     ///
-    /// It makes room for three events for each page at first, and changes nothing where the memory for that isn't there.
+    /// Reserves room for three events for each page first. Fails with `OutOfMemory` if that is not possible, and then changes
+    /// nothing.
     pub fn scan(&mut self, caller: u32, n: u32) -> Result<ScanReply, Refusal>
         requires caller { caller < max_callers }
         requires count { n ≤ max_batch }
@@ -159,15 +160,15 @@ impl<R: Recorder> Node<R> {
         requires flies { flight self.old.journal batch.caller ≡ batch.pages }
         requires untried { batch.place ≡ 0 }
         requires room { 2 * length batch.pages ≤ self.old.room }
-        ensures reply { result ≡ record (scan_reply (events_behind self.old.shape self.old.journal batch.caller batch.pages)) { taken = length batch.pages } }
-        ensures did { Did self.old self.new batch.caller (events_behind self.old.shape self.old.journal batch.caller batch.pages) }
+        ensures reply { result ≡ record (scan_reply (events_after self.old.shape self.old.journal batch.caller batch.pages)) { taken = length batch.pages } }
+        ensures did { Did self.old self.new batch.caller (events_after self.old.shape self.old.journal batch.caller batch.pages) }
     {
         let mut batch = batch;
         let taken = batch.pages().len() as u32;
         let used = self.try_all(&mut batch);
         match self.put_back_all(&batch) {
             Ok(BackReply { back, dropped }) => {
-                // those that are still there are the pinned ones
+                // the remaining pages are the pinned ones
                 let pinned = back + dropped;
                 ScanReply {
                     taken,
@@ -182,7 +183,7 @@ impl<R: Recorder> Node<R> {
         }
     }
 
-    // Tries each page of a batch that was just taken, for which there is room. Answers how many were found in use.
+    // Tries each page of a batch that was just taken, for which there is room. Returns the number of pages found in use.
     fn try_all(&mut self, batch: &mut Batch) -> u32
         requires legal { IsLegal self.old.shape self.old.journal }
         requires flies { flight self.old.journal batch.old.caller ≡ batch.old.pages }
@@ -204,14 +205,14 @@ impl<R: Recorder> Node<R> {
     }
 }
 
-// Whether a page joins the queue again when it leaves its batch: it is partly mapped, and the node isn't closed.
+// Whether a page joins the queue again when it leaves its batch: it is partly mapped, and the node is not closed.
 fn joins_queue(closed: bool, partly: bool) -> bool
     ensures { result ≡ (not closed && partly) }
 {
     !closed && partly
 }
 
-// 1 for a try that found its page in use, else 0.
+// 1 for a try that found its page in use, otherwise 0.
 fn found_used(tried: Tried) -> u32
     ensures { result ≡ used_count tried }
 {

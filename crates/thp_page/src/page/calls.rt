@@ -1,4 +1,4 @@
-//! The calls of a page: as a value, by name, and each by itself with its test, its change, and the two in turn.
+//! The calls of a page: as a value, by name, and each with its test, its change, and both in sequence.
 ghost use Rattle.std.specs.Prelude.{◌≡◌, ℕ, ◌≤◌, min, OnOk, OnErr, IfOk, None};
 ghost use Rattle.std.specs.Result.{result_err};
 ghost use Rattle.thp_model.specs.Limits.{max_subpages};
@@ -12,7 +12,7 @@ use thp_model::{Gain, Loss, PageCall, Refusal, SubSet, narrowed};
 impl Page {
     ghost use Rattle.thp_page.specs.Changes.{IsChange};
 
-    /// Why a call would be refused, if it would.
+    /// Returns why the call would be refused, if it would.
     #[inline(always)]
     pub fn refusal(&self, call: PageCall) -> Option<Refusal>
         ensures { (p : ℕ) → result ≡ page_refusal self.now (page_call call p) }
@@ -30,7 +30,8 @@ impl Page {
         }
     }
 
-    /// Gives the page mappings or a pin, or fills subpages of it, unless that is refused.
+    /// Adds mappings or a pin, or fills subpages. Fails with the reason that `refusal` returns for the call, and then changes
+    /// nothing.
     #[inline(always)]
     pub fn gain(&mut self, gain: Gain) -> Result<(), Refusal>
         ensures refusal { (p : ℕ) → result_err result ≡ page_refusal self.old (gain_call gain p) }
@@ -47,7 +48,8 @@ impl Page {
         }
     }
 
-    /// Takes mappings or a pin from the page, unless that is refused. What that did to its use then stands in `change`.
+    /// Removes mappings or a pin. On success `change` is the effect on the page's use. Fails with the reason that `refusal`
+    /// returns for the call, and then changes nothing.
     #[inline(always)]
     pub fn lose(&mut self, loss: Loss, change: &mut Change) -> Result<(), Refusal>
         ensures refusal { (p : ℕ) → result_err result ≡ page_refusal self.old (loss_call loss p) }
@@ -62,7 +64,7 @@ impl Page {
         }
     }
 
-    /// One more mapping of the whole page. Refused as `IsSplit` and `TooMany`.
+    /// Maps the whole page once more, by a PMD entry. Fails with `IsSplit` or `TooMany`.
     pub fn map_whole(&mut self) -> Result<(), Refusal>
         ensures refusal { (p : ℕ) → result_err result ≡ page_refusal self.old (call.map_whole p) }
         ensures counts { OnOk result (WholeMapped self.old self.new) }
@@ -71,7 +73,7 @@ impl Page {
         self.gain(Gain::MapWhole)
     }
 
-    /// One mapping of the whole page less. Refused as `IsSplit` and `NotMapped`.
+    /// Removes one mapping of the whole page. Fails with `IsSplit` or `NotMapped`.
     pub fn unmap_whole(&mut self) -> Result<Change, Refusal>
         ensures refusal { (p : ℕ) → result_err result ≡ page_refusal self.old (call.unmap_whole p) }
         ensures counts { OnOk result (WholeUnmapped self.old self.new) }
@@ -83,7 +85,7 @@ impl Page {
         Ok(change)
     }
 
-    /// One more mapping of each of the `count` subpages from `first` on. Refused as `BadRange`, `Gone` and `TooMany`.
+    /// Maps each of the `count` subpages from `first` on once more, by PTE entries. Fails with `BadRange`, `Gone` or `TooMany`.
     pub fn map_sub(&mut self, first: u32, count: u32) -> Result<(), Refusal>
         ensures refusal { (p : ℕ) → result_err result ≡ page_refusal self.old (call.map_sub p first count) }
         ensures counts { OnOk result (RangeMapped first count self.old self.new) }
@@ -93,7 +95,7 @@ impl Page {
         self.gain(Gain::MapSub { first, count })
     }
 
-    /// One mapping of each of the `count` subpages from `first` on less. Refused as `BadRange` and `NotMapped`.
+    /// Removes one mapping of each of the `count` subpages from `first` on. Fails with `BadRange` or `NotMapped`.
     pub fn unmap_sub(&mut self, first: u32, count: u32) -> Result<Change, Refusal>
         ensures refusal { (p : ℕ) → result_err result ≡ page_refusal self.old (call.unmap_sub p first count) }
         ensures counts { OnOk result (RangeUnmapped first count self.old self.new) }
@@ -108,7 +110,7 @@ impl Page {
         }
     }
 
-    /// Makes a mapping of the whole page into one of each subpage. Refused as `IsSplit` and `NotMapped`.
+    /// Replaces a mapping of the whole page by one of each subpage. Fails with `IsSplit` or `NotMapped`.
     pub fn split_pmd(&mut self) -> Result<(), Refusal>
         ensures refusal { (p : ℕ) → result_err result ≡ page_refusal self.old (call.split_pmd p) }
         ensures counts { OnOk result (PmdSplit self.old self.new) }
@@ -117,7 +119,7 @@ impl Page {
         self.gain(Gain::SplitPmd)
     }
 
-    /// One more pin, which keeps the page from being split. Refused as `IsSplit` and `TooMany`.
+    /// Adds a pin, which prevents the page from being split. Fails with `IsSplit` or `TooMany`.
     pub fn pin(&mut self) -> Result<(), Refusal>
         ensures refusal { (p : ℕ) → result_err result ≡ page_refusal self.old (call.pin p) }
         ensures counts { OnOk result (Pinned self.old self.new) }
@@ -126,7 +128,7 @@ impl Page {
         self.gain(Gain::Pin)
     }
 
-    /// One pin less. Refused as `IsSplit` and `NotPinned`.
+    /// Removes a pin. Fails with `IsSplit` or `NotPinned`.
     pub fn unpin(&mut self) -> Result<(), Refusal>
         ensures refusal { (p : ℕ) → result_err result ≡ page_refusal self.old (call.unpin p) }
         ensures counts { OnOk result (Pinned self.new self.old) }
@@ -136,8 +138,8 @@ impl Page {
         self.lose(Loss::Unpin, &mut change)
     }
 
-    /// Data is written to each of the `count` subpages from `first` on, so that none of them is zero-filled any more. Refused
-    /// as `BadRange`, `IsSplit` and `NotMapped`.
+    /// Records that data is written to each of the `count` subpages from `first` on: none of them is zero-filled afterwards.
+    /// Fails with `BadRange`, `IsSplit` or `NotMapped`.
     pub fn write(&mut self, first: u32, count: u32) -> Result<(), Refusal>
         ensures refusal { (p : ℕ) → result_err result ≡ page_refusal self.old (call.write p first count) }
         ensures written { OnOk result (RangeWritten first count self.old self.new) }
@@ -147,8 +149,8 @@ impl Page {
         self.gain(Gain::Write { first, count })
     }
 
-    /// Zeros are written to each of the `count` subpages from `first` on, so that all of them are zero-filled. Refused as
-    /// `BadRange`, `IsSplit` and `NotMapped`.
+    /// Records that zeros are written to each of the `count` subpages from `first` on: all of them are zero-filled afterwards.
+    /// Fails with `BadRange`, `IsSplit` or `NotMapped`.
     pub fn zero(&mut self, first: u32, count: u32) -> Result<(), Refusal>
         ensures refusal { (p : ℕ) → result_err result ≡ page_refusal self.old (call.zero_fill p first count) }
         ensures zeroed { OnOk result (RangeZeroed first count self.old self.new) }
@@ -158,19 +160,19 @@ impl Page {
         self.gain(Gain::Zero { first, count })
     }
 
-    // The operands of a range as a page call keeps them.
+    // Converts the operands of a range to those of a page call.
     #[inline(always)]
     fn operands(&self, first: u32, count: u32) -> (u16, u16)
         ensures first { result.0 ≡ min first 65535 }
         ensures count { result.1 ≡ min count 65535 }
         ensures few { size self.now ≤ max_subpages }
     {
-        // Tells the proof how many subpages the page has at most.
+        // Shows the proof the greatest number of the page's subpages.
         let _ = self.subpages();
         (narrowed(first), narrowed(count))
     }
 
-    // `map_whole`, or why it is refused.
+    // Does `map_whole`, or returns why it is refused.
     #[inline(always)]
     fn try_map_whole(&mut self) -> Result<(), Refusal>
         ensures refusal { (p : ℕ) → result_err result ≡ page_refusal self.old (call.map_whole p) }
@@ -200,7 +202,7 @@ impl Page {
         }
     }
 
-    // `map_whole`, where it isn't refused.
+    // Does `map_whole`, which is not refused.
     fn do_map_whole(&mut self)
         requires { page_refusal self.old (call.map_whole 0) ≡ None }
         ensures { WholeMapped self.old self.new }
@@ -208,7 +210,7 @@ impl Page {
         self.whole += 1;
     }
 
-    // `unmap_whole`, or why it is refused.
+    // Does `unmap_whole`, or returns why it is refused.
     #[inline(always)]
     fn try_unmap_whole(&mut self, change: &mut Change) -> Result<(), Refusal>
         ensures refusal { (p : ℕ) → result_err result ≡ page_refusal self.old (call.unmap_whole p) }
@@ -239,7 +241,7 @@ impl Page {
         }
     }
 
-    // `unmap_whole`, where it isn't refused.
+    // Does `unmap_whole`, which is not refused.
     fn do_unmap_whole(&mut self) -> Change
         requires { page_refusal self.old (call.unmap_whole 0) ≡ None }
         ensures counts { WholeUnmapped self.old self.new }
@@ -256,7 +258,7 @@ impl Page {
         }
     }
 
-    // `map_sub`, or why it is refused.
+    // Does `map_sub`, or returns why it is refused.
     #[inline(always)]
     fn try_map_sub(&mut self, first: u16, count: u16) -> Result<(), Refusal>
         ensures refusal { (p : ℕ) → result_err result ≡ page_refusal self.old (call.map_sub p first count) }
@@ -291,7 +293,7 @@ impl Page {
         }
     }
 
-    // `map_sub`, where it isn't refused.
+    // Does `map_sub`, which is not refused.
     #[inline(always)]
     fn do_map_sub(&mut self, first: u16, count: u16)
         requires { page_refusal self.old (call.map_sub 0 first count) ≡ None }
@@ -300,7 +302,7 @@ impl Page {
         self.own.map(first as usize, count as usize);
     }
 
-    // `unmap_sub`, or why it is refused.
+    // Does `unmap_sub`, or returns why it is refused.
     #[inline(always)]
     fn try_unmap_sub(&mut self, first: u16, count: u16, change: &mut Change) -> Result<(), Refusal>
         ensures refusal { (p : ℕ) → result_err result ≡ page_refusal self.old (call.unmap_sub p first count) }
@@ -332,7 +334,7 @@ impl Page {
         }
     }
 
-    // `unmap_sub`, where it isn't refused.
+    // Does `unmap_sub`, which is not refused.
     #[inline(always)]
     fn do_unmap_sub(&mut self, first: u16, count: u16) -> Change
         requires { page_refusal self.old (call.unmap_sub 0 first count) ≡ None }
@@ -345,7 +347,7 @@ impl Page {
         let unused = self.whole == 0 && unmapped;
         let used_left = self.has_use();
         let released = if self.split {
-            // those of the range that aren't mapped any more
+            // the subpages of the range that are not mapped afterwards
             self.without_given(mapped.difference(self.own.mapped()))
         } else {
             SubSet::empty()
@@ -358,7 +360,7 @@ impl Page {
         }
     }
 
-    // `split_pmd`, or why it is refused.
+    // Does `split_pmd`, or returns why it is refused.
     #[inline(always)]
     fn try_split_pmd(&mut self) -> Result<(), Refusal>
         ensures refusal { (p : ℕ) → result_err result ≡ page_refusal self.old (call.split_pmd p) }
@@ -379,11 +381,11 @@ impl Page {
     fn refusal_split_pmd(&self) -> Option<Refusal>
         ensures { (p : ℕ) → result ≡ page_refusal self.now (call.split_pmd p) }
     {
-        // Like an unmap it needs a whole mapping.
+        // As an unmap does, it needs a mapping of the whole page.
         self.refusal_unmap_whole()
     }
 
-    // `split_pmd`, where it isn't refused.
+    // Does `split_pmd`, which is not refused.
     fn do_split_pmd(&mut self)
         requires { page_refusal self.old (call.split_pmd 0) ≡ None }
         ensures { PmdSplit self.old self.new }
@@ -393,7 +395,7 @@ impl Page {
         self.own.map(0, subpages);
     }
 
-    // `pin`, or why it is refused.
+    // Does `pin`, or returns why it is refused.
     #[inline(always)]
     fn try_pin(&mut self) -> Result<(), Refusal>
         ensures refusal { (p : ℕ) → result_err result ≡ page_refusal self.old (call.pin p) }
@@ -424,7 +426,7 @@ impl Page {
         }
     }
 
-    // `pin`, where it isn't refused.
+    // Does `pin`, which is not refused.
     #[inline(always)]
     fn do_pin(&mut self)
         requires { page_refusal self.old (call.pin 0) ≡ None }
@@ -433,7 +435,7 @@ impl Page {
         self.pins += 1;
     }
 
-    // `unpin`, or why it is refused.
+    // Does `unpin`, or returns why it is refused.
     #[inline(always)]
     fn try_unpin(&mut self, change: &mut Change) -> Result<(), Refusal>
         ensures refusal { (p : ℕ) → result_err result ≡ page_refusal self.old (call.unpin p) }
@@ -468,7 +470,7 @@ impl Page {
         }
     }
 
-    // `unpin`, where it isn't refused.
+    // Does `unpin`, which is not refused.
     #[inline(always)]
     fn do_unpin(&mut self)
         requires { page_refusal self.old (call.unpin 0) ≡ None }
@@ -477,7 +479,7 @@ impl Page {
         self.pins -= 1;
     }
 
-    // `write`, or why it is refused.
+    // Does `write`, or returns why it is refused.
     #[inline(always)]
     fn try_write(&mut self, first: u16, count: u16) -> Result<(), Refusal>
         ensures refusal { (p : ℕ) → result_err result ≡ page_refusal self.old (call.write p first count) }
@@ -509,7 +511,7 @@ impl Page {
         }
     }
 
-    // `write`, where it isn't refused.
+    // Does `write`, which is not refused.
     fn do_write(&mut self, first: u16, count: u16)
         requires { page_refusal self.old (call.write 0 first count) ≡ None }
         ensures { RangeWritten first count self.old self.new }
@@ -519,7 +521,7 @@ impl Page {
             .difference(SubSet::range(first as u32, count as u32));
     }
 
-    // `zero`, or why it is refused.
+    // Does `zero`, or returns why it is refused.
     #[inline(always)]
     fn try_zero(&mut self, first: u16, count: u16) -> Result<(), Refusal>
         ensures refusal { (p : ℕ) → result_err result ≡ page_refusal self.old (call.zero_fill p first count) }
@@ -540,11 +542,11 @@ impl Page {
     fn refusal_zero(&self, first: u16, count: u16) -> Option<Refusal>
         ensures { (p : ℕ) → result ≡ page_refusal self.now (call.zero_fill p first count) }
     {
-        // Zeros are written as data is.
+        // A write of zeros is refused as a write of data is.
         self.refusal_write(first, count)
     }
 
-    // `zero`, where it isn't refused.
+    // Does `zero`, which is not refused.
     fn do_zero(&mut self, first: u16, count: u16)
         requires { page_refusal self.old (call.zero_fill 0 first count) ≡ None }
         ensures { RangeZeroed first count self.old self.new }

@@ -1,5 +1,5 @@
 -- The range as it is kept does what the range itself does.
-use Rattle.thp_c_calls.proofs.Ranges.{node_map}
+use Rattle.thp_capi.proofs.Ranges.{node_map}
 use Rattle.thp_c.proofs.page_calls.thp_c_node_map_sub.Goals as goal
 
 pub returns-clause-does : goal.returns-clause-does

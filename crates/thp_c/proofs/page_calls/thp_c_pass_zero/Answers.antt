@@ -1,5 +1,5 @@
 -- The range as it is kept does what the range itself does.
-use Rattle.thp_c_calls.proofs.Ranges.{pass_zero}
+use Rattle.thp_capi.proofs.Ranges.{pass_zero}
 use Rattle.thp_c.proofs.page_calls.thp_c_pass_zero.Goals as goal
 
 pub returns-clause-does : goal.returns-clause-does

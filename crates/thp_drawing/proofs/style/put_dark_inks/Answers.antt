@@ -1,10 +1,10 @@
 use Rattle.std.proofs.Common.{◌≡◌, OnOk, List, ℕ, subst}
 use Rattle.thp_drawing.specs.Styles.{dark_inks}
-use Rattle.thp_drawing.proofs.Pieces.{two_behind}
+use Rattle.thp_drawing.proofs.Pieces.{two_after}
 use Rattle.thp_drawing.proofs.style.put_dark_inks.Goals as goal
 
 pub returns : goal.returns
 unfolding dark_inks
 returns c =
     let P : List ℕ → Type 0 = λ t. OnOk c.put-2.result (c.put-2.new.text.items ≡ t) in
-    subst P (two_behind _ _ _ c.in_ok-put.ensures.text) c.put-2.ensures.text
+    subst P (two_after _ _ _ c.in_ok-put.ensures.text) c.put-2.ensures.text

@@ -1,6 +1,6 @@
 use Rattle.std.proofs.Common.{◌≡◌, ◌∙◌, ◌++◌, [], ap, sym}
 use Rattle.std.proofs.lemmas.List.{append-nil}
-use Rattle.thp_text.specs.Limits.{max_input}
+use Rattle.thp_script.specs.Limits.{max_input}
 use Rattle.thp_journal_reader.specs.Journals.{journals_of}
 use Rattle.thp_journal_reader.specs.Parts.{told_with}
 use Rattle.thp_journal_reader.proofs.AnswerLaws.{free_choice}

@@ -1,5 +1,5 @@
 use Rattle.std.proofs.Common.{sym}
-use Rattle.thp_journal_reader.proofs.AheadLaws.{word_stands}
+use Rattle.thp_journal_reader.proofs.FastParsingLaws.{word_stands}
 use Rattle.thp_journal_reader.proofs.event_word.word_at.Goals as goal
 
 pub returns : goal.returns

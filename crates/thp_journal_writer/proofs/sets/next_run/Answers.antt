@@ -1,5 +1,5 @@
 use Rattle.std.proofs.Common.{arith}
-use Rattle.thp_journal_writer.proofs.RunLemmas.{no_run, next_run, run_ends_behind}
+use Rattle.thp_journal_writer.proofs.RunLemmas.{no_run, next_run, run_ends_after}
 use Rattle.thp_journal_writer.proofs.sets.next_run.Goals as goal
 
 pub returns-then-first-eq-SUBPAGES-clause-runs : goal.returns-then-first-eq-SUBPAGES-clause-runs
@@ -9,5 +9,5 @@ returns-then-first-eq-SUBPAGES-clause-runs c =
 pub returns-clause-runs : goal.returns-clause-runs
 returns-clause-runs c =
     next_run c.args.set.now c.args.from c.first_in-first.result c.first_out.result c.first_in-first.ensures.size c.first_in-first.ensures.from
-    (run_ends_behind c.args.set.now c.first_in-first.result c.first_out.result (omega arith) c.first_out.ensures.from (c.first_in-first.ensures.found (omega arith)) c.first_out.ensures.found)
+    (run_ends_after c.args.set.now c.first_in-first.result c.first_out.result (omega arith) c.first_out.ensures.from (c.first_in-first.ensures.found (omega arith)) c.first_out.ensures.found)
     c.first_out.ensures.within c.first_in-first.ensures.none_before c.first_out.ensures.all_before c.first_out.ensures.found

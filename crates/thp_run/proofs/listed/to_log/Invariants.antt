@@ -1,5 +1,5 @@
 use Rattle.std.proofs.Common.{◌≡◌, length, take}
-use Rattle.thp_sections.specs.declared.answer_log.Answers.TheVariants.{Kept}
+use Rattle.thp_worker.specs.declared.answer_log.Answers.TheVariants.{Kept}
 use Rattle.thp_run.proofs.listed.to_log.Given as goal
 
 abbrev pub invariant-loop-answer : goal.invariant-loop-answer

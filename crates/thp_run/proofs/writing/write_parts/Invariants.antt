@@ -1,7 +1,6 @@
 use Rattle.std.proofs.Common.{◌≡◌, [], length, false, true}
-use Rattle.thp_programs.proofs.DeviceLaws.{Written}
-use Rattle.thp_programs.specs.Calls.{Follow}
-use Rattle.thp_programs.specs.declared.calls.Call.TheVariants as call
+use Rattle.thp_cli.proofs.DeviceLaws.{Written}
+use Rattle.thp_cli.specs.Calls.{Follow}
 use Rattle.thp_run.proofs.writing.write_parts.Given as goal
 
 abbrev pub decreases-loop-writer : goal.decreases-loop-writer
@@ -13,5 +12,5 @@ invariant-loop-writer g l =
     record {
       written : Written (contents l.fn.writer.device) (contents l.writer.device) l.fn.parts.rest l.parts.rest;
       flag : l.writer.failed ≡ false;
-      calls : Follow (call.Write true) [] l.fn.writer.calls l.writer.calls;
+      calls : Follow [] l.fn.writer.calls l.writer.calls;
     }

@@ -1,4 +1,4 @@
-use Rattle.thp_programs.proofs.PassageLaws.{of_answer}
+use Rattle.thp_cli.proofs.PassageLaws.{of_answer}
 use Rattle.thp_run.proofs.PassageLaws.{wrote_by}
 use Rattle.thp_run.proofs.writing.write_whole.Goals as goal
 

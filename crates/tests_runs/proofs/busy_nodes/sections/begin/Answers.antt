@@ -1,8 +1,7 @@
-use Rattle.thp_sections.specs.Passes.{fronts_in}
+use Rattle.thp_worker.specs.Passes.{fronts_in}
 use Rattle.tests_runs.specs.Sharing.{shared}
 use Rattle.tests_runs.proofs.SharingLaws.{works_inside}
 use Rattle.tests_runs.proofs.busy_nodes.sections.begin.Goals as goal
 
 pub returns-clause-worked : goal.returns-clause-worked
-returns-clause-worked g c =
-    works_inside (shared (fronts_in c.args.passes)) (fronts_in c.work.new.steps.inner) 1 c.args.commands.now c.expect-worked.result (rw c.expect-worked.ensures at c.work.ensures.works)
+returns-clause-worked g = works_inside (shared (fronts_in g.args.passes)) (fronts_in g.work.new.steps.inner) 1 g.args.commands.now g.in_ok-worked.worked g.in_ok-worked.ensures.works

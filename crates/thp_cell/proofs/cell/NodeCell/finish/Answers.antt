@@ -6,7 +6,7 @@ use Rattle.thp_model.specs.declared.events.Event.{Event}
 use Rattle.thp_model.specs.History.{events_of}
 use Rattle.thp_node.specs.NodeState.{NodeState}
 use Rattle.thp_cell.specs.Rule.{IsOwn}
-use Rattle.thp_cell.specs.Calls.{letting_go}
+use Rattle.thp_cell.specs.Calls.{returning_node}
 use Rattle.thp_cell.specs.Steps.{IsWhole}
 use Rattle.thp_cell.specs.Views.{PassState, HasAll}
 use Rattle.thp_cell.specs.Seats.{Place, pass_state}
@@ -33,12 +33,12 @@ is_whole p s is all = let whole = subst HasAll (sym is) all in record { from = w
 
 pub returns : goal.returns
 returns g c =
-    let free = c.settle.ensures.free in
-    let s = c.settle.new.seat in
-    let is = sym (free_state false s free.no_slot) ∙ (c.settle.ensures.same ∙ ap letting_go c.pass.view_is) in
-    let all : HasAll (letting_go c.args.pass) = record { from = c.requires.all.from; to = c.requires.all.to } in
+    let free = c.release_kept.ensures.free in
+    let s = c.release_kept.new.seat in
+    let is = sym (free_state false s free.no_slot) ∙ (c.release_kept.ensures.same ∙ ap returning_node c.pass.view_is) in
+    let all : HasAll (returning_node c.args.pass) = record { from = c.requires.all.from; to = c.requires.all.to } in
     let t = ends _ _ _ s.me.0 _ _ _ free.no_node free.callers (is_whole _ s is all) c.close_with-closed.ensures.values.2 c.take-node.ensures.value in
-    let e = ends_pass (letting_go c.args.pass) s c.take-node.result is all t in record {
+    let e = ends_pass (returning_node c.args.pass) s c.take-node.result is all t in record {
       shape = e.shape;
       journal = e.journal;
       legal = t.legal;

@@ -1,9 +1,9 @@
 -- The join of two seats and the load after it keep the rule, and tell that both fronts begin the new one.
 use Rattle.std.proofs.Common.{rules, arith, ap, subst, sym, ◌∙◌, ◌≡◌, ◌≤◌, ◌<◌, [], false}
 use Rattle.thp_model.specs.Legal.{IsLegal}
-use Rattle.thp_cell.specs.Steps.{Sat}
+use Rattle.thp_cell.specs.Steps.{SeatValue}
 use Rattle.thp_cell.specs.Views.{PassState}
-use Rattle.thp_cell.specs.Calls.{letting_go, IsJoined}
+use Rattle.thp_cell.specs.Calls.{returning_node, IsJoined}
 use Rattle.thp_cell.specs.Seats.{known_state, pass_state}
 use Rattle.thp_cell.proofs.Keeping.{free_state}
 use Rattle.thp_cell.proofs.Locking.{looks_at}
@@ -13,44 +13,44 @@ use Rattle.thp_cell.proofs.cell.NodeCell.join.Goals as goal
 
 pub join_seat-requires : goal.join_seat-requires
 join_seat-requires g c =
-    let free = c.settle.ensures.free in
-    let free' = c.settle-2.ensures.free in
+    let free = c.release_kept.ensures.free in
+    let free' = c.release_kept-2.ensures.free in
     (search rules, search rules, free'.no_slot, search rules, joins _ _ _ _ _ _ free.no_node free'.no_node free.callers free'.callers (search rules))
 
 pub load-requires : goal.load-requires
 load-requires g c =
-    let free = c.settle.ensures.free in
-    let free' = c.settle-2.ensures.free in
+    let free = c.release_kept.ensures.free in
+    let free' = c.release_kept-2.ensures.free in
     let e = c.join_seat.ensures.2 in
-    let a : c.join_seat.new.seat.me.0.first ≡ c.settle.new.seat.me.0.first = ap (λ (m : Sat). m.0.first) e in
-    let z : c.join_seat.new.seat.me.0.end ≡ c.settle-2.new.seat.me.0.end = ap (λ (m : Sat). m.0.end) e in
-    let l : c.settle.new.seat.me.0.end ≡ c.settle-2.new.seat.me.0.first = ap (λ (x : PassState). x.end) (c.settle.ensures.same ∙ ap letting_go c.left.view_is) ∙ (c.requires.adjacent ∙ sym (ap (λ (x : PassState). x.first) (c.settle-2.ensures.same ∙ ap letting_go c.right.view_is))) in
+    let a : c.join_seat.new.seat.me.0.first ≡ c.release_kept.new.seat.me.0.first = ap (λ (m : SeatValue). m.0.first) e in
+    let z : c.join_seat.new.seat.me.0.end ≡ c.release_kept-2.new.seat.me.0.end = ap (λ (m : SeatValue). m.0.end) e in
+    let l : c.release_kept.new.seat.me.0.end ≡ c.release_kept-2.new.seat.me.0.first = ap (λ (x : PassState). x.end) (c.release_kept.ensures.same ∙ ap returning_node c.left.view_is) ∙ (c.requires.adjacent ∙ sym (ap (λ (x : PassState). x.first) (c.release_kept-2.ensures.same ∙ ap returning_node c.right.view_is))) in
     let before = free.callers in
     let after = free'.callers in
-    (search rules, search rules, looks_at _ _ _ _ _ (ap (λ (m : Sat). m.1) e ∙ free.no_slot) (ap (λ (m : Sat). m.0.has_node) e) (omega arith))
+    (search rules, search rules, looks_at _ _ _ _ _ (ap (λ (m : SeatValue). m.1) e ∙ free.no_slot) (ap (λ (m : SeatValue). m.0.has_node) e) (omega arith))
 
 -- what the load tells of the three passes
 pub returns : goal.returns
 returns g c =
-    let s = c.settle.new.seat in
-    let t = c.settle-2.new.seat in
+    let s = c.release_kept.new.seat in
+    let t = c.release_kept-2.new.seat in
     let p = c.args.left in
     let q = c.args.right in
     let r = known_state false c.load.new.seat in
-    let left : pass_state false s ≡ letting_go p = sym (free_state false s c.settle.ensures.free.no_slot) ∙ (c.settle.ensures.same ∙ ap letting_go c.left.view_is) in
-    let right : pass_state false t ≡ letting_go q = sym (free_state false t c.settle-2.ensures.free.no_slot) ∙ (c.settle-2.ensures.same ∙ ap letting_go c.right.view_is) in
-    let none : c.load.new.seat.me.1 ≡ [] = ap (λ (m : Sat). m.1) c.load.ensures.2.now ∙ (ap (λ (m : Sat). m.1) c.join_seat.ensures.2 ∙ c.settle.ensures.free.no_slot) in
+    let left : pass_state false s ≡ returning_node p = sym (free_state false s c.release_kept.ensures.free.no_slot) ∙ (c.release_kept.ensures.same ∙ ap returning_node c.left.view_is) in
+    let right : pass_state false t ≡ returning_node q = sym (free_state false t c.release_kept-2.ensures.free.no_slot) ∙ (c.release_kept-2.ensures.same ∙ ap returning_node c.right.view_is) in
+    let none : c.load.new.seat.me.1 ≡ [] = ap (λ (m : SeatValue). m.1) c.load.ensures.2.now ∙ (ap (λ (m : SeatValue). m.1) c.join_seat.ensures.2 ∙ c.release_kept.ensures.free.no_slot) in
     let known : r ≡ pass_state false c.load.new.seat = free_state false c.load.new.seat none in
     let seats : IsJoined (pass_state false s) (pass_state false t) r = subst (IsJoined (pass_state false s) (pass_state false t)) (sym known) (joined_pass false false s t c.load.new.seat c.join_seat.new.seat.me _ c.join_seat.ensures.2 (c.load.ensures.0 ∙ c.join_seat.ensures.0) c.load.ensures.2.now c.load.ensures.2.both) in
-    let both : IsJoined (letting_go p) (letting_go q) r = subst (λ (x : PassState × PassState). IsJoined x.0 x.1 r) (λ i. (left i, right i)) seats in
+    let both : IsJoined (returning_node p) (returning_node q) r = subst (λ (x : PassState × PassState). IsJoined x.0 x.1 r) (λ i. (left i, right i)) seats in
     let j : IsJoined p q r = record { callers = both.callers; longer = both.longer; left = both.left; right = both.right } in
-    let legal : IsLegal r.shape r.front = subst (λ (x : PassState). IsLegal x.shape x.front) (sym known) (subst (λ (m : Sat). IsLegal m.0.shape m.0.front) (sym c.load.ensures.2.now) c.load.ensures.2.legal) in
-    let inside : r.end ≤ r.callers = subst (λ (m : Sat). m.0.end ≤ m.0.callers) (sym c.load.ensures.2.now) c.load.ensures.2.inside in
+    let legal : IsLegal r.shape r.front = subst (λ (x : PassState). IsLegal x.shape x.front) (sym known) (subst (λ (m : SeatValue). IsLegal m.0.shape m.0.front) (sym c.load.ensures.2.now) c.load.ensures.2.legal) in
+    let inside : r.end ≤ r.callers = subst (λ (m : SeatValue). m.0.end ≤ m.0.callers) (sym c.load.ensures.2.now) c.load.ensures.2.inside in
     let first : r.first ≡ p.first = ap (λ (x : PassState). x.first) j.callers in
     let end : r.end ≡ q.end = ap (λ (x : PassState). x.end) j.callers in
     let mid : p.end ≡ q.first = c.requires.adjacent in
-    let some : p.first < p.end = subst (λ (x : PassState). x.first < x.end) left c.settle.ensures.free.callers in
-    let more : q.first < q.end = subst (λ (x : PassState). x.first < x.end) right c.settle-2.ensures.free.callers in
+    let some : p.first < p.end = subst (λ (x : PassState). x.first < x.end) left c.release_kept.ensures.free.callers in
+    let more : q.first < q.end = subst (λ (x : PassState). x.first < x.end) right c.release_kept-2.ensures.free.callers in
     record {
       fronts = j;
       inside = inside;

@@ -6,10 +6,10 @@ use Rattle.thp_check.proofs.node_state.NodeState.leave_used.Goals as goal
 pub returns-in-None : goal.returns-in-None
 returns-in-None c = λ s h m. used_absent s h c.args.caller c.args.page c.args.self.now m c.in-None.ensures.none
 
-pub returns-then-is_worth : goal.returns-then-is_worth
-returns-then-is_worth c = λ s h m.
+pub returns-then-is_split_candidate : goal.returns-then-is_split_candidate
+returns-then-is_split_candidate c = λ s h m.
     let at = c.in-Some.ensures.there in
-    used_not s h c.args.caller c.args.page c.in-Some.block c.args.self.now m at (sym (c.is_worth.ensures at.slot at.at) ∙ c.if-is_worth.true)
+    used_not s h c.args.caller c.args.page c.in-Some.block c.args.self.now m at (sym (c.is_split_candidate.ensures at.slot at.at) ∙ c.if-is_split_candidate.true)
 
 pub leave-requires : goal.leave-requires
 leave-requires c = λ d e.
@@ -20,4 +20,4 @@ leave-requires c = λ d e.
 pub returns : goal.returns
 returns c = λ s h m.
     let at = c.in-Some.ensures.there in
-    used_goes s h c.args.caller c.args.page c.in-Some.block c.args.self.now m at _ (sym (c.is_worth.ensures at.slot at.at) ∙ c.if-is_worth.false) (c.drop_out.ensures at.slot at.at) c.leave.ensures.left c.leave.ensures.size refl refl refl
+    used_goes s h c.args.caller c.args.page c.in-Some.block c.args.self.now m at _ (sym (c.is_split_candidate.ensures at.slot at.at) ∙ c.if-is_split_candidate.false) (c.drop_out.ensures at.slot at.at) c.leave.ensures.left c.leave.ensures.size refl refl refl

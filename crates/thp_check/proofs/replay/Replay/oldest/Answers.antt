@@ -2,7 +2,7 @@ use Rattle.std.proofs.Common.{◌≡◌, List, ℕ, ap, sym, ◌∙◌, subst}
 use Rattle.std.specs.Prelude.{slice_get, IsSome}
 use Rattle.thp_model.specs.Places.{queue}
 use Rattle.thp_page.specs.Slots.{slot_at}
-use Rattle.thp_live_pages.specs.PlacesState.{AtSlot}
+use Rattle.thp_live_pages.specs.PageStoreState.{AtSlot}
 use Rattle.thp_check.specs.declared.node_state.NodeState.{NodeState}
 use Rattle.thp_check.specs.Replays.{Replayed}
 use Rattle.thp_check.proofs.Reading.{oldest_there, oldest_number, none_queued}

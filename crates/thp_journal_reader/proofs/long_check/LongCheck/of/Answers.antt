@@ -1,6 +1,6 @@
 use Rattle.std.proofs.Common.{◌≡◌, ◌≤◌, ◌∙◌, ℕ, ap, subst, sym}
-use Rattle.thp_text.specs.Limits.{max_counted}
-use Rattle.thp_text.specs.TextInParts.{TextSoFar}
+use Rattle.thp_script.specs.Limits.{max_counted}
+use Rattle.thp_script.specs.TextInParts.{TextSoFar}
 use Rattle.thp_journal_reader.specs.Checking.{GoesWith}
 use Rattle.thp_journal_reader.specs.declared.checked_nodes.CheckedNodes.{CheckedNodes}
 use Rattle.thp_journal_reader.proofs.CheckLaws.{goes_first, told_none}

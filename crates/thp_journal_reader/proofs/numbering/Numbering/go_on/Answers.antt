@@ -5,7 +5,7 @@ use Rattle.thp_model.specs.History.{History}
 use Rattle.thp_model.specs.Legal.{IsLegal}
 use Rattle.thp_model.proofs.LegalSteps.{legal_push}
 use Rattle.thp_check.specs.Replays.{Replayed}
-use Rattle.thp_series.specs.Stuck.{AreStuck}
+use Rattle.thp_metrics.specs.Stuck.{AreStuck}
 use Rattle.thp_journal_reader.proofs.NumberLaws.{grows, stops, told_of}
 use Rattle.thp_journal_reader.proofs.numbering.Numbering.go_on.Goals as goal
 

@@ -1,6 +1,6 @@
 use Rattle.std.proofs.Common.{◌≡◌, ◌≤◌, ◌∙◌, ℕ, ap, arith, subst, sym}
-use Rattle.thp_text.specs.Limits.{max_counted}
-use Rattle.thp_text.specs.TextInParts.{TextSoFar}
+use Rattle.thp_script.specs.Limits.{max_counted}
+use Rattle.thp_script.specs.TextInParts.{TextSoFar}
 use Rattle.thp_journal_reader.specs.Summing.{GoesSummed}
 use Rattle.thp_journal_reader.specs.declared.summary.SummedNodes.{SummedNodes}
 use Rattle.thp_journal_reader.proofs.CheckLaws.{told_none}

@@ -1,8 +1,8 @@
 use Rattle.std.proofs.Common.{◌≡◌, ◌∙◌, ◌++◌, ◌∷◌, ℕ, ap, arith, rules, subst, sym, Ok}
-use Rattle.thp_text.specs.TextInParts.{after_line, told_behind, with_begun, with_fault, TextSoFar}
-use Rattle.thp_text.specs.Words.{Text, lines_of}
-use Rattle.thp_text.proofs.PartReadLaws.{part_begins}
-use Rattle.thp_text.proofs.TextLaws.{fault_comes, line_begins, noted}
+use Rattle.thp_script.specs.TextInParts.{after_line, told_after, with_begun, with_fault, TextSoFar}
+use Rattle.thp_script.specs.Words.{Text, lines_of}
+use Rattle.thp_script.proofs.PartReadLaws.{part_begins}
+use Rattle.thp_script.proofs.TextLaws.{fault_comes, line_begins, noted}
 use Rattle.thp_journal_reader.specs.JournalLines.{line_in}
 use Rattle.thp_journal_reader.specs.Parts.{lines_tell}
 use Rattle.thp_journal_reader.specs.Reading.{with_line}
@@ -36,9 +36,9 @@ loop-text-preserved g c =
     let says : Ok said ≡ line_in l.place bytes = c.in-Ok.ensures.value in
     let number : c.in-Some.field-0.number ≡ l.text.line = rw c.in-Some.is at c.in_ok-number.ensures.number in
     let added : told c.add.new.self ≡ with_line l.text.line (told l.nodes) said = rw number at c.in_ok-add-in-Ok.ensures.nodes in
-    let step : (more : Text) → told_behind c.next_line.new.self more (lines_tell (told c.add.new.self) c.place_after-place.result c.next_line.new.self.line (c.next_line.new.self.begun ++ (c.next_line.new.rest.now ++ more)))
-    ≡ told_behind l.text more (lines_tell (told l.nodes) l.place l.text.line (l.text.begun ++ (l.rest.now ++ more)))
-    = λ more. rw (after, added, c.place_after-place.ensures) (ap (told_behind l.text more) (sym (line_tells (told l.nodes) l.place l.text.line (l.text.begun ++ (l.rest.now ++ more)) bytes (c.next_line.new.rest.now ++ more) said (lines more) says)))
+    let step : (more : Text) → told_after c.next_line.new.self more (lines_tell (told c.add.new.self) c.place_after-place.result c.next_line.new.self.line (c.next_line.new.self.begun ++ (c.next_line.new.rest.now ++ more)))
+    ≡ told_after l.text more (lines_tell (told l.nodes) l.place l.text.line (l.text.begun ++ (l.rest.now ++ more)))
+    = λ more. rw (after, added, c.place_after-place.ensures) (ap (told_after l.text more) (sym (line_tells (told l.nodes) l.place l.text.line (l.text.begun ++ (l.rest.now ++ more)) bytes (c.next_line.new.rest.now ++ more) said (lines more) says)))
     in
     record {
       tells = λ more. c.in_ok-rest-in-Ok.ensures.tells more ∙ step more ∙ l.invariant.tells more;
@@ -60,7 +60,7 @@ returns-clause-text g c = λ more.
           let line : lines_of (l.text.begun ++ (l.rest.now ++ more)) ≡ w.as_slice.result.now ∷ lines_of (c.next_line.new.rest.now ++ more) = rw w.as_slice.ensures.value ((rw w.in-Some.is at c.in_ok-number.ensures.line) more) in
           let is : new ≡ with_fault (after_line l.text) (l.text.line, kind) = w.text-is ∙ w.note_fault.ensures ∙ noted c.next_line.new.self l.text kind after in
           let wrong = line_is_wrong (told l.nodes) l.place l.text.line (l.text.begun ++ (l.rest.now ++ more)) w.as_slice.result.now (c.next_line.new.rest.now ++ more) kind line w.in-Err.ensures.value in
-          fault_comes (after_line l.text) new (l.text.line, kind) more (reads new.line (new.begun ++ more)) is ∙ ap (told_behind l.text more) (sym wrong) ∙ l.invariant.tells more
+          fault_comes (after_line l.text) new (l.text.line, kind) more (reads new.line (new.begun ++ more)) is ∙ ap (told_after l.text more) (sym wrong) ∙ l.invariant.tells more
           )
       | in_default w ↦ (
           let begun : c.next_line.new.self ≡ with_begun l.text l.rest.now = search rules in

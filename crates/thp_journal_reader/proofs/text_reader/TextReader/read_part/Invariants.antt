@@ -1,6 +1,6 @@
 use Rattle.std.proofs.Common.{◌≡◌, ◌++◌, length}
-use Rattle.thp_text.specs.TextInParts.{told_behind, IsCounted}
-use Rattle.thp_text.specs.Words.{Text}
+use Rattle.thp_script.specs.TextInParts.{told_after, IsCounted}
+use Rattle.thp_script.specs.Words.{Text}
 use Rattle.thp_journal_reader.specs.Parts.{lines_tell, so_far, told_with}
 use Rattle.thp_journal_reader.proofs.text_reader.TextReader.read_part.Given as goal
 
@@ -12,7 +12,7 @@ abbrev pub invariant-loop-text : goal.invariant-loop-text
 invariant-loop-text g l =
     let told = g.N.KeepsNodes.told in
     record {
-      tells : (more : Text) → told_behind l.text more (lines_tell (told l.nodes) l.place l.text.line (l.text.begun ++ (l.rest ++ more))) ≡ told_with (so_far (told l.fn.self.nodes) l.fn.self.place l.fn.self.text) (l.part ++ more);
+      tells : (more : Text) → told_after l.text more (lines_tell (told l.nodes) l.place l.text.line (l.text.begun ++ (l.rest ++ more))) ≡ told_with (so_far (told l.fn.self.nodes) l.fn.self.place l.fn.self.text) (l.part ++ more);
       counted : IsCounted l.rest l.text;
       along : g.N.KeepsNodes.goes_along l.text.line l.nodes;
       limit : l.text.most ≡ l.fn.self.text.most;

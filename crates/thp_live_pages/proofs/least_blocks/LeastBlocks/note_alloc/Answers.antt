@@ -1,4 +1,4 @@
-use Rattle.thp_live_pages.specs.Known.{known_of}
+use Rattle.thp_live_pages.specs.PageRecord.{known_of}
 use Rattle.std.proofs.Common.{subst, ◌<◌, sym}
 use Rattle.thp_live_pages.specs.State.{BlocksState}
 use Rattle.thp_live_pages.proofs.Noting.{noted_alloc, noted_alloc_freed}

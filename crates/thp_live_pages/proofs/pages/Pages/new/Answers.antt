@@ -2,12 +2,12 @@ use Rattle.std.proofs.Common.{ℕ, List, None, ap, ◌∙◌}
 use Rattle.std.specs.Prelude.{slice_get}
 use Rattle.std.specs.Map.{lookup}
 use Rattle.std.specs.Ordering.{nat_cmp, is_eq}
-use Rattle.thp_live_pages.specs.declared.pages.Known.{Known}
-use Rattle.thp_live_pages.specs.Known.{known_of, first_known}
+use Rattle.thp_live_pages.specs.declared.pages.PageRecord.{PageRecord}
+use Rattle.thp_live_pages.specs.PageRecord.{known_of, first_known}
 use Rattle.thp_live_pages.proofs.pages.Pages.new.Goals as goal
 
 pub returns : goal.returns
 unfolding known_of
 returns c = λ p.
-    ap (λ (xs : List Known). first_known (slice_get xs p) (lookup (λ q. is_eq (nat_cmp p q)) c.new-2.result.entries)) c.new.ensures.items
-    ∙ ap (λ (es : List (ℕ × Known)). first_known None (lookup (λ q. is_eq (nat_cmp p q)) es)) c.new-2.ensures.empty
+    ap (λ (xs : List PageRecord). first_known (slice_get xs p) (lookup (λ q. is_eq (nat_cmp p q)) c.new-2.result.entries)) c.new.ensures.items
+    ∙ ap (λ (es : List (ℕ × PageRecord)). first_known None (lookup (λ q. is_eq (nat_cmp p q)) es)) c.new-2.ensures.empty

@@ -1,6 +1,6 @@
 use Rattle.std.proofs.Common.{Some, [], ◌∷◌, ◌++◌, subst}
 use Rattle.thp_page.specs.declared.standing.Standing.TheVariants.{Queued}
-use Rattle.thp_live_pages.specs.PlacesState.{PlacesState, AtSlot, Edits}
+use Rattle.thp_live_pages.specs.PageStoreState.{PageStoreState, AtSlot, Edits}
 use Rattle.thp_node.proofs.ChainLemmas.{chain_stays}
 use Rattle.thp_node.proofs.blocks.Blocks.enqueue.Goals as goal
 
@@ -11,4 +11,4 @@ invariant_of-self c =
 
 pub returns : goal.returns
 returns c =
-    subst (λ (n : PlacesState). AtSlot n.table c.args.block (λ x. Edits n c.enqueue.new.self c.args.block (Some (record x { standing = Queued })) (n.queue ++ c.args.block ∷ []) 4)) c.self.view_is c.enqueue.ensures
+    subst (λ (n : PageStoreState). AtSlot n.table c.args.block (λ x. Edits n c.enqueue.new.self c.args.block (Some (record x { standing = Queued })) (n.queue ++ c.args.block ∷ []) 4)) c.self.view_is c.enqueue.ensures

@@ -1,6 +1,6 @@
 use Rattle.std.proofs.Common.{None, length, refl, ap, ◌∙◌, subst, arith, length-set}
 use Rattle.thp_page.specs.Slots.{slot_at}
-use Rattle.thp_live_pages.specs.PlacesState.{PlacesState, Lost}
+use Rattle.thp_live_pages.specs.PageStoreState.{PageStoreState, Lost}
 use Rattle.thp_page.proofs.TableSlots.{slot_at-inside}
 use Rattle.thp_live_pages.proofs.FreeChains.{free_chain_kept, not_free}
 use Rattle.thp_live_pages.proofs.Relinking.{edited_slot}
@@ -42,9 +42,9 @@ invariant_of-self-in_default c =
 
 pub returns-in_default-clause-lost : goal.returns-in_default-clause-lost
 returns-in_default-clause-lost c = λ x e.
-    let P : PlacesState → Type 0 = λ n. Lost c.args.loss c.args.closed x n c.lose.new.self c.args.block c.lose.new.done c.in-Ok.left in
+    let P : PageStoreState → Type 0 = λ n. Lost c.args.loss c.args.closed x n c.lose.new.self c.args.block c.lose.new.done c.in-Ok.left in
     record {
       between = c.lose.new.self;
-      lost = subst P c.self.view_is (c.in-Ok.ensures.lost x (ap (λ (n : PlacesState). slot_at n.table c.args.block) c.self.view_is ∙ e));
+      lost = subst P c.self.view_is (c.in-Ok.ensures.lost x (ap (λ (n : PageStoreState). slot_at n.table c.args.block) c.self.view_is ∙ e));
       relinks = record { slots = refl; order = refl; queue_is = refl; work = omega arith };
     }

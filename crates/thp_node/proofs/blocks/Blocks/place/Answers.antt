@@ -1,6 +1,6 @@
 use Rattle.std.proofs.Common.{length, ap, sym, ◌∙◌, arith}
 use Rattle.thp_links.proofs.Members.{Contains-from_first}
-use Rattle.thp_live_pages.specs.PlacesState.{PlacesState, new_standing, new_queue}
+use Rattle.thp_live_pages.specs.PageStoreState.{PageStoreState, new_standing, new_queue}
 use Rattle.thp_node.proofs.ChainLemmas.{chain_placed}
 use Rattle.thp_node.proofs.blocks.Blocks.place.Goals as goal
 
@@ -13,7 +13,7 @@ returns-clause-inside c =
     omega (
       arith,
       c.self.invariant.inside c.in-Some.block (Contains-from_first c.self.inside.free c.in-Some.block (sym c.pop_free.ensures.value ∙ c.in-Some.is)),
-      ap (λ (n : PlacesState). length n.table.slots) c.self.view_is,
+      ap (λ (n : PageStoreState). length n.table.slots) c.self.view_is,
     )
 
 pub invariant_of-self : goal.invariant_of-self

@@ -3,8 +3,8 @@ use Rattle.std.proofs.lemmas.List.{length_push}
 use Rattle.thp_model.specs.declared.events.What.{What}
 use Rattle.thp_model.specs.History.{History, by}
 use Rattle.thp_model.specs.Legal.{Fits}
-use Rattle.thp_node.specs.declared.journal.Unsaid.{Unsaid}
-use Rattle.thp_node.specs.Journals.{JournalState, IsJournal, HasFlightRoom, unsaid_of, leaves_by}
+use Rattle.thp_node.specs.declared.journal.EventContext.{EventContext}
+use Rattle.thp_node.specs.Journals.{JournalState, IsJournal, HasFlightRoom, context_of, leaves_by}
 use Rattle.thp_node.proofs.Recording.{count_room, may_join, may_leave, leaves_told, journal_push}
 use Rattle.thp_node.proofs.journal.Journal.record.Goals as goal
 
@@ -12,8 +12,8 @@ use Rattle.thp_node.proofs.journal.Journal.record.Goals as goal
 fits_inside : (v u : JournalState) (c : ℕ) (w : What) → v ≡ u → Fits u.shape u.events (by c w) → Fits v.shape v.events (by c w)
 fits_inside v u c w e f = let F : JournalState → Type 0 = λ s. Fits s.shape s.events (by c w) in subst F (sym e) f
 
-unsaid_inside : (v u : JournalState) (w : What) (o : Unsaid) → v ≡ u → o ≡ unsaid_of u.shape u.events w → o ≡ unsaid_of v.shape v.events w
-unsaid_inside v u w o e f = f ∙ ap (λ (s : JournalState). unsaid_of s.shape s.events w) (sym e)
+unsaid_inside : (v u : JournalState) (w : What) (o : EventContext) → v ≡ u → o ≡ context_of u.shape u.events w → o ≡ context_of v.shape v.events w
+unsaid_inside v u w o e f = f ∙ ap (λ (s : JournalState). context_of s.shape s.events w) (sym e)
 
 pub count-requires-clause-room : goal.count-requires-clause-room
 count-requires-clause-room g c =

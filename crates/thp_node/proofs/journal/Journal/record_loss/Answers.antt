@@ -4,9 +4,9 @@ use Rattle.thp_model.specs.declared.events.What.{What}
 use Rattle.thp_model.specs.History.{History, by}
 use Rattle.thp_model.specs.Legal.{Fits}
 use Rattle.thp_model.specs.PageCalls.{loss_what}
-use Rattle.thp_node.specs.declared.journal.Unsaid.{Unsaid}
-use Rattle.thp_node.specs.declared.journal.Unsaid.TheVariants.{FreedFrom}
-use Rattle.thp_node.specs.Journals.{JournalState, IsJournal, unsaid_of}
+use Rattle.thp_node.specs.declared.journal.EventContext.{EventContext}
+use Rattle.thp_node.specs.declared.journal.EventContext.TheVariants.{FreedFrom}
+use Rattle.thp_node.specs.Journals.{JournalState, IsJournal, context_of}
 use Rattle.thp_node.proofs.Recording.{count_room, may_leave, journal_push, left_told, counts_lost}
 use Rattle.thp_node.proofs.journal.Journal.record_loss.Goals as goal
 
@@ -14,8 +14,8 @@ use Rattle.thp_node.proofs.journal.Journal.record_loss.Goals as goal
 fits_inside : (v u : JournalState) (c : ℕ) (w : What) → v ≡ u → Fits u.shape u.events (by c w) → Fits v.shape v.events (by c w)
 fits_inside v u c w e f = let F : JournalState → Type 0 = λ s. Fits s.shape s.events (by c w) in subst F (sym e) f
 
-unsaid_inside : (v u : JournalState) (w : What) (o : Unsaid) → v ≡ u → o ≡ unsaid_of u.shape u.events w → o ≡ unsaid_of v.shape v.events w
-unsaid_inside v u w o e f = f ∙ ap (λ (s : JournalState). unsaid_of s.shape s.events w) (sym e)
+unsaid_inside : (v u : JournalState) (w : What) (o : EventContext) → v ≡ u → o ≡ context_of u.shape u.events w → o ≡ context_of v.shape v.events w
+unsaid_inside v u w o e f = f ∙ ap (λ (s : JournalState). context_of s.shape s.events w) (sym e)
 
 pub count_loss-requires-clause-room : goal.count_loss-requires-clause-room
 count_loss-requires-clause-room g c =

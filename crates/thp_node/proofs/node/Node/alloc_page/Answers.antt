@@ -9,7 +9,7 @@ use Rattle.thp_model.specs.Refusals.{refusal}
 use Rattle.thp_model.specs.Refusals as call
 use Rattle.thp_model.specs.Underused.{shrinks_underused}
 use Rattle.thp_page.specs.Slots.{slot_at}
-use Rattle.thp_live_pages.specs.PlacesState.{HasFree}
+use Rattle.thp_live_pages.specs.PageStoreState.{HasFree}
 use Rattle.thp_live_pages.specs.Holding.{IsNode}
 use Rattle.thp_node.specs.Journals.{JournalState}
 use Rattle.thp_node.specs.NodeState.{NodeState}

@@ -8,7 +8,7 @@ use Rattle.thp_model.specs.declared.page_call.PageCall.TheVariants as either
 use Rattle.thp_live_pages.specs.Holding.{IsNode}
 use Rattle.thp_live_pages.specs.Homes.{block_of}
 use Rattle.thp_node.specs.NodeState.{NodeState}
-use Rattle.thp_live_pages.specs.PlacesState.{PlacesState}
+use Rattle.thp_live_pages.specs.PageStoreState.{PageStoreState}
 use Rattle.thp_model.specs.PageCalls.{gain_call, gain_what}
 use Rattle.thp_live_pages.proofs.Admitting.{Found, at_home, refused_by_page}
 use Rattle.thp_node.proofs.CallLemmas.{did_one, refused_by, node_of}
@@ -92,7 +92,7 @@ refused g c =
 
 pub returns-in-Err-clause-refused : goal.returns-in-Err-clause-refused
 returns-in-Err-clause-refused g c =
-    refused_by c.args.self.now _ _ _ _ (ap (λ (b : PlacesState). node_of c.self.inside.journal b) c.in-Err.ensures.kept ∙ c.self.view_is) (refused g c)
+    refused_by c.args.self.now _ _ _ _ (ap (λ (b : PageStoreState). node_of c.self.inside.journal b) c.in-Err.ensures.kept ∙ c.self.view_is) (refused g c)
     c.in_ok-block.ensures.kept c.in_ok-block.ensures.allowed
 
 pub returns-clause-allowed : goal.returns-clause-allowed

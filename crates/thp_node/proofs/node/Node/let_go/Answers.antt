@@ -1,7 +1,7 @@
 use Rattle.std.proofs.Common.{◌≡◌, false, ◌∷◌, [], ◌++◌, ap, ◌∙◌, subst, arith}
 use Rattle.thp_model.specs.declared.events.Event.{Event}
 use Rattle.thp_model.specs.declared.events.What.TheVariants.{Used}
-use Rattle.thp_model.specs.Pages.{is_worth}
+use Rattle.thp_model.specs.Pages.{is_split_candidate}
 use Rattle.thp_model.specs.History.{by}
 use Rattle.thp_model.specs.Runs.{try_event}
 use Rattle.thp_node.specs.Calls.{Did}
@@ -15,7 +15,7 @@ record-requires-clause-fits g c =
     let j = c.self.inside.journal in
     let w = flies_inside _ c.args.self.now c.args.caller c.args.page c.args.block c.self.view_is c.requires.flies in
     (found_used j.shape j.events c.args.caller c.args.page c.args.block c.self.inside.blocks c.self.invariant w c.drop_out.new.self c.drop_out.ensures
-    (slot_inside _ c.args.self.now c.args.block (λ s x. is_worth s.underused x.page ≡ false) c.self.view_is c.requires.used w.slot w.at)).fits
+    (slot_inside _ c.args.self.now c.args.block (λ s x. is_split_candidate s.underused x.page ≡ false) c.self.view_is c.requires.used w.slot w.at)).fits
 
 pub invariant_of-self : goal.invariant_of-self
 invariant_of-self g c =
@@ -23,14 +23,14 @@ invariant_of-self g c =
     let w = flies_inside _ c.args.self.now c.args.caller c.args.page c.args.block c.self.view_is c.requires.flies in
     node_recorded c.record.new.self.shape j.shape c.record.new.self.events j.events (by c.args.caller (Used c.args.page)) c.drop_out.new.self
     c.record.ensures.shape c.record.ensures.events (found_used j.shape j.events c.args.caller c.args.page c.args.block c.self.inside.blocks c.self.invariant w c.drop_out.new.self c.drop_out.ensures
-    (slot_inside _ c.args.self.now c.args.block (λ s x. is_worth s.underused x.page ≡ false) c.self.view_is c.requires.used w.slot w.at)).node
+    (slot_inside _ c.args.self.now c.args.block (λ s x. is_split_candidate s.underused x.page ≡ false) c.self.view_is c.requires.used w.slot w.at)).node
 
 pub returns : goal.returns
 returns g c =
     let j = c.self.inside.journal in
     let w = flies_inside _ c.args.self.now c.args.caller c.args.page c.args.block c.self.view_is c.requires.flies in
     let u = (found_used j.shape j.events c.args.caller c.args.page c.args.block c.self.inside.blocks c.self.invariant w c.drop_out.new.self c.drop_out.ensures
-    (slot_inside _ c.args.self.now c.args.block (λ s x. is_worth s.underused x.page ≡ false) c.self.view_is c.requires.used w.slot w.at)) in
+    (slot_inside _ c.args.self.now c.args.block (λ s x. is_split_candidate s.underused x.page ≡ false) c.self.view_is c.requires.used w.slot w.at)) in
     let is : by c.args.caller (Used c.args.page) ≡ try_event c.args.self.now.shape c.args.self.now.journal c.args.caller c.args.page =
     u.is ∙ ap (λ (n : NodeState). try_event n.shape n.journal c.args.caller c.args.page) c.self.view_is in
     let new : NodeState = node_of c.record.new.self c.drop_out.new.self in

@@ -7,7 +7,7 @@ use Rattle.thp_model.specs.Refusals.{refusal}
 use Rattle.thp_model.specs.declared.page_call.PageCall.TheVariants as either
 use Rattle.thp_live_pages.specs.Holding.{IsNode}
 use Rattle.thp_live_pages.specs.Homes.{block_of}
-use Rattle.thp_live_pages.specs.PlacesState.{PlacesState, AtSlot}
+use Rattle.thp_live_pages.specs.PageStoreState.{PageStoreState, AtSlot}
 use Rattle.thp_model.specs.Pages.{page_refusal}
 use Rattle.thp_model.specs.declared.page_call.Loss.{Loss}
 use Rattle.thp_node.specs.NodeState.{NodeState}
@@ -20,7 +20,7 @@ use Rattle.thp_node.proofs.node.Node.lose.Given.{Over}
 use Rattle.thp_node.proofs.node.Node.lose.Goals as goal
 
 -- what the page doesn't refuse isn't refused
-allowed : (s : Shape) (h : History) (n : PlacesState) (p b : ℕ) (l : Loss) → IsNode s h n.table n.queue → block_of h p ≡ Some b → AtSlot n.table b (λ x. (q : ℕ) → None ≡ page_refusal x.page (loss_call l q)) → refusal s h (loss_call l p) ≡ None
+allowed : (s : Shape) (h : History) (n : PageStoreState) (p b : ℕ) (l : Loss) → IsNode s h n.table n.queue → block_of h p ≡ Some b → AtSlot n.table b (λ x. (q : ℕ) → None ≡ page_refusal x.page (loss_call l q)) → refusal s h (loss_call l p) ≡ None
 allowed s h n p b l m home told =
     let w : Found s h n.table p b = at_home s h n.table n.queue p b m home in
     refused_by_page s h n.table p b (either.Loss l) w ∙ sym (told w.slot w.at p)
@@ -119,7 +119,7 @@ returns-in-Err-clause-refused g c =
     let is = c.self.view_is ∙ c.in_ok-block.ensures.same in
     let w : Found j.shape j.events b.table c.args.page c.in_ok-block.block =
     at_home j.shape j.events b.table b.queue c.args.page c.in_ok-block.block c.self.invariant (ap (λ (n : NodeState). block_of n.journal c.args.page) is ∙ c.in_ok-block.ensures.block) in
-    refused_by c.args.self.now _ _ _ _ (ap (λ (b : PlacesState). node_of c.self.inside.journal b) c.in-Err.ensures.kept ∙ c.self.view_is)
+    refused_by c.args.self.now _ _ _ _ (ap (λ (b : PageStoreState). node_of c.self.inside.journal b) c.in-Err.ensures.kept ∙ c.self.view_is)
     (ap (λ (n : NodeState). refusal n.shape n.journal (loss_call c.args.loss c.args.page)) (sym is)
     ∙ refused_by_page j.shape j.events b.table c.args.page c.in_ok-block.block (either.Loss c.args.loss) w ∙ sym (c.in-Err.ensures.refusal w.slot w.at c.args.page))
     c.in_ok-block.ensures.kept c.in_ok-block.ensures.allowed

@@ -1,12 +1,12 @@
 use Rattle.std.proofs.Common.{◌≡◌, true, ◌∷◌, [], ◌++◌, ap, ap₂, sym, ◌∙◌, subst, arith}
 use Rattle.thp_model.specs.declared.events.Event.{Event}
 use Rattle.thp_model.specs.declared.events.What.TheVariants.{Split}
-use Rattle.thp_model.specs.Pages.{is_worth}
+use Rattle.thp_model.specs.Pages.{is_split_candidate}
 use Rattle.thp_model.specs.Underused.{shrinks_underused}
 use Rattle.thp_model.specs.History.{by}
 use Rattle.thp_model.specs.Runs.{try_event}
 use Rattle.thp_node.specs.Calls.{Did}
-use Rattle.thp_node.specs.declared.journal.Unsaid.TheVariants.{OfSplit}
+use Rattle.thp_node.specs.declared.journal.EventContext.TheVariants.{OfSplit}
 use Rattle.thp_node.specs.NodeState.{NodeState}
 use Rattle.thp_node.proofs.BatchRuns.{flies_inside, unpinned_inside, node_recorded, slot_inside, ready_there, whole_there, partly_there, SplitOff, split_off}
 use Rattle.thp_node.proofs.CallLemmas.{did_one, node_of}
@@ -21,7 +21,7 @@ off g c =
     let w = flies_inside _ c.args.self.now c.args.caller c.args.page c.args.block c.self.view_is c.requires.flies in
     split_off j.shape j.events c.args.caller c.args.page c.args.block c.self.inside.blocks c.self.invariant w c.split-released.new.self c.split-released.result c.shrinks_underused-give_zero.result
     (c.shrinks_underused-give_zero.ensures ∙ ap shrinks_underused c.shape.ensures.value) c.split-released.ensures
-    (slot_inside _ c.args.self.now c.args.block (λ s x. is_worth s.underused x.page ≡ true) c.self.view_is c.requires.worth w.slot w.at) (unpinned_inside _ c.args.self.now c.args.block c.self.view_is c.requires.unpinned w.slot w.at)
+    (slot_inside _ c.args.self.now c.args.block (λ s x. is_split_candidate s.underused x.page ≡ true) c.self.view_is c.requires.worth w.slot w.at) (unpinned_inside _ c.args.self.now c.args.block c.self.view_is c.requires.unpinned w.slot w.at)
 
 pub split-released-requires-clause-allowed : goal.split-released-requires-clause-allowed
 split-released-requires-clause-allowed g c =

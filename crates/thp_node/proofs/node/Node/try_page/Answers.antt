@@ -3,7 +3,7 @@ use Rattle.thp_model.specs.declared.events.Event.{Event}
 use Rattle.thp_model.specs.declared.events.What.TheVariants.{Pinned}
 use Rattle.thp_model.specs.History.{by}
 use Rattle.thp_model.specs.Counts.{pins}
-use Rattle.thp_model.specs.Pages.{is_worth}
+use Rattle.thp_model.specs.Pages.{is_split_candidate}
 use Rattle.thp_model.specs.Runs.{try_event}
 use Rattle.thp_node.specs.Calls.{Did}
 use Rattle.thp_node.specs.NodeState.{NodeState}
@@ -19,7 +19,7 @@ pinned g c =
     let j = c.self.inside.journal in
     let w = flies_inside _ c.args.self.now c.args.caller c.args.page c.args.block c.self.view_is c.requires.flies in
     found_pinned j.shape j.events c.args.caller c.args.page c.args.block c.self.inside.blocks c.self.invariant w
-    (sym (slot_inside _ c.args.self.now c.args.block (λ s x. c.is_worth.result ≡ is_worth s.underused x.page) c.self.view_is c.is_worth.ensures.page w.slot w.at) ∙ c.if-not-is_worth.false)
+    (sym (slot_inside _ c.args.self.now c.args.block (λ s x. c.is_split_candidate.result ≡ is_split_candidate s.underused x.page) c.self.view_is c.is_split_candidate.ensures.page w.slot w.at) ∙ c.if-not-is_split_candidate.false)
     (omega (arith, c.pins.ensures w.slot w.at, c.if-pins-eq0.false))
 
 pub record-requires-clause-fits : goal.record-requires-clause-fits
@@ -31,16 +31,16 @@ invariant_of-self g c =
     node_recorded c.record.new.self.shape j.shape c.record.new.self.events j.events (by c.args.caller (Pinned c.args.page)) c.self.inside.blocks
     c.record.ensures.shape c.record.ensures.events (pinned g (goal.at.invariant_of-self g c).Else-pins-eq0).node
 
-pub returns-then-not-is_worth-clause-tried : goal.returns-then-not-is_worth-clause-tried
-returns-then-not-is_worth-clause-tried g c =
-    tried_used c.args.self.now.shape c.args.self.now.journal c.args.page (sym (c.is_worth.ensures.worth c.args.caller c.args.page c.requires.flies) ∙ c.if-not-is_worth.true)
+pub returns-then-not-is_split_candidate-clause-tried : goal.returns-then-not-is_split_candidate-clause-tried
+returns-then-not-is_split_candidate-clause-tried g c =
+    tried_used c.args.self.now.shape c.args.self.now.journal c.args.page (sym (c.is_split_candidate.ensures.worth c.args.caller c.args.page c.requires.flies) ∙ c.if-not-is_split_candidate.true)
 
 pub returns-then-pins-eq0-clause-tried : goal.returns-then-pins-eq0-clause-tried
 returns-then-pins-eq0-clause-tried g c =
     let j = c.self.inside.journal in
     let w = flies_inside _ c.args.self.now c.args.caller c.args.page c.args.block c.self.view_is c.requires.flies in
     let there : pins j.events c.args.page ≡ w.slot.page.pins = pins_there j.shape j.events c.args.caller c.args.page c.args.block c.self.inside.blocks c.self.invariant w in
-    tried_split c.args.self.now.shape c.args.self.now.journal c.args.page (sym (c.is_worth.ensures.worth c.args.caller c.args.page c.requires.flies) ∙ c.if-not-is_worth.false)
+    tried_split c.args.self.now.shape c.args.self.now.journal c.args.page (sym (c.is_split_candidate.ensures.worth c.args.caller c.args.page c.requires.flies) ∙ c.if-not-is_split_candidate.false)
     (omega (arith, there, c.pins.ensures w.slot w.at, c.if-pins-eq0.true, ap (λ (n : NodeState). pins n.journal c.args.page) c.self.view_is))
 
 pub returns-else-pins-eq0-clause-tried : goal.returns-else-pins-eq0-clause-tried
@@ -48,7 +48,7 @@ returns-else-pins-eq0-clause-tried g c =
     let j = c.self.inside.journal in
     let w = flies_inside _ c.args.self.now c.args.caller c.args.page c.args.block c.self.view_is c.requires.flies in
     let there : pins j.events c.args.page ≡ w.slot.page.pins = pins_there j.shape j.events c.args.caller c.args.page c.args.block c.self.inside.blocks c.self.invariant w in
-    tried_pinned c.args.self.now.shape c.args.self.now.journal c.args.page (sym (c.is_worth.ensures.worth c.args.caller c.args.page c.requires.flies) ∙ c.if-not-is_worth.false) (omega (arith, there, c.pins.ensures w.slot w.at, c.if-pins-eq0.false, ap (λ (n : NodeState). pins n.journal c.args.page) c.self.view_is))
+    tried_pinned c.args.self.now.shape c.args.self.now.journal c.args.page (sym (c.is_split_candidate.ensures.worth c.args.caller c.args.page c.requires.flies) ∙ c.if-not-is_split_candidate.false) (omega (arith, there, c.pins.ensures w.slot w.at, c.if-pins-eq0.false, ap (λ (n : NodeState). pins n.journal c.args.page) c.self.view_is))
 
 pub returns-else-pins-eq0-clause-did : goal.returns-else-pins-eq0-clause-did
 returns-else-pins-eq0-clause-did g c =

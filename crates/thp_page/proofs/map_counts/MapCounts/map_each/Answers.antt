@@ -12,7 +12,7 @@ pub invariant_of-self : goal.invariant_of-self
 invariant_of-self g c = record {
   most = c.add.ensures.most;
   mapped =
-      c.turn.ensures
+      c.toggle.ensures
       ∙ set_of-ext _ _
       (λ i below.
       mapped_more (has c.self.inside.mapped i) (g.S.Subpages.chosen c.args.subpages i) (g.S.Subpages.chosen c.outside.result i) _ _

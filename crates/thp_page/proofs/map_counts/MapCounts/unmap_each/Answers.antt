@@ -16,7 +16,7 @@ pub invariant_of-self : goal.invariant_of-self
 invariant_of-self g c = record {
   most = omega (arith, c.self.invariant.most, c.take.ensures.used);
   mapped =
-      c.turn.ensures
+      c.toggle.ensures
       ∙ set_of-ext _ _
       (λ i below.
       mapped_less (has c.self.inside.mapped i) (g.S.Subpages.chosen c.args.subpages i) (g.S.Subpages.chosen c.with_count-unmapped.result i) _ _

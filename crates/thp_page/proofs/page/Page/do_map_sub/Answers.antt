@@ -5,7 +5,7 @@ use Rattle.thp_model.specs.Pages.{PageState, own_at, RangeMapped}
 use Rattle.thp_page.specs.PageView.{state_of}
 use Rattle.thp_page.proofs.PageSizes.{size_most}
 use Rattle.thp_page.proofs.PageRefusals.{allowed_as, map_sub_allowed}
-use Rattle.thp_page.proofs.Behind.{behind-map}
+use Rattle.thp_page.proofs.Trailing.{behind-map}
 use Rattle.thp_page.proofs.PageChanges.{IsPage-map_sub, zero_inside-same}
 use Rattle.thp_page.proofs.page.Page.do_map_sub.Goals as goal
 
@@ -15,7 +15,7 @@ with_own s own = record s { own = own }
 
 made : (s : PageState) (own : List ℕ) (first count : ℕ) → s.order ≤ 9 → ((i : ℕ) → i < 512 → get_or own i 0 ≡ own_at s i + cond (covers first count i) 1 0) → RangeMapped first count s (with_own s own)
 unfolding with_own
-made s own first count most added = record { order = refl; whole = refl; own = λ i below. added i (omega (arith, below, size_most s most)); pins = refl; split = refl; partly = refl; kept = record { zero = refl; gave_zero = refl } }
+made s own first count most added = record { order = refl; whole = refl; own = λ i below. added i (omega (arith, below, size_most s most)); pins = refl; split = refl; partly = refl; kept = record { zero = refl; freed_zero_frames = refl } }
 
 pub map-requires-clause-inside : goal.map-requires-clause-inside
 map-requires-clause-inside c =

@@ -4,7 +4,7 @@ use Rattle.thp_model.specs.Pages.{PageState}
 use Rattle.thp_page.specs.PageView.{state_of}
 use Rattle.thp_page.proofs.PageSizes.{size_least}
 use Rattle.thp_page.proofs.PageRefusals.{allowed_as, map_whole_allowed}
-use Rattle.thp_page.proofs.Behind.{behind-same}
+use Rattle.thp_page.proofs.Trailing.{behind-same}
 use Rattle.thp_page.proofs.PageChanges.{IsPage-map_whole, zero_inside-same}
 use Rattle.thp_page.proofs.page.Page.do_map_whole.Goals as goal
 
@@ -21,7 +21,7 @@ invariant_of-self c =
     record {
       page =
           IsPage-map_whole s t 0 c.self.invariant.page (allowed_as s _ (call.map_whole 0) c.self.view_is c.requires)
-          (record { order = refl; whole = refl; own = λ i below. refl; pins = refl; split = refl; partly = refl; kept = record { zero = refl; gave_zero = refl } });
+          (record { order = refl; whole = refl; own = λ i below. refl; pins = refl; split = refl; partly = refl; kept = record { zero = refl; freed_zero_frames = refl } });
       behind = behind-same s t refl (λ i. refl) c.self.invariant.behind;
       zero_inside = zero_inside-same s t refl refl c.self.invariant.zero_inside;
     }

@@ -3,7 +3,7 @@ use Rattle.thp_model.specs.Refusals as call
 use Rattle.thp_model.specs.Pages.{PageState}
 use Rattle.thp_page.specs.PageView.{state_of}
 use Rattle.thp_page.proofs.PageRefusals.{allowed_as, pin_allowed}
-use Rattle.thp_page.proofs.Behind.{behind-same}
+use Rattle.thp_page.proofs.Trailing.{behind-same}
 use Rattle.thp_page.proofs.PageChanges.{IsPage-pin, zero_inside-same}
 use Rattle.thp_page.proofs.page.Page.do_pin.Goals as goal
 
@@ -20,7 +20,7 @@ invariant_of-self c =
     record {
       page =
           IsPage-pin s t 0 c.self.invariant.page (allowed_as s _ (call.pin 0) c.self.view_is c.requires)
-          (record { order = refl; whole = refl; own = λ i below. refl; pins = refl; split = refl; partly = refl; kept = record { zero = refl; gave_zero = refl } });
+          (record { order = refl; whole = refl; own = λ i below. refl; pins = refl; split = refl; partly = refl; kept = record { zero = refl; freed_zero_frames = refl } });
       behind = behind-same s t refl (λ i. refl) c.self.invariant.behind;
       zero_inside = zero_inside-same s t refl refl c.self.invariant.zero_inside;
     }

@@ -6,7 +6,7 @@ use Rattle.thp_page.specs.PageView.{state_of}
 use Rattle.thp_page.proofs.RangeLemmas.{covers_inside, covers_true}
 use Rattle.thp_page.proofs.PageSizes.{size_most}
 use Rattle.thp_page.proofs.PageRefusals.{allowed_as, split_pmd_allowed}
-use Rattle.thp_page.proofs.Behind.{behind-map}
+use Rattle.thp_page.proofs.Trailing.{behind-map}
 use Rattle.thp_page.proofs.PageChanges.{IsPage-split_pmd, zero_inside-same}
 use Rattle.thp_page.proofs.page.Page.do_split_pmd.Goals as goal
 
@@ -23,7 +23,7 @@ made s own n most mapped long added = record {
   pins = refl;
   split = refl;
   partly = refl;
-  kept = record { zero = refl; gave_zero = refl };
+  kept = record { zero = refl; freed_zero_frames = refl };
 }
 
 pub overflow_sub-self : goal.overflow_sub-self

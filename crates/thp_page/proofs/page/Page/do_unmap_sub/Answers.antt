@@ -10,7 +10,7 @@ use Rattle.thp_page.specs.PageView.{state_of, IsKept}
 use Rattle.thp_page.specs.Changes.{IsChange}
 use Rattle.thp_page.proofs.PageSizes.{size_most}
 use Rattle.thp_page.proofs.PageRefusals.{allowed_as, unmap_sub_allowed}
-use Rattle.thp_page.proofs.Behind.{behind-unmap}
+use Rattle.thp_page.proofs.Trailing.{behind-unmap}
 use Rattle.thp_page.proofs.PageChanges.{IsPage-unmap_sub, IsPage-partly, has_use-partly, partly_after-partly, kept_partly, zero_inside-same}
 use Rattle.thp_page.proofs.PageUse.{drops_use-range, drops_use-mapped, gives_frames-range, gives_frames-unsplit, bare_set}
 use Rattle.thp_page.proofs.page.Page.do_unmap_sub.Goals.{then-self-eq0, else-self-eq0, then-unused, else-unused, then-self, else-self}
@@ -34,7 +34,7 @@ made s own first count partly most taken e = record {
   pins = refl;
   split = refl;
   partly = e ∙ sym (partly_after-partly s (with_own s own) partly);
-  kept = record { zero = refl; gave_zero = refl };
+  kept = record { zero = refl; freed_zero_frames = refl };
 }
 
 inside : (s : PageState) (first count : ℕ) → IsPage s → page_refusal s (call.unmap_sub 0 first count) ≡ None → first + count ≤ 512

@@ -7,7 +7,7 @@ use Rattle.thp_page.specs.PageView.{state_of, IsKept}
 use Rattle.thp_page.specs.Changes.{IsChange}
 use Rattle.thp_page.proofs.PageSizes.{size_most, whole_test}
 use Rattle.thp_page.proofs.PageRefusals.{allowed_as, unmap_whole_allowed}
-use Rattle.thp_page.proofs.Behind.{behind-same}
+use Rattle.thp_page.proofs.Trailing.{behind-same}
 use Rattle.thp_page.proofs.PageChanges.{IsPage-unmap_whole, IsPage-partly, has_use-partly, partly_after-partly, kept_partly, zero_inside-same}
 use Rattle.thp_page.proofs.PageUse.{drops_use-last, drops_use-mapped, gives_frames-unsplit}
 use Rattle.thp_page.proofs.page.Page.do_unmap_whole.Goals.{then-self-eq1, else-self-eq1, then-unused, else-unused}
@@ -30,7 +30,7 @@ unmapped s partly h e = record {
   pins = refl;
   split = refl;
   partly = e ∙ sym (partly_after-partly s (less s) partly);
-  kept = record { zero = refl; gave_zero = refl };
+  kept = record { zero = refl; freed_zero_frames = refl };
 }
 
 kept : (p : Inside) → IsKept p → page_refusal (state_of p) (call.unmap_whole 0) ≡ None → IsKept (record p { whole = p.whole - 1 })

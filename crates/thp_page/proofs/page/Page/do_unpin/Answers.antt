@@ -3,7 +3,7 @@ use Rattle.thp_model.specs.Refusals as call
 use Rattle.thp_model.specs.Pages.{PageState, Pinned}
 use Rattle.thp_page.specs.PageView.{state_of}
 use Rattle.thp_page.proofs.PageRefusals.{allowed_as, unpin_allowed}
-use Rattle.thp_page.proofs.Behind.{behind-same}
+use Rattle.thp_page.proofs.Trailing.{behind-same}
 use Rattle.thp_page.proofs.PageChanges.{IsPage-unpin, zero_inside-same}
 use Rattle.thp_page.proofs.page.Page.do_unpin.Goals as goal
 
@@ -13,7 +13,7 @@ less s = record s { pins = s.pins - 1 }
 
 pinned : (s : PageState) → 1 ≤ s.pins → Pinned (less s) s
 unfolding less
-pinned s h = record { order = refl; whole = refl; own = λ i below. refl; pins = omega arith; split = refl; partly = refl; kept = record { zero = refl; gave_zero = refl } }
+pinned s h = record { order = refl; whole = refl; own = λ i below. refl; pins = omega arith; split = refl; partly = refl; kept = record { zero = refl; freed_zero_frames = refl } }
 
 pub overflow_sub-self : goal.overflow_sub-self
 overflow_sub-self c =

@@ -4,7 +4,7 @@ use Rattle.thp_model.specs.Pages.{PageState, RangeWritten}
 use Rattle.thp_page.specs.PageView.{state_of}
 use Rattle.thp_page.proofs.PageSizes.{size_most}
 use Rattle.thp_page.proofs.PageRefusals.{allowed_as, write_allowed}
-use Rattle.thp_page.proofs.Behind.{behind-same}
+use Rattle.thp_page.proofs.Trailing.{behind-same}
 use Rattle.thp_page.proofs.PageChanges.{IsPage-counts}
 use Rattle.thp_page.proofs.ZeroSets.{written, written_inside}
 use Rattle.thp_page.proofs.page.Page.do_write.Goals as goal

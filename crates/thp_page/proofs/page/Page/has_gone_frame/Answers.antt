@@ -26,10 +26,10 @@ first_false a b e = cc
 pub returns-then-given : goal.returns-then-given
 returns-then-given c =
     let t : PageState = c.args.self.now in
-    let given : c.if-self.given ≡ (t.gave_zero && some_in_range t c.args.first c.args.count (zero_at t)) =
+    let given : c.if-self.given ≡ (t.freed_zero_frames && some_in_range t c.args.first c.args.count (zero_at t)) =
     elim c.if-self.branch [
-      | then-self w ↦ when t.gave_zero c.if-self.given _ true (sym (ap (λ (u : PageState). u.gave_zero) c.self.view_is) ∙ w.if-self.true) (w.given-is ∙ w.has_zero_filled-given.ensures)
-      | else-self w ↦ never t.gave_zero c.if-self.given _ (sym (ap (λ (u : PageState). u.gave_zero) c.self.view_is) ∙ w.if-self.false) (w.given-is ∙ ap (λ (u : PageState). u.gave_zero) c.self.view_is)
+      | then-self w ↦ when t.freed_zero_frames c.if-self.given _ true (sym (ap (λ (u : PageState). u.freed_zero_frames) c.self.view_is) ∙ w.if-self.true) (w.given-is ∙ w.has_zero_filled-given.ensures)
+      | else-self w ↦ never t.freed_zero_frames c.if-self.given _ (sym (ap (λ (u : PageState). u.freed_zero_frames) c.self.view_is) ∙ w.if-self.false) (w.given-is ∙ ap (λ (u : PageState). u.freed_zero_frames) c.self.view_is)
     ] in
     first_true c.if-self.given (some_in_range t c.args.first c.args.count (λ i. nat_eq (own_at t i) 0)) c.if-given.true
     ∙ some_gone t c.args.first c.args.count _ _ c.requires.split (unmapped _ t c.self.view_is c.self.invariant.page.no_whole c.requires.split) given refl
@@ -37,10 +37,10 @@ returns-then-given c =
 pub returns-else-given : goal.returns-else-given
 returns-else-given c =
     let t : PageState = c.args.self.now in
-    let given : c.if-self.given ≡ (t.gave_zero && some_in_range t c.args.first c.args.count (zero_at t)) =
+    let given : c.if-self.given ≡ (t.freed_zero_frames && some_in_range t c.args.first c.args.count (zero_at t)) =
     elim c.if-self.branch [
-      | then-self w ↦ when t.gave_zero c.if-self.given _ true (sym (ap (λ (u : PageState). u.gave_zero) c.self.view_is) ∙ w.if-self.true) (w.given-is ∙ w.has_zero_filled-given.ensures)
-      | else-self w ↦ never t.gave_zero c.if-self.given _ (sym (ap (λ (u : PageState). u.gave_zero) c.self.view_is) ∙ w.if-self.false) (w.given-is ∙ ap (λ (u : PageState). u.gave_zero) c.self.view_is)
+      | then-self w ↦ when t.freed_zero_frames c.if-self.given _ true (sym (ap (λ (u : PageState). u.freed_zero_frames) c.self.view_is) ∙ w.if-self.true) (w.given-is ∙ w.has_zero_filled-given.ensures)
+      | else-self w ↦ never t.freed_zero_frames c.if-self.given _ (sym (ap (λ (u : PageState). u.freed_zero_frames) c.self.view_is) ∙ w.if-self.false) (w.given-is ∙ ap (λ (u : PageState). u.freed_zero_frames) c.self.view_is)
     ] in
     first_false c.if-self.given c.has_unmapped.result c.if-given.false
     ∙ some_gone t c.args.first c.args.count _ _ c.requires.split (unmapped _ t c.self.view_is c.self.invariant.page.no_whole c.requires.split) given c.has_unmapped.ensures

@@ -6,7 +6,7 @@ use Rattle.thp_model.specs.Words.{get_or-set_of}
 use Rattle.thp_model.specs.Pages.{PageState, size, own_at, gives_frames, PageSplit}
 use Rattle.thp_page.specs.Changes.{split_set}
 use Rattle.thp_page.specs.PageView.{state_of}
-use Rattle.thp_page.proofs.Behind.{behind-split}
+use Rattle.thp_page.proofs.Trailing.{behind-split}
 use Rattle.thp_page.proofs.PageChanges.{IsPage-split, zero_inside-same}
 use Rattle.thp_page.proofs.PageUse.{unused_set, split_set-none, split_set-zeros, gives_frames-split, unused_set-unmapped, unused_set-mapped}
 use Rattle.thp_page.proofs.page.Page.split.Goals.{then-self-eq0, else-self-eq0, then-give_zero, else-give_zero}
@@ -14,7 +14,7 @@ use Rattle.thp_page.proofs.page.Page.split.Goals as goal
 
 -- the page split, with other own counts
 divided : Bool → PageState → List ℕ → PageState
-divided give s own = record s { whole = 0; own = own; split = true; gave_zero = give }
+divided give s own = record s { whole = 0; own = own; split = true; freed_zero_frames = give }
 
 made : (give : Bool) (s : PageState) (own : List ℕ) (all : List Bool) → s.order ≤ 9 → all ≡ set_of (λ i. nat_lt i (2 ^ s.order)) →
     ((i : ℕ) → i < 512 → get_or own i 0 ≡ own_at s i + cond (has all i) s.whole 0) → PageSplit give s (divided give s own)
@@ -22,12 +22,12 @@ unfolding divided size
 made give s own all most is added = record {
   order = refl;
   whole = refl;
-  own = λ i below. added i (short i below) ∙ ap (λ b. own_at s i + cond b s.whole 0) (ap (λ t. has t i) is ∙ get_or-set_of (λ j. nat_lt j (2 ^ s.order)) i (short i below) ∙ inside i (2 ^ s.order) below) ∙ turn (own_at s i) s.whole;
+  own = λ i below. added i (short i below) ∙ ap (λ b. own_at s i + cond b s.whole 0) (ap (λ t. has t i) is ∙ get_or-set_of (λ j. nat_lt j (2 ^ s.order)) i (short i below) ∙ inside i (2 ^ s.order) below) ∙ toggle (own_at s i) s.whole;
   pins = refl;
   split = refl;
   zero = refl;
   partly = refl;
-  gave_zero = refl;
+  freed_zero_frames = refl;
 } where
   short : (i : ℕ) → i < 2 ^ s.order → i < 512
   short i below = omega (arith, below, pow_mono {i = s.order} {j = 9} most)
@@ -35,8 +35,8 @@ made give s own all most is added = record {
   inside : (i n : ℕ) → i < n → nat_lt i n ≡ true
   inside i n h = grind (arith, nat_tests)
 
-  turn : (a b : ℕ) → a + b ≡ b + a
-  turn a b = omega arith
+  toggle : (a b : ℕ) → a + b ≡ b + a
+  toggle a b = omega arith
 
 pub invariant_of-self : goal.invariant_of-self
 unfolding divided

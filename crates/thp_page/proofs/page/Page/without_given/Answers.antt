@@ -9,16 +9,16 @@ pub returns-then-self : goal.returns-then-self
 returns-then-self c =
     let s : PageState = state_of c.self.inside in
     c.difference.ensures
-    ∙ set_of-ext (λ i. has c.args.subpages i && not (zero_at s i)) (λ i. has c.args.subpages i && not (s.gave_zero && zero_at s i))
+    ∙ set_of-ext (λ i. has c.args.subpages i && not (zero_at s i)) (λ i. has c.args.subpages i && not (s.freed_zero_frames && zero_at s i))
     (λ i short. ap (λ b. has c.args.subpages i && not (b && zero_at s i)) (sym c.if-self.true))
-    ∙ ap (λ t. set_of (λ i. has c.args.subpages i && not (t.gave_zero && zero_at t i))) c.self.view_is
+    ∙ ap (λ t. set_of (λ i. has c.args.subpages i && not (t.freed_zero_frames && zero_at t i))) c.self.view_is
 
 pub returns-else-self : goal.returns-else-self
 returns-else-self c =
     let s : PageState = state_of c.self.inside in
-    is_set_of c.args.subpages (λ i. has c.args.subpages i && not (s.gave_zero && zero_at s i)) c.requires
+    is_set_of c.args.subpages (λ i. has c.args.subpages i && not (s.freed_zero_frames && zero_at s i)) c.requires
     (λ i short. as_it_is (has c.args.subpages i) ∙ ap (λ b. has c.args.subpages i && not (b && zero_at s i)) (sym c.if-self.false))
-    ∙ ap (λ t. set_of (λ i. has c.args.subpages i && not (t.gave_zero && zero_at t i))) c.self.view_is where
+    ∙ ap (λ t. set_of (λ i. has c.args.subpages i && not (t.freed_zero_frames && zero_at t i))) c.self.view_is where
       as_it_is : (b : Bool) → b ≡ (b && true)
       as_it_is true = refl
       as_it_is false = refl

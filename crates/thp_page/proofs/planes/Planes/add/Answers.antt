@@ -17,7 +17,7 @@ loop-k-preserved g c = record {
   counts = λ i below.
       carried c.loop-k.self.sets c.loop-k.self.used c.loop-k.k i _ (g.S.Subpages.chosen c.loop-k.carry i) (g.S.Subpages.chosen c.within-next.result i) _
       (omega arith) (omega arith)
-      (turned_at c.loop-k.self.sets c.loop-k.k i _ _ (g.S.Subpages.chosen c.loop-k.carry) (omega arith) below c.turn.ensures)
+      (turned_at c.loop-k.self.sets c.loop-k.k i _ _ (g.S.Subpages.chosen c.loop-k.carry) (omega arith) below c.toggle.ensures)
       (c.within-next.ensures i below ∙ ap (λ s. g.S.Subpages.chosen c.loop-k.carry i && has s i) (at_plane c.loop-k.self.sets c.loop-k.k _ (omega arith)))
       (c.loop-k.invariant.counts i below);
 }

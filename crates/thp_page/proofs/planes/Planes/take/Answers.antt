@@ -16,7 +16,7 @@ loop-k-preserved g c = record {
   counts = λ i below.
       borrowed c.loop-k.self.sets c.loop-k.self.used c.loop-k.k i _ (g.S.Subpages.chosen c.loop-k.borrow i) (g.S.Subpages.chosen c.within-borrow.result i) _ _
       (omega arith) (omega arith)
-      (turned_at c.loop-k.self.sets c.loop-k.k i _ _ (g.S.Subpages.chosen c.loop-k.borrow) (omega arith) below c.turn.ensures)
+      (turned_at c.loop-k.self.sets c.loop-k.k i _ _ (g.S.Subpages.chosen c.loop-k.borrow) (omega arith) below c.toggle.ensures)
       (c.within-borrow.ensures i below ∙ ap (λ s. g.S.Subpages.chosen c.loop-k.borrow i && has s i) (get_or-set_same c.loop-k.self.sets c.loop-k.k _ _ (omega arith)))
       (c.loop-k.invariant.counts i below);
 }

@@ -1,9 +1,0 @@
--- The other open batches stay in front of their flights.
-use Rattle.std.proofs.Common.{◌<◌, length, subst, sym}
-use Rattle.thp_c_calls.proofs.Places.{engine_closed}
-use Rattle.thp_c_calls.proofs.engine.Engine.abandon.Goals as goal
-
-pub invariant_of-self-2 : goal.invariant_of-self-2
-invariant_of-self-2 c =
-    let lt : c.in-Some.place < length c.self.inside.batches.items = subst (λ x. c.in-Some.place < length x.batches) (sym c.self.view_is) c.in-Some.ensures.inside in
-    engine_closed _ c.self.inside.node _ c.self.invariant _ c.in-Some.place (λ b front. front) lt c.take_at.ensures.now

@@ -1,6 +1,0 @@
--- The open batches stay in front of their flights.
-use Rattle.thp_c_calls.proofs.Opened.{shared_stays}
-use Rattle.thp_c_calls.proofs.shared_pass.SharedPass.scan.Goals as goal
-
-pub invariant_of-self : goal.invariant_of-self
-invariant_of-self c = shared_stays _ _ _ c.self.inside.pass c.scan.new.pass _ c.self.invariant c.scan.ensures.same c.scan.ensures.batches

@@ -1,0 +1,102 @@
+-- A handle of a check may go to another thread, as what it leads to may: a check's reader of its text, and a node's replay.
+use base.Shift.{Keyless}
+use mir.Raw.{raw}
+use denote.Memory.{lone}
+use denote.RawPtr.{Ptr}
+use denote.Param.Send.{IsSend, AllSend, view_send, owning_send, struct_send, sendable}
+use denote.Param.SendFields.{declared_send, variants_send}
+use denote.Struct.Struct.{exits_of}
+use denote.Struct.Owning.{shape, fields, to}
+use Rattle.std.specs.Prelude.{Option, None, Some}
+use Rattle.std.proofs.Crossing.{Box-send, crosses, frees, send}
+use Rattle.std.proofs.option.Option.TheSendSync as option
+use Rattle.std.proofs.result.Result.TheSendSync as result
+use Rattle.std_alloc.proofs.SendSync.{lies, quiet}
+use Rattle.thp_live_pages.specs.contracts.free_blocks.FreeBlocks as FreeBlocks
+use Rattle.thp_live_pages.specs.contracts.free_blocks.FreeBlocks.TheInside as in_free
+use Rattle.thp_live_pages.specs.contracts.past.EventTrace as EventTrace
+use Rattle.thp_live_pages.specs.contracts.past.EventTrace.TheInside as in_past
+use Rattle.thp_check.specs.contracts.flights.Flights as Flights
+use Rattle.thp_check.specs.contracts.flights.Flights.TheInside as in_flights
+use Rattle.thp_links.specs.contracts.link_vec.LinkVec as LinkVec
+use Rattle.thp_links.specs.contracts.link_vec.LinkVec.TheInside as in_links
+use Rattle.thp_check.specs.contracts.node_state.NodeState as NodeState
+use Rattle.thp_check.proofs.tally.Tally.TheSendSync as tally
+use Rattle.thp_check.specs.contracts.replay.Replay as Replay
+use Rattle.thp_check.specs.contracts.replay.Replay.TheInside as in_replay
+use Rattle.thp_journal_reader.specs.contracts.past_lines.LineTrace as LineTrace
+use Rattle.thp_journal_reader.specs.contracts.past_lines.LineTrace.TheInside as in_lines
+use Rattle.thp_journal_reader.specs.contracts.checked_nodes.NodeAtHand as NodeAtHand
+use Rattle.thp_journal_reader.specs.contracts.checked_nodes.Verdict as Verdict
+use Rattle.thp_journal_reader.specs.contracts.checked_nodes.CheckedNodes as CheckedNodes
+use Rattle.thp_journal_reader.proofs.illegal.Illegal.TheSendSync as illegal
+use Rattle.thp_journal_reader.proofs.illegal.TextFault.TheSendSync as fault
+use Rattle.thp_journal_reader.proofs.place.Place.TheSendSync as place
+use Rattle.thp_journal_reader.specs.contracts.text_reader.TextReader as TextReader
+use Rattle.thp_journal_reader.specs.contracts.long_check.LongCheck as LongCheck
+use Rattle.thp_journal_reader.specs.contracts.long_check.LongCheck.TheInside as in_check
+use Rattle.thp_script.specs.contracts.text_in_parts.TextInParts as TextInParts
+use Rattle.thp_script.specs.contracts.text_in_parts.TextInParts.TheInside as in_text
+use Rattle.thp_capi.specs.NodeHandle.{heap}
+use Rattle.thp_capi.specs.CheckHandle.{boxed_at}
+use Rattle.thp_capi.specs.declared.check_box.CheckBox.{CheckBox}
+use Rattle.thp_capi.specs.contracts.check_box.CheckBox.{the_row as R, the_type as room_type}
+use Rattle.thp_capi.specs.contracts.check_handle.ThpCheck.{the_row, the_type}
+use Rattle.thp_capi.proofs.Crossings.{places_send}
+use Rattle.thp_capi.specs.contracts.check_box.CheckStage as CheckStage
+
+free_send : IsSend FreeBlocks.the_row
+free_send = view_send in_free.the_row _ _ _ _ (declared_send in_free.the_type (search (sendable, crosses) depth 30, tt))
+
+past_send : IsSend EventTrace.the_row
+past_send = view_send in_past.the_row _ _ _ _ (declared_send in_past.the_type (search (sendable, crosses) depth 30, tt))
+
+links_send : IsSend LinkVec.the_row
+links_send = view_send in_links.the_row _ _ _ _ (declared_send in_links.the_type (search (sendable, crosses) depth 30, (search (sendable, crosses) depth 30, tt)))
+
+flights_send : IsSend Flights.the_row
+flights_send = view_send in_flights.the_row _ _ _ _ (declared_send in_flights.the_type (search (sendable, crosses) depth 30, (search (sendable, crosses) depth 30, (links_send, tt))))
+
+state_send : IsSend NodeState.the_row
+state_send = declared_send NodeState.the_type (search (sendable, crosses) depth 30, (places_send, (flights_send, (search sendable, (search sendable, (search (sendable, crosses) depth 30, tt))))))
+
+replay_send : IsSend Replay.the_row
+replay_send = view_send in_replay.the_row _ _ _ _ (declared_send in_replay.the_type (Box-send _ state_send, (free_send, (Box-send _ tally.the_send, (past_send, tt)))))
+
+hand_send : IsSend NodeAtHand.the_row
+hand_send = declared_send NodeAtHand.the_type (replay_send, (search sendable, tt))
+
+verdict_send : IsSend Verdict.the_row
+verdict_send = declared_send Verdict.the_type (option.the_send _ hand_send, (option.the_send _ illegal.the_send, tt))
+
+lines_send : IsSend LineTrace.the_row
+lines_send = view_send in_lines.the_row _ _ _ _ (declared_send in_lines.the_type (search (sendable, crosses) depth 30, tt))
+
+nodes_send : IsSend CheckedNodes.the_row
+nodes_send = declared_send CheckedNodes.the_type (verdict_send, (lines_send, tt))
+
+text_send : IsSend TextInParts.the_row
+text_send = view_send in_text.the_row _ _ _ _ (declared_send in_text.the_type (send, (search (sendable, crosses) depth 30, (search sendable, (search sendable, (search sendable, (search (sendable, crosses) depth 30, tt)))))))
+
+reader_send : IsSend (TextReader.the_row CheckedNodes.the_row)
+reader_send = declared_send (TextReader.the_type CheckedNodes.the_row) (send, (nodes_send, (place.the_send, (text_send, tt))))
+
+check_send : IsSend LongCheck.the_row
+check_send = view_send in_check.the_row _ _ _ _ (declared_send in_check.the_type (reader_send, tt))
+
+stage_send : IsSend CheckStage.the_row
+stage_send = variants_send CheckStage.enum ((check_send, tt), ((result.the_send _ _ (option.the_send _ illegal.the_send) fault.the_send, tt), tt))
+
+room_send : IsSend R
+room_send = declared_send room_type (option.the_send _ stage_send, tt)
+
+boxed : (at : Ptr) (v : Option CheckBox) → Keyless (boxed_at at v)
+boxed at None = tt
+boxed at (Some x) = (lies R room_send at x, frees.frees heap (raw (lone R.mir)) at)
+
+all : AllSend (fields the_type)
+all = (search sendable, (search sendable, tt))
+
+-- a handle of a check may go to another thread
+pub check_handle_send : IsSend the_row
+check_handle_send = owning_send the_type all (λ d. (tt, boxed d.at d.held)) (λ k. quiet (to the_type) (exits_of k (fields the_type)) ((struct_send (shape the_type) all).leaving k))

@@ -1,0 +1,69 @@
+-- A handle may go to another thread, as what it leads to may: struct by struct, down to plain data and memory of its own.
+use base.Shift.{Keyless}
+use mir.Raw.{raw}
+use denote.Memory.{lone}
+use denote.RawPtr.{Ptr}
+use denote.Param.Send.{IsSend, AllSend, view_send, owning_send, struct_send, sendable}
+use denote.Param.SendFields.{declared_send}
+use denote.Struct.Struct.{exits_of}
+use denote.Struct.Owning.{shape, fields, to}
+use Rattle.std.specs.Prelude.{Option, None, Some}
+use Rattle.std.proofs.Crossing.{crosses, frees, Vec-send}
+use Rattle.std_alloc.proofs.SendSync.{lies, quiet}
+use Rattle.thp_page.proofs.page_table.Descriptor.TheSendSync as descriptor
+use Rattle.thp_page.specs.contracts.page_table.PageTable as PageTable
+use Rattle.thp_page.specs.contracts.page_table.PageTable.TheInside as in_table
+use Rattle.thp_live_pages.specs.contracts.page_store.PageStore
+use Rattle.thp_live_pages.specs.contracts.page_store.PageStore.TheInside as in_places
+use Rattle.thp_model.proofs.events.Event.TheSendSync as event
+use Rattle.thp_node.specs.contracts.recorder.FullLog as FullLog
+use Rattle.thp_node.specs.contracts.recorder.FullLog.TheInside as in_kept
+use Rattle.thp_node.specs.contracts.recorder.FullLogRecorder.TheImpl as keeps
+use Rattle.thp_node.specs.contracts.batch.Batch as Batch
+use Rattle.thp_node.specs.contracts.batch.Batch.TheInside as in_batch
+use Rattle.thp_node.specs.contracts.blocks.Blocks as Blocks
+use Rattle.thp_node.specs.contracts.blocks.Blocks.TheInside as in_blocks
+use Rattle.thp_node.specs.contracts.journal.Journal as Journal
+use Rattle.thp_node.specs.contracts.journal.Journal.TheInside as in_journal
+use Rattle.thp_node.specs.contracts.node.Node as Node
+use Rattle.thp_node.specs.contracts.node.Node.TheInside as in_node
+use Rattle.thp_capi.specs.NodeHandle.{boxed_at, heap}
+use Rattle.thp_capi.specs.declared.engine.Engine.{Engine}
+use Rattle.thp_capi.specs.contracts.engine.Engine.{the_row as R}
+use Rattle.thp_capi.specs.contracts.engine.Engine.TheInside as in_engine
+use Rattle.thp_capi.specs.contracts.node_handle.ThpNode.{the_row, the_type}
+
+table_send : IsSend PageTable.the_row
+table_send = view_send in_table.the_row _ _ _ _ (declared_send in_table.the_type (search (sendable, crosses) depth 30, (search (sendable, crosses) depth 30, (Vec-send _ descriptor.the_send, (search (sendable, crosses) depth 30, tt)))))
+
+pub places_send : IsSend PageStore.the_row
+places_send = view_send in_places.the_row _ _ _ _ (declared_send in_places.the_type (table_send, (search (sendable, crosses) depth 30, tt)))
+
+blocks_send : IsSend Blocks.the_row
+blocks_send = view_send in_blocks.the_row _ _ _ _ (declared_send in_blocks.the_type (places_send, (search (sendable, crosses) depth 30, tt)))
+
+batch_send : IsSend Batch.the_row
+batch_send = view_send in_batch.the_row _ _ _ _ (declared_send in_batch.the_type (search sendable, (search (sendable, crosses) depth 30, (search sendable, tt))))
+
+kept_send : IsSend FullLog.the_row
+kept_send = view_send in_kept.the_row _ _ _ _ (declared_send in_kept.the_type (Vec-send _ event.the_send, tt))
+
+journal_send : IsSend (Journal.the_row FullLog.the_row keeps.ghosts)
+journal_send = view_send (in_journal.the_row FullLog.the_row keeps.ghosts) _ _ _ _ (declared_send (in_journal.the_type FullLog.the_row keeps.ghosts) (search (sendable, crosses) depth 30, (search (sendable, kept_send), (search (sendable, crosses) depth 30, tt))))
+
+pub node_send : IsSend (Node.the_row FullLog.the_row keeps.ghosts)
+node_send = view_send (in_node.the_row FullLog.the_row keeps.ghosts) _ _ _ _ (declared_send (in_node.the_type FullLog.the_row keeps.ghosts) (journal_send, (blocks_send, tt)))
+
+engine_send : IsSend R
+engine_send = view_send in_engine.the_row _ _ _ _ (declared_send in_engine.the_type (node_send, (search (sendable, crosses, batch_send) depth 30, tt)))
+
+boxed : (at : Ptr) (v : Option Engine) → Keyless (boxed_at at v)
+boxed at None = tt
+boxed at (Some x) = (lies R engine_send at x, frees.frees heap (raw (lone R.mir)) at)
+
+all : AllSend (fields the_type)
+all = (search sendable, (search sendable, tt))
+
+-- a handle of a node may go to another thread
+pub handle_send : IsSend the_row
+handle_send = owning_send the_type all (λ d. (tt, boxed d.at d.held)) (λ k. quiet (to the_type) (exits_of k (fields the_type)) ((struct_send (shape the_type) all).leaving k))

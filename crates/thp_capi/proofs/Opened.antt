@@ -1,0 +1,218 @@
+-- Passes and the open batches of their callers: what calls keep, and where a caller's batch is found.
+use Rattle.std.proofs.Common.{◌≡◌, ◌∙◌, ◌≢◌, ◌++◌, ◌+◌, ◌-◌, ◌<◌, ◌≤◌, ap, ℕ, Bool, true, false, length, refl, sym, subst, arith, length-append, length-drop, Option, Some, None, Ok, Err, set, get_or, take, drop}
+use Rattle.std.specs.Prelude.{nat_le}
+use Rattle.std.proofs.lemmas.Bool.Decides.{nat_tests}
+use Rattle.std.proofs.lemmas.List.{set-set, length-take, length-set, get_or-take, get_or-drop, get_or-set_same, get_or-set_other, get_or_append_left, get_or-append-add}
+use Rattle.atomic_table.specs.Seated.{TableId}
+use Rattle.thp_node.specs.Batches.{BatchState, IsInFront, rest}
+use Rattle.thp_model.specs.Runs.{put_back_events, split_next_events}
+use Rattle.thp_node.specs.declared.answers.BackReply.{BackReply}
+use Rattle.thp_node.specs.declared.answers.Tried.{Tried}
+use Rattle.thp_cell.specs.Calls.{at_front, BatchesStay, OtherBatchesStay, Called, Failed, IsJoined, below, from}
+use Rattle.thp_cell.specs.Says.{DidPutBack, DidTry}
+use Rattle.thp_cell.specs.Views.{PassState, HasCaller}
+use Rattle.thp_cell.specs.declared.fault.CellFault.{CellFault}
+use Rattle.thp_cell.specs.declared.fault.CellFault.TheVariants.{Busy, Refused}
+use Rattle.thp_capi.specs.PassBatches.{PassNext, PassBack, PassFailsOnBatch, fault_in}
+use Rattle.thp_capi.specs.Sharing.{IsShared, OnlyOf, batch_of}
+use Rattle.thp_capi.proofs.Places.{Batches, IsFor, each_set, for_none, for_some, same_again}
+
+-- ---- calls that leave the open batches alone
+
+-- the batch at a place is one of the pass's callers
+pub own_at : (t : TableId) (n m : ℕ) (p : PassState) (bs : Batches) → IsShared t n m p bs → (k : ℕ) (b : BatchState) → k < length bs → b.caller ≡ p.first + k → HasCaller p b.caller
+own_at t n m p bs shared k b within is = record { from = omega (arith, is); below = omega (arith, is, within, shared.places) }
+
+pub shared_stays : (t : TableId) (n m : ℕ) (p q : PassState) (bs : Batches) → IsShared t n m p bs → q ≡ at_front p q.front → BatchesStay p q → IsShared t n m q bs
+shared_stays t n m p q bs shared same stay =
+    let first : q.first ≡ p.first = ap (λ (x : PassState). x.first) same in
+    let end : q.end ≡ p.end = ap (λ (x : PassState). x.end) same in
+    record {
+      cell_is = ap (λ (x : PassState). x.cell) same ∙ shared.cell_is;
+      callers = ap (λ (x : PassState). x.callers) same ∙ shared.callers;
+      places = rw (first, end) shared.places;
+      room_is = rw first shared.room_is;
+      each = λ k b within at.
+          let was = shared.each k b within at in
+          (rw first was.0, stay b (own_at t n m p bs shared k b within was.0) was.1);
+    }
+
+-- batches that stay in front do so whoever's they are
+pub others_stay : (p q : PassState) (c : ℕ) → BatchesStay p q → OtherBatchesStay c p q
+others_stay p q c stay b has other front = stay b has front
+
+-- ---- calls that change one
+
+pub shared_set : (t : TableId) (n m : ℕ) (p q : PassState) (bs : Batches) (c place : ℕ) (x : Option BatchState) → IsShared t n m p bs → q ≡ at_front p q.front → OtherBatchesStay c p q → place + p.first ≡ c → place < length bs → IsFor q.front c x → IsShared t n m q (set bs place x)
+shared_set t n m p q bs c place x shared same stay at lt for =
+    let first : q.first ≡ p.first = ap (λ (x : PassState). x.first) same in
+    let end : q.end ≡ p.end = ap (λ (x : PassState). x.end) same in
+    record {
+      cell_is = ap (λ (x : PassState). x.cell) same ∙ shared.cell_is;
+      callers = ap (λ (x : PassState). x.callers) same ∙ shared.callers;
+      places = rw (first, end, length-set bs place x) shared.places;
+      room_is = rw first shared.room_is;
+      each = rw first (each_set p.front q.front p.first place c bs x shared.each (λ i b within is other front. stay b (own_at t n m p bs shared i b within is) other front) (omega (arith, at)) lt for);
+    }
+
+module _ (t : TableId) (n m room : ℕ) (p q : PassState) (bs new : Batches) (c place : ℕ) (shared : IsShared t n m p bs) (same : q ≡ at_front p q.front) (at : place + p.first ≡ c) (lt : place < length bs) (kept : room ≡ m) where
+  -- after a take
+  pub shared_took : (b : BatchState) → OtherBatchesStay c p q → b.caller ≡ c → IsInFront q.front b → new ≡ set bs place (Some b) → IsShared t n room q new
+  shared_took b stay own front now = rw (now, kept) (shared_set t n m p q bs c place (Some b) shared same stay at lt (for_some q.front c b own front))
+
+  -- after the batch was closed
+  pub shared_closed : BatchesStay p q → new ≡ set bs place None → IsShared t n room q new
+  shared_closed stay now = rw (now, kept) (shared_set t n m p q bs c place None shared same (others_stay p q c stay) at lt (for_none q.front c))
+
+  -- after it was taken out and one was put there
+  pub shared_again : (mid : Batches) (b : BatchState) → BatchesStay p q → b.caller ≡ c → IsInFront q.front b → mid ≡ set bs place None → new ≡ set mid place (Some b) → IsShared t n room q new
+  shared_again mid b stay own front out now = shared_took b (others_stay p q c stay) own front (now ∙ ap (λ xs. set xs place (Some b)) out ∙ set-set bs place None (Some b))
+
+-- where the caller's batch is found
+pub found_at : (mark c place : ℕ) (p : PassState) (bs : Batches) → place + p.first ≡ c → batch_of (record { mark = mark; pass = p; batches = bs }) c ≡ get_or bs place None
+found_at mark c place p bs at =
+    let low : nat_le p.first c ≡ true = grind (arith, nat_tests, at) in
+    let is : c - p.first ≡ place = omega (arith, at) in
+    rw (low, is) refl
+
+pub found_set : (mark c place : ℕ) (p : PassState) (bs : Batches) (x : Option BatchState) → place + p.first ≡ c → place < length bs → batch_of (record { mark = mark; pass = p; batches = set bs place x }) c ≡ x
+found_set mark c place p bs x at lt = found_at mark c place p (set bs place x) at ∙ get_or-set_same bs place x None lt
+
+-- and another caller's
+pub other_set : (mark c place : ℕ) (p q : PassState) (bs : Batches) (x : Option BatchState) → q ≡ at_front p q.front → place + p.first ≡ c → (d : ℕ) → d ≢ c → batch_of (record { mark = mark; pass = q; batches = set bs place x }) d ≡ batch_of (record { mark = mark; pass = p; batches = bs }) d
+other_set mark c place p q bs x same at d other = by_test (nat_le p.first d) refl
+  where
+    by_test : (t : Bool) → nat_le p.first d ≡ t → batch_of (record { mark = mark; pass = q; batches = set bs place x }) d ≡ batch_of (record { mark = mark; pass = p; batches = bs }) d
+    by_test true e =
+        let first : q.first ≡ p.first = ap (λ (x : PassState). x.first) same in
+        let le : p.first ≤ d = grind (arith, nat_tests, e) in
+        rw (first, e, get_or-set_other bs place (d - p.first) x None (λ f. other (omega (arith, at, f, le)))) refl
+    by_test false e =
+        let first : q.first ≡ p.first = ap (λ (x : PassState). x.first) same in
+        rw (first, e) refl
+
+-- ---- what calls about an open batch did
+
+module _ (mark : ℕ) (p q : PassState) (bs new : Batches) (c place : ℕ) (same : q ≡ at_front p q.front) (at : place + p.first ≡ c) (lt : place < length bs) where
+  only_of : (x : Option BatchState) → new ≡ set bs place x → OnlyOf c (record { mark = mark; pass = p; batches = bs }) (record { mark = mark; pass = q; batches = new })
+  only_of x now = rw now (record { mark = refl; pass = same; others = other_set mark c place p q bs x same at })
+
+  held : (b : BatchState) → get_or bs place None ≡ Some b → batch_of (record { mark = mark; pass = p; batches = bs }) c ≡ Some b
+  held b is = found_at mark c place p bs at ∙ is
+
+  here : (x : Option BatchState) → new ≡ set bs place x → batch_of (record { mark = mark; pass = q; batches = new }) c ≡ x
+  here x now =
+      let first : q.first ≡ p.first = ap (λ (x : PassState). x.first) same in
+      rw now (found_set mark c place q bs x (rw first at) lt)
+
+  failed : (m : BatchState → ℕ) (b : BatchState) (f : CellFault) → get_or bs place None ≡ Some b → new ≡ bs → Failed p q None (m b) f → PassFailsOnBatch c m (record { mark = mark; pass = p; batches = bs }) (record { mark = mark; pass = q; batches = new }) (fault_in f)
+  failed m b Busy is stays fails = (λ i. record { mark = mark; pass = same i; batches = stays i }, rw (held b is) refl, rw (held b is) fails)
+  failed m b (Refused r) is stays fails = (λ i. record { mark = mark; pass = same i; batches = stays i }, rw (held b is) refl, rw (held b is) fails)
+
+  pub next_done : (b b' : BatchState) (t : Tried) → get_or bs place None ≡ Some b → b.caller ≡ c → new ≡ set bs place (Some b') → b'.caller ≡ b.caller → b'.pages ≡ b.pages → Called p q b.caller (DidTry p.shape b b' t)
+      → PassNext c (record { mark = mark; pass = p; batches = bs }) (record { mark = mark; pass = q; batches = new }) (Ok t)
+  next_done b b' t is own now caller pages did = (only_of (Some b') now, rw (held b is, here (Some b') now) (record { caller_is = caller; pages = pages; did = subst (λ d. Called p q d (DidTry p.shape b b' t)) own did }), tt)
+
+  pub next_failed : (b b' : BatchState) (f : CellFault) → get_or bs place None ≡ Some b → b.caller ≡ c → new ≡ set bs place (Some b') → b' ≡ b → Failed p q None (length (split_next_events q.shape q.front b.caller (rest b))) f
+      → PassNext c (record { mark = mark; pass = p; batches = bs }) (record { mark = mark; pass = q; batches = new }) (Err (fault_in f))
+  next_failed b b' f is own now stays fails =
+      let same : new ≡ bs = now ∙ ap (λ x. set bs place (Some x)) stays ∙ same_again bs place (Some b) is in
+      (only_of (Some b') now, tt, failed (λ x. length (split_next_events q.shape q.front c (rest x))) b f is same (subst (λ d. Failed p q None (length (split_next_events q.shape q.front d (rest b))) f) own fails))
+
+  pub back_done : (b : BatchState) (r : BackReply) → get_or bs place None ≡ Some b → b.caller ≡ c → new ≡ set bs place None → Called p q b.caller (DidPutBack p.shape b r)
+      → PassBack c (record { mark = mark; pass = p; batches = bs }) (record { mark = mark; pass = q; batches = new }) (Ok r)
+  back_done b r is own now did = (only_of None now, rw (held b is) refl, here None now, rw (held b is) (subst (λ d. Called p q d (DidPutBack p.shape b r)) own did), tt)
+
+  pub back_failed : (b b' : BatchState) (f : CellFault) → get_or bs place None ≡ Some b → b.caller ≡ c → new ≡ set bs place (Some b') → b' ≡ b → Failed p q None (length (put_back_events q.shape q.front b.caller b.pages)) f
+      → PassBack c (record { mark = mark; pass = p; batches = bs }) (record { mark = mark; pass = q; batches = new }) (Err (fault_in f))
+  back_failed b b' f is own now stays fails =
+      let same : new ≡ bs = now ∙ ap (λ x. set bs place (Some x)) stays ∙ same_again bs place (Some b) is in
+      (only_of (Some b') now, tt, tt, tt, failed (λ x. length (put_back_events q.shape q.front c x.pages)) b f is same (subst (λ d. Failed p q None (length (put_back_events q.shape q.front d b.pages)) f) own fails))
+
+-- ---- parts, and passes of both
+
+pub shared_below : (t : TableId) (n m : ℕ) (p : PassState) (bs : Batches) (at k : ℕ) → IsShared t n m p bs → k + p.first ≡ at → at ≤ p.end → IsShared t n m (below p at) (take k bs)
+shared_below t n m p bs at k shared is le = record {
+  cell_is = shared.cell_is;
+  callers = shared.callers;
+  places = omega (arith, length-take k bs, shared.places, is, le);
+  room_is = shared.room_is;
+  each = λ i b within e.
+      let lt : i < k = omega (arith, length-take k bs, within) in
+      shared.each i b (omega (arith, length-take k bs, within)) (sym (get_or-take k bs i None lt) ∙ e);
+}
+
+pub shared_from : (t : TableId) (n m room : ℕ) (p : PassState) (bs : Batches) (at k : ℕ) → IsShared t n m p bs → k + p.first ≡ at → at ≤ p.end → n ≤ at + room → IsShared t n room (from p at) (drop k bs)
+shared_from t n m room p bs at k shared is le enough = record {
+  cell_is = shared.cell_is;
+  callers = shared.callers;
+  places = omega (arith, length-drop k bs, shared.places, is, le);
+  room_is = enough;
+  each = λ i b within e.
+      let was = shared.each (k + i) b (omega (arith, length-drop k bs, within)) (sym (get_or-drop k bs i None) ∙ e) in
+      (omega (arith, was.0, is), was.1);
+}
+
+-- the open batches of a part's callers are those that were
+pub lower_open : (mark : ℕ) (p : PassState) (bs : Batches) (at k c : ℕ) → k + p.first ≡ at → HasCaller (below p at) c → batch_of (record { mark = mark; pass = below p at; batches = take k bs }) c ≡ batch_of (record { mark = mark; pass = p; batches = bs }) c
+lower_open mark p bs at k c is has =
+    let low : nat_le p.first c ≡ true = grind (arith, nat_tests, has.from) in
+    rw (low, get_or-take k bs (c - p.first) None (omega (arith, is, has.from, has.below))) refl
+
+pub upper_open : (mark : ℕ) (p : PassState) (bs : Batches) (at k c : ℕ) → k + p.first ≡ at → HasCaller (from p at) c → batch_of (record { mark = mark; pass = from p at; batches = drop k bs }) c ≡ batch_of (record { mark = mark; pass = p; batches = bs }) c
+upper_open mark p bs at k c is has =
+    let own : nat_le at c ≡ true = grind (arith, nat_tests, has.from) in
+    let before : p.first ≤ c = omega (arith, is, has.from) in
+    let low : nat_le p.first c ≡ true = grind (arith, nat_tests, before) in
+    let place : k + (c - at) ≡ c - p.first = omega (arith, is, has.from) in
+    rw (own, low, get_or-drop k bs (c - at) None, place) refl
+
+pub shared_joined : (t u : TableId) (n m h l room : ℕ) (p q r : PassState) (bs cs : Batches) → IsShared t n m p bs → IsShared u h l q cs → IsJoined p q r → BatchesStay p r → BatchesStay q r → p.end ≡ q.first → m ≤ room → IsShared t n room r (bs ++ cs)
+shared_joined t u n m h l room p q r bs cs left right j left-stay right-stay adjacent enough =
+    let first : r.first ≡ p.first = ap (λ (x : PassState). x.first) j.callers in
+    let end : r.end ≡ q.end = ap (λ (x : PassState). x.end) j.callers in
+    record {
+      cell_is = ap (λ (x : PassState). x.cell) j.callers ∙ left.cell_is;
+      callers = ap (λ (x : PassState). x.callers) j.callers ∙ left.callers;
+      places = omega (arith, first, end, length-append bs cs, left.places, right.places, adjacent);
+      room_is = omega (arith, first, left.room_is, enough);
+      each = λ i b within e. by_side i b within e (nat_le (length bs) i) refl;
+    }
+  where
+    by_side : (i : ℕ) (b : BatchState) → i < length (bs ++ cs) → get_or (bs ++ cs) i None ≡ Some b → (test : Bool) → nat_le (length bs) i ≡ test → (b.caller ≡ r.first + i) × IsInFront r.front b
+    by_side i b within e true is =
+        let first : r.first ≡ p.first = ap (λ (x : PassState). x.first) j.callers in
+        let le : length bs ≤ i = grind (arith, nat_tests, is) in
+        let place : i ≡ length bs + (i - length bs) = omega (arith, le) in
+        let lt : i - length bs < length cs = omega (arith, le, within, length-append bs cs) in
+        let at : get_or cs (i - length bs) None ≡ Some b = sym (get_or-append-add bs cs (i - length bs) None) ∙ ap (λ k. get_or (bs ++ cs) k None) (sym place) ∙ e in
+        let was = right.each (i - length bs) b lt at in
+        (omega (arith, was.0, first, left.places, adjacent, le), right-stay b (own_at u h l q cs right (i - length bs) b lt was.0) was.1)
+    by_side i b within e false is =
+        let first : r.first ≡ p.first = ap (λ (x : PassState). x.first) j.callers in
+        let lt : i < length bs = grind (arith, nat_tests, is) in
+        let was = left.each i b lt (sym (get_or_append_left bs cs None i lt) ∙ e) in
+        (omega (arith, was.0, first), left-stay b (own_at t n m p bs left i b lt was.0) was.1)
+
+pub joined_left : (mark mark' : ℕ) (p q r : PassState) (bs cs : Batches) → p.first + length bs ≡ p.end → IsJoined p q r → (c : ℕ) → HasCaller p c → batch_of (record { mark = mark'; pass = r; batches = bs ++ cs }) c ≡ batch_of (record { mark = mark; pass = p; batches = bs }) c
+joined_left mark mark' p q r bs cs places j c has =
+    let first : r.first ≡ p.first = ap (λ (x : PassState). x.first) j.callers in
+    let low : nat_le p.first c ≡ true = grind (arith, nat_tests, has.from) in
+    rw (first, low, get_or_append_left bs cs None (c - p.first) (omega (arith, has.from, has.below, places))) refl
+
+pub joined_right : (mark mark' : ℕ) (p q r : PassState) (bs cs : Batches) → p.first + length bs ≡ p.end → IsJoined p q r → p.end ≡ q.first → (c : ℕ) → HasCaller q c → batch_of (record { mark = mark'; pass = r; batches = bs ++ cs }) c ≡ batch_of (record { mark = mark; pass = q; batches = cs }) c
+joined_right mark mark' p q r bs cs places j adjacent c has =
+    let first : r.first ≡ p.first = ap (λ (x : PassState). x.first) j.callers in
+    let le : p.first ≤ c = omega (arith, has.from, places, adjacent) in
+    let low : nat_le p.first c ≡ true = grind (arith, nat_tests, le) in
+    let own : nat_le q.first c ≡ true = grind (arith, nat_tests, has.from) in
+    let at : c - p.first ≡ length bs + (c - q.first) = omega (arith, places, adjacent, has.from) in
+    rw (first, low, own, at, get_or-append-add bs cs (c - q.first) None) refl
+
+-- where each place is empty no caller has a batch open
+pub none_shut : (mark : ℕ) (p : PassState) (bs : Batches) → ((k : ℕ) → get_or bs k None ≡ None) → (c : ℕ) → batch_of (record { mark = mark; pass = p; batches = bs }) c ≡ None
+none_shut mark p bs none c = by_test (nat_le p.first c) refl
+  where
+    by_test : (t : Bool) → nat_le p.first c ≡ t → batch_of (record { mark = mark; pass = p; batches = bs }) c ≡ None
+    by_test true e = rw e (none (c - p.first))
+    by_test false e = rw e refl

@@ -1,0 +1,27 @@
+-- What the text that came to a check, and a part behind it, have its verdict be.
+use Rattle.std.proofs.Common.{◌≡◌, ◌∙◌, ◌++◌, ap, sym, [], Ok, Err, append_assoc}
+use Rattle.std.proofs.lemmas.List.{append-nil}
+use Rattle.std.specs.Prelude.{IfOk, IfErr, Result}
+use Rattle.thp_journal_reader.specs.declared.journals.Journals.{Journals}
+use Rattle.thp_journal_reader.specs.Answers.{ReportsFirst}
+use Rattle.thp_journal_reader.specs.Journals.{journals_within}
+use Rattle.thp_journal_reader.specs.Parts.{ReadSoFar, told_with}
+use Rattle.thp_script.specs.Limits.{max_counted}
+use Rattle.thp_script.specs.Words.{Text}
+use Rattle.thp_capi.specs.LongChecks.{HasRead, IsVerdictOn, ReadsOn, Verdict}
+
+-- a part more
+pub reads_on : (old new : ReadSoFar) (part : Text) → ((more : Text) → told_with new more ≡ told_with old (part ++ more)) → ReadsOn part old new
+reads_on old new part on text has more = on more ∙ has (part ++ more) ∙ ap (journals_within max_counted) (sym (append_assoc text part more))
+
+pub reads_on_ok : {E : Type 0} (old : ReadSoFar) (part : Text) (r : Result ReadSoFar E) → IfOk r (λ new. (more : Text) → told_with new more ≡ told_with old (part ++ more)) → IfOk r (ReadsOn part old)
+reads_on_ok old part (Ok new) on = reads_on old new part on
+reads_on_ok old part (Err e) on = tt
+
+-- the verdict, told as the check tells it
+pub judged : (check : ReadSoFar) (v : Verdict)
+    → IfOk v (λ illegal. (journals : Journals) × (told_with check [] ≡ Ok journals) × ReportsFirst journals.nodes illegal)
+    → IfErr v (λ fault. told_with check [] ≡ Err (fault.line, fault.kind))
+    → (text : Text) → HasRead check text → IsVerdictOn text v
+judged check (Ok illegal) first fault text has = (first.0, ap (journals_within max_counted) (sym (append-nil text)) ∙ sym (has []) ∙ first.1, first.2)
+judged check (Err f) first fault text has = ap (journals_within max_counted) (sym (append-nil text)) ∙ sym (has []) ∙ fault

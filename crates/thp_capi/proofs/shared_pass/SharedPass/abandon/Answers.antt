@@ -1,0 +1,11 @@
+-- The other open batches stay in front of their flights.
+use Rattle.std.proofs.Common.{◌≡◌, ◌+◌, ◌<◌, length, refl, subst, sym}
+use Rattle.thp_capi.proofs.Opened.{shared_closed}
+use Rattle.thp_capi.proofs.shared_pass.SharedPass.abandon.Goals as goal
+
+pub invariant_of-self-2 : goal.invariant_of-self-2
+invariant_of-self-2 c =
+    let p = c.self.inside.pass in
+    let at : c.in-Some.place + p.first ≡ c.args.caller = subst (λ x. c.in-Some.place + x.pass.first ≡ c.args.caller) (sym c.self.view_is) c.in-Some.ensures.at in
+    let lt : c.in-Some.place < length c.self.inside.batches.items = subst (λ x. c.in-Some.place < length x.batches) (sym c.self.view_is) c.in-Some.ensures.inside in
+    shared_closed _ _ _ _ p p _ _ c.args.caller c.in-Some.place c.self.invariant refl at lt c.take_at.ensures.room (λ b has front. front) c.take_at.ensures.now

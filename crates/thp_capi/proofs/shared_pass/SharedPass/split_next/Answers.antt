@@ -1,0 +1,53 @@
+-- The batch and the others stay in front of their flights; what the cell's call did is told.
+use Rattle.std.proofs.Common.{◌≡◌, ◌∙◌, ◌+◌, ◌<◌, Some, None, arith, get_or, length, refl, set, sym, subst}
+use Rattle.std.proofs.lemmas.List.{get_or_default}
+use Rattle.thp_capi.specs.PassBatches.{PassNext}
+use Rattle.thp_capi.proofs.Opened.{others_stay, own_at, shared_took, next_done, next_failed}
+use Rattle.thp_capi.proofs.shared_pass.SharedPass.split_next.Goals.{in-Ok, in-Err}
+use Rattle.thp_capi.proofs.shared_pass.SharedPass.split_next.Goals as goal
+
+pub split_next-requires-clause-caller : goal.split_next-requires-clause-caller
+split_next-requires-clause-caller c =
+    let p = c.self.inside.pass in
+    let bs = c.self.inside.batches.items in
+    let place = c.in-Some.place in
+    let lt : place < length bs = subst (λ x. place < length x.batches) (sym c.self.view_is) c.in-Some.ensures.inside in
+    let b = c.in-Some-index_mut.batch in
+    let is : get_or bs place None ≡ Some b = get_or_default bs place None c.index_mut.result.now lt ∙ sym c.index_mut.ensures.value ∙ c.in-Some-index_mut.is in
+    own_at _ _ _ p bs c.self.invariant place b lt (c.self.invariant.each place b lt is).0
+
+pub invariant_of-self-2 : goal.invariant_of-self-2
+invariant_of-self-2 c =
+    let p = c.self.inside.pass in
+    let bs = c.self.inside.batches.items in
+    let place = c.in-Some.place in
+    let at : place + p.first ≡ c.args.caller = subst (λ x. place + x.pass.first ≡ c.args.caller) (sym c.self.view_is) c.in-Some.ensures.at in
+    let lt : place < length bs = subst (λ x. place < length x.batches) (sym c.self.view_is) c.in-Some.ensures.inside in
+    let b = c.in-Some-index_mut.batch in
+    let is : get_or bs place None ≡ Some b = get_or_default bs place None c.index_mut.result.now lt ∙ sym c.index_mut.ensures.value ∙ c.in-Some-index_mut.is in
+    let was = c.self.invariant.each place b lt is in
+    let own : b.caller ≡ c.args.caller = omega (arith, was.0, at) in
+    let e = c.split_next.ensures in
+    let q = c.split_next.new.pass in
+    shared_took _ _ _ _ p q bs _ c.args.caller place c.self.invariant e.same at lt refl c.split_next.new.batch (others_stay p q c.args.caller e.batches) (e.same_caller ∙ own) (e.front was.1) refl
+
+pub returns : goal.returns
+returns c =
+    let p = c.self.inside.pass in
+    let bs = c.self.inside.batches.items in
+    let place = c.in-Some.place in
+    let at : place + p.first ≡ c.args.caller = subst (λ x. place + x.pass.first ≡ c.args.caller) (sym c.self.view_is) c.in-Some.ensures.at in
+    let lt : place < length bs = subst (λ x. place < length x.batches) (sym c.self.view_is) c.in-Some.ensures.inside in
+    let b = c.in-Some-index_mut.batch in
+    let is : get_or bs place None ≡ Some b = get_or_default bs place None c.index_mut.result.now lt ∙ sym c.index_mut.ensures.value ∙ c.in-Some-index_mut.is in
+    let own : b.caller ≡ c.args.caller = omega (arith, (c.self.invariant.each place b lt is).0, at) in
+    let e = c.split_next.ensures in
+    let q = c.split_next.new.pass in
+    let b' = c.split_next.new.batch in
+    let mark = c.self.inside.mark in
+    let new = set bs place (Some b') in
+    subst (λ x. PassNext c.args.caller x (record { mark = mark; pass = q; batches = new }) c.match-split_next.result) c.self.view_is
+    (elim c.match-split_next.branch [
+      | in-Ok w ↦ rw w.result-is (next_done mark p q bs new c.args.caller place e.same at lt b b' w.in-Ok.tried is own refl e.same_caller e.same_pages w.in-Ok.ensures.recorded)
+      | in-Err w ↦ rw (w.result-is, w.fault_of.ensures) (next_failed mark p q bs new c.args.caller place e.same at lt b b' w.in-Err.fault is own refl w.in-Err.ensures.kept w.in-Err.ensures.failed)
+    ])

@@ -1,0 +1,48 @@
+-- The meaning of the number that a call returns.
+use Rattle.std.specs.Prelude.{ℕ, zero, suc, List, [], ◌∷◌, Result, Ok, Err, ⊤}
+use Rattle.thp_model.specs.declared.refusal.Refusal.TheVariants.{NoPage, BadRange, IsSplit, NotMapped, Gone, NotPinned, TooMany, Closed, NoBlock, HasBatch, OutOfMemory}
+use Rattle.thp_capi.specs.declared.codes.Fault.{Fault}
+use Rattle.thp_capi.specs.declared.codes.Fault.TheVariants.{Refused, Empty, InUse, BadCaller, BadSize, BadCount, NoBatch, BatchOpen, TooSmall}
+
+-- success, or why the call has no effect
+abbrev pub Answer : Type 0
+Answer = Result ⊤ Fault
+
+-- the results in the order of their numbers, as the header's `thp_code` names them
+abbrev pub answers : List Answer
+answers =
+    Ok tt
+    ∷ Err (Refused NoPage)
+    ∷ Err (Refused BadRange)
+    ∷ Err (Refused IsSplit)
+    ∷ Err (Refused NotMapped)
+    ∷ Err (Refused Gone)
+    ∷ Err (Refused NotPinned)
+    ∷ Err (Refused TooMany)
+    ∷ Err (Refused Closed)
+    ∷ Err (Refused NoBlock)
+    ∷ Err (Refused HasBatch)
+    ∷ Err (Refused OutOfMemory)
+    ∷ Err Empty
+    ∷ Err InUse
+    ∷ Err BadCaller
+    ∷ Err BadSize
+    ∷ Err BadCount
+    ∷ Err NoBatch
+    ∷ Err BatchOpen
+    ∷ Err TooSmall
+    ∷ []
+
+abbrev pub nth : List Answer → ℕ → Answer
+nth [] n = Err Empty
+nth (a ∷ more) zero = a
+nth (a ∷ more) (suc n) = nth more n
+
+-- the result of this number. Each call also guarantees that its number is in the list.
+abbrev pub answer_of : ℕ → Answer
+answer_of code = nth answers code
+
+-- the result together with the call's value
+abbrev pub answer_with : {A : Type 0} → Answer → A → Result A Fault
+answer_with (Ok u) a = Ok a
+answer_with (Err f) a = Err f

@@ -1,0 +1,104 @@
+-- The view that contracts have of the check of a handle: the text read so far, or the verdict on it.
+use Rattle.std.specs.Prelude.{◌≡◌, ◌++◌, ℕ, List, [], Option, Some, None, Result, Ok, Err, ⊤}
+use Rattle.thp_check.specs.Explanations.{explanation}
+use Rattle.thp_journal_reader.specs.declared.illegal.Illegal.{Illegal}
+use Rattle.thp_journal_reader.specs.declared.illegal.TextFault.{TextFault}
+use Rattle.thp_journal_reader.specs.declared.journals.Journals.{Journals}
+use Rattle.thp_journal_reader.specs.Answers.{ReportsFirst}
+use Rattle.thp_journal_reader.specs.Journals.{journals_within}
+use Rattle.thp_journal_reader.specs.Parts.{ReadSoFar, told_with}
+use Rattle.thp_model.specs.declared.refusal.Refusal.TheVariants.{OutOfMemory}
+use Rattle.thp_script.specs.Limits.{max_counted}
+use Rattle.thp_script.specs.Words.{Text}
+use Rattle.thp_capi.specs.Calls.{Written}
+use Rattle.thp_capi.specs.Checks.{text_code}
+use Rattle.thp_capi.specs.CheckCodes.{CheckAnswer}
+use Rattle.thp_capi.specs.declared.check_codes.CheckCallFault.{CheckCallFault}
+use Rattle.thp_capi.specs.declared.check_codes.CheckCallFault.TheVariants.{Plain, Finished, NoReason}
+use Rattle.thp_capi.specs.declared.check_box.CheckStage.{CheckStage}
+use Rattle.thp_capi.specs.declared.check_box.CheckStage.TheVariants.{Reading, Judged}
+use Rattle.thp_capi.specs.declared.codes.Fault.TheVariants.{Refused, Empty, InUse}
+
+-- this text was read by the check: whatever follows it, the check reports the verdict on the whole text
+abbrev pub HasRead : ReadSoFar → Text → Type 0
+HasRead check text = (more : Text) → told_with check more ≡ journals_within max_counted (text ++ more)
+
+-- the first illegal event, or none; or the text's first error
+abbrev pub Verdict : Type 0
+Verdict = Result (Option Illegal) TextFault
+
+-- the verdict is that on the text: each of its nodes is legal, or the event is the first that does not fit, with its reason; or
+-- the error is the text's first
+abbrev pub IsVerdictOn : Text → Verdict → Type 0
+IsVerdictOn text (Ok illegal) = (journals : Journals) × (journals_within max_counted text ≡ Ok journals) × ReportsFirst journals.nodes illegal
+IsVerdictOn text (Err fault) = journals_within max_counted text ≡ Err (fault.line, fault.kind)
+
+-- the code and the line (0: none)
+abbrev pub verdict_numbers : Verdict → ℕ × ℕ
+verdict_numbers (Ok None) = (0, 0)
+verdict_numbers (Ok (Some illegal)) = (21, illegal.line)
+verdict_numbers (Err fault) = (text_code fault.kind, fault.line)
+
+-- why the first illegal event does not fit, as text: it exists after the check found such an event
+abbrev pub reason_of : CheckStage → Option Text
+reason_of (Judged (Ok (Some illegal))) = Some (explanation illegal.line illegal.event illegal.misfit)
+reason_of _ = None
+
+-- why no reason is returned: there is none, or memory for it could not be allocated
+abbrev pub WhyNoReason : Option Text → CheckCallFault → Type 0
+WhyNoReason None NoReason = ⊤
+WhyNoReason (Some text) (Plain (Refused OutOfMemory)) = ⊤
+WhyNoReason _ _ = ⊥
+
+-- ---- the effects of the calls
+
+-- a check that has read nothing; or memory for it could not be allocated; or the handle was not empty
+abbrev pub CheckMade : Option CheckStage → Option CheckStage → CheckAnswer → Type 0
+CheckMade None (Some (Reading new)) answer = (answer ≡ Ok tt) × HasRead new []
+CheckMade None None answer = answer ≡ Err (Plain (Refused OutOfMemory))
+CheckMade (Some old) (Some new) answer = (new ≡ old) × (answer ≡ Err (Plain InUse))
+CheckMade _ _ answer = ⊥
+
+-- the handle is empty, whatever it had before
+abbrev pub CheckEmptied : Option CheckStage → Option CheckStage → CheckAnswer → Type 0
+CheckEmptied None None answer = answer ≡ Err (Plain Empty)
+CheckEmptied (Some old) None answer = answer ≡ Ok tt
+CheckEmptied _ (Some new) answer = ⊥
+
+-- the part follows the text read before
+abbrev pub ReadsOn : Text → ReadSoFar → ReadSoFar → Type 0
+ReadsOn part old new = (text : Text) → HasRead old text → HasRead new (text ++ part)
+
+-- the part was read; or memory could not be allocated, and the handle is empty; or the check was finished before, and is
+-- unchanged
+abbrev pub CheckReads : Text → Option CheckStage → Option CheckStage → CheckAnswer → Type 0
+CheckReads part None None answer = answer ≡ Err (Plain Empty)
+CheckReads part (Some (Reading old)) (Some (Reading new)) answer = (answer ≡ Ok tt) × ReadsOn part old new
+CheckReads part (Some (Reading old)) None answer = answer ≡ Err (Plain (Refused OutOfMemory))
+CheckReads part (Some (Judged v)) (Some new) answer = (answer ≡ Err Finished) × (new ≡ Judged v)
+CheckReads part _ _ answer = ⊥
+
+-- the verdict is that on the text read, or the one that existed
+abbrev pub Judges : CheckStage → Verdict → Type 0
+Judges (Reading check) v = (text : Text) → HasRead check text → IsVerdictOn text v
+Judges (Judged u) v = v ≡ u
+
+-- the check is finished: code and line are those of its verdict
+abbrev pub CheckEnds : Option CheckStage → Option CheckStage → ℕ → ℕ → ℕ → Type 0
+CheckEnds None None code before line = (code ≡ 12) × (line ≡ before)
+CheckEnds (Some old) (Some (Judged v)) code before line = Judges old v × ((code, line) ≡ verdict_numbers v)
+CheckEnds _ _ code before line = ⊥
+
+-- the reason is at the start of the buffer, or does not fit; the size is that of the reason. Or there is none, or memory for it
+-- could not be allocated
+abbrev pub ReasonTold : Option Text → List ℕ → List ℕ → ℕ → ℕ → CheckAnswer → Type 0
+ReasonTold (Some text) old new before size (Ok u) = Written text old new before size (Ok u)
+ReasonTold (Some text) old new before size (Err (Plain f)) = Written text old new before size (Err f)
+ReasonTold None old new before size (Err NoReason) = (size ≡ before) × (new ≡ old)
+ReasonTold _ old new before size _ = ⊥
+
+-- the same for a handle, whose content does not change
+abbrev pub CheckTells : Option CheckStage → Option CheckStage → List ℕ → List ℕ → ℕ → ℕ → CheckAnswer → Type 0
+CheckTells None None old new before size answer = (answer ≡ Err (Plain Empty)) × (size ≡ before) × (new ≡ old)
+CheckTells (Some s) (Some t) old new before size answer = (t ≡ s) × ReasonTold (reason_of s) old new before size answer
+CheckTells _ _ old new before size answer = ⊥

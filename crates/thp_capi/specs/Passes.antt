@@ -1,0 +1,174 @@
+-- The view that contracts have of the pass of a handle, and the effect of the calls on it.
+use Rattle.std.specs.Prelude.{◌≡◌, ℕ, ◌<◌, ◌≤◌, ◌⊎◌, ◌*◌, [], List, Bool, false, length, ⊤, Option, None, Some, IsSome, IfSome, Result, Ok, Err, OnOk, IfOk, IfErr}
+use Rattle.thp_model.specs.declared.events.Outcome.{Outcome}
+use Rattle.thp_model.specs.declared.events.What.{What}
+use Rattle.thp_model.specs.declared.page_call.Done.{Done}
+use Rattle.thp_model.specs.declared.refusal.Refusal.{Refusal}
+use Rattle.thp_model.specs.declared.refusal.Refusal.TheVariants.{OutOfMemory}
+use Rattle.thp_model.specs.declared.shape.Shape.{Shape}
+use Rattle.thp_model.specs.Limits.{max_batch, max_callers, max_order}
+use Rattle.thp_model.specs.Places.{queue}
+use Rattle.thp_model.specs.Refusals.{Call, refusal, alloc_page, scan}
+use Rattle.thp_model.specs.Runs.{take_events}
+use Rattle.thp_model.specs.Shapes.{IsShape}
+use Rattle.thp_node.specs.declared.answers.ScanReply.{ScanReply}
+use Rattle.thp_cell.specs.Calls.{Called, Follows, IsBusy, IsRefused, IsJoined, below, from}
+use Rattle.thp_cell.specs.Says.{DidOne, DidAlloc, DidLose, DidScan}
+use Rattle.thp_cell.specs.Views.{PassState, HasCaller, HasAll}
+use Rattle.thp_capi.specs.PassCodes.{PassAnswer}
+use Rattle.thp_capi.specs.Engines.{EngineState, NoneOpen}
+use Rattle.thp_capi.specs.Replies.{MasksSet, outcome_number}
+use Rattle.thp_capi.specs.Sharing.{SharedState, OnlyFront, IsPart, IsShut, HasOpen, OpenStay}
+use Rattle.thp_capi.specs.declared.codes.Fault.TheVariants.{Refused as RefusedWith, BadCaller, BadCount, BadSize, BatchOpen, Empty, InUse}
+use Rattle.thp_capi.specs.declared.pass_codes.PassFault.{PassFault}
+use Rattle.thp_capi.specs.declared.replies.ThpDone.{ThpDone}
+use Rattle.thp_capi.specs.declared.pass_codes.PassFault.TheVariants.{Plain, Busy, BadPass}
+
+-- ---- calls of a caller
+
+-- a call of a caller that returns this fault recorded nothing: the caller is not one of the pass's, or another pass had the node,
+-- or the node refused the call
+abbrev pub PassFails : ℕ → Option Refusal → ℕ → PassState → PassState → PassFault → Type 0
+PassFails caller why m p q (Plain BadCaller) = (HasCaller p caller → ⊥) × (q ≡ p)
+PassFails caller why m p q Busy = IsBusy p q
+PassFails caller why m p q (Plain (RefusedWith r)) = IsRefused p q why m r
+PassFails caller why m p q _ = ⊥
+
+-- the same for a call that requests n pages
+abbrev pub PassFailsAsking : ℕ → ℕ → Option Refusal → ℕ → PassState → PassState → PassFault → Type 0
+PassFailsAsking n caller why m p q (Plain BadCount) = (max_batch < n) × (q ≡ p)
+PassFailsAsking n caller why m p q f = PassFails caller why m p q f
+
+-- a call that records one event
+abbrev pub PassOne : ℕ → Call → What → SharedState → SharedState → PassAnswer → Type 0
+PassOne caller call what old new answer =
+    OnlyFront old new
+    × OnOk answer (Called old.pass new.pass caller (DidOne old.pass.shape call caller what))
+    × IfErr answer (PassFails caller (refusal new.pass.shape new.pass.front call) 1 old.pass new.pass)
+
+-- an allocation, which returns the page's number
+abbrev pub PassAlloc : ℕ → SharedState → SharedState → Result ℕ PassFault → Type 0
+PassAlloc caller old new answer =
+    OnlyFront old new
+    × IfOk answer (λ p. Called old.pass new.pass caller (DidAlloc old.pass.shape caller p))
+    × IfErr answer (PassFails caller (refusal new.pass.shape new.pass.front alloc_page) 1 old.pass new.pass)
+
+-- a call that removes a mapping or a pin of page p: the numbers are those of a result of the library
+abbrev pub PassLost : ℕ → Call → ℕ → (Outcome → List Bool → What) → SharedState → SharedState → Result ThpDone PassFault → Type 0
+PassLost caller call p what old new answer =
+    OnlyFront old new
+    × IfOk answer (λ t. (d : Done) × (t.outcome ≡ outcome_number d.outcome) × MasksSet t.released d.released × Called old.pass new.pass caller (DidLose old.pass.shape call caller p what d))
+    × IfErr answer (PassFails caller (refusal new.pass.shape new.pass.front call) 1 old.pass new.pass)
+
+-- a scan of up to n pages
+abbrev pub PassScan : ℕ → ℕ → SharedState → SharedState → Result ScanReply PassFault → Type 0
+PassScan caller n old new answer =
+    OnlyFront old new
+    × IfOk answer (λ r. Called old.pass new.pass caller (DidScan old.pass.shape caller n r))
+    × IfErr answer (PassFailsAsking n caller (refusal new.pass.shape new.pass.front (scan caller)) (3 * length (take_events new.pass.shape new.pass.front caller n)) old.pass new.pass)
+
+-- a query of the number of queued pages
+abbrev pub PassCount : ℕ → SharedState → SharedState → Type 0
+PassCount pages old new =
+    OnlyFront old new
+    × Follows old.pass new.pass
+    × (pages ≡ length (queue new.pass.shape new.pass.front))
+
+-- the node's pages have an order within the limits
+abbrev pub IsLowPass : SharedState → Type 0
+IsLowPass s = s.pass.shape.order ≤ max_order
+
+-- ---- passes that are divided and joined, and the end of a cell
+
+-- the pass of all callers of a new cell. It does not keep the node between its calls, and no call of the library changes that
+pub record IsNewPass (s : Shape) (callers : ℕ) (p : PassState) : Type 0 where
+  pub callers_are : p.callers ≡ callers
+  pub all : HasAll p
+  pub free : p.keeps ≡ false
+  pub shape : p.shape ≡ s
+  pub front : p.front ≡ []
+
+-- a cell can be created with these numbers
+abbrev pub IsCellSize : Shape → ℕ → Type 0
+IsCellSize s callers = IsShape s × (0 < callers) × (callers ≤ max_callers)
+
+-- `at` divides the callers of the pass
+abbrev pub Divides : ℕ → PassState → Type 0
+Divides at p = (p.first < at) × (at < p.end)
+
+-- equal marks are of one cell. The program that passes two passes must guarantee that
+abbrev pub OneCell : SharedState → SharedState → Type 0
+OneCell left right = left.mark ≡ right.mark → left.pass.cell ≡ right.pass.cell
+
+-- two passes are of one cell by their marks, and the callers of the second directly follow those of the first
+abbrev pub Adjoin : SharedState → SharedState → Type 0
+Adjoin left right = (left.mark ≡ right.mark) × (left.pass.end ≡ right.pass.first)
+
+-- ---- the contents of the handles, before and after a call
+
+-- a call on a handle that is not empty has the effect P; on an empty handle it reports that
+abbrev pub PassDoes : Option SharedState → Option SharedState → PassAnswer → (SharedState → SharedState → PassAnswer → Type 0) → Type 0
+PassDoes None None answer P = answer ≡ Err (Plain Empty)
+PassDoes (Some old) (Some new) answer P = P old new answer
+PassDoes _ _ answer P = ⊥
+
+-- the pass of all callers of a new cell, with this mark and no open batch; or the reason why the handle stays empty; or the
+-- handle was not empty
+abbrev pub CellMade : Option SharedState → Option SharedState → Shape → ℕ → ℕ → PassAnswer → Type 0
+CellMade None (Some new) s callers mark answer = (answer ≡ Ok tt) × IsNewPass s callers new.pass × IsShut new × (new.mark ≡ mark) × IsCellSize s callers
+CellMade None None s callers mark answer = ((answer ≡ Err (Plain BadSize)) × (IsCellSize s callers → ⊥)) ⊎ (answer ≡ Err (Plain (RefusedWith OutOfMemory)))
+CellMade (Some old) (Some new) s callers mark answer = (new ≡ old) × (answer ≡ Err (Plain InUse))
+CellMade (Some old) None s callers mark answer = ⊥
+
+-- the handle is empty, whatever it had before
+abbrev pub PassEmptied : Option SharedState → Option SharedState → PassAnswer → Type 0
+PassEmptied None None answer = answer ≡ Err (Plain Empty)
+PassEmptied (Some old) None answer = answer ≡ Ok tt
+PassEmptied _ (Some new) answer = ⊥
+
+-- the callers below `at` stay, and those from `at` on are the other handle's, each with its open batch
+abbrev pub Divided : ℕ → Option SharedState → Option SharedState → Option SharedState → Type 0
+Divided at (Some s) (Some left) (Some right) = Divides at s.pass × IsPart (below s.pass at) s left × IsPart (from s.pass at) s right
+Divided at _ _ _ = ⊥
+
+-- why a pass was not divided
+abbrev pub WhyUndivided : ℕ → Option SharedState → Option SharedState → PassFault → Type 0
+WhyUndivided at pass other (Plain Empty) = pass ≡ None
+WhyUndivided at pass other (Plain InUse) = IsSome other
+WhyUndivided at pass other (Plain BadCaller) = IfSome pass (λ s. Divides at s.pass → ⊥)
+WhyUndivided at pass other (Plain (RefusedWith OutOfMemory)) = ⊤
+WhyUndivided at pass other _ = ⊥
+
+-- the first handle has the callers of both, each with its open batch
+abbrev pub Joined : Option SharedState → Option SharedState → Option SharedState → Type 0
+Joined (Some left) (Some right) (Some both) =
+    Adjoin left right
+    × IsJoined left.pass right.pass both.pass
+    × (both.mark ≡ left.mark)
+    × OpenStay left both
+    × OpenStay right both
+Joined _ _ _ = ⊥
+
+-- why two passes were not joined
+abbrev pub WhyApart : Option SharedState → Option SharedState → PassFault → Type 0
+WhyApart left right (Plain Empty) = (left ≡ None) ⊎ (right ≡ None)
+WhyApart left right BadPass = IfSome left (λ l. IfSome right (λ r. Adjoin l r → ⊥))
+WhyApart left right _ = ⊥
+
+-- the guarantee that the program gives with two passes
+abbrev pub OneCellHeld : Option SharedState → Option SharedState → Type 0
+OneCellHeld left right = IfSome left (λ l. IfSome right (OneCell l))
+
+-- the cell's node, with the history that the pass of all callers knows; none of them had an open batch
+abbrev pub Finished : Option SharedState → Option EngineState → Type 0
+Finished (Some s) (Some e) = HasAll s.pass × IsShut s × (e.node.shape ≡ s.pass.shape) × (e.node.journal ≡ s.pass.front) × NoneOpen e
+Finished _ _ = ⊥
+
+-- why a cell was not dismantled
+abbrev pub WhyUnfinished : Option SharedState → Option EngineState → PassFault → Type 0
+WhyUnfinished pass into (Plain Empty) = pass ≡ None
+WhyUnfinished pass into (Plain InUse) = IsSome into
+WhyUnfinished pass into (Plain BatchOpen) = IfSome pass HasOpen
+WhyUnfinished pass into (Plain (RefusedWith OutOfMemory)) = ⊤
+WhyUnfinished pass into BadPass = ⊤
+WhyUnfinished pass into _ = ⊥

@@ -1,0 +1,288 @@
+//! The engine that a node's handle owns: a node, and the open batches of its callers.
+ghost use Rattle.std.specs.Prelude.{◌≡◌, ◌<◌, ◌≤◌, None, IsSome, IfSome, IfNone, IfOk, IfErr, OnOk, length};
+ghost use Rattle.thp_model.specs.Limits.{max_order};
+ghost use Rattle.thp_model.specs.PageCalls.{gain_call, gain_what, loss_call, loss_what};
+ghost use Rattle.thp_model.specs.Places.{queue};
+ghost use Rattle.thp_model.specs.Refusals as call;
+ghost use Rattle.thp_capi.specs.Calls.{OneCall, Allowed, Loses, ReportsOutcome, ReportsReleased, FailsAt, AllocCall, ScanCall, TakeCall, NextCall, BackReplies, BackRecords, BackFails, ReserveCall, AbandonCall};
+ghost use Rattle.thp_capi.specs.Engines.{NoneOpen, OthersOpen, open_of};
+ghost use Rattle.thp_capi.specs.Replies.{stats_of};
+
+use crate::codes::Fault;
+use crate::open_batches::{is_open, none_open, put_at, take_at};
+use crate::stats::{ThpStats, narrow};
+use std::alloc::{AllocError, Global};
+use std::marker::Model;
+use thp_journal_writer::{NodeHistory, journal_text};
+use thp_model::{Done, Gain, Loss, MAX_BATCH, MAX_CALLERS, PageId, Shape, What};
+use thp_node::{BackReply, Batch, NewFault, Node, ScanReply, Tried};
+
+/// A node and the open batches of its callers. The remaining pages of each batch are a prefix of its caller's flight.
+#[derive(Drop)]
+pub struct Engine {
+    node: Node,
+    // the open batches by caller
+    batches: Vec<Option<Batch>>,
+}
+
+impl Model for Engine {
+    ghost use Rattle.thp_capi.specs.Engines.{EngineState, IsEngine};
+
+    ghost Value = { EngineState };
+
+    ghost view = { λ e. record { node = e.node; batches = e.batches.items } };
+
+    ghost invariant = { λ e. IsEngine (record { node = e.node; batches = e.batches.items }) };
+}
+
+impl Engine {
+    ghost use Rattle.std.specs.Prelude.{[], ◌∷◌, ◌↔◌, Err};
+    ghost use Rattle.thp_model.specs.Shapes.{IsShape};
+    ghost use Rattle.thp_journal_writer.specs.Journals.{journal_text as text_of};
+
+    /// Creates an engine of a node with no page.
+    pub fn new(alloc: Global, shape: Shape) -> Result<Engine, NewFault>
+        ensures bad_size { (result ≡ Err NewFault.BadSize) ↔ ¬ IsShape shape }
+        ensures shape { IfOk result (λ e. e.node.shape ≡ shape) }
+        ensures journal { IfOk result (λ e. e.node.journal ≡ []) }
+        ensures none_open { IfOk result NoneOpen }
+    {
+        let node = match Node::new(alloc, shape) {
+            Ok(node) => node,
+            Err(fault) => return Err(fault),
+        };
+        match none_open(alloc, MAX_CALLERS) {
+            Some(batches) => Ok(Engine { node, batches }),
+            None => Err(NewFault::OutOfMemory),
+        }
+    }
+
+    /// Replaces its node by another one.
+    pub fn replace(&mut self, node: Node)
+        requires none_open { NoneOpen self.old }
+        ensures node { self.new.node ≡ node }
+        ensures none_open { NoneOpen self.new }
+    {
+        self.node = node;
+    }
+
+    /// Allocates a page, mapped whole once.
+    pub fn alloc_page(&mut self, caller: u32) -> Result<PageId, Fault>
+        ensures { AllocCall caller self.old self.new result }
+    {
+        if caller >= MAX_CALLERS {
+            return Err(Fault::BadCaller);
+        }
+        match self.node.alloc_page(caller) {
+            Ok(page) => Ok(page),
+            Err(refusal) => Err(Fault::Refused(refusal)),
+        }
+    }
+
+    /// Adds mappings or a pin, or fills subpages of the page.
+    #[inline(always)]
+    pub fn gain(&mut self, caller: u32, page: PageId, gain: Gain) -> Result<(), Fault>
+        ensures did { OneCall caller (gain_call gain page) (gain_what gain page) self.old self.new result }
+        ensures low { self.old.node.shape.order ≤ max_order }
+    {
+        // Shows the proof the greatest order of the pages.
+        let _ = self.node.shape();
+        if caller >= MAX_CALLERS {
+            return Err(Fault::BadCaller);
+        }
+        match self.node.gain(caller, page, gain) {
+            Ok(()) => Ok(()),
+            Err(refusal) => Err(Fault::Refused(refusal)),
+        }
+    }
+
+    /// Closes the node: no page is queued or allocated afterwards.
+    pub fn close(&mut self, caller: u32) -> Result<(), Fault>
+        ensures { OneCall caller call.close What.Close self.old self.new result }
+    {
+        if caller >= MAX_CALLERS {
+            return Err(Fault::BadCaller);
+        }
+        match self.node.close(caller) {
+            Ok(()) => Ok(()),
+            Err(refusal) => Err(Fault::Refused(refusal)),
+        }
+    }
+
+    /// Removes mappings or a pin of the page, which can queue or free it.
+    #[inline(always)]
+    pub fn lose(&mut self, caller: u32, page: PageId, loss: Loss) -> Result<Done, Fault>
+        ensures batches { self.new.batches ≡ self.old.batches }
+        ensures allowed { OnOk result (Allowed self.old (loss_call loss page)) }
+        ensures recorded { IfOk result (Loses caller (loss_what loss page) self.old self.new) }
+        ensures outcome { IfOk result (ReportsOutcome page self.old self.new) }
+        ensures released { IfOk result (ReportsReleased page self.old self.new) }
+        ensures failed { IfErr result (FailsAt caller (loss_call loss page) self.old self.new) }
+        ensures low { self.old.node.shape.order ≤ max_order }
+    {
+        // Shows the proof the greatest order of the pages.
+        let _ = self.node.shape();
+        if caller >= MAX_CALLERS {
+            return Err(Fault::BadCaller);
+        }
+        match self.node.lose(caller, page, loss) {
+            Ok(done) => Ok(done),
+            Err(refusal) => Err(Fault::Refused(refusal)),
+        }
+    }
+
+    /// Takes up to `n` of the oldest queued pages, in order, tries each, and returns the pinned ones.
+    pub fn scan(&mut self, caller: u32, n: u32) -> Result<ScanReply, Fault>
+        ensures { ScanCall caller n self.old self.new result }
+    {
+        if caller >= MAX_CALLERS {
+            return Err(Fault::BadCaller);
+        }
+        if n as usize > MAX_BATCH {
+            return Err(Fault::BadCount);
+        }
+        match self.node.scan(caller, n) {
+            Ok(reply) => Ok(reply),
+            Err(refusal) => Err(Fault::Refused(refusal)),
+        }
+    }
+
+    /// Takes up to `n` of the oldest queued pages, in order, into the caller's batch, which is open afterwards. Returns the
+    /// number of pages taken.
+    pub fn take(&mut self, caller: u32, n: u32) -> Result<u32, Fault>
+        ensures { TakeCall caller n self.old self.new result }
+    {
+        if caller >= MAX_CALLERS {
+            return Err(Fault::BadCaller);
+        }
+        if n as usize > MAX_BATCH {
+            return Err(Fault::BadCount);
+        }
+        if is_open(&self.batches, caller as usize) {
+            return Err(Fault::BatchOpen);
+        }
+        match self.node.take(caller, n) {
+            Ok(batch) => {
+                let count = batch.pages().len() as u32;
+                put_at(&mut self.batches, caller as usize, batch);
+                Ok(count)
+            }
+            Err(refusal) => Err(Fault::Refused(refusal)),
+        }
+    }
+
+    // The index of the caller's batch, if the number is a caller's.
+    fn place(&self, caller: u32) -> Option<usize>
+        ensures at { IfSome result (λ place. place ≡ caller) }
+        ensures inside { IfSome result (λ place. place < length self.now.batches) }
+        ensures none { IfNone result (open_of self.now caller ≡ None) }
+    {
+        let place = caller as usize;
+        if place < self.batches.len() {
+            Some(place)
+        } else {
+            None
+        }
+    }
+
+    /// Tries the next page of the caller's open batch.
+    pub fn split_next(&mut self, caller: u32) -> Result<Tried, Fault>
+        ensures { NextCall caller self.old self.new result }
+    {
+        let Some(place) = self.place(caller) else {
+            return Err(Fault::NoBatch);
+        };
+        let Some(batch) = &mut self.batches[place] else {
+            return Err(Fault::NoBatch);
+        };
+        match self.node.split_next(batch) {
+            Ok(tried) => Ok(tried),
+            Err(refusal) => Err(Fault::Refused(refusal)),
+        }
+    }
+
+    /// Returns the remaining pages of the caller's open batch, and closes the batch.
+    pub fn put_back(&mut self, caller: u32) -> Result<BackReply, Fault>
+        ensures open { OnOk result (IsSome (open_of self.old caller)) }
+        ensures shut { OnOk result (open_of self.new caller ≡ None) }
+        ensures others { OthersOpen caller self.old self.new }
+        ensures reply { IfOk result (BackReplies caller self.old) }
+        ensures recorded { OnOk result (BackRecords caller self.old self.new) }
+        ensures failed { IfErr result (BackFails caller self.old self.new) }
+    {
+        let Some(place) = self.place(caller) else {
+            return Err(Fault::NoBatch);
+        };
+        let Some(batch) = take_at(&mut self.batches, place) else {
+            return Err(Fault::NoBatch);
+        };
+        match self.node.put_back(batch) {
+            Ok(reply) => Ok(reply),
+            Err((batch, refusal)) => {
+                put_at(&mut self.batches, place, batch);
+                Err(Fault::Refused(refusal))
+            }
+        }
+    }
+
+    /// Discards the caller's open batch: its pages stay in the caller's flight, out of the queue.
+    pub fn abandon(&mut self, caller: u32) -> Result<(), Fault>
+        ensures { AbandonCall caller self.old self.new result }
+    {
+        let Some(place) = self.place(caller) else {
+            return Err(Fault::NoBatch);
+        };
+        let Some(batch) = take_at(&mut self.batches, place) else {
+            return Err(Fault::NoBatch);
+        };
+        batch.abandon();
+        Ok(())
+    }
+
+    /// Reserves room in the journal for `events` events.
+    pub fn reserve(&mut self, events: u32) -> Result<(), Fault>
+        ensures { ReserveCall events self.old self.new result }
+    {
+        match self.node.reserve(events) {
+            Ok(()) => Ok(()),
+            Err(refusal) => Err(Fault::Refused(refusal)),
+        }
+    }
+
+    /// Returns the number of queued pages.
+    pub fn queue_length(&self) -> u32
+        ensures { result ≡ length (queue self.now.node.shape self.now.node.journal) }
+    {
+        self.node.queue_len()
+    }
+
+    /// Returns the node's statistics.
+    pub fn stats(&self) -> ThpStats
+        ensures { result ≡ stats_of self.now.node }
+    {
+        let counters = self.node.counters();
+        ThpStats {
+            events: self.node.event_count(),
+            allocations: self.node.allocations(),
+            queued: u64::from(self.node.queue_len()),
+            frames_given: narrow(self.node.frames_given()),
+            frames_held: narrow(self.node.frames_held()),
+            split_page: counters.split_page,
+            split_page_failed: counters.split_page_failed,
+            deferred_split_page: counters.deferred_split_page,
+            underused_split_page: counters.underused_split_page,
+            split_pmd: narrow(counters.split_pmd),
+        }
+    }
+
+    /// Returns the node's journal as text.
+    pub fn text(&self, alloc: Global) -> Result<Vec<u8>, AllocError>
+        ensures { IfOk result (λ text. text.items ≡ text_of ((self.now.node.shape, self.now.node.journal) ∷ [])) }
+    {
+        let node = NodeHistory {
+            shape: self.node.shape(),
+            events: self.node.journal(),
+        };
+        journal_text(alloc, &[node])
+    }
+}

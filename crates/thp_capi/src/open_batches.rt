@@ -1,0 +1,101 @@
+//! The open batches of a pass's callers, each at its caller's index.
+ghost use Rattle.std.specs.Prelude.{◌≡◌, ◌+◌, ◌<◌, ◌≤◌, ◌++◌, ℕ, IfSome, IfNone, IsSome, None, Some, drop, false, get_or, is_some, length, slice_set, take, true, vec_capacity};
+
+use std::alloc::Global;
+use thp_node::Batch;
+
+/// Allocates `callers` places with no batch, or returns `None` if that is not possible.
+pub fn none_open(alloc: Global, callers: u32) -> Option<Vec<Option<Batch>>>
+    ensures places { IfSome result (λ places. length places.items ≡ callers) }
+    ensures none { IfSome result (λ places. (k : ℕ) → get_or places.items k None ≡ None) }
+    ensures room { IfSome result (λ places. callers ≤ vec_capacity places) }
+{
+    let Ok(mut places) = Vec::with_capacity(alloc, callers as usize) else {
+        return None;
+    };
+    for _ in 0..callers {
+        places.push_reserved(None);
+    }
+    Some(places)
+}
+
+/// Returns whether a batch is open at this place.
+pub fn is_open(places: &Vec<Option<Batch>>, place: usize) -> bool
+    requires { place < length places.now.items }
+    ensures { result ≡ is_some (get_or places.now.items place None) }
+{
+    places[place].is_some()
+}
+
+/// Removes and returns the batch at this place.
+pub fn take_at(places: &mut Vec<Option<Batch>>, place: usize) -> Option<Batch>
+    requires { place < length places.old.items }
+    ensures was { result ≡ get_or places.old.items place None }
+    ensures now { places.new.items ≡ slice_set places.old.items place None }
+    ensures room { vec_capacity places.new ≡ vec_capacity places.old }
+{
+    places[place].take()
+}
+
+/// Puts a batch at this place.
+pub fn put_at(places: &mut Vec<Option<Batch>>, place: usize, batch: Batch)
+    requires { place < length places.old.items }
+    ensures now { places.new.items ≡ slice_set places.old.items place (Some batch) }
+    ensures room { vec_capacity places.new ≡ vec_capacity places.old }
+{
+    places[place] = Some(batch);
+}
+
+/// Moves the places from `at` on to a new vector that has capacity for `room` of them.
+pub fn cut(
+    alloc: Global,
+    places: &mut Vec<Option<Batch>>,
+    at: usize,
+    room: usize,
+) -> Option<Vec<Option<Batch>>>
+    requires inside { at ≤ length places.old.items }
+    requires enough { length places.old.items ≤ at + room }
+    ensures kept { IfSome result (λ rest. places.new.items ≡ take at places.old.items) }
+    ensures rest { IfSome result (λ rest. rest.items ≡ drop at places.old.items) }
+    ensures room { IfSome result (λ rest. room ≤ vec_capacity rest) }
+    ensures same { IfNone result (places.new.items ≡ places.old.items) }
+    ensures room_kept { vec_capacity places.new ≡ vec_capacity places.old }
+{
+    let Ok(mut rest) = Vec::with_capacity(alloc, room) else {
+        return None;
+    };
+    let Ok(mut tail) = places.split_off(at) else {
+        return None;
+    };
+    // can't fail: there is room
+    match rest.append(&mut tail) {
+        Ok(()) => Some(rest),
+        Err(_) => None,
+    }
+}
+
+/// Appends the places of `more` to `places`, in the memory of the latter.
+pub fn joined(places: Vec<Option<Batch>>, more: Vec<Option<Batch>>) -> Vec<Option<Batch>>
+    requires enough { length places.items + length more.items ≤ vec_capacity places }
+    ensures items { result.items ≡ places.items ++ more.items }
+    ensures room { vec_capacity places ≤ vec_capacity result }
+{
+    let mut all = places;
+    let mut more = more;
+    // can't fail: there is room
+    let _ = all.append(&mut more);
+    all
+}
+
+/// Returns whether a batch is open at any place.
+pub fn some_open(places: &[Option<Batch>]) -> bool
+    ensures some { result ≡ true → (k : ℕ) × (k < length places.now) × IsSome (get_or places.now k None) }
+    ensures none { result ≡ false → (k : ℕ) → get_or places.now k None ≡ None }
+{
+    for batch in places {
+        if batch.is_some() {
+            return true;
+        }
+    }
+    false
+}

@@ -1,0 +1,134 @@
+//! The results of calls other than their codes, for C.
+ghost use Rattle.std.specs.Prelude.{◌≡◌, ◌≤◌};
+ghost use Rattle.thp_capi.specs.Replies.{outcome_number, MasksSet, scan_of, tried_of, back_of};
+
+use thp_model::{Done, Outcome, PageId, SubSet};
+use thp_node::{BackReply, ScanReply, Tried};
+
+/// The effect of an unmap or an unpin on its page and frames.
+#[repr(C)]
+#[derive(Clone, Copy, PartialEq, Eq, Debug)]
+pub struct ThpDone {
+    /// 0 if the page stays, 1 if it joined the queue, 2 if it was freed.
+    pub outcome: u32,
+    /// The subpages whose frames were given back: subpage `i` is bit `i % 64` of word `i / 64`.
+    pub released: [u64; 8],
+}
+
+impl ThpDone {
+    /// Converts a node's result.
+    pub fn of(done: &Done) -> ThpDone
+        ensures outcome { result.outcome ≡ outcome_number done.now.outcome }
+        ensures released { MasksSet result.released done.now.released }
+    {
+        ThpDone {
+            outcome: match done.outcome {
+                Outcome::Stays => 0,
+                Outcome::Queued => 1,
+                Outcome::Freed => 2,
+            },
+            released: mask(&done.released),
+        }
+    }
+}
+
+// The set as eight words.
+fn mask(set: &SubSet) -> [u64; 8]
+    ensures { MasksSet result set.now }
+{
+    let mut words = [0; 8];
+    for at in 0..8 {
+        words[at] = set.word(at);
+    }
+    words
+}
+
+/// The result of a scan, as page counts.
+#[repr(C)]
+#[derive(Clone, Copy, PartialEq, Eq, Debug)]
+pub struct ThpScan {
+    /// The number of pages taken from the queue.
+    pub taken: u32,
+    /// The number of pages split.
+    pub split: u32,
+    /// The number of pages found pinned.
+    pub pinned: u32,
+    /// The number of pinned pages returned to the tail of the queue.
+    pub back: u32,
+    /// The number of pinned pages dropped.
+    pub dropped: u32,
+    /// The number of pages found in use, that is, not worth a split.
+    pub used: u32,
+}
+
+impl ThpScan {
+    /// Converts a node's result.
+    pub fn of(reply: &ScanReply) -> ThpScan
+        ensures { scan_of result ≡ reply.now }
+    {
+        ThpScan {
+            taken: reply.taken,
+            split: reply.split,
+            pinned: reply.pinned,
+            back: reply.back,
+            dropped: reply.dropped,
+            used: reply.used,
+        }
+    }
+}
+
+/// The result of a try.
+#[repr(C)]
+#[derive(Clone, Copy, PartialEq, Eq, Debug)]
+pub struct ThpTried {
+    /// 0 if no page was left, 1 if the page was split, 2 if it is pinned, 3 if it is not worth a split.
+    pub kind: u32,
+    /// The page that was tried; 0 if no page was left.
+    pub page: u64,
+}
+
+impl ThpTried {
+    /// Converts a node's result.
+    pub fn of(tried: &Tried) -> ThpTried
+        ensures value { tried_of result ≡ tried.now }
+        ensures kind { result.kind ≤ 3 }
+    {
+        match tried {
+            Tried::Done => ThpTried { kind: 0, page: 0 },
+            Tried::Split(PageId(page)) => ThpTried {
+                kind: 1,
+                page: *page,
+            },
+            Tried::Pinned(PageId(page)) => ThpTried {
+                kind: 2,
+                page: *page,
+            },
+            Tried::Used(PageId(page)) => ThpTried {
+                kind: 3,
+                page: *page,
+            },
+        }
+    }
+}
+
+/// The result of a put back, as page counts.
+#[repr(C)]
+#[derive(Clone, Copy, PartialEq, Eq, Debug)]
+pub struct ThpBack {
+    /// The number of pages returned to the tail of the queue.
+    pub back: u32,
+    /// The number of pages dropped.
+    pub dropped: u32,
+}
+
+impl ThpBack {
+    /// Converts a node's result.
+    pub fn of(reply: &BackReply) -> ThpBack
+        ensures { back_of result ≡ reply.now }
+    {
+        ThpBack {
+            back: reply.back,
+            dropped: reply.dropped,
+        }
+    }
+}

@@ -1,0 +1,318 @@
+//! A pass with a share of its cell.
+ghost use Rattle.std.specs.Prelude.{◌≡◌, ◌≤◌, true, false, IfOk, IfErr, ◌⊎◌};
+ghost use Rattle.thp_model.specs.Limits.{max_order};
+ghost use Rattle.thp_model.specs.PageCalls.{gain_call, gain_what, loss_call, loss_what};
+ghost use Rattle.thp_model.specs.Refusals.{refusal};
+ghost use Rattle.thp_model.specs.Refusals as call;
+ghost use Rattle.thp_cell.specs.Calls.{Called, below, from, IsJoined};
+ghost use Rattle.thp_cell.specs.Says.{DidLose};
+ghost use Rattle.thp_cell.specs.Views.{HasCaller, HasAll};
+ghost use Rattle.thp_capi.specs.Passes.{PassOne, PassAlloc, PassFails, PassScan, PassCount, IsNewPass, IsCellSize, Divides, Adjoin};
+ghost use Rattle.thp_capi.specs.Sharing.{OnlyFront, IsPart, IsShut, HasOpen, OpenStay};
+
+mod batch_calls;
+
+use crate::codes::Fault;
+use crate::open_batches::{cut, joined, none_open, some_open};
+use crate::pass_codes::PassFault;
+use std::alloc::Global;
+use std::marker::Model;
+use std::sync::Arc;
+use thp_cell::{CellFault, NodeCell, Pass};
+use thp_model::{Done, Gain, Loss, MAX_BATCH, PageId, Refusal, Shape, What};
+use thp_node::{Batch, NewFault, Node, ScanReply};
+
+/// A pass, its share of the cell, and the mark that distinguishes it from passes of other cells.
+#[derive(Drop)]
+pub struct SharedPass {
+    cell: Arc<NodeCell, Global>,
+    pass: Pass,
+    // the open batches by caller, from the pass's first on, in memory with room for those of all following callers
+    batches: Vec<Option<Batch>>,
+    // the number of the cell's callers
+    callers: u32,
+    mark: u64,
+}
+
+impl Model for SharedPass {
+    ghost use Rattle.std.specs.Prelude.{vec_capacity};
+    ghost use Rattle.std.specs.Arc.{arc_value};
+    ghost use Rattle.thp_capi.specs.Sharing.{SharedState, IsShared};
+
+    ghost Value = { SharedState };
+
+    ghost view = { λ s. record { mark = s.mark; pass = s.pass; batches = s.batches.items } };
+
+    ghost invariant = { λ s. IsShared (arc_value s.cell) s.callers (vec_capacity s.batches) s.pass s.batches.items };
+}
+
+impl SharedPass {
+    /// Creates a cell of a new node, and returns the pass of all its callers.
+    pub fn new(alloc: Global, shape: Shape, callers: u32, mark: u64) -> Result<SharedPass, NewFault>
+        ensures made { IfOk result (λ s. IsNewPass shape callers s.pass) }
+        ensures mark { IfOk result (λ s. s.mark ≡ mark) }
+        ensures shut { IfOk result IsShut }
+        ensures size { IfOk result (λ s. IsCellSize shape callers) }
+        ensures bad_size { result ≡ Err NewFault.BadSize → IsCellSize shape callers → ⊥ }
+    {
+        let node = match Node::new(alloc, shape) {
+            Ok(node) => node,
+            Err(fault) => return Err(fault),
+        };
+        let (cell, pass) = match NodeCell::new(alloc, node, callers) {
+            Ok(made) => made,
+            Err(fault) => return Err(fault),
+        };
+        let Some(batches) = none_open(alloc, callers) else {
+            return Err(NewFault::OutOfMemory);
+        };
+        match Arc::new(alloc, cell) {
+            Ok(cell) => Ok(SharedPass {
+                cell,
+                pass,
+                batches,
+                callers,
+                mark,
+            }),
+            Err(_) => Err(NewFault::OutOfMemory),
+        }
+    }
+
+    // Whether the caller is one of the pass's.
+    fn has(&self, caller: u32) -> bool
+        ensures yes { result ≡ true → HasCaller self.now.pass caller }
+        ensures no { result ≡ false → HasCaller self.now.pass caller → ⊥ }
+    {
+        let (first, end) = self.pass.callers();
+        first <= caller && caller < end
+    }
+
+    /// Allocates a page, mapped whole once.
+    pub fn alloc_page(&mut self, caller: u32) -> Result<PageId, PassFault>
+        ensures { PassAlloc caller self.old self.new result }
+    {
+        if !self.has(caller) {
+            return Err(PassFault::Plain(Fault::BadCaller));
+        }
+        match self.cell.alloc_page(&mut self.pass, caller) {
+            Ok(page) => Ok(page),
+            Err(CellFault::Busy) => Err(PassFault::Busy),
+            Err(CellFault::Refused(refusal)) => Err(PassFault::Plain(Fault::Refused(refusal))),
+        }
+    }
+
+    /// Adds mappings or a pin, or fills subpages of the page.
+    #[inline(always)]
+    pub fn gain(&mut self, caller: u32, page: PageId, gain: Gain) -> Result<(), PassFault>
+        ensures did { PassOne caller (gain_call gain page) (gain_what gain page) self.old self.new result }
+        ensures low { self.old.pass.shape.order ≤ max_order }
+    {
+        // Shows the proof the greatest order of the pages.
+        let _ = self.pass.callers();
+        if !self.has(caller) {
+            return Err(PassFault::Plain(Fault::BadCaller));
+        }
+        match self.cell.gain(&mut self.pass, caller, page, gain) {
+            Ok(()) => Ok(()),
+            Err(CellFault::Busy) => Err(PassFault::Busy),
+            Err(CellFault::Refused(refusal)) => Err(PassFault::Plain(Fault::Refused(refusal))),
+        }
+    }
+
+    /// Removes mappings or a pin of the page, which can queue or free it.
+    #[inline(always)]
+    pub fn lose(&mut self, caller: u32, page: PageId, loss: Loss) -> Result<Done, PassFault>
+        ensures front { OnlyFront self.old self.new }
+        ensures recorded { IfOk result (λ d. Called self.old.pass self.new.pass caller (DidLose self.old.pass.shape (loss_call loss page) caller page (loss_what loss page) d)) }
+        ensures failed { IfErr result (PassFails caller (refusal self.new.pass.shape self.new.pass.front (loss_call loss page)) 1 self.old.pass self.new.pass) }
+        ensures low { self.old.pass.shape.order ≤ max_order }
+    {
+        // Shows the proof the greatest order of the pages.
+        let _ = self.pass.callers();
+        if !self.has(caller) {
+            return Err(PassFault::Plain(Fault::BadCaller));
+        }
+        match self.cell.lose(&mut self.pass, caller, page, loss) {
+            Ok(done) => Ok(done),
+            Err(CellFault::Busy) => Err(PassFault::Busy),
+            Err(CellFault::Refused(refusal)) => Err(PassFault::Plain(Fault::Refused(refusal))),
+        }
+    }
+
+    /// Closes the node: no page is queued or allocated afterwards.
+    pub fn close(&mut self, caller: u32) -> Result<(), PassFault>
+        ensures { PassOne caller call.close What.Close self.old self.new result }
+    {
+        if !self.has(caller) {
+            return Err(PassFault::Plain(Fault::BadCaller));
+        }
+        match self.cell.close(&mut self.pass, caller) {
+            Ok(()) => Ok(()),
+            Err(CellFault::Busy) => Err(PassFault::Busy),
+            Err(CellFault::Refused(refusal)) => Err(PassFault::Plain(Fault::Refused(refusal))),
+        }
+    }
+
+    /// Takes up to `n` of the oldest queued pages, in order, tries each, and returns the pinned ones.
+    pub fn scan(&mut self, caller: u32, n: u32) -> Result<ScanReply, PassFault>
+        ensures { PassScan caller n self.old self.new result }
+    {
+        if !self.has(caller) {
+            return Err(PassFault::Plain(Fault::BadCaller));
+        }
+        if n as usize > MAX_BATCH {
+            return Err(PassFault::Plain(Fault::BadCount));
+        }
+        match self.cell.scan(&mut self.pass, caller, n) {
+            Ok(reply) => Ok(reply),
+            Err(CellFault::Busy) => Err(PassFault::Busy),
+            Err(CellFault::Refused(refusal)) => Err(PassFault::Plain(Fault::Refused(refusal))),
+        }
+    }
+
+    /// Returns the number of queued pages, even while another pass has the node.
+    pub fn count(&mut self) -> u32
+        ensures { PassCount result self.old self.new }
+    {
+        self.cell.count(&mut self.pass)
+    }
+
+    /// Divides the callers of the pass at this one. Open batches stay with their callers.
+    pub fn split(
+        self,
+        alloc: Global,
+        at: u32,
+    ) -> Result<(SharedPass, SharedPass), (SharedPass, Fault)>
+        ensures divides { IfOk result (λ r. Divides at self.pass) }
+        ensures left { IfOk result (λ r. IsPart (below self.pass at) self r.0) }
+        ensures right { IfOk result (λ r. IsPart (from self.pass at) self r.1) }
+        ensures same { IfErr result (λ e. e.0 ≡ self) }
+        ensures why { IfErr result (λ e. ((e.1 ≡ Fault.BadCaller) × (Divides at self.pass → ⊥)) ⊎ (e.1 ≡ Fault.Refused Refusal.OutOfMemory)) }
+    {
+        let (first, end) = self.pass.callers();
+        if at <= first || end <= at {
+            return Err((self, Fault::BadCaller));
+        }
+        let Ok(other) = Arc::try_clone(&self.cell) else {
+            return Err((self, Fault::Refused(Refusal::OutOfMemory)));
+        };
+        let SharedPass {
+            cell,
+            pass,
+            mut batches,
+            callers,
+            mark,
+        } = self;
+        let places = (at - first) as usize;
+        let Some(rest) = cut(alloc, &mut batches, places, (callers - at) as usize) else {
+            let same = SharedPass {
+                cell,
+                pass,
+                batches,
+                callers,
+                mark,
+            };
+            return Err((same, Fault::Refused(Refusal::OutOfMemory)));
+        };
+        let (left, right) = cell.split(pass, at);
+        Ok((
+            SharedPass {
+                cell,
+                pass: left,
+                batches,
+                callers,
+                mark,
+            },
+            SharedPass {
+                cell: other,
+                pass: right,
+                batches: rest,
+                callers,
+                mark,
+            },
+        ))
+    }
+
+    /// Returns whether the other pass can be joined to this one.
+    pub fn adjoins(&self, other: &SharedPass) -> bool
+        ensures yes { result ≡ true → Adjoin self.now other.now }
+        ensures no { result ≡ false → Adjoin self.now other.now → ⊥ }
+    {
+        let (_, end) = self.pass.callers();
+        let (first, _) = other.pass.callers();
+        self.mark == other.mark && end == first
+    }
+
+    /// Joins two adjacent passes, with the open batches of their callers.
+    pub fn join(self, other: SharedPass) -> SharedPass
+        requires cell { self.pass.cell ≡ other.pass.cell }
+        requires adjacent { self.pass.end ≡ other.pass.first }
+        ensures joined { IsJoined self.pass other.pass result.pass }
+        ensures mark { result.mark ≡ self.mark }
+        ensures left { OpenStay self result }
+        ensures right { OpenStay other result }
+    {
+        let SharedPass {
+            cell,
+            pass: left,
+            batches,
+            callers,
+            mark,
+        } = self;
+        let SharedPass {
+            cell: _,
+            pass: right,
+            batches: more,
+            callers: _,
+            mark: _,
+        } = other;
+        let pass = cell.join(left, right);
+        let batches = joined(batches, more);
+        SharedPass {
+            cell,
+            pass,
+            batches,
+            callers,
+            mark,
+        }
+    }
+
+    /// Dismantles the cell and returns its node, if the pass has all callers, none of them has an open batch, and no other handle
+    /// has a share of the cell. Otherwise returns the pass and the reason.
+    pub fn finish(self) -> Result<Node, (SharedPass, PassFault)>
+        ensures all { IfOk result (λ node. HasAll self.pass) }
+        ensures shut { IfOk result (λ node. IsShut self) }
+        ensures shape { IfOk result (λ node. node.shape ≡ self.pass.shape) }
+        ensures journal { IfOk result (λ node. node.journal ≡ self.pass.front) }
+        ensures same { IfErr result (λ e. e.0 ≡ self) }
+        ensures why { IfErr result (λ e. ((e.1 ≡ PassFault.Plain Fault.BatchOpen) × HasOpen self) ⊎ (e.1 ≡ PassFault.BadPass)) }
+    {
+        let (first, end) = self.pass.callers();
+        if first != 0 || end != self.callers {
+            return Err((self, PassFault::BadPass));
+        }
+        if some_open(&self.batches) {
+            return Err((self, PassFault::Plain(Fault::BatchOpen)));
+        }
+        let SharedPass {
+            cell,
+            pass,
+            batches,
+            callers,
+            mark,
+        } = self;
+        match Arc::try_unwrap(cell) {
+            Ok(cell) => Ok(cell.finish(pass)),
+            Err(cell) => {
+                let same = SharedPass {
+                    cell,
+                    pass,
+                    batches,
+                    callers,
+                    mark,
+                };
+                Err((same, PassFault::BadPass))
+            }
+        }
+    }
+}

@@ -1,0 +1,111 @@
+//! The calls about a caller's open batch.
+ghost use Rattle.std.specs.Prelude.{◌≡◌, ◌+◌, ◌<◌, IfSome, IfNone, length};
+ghost use Rattle.thp_cell.specs.Views.{HasCaller};
+ghost use Rattle.thp_capi.specs.PassBatches.{fault_in, PassTake, PassNext, PassBack, PassAbandon};
+
+use crate::codes::Fault;
+use crate::open_batches::{is_open, put_at, take_at};
+use crate::pass_codes::PassFault;
+use crate::shared_pass::SharedPass;
+use thp_cell::CellFault;
+use thp_model::MAX_BATCH;
+use thp_node::{BackReply, Tried};
+
+impl SharedPass {
+    // The caller's index, if it is one of the pass's.
+    fn place(&self, caller: u32) -> Option<usize>
+        ensures own { IfSome result (λ place. HasCaller self.now.pass caller) }
+        ensures at { IfSome result (λ place. place + self.now.pass.first ≡ caller) }
+        ensures inside { IfSome result (λ place. place < length self.now.batches) }
+        ensures none { IfNone result (HasCaller self.now.pass caller → ⊥) }
+    {
+        let (first, end) = self.pass.callers();
+        if caller < first || end <= caller {
+            return None;
+        }
+        Some((caller - first) as usize)
+    }
+
+    /// Takes up to `n` of the oldest queued pages, in order, into the caller's batch, which is open afterwards. Returns the
+    /// number of pages taken.
+    pub fn take(&mut self, caller: u32, n: u32) -> Result<u32, PassFault>
+        ensures { PassTake caller n self.old self.new result }
+    {
+        let Some(place) = self.place(caller) else {
+            return Err(PassFault::Plain(Fault::BadCaller));
+        };
+        if n as usize > MAX_BATCH {
+            return Err(PassFault::Plain(Fault::BadCount));
+        }
+        if is_open(&self.batches, place) {
+            return Err(PassFault::Plain(Fault::BatchOpen));
+        }
+        match self.cell.take(&mut self.pass, caller, n) {
+            Ok(batch) => {
+                let count = batch.pages().len() as u32;
+                put_at(&mut self.batches, place, batch);
+                Ok(count)
+            }
+            Err(fault) => Err(fault_of(fault)),
+        }
+    }
+
+    /// Tries the next page of the caller's open batch.
+    pub fn split_next(&mut self, caller: u32) -> Result<Tried, PassFault>
+        ensures { PassNext caller self.old self.new result }
+    {
+        let Some(place) = self.place(caller) else {
+            return Err(PassFault::Plain(Fault::BadCaller));
+        };
+        let Some(batch) = &mut self.batches[place] else {
+            return Err(PassFault::Plain(Fault::NoBatch));
+        };
+        match self.cell.split_next(&mut self.pass, batch) {
+            Ok(tried) => Ok(tried),
+            Err(fault) => Err(fault_of(fault)),
+        }
+    }
+
+    /// Returns the remaining pages of the caller's open batch, and closes the batch.
+    pub fn put_back(&mut self, caller: u32) -> Result<BackReply, PassFault>
+        ensures { PassBack caller self.old self.new result }
+    {
+        let Some(place) = self.place(caller) else {
+            return Err(PassFault::Plain(Fault::BadCaller));
+        };
+        let Some(batch) = take_at(&mut self.batches, place) else {
+            return Err(PassFault::Plain(Fault::NoBatch));
+        };
+        match self.cell.put_back(&mut self.pass, batch) {
+            Ok(back) => Ok(back),
+            Err((batch, fault)) => {
+                put_at(&mut self.batches, place, batch);
+                Err(fault_of(fault))
+            }
+        }
+    }
+
+    /// Discards the caller's open batch: its pages stay in the caller's flight, out of the queue.
+    pub fn abandon(&mut self, caller: u32) -> Result<(), PassFault>
+        ensures { PassAbandon caller self.old self.new result }
+    {
+        let Some(place) = self.place(caller) else {
+            return Err(PassFault::Plain(Fault::BadCaller));
+        };
+        let Some(batch) = take_at(&mut self.batches, place) else {
+            return Err(PassFault::Plain(Fault::NoBatch));
+        };
+        batch.abandon();
+        Ok(())
+    }
+}
+
+// Why the cell's call had no effect.
+fn fault_of(fault: CellFault) -> PassFault
+    ensures { result ≡ fault_in fault }
+{
+    match fault {
+        CellFault::Busy => PassFault::Busy,
+        CellFault::Refused(refusal) => PassFault::Plain(Fault::Refused(refusal)),
+    }
+}

@@ -1,0 +1,135 @@
+-- How the program's passages end, from what their parts did.
+use Rattle.std.proofs.Common.{◌≡◌, ◌∙◌, ◌<◌, ℕ, Bool, true, false, List, Option, Some, None, Ok, Err, ap, arith, inl, inr, is_some, length, not, refl, sym}
+use Rattle.std.specs.Prelude.{IfNone, IfSome, Result, ok_or}
+use Rattle.std.specs.Io.KnownBytes.{Keeps, Appends}
+use Rattle.std.proofs.lemmas.Bool.{cases_lt, lt-ltb}
+use Rattle.std.proofs.lemmas.List.{append-nil, length-append}
+use Rattle.thp_script.specs.declared.fault.ReadFault.{ReadFault}
+use Rattle.thp_script.specs.declared.fault.ReadFault.TheVariants as reading
+use Rattle.thp_script.specs.Scripts.{Fault, ReportsFault}
+use Rattle.thp_script.specs.declared.fault.TextKind.TheVariants.{TooLong}
+use Rattle.thp_journal_reader.specs.Journals.{journals_within}
+use Rattle.thp_cli.specs.declared.fault.RunFault.{RunFault}
+use Rattle.thp_cli.specs.declared.fault.RunFault.TheVariants.{Text, OutOfMemory, Read, Write}
+use Rattle.thp_cli.specs.Devices.{IsFrontOf, WritesFront}
+use Rattle.thp_cli.specs.Calls.{WritesOn}
+use Rattle.thp_cli.specs.declared.calls.DeviceCall.{DeviceCall}
+use Rattle.thp_cli.specs.Passages.{Ends, WritesAnswer}
+use Rattle.thp_cli.specs.RunFaults.{run_fault, IsReadingFault}
+use Rattle.thp_cli.specs.Verdicts.{is_legal, CheckEndsWithin, IsVerdictWithin}
+
+pub keeps_same : (known : Option (List ℕ)) → Keeps known known
+keeps_same None = tt
+keeps_same (Some xs) = refl
+
+-- what is at fault with the bytes that a reading tells
+abbrev pub ReportsOf : (Fault → Type 0) → ReadFault → Type 0
+ReportsOf HasFault (reading.Text line kind) = HasFault (line, kind)
+ReportsOf HasFault reading.OutOfMemory = Unit {0}
+
+-- an answer, and a fault, that goes for what was read goes for the whole input
+module _ (most : ℕ) {A : Type 0} (IsAnswer : List ℕ → A → List ℕ → Type 0) (HasFault : List ℕ → Fault → Type 0)
+    (answers : (input bytes text : List ℕ) (x : A) → IsFrontOf most bytes input → IsAnswer bytes x text → IsAnswer input x text)
+    (faults : (input bytes : List ℕ) (fault : Fault) → IsFrontOf most bytes input → HasFault bytes fault → HasFault input fault)
+    (known : Option (List ℕ)) (bytes : List ℕ) (read : IfSome known (IsFrontOf most bytes)) where
+  fault_of_input : (o : Option (List ℕ)) → IfSome o (IsFrontOf most bytes) → (fault : Fault) → HasFault bytes fault → IfSome o (λ input. HasFault input fault)
+  fault_of_input None read fault told = tt
+  fault_of_input (Some input) read fault told = faults input bytes fault read told
+
+  -- the text was at fault, or memory was refused
+  pub ends_early : (old : Option (List ℕ)) (reader_failed writer_failed : Bool) (fault : ReadFault) (r : Result A RunFault) → ReportsOf (HasFault bytes) fault → reader_failed ≡ false → writer_failed ≡ false → r ≡ Err (run_fault fault)
+      → Ends IsAnswer HasFault known old old reader_failed writer_failed r
+  ends_early old rf wf (reading.Text line kind) r told e f is = rw is (fault_of_input known read (line, kind) told, keeps_same old, e, f)
+  ends_early old rf wf reading.OutOfMemory r told e f is = rw is (keeps_same old, e, f)
+
+  written_of_input : (o : Option (List ℕ)) → IfSome o (IsFrontOf most bytes) → (x : A) (text : List ℕ) (P : List ℕ → Type 0) → IsAnswer bytes x text → P text → IfSome o (λ input. (t : List ℕ) × IsAnswer input x t × P t)
+  written_of_input None read x text P answer p = tt
+  written_of_input (Some input) read x text P answer p = (text, answers input bytes text x read answer, p)
+
+  front_of_input : (o : Option (List ℕ)) → IfSome o (IsFrontOf most bytes) → (x : A) (text : List ℕ) (P : List ℕ → Type 0) → IsAnswer bytes x text → P text → IfSome o (λ input. (y : A) × (t : List ℕ) × IsAnswer input y t × P t)
+  front_of_input None read x text P answer p = tt
+  front_of_input (Some input) read x text P answer p = (x, text, answers input bytes text x read answer, p)
+
+  -- the answer was written
+  pub ends_written : (old new : Option (List ℕ)) (reader_failed writer_failed : Bool) (x : A) (text : List ℕ) (r : Result A RunFault) → IsAnswer bytes x text → Appends old new text → reader_failed ≡ false → writer_failed ≡ false → r ≡ Ok x
+      → Ends IsAnswer HasFault known old new reader_failed writer_failed r
+  ends_written old new rf wf x text r answer done e f is = rw is (written_of_input known read x text (λ t. Appends old new t) answer done, e, f)
+
+  -- the writer failed, and took a front of the answer
+  pub ends_cut : (old new : Option (List ℕ)) (reader_failed writer_failed : Bool) (x : A) (text : List ℕ) (r : Result A RunFault) → IsAnswer bytes x text → WritesFront old new text → reader_failed ≡ false → writer_failed ≡ true → r ≡ Err Write
+      → Ends IsAnswer HasFault known old new reader_failed writer_failed r
+  ends_cut old new rf wf x text r answer cut e f is = rw is (front_of_input known read x text (λ t. WritesFront old new t) answer cut, e, f)
+
+-- ---- calls of the writer
+
+-- none was made where the reading failed
+pub none_at_reading : {A : Type 0} (r : Result A RunFault) (reader_failed writer_failed : Bool) (fault : RunFault) (calls : List DeviceCall) → IsReadingFault reader_failed fault → r ≡ Err fault → WritesAnswer r writer_failed calls calls
+none_at_reading r rf wf Read calls reading is = rw is refl
+none_at_reading r rf wf OutOfMemory calls reading is = rw is refl
+none_at_reading r rf wf Write calls reading is = absurd reading
+none_at_reading r rf wf (Text line kind) calls reading is = absurd reading
+
+-- none was made where the text was at fault
+pub none_at_fault : {A : Type 0} (r : Result A RunFault) (writer_failed : Bool) (fault : ReadFault) (calls : List DeviceCall) → r ≡ Err (run_fault fault) → WritesAnswer r writer_failed calls calls
+none_at_fault r wf (reading.Text line kind) calls is = rw is refl
+none_at_fault r wf reading.OutOfMemory calls is = rw is refl
+
+-- those of the answer, whether or not the writer failed
+pub of_answer : (o : Option (Unit {0})) (failed : Bool) (old new : List DeviceCall) → WritesOn failed old new → WritesAnswer (ok_or o Write) failed old new
+of_answer (Some u) failed old new w = w
+of_answer None failed old new w = w
+
+-- a fault of reading, as a fault that the bytes have
+pub tells_of : {A : Type 0} (read : Result A Fault) (fault : ReadFault) → ReportsFault read fault → ReportsOf (λ f. read ≡ Err f) fault
+tells_of read (reading.Text line kind) told = told
+tells_of read reading.OutOfMemory told = tt
+
+-- ---- journals
+
+journal_too_long : (most : ℕ) (text : List ℕ) → most < length text → journals_within most text ≡ Err (0, TooLong)
+unfolding journals_within
+journal_too_long most text lt = rw (lt-ltb most (length text) lt) refl
+
+pub same_journals : (most : ℕ) (input bytes : List ℕ) → IsFrontOf most bytes input → journals_within most bytes ≡ journals_within most input
+same_journals most input bytes read =
+    elim (cases_lt most (length bytes)) [
+      | inl more ↦ journal_too_long most bytes more ∙ sym (journal_too_long most input (rw read.front (omega (arith, length-append bytes read.rest))))
+      | inr less ↦ ap (journals_within most) (sym (read.front ∙ rw (read.all less, append-nil) refl))
+    ]
+
+pub verdict_of_input : (most : ℕ) (input bytes text : List ℕ) (legal : Bool) → IsFrontOf most bytes input → IsVerdictWithin most bytes legal text → IsVerdictWithin most input legal text
+verdict_of_input most input bytes text legal read v = record { journals = v.journals; spelled = sym (same_journals most input bytes read) ∙ v.spelled; illegal = v.illegal; told = v.told; free_choice = v.free_choice; answer = v.answer; written = v.written }
+
+pub fault_of_journal : (most : ℕ) (input bytes : List ℕ) (fault : Fault) → IsFrontOf most bytes input → journals_within most bytes ≡ Err fault → journals_within most input ≡ Err fault
+fault_of_journal most input bytes fault read told = sym (same_journals most input bytes read) ∙ told
+
+-- a writer that failed is told as that
+pub cut_from : (o : Option (Unit {0})) (fault : RunFault) → ok_or o Write ≡ Err fault → (o ≡ None) × (Write ≡ fault)
+cut_from (Some u) fault e = absurd cc
+cut_from None fault e = (refl, cc)
+
+-- the writer took a front of the verdict
+pub check_ends_cut : (most : ℕ) (known old new : Option (List ℕ)) (bytes text : List ℕ) (reader_failed writer_failed : Bool) (illegal : Option ℕ) (o : Option (Unit {0})) (r : Result Bool RunFault) → IfSome known (IsFrontOf most bytes) → IsVerdictWithin most bytes (is_legal illegal) text
+    → o ≡ None → IfNone o (WritesFront old new text) → IfNone o (writer_failed ≡ true) → reader_failed ≡ false → r ≡ Err Write → CheckEndsWithin most known old new reader_failed writer_failed r
+check_ends_cut most known old new bytes text rf wf illegal o r read v none cut failed e is =
+    ends_cut most (IsVerdictWithin most) (λ input f. journals_within most input ≡ Err f) (verdict_of_input most) (fault_of_journal most) known bytes read old new rf wf (is_legal illegal) text r v (rw none at cut) e (rw none at failed) is
+
+-- what isn't there is no line
+pub legal_is : (illegal : Option ℕ) (legal : Bool) → is_some illegal ≡ not legal → legal ≡ is_legal illegal
+legal_is None true e = refl
+legal_is None false e = absurd cc
+legal_is (Some line) true e = absurd cc
+legal_is (Some line) false e = refl
+
+-- the verdict was written
+pub check_ends_written : (most : ℕ) (known old new : Option (List ℕ)) (bytes text : List ℕ) (reader_failed writer_failed : Bool) (illegal : Option ℕ) (o : Option (Unit {0})) (u : Unit {0}) (legal : Bool) → IfSome known (IsFrontOf most bytes) → IsVerdictWithin most bytes (is_legal illegal) text
+    → ok_or o Write ≡ Ok u → IfSome o (λ _. Appends old new text) → IfSome o (λ _. writer_failed ≡ false) → reader_failed ≡ false → legal ≡ is_legal illegal → CheckEndsWithin most known old new reader_failed writer_failed (Ok legal)
+check_ends_written most known old new bytes text rf wf illegal (Some v) u legal read verdict some done flag e is =
+    ends_written most (IsVerdictWithin most) (λ input f. journals_within most input ≡ Err f) (verdict_of_input most) (fault_of_journal most) known bytes read old new rf wf legal text (Ok legal) (rw is verdict) done e flag refl
+check_ends_written most known old new bytes text rf wf illegal None u legal read verdict some done flag e is = absurd cc
+
+-- the journal was at fault, or memory was refused
+pub check_ends_early : (most : ℕ) (known old : Option (List ℕ)) (bytes : List ℕ) (reader_failed writer_failed : Bool) (fault : ReadFault) (r : Result Bool RunFault) → IfSome known (IsFrontOf most bytes) → ReportsFault (journals_within most bytes) fault
+    → reader_failed ≡ false → writer_failed ≡ false → r ≡ Err (run_fault fault) → CheckEndsWithin most known old old reader_failed writer_failed r
+check_ends_early most known old bytes rf wf fault r read told e f is =
+    ends_early most (IsVerdictWithin most) (λ input g. journals_within most input ≡ Err g) (verdict_of_input most) (fault_of_journal most) known bytes read old rf wf fault r (tells_of (journals_within most bytes) fault told) e f is

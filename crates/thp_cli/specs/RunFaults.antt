@@ -1,0 +1,43 @@
+-- The errors of a run.
+use Rattle.std.specs.Prelude.{◌≡◌, ◌++◌, ℕ, Bool, true, false, List, codes}
+use Rattle.std.specs.Fmt.{decimal}
+use Rattle.thp_script.specs.TextKinds.{kind_word}
+use Rattle.thp_script.specs.declared.fault.ReadFault.{ReadFault}
+use Rattle.thp_script.specs.declared.fault.ReadFault.TheVariants as reading
+use Rattle.thp_journal_reader.specs.declared.summed.SummaryFault.{SummaryFault}
+use Rattle.thp_journal_reader.specs.declared.summed.SummaryFault.TheVariants as summary
+use Rattle.thp_cli.specs.declared.long_fault.LongRunFault.{LongRunFault}
+use Rattle.thp_cli.specs.declared.long_fault.LongRunFault.TheVariants as long
+use Rattle.thp_cli.specs.declared.fault.RunFault.{RunFault}
+use Rattle.thp_cli.specs.declared.fault.RunFault.TheVariants.{Text, OutOfMemory, Read, Write}
+
+-- the text that a fault of a run displays: for a text's first error its line and the word of its kind
+abbrev pub fault_text : RunFault → List ℕ
+fault_text (Text line kind) = codes "line " ++ decimal line ++ codes ": " ++ kind_word kind
+fault_text OutOfMemory = codes "out of memory"
+fault_text Read = codes "read failed"
+fault_text Write = codes "write failed"
+
+-- a fault of a check of any length, as a fault of a run: contracts see numbers of any size
+abbrev pub seen_fault : LongRunFault → RunFault
+seen_fault (long.Text line kind) = Text line kind
+seen_fault long.OutOfMemory = OutOfMemory
+seen_fault long.Read = Read
+seen_fault long.Write = Write
+
+-- why there is no summary, as a fault of a check of any length
+abbrev pub fault_of_summary : SummaryFault → LongRunFault
+fault_of_summary (summary.Text fault) = long.Text fault.line fault.kind
+fault_of_summary summary.OutOfMemory = long.OutOfMemory
+
+-- a failed read sets the reader's flag, and lack of memory does not
+abbrev pub IsReadingFault : Bool → RunFault → Type 0
+IsReadingFault failed Read = failed ≡ true
+IsReadingFault failed OutOfMemory = failed ≡ false
+IsReadingFault failed Write = ⊥
+IsReadingFault failed (Text line kind) = ⊥
+
+-- a fault of reading, as a fault of the run
+abbrev pub run_fault : ReadFault → RunFault
+run_fault (reading.Text line kind) = Text line kind
+run_fault reading.OutOfMemory = OutOfMemory

@@ -1,0 +1,42 @@
+-- The input and the output of a check of a journal.
+use Rattle.std.specs.Prelude.{◌≡◌, ◌++◌, ℕ, Bool, true, false, All, List, [], ◌∷◌, Option, Some, None, Result, Ok, Err, codes}
+use Rattle.std.specs.Fmt.{decimal}
+use Rattle.thp_script.specs.Limits.{max_input}
+use Rattle.thp_journal_reader.specs.declared.journals.Journals.{Journals}
+use Rattle.thp_journal_reader.specs.Answers.{CanBeLegal, ReportsIllegal}
+use Rattle.thp_journal_reader.specs.Journals.{journals_within}
+use Rattle.thp_cli.specs.declared.fault.RunFault.{RunFault}
+use Rattle.thp_cli.specs.Passages.{Ends}
+
+-- the line that states whether a journal is legal, or the line of its first illegal event
+unfoldable pub verdict_text : Option ℕ → List ℕ
+verdict_text None = codes "legal" ++ (10 ∷ [])
+verdict_text (Some line) = codes "illegal line " ++ decimal line ++ (10 ∷ [])
+
+-- no line is illegal
+abbrev pub is_legal : Option ℕ → Bool
+is_legal None = true
+is_legal (Some line) = false
+
+-- the text states whether a journal of at most so many bytes is legal
+pub record IsVerdictWithin (most : ℕ) (input : List ℕ) (legal : Bool) (text : List ℕ) : Type 0 where
+  pub journals : Journals
+  pub spelled : journals_within most input ≡ Ok journals
+  pub illegal : Option ℕ
+  pub told : ReportsIllegal journals.nodes illegal
+  -- if some choice of blocks makes all events legal, none is reported as illegal
+  pub free_choice : All CanBeLegal journals.nodes → illegal ≡ None
+  pub answer : legal ≡ is_legal illegal
+  pub written : text ≡ verdict_text illegal
+
+-- the text states whether the journal in the input is legal
+abbrev pub IsVerdict : List ℕ → Bool → List ℕ → Type 0
+IsVerdict = IsVerdictWithin max_input
+
+-- how a check of at most so many bytes ends: with its verdict, or with the first error of the journal
+abbrev pub CheckEndsWithin : ℕ → Option (List ℕ) → Option (List ℕ) → Option (List ℕ) → Bool → Bool → Result Bool RunFault → Type 0
+CheckEndsWithin most = Ends (IsVerdictWithin most) (λ input fault. journals_within most input ≡ Err fault)
+
+-- how a check of an input ends
+abbrev pub CheckEnds : Option (List ℕ) → Option (List ℕ) → Option (List ℕ) → Bool → Bool → Result Bool RunFault → Type 0
+CheckEnds = CheckEndsWithin max_input

@@ -1,0 +1,83 @@
+//! The result of a command line that selects no run: a requested text, or an error in the words.
+ghost use Rattle.std.specs.Prelude.{◌≡◌, IfOk, false, string_bytes};
+ghost use Rattle.clap.specs.Words.{kind_of};
+ghost use Rattle.clap.specs.declared.error.kind.ErrorKind.{ErrorKind as Kind};
+ghost use Rattle.thp_cli.specs.Outcomes.{device_of, is_request, Answers, IsShown, IsTextOf};
+
+use crate::device::write_text;
+use crate::ending::ProgramFault;
+use crate::fault::RunFault;
+use crate::watched::Watched;
+use clap::Error;
+use clap::error::ErrorKind;
+use std::alloc::{AllocError, Global};
+use std::fmt::Display;
+use std::io::Write;
+
+/// The result of a command line that selects no run. It has a kind, and its text is what it displays.
+///
+/// `clap` does not specify the text that its errors display. The code that shows it is therefore written for any implementation
+/// of this trait, and has no text of its own that it could show instead.
+pub trait WordsAnswer: Display {
+    /// The kind of a result.
+    ghost kind_in: { Self → Kind };
+
+    /// Returns the kind of the result.
+    fn kind(&self) -> ErrorKind
+        ensures { result ≡ kind_in self.now };
+}
+
+impl WordsAnswer for Error {
+    ghost kind_in = { kind_of };
+
+    fn kind(&self) -> ErrorKind {
+        Error::kind(self)
+    }
+}
+
+/// Returns whether help or the version was requested.
+fn is_request(kind: ErrorKind) -> bool
+    ensures { result ≡ is_request kind }
+{
+    matches!(kind, ErrorKind::DisplayHelp | ErrorKind::DisplayVersion)
+}
+
+/// Returns the text that a result displays.
+fn text_of<A: WordsAnswer>(alloc: Global, answer: &A) -> Result<String, AllocError>
+    ensures { IfOk result (λ text. IsTextOf (A.output answer.now) (string_bytes text)) }
+{
+    Ok(format!(in alloc; "{answer}")?)
+}
+
+/// Writes the requested text.
+fn show<A: WordsAnswer, W: Write>(
+    alloc: Global,
+    answer: &A,
+    output: &mut Watched<W>,
+) -> Result<(), RunFault>
+    requires { output.old.failed ≡ false }
+    ensures { IsShown (A.output answer.now) (device_of W.contents output.old output.new) result }
+{
+    let text = text_of(alloc, answer)?;
+    write_text(output, text.as_bytes()).ok_or(RunFault::Write)
+}
+
+/// Writes the requested text, or returns the error in the words.
+pub fn answer<A: WordsAnswer, W: Write>(
+    alloc: Global,
+    answer: &A,
+    output: &mut Watched<W>,
+) -> Result<(), ProgramFault>
+    requires { output.old.failed ≡ false }
+    ensures { Answers (A.output answer.now) (A.kind_in answer.now) (device_of W.contents output.old output.new) result }
+{
+    let kind = answer.kind();
+    if is_request(kind) {
+        show(alloc, answer, output)?;
+        return Ok(());
+    }
+    if kind == ErrorKind::OutOfMemory {
+        return Err(ProgramFault::Run(RunFault::OutOfMemory));
+    }
+    Err(ProgramFault::Usage(text_of(alloc, answer)?))
+}

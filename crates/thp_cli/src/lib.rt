@@ -1,0 +1,42 @@
+//! Command lines, devices, errors and exit statuses.
+//!
+//! What the programs of this project share.
+//!
+//! - `options`, `line`, `flags`, `words` (`CommandLine`, `Options`, `Flags`, `OwnCommand`): the command line of `thpsplit`, and
+//!   command lines in general. `help`, `version`: the texts (a new version also changes tests/stored, CHANGELOG.md and
+//!   bench/plain).
+//! - `answering` (`Answers` of `Outcomes`): `--help`, `--version` and words in error.
+//! - `device` (`Devices`), `watched`, `calls` (`Watch`, `Calls`): reads in parts, whole writes, and the calls that contracts
+//!   see.
+//! - `checking` (`Verdicts`): the check of a journal. `Passages`: all is read, then one answer is written, or nothing.
+//! - `ending`, `fault`, `long_fault`, `telling` (`RunFaults`, `Outcomes`): errors, their lines on standard error, exit statuses.
+#![tactic(auto)]
+
+mod answering;
+mod calls;
+mod checking;
+mod device;
+mod ending;
+mod fault;
+mod flags;
+mod help;
+mod line;
+mod long_fault;
+mod options;
+mod telling;
+mod version;
+mod watched;
+mod words;
+
+pub use answering::{WordsAnswer, answer};
+pub use checking::{check_run, verdict};
+pub use device::{ReadsParts, read_parts, write_all, write_text};
+pub use ending::{Ending, Program, ProgramFault, WordsFault};
+pub use fault::RunFault;
+pub use flags::flag;
+pub use line::{Line, read_line};
+pub use long_fault::LongRunFault;
+pub use telling::{name_front, status_of_ending, tell, tell_run, tell_text};
+pub use version::VERSION;
+pub use watched::Watched;
+pub use words::{texts_of, words_of};

@@ -1,0 +1,154 @@
+//! The program's messages on standard error, and its exit status.
+ghost use Rattle.std.specs.Prelude.{◌≡◌, ◌≤◌, ◌++◌, Err, false, length};
+ghost use Rattle.arrayvec.specs.ArrayString.{array_string_len};
+ghost use Rattle.thp_script.specs.TextKinds.{kind_word};
+ghost use Rattle.thp_cli.specs.Outcomes.{device_of, end_status, fault_line, name_front, status_of, Takes, WritesMessage};
+ghost use Rattle.thp_cli.specs.declared.fault.RunFault.TheVariants as run;
+ghost use Rattle.thp_cli.specs.RunFaults.{fault_text, seen_fault};
+
+use crate::device::write_text;
+use crate::ending::{Ending, Program, ProgramFault};
+use crate::long_fault::LongRunFault;
+use crate::watched::Watched;
+use arrayvec::ArrayString;
+use itoa::Buffer;
+use std::io::Write;
+use thp_script::TextKind;
+
+/// The exit status if the report, the verdict or the requested text was written.
+const DONE: u8 = 0;
+/// The exit status if a journal is illegal.
+const ILLEGAL: u8 = 1;
+/// The exit status of an error in the script, the journal or the command line.
+const FAULTY: u8 = 2;
+/// The exit status if memory could not be allocated, or a read or a write failed.
+const FAILED: u8 = 3;
+
+/// The room for a line that states an error, in bytes. The longest one has 48.
+const LINE: usize = 96;
+
+/// Returns the exit status of a program that did what was requested.
+pub fn status_of_ending(ending: Ending) -> u8
+    ensures { result ≡ end_status ending }
+{
+    match ending {
+        Ending::Written => DONE,
+        Ending::Illegal => ILLEGAL,
+    }
+}
+
+/// Returns the prefix of a program's lines on standard error: its name.
+pub fn name_front(program: Program) -> &'static str
+    ensures name { result.now ≡ name_front program }
+    ensures short { length result.now ≤ 10 }
+{
+    match program {
+        Program::Thpsplit => "thpsplit: ",
+        Program::Thpcheck => "thpcheck: ",
+        Program::Thpdraw => "thpdraw: ",
+    }
+}
+
+/// Returns the word for the kind of a text's error.
+fn word_of(kind: TextKind) -> &'static str
+    ensures word { result.now ≡ kind_word kind }
+    ensures short { length result.now ≤ 10 }
+{
+    kind.word()
+}
+
+/// Appends the first error of a text to a line that has only a name.
+fn put_text_fault(text: &mut ArrayString<LINE>, line: u64, kind: TextKind)
+    requires room { array_string_len text.old ≤ 10 }
+    ensures bytes { text.new.bytes ≡ text.old.bytes ++ fault_text (run.Text line kind) }
+    ensures few { array_string_len text.new ≤ 80 }
+{
+    text.push_str("line ");
+    text.push_str(Buffer::new().format(line));
+    text.push_str(": ");
+    text.push_str(word_of(kind));
+}
+
+/// Appends what an error displays to a line that has only a name.
+fn put_fault(text: &mut ArrayString<LINE>, fault: &LongRunFault)
+    requires room { array_string_len text.old ≤ 10 }
+    ensures bytes { text.new.bytes ≡ text.old.bytes ++ fault_text (seen_fault fault.now) }
+    ensures few { array_string_len text.new ≤ 80 }
+{
+    match fault {
+        LongRunFault::Text { line, kind } => put_text_fault(text, *line, *kind),
+        LongRunFault::OutOfMemory => text.push_str("out of memory"),
+        LongRunFault::Read => text.push_str("read failed"),
+        LongRunFault::Write => text.push_str("write failed"),
+    }
+}
+
+/// Returns the line that states an error of a run, with the program's name. It needs no memory, so it states every error as it is.
+#[tactic(auto, unfolding(crate::specs::Outcomes::fault_line))]
+fn fault_line(program: Program, fault: &LongRunFault) -> ArrayString<LINE>
+    ensures { result.bytes ≡ fault_line program (seen_fault fault.now) }
+{
+    let mut text = ArrayString::new();
+    text.push_str(name_front(program));
+    put_fault(&mut text, fault);
+    text.push_str("\n");
+    text
+}
+
+/// Returns the exit status of an error.
+fn status_of_fault(fault: &LongRunFault) -> u8
+    ensures { result ≡ status_of (seen_fault fault.now) }
+{
+    match fault {
+        LongRunFault::Text { .. } => FAULTY,
+        _ => FAILED,
+    }
+}
+
+/// Writes a text to standard error. A failure is ignored, as it can't be reported.
+pub fn tell_text<E: Write>(errors: &mut Watched<E>, text: &[u8])
+    requires { errors.old.failed ≡ false }
+    ensures { Takes (device_of E.contents errors.old errors.new) text.now }
+{
+    let _ = write_text(errors, text);
+}
+
+/// Reports the error of a run or a check, and returns the exit status. It allocates nothing.
+pub fn tell_run<E: Write>(program: Program, fault: LongRunFault, errors: &mut Watched<E>) -> u8
+    requires { errors.old.failed ≡ false }
+    ensures told { Takes (device_of E.contents errors.old errors.new) (fault_line program (seen_fault fault)) }
+    ensures status { result ≡ status_of (seen_fault fault) }
+{
+    let text = fault_line(program, &fault);
+    tell_text(errors, text.as_str().as_bytes());
+    status_of_fault(&fault)
+}
+
+/// Reports why the program did not do what was requested, and returns the exit status. It allocates nothing.
+pub fn tell<E: Write>(program: Program, fault: ProgramFault, errors: &mut Watched<E>) -> u8
+    requires { errors.old.failed ≡ false }
+    ensures { WritesMessage program (device_of E.contents errors.old errors.new) result (Err fault) }
+{
+    match fault {
+        ProgramFault::Run(fault) => tell_run(program, LongRunFault::from(fault), errors),
+        ProgramFault::Usage(text) => {
+            tell_text(errors, text.as_bytes());
+            FAULTY
+        }
+        ProgramFault::Orders => {
+            tell_text(errors, b"thpsplit: bad orders\n");
+            FAULTY
+        }
+        ProgramFault::Underused => {
+            tell_text(errors, b"thpsplit: bad underused\n");
+            FAULTY
+        }
+        ProgramFault::NoText => {
+            tell_text(
+                errors,
+                b"error: invalid UTF-8 was detected in one or more arguments\n",
+            );
+            FAULTY
+        }
+    }
+}

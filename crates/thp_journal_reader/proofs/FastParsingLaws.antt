@@ -1,0 +1,204 @@
+-- Events at the front of a text: what was read of its bytes in one walk is what its first line says.
+use Rattle.std.proofs.Common.{◌≡◌, ◌∙◌, ℕ, Bool, true, false, List, [], ◌∷◌, ◌++◌, Option, Some, None, Result, Ok, Err, ap, arith, codes, refl, sym}
+use Rattle.std.specs.Prelude.{IfSome}
+use Rattle.std.specs.Result.{result_ok}
+use Rattle.std.specs.Str.{bytes_eq}
+use Rattle.std.proofs.lemmas.List.{length-append}
+use Rattle.std.proofs.lemmas.Slice.Eq.{bytes_eq-Decides}
+use Rattle.thp_model.specs.declared.events.Event.{Event}
+use Rattle.thp_model.specs.declared.events.Outcome.{Outcome}
+use Rattle.thp_model.specs.declared.events.Outcome.TheVariants.{Stays, Queued, Freed}
+use Rattle.thp_model.specs.declared.events.What.TheVariants as what
+use Rattle.thp_model.specs.History.{by}
+use Rattle.thp_model.specs.Sets.{set_of}
+use Rattle.thp_script.specs.declared.fault.TextKind.{TextKind}
+use Rattle.thp_script.specs.Words.{Text, number_of, pieces_at}
+use Rattle.thp_script.specs.FastWords.{FastNumber}
+use Rattle.thp_script.proofs.FastParsingLaws.{number_whole, of_some, whole_front}
+use Rattle.thp_script.proofs.TextLaws.{pieces-append}
+use Rattle.thp_journal_reader.specs.declared.event_word.EventWord.{EventWord}
+use Rattle.thp_journal_reader.specs.declared.event_word.LossWord.{LossWord}
+use Rattle.thp_journal_reader.specs.declared.event_word.PageWord.{PageWord}
+use Rattle.thp_journal_reader.specs.declared.event_word.RangeWord.{RangeWord}
+use Rattle.thp_journal_reader.specs.declared.line.Line.TheVariants.{Happened}
+use Rattle.thp_journal_reader.specs.declared.version.Version.{Version}
+use Rattle.thp_journal_reader.specs.FastParsing.{FastEvent, FastLine, FastOperands, FastOutcome, FastSet, FastWord}
+use Rattle.thp_journal_reader.specs.EventLines.{event_by, event_of, loss_event, page_event, range_event, split_event, unmap_event, outcome_and_word}
+use Rattle.thp_journal_reader.specs.EventWords.{event_word, loss_what, outcome_of, page_what, range_what}
+use Rattle.thp_journal_reader.specs.JournalLines.{by_words, line_by}
+use Rattle.thp_journal_reader.specs.SetTexts.{set_of_text, set_with}
+use Rattle.thp_journal_reader.proofs.PlainLines.{line_of-read}
+use Rattle.thp_journal_reader.proofs.PlainWords.{event_word_letters, letters_whole}
+
+-- ---- lines of words
+
+-- a word more in front
+word_more : (word : Text) (words : List Text) (text behind rest : Text) → pieces_at 32 word ≡ word ∷ [] → pieces_at 10 word ≡ word ∷ [] → text ≡ word ++ 32 ∷ behind → FastLine words behind rest → FastLine (word ∷ words) text rest
+word_more word words text behind rest apart lines e l = record {
+  line = word ++ 32 ∷ l.line;
+  words_are = rw (whole_front 32 word l.line apart, l.words_are) refl;
+  lines = rw (e, pieces-append 10 word (32 ∷ behind), lines, l.lines) refl;
+  shorter = rw (e, length-append word (32 ∷ behind)) (omega (arith, l.shorter));
+}
+
+number_more : (most n : ℕ) (words : List Text) (text behind rest : Text) (a : FastNumber 32 most text n behind) → FastLine words behind rest → FastLine (a.word ∷ words) text rest
+number_more most n words text behind rest a l = word_more a.word words text behind rest (number_whole 32 most n a.word (omega arith) a.reads) (number_whole 10 most n a.word (omega arith) a.reads) a.stands l
+
+-- a line of one number
+last_number : (most n : ℕ) (text rest : Text) (a : FastNumber 10 most text n rest) → FastLine (a.word ∷ []) text rest
+last_number most n text rest a = record {
+  line = a.word;
+  words_are = number_whole 32 most n a.word (omega arith) a.reads;
+  lines = rw a.stands (whole_front 10 a.word rest (number_whole 10 most n a.word (omega arith) a.reads));
+  shorter = rw (a.stands, length-append a.word (10 ∷ rest)) (omega arith);
+}
+
+outcome_more : (outcome : Outcome) (words : List Text) (text behind rest : Text) (a : FastOutcome text outcome behind) → FastLine words behind rest → FastLine (a.word ∷ words) text rest
+outcome_more outcome words text behind rest a l = word_more a.word words text behind rest a.one_word a.one_line a.stands l
+
+-- ---- words of outcomes
+
+pub parse_stays_fast : (text rest : Text) → text ≡ codes "stays" ++ 32 ∷ rest → FastOutcome text Stays rest
+unfolding outcome_of
+parse_stays_fast text rest e = record { word = codes "stays"; one_word = refl; one_line = refl; reads = refl; stands = e }
+
+pub parse_queued_fast : (text rest : Text) → text ≡ codes "queued" ++ 32 ∷ rest → FastOutcome text Queued rest
+unfolding outcome_of
+parse_queued_fast text rest e = record { word = codes "queued"; one_word = refl; one_line = refl; reads = refl; stands = e }
+
+pub parse_freed_fast : (text rest : Text) → text ≡ codes "freed" ++ 32 ∷ rest → FastOutcome text Freed rest
+unfolding outcome_of
+parse_freed_fast text rest e = record { word = codes "freed"; one_word = refl; one_line = refl; reads = refl; stands = e }
+
+-- a word that is read as a set says that set
+pub set_read : (word : Text) (read : Result (List Bool) TextKind) (some : Option (List Bool)) (set : List Bool) → read ≡ set_of_text word → some ≡ result_ok read → some ≡ Some set → set_of_text word ≡ Ok set
+set_read word (Ok x) some set e f g =
+    let same : Some x ≡ Some set = sym f ∙ g in
+    let is : x ≡ set = cc in
+    sym e ∙ ap (λ (y : List Bool). Ok y) is
+set_read word (Err kind) some set e f g = let wrong : None ≡ Some set = sym f ∙ g in absurd (cc)
+
+-- a dash alone on a line says the set of no subpage
+pub parse_no_frame_fast : (text rest : Text) → text ≡ 45 ∷ 10 ∷ rest → FastSet (set_of (λ i. false)) text rest
+unfolding set_of_text set_with
+parse_no_frame_fast text rest e = record {
+  word = 45 ∷ [];
+  line = record {
+    line = 45 ∷ [];
+    words_are = refl;
+    lines = rw e (whole_front 10 (45 ∷ []) rest refl);
+    shorter = rw e (omega arith);
+  };
+  reads = refl;
+}
+
+pub parse_set_fast : (set : List Bool) (word text rest : Text) → FastLine (word ∷ []) text rest → set_of_text word ≡ Ok set → FastSet set text rest
+parse_set_fast set word text rest line reads = record { word = word; line = line; reads = reads }
+
+-- ---- operands
+
+pub parse_page_fast : (name : PageWord) (caller p : ℕ) (text rest : Text) → FastNumber 10 18446744073709551615 text p rest → FastOperands (page_event name) caller text (by caller (page_what name p)) rest
+unfolding page_event
+parse_page_fast name caller p text rest a = record {
+  words = a.word ∷ [];
+  line = last_number 18446744073709551615 p text rest a;
+  reads = λ w c. rw (c, a.reads) refl;
+}
+
+pub parse_range_fast : (name : RangeWord) (caller p first count : ℕ) (text t1 t2 rest : Text)
+    → FastNumber 32 18446744073709551615 text p t1 → FastNumber 32 65535 t1 first t2 → FastNumber 10 65535 t2 count rest
+    → FastOperands (range_event name) caller text (by caller (range_what name p first count)) rest
+unfolding range_event
+parse_range_fast name caller p first count text t1 t2 rest a b d = record {
+  words = a.word ∷ b.word ∷ d.word ∷ [];
+  line = number_more 18446744073709551615 p (b.word ∷ d.word ∷ []) text t1 rest a (number_more 65535 first (d.word ∷ []) t1 t2 rest b (last_number 65535 count t2 rest d));
+  reads = λ w c. rw (c, a.reads, b.reads, d.reads) refl;
+}
+
+pub parse_loss_fast : (name : LossWord) (caller p : ℕ) (outcome : Outcome) (set : List Bool) (text t1 t2 rest : Text)
+    → FastNumber 32 18446744073709551615 text p t1 → FastOutcome t1 outcome t2 → FastSet set t2 rest
+    → FastOperands (loss_event name) caller text (by caller (loss_what name outcome p set)) rest
+unfolding loss_event outcome_and_word
+parse_loss_fast name caller p outcome set text t1 t2 rest a o s = record {
+  words = a.word ∷ o.word ∷ s.word ∷ [];
+  line = number_more 18446744073709551615 p (o.word ∷ s.word ∷ []) text t1 rest a (outcome_more outcome (s.word ∷ []) t1 t2 rest o s.line);
+  reads = λ w c. rw (o.reads, c, a.reads, s.reads) refl;
+}
+
+pub parse_unmap_fast : (caller p first count : ℕ) (outcome : Outcome) (set : List Bool) (text t1 t2 t3 t4 rest : Text)
+    → FastNumber 32 18446744073709551615 text p t1 → FastNumber 32 65535 t1 first t2 → FastNumber 32 65535 t2 count t3 → FastOutcome t3 outcome t4 → FastSet set t4 rest
+    → FastOperands unmap_event caller text (by caller (what.UnmapSub outcome p first count set)) rest
+unfolding unmap_event outcome_and_word
+parse_unmap_fast caller p first count outcome set text t1 t2 t3 t4 rest a b d o s = record {
+  words = a.word ∷ b.word ∷ d.word ∷ o.word ∷ s.word ∷ [];
+  line = number_more 18446744073709551615 p (b.word ∷ d.word ∷ o.word ∷ s.word ∷ []) text t1 rest a
+      (number_more 65535 first (d.word ∷ o.word ∷ s.word ∷ []) t1 t2 rest b
+      (number_more 65535 count (o.word ∷ s.word ∷ []) t2 t3 rest d (outcome_more outcome (s.word ∷ []) t3 t4 rest o s.line)));
+  reads = λ w c. rw (o.reads, c, a.reads, b.reads, d.reads, s.reads) refl;
+}
+
+pub parse_split_fast : (caller p : ℕ) (set : List Bool) (text t1 rest : Text) → FastNumber 32 18446744073709551615 text p t1 → FastSet set t1 rest
+    → FastOperands split_event caller text (by caller (what.Split p set)) rest
+unfolding split_event
+parse_split_fast caller p set text t1 rest a s = record {
+  words = a.word ∷ s.word ∷ [];
+  line = number_more 18446744073709551615 p (s.word ∷ []) text t1 rest a s.line;
+  reads = λ w c. rw (c, a.reads, s.reads) refl;
+}
+
+-- ---- words of events
+
+-- a word that names an event, and a space behind it
+pub word_stands : (v : Version) (name text rest : Text) (word : EventWord) → event_word v name ≡ Ok word → text ≡ name ++ 32 ∷ rest → FastWord v text word rest
+word_stands v name text rest word reads e =
+    let letters = event_word_letters v name word reads in
+    record {
+      name = name;
+      one_word = letters_whole 32 name (omega arith) letters.letters;
+      one_line = letters_whole 10 name (omega arith) letters.letters;
+      reads = reads;
+      stands = e;
+    }
+
+-- an event's word and its operands
+of_word : (v : Version) (word : EventWord) (caller : ℕ) (text operands rest : Text) (event : Event) (a : FastWord v text word operands) → FastOperands (event_by word) caller operands event rest → FastOperands (event_of v) caller text event rest
+of_word v word caller text operands rest event a o = record {
+  words = a.name ∷ o.words;
+  line = word_more a.name o.words text operands rest a.one_word a.one_line a.stands o.line;
+  reads = λ w c. rw a.reads (o.reads w c);
+}
+
+-- ---- events
+
+-- no number is this word
+other_word : (word name : Text) (most n : ℕ) → number_of most word ≡ Some n → number_of most name ≡ None → bytes_eq word name ≡ false
+other_word word name most n is none = go (bytes_eq word name) refl where
+  go : (b : Bool) → bytes_eq word name ≡ b → bytes_eq word name ≡ false
+  go false e = e
+  go true e =
+      let same : word ≡ name = (bytes_eq-Decides word name).0 e in
+      let wrong : Some n ≡ None = sym is ∙ ap (number_of most) same ∙ none in
+      absurd (cc)
+
+after_caller : (v : Version) (word : Text) (words : List Text) (caller : ℕ) (event : Event) → number_of 63 word ≡ Some caller → event_of v word words ≡ Ok event → Ok (Happened event) ≡ by_words v (word ∷ words)
+unfolding line_by number_of
+after_caller v word words caller event is says =
+    rw (other_word word (codes "thp-journal") 63 caller is refl, other_word word (codes "node") 63 caller is refl, other_word word (codes "end") 63 caller is refl, says) refl
+
+-- a caller and an event's words behind it
+event_is : (v : Version) (text behind rest : Text) (caller : ℕ) (event : Event) → FastNumber 32 63 text caller behind → FastOperands (event_of v) caller behind event rest → FastEvent v text event rest
+event_is v text behind rest caller event a o =
+    let l = number_more 63 caller o.words text behind rest a o.line in
+    let says = after_caller v a.word o.words caller event a.reads (o.reads a.word (rw a.reads refl)) in
+    record {
+      line = l.line;
+      lines = l.lines;
+      shorter = l.shorter;
+      says = line_of-read v l.line (Happened event) (rw l.words_are says);
+    }
+
+pub event_read : {A : Type 0} (v : Version) (text behind operands : Text) (caller : ℕ) (word : EventWord) (read : Option A) (event : A → Event) (rest : A → Text) → FastNumber 32 63 text caller behind → FastWord v behind word operands
+    → IfSome read (λ r. FastOperands (event_by word) caller operands (event r) (rest r)) → IfSome read (λ r. FastEvent v text (event r) (rest r))
+event_read v text behind operands caller word read event rest a b h =
+    of_some read (λ r. FastOperands (event_by word) caller operands (event r) (rest r)) (λ r. FastEvent v text (event r) (rest r))
+    (λ r o. event_is v text behind (rest r) caller (event r) a (of_word v word caller behind operands (rest r) (event r) b o)) h

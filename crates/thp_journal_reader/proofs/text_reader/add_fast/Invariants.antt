@@ -1,0 +1,21 @@
+use Rattle.std.proofs.Common.{◌≡◌, ◌≤◌, ◌++◌, [], length}
+use Rattle.thp_script.specs.TextInParts.{told_after, IsCounted}
+use Rattle.thp_script.specs.Words.{Text}
+use Rattle.thp_journal_reader.specs.Parts.{lines_tell}
+use Rattle.thp_journal_reader.proofs.text_reader.add_fast.Given as goal
+
+abbrev pub decreases-loop-event : goal.decreases-loop-event
+decreases-loop-event g l = length l.rest
+
+-- what was read, with what is left, tells what it told before
+abbrev pub invariant-loop-event : goal.invariant-loop-event
+invariant-loop-event g l =
+    let told = g.N.KeepsNodes.told in
+    record {
+      tells : (more : Text) → told_after l.text more (lines_tell (told l.nodes) l.fn.place l.text.line (l.text.begun ++ (l.rest ++ more))) ≡ told_after l.fn.text more (lines_tell (told l.fn.nodes) l.fn.place l.fn.text.line (l.fn.text.begun ++ (l.part ++ more)));
+      counted : IsCounted l.rest l.text;
+      along : g.N.KeepsNodes.goes_along l.text.line l.nodes;
+      begins : l.text.begun ≡ [];
+      most : l.text.most ≡ l.fn.text.most;
+      shorter : length l.rest ≤ length l.part;
+    }

@@ -1,0 +1,36 @@
+use Rattle.std.proofs.Common.{◌∙◌, ◌++◌, [], ap, subst, sym, Result}
+use Rattle.std.proofs.lemmas.List.{append-nil}
+use Rattle.thp_script.specs.Limits.{max_counted}
+use Rattle.thp_script.specs.Scripts.{Fault}
+use Rattle.thp_journal_reader.specs.declared.journals.Journals.{Journals}
+use Rattle.thp_journal_reader.specs.Journals.{journals_within}
+use Rattle.thp_journal_reader.specs.Summaries.{ReportsSummaryFault}
+use Rattle.thp_journal_tools.proofs.CheckLaws.{err_at_reading, err_at_summary}
+use Rattle.thp_journal_tools.proofs.finding.sum_up.Goals as goal
+
+pub returns-in_err-check-clause-fault : goal.returns-in_err-check-clause-fault
+returns-in_err-check-clause-fault g c =
+    err_at_reading (g.R.Read.remaining c.args.reader.now.device) c.read_journal.new.reader.failed c.in_err-check.field-0.0 c.from_residual.result c.from_residual.ensures.1 c.in_err-check.ensures.fault
+
+pub returns-in_err-summed-clause-fault : goal.returns-in_err-summed-clause-fault
+returns-in_err-summed-clause-fault g c =
+    let read = c.in_ok-check.ensures.parts in
+    let fault = c.in_err-summed.field-0.0 in
+    let P : Result Journals Fault → Type 0 = λ told. ReportsSummaryFault told fault in
+    err_at_summary (g.R.Read.remaining c.args.reader.now.device) read.0 read.1 c.read_journal.new.reader.failed c.in_ok-check.ensures.flag fault
+    c.from_residual-in_err-summed.result c.from_residual-in_err-summed.ensures.1
+    (subst P (read.2 [] ∙ c.new-check.ensures (read.0 ++ []) ∙ ap (journals_within max_counted) (append-nil read.0)) c.in_err-summed.ensures.fault)
+
+pub returns-clause-found : goal.returns-clause-found
+returns-clause-found g c =
+    let read = c.in_ok-check.ensures.parts in
+    let summed = c.in_ok-summed.ensures.summed in (
+      read.0,
+      read.1,
+      record {
+        journals = summed.0;
+        spelled = sym (read.2 [] ∙ c.new-check.ensures (read.0 ++ []) ∙ ap (journals_within max_counted) (append-nil read.0)) ∙ summed.1;
+        first = summed.2.first;
+        totals_are = summed.2.totals;
+      },
+    )

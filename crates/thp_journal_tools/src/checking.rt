@@ -1,0 +1,104 @@
+//! From the bytes of a journal of any length to its verdict.
+ghost use Rattle.std.specs.Prelude.{◌≡◌, ◌++◌, IfOk, false, option_map};
+ghost use Rattle.thp_script.specs.Limits.{max_counted};
+ghost use Rattle.thp_cli.specs.Calls.{ReadsOn};
+ghost use Rattle.thp_cli.specs.declared.ending.Program.TheVariants.{Thpcheck};
+ghost use Rattle.thp_cli.specs.Outcomes.{device_of};
+ghost use Rattle.thp_cli.specs.Passages.{WritesAnswer};
+ghost use Rattle.thp_cli.specs.Verdicts.{verdict_text};
+ghost use Rattle.thp_journal_writer.specs.Totals.{lines_from};
+ghost use Rattle.thp_journal_tools.specs.Checks.{explanation_of, found_in, line_of, CheckEnds};
+ghost use Rattle.thp_journal_tools.specs.Progress.{may_show, ShowsProgress};
+
+use crate::finding::{CheckFindings, find};
+use crate::options::CheckOptions;
+use crate::screen::Screen;
+use std::alloc::{AllocError, Global};
+use std::io::{Read, Write};
+use std::time::Clock;
+use thp_check::put_explanation;
+use thp_cli::{LongRunFault, Watched, verdict, write_text};
+use thp_journal_reader::Illegal;
+use thp_journal_writer::{put, put_totals_of_each};
+
+/// The result of the check of a journal.
+#[derive(Drop)]
+pub struct CheckFinding {
+    /// The first illegal event; `None` if the journal is legal.
+    pub illegal: Option<Illegal>,
+    /// The explanation of that event, if it was requested.
+    pub explanation: Option<Vec<u8>>,
+}
+
+/// Returns the line of an illegal event.
+fn line_of(illegal: &Option<Illegal>) -> Option<u64>
+    ensures { result ≡ line_of illegal.now }
+{
+    match illegal {
+        Some(illegal) => Some(illegal.line),
+        None => None,
+    }
+}
+
+/// Returns the explanation of the first illegal event, if there is one and it is requested.
+fn explanation_of(
+    alloc: Global,
+    options: CheckOptions,
+    illegal: &Option<Illegal>,
+) -> Result<Option<Vec<u8>>, AllocError>
+    ensures { IfOk result (λ text. option_map (λ t. t.items) text ≡ explanation_of options illegal.now) }
+{
+    if !options.explain {
+        return Ok(None);
+    }
+    let Some(illegal) = illegal else {
+        return Ok(None);
+    };
+    let mut text = Vec::new(alloc);
+    put_explanation(&mut text, illegal.line, &illegal.event, &illegal.misfit)?;
+    Ok(Some(text))
+}
+
+/// Returns the verdict, followed by the totals.
+fn text_of(alloc: Global, found: &CheckFindings) -> Result<Vec<u8>, AllocError>
+    ensures { IfOk result (λ text. text.items ≡ verdict_text (line_of found.now.illegal) ++ lines_from 0 found.now.totals.items) }
+{
+    let verdict = verdict(line_of(&found.illegal));
+    let mut text = Vec::new(alloc);
+    put(&mut text, verdict.as_str().as_bytes())?;
+    put_totals_of_each(&mut text, found.totals.as_slice())?;
+    Ok(text)
+}
+
+/// Checks a journal of any length from the reader. Writes `legal`, or `illegal line L` with the line of the first illegal event.
+///
+/// If the options request them, the totals of each node up to its first illegal event follow. Nothing else is written; if the
+/// writer fails, a prefix of this has been written. An explanation is returned, not written.
+///
+/// The screen shows the progress while the journal is read, if the options request that or the screen is a terminal. Only the
+/// state of the current node, the line in progress and the totals are in memory.
+pub fn check_long<R: Read, W: Write, S: Write, C: Clock>(
+    alloc: Global,
+    options: CheckOptions,
+    reader: &mut Watched<R>,
+    writer: &mut Watched<W>,
+    screen: &mut Screen<S, C>,
+) -> Result<CheckFinding, LongRunFault>
+    requires reader { reader.old.failed ≡ false }
+    requires writer { writer.old.failed ≡ false }
+    requires screen { screen.old.writer.failed ≡ false }
+    ensures ends { CheckEnds options (R.remaining reader.old.device) (W.contents writer.old.device) (W.contents writer.new.device) reader.new.failed writer.new.failed (found_in result) }
+    ensures reads { ReadsOn max_counted reader.new.failed reader.old.calls reader.new.calls }
+    ensures writes { WritesAnswer (found_in result) writer.new.failed writer.old.calls writer.new.calls }
+    ensures explanation { IfOk result (λ checked. option_map (λ t. t.items) checked.explanation ≡ explanation_of options checked.illegal) }
+    ensures screen { ShowsProgress Thpcheck (may_show options.progress screen.old.is_terminal) (R.remaining reader.old.device) (device_of S.contents screen.old.writer screen.new.writer) }
+{
+    let found = find(alloc, options, reader, screen)?;
+    let explanation = explanation_of(alloc, options, &found.illegal)?;
+    let text = text_of(alloc, &found)?;
+    write_text(writer, text.as_slice()).ok_or(LongRunFault::Write)?;
+    Ok(CheckFinding {
+        illegal: found.illegal,
+        explanation,
+    })
+}

@@ -1,0 +1,51 @@
+//! Reads a journal for the drawing of its nodes.
+ghost use Rattle.std.specs.Prelude.{◌≡◌, ℕ, List, IfOk, IfErr, IfSome, false};
+ghost use Rattle.thp_journal_tools.specs.Checks.{IsFindFault};
+ghost use Rattle.thp_journal_tools.specs.Progress.{may_show, ShowsProgress};
+ghost use Rattle.thp_cli.specs.declared.ending.Program.TheVariants.{Thpdraw};
+ghost use Rattle.thp_cli.specs.Calls.{ReadsOn};
+ghost use Rattle.thp_cli.specs.Devices.{IsFrontOf};
+ghost use Rattle.thp_cli.specs.Outcomes.{device_of};
+ghost use Rattle.thp_cli.specs.RunFaults.{seen_fault};
+ghost use Rattle.thp_script.specs.Limits.{max_counted};
+ghost use Rattle.thp_journal_tools.specs.Drawings.{IsFound};
+
+use crate::nodes::drawn_nodes;
+use crate::{Screen, read_journal};
+use std::alloc::Global;
+use std::io::{Read, Write};
+use std::time::Clock;
+use thp_check::Misfit;
+use thp_cli::{LongRunFault, Program, Watched};
+use thp_drawing::DrawnNode;
+use thp_journal_reader::SeriesCheck;
+use thp_model::{Outcome, Refusal, What};
+
+/// Reads the journal from the reader in parts, and returns what is drawn of its nodes.
+pub(crate) fn find_nodes<R: Read, S: Write, C: Clock>(
+    alloc: Global,
+    asked: bool,
+    reader: &mut Watched<R>,
+    screen: &mut Screen<S, C>,
+) -> Result<Vec<DrawnNode>, LongRunFault>
+    requires reader { reader.old.failed ≡ false }
+    requires screen { screen.old.writer.failed ≡ false }
+    ensures found { IfOk result (λ nodes. (bytes : List ℕ) × IfSome (R.remaining reader.old.device) (IsFrontOf max_counted bytes) × IsFound bytes nodes.items) }
+    ensures flag { IfOk result (λ _. reader.new.failed ≡ false) }
+    ensures fault { IfErr result (λ fault. IsFindFault (R.remaining reader.old.device) reader.new.failed (seen_fault fault)) }
+    ensures calls { ReadsOn max_counted reader.new.failed reader.old.calls reader.new.calls }
+    ensures screen { ShowsProgress Thpdraw (may_show asked screen.old.is_terminal) (R.remaining reader.old.device) (device_of S.contents screen.old.writer screen.new.writer) }
+{
+    // the toolchain finds these types, which illegal events contain, only in functions that name them
+    let _in_illegal = (
+        What::Close,
+        Outcome::Stays,
+        Refusal::NoPage,
+        Misfit::BlockTaken,
+    );
+    let check = SeriesCheck::new(alloc);
+    let check = read_journal(alloc, Program::Thpdraw, asked, check, reader, screen)?;
+    let numbered = check.finish()?;
+    let nodes = drawn_nodes(alloc, numbered)?;
+    Ok(nodes)
+}

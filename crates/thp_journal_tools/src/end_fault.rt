@@ -1,0 +1,40 @@
+//! The reasons for which the program ends without doing what was requested.
+ghost use Rattle.std.specs.Prelude.{◌≡◌};
+ghost use Rattle.thp_cli.specs.declared.long_fault.LongRunFault.TheVariants.{OutOfMemory};
+ghost use Rattle.thp_journal_tools.specs.declared.end_fault.EndFault.TheVariants.{Journal, Words};
+
+use std::alloc::AllocError;
+use thp_cli::{LongRunFault, ProgramFault};
+
+/// Why the program did not do what was requested.
+#[derive(Debug, Drop)]
+pub enum EndFault {
+    /// The work on the journal failed.
+    Journal(LongRunFault),
+    /// The words of the command line have an error, request a text, or are not available.
+    Words(ProgramFault),
+}
+
+impl From<LongRunFault> for EndFault {
+    ghost from_gives = { λ fault end. end ≡ Journal fault };
+
+    fn from(fault: LongRunFault) -> EndFault {
+        EndFault::Journal(fault)
+    }
+}
+
+impl From<ProgramFault> for EndFault {
+    ghost from_gives = { λ fault end. end ≡ Words fault };
+
+    fn from(fault: ProgramFault) -> EndFault {
+        EndFault::Words(fault)
+    }
+}
+
+impl From<AllocError> for EndFault {
+    ghost from_gives = { λ _ end. end ≡ Journal OutOfMemory };
+
+    fn from(_error: AllocError) -> EndFault {
+        EndFault::Journal(LongRunFault::OutOfMemory)
+    }
+}

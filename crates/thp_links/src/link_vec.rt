@@ -1,0 +1,75 @@
+//! A table that has nothing but its links.
+ghost use Rattle.std.specs.Prelude.{◌≡◌, ◌<◌, ◌^◌, ⊤, length, vec_len, slice_get, IfOk, IfSome};
+
+use crate::access_count::AccessCount;
+use crate::link::{Link, NIL};
+use crate::table::LinkTable;
+use std::alloc::{AllocError, Global};
+use std::marker::Model;
+
+/// Link pairs for the numbers below a length, and nothing else.
+#[derive(Drop)]
+pub struct LinkVec {
+    pairs: Vec<Link>,
+    // has no bytes
+    accesses: AccessCount,
+    ghost small: { vec_len pairs < 2 ^ 32 },
+}
+
+impl Model for LinkVec {
+    ghost use Rattle.thp_links.specs.LinkVecs.{LinkVecState};
+
+    ghost Value = { LinkVecState };
+
+    ghost view = { λ t. record { pairs = t.pairs.items; accesses = t.accesses } };
+}
+
+impl LinkVec {
+    /// Makes a table of so many indices, none of which is linked. Fails if the memory for it is refused.
+    pub fn new(alloc: Global, len: u32) -> Result<LinkVec, AllocError>
+        ensures { IfOk result (λ t. length t.pairs ≡ len) }
+    {
+        let alone = Link {
+            prev: NIL,
+            next: NIL,
+        };
+        Ok(LinkVec {
+            pairs: vec![in alloc; alone; len as usize]?,
+            accesses: AccessCount::new(),
+        })
+    }
+
+    /// Returns the index after this one, or `NIL`. This is no access: it only reads.
+    pub fn next(&self, index: u32) -> u32
+        requires { index < length self.now.pairs }
+        ensures { IfSome (slice_get self.now.pairs index) (λ l. result ≡ l.next) }
+    {
+        self.pairs[index as usize].next
+    }
+}
+
+impl LinkTable for LinkVec {
+    ghost links = { λ t. t.pairs };
+
+    ghost accesses = { λ t. t.accesses };
+
+    ghost same_rest = { λ _ _. ⊤ };
+
+    fn len(&self) -> u32 {
+        self.pairs.len() as u32
+    }
+
+    fn link(&mut self, i: u32) -> Link {
+        self.accesses.step();
+        self.pairs[i as usize]
+    }
+
+    fn set_link(&mut self, i: u32, link: Link) {
+        self.accesses.step();
+        self.pairs[i as usize] = link;
+    }
+
+    ghost same_rest_refl = { λ t. tt };
+
+    ghost same_rest_trans = { λ a b c p q. tt };
+}

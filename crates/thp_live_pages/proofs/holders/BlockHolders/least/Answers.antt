@@ -1,0 +1,12 @@
+use Rattle.std.proofs.Common.{◌∙◌, ap, List, ℕ}
+use Rattle.thp_live_pages.specs.BlockHolders.{least_of}
+use Rattle.thp_live_pages.proofs.Least.{least_some, least_none}
+use Rattle.thp_live_pages.proofs.holders.BlockHolders.least.Goals as goal
+
+pub returns-in-Some-clause-least : goal.returns-in-Some-clause-least
+returns-in-Some-clause-least c =
+    least_some c.self.inside.counts.items c.self.inside.free c.in-Some.block c.self.invariant c.in-Some.ensures.there c.in-Some.ensures.least ∙ ap (λ (ns : List ℕ). least_of ns) c.self.view_is
+
+pub returns-in-None-clause-least : goal.returns-in-None-clause-least
+returns-in-None-clause-least c =
+    least_none c.self.inside.counts.items c.self.inside.free c.self.invariant c.in-None.ensures.none ∙ ap (λ (ns : List ℕ). least_of ns) c.self.view_is

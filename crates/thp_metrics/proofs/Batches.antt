@@ -1,0 +1,167 @@
+-- The pages of all batches, counted.
+use Rattle.std.proofs.Common.{◌≡◌, ℕ, ◌+◌, Bool, true, false, not, cond, ◌&&◌, List, [], ◌∷◌, ◌++◌, Option, Some, None, length, refl, ap, sym, ◌∙◌, subst, arith, length-append, nat_eq, eq-eqb}
+use Rattle.std.specs.List.{filter}
+use Rattle.thp_model.specs.declared.events.Event.{Event}
+use Rattle.thp_model.specs.declared.events.Outcome.{Outcome}
+use Rattle.thp_model.specs.declared.events.Outcome.TheVariants as outcome
+use Rattle.thp_model.specs.declared.events.What.{What}
+use Rattle.thp_model.specs.declared.events.What.TheVariants as what
+use Rattle.thp_model.specs.declared.shape.Shape.{Shape}
+use Rattle.thp_model.specs.Counts.{is_live, is_split}
+use Rattle.thp_model.specs.History.{History, count_of}
+use Rattle.thp_model.specs.Legal.{Fits, IsLegal}
+use Rattle.thp_model.specs.Places.{flight, flights, flights_after, flights_by, leaves}
+use Rattle.thp_model.specs.Sets.{sum_below}
+use Rattle.thp_model.specs.Underused.{is_partly_mapped}
+use Rattle.thp_model.proofs.LegalSteps.{legal_all, legal_none, legal_push}
+use Rattle.thp_model.proofs.OnePlace.{flies_stands, has_times, times_flight}
+use Rattle.thp_model.proofs.Pushes.{flights_push}
+use Rattle.thp_model.proofs.Standing.{Sound, flying, flying-cons, flying_push, legal_sound, stands_not}
+use Rattle.thp_page.specs.declared.standing.Standing.{Standing}
+use Rattle.thp_page.specs.declared.standing.Standing.TheVariants as at
+use Rattle.thp_live_pages.specs.Homes.{standing_of}
+use Rattle.thp_live_pages.specs.PageStoreState.{is_nowhere}
+use Rattle.thp_live_pages.proofs.Standings.{batch_has, queued_has, stands_is}
+use Rattle.thp_metrics.specs.declared.stage.Stage.TheVariants.{InBatch}
+use Rattle.thp_journal_writer.specs.EventLines.{event_page}
+use Rattle.thp_metrics.specs.Stages.{pages_in, stage_by, stage_of}
+use Rattle.thp_metrics.proofs.Moving.{count_moves, count_stays, one}
+
+-- what a filter takes out is of page p
+filter_moves : (u : ℕ × ℕ → Bool) (p : ℕ) (fs : List (ℕ × ℕ)) → ((f : ℕ × ℕ) → u f ≡ false → nat_eq f.1 p ≡ true) → length (filter u fs) + flying p fs ≡ length fs + flying p (filter u fs)
+filter_moves u p [] out = refl
+filter_moves u p (f ∷ fs) out = go (u f) refl (filter_moves u p fs out) where
+  go : (b : Bool) → u f ≡ b → length (filter u fs) + flying p fs ≡ length fs + flying p (filter u fs) → length (cond b (f ∷ filter u fs) (filter u fs)) + flying p (f ∷ fs) ≡ length (f ∷ fs) + flying p (cond b (f ∷ filter u fs) (filter u fs))
+  go true y rest = omega (arith, flying-cons p f.0 f.1 fs, flying-cons p f.0 f.1 (filter u fs), rest)
+  go false y rest = omega (arith, flying-cons p f.0 f.1 fs, ap (λ b. cond {A = ℕ} b 1 0) (out f y), rest)
+
+second : (a b : Bool) → not (a && b) ≡ false → b ≡ true
+second true true e = refl
+second true false e = absurd (cc)
+second false b e = absurd (cc)
+
+leave_moves : (c p : ℕ) (fs : List (ℕ × ℕ)) → length (leaves c p fs) + flying p fs ≡ length fs + flying p (leaves c p fs)
+leave_moves c p fs = filter_moves (λ (f : ℕ × ℕ). not (nat_eq f.0 c && nat_eq f.1 p)) p fs (λ f e. second (nat_eq f.0 c) (nat_eq f.1 p) e)
+
+free_moves : (p : ℕ) (o : Outcome) (fs : List (ℕ × ℕ)) → length (flights_by fs p o) + flying p fs ≡ length fs + flying p (flights_by fs p o)
+free_moves p outcome.Freed fs = filter_moves (λ (f : ℕ × ℕ). not (nat_eq f.1 p)) p fs (λ f e. second true (nat_eq f.1 p) e)
+free_moves p outcome.Queued fs = refl
+free_moves p outcome.Stays fs = refl
+
+-- what an event takes out of the flights, or puts there, is of its page
+flights_move : (c : ℕ) (w : What) (p : ℕ) (fs : List (ℕ × ℕ)) → event_page w ≡ Some p → length (flights_after fs c w) + flying p fs ≡ length fs + flying p (flights_after fs c w)
+flights_move c (what.Taken q) p fs is =
+    let same : nat_eq q p ≡ true = eq-eqb q p cc in
+    omega (arith, length-append fs ((c, q) ∷ []), flying_push p q c fs, ap (λ b. cond {A = ℕ} b 1 0) same)
+flights_move c (what.UnmapWhole o q set) p fs is =
+    let P : ℕ → Type 0 = λ x. length (flights_after fs c (what.UnmapWhole o x set)) + flying p fs ≡ length fs + flying p (flights_after fs c (what.UnmapWhole o x set)) in
+    subst P (sym cc) (free_moves p o fs)
+flights_move c (what.UnmapSub o q a k set) p fs is =
+    let P : ℕ → Type 0 = λ x. length (flights_after fs c (what.UnmapSub o x a k set)) + flying p fs ≡ length fs + flying p (flights_after fs c (what.UnmapSub o x a k set)) in
+    subst P (sym cc) (free_moves p o fs)
+flights_move c (what.Unpin o q set) p fs is =
+    let P : ℕ → Type 0 = λ x. length (flights_after fs c (what.Unpin o x set)) + flying p fs ≡ length fs + flying p (flights_after fs c (what.Unpin o x set)) in
+    subst P (sym cc) (free_moves p o fs)
+flights_move c (what.Split q set) p fs is =
+    let P : ℕ → Type 0 = λ x. length (flights_after fs c (what.Split x set)) + flying p fs ≡ length fs + flying p (flights_after fs c (what.Split x set)) in
+    subst P (sym cc) (leave_moves c p fs)
+flights_move c (what.Used q) p fs is =
+    let P : ℕ → Type 0 = λ x. length (flights_after fs c (what.Used x)) + flying p fs ≡ length fs + flying p (flights_after fs c (what.Used x)) in
+    subst P (sym cc) (leave_moves c p fs)
+flights_move c (what.Back q) p fs is =
+    let P : ℕ → Type 0 = λ x. length (flights_after fs c (what.Back x)) + flying p fs ≡ length fs + flying p (flights_after fs c (what.Back x)) in
+    subst P (sym cc) (leave_moves c p fs)
+flights_move c (what.Dropped q) p fs is =
+    let P : ℕ → Type 0 = λ x. length (flights_after fs c (what.Dropped x)) + flying p fs ≡ length fs + flying p (flights_after fs c (what.Dropped x)) in
+    subst P (sym cc) (leave_moves c p fs)
+flights_move c w p fs is = refl
+
+none_moves : (c : ℕ) (w : What) (fs : List (ℕ × ℕ)) → event_page w ≡ None → flights_after fs c w ≡ fs
+none_moves c what.Close fs e = refl
+none_moves c (what.Alloc r b) fs e = absurd (cc)
+none_moves c (what.MapWhole r) fs e = absurd (cc)
+none_moves c (what.UnmapWhole o r set) fs e = absurd (cc)
+none_moves c (what.MapSub r a k) fs e = absurd (cc)
+none_moves c (what.UnmapSub o r a k set) fs e = absurd (cc)
+none_moves c (what.SplitPmd r) fs e = absurd (cc)
+none_moves c (what.Pin r) fs e = absurd (cc)
+none_moves c (what.Unpin o r set) fs e = absurd (cc)
+none_moves c (what.Write r a k) fs e = absurd (cc)
+none_moves c (what.Zero r a k) fs e = absurd (cc)
+none_moves c (what.Taken r) fs e = absurd (cc)
+none_moves c (what.Split r set) fs e = absurd (cc)
+none_moves c (what.Pinned r) fs e = absurd (cc)
+none_moves c (what.Used r) fs e = absurd (cc)
+none_moves c (what.Back r) fs e = absurd (cc)
+none_moves c (what.Dropped r) fs e = absurd (cc)
+
+-- 1 for a page in a batch, by where it stands
+by_place : Bool → Bool → Standing → Bool → ℕ
+by_place live split place partly = one InBatch (cond live (Some (stage_by split place partly)) None)
+
+queued_isnt : (live split partly : Bool) → by_place live split at.Queued partly ≡ 0
+unfolding by_place
+queued_isnt false split partly = refl
+queued_isnt true true partly = refl
+queued_isnt true false partly = refl
+
+nowhere_isnt : (live split partly : Bool) → by_place live split at.Nowhere partly ≡ 0
+unfolding by_place
+nowhere_isnt false split partly = refl
+nowhere_isnt true true partly = refl
+nowhere_isnt true false true = refl
+nowhere_isnt true false false = refl
+
+-- a page is in a batch where it stands in the flights
+batch_is_flight : (s : Shape) (h : History) (p : ℕ) → IsLegal s h → one InBatch (stage_of s h p) ≡ flying p (flights h)
+unfolding by_place
+batch_is_flight s h p l = go (standing_of s h p) refl where
+  sound : Sound s h
+  sound = legal_sound s h l
+
+  go : (place : Standing) → standing_of s h p ≡ place → one InBatch (stage_of s h p) ≡ flying p (flights h)
+  go (at.Batch c) e =
+      let has = (batch_has s h p c e).0 in
+      let stands = flies_stands s h c p has in
+      ap (λ live. by_place live (is_split h p) (standing_of s h p) (is_partly_mapped s h p)) (sound.live p stands)
+      ∙ ap (λ split. by_place true split (standing_of s h p) (is_partly_mapped s h p)) (sound.whole_page p stands)
+      ∙ ap (λ place. by_place true false place (is_partly_mapped s h p)) e
+      ∙ omega (arith, sound.once p, times_flight p c (flights h), has_times p (flight h c) has)
+  go at.Queued e =
+      ap (λ place. by_place (is_live h p) (is_split h p) place (is_partly_mapped s h p)) e
+      ∙ queued_isnt (is_live h p) (is_split h p) (is_partly_mapped s h p)
+      ∙ omega (arith, sound.once p, has_times p _ (queued_has s h p e))
+  go at.Nowhere e =
+      ap (λ place. by_place (is_live h p) (is_split h p) place (is_partly_mapped s h p)) e
+      ∙ nowhere_isnt (is_live h p) (is_split h p) (is_partly_mapped s h p)
+      ∙ omega (arith, stands_not s h p (stands_is s h p ∙ ap (λ place. not (is_nowhere place)) e))
+
+-- the pages in batches are those of the flights
+record Batches (s : Shape) (h : History) : Type 0 where
+  legal : IsLegal s h
+  same : pages_in s h InBatch ≡ length (flights h)
+
+none_in_batches : (s : Shape) → Batches s []
+unfolding flights count_of sum_below
+none_in_batches s = record { legal = legal_none s; same = refl }
+
+more_in_batches : (s : Shape) (h : History) (e : Event) → Batches s h → Fits s h e → Batches s (h ++ e ∷ [])
+more_in_batches s h e b f = record { legal = legal; same = go (event_page e.what) refl } where
+  legal : IsLegal s (h ++ e ∷ [])
+  legal = legal_push s h e b.legal f
+
+  go : (o : Option ℕ) → event_page e.what ≡ o → pages_in s (h ++ e ∷ []) InBatch ≡ length (flights (h ++ e ∷ []))
+  go (Some p) is = omega (
+    arith,
+    count_moves s h e.caller e.what p InBatch b.legal f is,
+    flights_move e.caller e.what p (flights h) is,
+    batch_is_flight s h p b.legal,
+    batch_is_flight s (h ++ e ∷ []) p legal,
+    ap length (flights_push h e),
+    ap (flying p) (flights_push h e),
+    b.same,
+  )
+  go None none = count_stays s h e InBatch f none ∙ b.same ∙ sym (ap length (flights_push h e ∙ none_moves e.caller e.what (flights h) none))
+
+pub in_batches_are : (s : Shape) (h : History) → IsLegal s h → pages_in s h InBatch ≡ length (flights h)
+in_batches_are s h l = (legal_all s (Batches s) (none_in_batches s) (λ k e b f. more_in_batches s k e b f) h l).same

@@ -1,0 +1,12 @@
+use Rattle.std.proofs.Common.{◌∙◌, ap, refl}
+use Rattle.thp_check.specs.Replays.{Replayed}
+use Rattle.thp_metrics.specs.Waits.{longest_wait}
+use Rattle.thp_metrics.proofs.Counting.{callers_told}
+use Rattle.thp_metrics.proofs.Following.{numbers_are}
+use Rattle.thp_metrics.proofs.node_series.numbers_of.Goals as goal
+
+pub returns : goal.returns
+returns c legal waits counts pages stages =
+    numbers_are c.args.replay.now.shape c.args.replay.now.history _ legal (c.from.ensures ∙ c.queue_len.ensures) refl c.frames_held.ensures c.frames_given.ensures
+    c.thp_split_page.ensures c.thp_underused_split_page.ensures c.thp_split_page_failed.ensures
+    (c.longest.ensures ∙ ap (λ (r : Replayed). longest_wait r.shape r.history) waits) (c.callers.ensures ∙ callers_told c.args.replay.now c.args.batches.now legal counts) pages stages

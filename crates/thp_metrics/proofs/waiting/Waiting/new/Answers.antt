@@ -1,0 +1,12 @@
+use Rattle.std.proofs.Common.{sym, subst}
+use Rattle.thp_model.specs.History.{History}
+use Rattle.thp_metrics.specs.Arrivals.{KeepsWaits}
+use Rattle.thp_metrics.specs.Finding.{KeepsFinds}
+use Rattle.thp_metrics.proofs.Arriving.{nothing_waits}
+use Rattle.thp_metrics.proofs.Finding.{nothing_found}
+use Rattle.thp_metrics.proofs.waiting.Waiting.new.Goals as goal
+
+pub invariant_of-result : goal.invariant_of-result
+invariant_of-result c =
+    let P : History → Type 0 = λ h. KeepsWaits c.args.shape h 0 c.in_ok-new.field-0 × KeepsFinds c.args.shape h c.in_ok-new-2.field-0 in
+    subst P (sym c.new-3.ensures) (nothing_waits c.args.shape c.in_ok-new.field-0 c.in_ok-new.ensures.none c.in_ok-new.ensures.size, nothing_found c.args.shape c.in_ok-new-2.field-0 c.in_ok-new-2.ensures)

@@ -1,0 +1,14 @@
+pub mod Spans
+pub mod Columns
+pub mod Stages
+pub mod Waits
+pub mod Spots
+pub mod Series
+pub mod Joining
+pub mod Folding
+pub mod Arrivals
+pub mod Counting
+pub mod Stuck
+pub mod Finding
+pub mod Following
+pub mod NumbersTrace

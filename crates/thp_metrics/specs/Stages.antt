@@ -1,0 +1,62 @@
+-- The stages of a page's life, and the number of pages in each.
+use Rattle.std.specs.Prelude.{ℕ, Bool, true, false, nat_eq, if◌then◌else◌, Option, Some, None, List, map}
+use Rattle.std.specs.List.{range_with_len}
+use Rattle.thp_model.specs.declared.shape.Shape.{Shape}
+use Rattle.thp_model.specs.Counts.{allocations, is_live, is_split}
+use Rattle.thp_model.specs.History.{History}
+use Rattle.thp_model.specs.Sets.{count_below}
+use Rattle.thp_model.specs.Underused.{is_partly_mapped}
+use Rattle.thp_page.specs.declared.standing.Standing.{Standing}
+use Rattle.thp_page.specs.declared.standing.Standing.TheVariants as at
+use Rattle.thp_live_pages.specs.Homes.{standing_of}
+use Rattle.thp_metrics.specs.declared.pages.Pages.{Pages}
+use Rattle.thp_metrics.specs.declared.stage.Stage.{Stage}
+use Rattle.thp_metrics.specs.declared.stage.Stage.TheVariants.{Allocated, PartlyMapped, Queued, InBatch, Split}
+
+-- the stage, given whether the page was split, its list, and whether it is partly mapped
+abbrev pub stage_by : Bool → Standing → Bool → Stage
+stage_by true standing partly = Split
+stage_by false (at.Batch c) partly = InBatch
+stage_by false at.Queued partly = Queued
+stage_by false at.Nowhere true = PartlyMapped
+stage_by false at.Nowhere false = Allocated
+
+-- the stage of page p; none if the page is not live
+abbrev pub stage_of : Shape → History → ℕ → Option Stage
+stage_of s h p =
+    if is_live h p
+    then Some (stage_by (is_split h p) (standing_of s h p) (is_partly_mapped s h p))
+    else None
+
+abbrev pub rank : Stage → ℕ
+rank Allocated = 0
+rank PartlyMapped = 1
+rank Queued = 2
+rank InBatch = 3
+rank Split = 4
+
+-- it is this stage
+abbrev pub is_stage : Stage → Option Stage → Bool
+is_stage x None = false
+is_stage x (Some y) = nat_eq (rank x) (rank y)
+
+-- the number of pages in this stage
+abbrev pub pages_in : Shape → History → Stage → ℕ
+pages_in s h x = count_below (allocations h) (λ p. is_stage x (stage_of s h p))
+
+abbrev pub pages_at : Shape → History → Pages
+pages_at s h = record {
+  allocated = pages_in s h Allocated;
+  partly_mapped = pages_in s h PartlyMapped;
+  queued = pages_in s h Queued;
+  in_batch = pages_in s h InBatch;
+  split = pages_in s h Split;
+}
+
+-- the number of pages whose individual stages are recorded
+abbrev pub shown_pages : ℕ
+shown_pages = 60
+
+-- the stages of the first pages allocated
+abbrev pub stages_at : Shape → History → List (Option Stage)
+stages_at s h = map (stage_of s h) (range_with_len 0 shown_pages)

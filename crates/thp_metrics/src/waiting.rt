@@ -1,0 +1,121 @@
+//! The pages that wait for a split, in the queue or in a batch, event by event.
+ghost use Rattle.std.specs.Prelude.{◌≡◌, ◌<◌, ◌+◌, ◌^◌, ℕ, [], ◌∷◌, ◌++◌, length, IfOk, Contains};
+ghost use Rattle.std.specs.Option.{option_and_then};
+ghost use Rattle.thp_model.specs.Legal.{Fits};
+ghost use Rattle.thp_journal_writer.specs.EventLines.{event_page};
+ghost use Rattle.thp_check.specs.Replays.{with_event};
+ghost use Rattle.thp_metrics.specs.Finding.{stuck_among};
+ghost use Rattle.thp_metrics.specs.Spots.{home};
+ghost use Rattle.thp_metrics.specs.Stuck.{AreStuck};
+ghost use Rattle.thp_metrics.specs.Waits.{longest_wait};
+
+use crate::arrivals::Arrivals;
+use crate::finds::PinCounts;
+use crate::stuck_page::StuckPage;
+use std::alloc::{AllocError, Global};
+use std::marker::Model;
+use thp_live_pages::EventTrace;
+use thp_model::{Event, Shape};
+
+/// The pages of a node that wait, in the queue or in a batch, with the events since which they wait.
+///
+/// Contracts see the node's shape and the events so far.
+#[derive(Drop)]
+pub struct Waiting {
+    shape: Shape,
+    // the number of events
+    events: u64,
+    arrivals: Arrivals,
+    finds: PinCounts,
+    // has no bytes
+    past: EventTrace,
+}
+
+impl Model for Waiting {
+    ghost use Rattle.thp_check.specs.Replays.{Replayed};
+    ghost use Rattle.thp_metrics.specs.Arrivals.{KeepsWaits};
+    ghost use Rattle.thp_metrics.specs.Finding.{KeepsFinds};
+
+    ghost Value = { Replayed };
+
+    ghost view = { λ w. record { shape = w.shape; history = w.past } };
+
+    ghost invariant = { λ w. KeepsWaits w.shape w.past w.events w.arrivals × KeepsFinds w.shape w.past w.finds };
+}
+
+impl Waiting {
+    // A node without events, of this shape. Allocates all memory that its pages will need.
+    pub(crate) fn new(alloc: Global, shape: Shape) -> Result<Waiting, AllocError>
+        ensures shape { IfOk result (λ w. w.shape ≡ shape) }
+        ensures none { IfOk result (λ w. w.history ≡ []) }
+    {
+        Ok(Waiting {
+            shape,
+            events: 0,
+            arrivals: Arrivals::new(alloc, shape.blocks)?,
+            finds: PinCounts::new(alloc, shape.blocks)?,
+            past: EventTrace::new(),
+        })
+    }
+
+    // Adds an event. Its page waited in block `before`, and waits in block `after` afterwards, if these are given.
+    pub(crate) fn follow(&mut self, event: &Event, before: Option<u32>, after: Option<u32>)
+        requires room { length self.old.history + 1 < 2 ^ 64 }
+        requires fits { Fits self.old.shape self.old.history event.now }
+        requires before { before ≡ option_and_then (home self.old.shape self.old.history) (event_page event.now.what) }
+        requires after { after ≡ option_and_then (home self.old.shape (self.old.history ++ event.now ∷ [])) (event_page event.now.what) }
+        ensures { self.new ≡ with_event self.old event.now }
+    {
+        self.events += 1;
+        self.finds.note(&event.what, after);
+        match (before, after) {
+            (None, Some(block)) => self.arrivals.come(block, self.events),
+            (Some(block), None) => self.arrivals.go(block),
+            (None, None) => {}
+            (Some(_), Some(_)) => {}
+        }
+        self.past.push(event);
+    }
+
+    // The number of events for which the longest waiting page has waited; 0 if none waits.
+    pub(crate) fn longest(&self) -> u64
+        ensures { result ≡ longest_wait self.now.shape self.now.history }
+    {
+        match self.arrivals.first() {
+            Some(event) => self.events - event + 1,
+            None => 0,
+        }
+    }
+
+    /// Returns the pages that wait and were found pinned, those that have waited longest first.
+    pub fn stuck(&self, alloc: Global) -> Result<Vec<StuckPage>, AllocError>
+        ensures { IfOk result (λ pages. AreStuck self.now.shape self.now.history pages.items) }
+    {
+        let blocks = self.arrivals.blocks(alloc)?;
+        stuck_among(&self.finds, &self.arrivals, alloc, &blocks)
+    }
+}
+
+// The pages of these blocks that were found pinned, in the same order.
+fn stuck_among(
+    finds: &PinCounts,
+    arrivals: &Arrivals,
+    alloc: Global,
+    blocks: &[u32],
+) -> Result<Vec<StuckPage>, AllocError>
+    requires { (b : ℕ) → Contains blocks.now b → (b < length finds.now) × (b < length arrivals.now.since) }
+    ensures { IfOk result (λ pages. pages.items ≡ stuck_among finds.now arrivals.now blocks.now) }
+{
+    let mut pages = Vec::new(alloc);
+    for block in blocks {
+        let found = finds.at(*block);
+        if found.finds > 0 {
+            pages.push(StuckPage {
+                page: found.page,
+                finds: found.finds,
+                since: arrivals.since(*block),
+            })?;
+        }
+    }
+    Ok(pages)
+}

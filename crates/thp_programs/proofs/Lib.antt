@@ -1,8 +1,0 @@
-pub mod CallLaws
-pub mod DeviceLaws
-pub mod PassageLaws
-pub mod OutcomeLaws
-pub mod OptionLaws
-pub mod ChainLaws
-pub mod CommandLineLaws
-pub mod LineLaws

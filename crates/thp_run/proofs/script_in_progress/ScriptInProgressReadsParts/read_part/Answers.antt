@@ -1,0 +1,15 @@
+use Rattle.std.proofs.Common.{◌∙◌, ◌++◌, subst, sym}
+use Rattle.thp_worker.specs.InParts.{DidFirst}
+use Rattle.thp_worker.specs.Passes.{fronts_in}
+use Rattle.thp_script.specs.Parts.{setup_of}
+use Rattle.thp_run.proofs.script_in_progress.ScriptInProgressReadsParts.read_part.Goals as goal
+
+pub returns-clause-read : goal.returns-clause-read
+returns-clause-read g c = record {
+  commands = setup_of c.in_ok-script.script.sections;
+  text = λ more. sym (c.in_ok-script.ensures.text more) ∙ c.drop_setup.ensures.text more;
+  settings = c.drop_setup.ensures.settings ∙ c.in_ok-script.ensures.settings;
+  goes = c.do_commands.ensures.goes;
+  did = λ first before d. subst (λ cs. DidFirst 0 first (fronts_in c.do_commands.new.steps) (before ++ cs) c.in_ok-setup.setup) c.setup-2.ensures.commands (c.in_ok-setup.ensures.did first before d);
+  answers = c.in_ok-setup.ensures.answers;
+}

@@ -1,7 +1,0 @@
-use Rattle.thp_run.proofs.BegunLaws.{is_underway}
-use Rattle.thp_run.proofs.underway.Underway.new.Goals as goal
-
-pub invariant_of-result : goal.invariant_of-result
-invariant_of-result g c = record {
-  ready = is_underway c.args.settings.now c.args.cells.now c.args.passes.items c.in_ok-passes.passes c.in_ok-passes.setup c.in_ok-script.script c.in_ok-passes.ensures.begun c.in_ok-script.ensures.settings;
-}

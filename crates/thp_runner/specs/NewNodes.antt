@@ -1,0 +1,32 @@
+-- The nodes of a run, as the settings describe them.
+use Rattle.std.specs.Prelude.{◌≡◌, ℕ, List, [], Option, Some, None, length, slice_get, slice_index_or}
+use Rattle.thp_model.specs.declared.shape.Shape.{Shape}
+use Rattle.thp_model.specs.Limits.{max_order}
+use Rattle.thp_model.specs.History.{History}
+use Rattle.thp_node.specs.NodeState.{NodeState}
+use Rattle.thp_script.specs.declared.settings.Settings.{Settings}
+
+-- each node has the blocks that the settings give, its own order, and its own threshold of underused pages, if it has one
+abbrev pub shape_of : Settings → ℕ → Shape
+shape_of s n = record { blocks = s.blocks; order = slice_index_or s.orders n max_order; underused = slice_index_or s.underused n None }
+
+-- the journal of a node; empty if there is none
+abbrev pub journal_in : Option NodeState → History
+journal_in (Some node) = node.journal
+journal_in None = []
+
+abbrev pub histories_of : List NodeState → ℕ → History
+histories_of nodes n = journal_in (slice_get nodes n)
+
+-- the shape of a node
+abbrev pub shape_in : Option NodeState → Shape
+shape_in (Some node) = node.shape
+shape_in None = record { blocks = 0; order = 0; underused = None }
+
+abbrev pub shapes_of : List NodeState → ℕ → Shape
+shapes_of nodes n = shape_in (slice_get nodes n)
+
+-- the nodes are those that the settings describe
+pub record AreNodesFor (s : Settings) (nodes : List NodeState) : Type 0 where
+  pub count : length nodes ≡ s.nodes
+  pub shapes : (n : ℕ) (node : NodeState) → slice_get nodes n ≡ Some node → node.shape ≡ shape_of s n

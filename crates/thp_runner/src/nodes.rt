@@ -1,0 +1,56 @@
+//! The nodes of a run.
+ghost use Rattle.std.specs.Prelude.{◌≡◌, ◌<◌, [], All, IfOk};
+ghost use Rattle.thp_node.specs.NodeState.{NodeState};
+ghost use Rattle.thp_runner.specs.NewNodes.{shape_of, AreNodesFor};
+
+use std::alloc::{AllocError, Global};
+use thp_model::Shape;
+use thp_node::{NewFault, Node, Recorder};
+use thp_script::Settings;
+
+/// Creates the nodes that the settings describe. Each has room for `events` events from the start, if memory for that can be
+/// allocated; otherwise its journal grows as needed.
+pub(crate) fn new_nodes<R: Recorder>(
+    alloc: Global,
+    settings: &Settings,
+    events: u32,
+) -> Result<Vec<Node<R>>, AllocError>
+    ensures shapes { IfOk result (λ r. AreNodesFor settings.now r.items) }
+    ensures new { IfOk result (λ r. All (λ (node : NodeState). node.journal ≡ []) r.items) }
+{
+    let mut nodes = Vec::new(alloc);
+    for index in 0..settings.nodes {
+        let mut node = new_node(alloc, settings, index)?;
+        make_room(&mut node, events);
+        nodes.push(node)?;
+    }
+    Ok(nodes)
+}
+
+/// Creates the node of this number. The settings are within the limits of nodes, so this fails only for lack of memory.
+fn new_node<R: Recorder>(
+    alloc: Global,
+    settings: &Settings,
+    index: u32,
+) -> Result<Node<R>, AllocError>
+    requires { index < settings.now.nodes }
+    ensures shape { IfOk result (λ node. node.shape ≡ shape_of settings.now index) }
+    ensures new { IfOk result (λ node. node.journal ≡ []) }
+{
+    let shape = Shape {
+        blocks: settings.blocks,
+        order: settings.orders[index as usize],
+        underused: settings.underused[index as usize],
+    };
+    match Node::with_recorder(alloc, shape) {
+        Ok(node) => Ok(node),
+        Err(NewFault::BadSize | NewFault::OutOfMemory) => Err(AllocError),
+    }
+}
+
+/// Reserves room for `events` events, if that is possible. Otherwise the node allocates memory when it records them.
+fn make_room<R: Recorder>(node: &mut Node<R>, events: u32)
+    ensures { node.new ≡ record node.old { room = node.new.room } }
+{
+    let _ = node.reserve(events);
+}

@@ -1,0 +1,13 @@
+pub mod PieceLaws
+pub mod TextLaws
+pub mod NumberLaws
+pub mod LineLaws
+pub mod GrammarLaws
+pub mod SectionLaws
+pub mod ScriptLaws
+pub mod ThresholdLaws
+pub mod ListLaws
+pub mod PartLaws
+pub mod FastParsingLaws
+pub mod PartReadLaws
+pub mod SetupLaws

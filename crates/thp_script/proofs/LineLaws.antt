@@ -1,0 +1,110 @@
+-- Lines of plain words: those whose words all read as something are printable and have no empty word.
+use Rattle.std.proofs.Common.{◌≡◌, ◌⊎◌, ◌==◌, ◌<◌, ◌≤◌, ℕ, Bool, true, false, cond, List, [], ◌∷◌, length, Option, Some, None, Result, Ok, Err, arith, ap, subst, refl, sym, inl, inr}
+use Rattle.std.specs.Prelude.{All, nat_le, ok_or}
+use Rattle.std.specs.Char.{is_ascii_digit}
+use Rattle.std.specs.List.{list_all, list_any, onto_first}
+use Rattle.std.specs.Result.{result_unwrap_or}
+use Rattle.std.specs.Str.{bytes_eq}
+use Rattle.std.specs.Str.Parse.{digits_value}
+use Rattle.std.proofs.lemmas.Bool.{and_from, and_parts, le-leb, leb-true, eqb-true, ne_eqb}
+use Rattle.std.proofs.lemmas.List.Elements.{All-cons, All-head, All-nil, All-tail}
+use Rattle.std.proofs.lemmas.Option.{cond_some}
+use Rattle.std.proofs.lemmas.Slice.Eq.{bytes_eq-Decides}
+use Rattle.thp_script.specs.declared.fault.TextKind.{TextKind}
+use Rattle.thp_script.specs.declared.fault.TextKind.TheVariants.{BadNumber}
+use Rattle.thp_script.specs.Commands.{number_up_to}
+use Rattle.thp_script.specs.Lines.{is_empty, is_printable}
+use Rattle.thp_script.specs.Readings.{◌>>=◌}
+use Rattle.thp_script.specs.Words.{Text, number_of, words_of}
+use Rattle.thp_script.proofs.NumberLaws.{numeral_parts}
+use Rattle.thp_script.proofs.PieceLaws.{has_first}
+
+-- a word of printable characters, one at least
+pub record IsPlain (word : Text) : Type 0 where
+  pub printable : list_all is_printable word ≡ true
+  pub some : is_empty word ≡ false
+
+pub one_plain : (a : Text) → IsPlain a → All IsPlain (a ∷ [])
+one_plain a h = All-cons IsPlain a [] h (All-nil IsPlain)
+
+-- ---- readings that succeed
+
+pub bind_ok : {A B : Type 0} (r : Result A TextKind) (f : A → Result B TextKind) (y : B) → (r >>= f) ≡ Ok y → (x : A) × (r ≡ Ok x) × (f x ≡ Ok y)
+bind_ok (Ok x) f y e = (x, refl, e)
+bind_ok (Err kind) f y e = absurd cc
+
+-- what is read, where nothing is at fault
+abbrev pub read : {A : Type 0} → A → Result A TextKind
+read x = Ok x
+
+pub ok_value : {A : Type 0} (x y : A) → read x ≡ read y → x ≡ y
+ok_value x y e = ap (λ r. result_unwrap_or r x) e
+
+-- the word is this one and its reading counts, or the others do
+pub word_cases : {A : Type 0} (name word : Text) (reading others : Result A TextKind) (x : A) → cond (bytes_eq name word) reading others ≡ Ok x → ((name ≡ word) × (reading ≡ Ok x)) ⊎ (others ≡ Ok x)
+word_cases {A} name word reading others x e = go (bytes_eq name word) refl e
+  where
+    go : (b : Bool) → bytes_eq name word ≡ b → cond b reading others ≡ Ok x → ((name ≡ word) × (reading ≡ Ok x)) ⊎ (others ≡ Ok x)
+    go true is e = inl ((bytes_eq-Decides name word).0 is, e)
+    go false is e = inr e
+
+pub plain_word : (name word : Text) → name ≡ word → IsPlain word → IsPlain name
+plain_word name word is plain = subst (λ w. IsPlain w) (sym is) plain
+
+-- ---- numbers
+
+digit_printable : (b : ℕ) → is_ascii_digit b ≡ true → is_printable b ≡ true
+digit_printable b digit =
+    let p = and_parts (nat_le 48 b) (nat_le b 57) digit in
+    let low : 48 ≤ b = leb-true 48 b p.0 in
+    let high : b ≤ 57 = leb-true b 57 p.1 in
+    and_from (nat_le 32 b) (nat_le b 126) (le-leb 32 b (omega arith)) (le-leb b 126 (omega arith))
+
+digits_printable : (word : Text) → list_all is_ascii_digit word ≡ true → list_all is_printable word ≡ true
+digits_printable [] digits = refl
+digits_printable (b ∷ word) digits =
+    let p = and_parts (is_ascii_digit b) (list_all is_ascii_digit word) digits in
+    and_from (is_printable b) (list_all is_printable word) (digit_printable b p.0) (digits_printable word p.1)
+
+not_empty : (word : Text) → 0 < length word → is_empty word ≡ false
+not_empty word some = ne_eqb (length word) 0 (λ e. absurd (omega arith))
+
+some_of_ok : (o : Option ℕ) (n : ℕ) → ok_or o BadNumber ≡ Ok n → o ≡ Some n
+some_of_ok None n e = absurd cc
+some_of_ok (Some m) n e = ap (λ (k : ℕ). Some k) (ok_value m n e)
+
+-- a word that is read as a number is plain, and the number is within its bound
+pub number_read : (most n : ℕ) (word : Text) → number_up_to most word ≡ Ok n → IsPlain word × (n ≤ most)
+unfolding number_of
+number_read most n word e =
+    let t = cond_some _ _ _ (some_of_ok (number_of most word) n e) in
+    let p = and_parts _ _ t.0 in
+    let parts = numeral_parts word p.0 in
+    let below : digits_value 10 word ≤ most = leb-true _ _ p.1 in
+    let is : digits_value 10 word ≡ n = t.1 in
+    (record { printable = digits_printable word parts.all_digits; some = not_empty word parts.nonempty }, omega arith)
+
+-- ---- what plain words say of the line
+
+pub none_empty : (words : List Text) → All IsPlain words → list_any is_empty words ≡ false
+none_empty [] plain = refl
+none_empty (word ∷ words) plain = rw ((All-head IsPlain word words plain).some, none_empty words (All-tail IsPlain word words plain)) refl
+
+pub pieces_printable : (line : Text) → All IsPlain (words_of line) → list_all is_printable line ≡ true
+pieces_printable line plain = go line (λ k d lt. (plain k d lt).printable)
+  where
+    go : (text : Text) → All (λ (w : Text). list_all is_printable w ≡ true) (words_of text) → list_all is_printable text ≡ true
+    go [] all = refl
+    go (b ∷ text) all = by (b == 32) refl (has_first 32 text) (go text) all
+      where
+        by : (t : Bool) → (b == 32) ≡ t → (f : (first : Text) × (others : List Text) × (words_of text ≡ first ∷ others)) → (All (λ (w : Text). list_all is_printable w ≡ true) (words_of text) → list_all is_printable text ≡ true)
+            → All (λ (w : Text). list_all is_printable w ≡ true) (cond t ([] ∷ words_of text) (onto_first b (words_of text))) → list_all is_printable (b ∷ text) ≡ true
+        by true is f rest all =
+            let space : b ≡ 32 = eqb-true b 32 is in
+            and_from (is_printable b) (list_all is_printable text) (rw space refl) (rest (All-tail (λ (w : Text). list_all is_printable w ≡ true) [] (words_of text) all))
+        by false is f rest all =
+            let own : All (λ (w : Text). list_all is_printable w ≡ true) ((b ∷ f.0) ∷ f.1) = subst (λ (ws : List Text). All (λ (w : Text). list_all is_printable w ≡ true) (onto_first b ws)) f.2 all in
+            let p = and_parts (is_printable b) (list_all is_printable f.0) (All-head (λ (w : Text). list_all is_printable w ≡ true) (b ∷ f.0) f.1 own) in
+            and_from (is_printable b) (list_all is_printable text) p.0
+            (rest (subst (λ (ws : List Text). All (λ (w : Text). list_all is_printable w ≡ true) ws) (sym f.2)
+            (All-cons (λ (w : Text). list_all is_printable w ≡ true) f.0 f.1 p.1 (All-tail (λ (w : Text). list_all is_printable w ≡ true) (b ∷ f.0) f.1 own))))

@@ -1,0 +1,42 @@
+-- The pieces of a text, taken off one by one.
+use Rattle.std.proofs.Common.{◌≡◌, ◌==◌, ℕ, ◌+◌, ◌≤◌, Bool, true, false, cond, not, List, [], ◌∷◌, length, take, drop, Some, None, refl, arith}
+use Rattle.std.specs.Prelude.{position}
+use Rattle.std.specs.List.{onto_first, position_or_len}
+use Rattle.std.proofs.lemmas.Bool.{ltb-true, ltb-false, not-true}
+use Rattle.std.proofs.lemmas.List.Splits.{slice_split_first, slice_split_none}
+use Rattle.std.proofs.lemmas.List.Sums.{prefix_len_passes}
+use Rattle.std.proofs.lemmas.Option.{cond_some}
+use Rattle.thp_script.specs.Words.{Text, pieces_at}
+
+none_of_cond : (b : Bool) (i : ℕ) → cond b (Some i) None ≡ None → b ≡ false
+none_of_cond true i e = absurd cc
+none_of_cond false i e = refl
+
+-- a text without the separator is one piece
+pub one_piece : (c : ℕ) (text : Text) → position (λ b. b == c) text ≡ None → pieces_at c text ≡ text ∷ []
+one_piece c text nowhere =
+    let all-passed : length text ≤ position_or_len (λ b. b == c) text = ltb-false _ _ (none_of_cond _ _ nowhere) in
+    slice_split_none (λ b. b == c) text (λ k d lt. not-true _ (prefix_len_passes (λ x. not (x == c)) text k d (omega arith)))
+
+-- the first piece ends at the first separator, and the others are those of what follows
+pub first_piece : (c : ℕ) (text : Text) (place : ℕ) → position (λ b. b == c) text ≡ Some place → pieces_at c text ≡ take place text ∷ pieces_at c (drop (place + 1) text)
+first_piece c text place found =
+    let at = cond_some _ _ _ found in
+    let is-place : position_or_len (λ b. b == c) text ≡ place = at.1 in
+    rw (slice_split_first (λ b. b == c) text 0 (ltb-true _ _ at.0), is-place) refl
+
+-- a text has a first piece
+abbrev pub HasFirst : List Text → Type 0
+HasFirst pieces = (first : Text) × (others : List Text) × (pieces ≡ first ∷ others)
+
+first_of_onto : (b : ℕ) (pieces : List Text) → HasFirst (onto_first b pieces)
+first_of_onto b [] = (b ∷ [], [], refl)
+first_of_onto b (piece ∷ pieces) = (b ∷ piece, pieces, refl)
+
+first_of_cond : (t : Bool) (b : ℕ) (pieces : List Text) → HasFirst (cond t ([] ∷ pieces) (onto_first b pieces))
+first_of_cond true b pieces = ([], pieces, refl)
+first_of_cond false b pieces = first_of_onto b pieces
+
+pub has_first : (c : ℕ) (text : Text) → HasFirst (pieces_at c text)
+has_first c [] = ([], [], refl)
+has_first c (b ∷ text) = first_of_cond _ b (pieces_at c text)

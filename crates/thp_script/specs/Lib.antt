@@ -1,0 +1,16 @@
+pub mod Limits
+pub mod Settings
+pub mod Words
+pub mod Lines
+pub mod NumberLists
+pub mod TextKinds
+pub mod Readings
+pub mod PageCommands
+pub mod Commands
+pub mod Operands
+pub mod Statements
+pub mod Scripts
+pub mod TextInParts
+pub mod Parts
+pub mod FastWords
+pub mod FastParsing

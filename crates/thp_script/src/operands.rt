@@ -1,0 +1,140 @@
+//! Parses commands from the words of a line.
+ghost use Rattle.std.specs.Prelude.{◌≡◌, ◌≤◌, ◌<◌, Err, IfErr, IfOk, Ok};
+ghost use Rattle.thp_script.specs.Commands.{batch_command, command_of, four_words, node_command, node_number, number_up_to, page_command, range_command};
+ghost use Rattle.thp_script.specs.Operands.{batch_op, call_on};
+ghost use Rattle.thp_script.specs.PageCommands.{op_on};
+
+use crate::fault::TextKind;
+use crate::script::{BatchCall, Command, CommandWord, Op, RangeCall, command_word};
+use crate::settings::Settings;
+use crate::words::{Words, number};
+use thp_model::{MAX_BATCH, PageCall};
+
+#[inline(always)]
+pub(crate) fn number_up_to(most: u64, word: &[u8]) -> Result<u64, TextKind>
+    ensures value { result ≡ number_up_to most word.now }
+    ensures bound { IfOk result (λ n. n ≤ most) }
+{
+    number(most, word).ok_or(TextKind::BadNumber)
+}
+
+#[inline(always)]
+fn small_number_up_to(most: u16, word: &[u8]) -> Result<u16, TextKind>
+    ensures value { result ≡ number_up_to most word.now }
+    ensures bound { IfOk result (λ n. n ≤ most) }
+{
+    let value = number_up_to(u64::from(most), word)?;
+    Ok(value as u16)
+}
+
+#[inline(always)]
+fn node_number(settings: &Settings, word: &[u8]) -> Result<u32, TextKind>
+    ensures { result ≡ node_number settings.now word.now }
+{
+    let node = number_up_to(u64::from(settings.nodes - 1), word)?;
+    Ok(node as u32)
+}
+
+/// Parses a command on a whole node: `NODE`
+#[tactic(auto, unfolding(crate::specs::Commands::node_command))]
+#[inline(always)]
+fn node_command(settings: &Settings, op: Op, mut words: Words) -> Result<Command, TextKind>
+    ensures { result ≡ node_command op settings.now words.entry }
+{
+    let (Some(node), None) = (words.next(), words.next()) else {
+        return Err(TextKind::BadCount);
+    };
+    Ok(Command {
+        node: node_number(settings, node)?,
+        op,
+    })
+}
+
+/// Parses a command on a page: `NODE PAGE`
+#[tactic(auto, unfolding(crate::specs::Commands::page_command))]
+#[inline(always)]
+fn page_command(settings: &Settings, call: PageCall, mut words: Words) -> Result<Command, TextKind>
+    ensures { result ≡ page_command (λ page. op_on page call) settings.now words.entry }
+{
+    let (Some(node), Some(page), None) = (words.next(), words.next(), words.next()) else {
+        return Err(TextKind::BadCount);
+    };
+    let node = node_number(settings, node)?;
+    let page = number_up_to(u64::MAX, page)?;
+    Ok(Command {
+        node,
+        op: Op::on_page(page, call),
+    })
+}
+
+/// Returns the four words, if there are exactly four.
+#[inline(always)]
+fn four_words<'w>(
+    mut words: Words<'w>,
+) -> Result<(&'w [u8], &'w [u8], &'w [u8], &'w [u8]), TextKind>
+    ensures words { IfOk result (λ word. four_words words.entry ≡ Ok (word.0.now, word.1.now, word.2.now, word.3.now)) }
+    ensures fault { IfErr result (λ fault. four_words words.entry ≡ Err fault) }
+{
+    let first = words.next().ok_or(TextKind::BadCount)?;
+    let second = words.next().ok_or(TextKind::BadCount)?;
+    let third = words.next().ok_or(TextKind::BadCount)?;
+    let fourth = words.next().ok_or(TextKind::BadCount)?;
+    match words.next() {
+        None => Ok((first, second, third, fourth)),
+        Some(_) => Err(TextKind::BadCount),
+    }
+}
+
+/// Parses a command on a range of a page's subpages: `NODE PAGE FIRST COUNT`
+#[tactic(auto, unfolding(crate::specs::Commands::range_command))]
+#[inline(always)]
+fn range_command(settings: &Settings, call: RangeCall, words: Words) -> Result<Command, TextKind>
+    ensures { result ≡ range_command (λ page first count. op_on page (call_on call first count)) settings.now words.entry }
+{
+    let (node, page, first, count) = four_words(words)?;
+    let node = node_number(settings, node)?;
+    let page = number_up_to(u64::MAX, page)?;
+    let first = small_number_up_to(u16::MAX, first)?;
+    let count = small_number_up_to(u16::MAX, count)?;
+    Ok(Command {
+        node,
+        op: Op::on_page(page, call.on(first, count)),
+    })
+}
+
+/// Parses a scan or a take: `NODE COUNT`
+#[tactic(auto, unfolding(crate::specs::Commands::batch_command))]
+#[inline(always)]
+fn batch_command(
+    settings: &Settings,
+    call: BatchCall,
+    mut words: Words,
+) -> Result<Command, TextKind>
+    ensures { result ≡ batch_command (batch_op call) settings.now words.entry }
+{
+    let (Some(node), Some(count), None) = (words.next(), words.next(), words.next()) else {
+        return Err(TextKind::BadCount);
+    };
+    let node = node_number(settings, node)?;
+    let count = small_number_up_to(MAX_BATCH as u16, count)?;
+    Ok(Command {
+        node,
+        op: call.op(count),
+    })
+}
+
+/// Parses the command that the first word names, with its operands.
+pub(crate) fn command_of(
+    settings: &Settings,
+    name: &[u8],
+    words: Words,
+) -> Result<Command, TextKind>
+    ensures { result ≡ command_of settings.now name.now words.entry }
+{
+    match command_word(name)? {
+        CommandWord::OfNode(op) => node_command(settings, op, words),
+        CommandWord::OfPage(call) => page_command(settings, call, words),
+        CommandWord::OfRange(call) => range_command(settings, call, words),
+        CommandWord::OfBatch(call) => batch_command(settings, call, words),
+    }
+}

@@ -1,0 +1,316 @@
+//! Scripts as values, and the words of their commands.
+ghost use Rattle.std.specs.Prelude.{◌≡◌, IfSome, Some};
+ghost use Rattle.thp_script.specs.FastParsing.{FastCommand};
+ghost use Rattle.thp_script.specs.Operands.{batch_op, call_on, Names};
+ghost use Rattle.thp_script.specs.PageCommands.{op_on, page_call_of};
+
+use crate::fast_parsing::parse_operands_fast;
+use crate::fast_words::after_name;
+use crate::fault::TextKind;
+use crate::sequence::Sequence;
+use crate::settings::Settings;
+use thp_model::{Gain, Loss, PageCall};
+
+/// A call on a node, with its operands.
+#[derive(Clone, Copy, Debug, PartialEq, Eq)]
+pub enum Op {
+    /// Allocates a page.
+    Alloc,
+    /// Maps the whole page once more, by a PMD entry.
+    MapWhole { page: u64 },
+    /// Removes one mapping of the whole page.
+    UnmapWhole { page: u64 },
+    /// Maps `count` subpages of a page once more by PTE entries, from subpage `first` on.
+    Map { first: u16, count: u16, page: u64 },
+    /// Removes one PTE mapping of each of `count` subpages of a page, from subpage `first` on.
+    Unmap { first: u16, count: u16, page: u64 },
+    /// Writes data to `count` subpages of a page, from subpage `first` on: they are not zero-filled afterwards.
+    Write { first: u16, count: u16, page: u64 },
+    /// Writes zeros to `count` subpages of a page, from subpage `first` on.
+    Zero { first: u16, count: u16, page: u64 },
+    /// Splits the PMD mapping of a page.
+    SplitPmd { page: u64 },
+    /// Adds a pin to a page.
+    Pin { page: u64 },
+    /// Removes a pin of a page.
+    Unpin { page: u64 },
+    /// Closes the node: no page is queued or allocated afterwards.
+    Close,
+    /// Takes up to `count` pages, tries to split each, and puts back the pinned ones.
+    Scan { count: u16 },
+    /// Returns the number of queued pages.
+    Count,
+    /// Takes up to `count` of the oldest queued pages into a batch.
+    Take { count: u16 },
+    /// Tries the next page of the open batch.
+    SplitNext,
+    /// Puts back the remaining pages of the open batch.
+    PutBack,
+}
+
+impl Op {
+    /// Returns the page and the call of a command about one page; `None` for other commands.
+    #[inline(always)]
+    pub fn page_call(self) -> Option<(u64, PageCall)>
+        ensures { result ≡ page_call_of self }
+    {
+        let (page, call) = match self {
+            Op::MapWhole { page } => (page, PageCall::Gain(Gain::MapWhole)),
+            Op::UnmapWhole { page } => (page, PageCall::Loss(Loss::UnmapWhole)),
+            Op::Map { first, count, page } => {
+                (page, PageCall::Gain(Gain::MapSub { first, count }))
+            }
+            Op::Unmap { first, count, page } => {
+                (page, PageCall::Loss(Loss::UnmapSub { first, count }))
+            }
+            Op::Write { first, count, page } => {
+                (page, PageCall::Gain(Gain::Write { first, count }))
+            }
+            Op::Zero { first, count, page } => {
+                (page, PageCall::Gain(Gain::Zero { first, count }))
+            }
+            Op::SplitPmd { page } => (page, PageCall::Gain(Gain::SplitPmd)),
+            Op::Pin { page } => (page, PageCall::Gain(Gain::Pin)),
+            Op::Unpin { page } => (page, PageCall::Loss(Loss::Unpin)),
+            _ => return None,
+        };
+        Some((page, call))
+    }
+
+    /// Returns the command of a call about a page.
+    #[inline(always)]
+    pub fn on_page(page: u64, call: PageCall) -> Op
+        ensures call { page_call_of result ≡ Some (page, call) }
+        ensures made { result ≡ op_on page call }
+    {
+        match call {
+            PageCall::Gain(Gain::MapWhole) => Op::MapWhole { page },
+            PageCall::Gain(Gain::MapSub { first, count }) => Op::Map { first, count, page },
+            PageCall::Gain(Gain::SplitPmd) => Op::SplitPmd { page },
+            PageCall::Gain(Gain::Pin) => Op::Pin { page },
+            PageCall::Gain(Gain::Write { first, count }) => Op::Write { first, count, page },
+            PageCall::Gain(Gain::Zero { first, count }) => Op::Zero { first, count, page },
+            PageCall::Loss(Loss::UnmapWhole) => Op::UnmapWhole { page },
+            PageCall::Loss(Loss::UnmapSub { first, count }) => Op::Unmap { first, count, page },
+            PageCall::Loss(Loss::Unpin) => Op::Unpin { page },
+        }
+    }
+}
+
+/// The calls on a range of a page's subpages.
+#[derive(Clone, Copy)]
+pub(crate) enum RangeCall {
+    Map,
+    Unmap,
+    Write,
+    Zero,
+}
+
+impl RangeCall {
+    #[inline(always)]
+    pub(crate) fn on(self, first: u16, count: u16) -> PageCall
+        ensures { result ≡ call_on self first count }
+    {
+        match self {
+            RangeCall::Map => PageCall::Gain(Gain::MapSub { first, count }),
+            RangeCall::Unmap => PageCall::Loss(Loss::UnmapSub { first, count }),
+            RangeCall::Write => PageCall::Gain(Gain::Write { first, count }),
+            RangeCall::Zero => PageCall::Gain(Gain::Zero { first, count }),
+        }
+    }
+}
+
+/// The calls on a number of pages, at most as many as a batch holds.
+#[derive(Clone, Copy)]
+pub(crate) enum BatchCall {
+    Scan,
+    Take,
+}
+
+impl BatchCall {
+    #[inline(always)]
+    pub(crate) fn op(self, count: u16) -> Op
+        ensures { result ≡ batch_op self count }
+    {
+        match self {
+            BatchCall::Scan => Op::Scan { count },
+            BatchCall::Take => Op::Take { count },
+        }
+    }
+}
+
+/// The command that a word names, by the operands that follow it.
+#[derive(Clone, Copy)]
+pub(crate) enum CommandWord {
+    /// `NODE`
+    OfNode(Op),
+    /// `NODE PAGE`
+    OfPage(PageCall),
+    /// `NODE PAGE FIRST COUNT`
+    OfRange(RangeCall),
+    /// `NODE COUNT`
+    OfBatch(BatchCall),
+}
+
+/// Returns the command that a word names.
+#[tactic(auto, unfolding(crate::specs::Commands::command_of))]
+pub(crate) fn command_word(name: &[u8]) -> Result<CommandWord, TextKind>
+    ensures { Names name.now result }
+{
+    match name {
+        b"alloc" => Ok(CommandWord::OfNode(Op::Alloc)),
+        b"mapwhole" => Ok(CommandWord::OfPage(PageCall::Gain(Gain::MapWhole))),
+        b"unmapwhole" => Ok(CommandWord::OfPage(PageCall::Loss(Loss::UnmapWhole))),
+        b"map" => Ok(CommandWord::OfRange(RangeCall::Map)),
+        b"unmap" => Ok(CommandWord::OfRange(RangeCall::Unmap)),
+        b"splitpmd" => Ok(CommandWord::OfPage(PageCall::Gain(Gain::SplitPmd))),
+        b"pin" => Ok(CommandWord::OfPage(PageCall::Gain(Gain::Pin))),
+        b"unpin" => Ok(CommandWord::OfPage(PageCall::Loss(Loss::Unpin))),
+        b"write" => Ok(CommandWord::OfRange(RangeCall::Write)),
+        b"zero" => Ok(CommandWord::OfRange(RangeCall::Zero)),
+        b"close" => Ok(CommandWord::OfNode(Op::Close)),
+        b"scan" => Ok(CommandWord::OfBatch(BatchCall::Scan)),
+        b"count" => Ok(CommandWord::OfNode(Op::Count)),
+        b"take" => Ok(CommandWord::OfBatch(BatchCall::Take)),
+        b"splitnext" => Ok(CommandWord::OfNode(Op::SplitNext)),
+        b"putback" => Ok(CommandWord::OfNode(Op::PutBack)),
+        _ => Err(TextKind::BadWord),
+    }
+}
+
+#[inline(always)]
+fn parse_map_fast<'t>(settings: &Settings, text: &'t [u8]) -> Option<(Command, &'t [u8])>
+    ensures { IfSome result (λ read. FastCommand settings.now text.now read.0 read.1.now) }
+{
+    if let Some(operands) = after_name(b"map", text) {
+        let word = CommandWord::OfRange(RangeCall::Map);
+        return parse_operands_fast(settings, word, operands);
+    }
+    let operands = after_name(b"mapwhole", text)?;
+    parse_operands_fast(
+        settings,
+        CommandWord::OfPage(PageCall::Gain(Gain::MapWhole)),
+        operands,
+    )
+}
+
+#[inline(always)]
+fn parse_unmap_fast<'t>(settings: &Settings, text: &'t [u8]) -> Option<(Command, &'t [u8])>
+    ensures { IfSome result (λ read. FastCommand settings.now text.now read.0 read.1.now) }
+{
+    if let Some(operands) = after_name(b"unmap", text) {
+        let word = CommandWord::OfRange(RangeCall::Unmap);
+        return parse_operands_fast(settings, word, operands);
+    }
+    if let Some(operands) = after_name(b"unpin", text) {
+        let word = CommandWord::OfPage(PageCall::Loss(Loss::Unpin));
+        return parse_operands_fast(settings, word, operands);
+    }
+    let operands = after_name(b"unmapwhole", text)?;
+    parse_operands_fast(
+        settings,
+        CommandWord::OfPage(PageCall::Loss(Loss::UnmapWhole)),
+        operands,
+    )
+}
+
+#[inline(always)]
+fn parse_split_or_scan_fast<'t>(settings: &Settings, text: &'t [u8]) -> Option<(Command, &'t [u8])>
+    ensures { IfSome result (λ read. FastCommand settings.now text.now read.0 read.1.now) }
+{
+    if let Some(operands) = after_name(b"splitpmd", text) {
+        let word = CommandWord::OfPage(PageCall::Gain(Gain::SplitPmd));
+        return parse_operands_fast(settings, word, operands);
+    }
+    if let Some(operands) = after_name(b"scan", text) {
+        let word = CommandWord::OfBatch(BatchCall::Scan);
+        return parse_operands_fast(settings, word, operands);
+    }
+    let operands = after_name(b"splitnext", text)?;
+    parse_operands_fast(settings, CommandWord::OfNode(Op::SplitNext), operands)
+}
+
+#[inline(always)]
+fn parse_pin_or_put_back_fast<'t>(
+    settings: &Settings,
+    text: &'t [u8],
+) -> Option<(Command, &'t [u8])>
+    ensures { IfSome result (λ read. FastCommand settings.now text.now read.0 read.1.now) }
+{
+    if let Some(operands) = after_name(b"pin", text) {
+        let word = CommandWord::OfPage(PageCall::Gain(Gain::Pin));
+        return parse_operands_fast(settings, word, operands);
+    }
+    let operands = after_name(b"putback", text)?;
+    parse_operands_fast(settings, CommandWord::OfNode(Op::PutBack), operands)
+}
+
+#[inline(always)]
+fn parse_count_or_close_fast<'t>(settings: &Settings, text: &'t [u8]) -> Option<(Command, &'t [u8])>
+    ensures { IfSome result (λ read. FastCommand settings.now text.now read.0 read.1.now) }
+{
+    if let Some(operands) = after_name(b"count", text) {
+        let word = CommandWord::OfNode(Op::Count);
+        return parse_operands_fast(settings, word, operands);
+    }
+    let operands = after_name(b"close", text)?;
+    parse_operands_fast(settings, CommandWord::OfNode(Op::Close), operands)
+}
+
+/// Parses the command of the line that a text begins with, and returns it with the text after the line. `None` implies nothing
+/// about the line. Each word is dispatched to its operands at once, since recognising a word in one place and matching on it in
+/// another takes more instructions.
+#[inline(always)]
+pub(crate) fn parse_command_fast<'t>(
+    settings: &Settings,
+    text: &'t [u8],
+) -> Option<(Command, &'t [u8])>
+    ensures { IfSome result (λ read. FastCommand settings.now text.now read.0 read.1.now) }
+{
+    match *text.first()? {
+        b'a' => parse_operands_fast(
+            settings,
+            CommandWord::OfNode(Op::Alloc),
+            after_name(b"alloc", text)?,
+        ),
+        b'm' => parse_map_fast(settings, text),
+        b'u' => parse_unmap_fast(settings, text),
+        b's' => parse_split_or_scan_fast(settings, text),
+        b'p' => parse_pin_or_put_back_fast(settings, text),
+        b'c' => parse_count_or_close_fast(settings, text),
+        b't' => parse_operands_fast(
+            settings,
+            CommandWord::OfBatch(BatchCall::Take),
+            after_name(b"take", text)?,
+        ),
+        b'w' => parse_operands_fast(
+            settings,
+            CommandWord::OfRange(RangeCall::Write),
+            after_name(b"write", text)?,
+        ),
+        b'z' => parse_operands_fast(
+            settings,
+            CommandWord::OfRange(RangeCall::Zero),
+            after_name(b"zero", text)?,
+        ),
+        _ => None,
+    }
+}
+
+/// A call, and the node on which it is made.
+#[derive(Clone, Copy, Debug, PartialEq, Eq)]
+pub struct Command {
+    /// The number of the node, counted from 0.
+    pub node: u32,
+    /// The call.
+    pub op: Op,
+}
+
+/// The commands of a script's sections, in order.
+#[derive(Debug, Drop)]
+pub struct Script {
+    /// The commands of the section `setup`, which are executed first.
+    pub setup: Sequence<Command>,
+    /// The commands of each worker, beginning with worker 1.
+    pub workers: Sequence<Sequence<Command>>,
+}

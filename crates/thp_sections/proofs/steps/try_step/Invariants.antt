@@ -1,7 +1,0 @@
-use Rattle.std.proofs.Common.{◌≡◌}
-use Rattle.thp_sections.proofs.steps.try_step.Given as goal
-
-abbrev pub invariant-loop : goal.invariant-loop
-invariant-loop g l =
-    let fronts = g.S.Steps.fronts in
-    fronts l.steps ≡ fronts l.fn.steps

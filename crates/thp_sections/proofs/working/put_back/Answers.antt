@@ -1,8 +1,0 @@
-use Rattle.thp_sections.specs.Does.{answer_of}
-use Rattle.thp_sections.proofs.SectionLaws.{puts_back_comes}
-use Rattle.thp_sections.proofs.working.put_back.Goals as goal
-
-pub returns-clause-back : goal.returns-clause-back
-returns-clause-back g c =
-    let fronts = g.S.Steps.fronts in
-    puts_back_comes c.args.caller c.args.node (fronts c.args.steps.now) (fronts c.do_command.new.steps) c.do_command.new.begun (answer_of c.do_command.result c.do_command.new.reply) (rw c.first_begun-begun.ensures at c.do_command.ensures.proceeds)

@@ -1,0 +1,138 @@
+-- A command, step after step.
+use Rattle.std.proofs.Common.{◌≡◌, ◌++◌, ℕ, [], ◌∷◌, refl, sym, ap, ◌∙◌, subst, append_assoc, true, false, Result, Ok, Err}
+use Rattle.std.specs.Result.{IsErrAnd}
+use Rattle.std.proofs.lemmas.List.{append-nil, map-append}
+use Rattle.std.proofs.lemmas.List.Elements.{All-nil, All-push}
+use Rattle.thp_script.specs.declared.script.Command.{Command}
+use Rattle.thp_worker.specs.declared.scanning.CommandProgress.{CommandProgress}
+use Rattle.thp_cell.specs.declared.fault.CellFault.{CellFault}
+use Rattle.thp_cell.specs.declared.fault.CellFault.TheVariants.{Busy, Refused}
+use Rattle.thp_model.specs.declared.refusal.Refusal.{Refusal}
+use Rattle.thp_model.specs.declared.refusal.Refusal.TheVariants as why
+use Rattle.thp_script.specs.declared.script.Op.{Op}
+use Rattle.thp_script.specs.declared.script.Op.TheVariants as op
+use Rattle.thp_worker.specs.declared.reply.Reply.{Reply}
+use Rattle.thp_worker.specs.declared.steps.Step.{Step}
+use Rattle.thp_worker.specs.Does.{Reaction, IsFit, answer_of}
+use Rattle.thp_worker.specs.Fronts.{Fronts, HoldsCaller, Goes, SameHolding, Answered, StepDone}
+use Rattle.thp_worker.specs.Turns.{CommandState, On, Ended, Comes, by_cell, IsReady, IsShared, is_scan, next_step, goes_on, scan_goes_on}
+use Rattle.thp_worker.specs.Sections.{Made, Proceeds, told_by}
+use Rattle.thp_worker.proofs.TurnLaws.{turned, fares}
+use Rattle.thp_worker.proofs.StepLaws.{made_by, steps_none, steps_one, steps_then, moves_goes, goes_grows}
+
+-- no step yet
+pub proceeds_none : (c : ℕ) (command : Command) (begun : CommandProgress) (f : Fronts) → IsReady (f.batches c command.node) begun → Proceeds c command begun f f (On begun)
+proceeds_none c command begun f ready = record {
+  made = [];
+  steps = steps_none c f;
+  on_node = All-nil (λ (m : Made). m.node ≡ command.node);
+  turned = λ told is. rw (append-nil told) is;
+  ready = ready;
+}
+
+pub goes_by : (c n : ℕ) (begun : CommandProgress) (command : Command) (old new : Fronts) (answer : Reaction) → Answered c n (next_step command.op begun) old new answer → Goes c old new
+goes_by c n begun command old new answer a = moves_goes c n old new a.others a.own a.after a.moves
+
+-- one step more
+pub proceeds_more : (c : ℕ) (command : Command) (first begun : CommandProgress) (old mid new : Fronts) (answer : Reaction) → HoldsCaller mid c → IsFit command.op → Goes c old mid → Proceeds c command first old mid (On begun)
+    → Answered c command.node (next_step command.op begun) mid new answer → Proceeds c command first old new (goes_on command.op begun answer)
+proceeds_more c command first begun old mid new answer has fit g p a =
+    let made = made_by c command.node (next_step command.op begun) mid new answer a in
+    let fare = fares (mid.shape command.node) (mid.front command.node ++ a.others) c command.op (mid.batches c command.node) begun a.own answer a.after fit p.ready a.does in
+    record {
+      made = p.made ++ made ∷ [];
+      steps = steps_then c old mid new p.made (made ∷ []) (goes_grows c old mid g) (goes_grows c mid new (goes_by c command.node begun command mid new answer a)) p.steps (steps_one c command.node (next_step command.op begun) mid new answer a has);
+      on_node = All-push (λ (m : Made). m.node ≡ command.node) p.made made p.on_node refl;
+      turned = λ told is. rw (map-append (λ (m : Made). m.told) p.made (made ∷ []), ← append_assoc told (told_by p.made) (record { step = next_step command.op begun; answer = answer } ∷ []))
+          (turned command.op begun answer (told ++ told_by p.made) (p.turned told is) fare.0);
+      ready = rw a.moves.batch fare.1;
+    }
+
+-- a command that isn't a scan has one step
+one_ends : (o : Op) (begun : CommandProgress) (answer : Reaction) → is_scan o ≡ false → goes_on o begun answer ≡ Ended answer
+one_ends (op.Scan n) begun answer one = absurd (cc)
+one_ends _ begun answer one = refl
+
+-- a refusal ends each command
+refusal_ends : (o : Op) (begun : CommandProgress) (r : Refusal) → goes_on o begun (Err r) ≡ Ended (Err r)
+refusal_ends (op.Scan n) begun r = refl
+refusal_ends _ begun r = refl
+
+-- the steps of a scan go on as a scan does
+pub scan_goes : (o : Op) (begun : CommandProgress) (answer : Reaction) → is_scan o ≡ true → goes_on o begun answer ≡ scan_goes_on begun answer
+scan_goes (op.Scan n) begun answer is = refl
+scan_goes _ begun answer is = absurd (cc)
+
+module _ (c : ℕ) (command : Command) (first begun : CommandProgress) (old mid new : Fronts) (has : HoldsCaller mid c) (fit : IsFit command.op) (g : Goes c old mid) (p : Proceeds c command first old mid (On begun)) where
+  -- a step that was refused, that stayed busy, or for which there was no memory
+  pub fault_comes : (fault : CellFault) → StepDone c command.node (next_step command.op begun) mid new (Err fault) → Comes begun (Err fault) (Proceeds c command first old new)
+  fault_comes Busy busy = subst (λ f. Proceeds c command first old f (On begun)) (sym busy.same) p
+  fault_comes (Refused r) done = by_reason r done where
+    ended : (r : Refusal) → Answered c command.node (next_step command.op begun) mid new (Err r) → Proceeds c command first old new (Ended (Err r))
+    ended r a = subst (Proceeds c command first old new) (refusal_ends command.op begun r) (proceeds_more c command first begun old mid new (Err r) has fit g p a)
+
+    by_reason : (r : Refusal) → StepDone c command.node (next_step command.op begun) mid new (Err (Refused r)) → Comes begun (Err (Refused r)) (Proceeds c command first old new)
+    by_reason why.OutOfMemory a = tt
+    by_reason why.NoPage a = ended why.NoPage a
+    by_reason why.BadRange a = ended why.BadRange a
+    by_reason why.IsSplit a = ended why.IsSplit a
+    by_reason why.NotMapped a = ended why.NotMapped a
+    by_reason why.Gone a = ended why.Gone a
+    by_reason why.NotPinned a = ended why.NotPinned a
+    by_reason why.TooMany a = ended why.TooMany a
+    by_reason why.Closed a = ended why.Closed a
+    by_reason why.NoBlock a = ended why.NoBlock a
+    by_reason why.HasBatch a = ended why.HasBatch a
+
+  -- the one step of a command
+  pub one_comes : (result : Result Reply CellFault) → is_scan command.op ≡ false → StepDone c command.node (next_step command.op begun) mid new result → Comes begun result (Proceeds c command first old new)
+  one_comes (Ok reply) one a = subst (Proceeds c command first old new) (one_ends command.op begun (Ok reply) one) (proceeds_more c command first begun old mid new (Ok reply) has fit g p a)
+  one_comes (Err fault) one done = fault_comes fault done
+
+-- a fault that was handed on
+pub handed_on : (r : Result (Unit {0}) CellFault) (fault : CellFault) → IsErrAnd r (λ f. f ≡ fault) → r ≡ Err fault
+handed_on (Ok x) fault is = absurd is
+handed_on (Err f) fault is = ap (λ x. Err x) is
+
+-- a command is postponed where the holder hasn't all callers
+pub shared_comes : (c n : ℕ) (begun : CommandProgress) (step : Step) (old mid new : Fronts) (result : Result Reply CellFault) → SameHolding old mid → StepDone c n step mid new result → Comes begun result (IsShared old)
+shared_comes c n begun step old mid new (Ok reply) same done = tt
+shared_comes c n begun step old mid new (Err Busy) same busy = λ all. busy.shared (record { low = same.first ∙ all.low; high = same.end ∙ all.high ∙ sym same.callers })
+shared_comes c n begun step old mid new (Err (Refused r)) same done = by_reason r where
+  by_reason : (r : Refusal) → Comes begun (Err (Refused r)) (IsShared old)
+  by_reason why.OutOfMemory = tt
+  by_reason why.NoPage = tt
+  by_reason why.BadRange = tt
+  by_reason why.IsSplit = tt
+  by_reason why.NotMapped = tt
+  by_reason why.Gone = tt
+  by_reason why.NotPinned = tt
+  by_reason why.TooMany = tt
+  by_reason why.Closed = tt
+  by_reason why.NoBlock = tt
+  by_reason why.HasBatch = tt
+
+-- a refusal that isn't want of memory is the command's answer
+pub refused_comes : (begun : CommandProgress) (P : CommandState → Type 0) (r : Refusal) → (r ≡ why.OutOfMemory → ⊥) → Comes begun (Err (Refused r)) P → P (Ended (Err r))
+refused_comes begun P why.OutOfMemory not p = absurd (not refl)
+refused_comes begun P why.NoPage not p = p
+refused_comes begun P why.BadRange not p = p
+refused_comes begun P why.IsSplit not p = p
+refused_comes begun P why.NotMapped not p = p
+refused_comes begun P why.Gone not p = p
+refused_comes begun P why.NotPinned not p = p
+refused_comes begun P why.TooMany not p = p
+refused_comes begun P why.Closed not p = p
+refused_comes begun P why.NoBlock not p = p
+refused_comes begun P why.HasBatch not p = p
+
+-- what didn't stay busy and had memory is answered
+pub ended_comes : (begun : CommandProgress) (P : CommandState → Type 0) (called : Result (Unit {0}) CellFault) (reply : Reply) → (called ≡ Err Busy → ⊥) → (called ≡ Err (Refused why.OutOfMemory) → ⊥) → Comes begun (answer_of called reply) P → (answer : Reaction) × P (Ended answer)
+ended_comes begun P (Ok x) reply free room p = (Ok reply, p)
+ended_comes begun P (Err Busy) reply free room p = absurd (free refl)
+ended_comes begun P (Err (Refused r)) reply free room p = (Err r, refused_comes begun P r (λ e. room (ap (λ x. Err (Refused x)) e)) p)
+
+-- and so is what a cell answered
+pub cell_comes : (begun : CommandProgress) (P : CommandState → Type 0) (called : Result (Unit {0}) CellFault) (said : Result (Unit {0}) Refusal) (reply : Reply) → called ≡ by_cell said → (called ≡ Err (Refused why.OutOfMemory) → ⊥) → Comes begun (answer_of called reply) P → P (Ended (answer_of said reply))
+cell_comes begun P called (Ok x) reply is room p = subst (λ r. Comes begun (answer_of r reply) P) is p
+cell_comes begun P called (Err refusal) reply is room p = refused_comes begun P refusal (λ e. room (is ∙ ap (λ x. Err (Refused x)) e)) (subst (λ r. Comes begun (answer_of r reply) P) is p)

@@ -1,0 +1,131 @@
+-- Passes with their open batches, divided and joined.
+use Rattle.std.proofs.Common.{◌≡◌, ◌∙◌, ◌⊎◌, ◌++◌, ◌+◌, ◌-◌, ◌<◌, ◌≤◌, ap, ℕ, zero, suc, List, [], ◌∷◌, length, take, drop, refl, sym, inl, inr, arith, length-append, length-drop, Option, Some, None, Bool, true, false}
+use Rattle.std.specs.Prelude.{All, slice_get, nat_le}
+use Rattle.std.proofs.lemmas.List.Elements.{All-head, All-tail}
+use Rattle.std.proofs.lemmas.Bool.Decides.{nat_tests}
+use Rattle.std.proofs.lemmas.List.{length-take}
+use Rattle.std.proofs.lemmas.Option.{slice_get_within}
+use Rattle.atomic_table.specs.Seated.{TableId}
+use Rattle.thp_node.specs.Batches.{BatchState}
+use Rattle.thp_cell.specs.Calls.{BatchesStay, below, from, IsJoined}
+use Rattle.thp_cell.specs.Views.{PassState, HasCaller}
+use Rattle.thp_worker.specs.Holdings.{Held, IsHeld, OpenStay, batch_of, open_in, lower_part, upper_part}
+
+module _ {A : Type 0} where
+  slice_get-take : (xs : List A) (k i : ℕ) (x : A) → slice_get (take k xs) i ≡ Some x → slice_get xs i ≡ Some x
+  slice_get-take [] zero i x e = e
+  slice_get-take [] (suc k) i x e = e
+  slice_get-take (y ∷ xs) zero i x e = absurd (cc)
+  slice_get-take (y ∷ xs) (suc k) zero x e = e
+  slice_get-take (y ∷ xs) (suc k) (suc i) x e = slice_get-take xs k i x e
+
+  slice_get-drop : (xs : List A) (k i : ℕ) → slice_get (drop k xs) i ≡ slice_get xs (k + i)
+  slice_get-drop xs zero i = let e : 0 + i ≡ i = omega arith in rw e refl
+  slice_get-drop [] (suc k) i = refl
+  slice_get-drop (y ∷ xs) (suc k) i = let e : suc k + i ≡ suc (k + i) = omega arith in rw e (slice_get-drop xs k i)
+
+  slice_get-within_front : (xs : List A) (k i : ℕ) → i < k → slice_get (take k xs) i ≡ slice_get xs i
+  slice_get-within_front xs zero i lt = absurd (omega (arith, lt))
+  slice_get-within_front [] (suc k) i lt = refl
+  slice_get-within_front (y ∷ xs) (suc k) zero lt = refl
+  slice_get-within_front (y ∷ xs) (suc k) (suc i) lt = slice_get-within_front xs k i (omega (arith, lt))
+
+  slice_get-append_left : (xs ys : List A) (i : ℕ) → i < length xs → slice_get (xs ++ ys) i ≡ slice_get xs i
+  slice_get-append_left [] ys i lt = absurd (omega (arith, lt))
+  slice_get-append_left (y ∷ xs) ys zero lt = refl
+  slice_get-append_left (y ∷ xs) ys (suc i) lt = slice_get-append_left xs ys i (omega (arith, lt))
+
+  slice_get-append_right : (xs ys : List A) (j : ℕ) → slice_get (xs ++ ys) (length xs + j) ≡ slice_get ys j
+  slice_get-append_right [] ys j = let e : 0 + j ≡ j = omega arith in rw e refl
+  slice_get-append_right (y ∷ xs) ys j = let e : suc (length xs) + j ≡ suc (length xs + j) = omega arith in rw e (slice_get-append_right xs ys j)
+
+  slice_get-append : (xs ys : List A) (i : ℕ) (x : A) → slice_get (xs ++ ys) i ≡ Some x → (slice_get xs i ≡ Some x) ⊎ ((j : ℕ) × (i ≡ length xs + j) × (slice_get ys j ≡ Some x))
+  slice_get-append [] ys i x e = inr (i, omega arith, e)
+  slice_get-append (y ∷ xs) ys zero x e = inl e
+  slice_get-append (y ∷ xs) ys (suc i) x e = elim (slice_get-append xs ys i x e) [ inl l ↦ inl l | inr r ↦ inr (r.0, omega (arith, r.1), r.2) ]
+
+pub held_below : (cell : TableId) (p : PassState) (bs : List (Option BatchState)) (at k : ℕ) → IsHeld cell p bs → k + p.first ≡ at → at ≤ p.end → IsHeld cell (below p at) (take k bs)
+held_below cell p bs at k held is le = record {
+  cell_is = held.cell_is;
+  callers = omega (arith, length-take k bs, held.callers, is, le);
+  each = λ i b e. held.each i b (slice_get-take bs k i (Some b) e);
+}
+
+pub held_from : (cell : TableId) (p : PassState) (bs : List (Option BatchState)) (at k : ℕ) → IsHeld cell p bs → k + p.first ≡ at → at ≤ p.end → IsHeld cell (from p at) (drop k bs)
+held_from cell p bs at k held is le = record {
+  cell_is = held.cell_is;
+  callers = omega (arith, length-drop k bs, held.callers, is, le);
+  each = λ i b e. let was = held.each (k + i) b (sym (slice_get-drop bs k i) ∙ e) in (omega (arith, was.0, is), was.1);
+}
+
+pub held_joined : (cell : TableId) (p q r : PassState) (bs cs all : List (Option BatchState)) → IsHeld cell p bs → IsHeld q.cell q cs → IsJoined p q r → BatchesStay p r → BatchesStay q r → p.end ≡ q.first → all ≡ bs ++ cs → IsHeld cell r all
+held_joined cell p q r bs cs all left right j left-stay right-stay adjacent is =
+    let first : r.first ≡ p.first = ap (λ (x : PassState). x.first) j.callers in
+    let end : r.end ≡ q.end = ap (λ (x : PassState). x.end) j.callers in
+    rw is (record {
+      cell_is = ap (λ (x : PassState). x.cell) j.callers ∙ left.cell_is;
+      callers = omega (arith, first, end, length-append bs cs, left.callers, right.callers, adjacent);
+      each = λ i b e. elim (slice_get-append bs cs i (Some b) e) [
+        | inl l ↦
+            let was = left.each i b l in
+            let within = slice_get_within bs i (Some b) l in
+            let has : HasCaller p b.caller = record { from = omega (arith, was.0); below = omega (arith, was.0, left.callers, within) } in
+            (omega (arith, was.0, first), left-stay b has was.1)
+        | inr x ↦
+            let was = right.each x.0 b x.2 in
+            let within = slice_get_within cs x.0 (Some b) x.2 in
+            let has : HasCaller q b.caller = record { from = omega (arith, was.0); below = omega (arith, was.0, right.callers, within) } in
+            (omega (arith, was.0, first, x.1, left.callers, adjacent), right-stay b has was.1)
+      ];
+    })
+
+-- the open batches of the callers of both are those of the joint pass
+pub joined_left_open : (cell : TableId) (p q r : PassState) (bs cs all : List (Option BatchState)) → IsHeld cell p bs → IsJoined p q r → all ≡ bs ++ cs → OpenStay (record { pass = p; batches = bs }) (record { pass = r; batches = all })
+joined_left_open cell p q r bs cs all held j is c has =
+    let first : r.first ≡ p.first = ap (λ (x : PassState). x.first) j.callers in
+    let low : nat_le p.first c ≡ true = grind (arith, nat_tests, has.from) in
+    let lt : c - p.first < length bs = omega (arith, has.from, has.below, held.callers) in
+    rw (is, first, low, slice_get-append_left bs cs (c - p.first) lt) refl
+
+pub joined_right_open : (cell : TableId) (p q r : PassState) (bs cs all : List (Option BatchState)) → IsHeld cell p bs → IsJoined p q r → p.end ≡ q.first → all ≡ bs ++ cs → OpenStay (record { pass = q; batches = cs }) (record { pass = r; batches = all })
+joined_right_open cell p q r bs cs all held j adjacent is c has =
+    let first : r.first ≡ p.first = ap (λ (x : PassState). x.first) j.callers in
+    let le : p.first ≤ c = omega (arith, has.from, held.callers, adjacent) in
+    let low : nat_le p.first c ≡ true = grind (arith, nat_tests, le) in
+    let own : nat_le q.first c ≡ true = grind (arith, nat_tests, has.from) in
+    let at : c - p.first ≡ length bs + (c - q.first) = omega (arith, held.callers, adjacent, has.from) in
+    rw (is, first, low, own, at, slice_get-append_right bs cs (c - q.first)) refl
+
+-- and those of a part are those that were
+pub lower_open : (h : Held) (at c : ℕ) → h.pass.first ≤ c → c < at → batch_of (lower_part h at) c ≡ batch_of h c
+lower_open h at c le lt =
+    let low : nat_le h.pass.first c ≡ true = grind (arith, nat_tests, le) in
+    rw (low, slice_get-within_front h.batches (at - h.pass.first) (c - h.pass.first) (omega (arith, le, lt))) refl
+
+pub upper_open : (h : Held) (at c : ℕ) → h.pass.first < at → at ≤ c → batch_of (upper_part h at) c ≡ batch_of h c
+upper_open h at c after le =
+    let own : nat_le at c ≡ true = grind (arith, nat_tests, le) in
+    let before : h.pass.first ≤ c = omega (arith, after, le) in
+    let low : nat_le h.pass.first c ≡ true = grind (arith, nat_tests, before) in
+    let place : at - h.pass.first + (c - at) ≡ c - h.pass.first = omega (arith, after, le) in
+    rw (own, low, slice_get-drop h.batches (at - h.pass.first) (c - at), place) refl
+
+-- a pass none of whose callers has a batch open
+none_open : (bs : List (Option BatchState)) → All (λ (b : Option BatchState). b ≡ None) bs → (k : ℕ) → open_in (slice_get bs k) ≡ None
+none_open [] all k = refl
+none_open (b ∷ bs) all zero = rw (All-head (λ (x : Option BatchState). x ≡ None) b bs all) refl
+none_open (b ∷ bs) all (suc k) = none_open bs (All-tail (λ (x : Option BatchState). x ≡ None) b bs all) k
+
+pub none_held : (p : PassState) (bs : List (Option BatchState)) → All (λ (b : Option BatchState). b ≡ None) bs → (c : ℕ) → batch_of (record { pass = p; batches = bs }) c ≡ None
+none_held p bs all c = by_test (nat_le p.first c) refl
+  where
+    by_test : (t : Bool) → nat_le p.first c ≡ t → batch_of (record { pass = p; batches = bs }) c ≡ None
+    by_test true e = rw e (none_open bs all (c - p.first))
+    by_test false e = rw e refl
+
+pub held_new : (cell : TableId) (p : PassState) (bs : List (Option BatchState)) → p.cell ≡ cell → p.first + length bs ≡ p.end → All (λ (b : Option BatchState). b ≡ None) bs → IsHeld cell p bs
+held_new cell p bs is places all = record {
+  cell_is = is;
+  callers = places;
+  each = λ k b at. let e = none_open bs all k in let f = rw at at e in absurd (cc);
+}

@@ -1,0 +1,265 @@
+-- How a scan goes on from step to step.
+use Rattle.std.proofs.Common.{◌≡◌, ℕ, ◌+◌, ◌<◌, ◌≤◌, Bool, true, false, cond, List, [], ◌∷◌, ◌++◌, length, map, take, ◌==◌, refl, sym, ap, inl, inr, arith, Option, Some, None, Ok, Err, length-append}
+use Rattle.std.specs.Prelude.{All, filter, nat_eq}
+use Rattle.std.proofs.lemmas.Bool.{eq-eqb, ne_eqb}
+use Rattle.std.proofs.lemmas.List.{append-nil, map-append, length-map}
+use Rattle.std.proofs.lemmas.List.Elements.{All-nil, All-head, All-tail, All-push, filter-append}
+use Rattle.std.specs.List.{find, after_first, position_or_len}
+use Rattle.std.proofs.lemmas.List.{length-drop, length-take}
+use Rattle.std.proofs.lemmas.Bool.{eqb-true}
+use Rattle.thp_model.specs.Limits.{max_batch}
+use Rattle.thp_model.specs.declared.events.Event.{Event}
+use Rattle.thp_model.specs.declared.refusal.Refusal.{Refusal}
+use Rattle.thp_model.specs.declared.shape.Shape.{Shape}
+use Rattle.thp_model.specs.Counts.{pins}
+use Rattle.thp_model.specs.History.{History}
+use Rattle.thp_model.specs.Places.{queue}
+use Rattle.thp_model.specs.Refusals.{refusal}
+use Rattle.thp_model.specs.Refusals as call
+use Rattle.thp_model.specs.Underused.{is_worth_split}
+use Rattle.thp_model.specs.Runs.{take_events, next_page, rest_after}
+use Rattle.thp_node.specs.Batches.{tried}
+use Rattle.thp_node.specs.declared.answers.Tried.{Tried}
+use Rattle.thp_node.specs.declared.answers.Tried.TheVariants as try
+use Rattle.thp_node.specs.declared.answers.ScanReply.{ScanReply}
+use Rattle.thp_script.specs.declared.script.Op.{Op}
+use Rattle.thp_script.specs.declared.script.Op.TheVariants as op
+use Rattle.thp_worker.specs.declared.steps.Step.{Step}
+use Rattle.thp_worker.specs.declared.steps.Step.TheVariants.{Take, SplitNext, PutBack}
+use Rattle.thp_worker.specs.declared.reply.Reply.TheVariants as reply
+use Rattle.thp_worker.specs.declared.scanning.CommandProgress.{CommandProgress}
+use Rattle.thp_worker.specs.Does.{Open, Reaction, Does, Unless, IsStep, IsFit}
+use Rattle.thp_worker.specs.Turns.{CommandState, On, Ended, StepAnswer, Turned, IsProgressAfter, StepReacts, Reacts, first_step, next_step, scan_step, goes_on, scan_goes_on, no_progress, counted, took, answered_try, if_done, IsPage, is_split, is_pinned, is_used, tries_of, IsReady, StaysReady}
+
+abbrev steps_in : CommandState → ℕ
+steps_in (On begun) = begun.steps
+steps_in (Ended answer) = 0
+
+-- the first step of a scan
+first_turned : (n : ℕ) (answer : Reaction) → StepReacts (Take n) answer → Turned (op.Scan n) (record { step = Take n; answer = answer } ∷ []) (scan_goes_on no_progress answer)
+first_turned n (Err why) h = inr (record { why = why; steps = refl; answered = refl })
+first_turned n (Ok (reply.Taken t)) h = record {
+  count = refl;
+  so_far = inr (record { count = n; is_scan = refl; taken = t; tries = []; pages = All-nil IsPage; done = false; steps = refl; counts = refl });
+}
+first_turned n (Ok _) h = absurd h
+
+-- each page that was tried was split, pinned or in use
+counts_tries : (tries : List Tried) → All IsPage tries → length (filter is_split tries) + length (filter is_pinned tries) + length (filter is_used tries) ≡ length tries
+counts_tries [] all = refl
+counts_tries (try.Split p ∷ tries) all = let more = counts_tries tries (All-tail IsPage (try.Split p) tries all) in omega arith
+counts_tries (try.Pinned p ∷ tries) all = let more = counts_tries tries (All-tail IsPage (try.Pinned p) tries all) in omega arith
+counts_tries (try.Used p ∷ tries) all = let more = counts_tries tries (All-tail IsPage (try.Used p) tries all) in omega arith
+counts_tries (try.Done ∷ tries) all = absurd (All-head IsPage try.Done tries all)
+
+step_is_try : (n steps tries : ℕ) → steps ≡ 1 + tries → scan_step n steps tries ≡ SplitNext
+step_is_try n steps tries e =
+    rw (ne_eqb steps 0 (λ z. absurd (omega arith)), eq-eqb steps (1 + tries) e) refl
+
+step_is_back : (n steps tries : ℕ) → steps ≡ 2 + tries → scan_step n steps tries ≡ PutBack
+step_is_back n steps tries e =
+    rw (ne_eqb steps 0 (λ z. absurd (omega arith)), ne_eqb steps (1 + tries) (λ z. absurd (omega arith))) refl
+
+counts_push : (test : Tried → Bool) (tries : List Tried) (t : Tried) → length (filter test (tries ++ t ∷ [])) ≡ length (filter test tries) + length (filter test (t ∷ []))
+counts_push test tries t = rw (filter-append test tries (t ∷ [])) (length-append (filter test tries) (filter test (t ∷ [])))
+
+-- one try more, of a page
+page_turned : (n taken : ℕ) (tries : List Tried) (begun : CommandProgress) (told : List StepAnswer) (t : Tried) (so_far : ScanReply) → All IsPage tries → IsPage t → begun.steps ≡ length told
+    → told ≡ took n taken ∷ map answered_try tries ++ [] → so_far ≡ counted taken (tries ++ t ∷ []) → IsProgressAfter (op.Scan n) (told ++ answered_try t ∷ []) (record { steps = begun.steps + 1; so_far = so_far })
+page_turned n taken tries begun told t so_far pages page count steps counts = record {
+  count = rw (length-append told (answered_try t ∷ []), count) refl;
+  so_far = inr (record {
+    count = n;
+    is_scan = refl;
+    taken = taken;
+    tries = tries ++ t ∷ [];
+    pages = All-push IsPage tries t pages page;
+    done = false;
+    steps = rw (steps, map-append answered_try tries (t ∷ []), append-nil (map answered_try tries), append-nil (map answered_try tries ++ answered_try t ∷ [])) refl;
+    counts = counts;
+  });
+}
+
+-- a step behind some tries
+try_turned : (n taken : ℕ) (tries : List Tried) (begun : CommandProgress) (told : List StepAnswer) (answer : Reaction) → All IsPage tries → begun.steps ≡ length told → told ≡ took n taken ∷ map answered_try tries ++ []
+    → begun.so_far ≡ counted taken tries → StepReacts SplitNext answer → Turned (op.Scan n) (told ++ record { step = SplitNext; answer = answer } ∷ []) (scan_goes_on begun answer)
+try_turned n taken tries begun told (Err why) pages count steps counts h = absurd h
+try_turned n taken tries begun told (Ok (reply.Tried (try.Split p))) pages count steps counts h =
+    let splits : length (filter is_split tries) + 1 ≡ length (filter is_split (tries ++ try.Split p ∷ [])) = omega (arith, counts_push is_split tries (try.Split p)) in
+    let pins : length (filter is_pinned tries) ≡ length (filter is_pinned (tries ++ try.Split p ∷ [])) = omega (arith, counts_push is_pinned tries (try.Split p)) in
+    let uses : length (filter is_used tries) ≡ length (filter is_used (tries ++ try.Split p ∷ [])) = omega (arith, counts_push is_used tries (try.Split p)) in
+    page_turned n taken tries begun told (try.Split p) _ pages tt count steps (rw counts (λ i. record { taken = taken; split = splits i; pinned = pins i; back = 0; dropped = 0; used = uses i }))
+try_turned n taken tries begun told (Ok (reply.Tried (try.Pinned p))) pages count steps counts h =
+    let splits : length (filter is_split tries) ≡ length (filter is_split (tries ++ try.Pinned p ∷ [])) = omega (arith, counts_push is_split tries (try.Pinned p)) in
+    let pins : length (filter is_pinned tries) + 1 ≡ length (filter is_pinned (tries ++ try.Pinned p ∷ [])) = omega (arith, counts_push is_pinned tries (try.Pinned p)) in
+    let uses : length (filter is_used tries) ≡ length (filter is_used (tries ++ try.Pinned p ∷ [])) = omega (arith, counts_push is_used tries (try.Pinned p)) in
+    page_turned n taken tries begun told (try.Pinned p) _ pages tt count steps (rw counts (λ i. record { taken = taken; split = splits i; pinned = pins i; back = 0; dropped = 0; used = uses i }))
+try_turned n taken tries begun told (Ok (reply.Tried (try.Used p))) pages count steps counts h =
+    let splits : length (filter is_split tries) ≡ length (filter is_split (tries ++ try.Used p ∷ [])) = omega (arith, counts_push is_split tries (try.Used p)) in
+    let pins : length (filter is_pinned tries) ≡ length (filter is_pinned (tries ++ try.Used p ∷ [])) = omega (arith, counts_push is_pinned tries (try.Used p)) in
+    let uses : length (filter is_used tries) + 1 ≡ length (filter is_used (tries ++ try.Used p ∷ [])) = omega (arith, counts_push is_used tries (try.Used p)) in
+    page_turned n taken tries begun told (try.Used p) _ pages tt count steps (rw counts (λ i. record { taken = taken; split = splits i; pinned = pins i; back = 0; dropped = 0; used = uses i }))
+try_turned n taken tries begun told (Ok (reply.Tried try.Done)) pages count steps counts h = record {
+  count = rw (length-append told (answered_try try.Done ∷ []), count) refl;
+  so_far = inr (record {
+    count = n;
+    is_scan = refl;
+    taken = taken;
+    tries = tries;
+    pages = pages;
+    done = true;
+    steps = rw (steps, append-nil (map answered_try tries)) refl;
+    counts = counts;
+  });
+}
+try_turned n taken tries begun told (Ok _) pages count steps counts h = absurd h
+
+-- the put-back
+back_turned : (n taken : ℕ) (tries : List Tried) (begun : CommandProgress) (told : List StepAnswer) (answer : Reaction) → All IsPage tries → told ≡ took n taken ∷ map answered_try tries ++ answered_try try.Done ∷ []
+    → begun.so_far ≡ counted taken tries → StepReacts PutBack answer → Turned (op.Scan n) (told ++ record { step = PutBack; answer = answer } ∷ []) (scan_goes_on begun answer)
+back_turned n taken tries begun told (Err why) pages steps counts h = absurd h
+back_turned n taken tries begun told (Ok (reply.Back back)) pages steps counts h =
+    inl (record { taken = taken; tries = tries; pages = pages; back = back; steps = rw steps refl; answered = rw counts refl })
+back_turned n taken tries begun told (Ok _) pages steps counts h = absurd h
+
+scanning_turned : (n : ℕ) (begun : CommandProgress) (answer : Reaction) (told : List StepAnswer) (taken : ℕ) (tries : List Tried) (done : Bool) → All IsPage tries → begun.steps ≡ length told
+    → told ≡ took n taken ∷ map answered_try tries ++ if_done done → begun.so_far ≡ counted taken tries → StepReacts (next_step (op.Scan n) begun) answer
+    → Turned (op.Scan n) (told ++ record { step = next_step (op.Scan n) begun; answer = answer } ∷ []) (scan_goes_on begun answer)
+scanning_turned n begun answer told taken tries false pages count steps counts reacts =
+    let made : begun.steps ≡ 1 + length tries = rw (count, steps, append-nil (map answered_try tries), length-map tries answered_try) (omega arith) in
+    let all : tries_of begun.so_far ≡ length tries = rw counts (counts_tries tries pages) in
+    let next : next_step (op.Scan n) begun ≡ SplitNext = step_is_try n begun.steps _ (omega (arith, made, all)) in
+    rw next (try_turned n taken tries begun told answer pages count steps counts (rw next at reacts))
+scanning_turned n begun answer told taken tries true pages count steps counts reacts =
+    let made : begun.steps ≡ 2 + length tries = rw (count, steps, length-append (map answered_try tries) (answered_try try.Done ∷ []), length-map tries answered_try) (omega arith) in
+    let all : tries_of begun.so_far ≡ length tries = rw counts (counts_tries tries pages) in
+    let next : next_step (op.Scan n) begun ≡ PutBack = step_is_back n begun.steps _ (omega (arith, made, all)) in
+    rw next (back_turned n taken tries begun told answer pages steps counts (rw next at reacts))
+
+same_count : (n m : ℕ) → op.Scan n ≡ op.Scan m → n ≡ m
+same_count n m e = cc
+
+turned_by : (n : ℕ) (begun : CommandProgress) (answer : Reaction) (told : List StepAnswer) → IsProgressAfter (op.Scan n) told begun → StepReacts (next_step (op.Scan n) begun) answer
+    → Turned (op.Scan n) (told ++ record { step = next_step (op.Scan n) begun; answer = answer } ∷ []) (scan_goes_on begun answer)
+turned_by n begun answer told is reacts =
+    elim is.so_far [
+      | inl none ↦
+          let at : StepReacts (next_step (op.Scan n) no_progress) answer = rw none.1 at reacts in
+          rw (none.0, none.1) (first_turned n answer at)
+      | inr s ↦
+          let same : n ≡ s.count = same_count n s.count s.is_scan in
+          scanning_turned n begun answer told s.taken s.tries s.done s.pages is.count (rw same s.steps) s.counts reacts
+    ]
+
+single : (o : Op) (begun : CommandProgress) (told : List StepAnswer) (answer : Reaction) → ((n : ℕ) → o ≡ op.Scan n → ⊥) → IsProgressAfter o told begun → told ++ record { step = first_step o; answer = answer } ∷ [] ≡ record { step = first_step o; answer = answer } ∷ []
+single o begun told answer other is = elim is.so_far [ inl none ↦ rw none.0 refl | inr s ↦ absurd (other s.count s.is_scan) ]
+
+-- one step more
+pub turned : (o : Op) (begun : CommandProgress) (answer : Reaction) (told : List StepAnswer) → IsProgressAfter o told begun → Reacts o begun answer → Turned o (told ++ record { step = next_step o begun; answer = answer } ∷ []) (goes_on o begun answer)
+turned (op.Scan n) begun answer told is reacts = turned_by n begun answer told is reacts
+turned o begun answer told is reacts = single o begun told answer (λ n e. cc) is
+
+-- ---- what a step leaves the next one
+
+-- the next step is one that there is
+cond_step : (n : ℕ) (a b : Bool) → n ≤ max_batch → IsStep (cond a (Take n) (cond b SplitNext PutBack))
+cond_step n true b le = le
+cond_step n false true le = tt
+cond_step n false false le = tt
+
+pub step_fits : (o : Op) (begun : CommandProgress) → IsFit o → IsStep (next_step o begun)
+step_fits (op.Scan n) begun fit = cond_step n _ _ fit
+step_fits (op.Take n) begun fit = fit
+step_fits _ begun fit = tt
+
+some_left : (test : ℕ → Bool) (xs : List ℕ) (p : ℕ) → find test xs ≡ Some p → 0 < length xs
+some_left test [] p e = absurd (cc)
+some_left test (x ∷ xs) p e = omega arith
+
+-- what is left behind the page that is tried
+left_after : (test : ℕ → Bool) (xs : List ℕ) → length (after_first test xs) ≤ length xs
+left_after test xs = omega (arith, length-drop (position_or_len test xs + 1) xs)
+
+fewer_after : (test : ℕ → Bool) (xs : List ℕ) (p : ℕ) → find test xs ≡ Some p → length (after_first test xs) < length xs
+fewer_after test xs p e = omega (arith, length-drop (position_or_len test xs + 1) xs, some_left test xs p e)
+
+-- a try leaves the scan ready
+try_ready : (s : Shape) (h : History) (page : Option ℕ) (begun : CommandProgress) (pages left behind : List ℕ) → begun.steps ≡ 1 + tries_of begun.so_far → tries_of begun.so_far + length left ≤ max_batch
+    → length behind ≤ length left → ((p : ℕ) → page ≡ Some p → length behind < length left) → StaysReady (Some (record { pages = pages; left = behind })) (scan_goes_on begun (Ok (reply.Tried (tried s h page))))
+try_ready s h None begun pages left behind at few less fewer = inr (record { open_batch = record { pages = pages; left = behind }; is = refl; few = omega (arith, few, less); short = omega (arith, at) })
+try_ready s h (Some p) begun pages left behind at few less fewer =
+    let gone = fewer p refl in
+    by_cases (is_worth_split s h p) (nat_eq (pins h p) 0) gone
+  where
+    by_cases : (worth free : Bool) → length behind < length left → StaysReady (Some (record { pages = pages; left = behind })) (scan_goes_on begun (Ok (reply.Tried (cond worth (cond free (try.Split p) (try.Pinned p)) (try.Used p)))))
+    by_cases true true gone = inr (record { open_batch = record { pages = pages; left = behind }; is = refl; few = omega (arith, few, gone); short = omega (arith, at) })
+    by_cases true false gone = inr (record { open_batch = record { pages = pages; left = behind }; is = refl; few = omega (arith, few, gone); short = omega (arith, at) })
+    by_cases false free gone = inr (record { open_batch = record { pages = pages; left = behind }; is = refl; few = omega (arith, few, gone); short = omega (arith, at) })
+
+-- what a step of a scan is answered, and how it leaves the scan
+abbrev Fares : Step → CommandProgress → Reaction → Option Open → Type 0
+Fares step begun answer after = StepReacts step answer × StaysReady after (scan_goes_on begun answer)
+
+take_fares : (s : Shape) (h : History) (c n : ℕ) (batch : Option Open) (begun : CommandProgress) (own : List Event) (answer : Reaction) (after : Option Open) → n ≤ max_batch → (batch ≡ None → begun ≡ no_progress) → Does s h c batch (Take n) own answer after → Fares (Take n) begun answer after
+unfolding Does
+take_fares s h c n (Some b) begun own answer after le first does = rw does.1 (tt, tt)
+take_fares s h c n None begun own answer after le first does = by_refusal (refusal s h (call.take c)) does
+  where
+    by_refusal : (why : Option Refusal) → Unless why own answer None after ((own ≡ take_events s h c n) × (answer ≡ Ok (reply.Taken (length (take n (queue s h))))) × (after ≡ Some (record { pages = take n (queue s h); left = take n (queue s h) })))
+        → Fares (Take n) begun answer after
+    by_refusal (Some why) d = rw d.1 (tt, tt)
+    by_refusal None d =
+        rw (d.1, d.2, first refl) (tt, inr (record { open_batch = record { pages = take n (queue s h); left = take n (queue s h) }; is = refl; few = omega (arith, length-take n (queue s h), le); short = omega arith }))
+
+next_fares : (s : Shape) (h : History) (c : ℕ) (b : Open) (begun : CommandProgress) (own : List Event) (answer : Reaction) (after : Option Open) → begun.steps ≡ 1 + tries_of begun.so_far → tries_of begun.so_far + length b.left ≤ max_batch
+    → Does s h c (Some b) SplitNext own answer after → Fares SplitNext begun answer after
+unfolding Does
+next_fares s h c b begun own answer after at few does =
+    rw (does.1, does.2) (tt, try_ready s h (next_page h c b.left) begun b.pages b.left (rest_after h c b.left) at few (left_after _ b.left) (λ p e. fewer_after _ b.left p e))
+
+back_fares : (s : Shape) (h : History) (c : ℕ) (b : Open) (begun : CommandProgress) (own : List Event) (answer : Reaction) (after : Option Open) → Does s h c (Some b) PutBack own answer after → Fares PutBack begun answer after
+unfolding Does
+back_fares s h c b begun own answer after does = rw does.1 (tt, tt)
+
+scan_fares : (s : Shape) (h : History) (c n : ℕ) (batch : Option Open) (begun : CommandProgress) (own : List Event) (answer : Reaction) (after : Option Open) → n ≤ max_batch → IsReady batch begun → Does s h c batch (next_step (op.Scan n) begun) own answer after
+    → Fares (next_step (op.Scan n) begun) begun answer after
+scan_fares s h c n batch begun own answer after le ready does =
+    elim ready [
+      | inl first ↦
+          let at : Does s h c batch (Take n) own answer after = rw first at does in
+          let fares : Fares (Take n) no_progress answer after = take_fares s h c n batch no_progress own answer after le (λ e. refl) at in
+          rw first fares
+      | inr holds ↦
+          let tries : ℕ = tries_of begun.so_far in
+          let at : Does s h c (Some holds.open_batch) (scan_step n begun.steps tries) own answer after = rw holds.is at does in
+          by_place holds.open_batch holds.few (begun.steps == 0) (begun.steps == 1 + tries) refl at
+    ]
+  where
+    by_place : (b : Open) → tries_of begun.so_far + length b.left ≤ max_batch → (first next : Bool) → (begun.steps == 1 + tries_of begun.so_far) ≡ next → Does s h c (Some b) (cond first (Take n) (cond next SplitNext PutBack)) own answer after
+        → Fares (cond first (Take n) (cond next SplitNext PutBack)) begun answer after
+    by_place b few true next e d = take_fares s h c n (Some b) begun own answer after le (λ f. absurd (cc)) d
+    by_place b few false true e d = next_fares s h c b begun own answer after (eqb-true begun.steps (1 + tries_of begun.so_far) e) few d
+    by_place b few false false e d = back_fares s h c b begun own answer after d
+
+-- a step of a command, and how it leaves the command
+pub fares : (s : Shape) (h : History) (c : ℕ) (o : Op) (batch : Option Open) (begun : CommandProgress) (own : List Event) (answer : Reaction) (after : Option Open) → IsFit o → IsReady batch begun → Does s h c batch (next_step o begun) own answer after
+    → Reacts o begun answer × StaysReady after (goes_on o begun answer)
+fares s h c (op.Scan n) batch begun own answer after fit ready does = scan_fares s h c n batch begun own answer after fit ready does
+fares s h c _ batch begun own answer after fit ready does = (tt, tt)
+
+-- a command that goes on has one step more
+scan_longer : (begun more : CommandProgress) (answer : Reaction) → scan_goes_on begun answer ≡ On more → more.steps ≡ begun.steps + 1
+scan_longer begun more (Ok (reply.Taken t)) e = sym (ap steps_in e)
+scan_longer begun more (Ok (reply.Tried (try.Split p))) e = sym (ap steps_in e)
+scan_longer begun more (Ok (reply.Tried (try.Pinned p))) e = sym (ap steps_in e)
+scan_longer begun more (Ok (reply.Tried (try.Used p))) e = sym (ap steps_in e)
+scan_longer begun more (Ok (reply.Tried try.Done)) e = sym (ap steps_in e)
+scan_longer begun more _ e = absurd (cc)
+
+pub longer : (o : Op) (begun more : CommandProgress) (answer : Reaction) → goes_on o begun answer ≡ On more → more.steps ≡ begun.steps + 1
+longer (op.Scan n) begun more answer e = scan_longer begun more answer e
+longer _ begun more answer e = absurd (cc)
+
+-- a command that can go on has few steps yet
+pub few_steps : (batch : Option Open) (begun : CommandProgress) → IsReady batch begun → (begun.steps ≤ max_batch + 2) × (tries_of begun.so_far ≤ max_batch)
+few_steps batch begun ready = elim ready [ inl first ↦ rw first (omega arith, omega arith) | inr h ↦ (omega (arith, h.few, h.short), omega (arith, h.few)) ]

@@ -1,0 +1,47 @@
+-- The view that contracts have of `KeptAnswers`.
+use Rattle.std.specs.Prelude.{◌≤◌, ◌<◌, ℕ, false, List, map, length, get_or, All, Vec, vec_capacity, vec_len, Ok, Err, ⊤}
+use Rattle.std.specs.declared.alloc.Global.{Global}
+use Rattle.thp_model.specs.Sets.{set_of}
+use Rattle.thp_worker.specs.declared.kept_answers.ShortAnswer.{ShortAnswer}
+use Rattle.thp_worker.specs.declared.kept_answers.ShortReply.{ShortReply}
+use Rattle.thp_worker.specs.declared.kept_answers.ShortReply.TheVariants as short
+use Rattle.thp_worker.specs.declared.reply.Answer.{Answer}
+use Rattle.thp_worker.specs.declared.reply.Reply.{Reply}
+use Rattle.thp_worker.specs.declared.reply.Reply.TheVariants as reply
+use Rattle.thp_worker.specs.Does.{Reaction}
+
+-- the answers, in order, and the number that there is room for
+pub record KeptState : Type 0 where
+  pub items : List Answer
+  pub room : ℕ
+
+-- the answer to a command, from the short form and the long replies
+abbrev pub reaction_in : List Reply → ShortReply → Reaction
+reaction_in long (short.Page p) = Ok (reply.Page p)
+reaction_in long short.Unit = Ok reply.Unit
+reaction_in long (short.Done outcome) = Ok (reply.Done (record { outcome = outcome; released = set_of (λ i. false) }))
+reaction_in long (short.Count n) = Ok (reply.Count n)
+reaction_in long (short.Taken n) = Ok (reply.Taken n)
+reaction_in long (short.Tried t) = Ok (reply.Tried t)
+reaction_in long (short.Back r) = Ok (reply.Back r)
+reaction_in long short.NoBatch = Ok reply.NoBatch
+reaction_in long (short.Refused why) = Err why
+reaction_in long (short.Long place) = Ok (get_or long place reply.NoBatch)
+
+abbrev pub answer_in : List Reply → ShortAnswer → Answer
+answer_in long a = record { command = a.command; node = a.node; reply = reaction_in long a.reply }
+
+abbrev pub answers_in : List Reply → List ShortAnswer → List Answer
+answers_in long short = map (answer_in long) short
+
+-- a reply that is stored among so many long ones exists
+abbrev pub is_there : ℕ → ShortReply → Type 0
+is_there many (short.Long place) = place < many
+is_there many _ = ⊤
+
+-- each long reply exists, and there is room for so many answers
+pub record AreKept (short : Vec ShortAnswer Global) (long : Vec Reply Global) (room : ℕ) : Type 0 where
+  pub there : All (λ a. is_there (length long.items) a.reply) short.items
+  pub fewer : vec_len long ≤ vec_len short
+  pub short_room : room ≤ vec_capacity short
+  pub long_room : room ≤ vec_capacity long

@@ -1,0 +1,110 @@
+//! Runs workers concurrently, by dividing them into halves.
+ghost use Rattle.std.specs.Prelude.{◌≡◌, ◌<◌, All, IfOk, IsOkAnd, List, [], ◌∷◌, ◌++◌};
+ghost use Rattle.std.specs.Thread.{IsSync};
+ghost use Rattle.thp_worker.specs.Fronts.{Fronts, HoldsAllCallers};
+ghost use Rattle.thp_worker.specs.Halves.{CanJoin, CanRun, IsJoined, IsSplit, RangeDone};
+ghost use Rattle.thp_worker.specs.Sections.{AnswersAre};
+ghost use Rattle.thp_worker.specs.declared.reply.SectionOutcome.{SectionOutcome};
+
+use crate::answer_log::Answers;
+use crate::gate::Gate;
+use crate::reply::SectionOutcome;
+use crate::steps::Steps;
+use crate::working::work;
+use std::alloc::{AllocError, Global};
+use std::thread::{Threads, join};
+use thp_script::Command;
+
+/// Nodes whose callers can be divided and joined.
+pub trait Passes: Steps + Sized {
+    /// Divides the callers into those below `at` and those from `at` on.
+    fn split(self, alloc: Global, at: u32) -> Result<(Self, Self), AllocError>
+        requires after { (Self.fronts self).first < at }
+        requires before { at < (Self.fronts self).end }
+        ensures { IfOk result (λ r. IsSplit at (Self.fronts self) (Self.fronts r.0) (Self.fronts r.1)) };
+
+    /// Joins two passes of the same nodes whose callers are adjacent.
+    fn join(self, alloc: Global, other: Self) -> Result<Self, AllocError>
+        requires { CanJoin (Self.fronts self) (Self.fronts other) }
+        ensures { IfOk result (λ r. IsJoined (Self.fronts self) (Self.fronts other) (Self.fronts r)) };
+
+    /// Keeps the nodes for the following steps, until the callers are divided, if that saves each step taking and releasing its
+    /// node. The holder's knowledge of the nodes does not change; [`NodePasses`](crate::NodePasses) also guarantees that each
+    /// node is kept.
+    fn keep_nodes(&mut self)
+        requires { HoldsAllCallers (Self.fronts self.old) }
+        ensures { Self.fronts self.new ≡ Self.fronts self.old }
+    {}
+}
+
+/// Executes the sections of the workers from `first` on, each on its own thread. `answers` is what happens to their answers.
+pub fn run_range<R: Threads + Sync, P: Passes + Send + Drop, G: Gate + Sync>(
+    rt: &R,
+    alloc: Global,
+    passes: P,
+    first: u32,
+    workers: &[Vec<Command>],
+    answers: Answers,
+    gate: &G,
+) -> Result<(P, Vec<SectionOutcome>), AllocError>
+    requires { CanRun (P.fronts passes) first workers.now }
+    ensures ran { IfOk result (λ r. RangeDone first (P.fronts passes) (P.fronts r.0) workers.now r.1.items) }
+    ensures answers { IfOk result (λ r. All (AnswersAre answers) r.1.items) }
+{
+    if workers.len() == 1 {
+        return run_one(alloc, passes, first, &workers[0], answers, gate);
+    }
+    let middle = workers.len() / 2;
+    let (low, high) = workers.split_at(middle);
+    let at = first + middle as u32;
+    let (left, right) = passes.split(alloc, at)?;
+    let (left, right) = join(
+        rt,
+        move || -> Result<(P, Vec<SectionOutcome>), AllocError>
+            requires { IsSync R.row × IsSync G.row × CanRun (P.fronts left) first low.now }
+            ensures ran { IfOk result (λ r. RangeDone first (P.fronts left) (P.fronts r.0) low.entry.now r.1.items) }
+            ensures answers { IfOk result (λ r. All (AnswersAre answers) r.1.items) }
+        { run_range(rt, alloc, left, first, low, answers, gate) },
+        move || -> Result<(P, Vec<SectionOutcome>), AllocError>
+            requires { IsSync R.row × IsSync G.row × CanRun (P.fronts right) at high.now }
+            ensures ran { IfOk result (λ r. RangeDone at (P.fronts right) (P.fronts r.0) high.entry.now r.1.items) }
+            ensures answers { IfOk result (λ r. All (AnswersAre answers) r.1.items) }
+        { run_range(rt, alloc, right, at, high, answers, gate) },
+    );
+    let (left, done) = left?;
+    let (right, more) = right?;
+    let both = left.join(alloc, right)?;
+    Ok((both, append(done, more)?))
+}
+
+/// Executes the section of one worker.
+fn run_one<P: Passes + Drop, G: Gate>(
+    alloc: Global,
+    passes: P,
+    worker: u32,
+    commands: &Vec<Command>,
+    answers: Answers,
+    gate: &G,
+) -> Result<(P, Vec<SectionOutcome>), AllocError>
+    requires { CanRun (P.fronts passes) worker (commands.now ∷ []) }
+    ensures ran { IfOk result (λ r. RangeDone worker (P.fronts passes) (P.fronts r.0) (commands.now ∷ []) r.1.items) }
+    ensures answers { IfOk result (λ r. All (AnswersAre answers) r.1.items) }
+{
+    let mut passes = passes;
+    let worked = work(alloc, commands, worker, answers, &mut passes, gate)?;
+    let mut all = Vec::new(alloc);
+    all.push(worked)?;
+    Ok((passes, all))
+}
+
+fn append(
+    done: Vec<SectionOutcome>,
+    more: Vec<SectionOutcome>,
+) -> Result<Vec<SectionOutcome>, AllocError>
+    ensures { IfOk result (λ all. all.items ≡ done.items ++ more.items) }
+{
+    let mut all = done;
+    let mut more = more;
+    all.append(&mut more)?;
+    Ok(all)
+}

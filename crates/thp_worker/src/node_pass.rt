@@ -1,0 +1,340 @@
+//! A pass of one node, with the open batches of its callers there.
+ghost use Rattle.std.specs.Prelude.{◌≡◌, ◌<◌, ◌≤◌, ℕ, length, slice_get, slice_set, IfOk, MatchBool, MatchOption, None, Ok, Some};
+ghost use Rattle.thp_model.specs.Legal.{IsLegal};
+ghost use Rattle.thp_node.specs.Batches.{no_batch};
+ghost use Rattle.thp_cell.specs.Calls.{IsJoined, PartsStay};
+ghost use Rattle.thp_cell.specs.Views.{HasAll, HasCaller};
+ghost use Rattle.thp_worker.specs.Does.{answer_of, IsStep};
+ghost use Rattle.thp_worker.specs.Holdings.{batch_of, lower_part, loss_reply, page_reply, unit_reply, upper_part, HeldDone, IsShut, IsSomeBatch, OpenStay, keeping_node};
+
+use crate::reply::Reply;
+use crate::steps::{NodeCall, Step, node_call};
+use std::alloc::{AllocError, Global};
+use std::marker::Model;
+use thp_cell::{CellFault, NodeCell, Pass};
+use thp_model::{PageCall, PageId, Refusal};
+use thp_node::{Batch, Done, FullLog, Recorder};
+use thp_script::Op;
+
+/// A pass of one node, and for each of its callers at most one open batch.
+#[derive(Drop)]
+pub struct NodePass<'a, R: Recorder = FullLog> {
+    cell: &'a NodeCell<R>,
+    pass: Pass<R>,
+    // by caller, from the pass's first on
+    batches: Vec<Option<Batch>>,
+}
+
+impl<'a, R: Recorder> Model for NodePass<'a, R> {
+    ghost use Rattle.thp_worker.specs.Holdings.{Held, IsHeld};
+
+    ghost Value = { Held };
+
+    ghost view = { λ p. record { pass = p.pass; batches = p.batches.items } };
+
+    ghost invariant = { λ p. IsHeld p.cell.now p.pass p.batches.items };
+}
+
+impl<'a, R: Recorder> NodePass<'a, R> {
+    /// Creates a pass of a cell whose callers have no open batch.
+    pub fn new(
+        alloc: Global,
+        cell: &'a NodeCell<R>,
+        pass: Pass<R>,
+    ) -> Result<NodePass<'a, R>, AllocError>
+        requires cell { pass.cell ≡ cell.now }
+        requires some { pass.first ≤ pass.end }
+        ensures pass { IfOk result (λ p. p.pass ≡ pass) }
+        ensures none { IfOk result IsShut }
+    {
+        let (first, end) = pass.callers();
+        let mut batches = Vec::new(alloc);
+        for _ in first..end {
+            batches.push(None)?;
+        }
+        Ok(NodePass {
+            cell,
+            pass,
+            batches,
+        })
+    }
+
+    /// Returns the pass. Open batches are discarded: their pages stay in flight.
+    pub fn into_pass(self) -> Pass<R>
+        ensures { result ≡ self.entry.pass }
+    {
+        let NodePass {
+            cell: _,
+            pass,
+            batches: _,
+        } = self;
+        pass
+    }
+
+    /// Keeps the node for the following steps, which saves taking and releasing it for each, until the callers are divided or the
+    /// pass is returned. The pass must have all callers.
+    pub(crate) fn keep_node(&mut self)
+        requires { HasAll self.old.pass }
+        ensures { self.new ≡ keeping_node self.old }
+    {
+        // a pass of all callers never finds the node busy
+        let _ = self.cell.keep_node(&mut self.pass);
+    }
+
+    /// Makes one step of a caller. On success the result is in `reply`; on error its content is unspecified.
+    pub(crate) fn step(
+        &mut self,
+        caller: u32,
+        step: Step,
+        reply: &mut Reply,
+    ) -> Result<(), CellFault>
+        requires caller { HasCaller self.old.pass caller }
+        requires step { IsStep step }
+        ensures { HeldDone caller step self.old self.new (answer_of result reply.new) }
+    {
+        match step {
+            Step::One(op) => self.call(caller, op, reply),
+            Step::Take(count) => apart(self.take(caller, count, reply)),
+            Step::SplitNext => apart(self.split_next(caller, reply)),
+            Step::PutBack => apart(self.put_back(caller, reply)),
+        }
+    }
+
+    /// Divides the callers into those below `at` and those from `at` on, each with its open batch.
+    pub(crate) fn split(self, at: u32) -> Result<(NodePass<'a, R>, NodePass<'a, R>), AllocError>
+        requires after { self.pass.first < at }
+        requires before { at < self.pass.end }
+        ensures left { IfOk result (λ r. r.0 ≡ lower_part self.entry at) }
+        ensures right { IfOk result (λ r. r.1 ≡ upper_part self.entry at) }
+    {
+        let NodePass {
+            cell,
+            pass,
+            batches,
+        } = self;
+        let mut batches = batches;
+        let (first, _) = pass.callers();
+        let rest = batches.split_off((at - first) as usize)?;
+        let (left, right) = cell.split(pass, at);
+        Ok((
+            NodePass {
+                cell,
+                pass: left,
+                batches,
+            },
+            NodePass {
+                cell,
+                pass: right,
+                batches: rest,
+            },
+        ))
+    }
+
+    /// Joins two passes of one cell whose callers are adjacent, with their open batches.
+    pub(crate) fn join(self, other: NodePass<'a, R>) -> Result<NodePass<'a, R>, AllocError>
+        requires cell { other.pass.cell ≡ self.pass.cell }
+        requires adjacent { self.pass.end ≡ other.pass.first }
+        ensures passes { IfOk result (λ r. IsJoined self.entry.pass other.entry.pass r.pass) }
+        ensures legal { IfOk result (λ r. IsLegal r.pass.shape r.pass.front) }
+        ensures left_parts { IfOk result (λ r. PartsStay self.entry.pass r.pass) }
+        ensures right_parts { IfOk result (λ r. PartsStay other.entry.pass r.pass) }
+        ensures left_batches { IfOk result (λ r. OpenStay self.entry r) }
+        ensures right_batches { IfOk result (λ r. OpenStay other.entry r) }
+    {
+        let NodePass {
+            cell,
+            pass,
+            batches,
+        } = self;
+        let NodePass {
+            cell: _,
+            pass: right,
+            batches: more,
+        } = other;
+        let mut batches = batches;
+        let mut more = more;
+        batches.append(&mut more)?;
+        let pass = cell.join(pass, right);
+        Ok(NodePass {
+            cell,
+            pass,
+            batches,
+        })
+    }
+
+    fn call(&mut self, caller: u32, op: Op, reply: &mut Reply) -> Result<(), CellFault>
+        requires caller { HasCaller self.old.pass caller }
+        ensures { HeldDone caller (Step.One op) self.old self.new (answer_of result reply.new) }
+    {
+        match node_call(op) {
+            NodeCall::Alloc => page(self.cell.alloc_page(&mut self.pass, caller), reply),
+            NodeCall::Page {
+                page,
+                call: PageCall::Gain(gain),
+            } => unit(
+                self.cell.gain(&mut self.pass, caller, PageId(page), gain),
+                reply,
+            ),
+            NodeCall::Page {
+                page,
+                call: PageCall::Loss(kind),
+            } => loss(
+                self.cell.lose(&mut self.pass, caller, PageId(page), kind),
+                reply,
+            ),
+            NodeCall::Close => unit(self.cell.close(&mut self.pass, caller), reply),
+            NodeCall::Count => count(self.cell.count(&mut self.pass), reply),
+        }
+    }
+
+    #[inline(never)]
+    fn take(&mut self, caller: u32, count: u32, reply: &mut Reply) -> Result<(), CellFault>
+        requires caller { HasCaller self.old.pass caller }
+        requires step { IsStep (Step.Take count) }
+        ensures { HeldDone caller (Step.Take count) self.old self.new (answer_of result reply.new) }
+    {
+        let (first, _) = self.pass.callers();
+        let place = (caller - first) as usize;
+        if is_open(&self.batches, place) {
+            return Err(CellFault::Refused(Refusal::HasBatch));
+        }
+        open_at(&mut self.batches, place);
+        let Some(batch) = &mut self.batches[place] else {
+            unreachable!();
+        };
+        match self.cell.take_into(&mut self.pass, caller, count, batch) {
+            Ok(()) => {
+                *reply = Reply::Taken(batch.pages().len() as u32);
+                Ok(())
+            }
+            Err(fault) => {
+                shut_at(&mut self.batches, place);
+                Err(fault)
+            }
+        }
+    }
+
+    #[inline(never)]
+    fn split_next(&mut self, caller: u32, reply: &mut Reply) -> Result<(), CellFault>
+        requires caller { HasCaller self.old.pass caller }
+        ensures { HeldDone caller Step.SplitNext self.old self.new (answer_of result reply.new) }
+    {
+        let (first, _) = self.pass.callers();
+        let place = (caller - first) as usize;
+        let Some(batch) = &mut self.batches[place] else {
+            *reply = Reply::NoBatch;
+            return Ok(());
+        };
+        match self.cell.split_next(&mut self.pass, batch) {
+            Ok(tried) => {
+                *reply = Reply::Tried(tried);
+                Ok(())
+            }
+            Err(fault) => Err(fault),
+        }
+    }
+
+    #[inline(never)]
+    fn put_back(&mut self, caller: u32, reply: &mut Reply) -> Result<(), CellFault>
+        requires caller { HasCaller self.old.pass caller }
+        ensures { HeldDone caller Step.PutBack self.old self.new (answer_of result reply.new) }
+    {
+        let (first, _) = self.pass.callers();
+        let place = (caller - first) as usize;
+        let Some(batch) = batch_at(&self.batches, place) else {
+            *reply = Reply::NoBatch;
+            return Ok(());
+        };
+        match self.cell.put_back_all(&mut self.pass, batch) {
+            Ok(back) => {
+                shut_at(&mut self.batches, place);
+                *reply = Reply::Back(back);
+                Ok(())
+            }
+            Err(fault) => Err(fault),
+        }
+    }
+}
+
+/// Returns the result of a step that has its own function, copied byte for byte. If the result were built in place, each step
+/// would wait for the bytes that it stored there itself.
+#[inline(always)]
+fn apart(called: Result<(), CellFault>) -> Result<(), CellFault>
+    ensures { result ≡ called }
+{
+    match called {
+        Ok(()) => Ok(()),
+        Err(CellFault::Busy) => Err(CellFault::Busy),
+        Err(CellFault::Refused(refusal)) => Err(CellFault::Refused(refusal)),
+    }
+}
+
+/// Returns whether a batch is open at this index.
+fn is_open(batches: &Vec<Option<Batch>>, place: usize) -> bool
+    requires { place < length batches.now.items }
+    ensures { MatchBool result (IsSomeBatch (slice_get batches.now.items place)) (slice_get batches.now.items place ≡ Some None) }
+{
+    batches[place].is_some()
+}
+
+/// Returns the open batch at this index.
+fn batch_at(batches: &Vec<Option<Batch>>, place: usize) -> Option<&Batch>
+    requires { place < length batches.now.items }
+    ensures { MatchOption result (slice_get batches.now.items place ≡ Some None) (λ b. slice_get batches.now.items place ≡ Some (Some b.now)) }
+{
+    match &batches[place] {
+        Some(batch) => Some(batch),
+        None => None,
+    }
+}
+
+/// Opens an empty batch at this index.
+fn open_at(batches: &mut Vec<Option<Batch>>, place: usize)
+    requires { place < length batches.old.items }
+    ensures { batches.new.items ≡ slice_set batches.old.items place (Some no_batch) }
+{
+    batches[place] = Some(Batch::none());
+}
+
+/// Discards the open batch at this index.
+fn shut_at(batches: &mut Vec<Option<Batch>>, place: usize)
+    requires { place < length batches.old.items }
+    ensures { batches.new.items ≡ slice_set batches.old.items place None }
+{
+    batches[place] = None;
+}
+
+// The replies of calls, each kind in its own function, so that no step reserves stack space for another's.
+fn page(called: Result<PageId, CellFault>, reply: &mut Reply) -> Result<(), CellFault>
+    ensures { answer_of result reply.new ≡ page_reply called }
+{
+    *reply = Reply::Page(called?);
+    Ok(())
+}
+
+fn count(queued: u32, reply: &mut Reply) -> Result<(), CellFault>
+    ensures { answer_of result reply.new ≡ Ok (Reply.Count queued) }
+{
+    *reply = Reply::Count(queued);
+    Ok(())
+}
+
+fn unit(called: Result<(), CellFault>, reply: &mut Reply) -> Result<(), CellFault>
+    ensures { answer_of result reply.new ≡ unit_reply called }
+{
+    called?;
+    *reply = Reply::Unit;
+    Ok(())
+}
+
+fn loss(called: Result<Done, CellFault>, reply: &mut Reply) -> Result<(), CellFault>
+    ensures { answer_of result reply.new ≡ loss_reply called }
+{
+    // Field by field: a copy of the whole would include the padding, by loads that wait for its stores.
+    let done = called?;
+    *reply = Reply::Done(Done {
+        outcome: done.outcome,
+        released: done.released,
+    });
+    Ok(())
+}

@@ -1,0 +1,211 @@
+//! The commands of a section, one after another, and the put backs at its end.
+ghost use Rattle.std.specs.Prelude.{◌≡◌, ◌^◌, ◌≤◌, ◌<◌, All, IfOk, List, length};
+ghost use Rattle.thp_script.specs.declared.script.Command.{Command};
+ghost use Rattle.thp_worker.specs.Does.{answer_of};
+ghost use Rattle.thp_worker.specs.Fronts.{Fronts, Goes, HoldsAllCallers, HoldsCaller};
+ghost use Rattle.thp_worker.specs.OpenBatches.{HasNoBatch};
+ghost use Rattle.thp_worker.specs.Turns.{Comes, no_progress, IsShared};
+ghost use Rattle.thp_worker.specs.Sections.{Begins, Ends, IsCommandFor, IsDoneFor, AnswersAre, PutsBack, Works};
+
+use crate::answer_log::{AnswerLog, Answers};
+use crate::command::do_command;
+use crate::gate::{Gate, NoGate};
+use crate::open_batches::{is_marked, mark, none_open, shut};
+use crate::reply::{Reply, Rest, SectionOutcome};
+use crate::scanning::{CommandProgress, no_progress};
+use crate::steps::{Steps, is_busy, lacks_memory, told};
+use std::alloc::{AllocError, Global};
+use thp_cell::CellFault;
+use thp_script::{Command, Op};
+
+/// Executes the commands of a section, in order, as steps of one caller, and puts back the batches left open.
+///
+/// Stops at the first step that stays busy, and returns its place. Fails if memory can't be allocated. The log of answers has
+/// room for all answers before the first command, so that a step that was made never lacks room for its answer.
+pub fn work<S: Steps, G: Gate>(
+    alloc: Global,
+    commands: &[Command],
+    worker: u32,
+    answers: Answers,
+    steps: &mut S,
+    gate: &G,
+) -> Result<SectionOutcome, AllocError>
+    requires caller { HoldsCaller (S.fronts steps.old) worker }
+    requires few { length commands.now < 2 ^ 32 }
+    requires commands { All (IsCommandFor (S.fronts steps.old).nodes) commands.now }
+    requires shut { HasNoBatch worker (S.fronts steps.old) }
+    ensures goes { Goes worker (S.fronts steps.old) (S.fronts steps.new) }
+    ensures works { IfOk result (Works worker (S.fronts steps.old) (S.fronts steps.new) commands.now) }
+    ensures answers { IfOk result (AnswersAre answers) }
+    ensures done { HoldsAllCallers (S.fronts steps.old) → IfOk result IsDoneFor }
+{
+    let log = AnswerLog::new(alloc, commands.len(), answers)?;
+    let opened = none_open(alloc, steps.nodes())?;
+    go_on(commands, worker, log, opened, no_progress(), steps, gate)
+}
+
+/// Executes the rest of a section that stopped, with the passes of all callers, which are never busy: the rest of the command
+/// that was begun, the following commands, and the put backs.
+pub fn work_rest<S: Steps>(
+    commands: &[Command],
+    worker: u32,
+    worked: SectionOutcome,
+    steps: &mut S,
+) -> Result<SectionOutcome, AllocError>
+    requires caller { HoldsCaller (S.fronts steps.old) worker }
+    requires few { length commands.now < 2 ^ 32 }
+    requires commands { All (IsCommandFor (S.fronts steps.old).nodes) commands.now }
+    requires worked { (old : Fronts) × Works worker old (S.fronts steps.old) commands.now worked }
+    ensures goes { Goes worker (S.fronts steps.old) (S.fronts steps.new) }
+    ensures works { (old : Fronts) → Works worker old (S.fronts steps.old) commands.now worked → IfOk result (Works worker old (S.fronts steps.new) commands.now) }
+    ensures answers { IfOk result (AnswersAre worked.answers.are) }
+    ensures done { HoldsAllCallers (S.fronts steps.old) → IfOk result IsDoneFor }
+{
+    let SectionOutcome {
+        answers,
+        rest,
+        opened,
+    } = worked;
+    let Some(rest) = rest else {
+        return Ok(SectionOutcome {
+            answers,
+            rest: None,
+            opened,
+        });
+    };
+    if rest.command as usize == commands.len() {
+        return close(rest.command, worker, answers, opened, rest.steps, steps);
+    }
+    let begun = CommandProgress {
+        steps: rest.steps,
+        so_far: rest.so_far,
+    };
+    go_on(commands, worker, answers, opened, begun, steps, &NoGate)
+}
+
+/// Executes the commands without an answer, the first of them from where it was begun, and the put backs.
+fn go_on<S: Steps, G: Gate>(
+    commands: &[Command],
+    worker: u32,
+    answers: AnswerLog,
+    opened: Vec<bool>,
+    begun: CommandProgress,
+    steps: &mut S,
+    gate: &G,
+) -> Result<SectionOutcome, AllocError>
+    requires caller { HoldsCaller (S.fronts steps.old) worker }
+    requires few { length commands.now < 2 ^ 32 }
+    requires commands { All (IsCommandFor (S.fronts steps.old).nodes) commands.now }
+    requires room { length commands.now ≤ answers.room }
+    requires begun { (old : Fronts) × Begins worker old (S.fronts steps.old) commands.now answers.items opened.items begun }
+    ensures goes { Goes worker (S.fronts steps.old) (S.fronts steps.new) }
+    ensures works { (old : Fronts) → Begins worker old (S.fronts steps.old) commands.now answers.items opened.items begun → IfOk result (Works worker old (S.fronts steps.new) commands.now) }
+    ensures answers { IfOk result (AnswersAre answers.are) }
+    ensures done { HoldsAllCallers (S.fronts steps.old) → IfOk result IsDoneFor }
+{
+    let mut answers = answers;
+    let mut opened = opened;
+    let mut begun = begun;
+    let mut reply = Reply::Unit;
+    for index in answers.len()..commands.len() {
+        let number = index as u32;
+        gate.pass(worker, number);
+        let command = commands[index];
+        let node = command.node;
+        let called = do_command(command, worker, &mut begun, steps, &mut reply);
+        if lacks_memory(called) {
+            return Err(AllocError);
+        }
+        if is_busy(called) {
+            let rest = Rest {
+                command: number,
+                steps: begun.steps,
+                so_far: begun.so_far,
+            };
+            return Ok(SectionOutcome {
+                answers,
+                rest: Some(rest),
+                opened,
+            });
+        }
+        let said = told(called);
+        mark(&mut opened, command, said);
+        answers.push(number, node, said, &reply);
+        begun = no_progress();
+    }
+    let count = commands.len() as u32;
+    gate.pass(worker, count);
+    close(count, worker, answers, opened, 0, steps)
+}
+
+/// Puts back the open batches of a caller, in ascending order of nodes, after all of its `count` commands have answers. `closed`
+/// batches were put back already.
+pub(crate) fn close<S: Steps>(
+    count: u32,
+    worker: u32,
+    answers: AnswerLog,
+    opened: Vec<bool>,
+    closed: u32,
+    steps: &mut S,
+) -> Result<SectionOutcome, AllocError>
+    requires caller { HoldsCaller (S.fronts steps.old) worker }
+    requires room { count ≤ answers.room }
+    requires ends { (old : Fronts) × (commands : List Command) × (length commands ≡ count) × Ends worker old (S.fronts steps.old) commands answers.items opened.items closed }
+    ensures goes { Goes worker (S.fronts steps.old) (S.fronts steps.new) }
+    ensures works { (old : Fronts) (commands : List Command) → length commands ≡ count → Ends worker old (S.fronts steps.old) commands answers.items opened.items closed → IfOk result (Works worker old (S.fronts steps.new) commands) }
+    ensures answers { IfOk result (AnswersAre answers.are) }
+    ensures done { HoldsAllCallers (S.fronts steps.old) → IfOk result IsDoneFor }
+{
+    let mut opened = opened;
+    let mut closed = closed;
+    let mut reply = Reply::Unit;
+    let nodes = steps.nodes();
+    for node in 0..nodes {
+        if is_marked(&opened, node) {
+            let called = put_back(worker, node, steps, &mut reply);
+            if lacks_memory(called) {
+                return Err(AllocError);
+            }
+            if is_busy(called) {
+                let rest = Rest {
+                    command: count,
+                    steps: closed,
+                    so_far: no_progress().so_far,
+                };
+                return Ok(SectionOutcome {
+                    answers,
+                    rest: Some(rest),
+                    opened,
+                });
+            }
+            shut(&mut opened, node);
+            closed += 1;
+        }
+    }
+    Ok(SectionOutcome {
+        answers,
+        rest: None,
+        opened,
+    })
+}
+
+/// Puts back the open batch of a caller on a node, unless the node stays busy.
+fn put_back<S: Steps>(
+    caller: u32,
+    node: u32,
+    steps: &mut S,
+    reply: &mut Reply,
+) -> Result<(), CellFault>
+    requires caller { HoldsCaller (S.fronts steps.old) caller }
+    requires node { node < (S.fronts steps.old).nodes }
+    ensures goes { Goes caller (S.fronts steps.old) (S.fronts steps.new) }
+    ensures back { Comes no_progress (answer_of result reply.new) (PutsBack caller node (S.fronts steps.old) (S.fronts steps.new)) }
+    ensures shared { Comes no_progress (answer_of result reply.new) (IsShared (S.fronts steps.old)) }
+{
+    let command = Command {
+        node,
+        op: Op::PutBack,
+    };
+    let mut begun = no_progress();
+    do_command(command, caller, &mut begun, steps, reply)
+}
