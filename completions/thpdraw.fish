@@ -2,5 +2,5 @@
 complete -c thpdraw -f
 complete -c thpdraw -s h -l help -d 'Show the help'
 complete -c thpdraw -s V -l version -d 'Show the version'
-complete -c thpdraw -l table -d 'Write the numbers as a table in place of the picture'
-complete -c thpdraw -l progress -d 'Show on standard error how far the reading is'
+complete -c thpdraw -l table -d 'Write a table instead of the picture'
+complete -c thpdraw -l progress -d 'Show progress on standard error'

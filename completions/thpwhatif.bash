@@ -3,13 +3,13 @@ _thpwhatif() {
     local word=${COMP_WORDS[COMP_CWORD]} before=${COMP_WORDS[COMP_CWORD - 1]} command=${COMP_WORDS[1]} words
     local choice='--pid --cgroup --all --freeze --freeze-limit --wait --memory --orders --queued --no-kernel'
     if [ "$COMP_CWORD" -eq 1 ]; then
-        COMPREPLY=($(compgen -W 'now snapshot what-if target watch verify --help' -- "$word"))
+        COMPREPLY=($(compgen -W 'now snapshot what-if target watch verify --help --version' -- "$word"))
         return
     fi
     case $before in
     --pid) COMPREPLY=($(compgen -W "$(cd /proc && echo [0-9]*)" -- "$word")); return ;;
     --cgroup | --keep) COMPREPLY=($(compgen -d -- "$word")); return ;;
-    --svg | --facts | -o | --output | --program) COMPREPLY=($(compgen -f -- "$word")); return ;;
+    --svg | --facts | -o | --output | --program | --prometheus) COMPREPLY=($(compgen -f -- "$word")); return ;;
     --queued) COMPREPLY=($(compgen -W 'seen all' -- "$word")); return ;;
     --enabled) COMPREPLY=($(compgen -W 'always madvise' -- "$word")); return ;;
     --user) COMPREPLY=($(compgen -u -- "$word")); return ;;
@@ -20,7 +20,7 @@ _thpwhatif() {
     snapshot) words="$choice --output --facts" ;;
     what-if) words='--thresholds --json --by-process --by-cgroup --svg --program' ;;
     target) words="$choice --json --program" ;;
-    watch) words="$choice --rounds --thresholds --program" ;;
+    watch) words="$choice --rounds --thresholds --json --prometheus --program" ;;
     verify) words='--thresholds --rounds --seed --pages --change --after --user --freeze-limit --wait --running --enabled --no-kernel --keep --verbose --program' ;;
     esac
     COMPREPLY=($(compgen -W "$words --help" -- "$word"))

@@ -4,8 +4,9 @@
     debian/build.py THPSPLIT THPCHECK THPDRAW ARCHIVE FOLDER
 
 ARCHIVE is that of the library for C, crates/thp_c/out/libthp_c.a. The packages go into FOLDER, and their paths are printed. They are
-built on a copy of what they are made from, so that nothing else of the tree changes. Status 77 with one line where Debian's tools
-aren't there (packages dpkg-dev, debhelper).
+built on a copy of what they are made from, so that nothing else of the tree changes. The same files and the same commit give the same
+bytes: dates are SOURCE_DATE_EPOCH, by default the date of the commit. Status 77 with one line if this machine lacks Debian's tools
+(packages dpkg-dev, debhelper).
 """
 
 from __future__ import annotations
@@ -33,25 +34,34 @@ TOOLS = {"dpkg-buildpackage": "dpkg-dev", "dh": "debhelper", "cc": "gcc"}
 LACKS = 77
 """The status where this machine lacks a tool."""
 
+UNDATED = 1_767_225_600
+"""The date where no commit has one, as in an archive of the tree: the beginning of 2026."""
+
 
 def version() -> str:
     """The version that the program tells, from the one place where it stands."""
-    found = re.search(r'VERSION: &str = "([^"]+)"', (ROOT / "crates/thp_programs/src/version.rt").read_text())
+    found = re.search(r'VERSION: &str = "([^"]+)"', (ROOT / "crates/thp_cli/src/version.rt").read_text())
     assert found is not None
     return found[1]
 
 
+def date() -> int:
+    """The date of all files in the packages, in seconds: SOURCE_DATE_EPOCH, or that of the commit."""
+    given = os.environ.get("SOURCE_DATE_EPOCH", "")
+    if not given and (ROOT / ".git").exists() and shutil.which("git"):
+        told = subprocess.run(["git", "log", "-1", "--format=%ct"], cwd=ROOT, capture_output=True, text=True)
+        given = told.stdout.strip()
+    return int(given) if re.fullmatch("[0-9]+", given) else UNDATED
+
+
 def changelog(number: str) -> str:
-    """What Debian's tools read name, version and date from. The date is the newest change's, so that a second build is the
-    same."""
-    when = os.environ.get("SOURCE_DATE_EPOCH")
-    date = formatdate(float(when) if when else (ROOT / "CHANGELOG.md").stat().st_mtime)
+    """What Debian's tools read name, version and date from."""
     line = "The Leversorrel developers <leversorrel@example.invalid>"
-    return f"leversorrel ({number}) unstable; urgency=medium\n\n  * As CHANGELOG.md tells.\n\n -- {line}  {date}\n"
+    return f"leversorrel ({number}) unstable; urgency=medium\n\n  * See CHANGELOG.md.\n\n -- {line}  {formatdate(date())}\n"
 
 
 def copy(tree: Path, built: list[Path]) -> None:
-    """Puts what the packages are made from into an empty folder."""
+    """Puts what the packages are made from into an empty folder, with the date of the packages."""
     for part in PARTS:
         source = ROOT / part
         if source.is_dir():
@@ -62,6 +72,9 @@ def copy(tree: Path, built: list[Path]) -> None:
         (tree / name).parent.mkdir(parents=True)
         shutil.copy2(file, tree / name)
     (tree / "debian/changelog").write_text(changelog(version()))
+    when = date()
+    for path in tree.rglob("*"):
+        os.utime(path, (when, when), follow_symlinks=False)
 
 
 def build(built: list[Path], folder: Path) -> list[Path]:
@@ -70,8 +83,8 @@ def build(built: list[Path], folder: Path) -> list[Path]:
         tree = Path(name) / f"leversorrel-{version()}"
         tree.mkdir()
         copy(tree, built)
-        told = subprocess.run(["dpkg-buildpackage", "-b", "-us", "-uc"], cwd=tree, text=True, errors="replace",
-                              stdout=subprocess.PIPE, stderr=subprocess.STDOUT)
+        told = subprocess.run(["dpkg-buildpackage", "-b", "-us", "-uc"], cwd=tree, text=True, errors="replace", umask=0o022,
+                              env={**os.environ, "SOURCE_DATE_EPOCH": str(date())}, stdout=subprocess.PIPE, stderr=subprocess.STDOUT)
         if told.returncode != 0:
             sys.exit(f"{told.stdout}\ndpkg-buildpackage ended with status {told.returncode}")
         folder.mkdir(parents=True, exist_ok=True)

@@ -1,1 +1,1 @@
-"""The running kernel beside `thpsplit`. Nothing in this folder is proved; docs/LINUX.md says what it shows."""
+"""Tools that compare the running kernel with `thpsplit`. Nothing in this folder is proved; see docs/LINUX.md."""

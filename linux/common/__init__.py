@@ -1,17 +1,19 @@
-"""What the tools of the running kernel share. Each module says at its head what it gives:
+"""Modules that the tools of the running kernel share. The docstring of each module describes its content.
 
     errors          the exceptions of the tools and their exit statuses
     tool            run_tool: a tool from its start to its exit status
     text            text from outside: split at line feeds, escaped before it is printed
-    words           the command line: a parser with errors of one line, numbers within limits
+    version         the version of all tools, and --version
+    arguments       the command line: a parser with errors of one line, numbers within limits
     files           files of sysfs, procfs and cgroupfs; a tool's inputs and outputs; the folders of huge pages
-    keeper          Keeper: the tools' one lock; settings, control groups and processes that go away at any end
+    keeper          Keeper: the lock that all tools share; restores settings and removes groups and processes at any end
     guardian        the small process that does so; started by Keeper, needs nothing of this package
-    holding         held: processes and control groups held still for a limited time
+    hold            hold_processes: stops or freezes processes and control groups for a limited time
     user            the users as whom other programs are run
     groups          Groups: memory control groups of version 1 or 2, and a reclaim in one
     page_files      pagemap of a process, kpageflags, kpagecount, kpagecgroup; the flags by name
-    counters        the statistics of /proc/vmstat and of each page size; Quiet: whether somebody else moves them
+    direct_map      content of page frames, read by the kernel's map of all memory
+    counters        the statistics of /proc/vmstat and of each page size; CounterWatch: whether others move them
     bpf             the bpf system call, an assembler of BPF programs, maps
     btf             the running kernel's types: offsets and sizes of fields, values of enumerators
     kernel_memory   KernelMemory: kernel memory read by a BPF program; control groups, queues, struct page
@@ -20,6 +22,6 @@
     subpages        sets of subpages as numbers, and as text
     journal         NodeJournal, Event: journals as text
     program         Program: `thpsplit` found and called; its totals, answers and journals read
-    checker         Checker: `thpcheck`, or `thpsplit` in its place: whether a journal is legal, and why not
+    checker         Checker: `thpcheck`, or `thpsplit` instead: whether a journal is legal, and why not
     script          Script: a script's settings and commands
 """

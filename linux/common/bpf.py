@@ -120,7 +120,7 @@ class Assembler:
         return self.put(0x6F, to, source)
 
     def fetch_or(self, to: int, source: int) -> Assembler:
-        """The 64-bit number at `to` gets the bits of `source`, which becomes what stood there before; at once."""
+        """Atomically sets the bits of `source` in the 64-bit number at `to`; `source` becomes the former number."""
         return self.put(0xDB, to, source, 0, 0x41)
 
     def shift_right_register(self, to: int, source: int) -> Assembler:
@@ -187,8 +187,8 @@ def load_program(kind: ProgramType, assembler: Assembler, flags: int = 0) -> int
             return bpf(Command.PROG_LOAD, attributes)[0]
         except OSError as error:
             problem = str(error.strerror)
-    told = log.value.decode(errors="replace").strip()
-    raise Unavailable(f"a BPF program is refused: {problem}" + (f"\n{told[-1500:]}" if told else ""))
+    output = log.value.decode(errors="replace").strip()
+    raise Unavailable(f"a BPF program is refused: {problem}" + (f"\n{output[-1500:]}" if output else ""))
 
 
 def create_map(kind: MapType, key: int, value: int, entries: int, flags: int = 0) -> int:

@@ -1,7 +1,7 @@
 """The running kernel's types by BTF: where a field lies, how large it is, what an enumerator is.
 
 Rules: Documentation/bpf/btf.rst of the kernel. No offset is written down in the tools: what isn't there, or is of
-another type, is a Missing that names it.
+another type, raises MissingType, which names it.
 """
 
 from __future__ import annotations
@@ -23,8 +23,8 @@ _NAMED = (_STRUCT, _ENUM, _TYPEDEF)
 _MAGIC = 0xEB9F
 
 
-class Missing(Unavailable):
-    """A type, field or enumerator that this kernel doesn't have as it is wanted."""
+class MissingType(Unavailable):
+    """This kernel lacks a type, field or enumerator, or has it in another form than the tools need."""
 
 
 @dataclass(frozen=True)
@@ -89,7 +89,7 @@ class Types:
             at += 12 + _EXTRA.get(kind, 0) + _EACH.get(kind, 0) * (info & 0xFFFF)
 
     def _places_of(self, name: str) -> List[int]:
-        """Where this name is among the strings; a string may be the end of another."""
+        """Returns where this name is among the strings; a string may be the end of another."""
         text, out = name.encode() + b"\0", []
         at = self._raw.find(text, self._strings)
         while at >= 0:
@@ -98,7 +98,7 @@ class Types:
         return out
 
     def _types_named(self, kind: int, name: str) -> List[int]:
-        """The numbers of the types of a kind that have this name, the first one first."""
+        """Returns the numbers of the types of a kind that have this name, the first one first."""
         self._load()
         places = set(self._places_of(name))
         return [number for place, number in zip(self._names[kind], self._numbers[kind]) if place in places]
@@ -160,28 +160,28 @@ class Types:
         return None
 
     def _struct(self, of: str) -> int:
-        """The number of a struct."""
+        """Returns the number of a struct."""
         found = self._types_named(_STRUCT, of)
         if not found:
-            raise Missing(f"this kernel has no struct {of}")
+            raise MissingType(f"this kernel has no struct {of}")
         return found[0]
 
     def struct_size(self, of: str) -> int:
-        """The bytes of a struct."""
+        """Returns the bytes of a struct."""
         if of not in self._sizes:
             self._sizes[of] = self._head(self._struct(of))[2]
         return self._sizes[of]
 
     def field(self, of: str, path: str, kind: str = "", size: int = 0) -> Field:
-        """The field at a path (`deferred_split_queue.split_queue`) of a struct; of this kind and size where they are
-        given."""
+        """Returns the field at a path (`deferred_split_queue.split_queue`) of a struct; of this kind and size where
+        they are given."""
         if (of, path) not in self._fields:
             self._fields[of, path] = self._find_field(of, path)
         field = self._fields[of, path]
         if kind and field.kind != kind:
-            raise Missing(f"{of}.{path} is {field.kind} in this kernel, not {kind}")
+            raise MissingType(f"{of}.{path} is {field.kind} in this kernel, not {kind}")
         if size and field.size != size:
-            raise Missing(f"{of}.{path} has {field.size} bytes in this kernel, not {size}")
+            raise MissingType(f"{of}.{path} has {field.size} bytes in this kernel, not {size}")
         return field
 
     def _find_field(self, of: str, path: str) -> Field:
@@ -189,19 +189,19 @@ class Types:
         for word in path.split("."):
             found = self._find(self._plain(number), word)
             if not found:
-                raise Missing(f"this kernel has no field {of}.{path}")
+                raise MissingType(f"this kernel has no field {of}.{path}")
             number, place, bits = found
             total += place
         if bits or total % 8:
-            raise Missing(f"{of}.{path} is a bit field in this kernel")
+            raise MissingType(f"{of}.{path} is a bit field in this kernel")
         return Field(total // 8, self._size(number), self._kind(number))
 
     def offset(self, of: str, path: str, kind: str = "", size: int = 0) -> int:
-        """Where a field lies, in bytes."""
+        """Returns where a field lies, in bytes."""
         return self.field(of, path, kind, size).offset
 
     def enumerator(self, name: str) -> int:
-        """The value of an enumerator."""
+        """Returns the value of an enumerator."""
         if name not in self._enumerators:
             self._enumerators[name] = self._find_enumerator(name)
         return self._enumerators[name]
@@ -216,10 +216,10 @@ class Types:
                 text, value = struct.unpack_from("<Ii", self._raw, at + 12 + 8 * i)
                 if text in places:
                     return int(value)
-        raise Missing(f"this kernel has no enumerator {name}")
+        raise MissingType(f"this kernel has no enumerator {name}")
 
     def tracepoint(self, name: str) -> List[str]:
-        """The kinds of a tracepoint's arguments, as its programs get them (include/trace/bpf_probe.h: a typedef
+        """Returns the kinds of a tracepoint's arguments, as its programs get them (include/trace/bpf_probe.h: a typedef
         btf_trace_NAME of a pointer to the function, whose first parameter is the tracepoint's own)."""
         for number in self._types_named(_TYPEDEF, f"btf_trace_{name}"):
             _, _, reference = self._head(number)
@@ -228,10 +228,10 @@ class Types:
             if info >> 24 & 31 == _PROTOTYPE:
                 places = [self._at[function] + 12 + 8 * i for i in range(1, info & 0xFFFF)]
                 return [self._kind(struct.unpack_from("<II", self._raw, place)[1]) for place in places]
-        raise Missing(f"this kernel has no tracepoint {name}")
+        raise MissingType(f"this kernel has no tracepoint {name}")
 
     def demand_tracepoint(self, name: str, kinds: List[str]) -> None:
-        """Missing, with what is there, where a tracepoint's first arguments aren't of these kinds."""
+        """MissingType, with what the kernel has, where a tracepoint's first arguments aren't of these kinds."""
         found = self.tracepoint(name)
         if found[: len(kinds)] != kinds:
-            raise Missing(f"tracepoint {name} has ({', '.join(found)}) in this kernel, not ({', '.join(kinds)})")
+            raise MissingType(f"tracepoint {name} has ({', '.join(found)}) in this kernel, not ({', '.join(kinds)})")

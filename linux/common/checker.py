@@ -1,4 +1,4 @@
-"""Journals judged: by `thpcheck`, which takes them at any length and may explain, or where there is none by
+"""Checks of journals: by `thpcheck`, which takes any length and may explain, or where there is none by
 `thpsplit --check`."""
 
 from __future__ import annotations
@@ -10,14 +10,14 @@ from typing import Optional, Sequence, Union
 
 from .errors import RunFailed, Unavailable
 from .program import CRATES, Program, Verdict, call, find, start
-from .text import escaped
+from .text import escape
 
 BUILT = CRATES / "thpcheck/out/thpcheck"
 EXPLAIN = "--explain"
 
 
 class Checker:
-    """The `thpcheck` at a path. Where its help names --explain, a verdict says why a journal is illegal."""
+    """The `thpcheck` at a path. If its help names --explain, a verdict includes why a journal is illegal."""
 
     def __init__(self, path: str) -> None:
         self.path = path
@@ -29,15 +29,15 @@ class Checker:
         return _verdict(self.path, done.returncode, done.stdout, done.stderr)
 
 
-Judge = Union[Checker, Program]
+JournalChecker = Union[Checker, Program]
 
 
-def check_file(judge: Judge, journal: int) -> Verdict:
+def check_file(checker: JournalChecker, journal: int) -> Verdict:
     """Returns whether the journal in an open file is legal. It is passed on by its descriptor, so it may have any length
     that the judge takes."""
-    options: Sequence[str] = judge.options if isinstance(judge, Checker) else ["--check"]
+    options: Sequence[str] = checker.options if isinstance(checker, Checker) else ["--check"]
     os.lseek(journal, 0, os.SEEK_SET)
-    child = start(judge.path, options, journal, subprocess.PIPE, subprocess.PIPE)
+    child = start(checker.path, options, journal, subprocess.PIPE, subprocess.PIPE)
     try:
         out, problems = child.communicate()
     except BaseException:
@@ -45,19 +45,19 @@ def check_file(judge: Judge, journal: int) -> Verdict:
         child.wait()
         raise
     texts = [each.decode("utf-8", "surrogateescape") for each in (out, problems)]
-    return _verdict(judge.path, child.returncode, *texts)
+    return _verdict(checker.path, child.returncode, *texts)
 
 
 def _verdict(path: str, status: int, out: str, problems: str) -> Verdict:
-    """What a judge says by its status and outputs. RunFailed where that is no verdict."""
-    told = (out or problems).strip()
-    found = re.fullmatch(r"illegal line ([0-9]{1,18})", told) if status == 1 else None
+    """Returns the verdict that a status and outputs express. RunFailed where they are no verdict."""
+    output = (out or problems).strip()
+    found = re.fullmatch(r"illegal line ([0-9]{1,18})", output) if status == 1 else None
     if status not in (0, 1, 2) or (status == 1 and not found):
-        raise RunFailed(f"{escaped(path)} ended with status {status}: {escaped(told)[:200]}")
-    return Verdict(status == 0, int(found[1]) if found else None, told, problems.strip() if found else "")
+        raise RunFailed(f"{escape(path)} ended with status {status}: {escape(output)[:200]}")
+    return Verdict(status == 0, int(found[1]) if found else None, output, problems.strip() if found else "")
 
 
-def find_judge(checker: Optional[str] = None, program: Optional[str] = None) -> Judge:
+def find_checker(checker: Optional[str] = None, program: Optional[str] = None) -> JournalChecker:
     """Returns the `thpcheck` that is named; else the `thpsplit` that is named; else a `thpcheck` as `find` looks for it;
     else a `thpsplit` so. Unavailable where there is none."""
     path = find("thpcheck", BUILT, checker) if checker or not program else None

@@ -1,7 +1,7 @@
 """The kernel's statistics of huge pages: /proc/vmstat, and sysfs by page size.
 
 Rules: Documentation/admin-guide/mm/transhuge.rst of the kernel. All are of the whole machine since its start, so other
-programs move them too; `Quiet` finds out whether they do.
+programs move them too; `CounterWatch` finds out whether they do.
 """
 
 from __future__ import annotations
@@ -71,7 +71,7 @@ def counts(orders: Iterable[int]) -> Counts:
     return Counts(machine, sizes)
 
 
-class Quiet:
+class CounterWatch:
     """Whether the machine's counters stay as they are while the tool itself changes nothing.
 
     `moved` gathers the names of the counters that moved in any window. Noise that comes and goes may be missed by
@@ -84,7 +84,7 @@ class Quiet:
         self._wait, self._take = wait, take
         self.moved: Set[str] = set()
 
-    def window(self, seconds: float = WINDOW) -> bool:
+    def watch_once(self, seconds: float = WINDOW) -> bool:
         """Watches the counters for a time, and returns whether none moved. The tool must change nothing meanwhile."""
         before = self._take(self._orders)
         self._wait(seconds)
@@ -92,6 +92,6 @@ class Quiet:
         self.moved.update(moved)
         return not moved
 
-    def windows(self, seconds: float) -> bool:
+    def watch_until(self, seconds: float) -> bool:
         """Watches window after window until a counter moves or the time is over; returns whether none moved."""
-        return all(self.window() for _ in range(max(1, round(seconds / WINDOW))))
+        return all(self.watch_once() for _ in range(max(1, round(seconds / WINDOW))))

@@ -28,7 +28,7 @@ class DirectMap:
     def __init__(self, memory: KernelMemory) -> None:
         self._memory = memory
         self._base = self._find()
-        self._looker = memory.load(looker)
+        self._looker = memory.load(build_scan_program)
 
     def with_data(self, frame: int, count: int) -> int:
         """Of `count` subpages from `frame` on the set of those that show data in the bytes looked at: the others may
@@ -44,21 +44,21 @@ class DirectMap:
         owner = offset("ptdesc", "pt_mm", "pointer")
         for base in range(table - table % ALIGNED, max(0, table - FARTHEST * ALIGNED), -ALIGNED):
             try:
-                if memory.word(memory.folio((table - base) // BASE) + owner) == space and self._shows(base):
+                if memory.word(memory.folio((table - base) // BASE) + owner) == space and self._contains(base):
                     return base
             except Unavailable:
                 continue  # there is no such frame
         raise Unavailable("the kernel's map of all memory isn't found")
 
-    def _shows(self, base: int) -> bool:
-        """Whether a page of our own is seen there."""
+    def _contains(self, base: int) -> bool:
+        """Returns whether a page of our own is seen there."""
         page = mmap.mmap(-1, BASE, flags=mmap.MAP_PRIVATE | mmap.MAP_ANONYMOUS)
         page[:] = os.urandom(BASE)
         frame = frames_at(os.getpid(), ctypes.addressof(ctypes.c_char.from_buffer(page)), 1)[0]
         return frame is not None and self._memory.read(base + frame * BASE, BASE) == page[:]
 
 
-def looker(window: int) -> Assembler:
+def build_scan_program(window: int) -> Assembler:
     """For r7 subpages from r6 on: digits in the window, that of subpage i at MOST-1-i, 1 where its pieces aren't all
     zero."""
     code = begin(window).set(0, 1).jump("out", ">", 7, MOST).set(8, 0)

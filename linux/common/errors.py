@@ -39,7 +39,7 @@ def end_by_signals() -> None:
 
 
 def place_of(error: BaseException) -> str:
-    """Where an exception arose: the file's name and the line."""
+    """Returns where an exception arose: the file's name and the line."""
     trace = error.__traceback__
     while trace and trace.tb_next:
         trace = trace.tb_next

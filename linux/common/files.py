@@ -3,15 +3,17 @@ pages."""
 
 from __future__ import annotations
 
+import errno
 import os
 import re
 import stat
 import sys
+from contextlib import suppress
 from pathlib import Path
 from typing import TextIO, Union
 
 from .errors import InputFault
-from .text import escaped
+from .text import escape
 
 PathText = Union[str, Path]
 
@@ -24,6 +26,7 @@ COLLAPSE_SLEEP = f"{THP}/khugepaged/scan_sleep_millisecs"
 COMPACT = "/proc/sys/vm/compact_memory"  # a write compacts all memory at once
 MOST_INPUT = 64 << 20  # bytes of an input file
 
+_SEARCHED = os.O_PATH | os.O_DIRECTORY | os.O_NOFOLLOW | os.O_CLOEXEC
 _NEW = os.O_WRONLY | os.O_CREAT | os.O_EXCL | os.O_NOFOLLOW | os.O_CLOEXEC
 
 
@@ -58,13 +61,13 @@ def read_input(path: PathText, most: int = MOST_INPUT) -> bytes:
             descriptor = os.open(path, os.O_RDONLY | os.O_NONBLOCK | os.O_NOCTTY | os.O_CLOEXEC)
             with open(descriptor, "rb") as file:
                 if not stat.S_ISREG(os.fstat(descriptor).st_mode):
-                    raise InputFault(f"{escaped(str(path))} is no regular file")
+                    raise InputFault(f"{escape(str(path))} is no regular file")
                 data = file.read(most + 1)
         except (OSError, ValueError) as error:
             reason = getattr(error, "strerror", None) or str(error)
-            raise InputFault(f"{escaped(str(path))} can't be read: {reason}") from error
+            raise InputFault(f"{escape(str(path))} can't be read: {reason}") from error
     if len(data) > most:
-        raise InputFault(f"{escaped(str(path))} has more than {most >> 20} MiB")
+        raise InputFault(f"{escape(str(path))} has more than {most >> 20} MiB")
     return data
 
 
@@ -78,10 +81,10 @@ def _created(path: PathText, folder: Union[int, None]) -> TextIO:
     try:
         return open(os.open(path, _NEW, 0o600, dir_fd=folder), "w", encoding="utf-8", newline="\n")
     except FileExistsError as error:
-        raise InputFault(f"{escaped(str(path))} exists already") from error
+        raise InputFault(f"{escape(str(path))} exists already") from error
     except (OSError, ValueError) as error:
         reason = getattr(error, "strerror", None) or str(error)
-        raise InputFault(f"{escaped(str(path))} can't be made: {reason}") from error
+        raise InputFault(f"{escape(str(path))} can't be made: {reason}") from error
 
 
 def own_folder(path: PathText) -> int:
@@ -95,12 +98,56 @@ def own_folder(path: PathText) -> int:
         descriptor = os.open(path, os.O_RDONLY | os.O_DIRECTORY | os.O_NOFOLLOW | os.O_CLOEXEC)
     except (OSError, ValueError) as error:
         reason = getattr(error, "strerror", None) or str(error)
-        raise InputFault(f"{escaped(str(path))} can't be used as a folder: {reason}") from error
+        raise InputFault(f"{escape(str(path))} can't be used as a folder: {reason}") from error
     found = os.fstat(descriptor)
     if found.st_uid != os.geteuid() or found.st_mode & 0o022:
         os.close(descriptor)
-        raise InputFault(f"{escaped(str(path))} isn't the caller's own folder, or others may write into it")
+        raise InputFault(f"{escape(str(path))} isn't the caller's own folder, or others may write into it")
     return descriptor
+
+
+def open_roots_folder(path: PathText, owner: int = 0) -> int:
+    """Opens a folder that is root's (`owner`), into which nobody else may write, and returns its descriptor. No symbolic
+    link is followed on the way, so that nobody redirects the path. InputFault where the folder isn't so."""
+    name, descriptor = "/", os.open("/", _SEARCHED)
+    try:
+        for name in Path(os.path.abspath(path)).parts[1:]:
+            below = os.open(name, _SEARCHED, dir_fd=descriptor)
+            os.close(descriptor)
+            descriptor = below
+        found = os.fstat(descriptor)
+        if found.st_uid != owner or found.st_mode & 0o022:
+            raise InputFault(f"{escape(str(path))} isn't root's folder, or others may write into it")
+    except BaseException as error:
+        os.close(descriptor)
+        if isinstance(error, OSError) and error.errno in (errno.ENOTDIR, errno.ELOOP):
+            raise InputFault(f"{escape(str(path))} can't be used: {escape(name)} is no folder, or a symbolic link") from error
+        if isinstance(error, (OSError, ValueError)):
+            reason = getattr(error, "strerror", None) or str(error)
+            raise InputFault(f"{escape(str(path))} can't be used as a folder: {reason}") from error
+        raise
+    return descriptor
+
+
+def replace_file(folder: int, name: str, text: str) -> None:
+    """Writes a text whole into a new file of mode 0644, which then gets this name in an open folder and replaces a file of
+    the name. The new file has no name before it is whole, so nothing is left of a writer that is killed. OSError where
+    that isn't possible."""
+    new = os.open(".", os.O_TMPFILE | os.O_WRONLY | os.O_CLOEXEC, 0o600, dir_fd=folder)
+    with open(new, "w", encoding="ascii", newline="\n") as file:
+        file.write(text)
+        file.flush()
+        os.fchmod(new, 0o644)
+        whole = f".{name}.{os.getpid()}"
+        try:
+            with suppress(FileNotFoundError):
+                os.unlink(whole, dir_fd=folder)
+            os.link(f"/proc/self/fd/{new}", whole, dst_dir_fd=folder)
+            os.replace(whole, name, src_dir_fd=folder, dst_dir_fd=folder)
+        except BaseException:
+            with suppress(FileNotFoundError):
+                os.unlink(whole, dir_fd=folder)
+            raise
 
 
 class OwnFolder:
@@ -110,16 +157,16 @@ class OwnFolder:
         self._descriptor = own_folder(path)
 
     def create(self, name: str) -> TextIO:
-        """Makes a file of this name, in place of an earlier one. InputFault where the name has a `/`, or no file can be
+        """Makes a file of this name, and replaces an existing one. InputFault where the name has a `/`, or no file can be
         made."""
         if "/" in name or name in ("", ".", ".."):
-            raise InputFault(f"{escaped(name)} is no name of a file")
+            raise InputFault(f"{escape(name)} is no name of a file")
         try:
             os.unlink(name, dir_fd=self._descriptor)
         except FileNotFoundError:
             pass
         except OSError as error:
-            raise InputFault(f"{escaped(name)} can't be replaced: {error.strerror}") from error
+            raise InputFault(f"{escape(name)} can't be replaced: {error.strerror}") from error
         return _created(name, self._descriptor)
 
     def close(self) -> None:
@@ -127,7 +174,7 @@ class OwnFolder:
         os.close(self._descriptor)
 
 
-def chosen(text: str) -> str:
+def selected_word(text: str) -> str:
     """Returns the value that a sysfs file holds: the word in brackets, or all of it."""
     marked = re.search(r"\[(.*?)\]", text)
     return marked[1] if marked else text.strip()

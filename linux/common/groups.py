@@ -15,7 +15,7 @@ from .errors import InputFault, Unavailable
 from .files import BASE, read, write
 from .guardian import hierarchies
 from .keeper import Keeper
-from .text import escaped, text_lines
+from .text import escape, text_lines
 
 
 @dataclass(frozen=True)
@@ -28,7 +28,7 @@ class Hierarchy:
 
 
 def find_hierarchy(mounts: Optional[str] = None, own: Optional[str] = None) -> Hierarchy:
-    """The memory hierarchy by /proc/mounts and /proc/self/cgroup (or texts in their form)."""
+    """Returns the memory hierarchy by /proc/mounts and /proc/self/cgroup (or texts in their form)."""
     mounts = read("/proc/mounts") if mounts is None else mounts
     own = read("/proc/self/cgroup") if own is None else own
     lines: List[List[str]] = [words for words in (line.split(" ") for line in text_lines(mounts)) if len(words) > 3]
@@ -57,7 +57,7 @@ def checked_group(path: str) -> str:
                 return real
         except OSError:
             continue
-    raise InputFault(f"{escaped(path)} is no control group")
+    raise InputFault(f"{escape(path)} is no control group")
 
 
 class Groups:
@@ -80,7 +80,7 @@ class Groups:
             self._keeper.set(control, "+memory", undo="-memory")
 
     def add(self, name: str) -> str:
-        """The path of a new group below ours, from which nothing is swapped out."""
+        """Returns the path of a new group below ours, from which nothing is swapped out."""
         path = f"{self.path}/{name}"
         self._keeper.make_group(path)
         if self.version == 1:
@@ -109,5 +109,5 @@ class Groups:
             pass  # less could be reclaimed than was asked for: the sweep took place
 
     def usage(self, path: str) -> int:
-        """The bytes charged to a group."""
+        """Returns the bytes charged to a group."""
         return int(read(f"{path}/memory.{'usage_in_bytes' if self.version == 1 else 'current'}"))

@@ -278,7 +278,7 @@ def settings_of(entries: List[Entry]) -> Dict[str, Tuple[str, str]]:
 
 
 def put_back(entries: List[Entry], is_later: bool = False) -> List[str]:
-    """Puts back what these entries say, and returns what could not be put back. Processes come first (they hold pages and
+    """Puts back what these entries contain, and returns what could not be put back. Processes come first (they hold pages and
     groups), then settings, the newest change first, then control groups. A setting that a group of ours holds
     (cgroup.subtree_control of version 2) is tried again after the groups. `is_later`: some time has gone by since; a
     setting that no longer has the tool's value was changed by somebody else, and is left as it is."""
@@ -287,7 +287,7 @@ def put_back(entries: List[Entry], is_later: bool = False) -> List[str]:
     problems, again = [], []
     for path, (former, latest) in reversed(list(settings_of(entries).items())):
         if is_later and latest and value_of(path) not in (latest, former):
-            problems.append(f"{path} has been changed since to {value_of(path)!r}: left so (it was {former!r} before)")
+            problems.append(f"{path} has been changed since to {value_of(path)!r}: left as it is (it was {former!r} before)")
         elif write(path, former):
             again.append((path, former))
     paths = dict.fromkeys(str(entry["group"]) for entry in groups)
@@ -387,7 +387,7 @@ class Guardian:
         return problems
 
     def _inform(self, word: str) -> None:
-        """Tells the standby. One that was killed is done without: what it was for is done here."""
+        """Informs the standby. If the standby was killed, the guardian works without it."""
         try:
             if self._standby:
                 self._standby.send(word.encode())

@@ -18,11 +18,11 @@ from typing import List, Sequence
 
 from .errors import Unavailable
 from .keeper import open_folder
-from .text import escaped
+from .text import escape
 
 LINUX = Path(__file__).resolve().parent.parent
 INSTALLED = ("lib", "thpsplit", "linux")  # the end of LINUX where `make install` put the tools
-FLAGS = ("-std=c11", "-O2", "-Wall", "-Wextra")
+FLAGS = ("-std=c11", "-O2", "-Wall", "-Wextra", "-Wl,-z,relro", "-Wl,-z,now")
 SECONDS = 60.0  # that a compiler gets
 
 
@@ -35,7 +35,7 @@ def helper(source: str, flags: Sequence[str] = ()) -> str:
         return str(LINUX / "out" / name)
     compiler = shlex.split(os.environ.get("CC", "")) or [shutil.which("cc") or shutil.which("gcc") or ""]
     if not shutil.which(compiler[0]):
-        raise Unavailable(f"no C compiler ({escaped(compiler[0] or 'cc')}) for the helper {path.name}")
+        raise Unavailable(f"no C compiler ({escape(compiler[0] or 'cc')}) for the helper {path.name}")
     words = [*compiler, *FLAGS, *flags]
     built = own_folder_of_helpers() / f"{hash_of(path, words)}-{name}"
     if not built.exists():
@@ -79,12 +79,12 @@ def compile_helper(words: List[str], path: Path, built: Path) -> None:
             check=False, timeout=SECONDS, cwd="/",
         )
         if done.returncode or not part.exists():
-            told = done.stderr.strip().split(b"\n")[-1]
-            reason = escaped(told)[:200] or f"{escaped(words[0])} ended with status {done.returncode} and made nothing"
+            output = done.stderr.strip().split(b"\n")[-1]
+            reason = escape(output)[:200] or f"{escape(words[0])} ended with status {done.returncode} and made nothing"
             raise Unavailable(f"{path.name} can't be compiled here: {reason}")
         os.chmod(part, 0o755)
         os.replace(part, built)
     except (OSError, subprocess.TimeoutExpired) as error:
-        raise Unavailable(f"{path.name} can't be compiled here: {escaped(str(error))}") from error
+        raise Unavailable(f"{path.name} can't be compiled here: {escape(str(error))}") from error
     finally:
         part.unlink(missing_ok=True)

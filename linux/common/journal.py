@@ -84,7 +84,7 @@ class NodeJournal:
         return any(event.word in FILLING for event in self.events)
 
     def texts(self) -> Iterator[str]:
-        """The events' lines."""
+        """Returns the events' lines."""
         return (event.text() for event in self.events)
 
 
@@ -108,11 +108,11 @@ class Node(Protocol):
         """Whether an event is one that only version 3 has."""
 
     def texts(self) -> Iterator[str]:
-        """The events' lines."""
+        """Returns the events' lines."""
 
 
 def journal_lines(nodes: Sequence[Node]) -> Iterator[str]:
-    """The lines of a journal, in the lowest version that has all of its words."""
+    """Yields the lines of a journal, in the lowest version that has all of its words."""
     version = 2 if any(node.order != PMD_ORDER for node in nodes) else 1
     if any(node.fills or node.underused is not None for node in nodes):
         version = 3
@@ -126,12 +126,12 @@ def journal_lines(nodes: Sequence[Node]) -> Iterator[str]:
 
 
 def journal_text(nodes: Sequence[Node]) -> str:
-    """The text of a journal."""
+    """Returns the text of a journal."""
     return "".join(f"{line}\n" for line in journal_lines(nodes))
 
 
 def journal_of(text: str) -> List[NodeJournal]:
-    """Returns the nodes of a journal's text. InputFault where it isn't one; whether it is legal is for the judge."""
+    """Returns the nodes of a journal's text. InputFault where it isn't one; its legality is not checked."""
     lines = text.split("\n")
     if not re.fullmatch("thp-journal [123]", lines[0]) or lines[-2:] != ["end", ""]:
         raise InputFault("this is no journal")

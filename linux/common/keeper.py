@@ -26,9 +26,9 @@ from types import TracebackType
 from typing import Any, Dict, List, Optional, Sequence, Tuple, Type
 
 from .errors import Busy, RunFailed, Unavailable
-from .files import PathText, chosen, read, read_bytes, write
+from .files import PathText, read, read_bytes, selected_word, write
 from .guardian import HELD, PACKET, UNDO, put_back_all
-from .text import escaped, lines
+from .text import escape, lines
 
 FOLDER = "/run/leversorrel"  # the tools' own: root's, mode 0700; gone with the next start of the machine
 LOCK = "lock"
@@ -67,7 +67,7 @@ def take_lock(folder: str, name: str, wait: bool) -> int:
     try:
         fcntl.flock(lock, fcntl.LOCK_EX | fcntl.LOCK_NB)
     except OSError as error:
-        holder = escaped(os.pread(lock, 200, 0)).replace("\\x0a", "") or "another tool"
+        holder = escape(os.pread(lock, 200, 0)).replace("\\x0a", "") or "another tool"
         if not wait:
             os.close(lock)
             if error.errno not in (errno.EAGAIN, errno.EACCES):
@@ -91,7 +91,7 @@ def put_back_what_was_left(folder: str) -> List[str]:
         "held processes and groups": sum(len(entry.get("stop", [])) + ("freeze" in entry) for entry in entries),
     }
     found = ", ".join(f"{count} {what}" for what, count in counts.items() if count)
-    return [f"put back what a killed run left: {found or 'nothing'}", *map(escaped, problems)]
+    return [f"put back what a killed run left: {found or 'nothing'}", *map(escape, problems)]
 
 
 def recover(name: str, folder: str = FOLDER) -> List[str]:
@@ -159,26 +159,26 @@ class Keeper:
         name, now = str(path), ""
         try:
             if undo is None:
-                now = chosen(read(name))
+                now = selected_word(read(name))
                 if now == str(value):
                     return
             former = self._former.setdefault(name, now if undo is None else undo)
-            self._tell({"file": name, "text": former, "set": "" if undo is not None else str(value)})
+            self._send_order({"file": name, "text": former, "set": "" if undo is not None else str(value)})
             write(name, value)
         except OSError as error:
             raise Unavailable(f"{name} can't be set to {value}: {error.strerror}") from error
 
     def make_group(self, path: PathText) -> None:
         """Makes a control group: a folder of cgroupfs."""
-        self._tell({"group": str(path), "inode": 0})
+        self._send_order({"group": str(path), "inode": 0})
         try:
             os.mkdir(path, 0o755)
-            self._tell({"group": str(path), "inode": os.stat(path).st_ino})
+            self._send_order({"group": str(path), "inode": os.stat(path).st_ino})
         except OSError as error:
             raise Unavailable(f"control group {path} can't be made: {error.strerror}") from error
 
     def own(self, process: int) -> None:
-        """Hands the guardian a child of the tool, which doesn't outlive the tool."""
+        """Passes a child of the tool to the guardian; it doesn't outlive the tool."""
         descriptor = os.pidfd_open(process)
         try:
             self.own_descriptor(descriptor, process)
@@ -186,36 +186,37 @@ class Keeper:
             os.close(descriptor)
 
     def own_descriptor(self, descriptor: int, number: int = 0) -> None:
-        """Hands the guardian a process by its pidfd, which the caller may close afterwards."""
-        self._tell({"keep": number or process_of(descriptor)}, [descriptor])
+        """Passes a process to the guardian by its pidfd, which the caller may close afterwards."""
+        self._send_order({"keep": number or process_of(descriptor)}, [descriptor])
 
     def disown(self, process: int) -> None:
-        """Such a process has ended."""
-        self._tell({"forget": process})
+        """Notes that such a process has ended."""
+        self._send_order({"forget": process})
 
     def begin_hold(self, limit: float) -> List[int]:
         """Begins a time of at most `limit` seconds in which processes are held, and returns those that must not be: the
         tool and its guardians."""
-        return [int(number) for number in self._facts({"hold": limit})]
+        return [int(number) for number in self._request_json({"hold": limit})]
 
     def freeze(self, file: str, text: str, former: str) -> None:
         """Freezes a control group by its freezer's file, until `end_hold`. RunFailed where the tool itself or its
         guardian would be frozen."""
-        self._tell({"freeze": file, "text": text, "former": former})
+        self._send_order({"freeze": file, "text": text, "former": former})
 
     def stop(self, processes: Sequence[Tuple[int, int]]) -> None:
         """Stops processes, given by number and start (`start_of`), until `end_hold`."""
         for first in range(0, len(processes), 1000):
-            self._tell({"stop": list(processes[first : first + 1000])})
+            self._send_order({"stop": list(processes[first : first + 1000])})
 
     def end_hold(self) -> Tuple[float, bool]:
         """Lets all held processes run on; returns for how many seconds they were held, and whether the limit ended
         it."""
-        facts = self._facts({"release": 1})
+        facts = self._request_json({"release": 1})
         return float(facts["seconds"]), bool(facts["late"])
 
     def close(self) -> None:
-        """Has everything put back, and waits for it. The guardian reports on standard error what could not be."""
+        """Has the guardian restore everything, and waits for it. The guardian reports what it could not restore on
+        standard error."""
         guardian, self._guardian = self._guardian, None
         if guardian is None:
             return
@@ -223,20 +224,20 @@ class Keeper:
         guardian.wait()
         os.close(self._lock)
 
-    def _tell(self, order: Dict[str, Any], descriptors: Sequence[int] = ()) -> None:
-        answer = self._ask(order, descriptors)
+    def _send_order(self, order: Dict[str, Any], descriptors: Sequence[int] = ()) -> None:
+        answer = self._request(order, descriptors)
         if answer != "ok":
             raise RunFailed(answer)
 
-    def _facts(self, order: Dict[str, Any]) -> Any:
-        """The JSON value that answers an order."""
-        answer = self._ask(order)
+    def _request_json(self, order: Dict[str, Any]) -> Any:
+        """Returns the JSON value that answers an order."""
+        answer = self._request(order)
         try:
             return json.loads(answer)
         except ValueError as error:
             raise RunFailed(answer) from error
 
-    def _ask(self, order: Dict[str, Any], descriptors: Sequence[int] = ()) -> str:
+    def _request(self, order: Dict[str, Any], descriptors: Sequence[int] = ()) -> str:
         if self._guardian is None:
             raise RunFailed(ENDED)
         try:

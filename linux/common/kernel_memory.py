@@ -1,7 +1,7 @@
 """Kernel memory read by BPF programs, and what the tools find in it: control groups, deferred split queues, struct
 page.
 
-Wants root (CAP_BPF, CAP_PERFMON), BPF_SYSCALL and DEBUG_INFO_BTF. Works where lockdown allows BPF to read (integrity).
+Needs root (CAP_BPF, CAP_PERFMON), BPF_SYSCALL and DEBUG_INFO_BTF. Works where lockdown allows BPF to read (integrity).
 A queue is copied by one program run, without its lock: a copy that changed meanwhile may miss its end, and is then made
 again; it is whole where the walk ends at the queue's head.
 """
@@ -26,7 +26,7 @@ LINKS = 2048  # list links that one call follows
 TRIES = 20  # walks of a list that changes
 
 
-class Changing(Unavailable):
+class ListChanged(Unavailable):
     """A list changed during each of the walks."""
 
 
@@ -52,7 +52,7 @@ class GroupFields:
     number: int
 
     @staticmethod
-    def of(types: Types) -> GroupFields:
+    def from_types(types: Types) -> GroupFields:
         state, link = "cgroup_subsys_state", "struct list_head"
         memory = types.enumerator("memory_cgrp_id")
         types.field("mem_cgroup", "css", "struct cgroup_subsys_state")
@@ -79,7 +79,7 @@ class QueueFields:
     link: int
 
     @staticmethod
-    def of(types: Types) -> QueueFields:
+    def from_types(types: Types) -> QueueFields:
         link = "struct list_head"
         return QueueFields(
             types.offset("mem_cgroup", "deferred_split_queue.split_queue", link),
@@ -106,11 +106,11 @@ class KernelMemory:
     # memory
 
     def load(self, make: Callable[[int], Assembler]) -> int:
-        """A program, made for the file descriptor of the window, which `run` runs."""
+        """Returns a program, made for the file descriptor of the window, which `run` runs."""
         return load_program(ProgramType.SYSCALL, make(self._descriptor), SLEEPABLE)
 
     def run(self, program: int, first: int, second: int) -> int:
-        """The answer of a program that is given two numbers; more it leaves in the window."""
+        """Returns the answer of a program that is given two numbers; more it leaves in the window."""
         struct.pack_into("<QQ", self._context, 0, first, second)
         attributes = struct.pack("<IIIIQQIIII", program, 0, 0, 0, 0, 0, 0, 0, 16, 0)
         attributes += struct.pack("<QQ", ctypes.addressof(self._context), 0)
@@ -123,16 +123,16 @@ class KernelMemory:
         return self.window[:size]
 
     def word(self, address: int) -> int:
-        """The 64-bit number at a kernel address."""
+        """Returns the 64-bit number at a kernel address."""
         return int(struct.unpack("<Q", self.read(address, 8))[0])
 
     def task(self) -> int:
-        """The address of the caller's own struct task_struct."""
+        """Returns the address of the caller's own struct task_struct."""
         self.run(self._reader, 0, 0)
         return int(struct.unpack("<Q", self.window[:8])[0])
 
     def links(self, head: int, limit: int = 1 << 20) -> List[int]:
-        """The addresses of a list's links, without its head (struct list_head)."""
+        """Returns the addresses of a list's links, without its head (struct list_head)."""
         for _ in range(TRIES):
             out: List[int] = []
             at = head
@@ -143,22 +143,22 @@ class KernelMemory:
                 out += struct.unpack(f"<{count}Q", self.window[16 : 16 + 8 * count])
                 if at == head:
                     return out
-        raise Changing(f"the list at {head:#x} changes all the time")
+        raise ListChanged(f"the list at {head:#x} changes all the time")
 
     # control groups and queues
 
     def group_fields(self) -> GroupFields:
         if self._groups is None:
-            self._groups = GroupFields.of(self.types)
+            self._groups = GroupFields.from_types(self.types)
         return self._groups
 
     def queue_fields(self) -> QueueFields:
         if self._queues is None:
-            self._queues = QueueFields.of(self.types)
+            self._queues = QueueFields.from_types(self.types)
         return self._queues
 
     def groups(self) -> Dict[int, int]:
-        """The addresses of all struct mem_cgroup by the inode numbers of their folders."""
+        """Returns the addresses of all struct mem_cgroup by the inode numbers of their folders."""
         at = self.group_fields()
         css = self.word(self.word(self.task() + at.task) + at.css)
         while self.word(css + at.parent):
@@ -171,14 +171,14 @@ class KernelMemory:
         return out
 
     def group(self, path: str) -> int:
-        """The address of the struct mem_cgroup whose folder is `path`."""
+        """Returns the address of the struct mem_cgroup whose folder is `path`."""
         found = self.groups().get(os.stat(path).st_ino)
         if found is None:
             raise Unavailable(f"no memory control group at {path}")
         return found
 
     def queue(self, group: int) -> Queue:
-        """The deferred split queue of the struct mem_cgroup at this address."""
+        """Returns the deferred split queue of the struct mem_cgroup at this address."""
         at = self.queue_fields()
         links = self.links(group + at.head)
         return Queue([link - at.link for link in links], self.word(group + at.length))
@@ -186,24 +186,25 @@ class KernelMemory:
     # struct page
 
     def vmemmap(self) -> Tuple[int, int]:
-        """Where struct page of frame 0 is, and the bytes of a struct page: by a page of our own, known both ways."""
+        """Returns where struct page of frame 0 is, and the bytes of a struct page: by a page of our own, known both
+        ways."""
         size = self.types.struct_size("page")
         if self._vmemmap is None:
             self._vmemmap = self._find_vmemmap(size)
         return self._vmemmap, size
 
     def frame(self, folio: int) -> int:
-        """The frame whose struct page is at this address."""
+        """Returns the frame whose struct page is at this address."""
         start, size = self.vmemmap()
         return (folio - start) // size
 
     def folio(self, frame: int) -> int:
-        """The address of the struct page of a frame."""
+        """Returns the address of the struct page of a frame."""
         start, size = self.vmemmap()
         return start + size * frame
 
     def queue_frames(self, group: int) -> List[int]:
-        """The first frames of the pages in a control group's queue, oldest first."""
+        """Returns the first frames of the pages in a control group's queue, oldest first."""
         return [self.frame(folio) for folio in self.queue(group).folios]
 
     def _find_vmemmap(self, size: int) -> int:
@@ -230,7 +231,7 @@ class KernelMemory:
 
 
 def symbols(wanted: Iterable[str]) -> Dict[str, int]:
-    """The addresses of kernel functions and variables by their names, of those that /proc/kallsyms lists."""
+    """Returns the addresses of kernel functions and variables by their names, of those that /proc/kallsyms lists."""
     names = {name.encode() for name in wanted}
     out: Dict[str, int] = {}
     with open("/proc/kallsyms", "rb") as file:

@@ -9,7 +9,7 @@ from dataclasses import dataclass
 from typing import Callable, List, Optional, Tuple
 
 from .errors import Unavailable
-from .files import BASE, PMD_ORDER, PTES_NONE, SWITCH, THP, chosen, read, size_folder
+from .files import BASE, PMD_ORDER, PTES_NONE, SWITCH, THP, read, selected_word, size_folder
 from .groups import find_hierarchy
 from .kernel_memory import KernelMemory
 from .page_files import Frames, frames_at
@@ -17,15 +17,15 @@ from .page_files import Frames, frames_at
 
 @dataclass(frozen=True)
 class Part:
-    """One thing that a tool wants: whether it is here, and how or why not."""
+    """One thing that a tool needs: whether this machine has it, and in which form, or why not."""
 
     name: str
     here: bool
     text: str
 
 
-def part(name: str, look: Callable[[], str]) -> Part:
-    """A part by a function that tells how it is here, or raises Unavailable."""
+def probe_part(name: str, look: Callable[[], str]) -> Part:
+    """Returns the part that `look` describes; `look` raises Unavailable where the machine lacks it."""
     try:
         return Part(name, True, look())
     except (Unavailable, OSError) as lacking:
@@ -33,18 +33,18 @@ def part(name: str, look: Callable[[], str]) -> Part:
 
 
 def first_line(error: BaseException) -> str:
-    """The first line of what an exception says."""
+    """Returns the first line of an exception's text."""
     return str(error).split("\n", 1)[0]
 
 
 def table(parts: List[Part]) -> str:
-    """One line for each part."""
+    """Returns one line for each part."""
     width = max(len(each.name) for each in parts)
     return "\n".join(f"{each.name:{width}}  {'yes' if each.here else 'no '}  {each.text}" for each in parts)
 
 
 def kernel() -> str:
-    """The kernel's version."""
+    """Returns the kernel's version."""
     return f"Linux {os.uname().release}, {os.uname().machine}"
 
 
@@ -57,14 +57,14 @@ def privileged() -> str:
 def huge_pages() -> str:
     if not os.path.isdir(THP):
         raise Unavailable("this kernel has no transparent huge pages (TRANSPARENT_HUGEPAGE)")
-    mode = chosen(read(f"{THP}/enabled"))
+    mode = selected_word(read(f"{THP}/enabled"))
     if mode == "never":
         raise Unavailable(f"transparent huge pages are switched off ({THP}/enabled: never)")
     return f"enabled: {mode}"
 
 
 def orders() -> List[int]:
-    """The orders of which this kernel has pages with settings of their own."""
+    """Returns the orders of which this kernel has pages with settings of their own."""
     return [order for order in range(2, PMD_ORDER + 1) if os.path.isdir(size_folder(order))]
 
 
@@ -115,7 +115,7 @@ INITIAL_NAMESPACE = 0xEFFFFFFC  # include/linux/proc_ns.h: PROC_PID_INIT_INO
 
 
 def namespace_note() -> str:
-    """What a tool that runs in a PID namespace of its own can't see, in a line; nothing in the initial one."""
+    """Returns what a tool that runs in a PID namespace of its own can't see, in a line; nothing in the initial one."""
     if os.stat("/proc/self/ns/pid").st_ino == INITIAL_NAMESPACE:
         return ""
     return "in a PID namespace: only the processes of this namespace are seen, others of the machine are not"
@@ -128,23 +128,23 @@ def memory() -> Tuple[Optional[KernelMemory], List[Part]]:
     except (Unavailable, OSError) as lacking:
         return None, [Part("kernel memory", False, first_line(lacking))]
 
-    def located() -> str:
+    def locate_groups() -> str:
         found.group_fields()
         return f"{len(found.groups())} control groups"
 
-    def queued() -> str:
+    def locate_queues() -> str:
         found.queue_fields()
         return "mem_cgroup.deferred_split_queue, folio._deferred_list"
 
-    def mapped() -> str:
+    def locate_pages() -> str:
         return f"struct page of {found.vmemmap()[1]} bytes"
 
-    parts = [Part("kernel memory", True, "BPF, BTF"), part("control groups in it", located)]
-    return found, [*parts, part("queues in it", queued), part("struct page in it", mapped)]
+    parts = [Part("kernel memory", True, "BPF, BTF"), probe_part("control groups in it", locate_groups)]
+    return found, [*parts, probe_part("queues in it", locate_queues), probe_part("struct page in it", locate_pages)]
 
 
 def common_parts() -> List[Part]:
-    """What every tool wants."""
+    """Returns the parts that every tool needs."""
     looks: List[Tuple[str, Callable[[], str]]] = [
         ("root", privileged),
         ("huge pages", huge_pages),
@@ -154,7 +154,7 @@ def common_parts() -> List[Part]:
         ("frames", frames),
         ("counters", counters),
     ]
-    return [part(name, look) for name, look in looks]
+    return [probe_part(name, look) for name, look in looks]
 
 
 def demand(parts: List[Part], names: List[str]) -> None:

@@ -62,12 +62,12 @@ class NumberFile:
 
 
 def frame_of_entry(entry: int) -> Optional[int]:
-    """The frame of a pagemap entry, or None where nothing is present."""
+    """Returns the frame of a pagemap entry, or None where nothing is present."""
     return entry & _FRAME if entry & _PRESENT else None
 
 
 def frames_at(process: int, address: int, count: int) -> List[Optional[int]]:
-    """The frames that a process maps at `count` base pages from an address on; None where none is present."""
+    """Returns the frames that a process maps at `count` base pages from an address on; None where none is present."""
     with NumberFile(f"/proc/{process}/pagemap") as pagemap:
         return [frame_of_entry(entry) for entry in pagemap.at(address // BASE, count)]
 
@@ -79,15 +79,15 @@ class Frames:
         self._flags, self._counts = NumberFile("/proc/kpageflags"), NumberFile("/proc/kpagecount")
 
     def flags(self, first: int, count: int) -> Tuple[int, ...]:
-        """The flags (PageFlag) of `count` frames."""
+        """Returns the flags (PageFlag) of `count` frames."""
         return self._flags.at(first, count)
 
     def counts(self, first: int, count: int) -> Tuple[int, ...]:
-        """How often each of `count` frames is mapped."""
+        """Returns how often each of `count` frames is mapped."""
         return self._counts.at(first, count)
 
     def whole(self, first: int, count: int) -> int:
-        """How many of these frames are still parts of one compound page that begins at the first."""
+        """Returns how many of these frames are still parts of one compound page that begins at the first."""
         wanted = [PageFlag.COMPOUND_HEAD] + [PageFlag.COMPOUND_TAIL] * (count - 1)
         return sum(bool(flags & part) for flags, part in zip(self.flags(first, count), wanted))
 

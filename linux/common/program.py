@@ -13,7 +13,7 @@ from typing import IO, Dict, List, Optional, Sequence, Union
 from .errors import InputFault, RunFailed, Unavailable
 from .journal import NodeJournal, journal_of
 from .keeper import FOLDER, open_folder
-from .text import escaped, text_lines
+from .text import escape, text_lines
 from .user import command_of, nobody
 
 HERE = Path(__file__).resolve().parent
@@ -22,8 +22,8 @@ BUILT = CRATES / "thpsplit/out/thpsplit"
 INSTALLED = ("lib", "thpsplit", "linux", "common")  # where `make install` puts these files below its prefix
 
 
-class Refused(InputFault):
-    """The program finds a fault in a text; it says the line and a word."""
+class TextError(InputFault):
+    """The program rejects a text; the message has the line and the word of the error."""
 
 
 @dataclass(frozen=True)
@@ -37,7 +37,7 @@ class Answer:
 
 @dataclass(frozen=True)
 class Verdict:
-    """What the check says of a journal: legal, illegal at a line (from 1), or a fault of the text. `why`: lines that
+    """The result of a check of a journal: legal, illegal at a line (from 1), or an error of the text. `why`: lines that
     explain an illegal one, where the check has such."""
 
     legal: bool
@@ -47,14 +47,14 @@ class Verdict:
 
 
 def find(name: str, built: Path, given: Optional[str] = None) -> Optional[str]:
-    """The program of a name: the path given, the one that the environment names ($THPSPLIT, $THPCHECK), the one built
-    in this repository or installed beside the tools, or the one on the path. None: there is none. Unavailable where
-    one that is named isn't there."""
+    """Returns the program of a name: the path given, the one that the environment names ($THPSPLIT, $THPCHECK), the one
+    built in this repository or installed beside the tools, or the one on the path. None: there is none. Unavailable
+    where one that is named isn't there."""
     for path in (given, os.environ.get(name.upper())):
         if path:
             found = shutil.which(path)
             if not found:
-                raise Unavailable(f"no program {escaped(path)}")
+                raise Unavailable(f"no program {escape(path)}")
             return os.path.abspath(found)
     beside = [HERE.parents[3] / "bin" / name] if HERE.parts[-4:] == INSTALLED else []
     for place in (built, *beside):
@@ -65,7 +65,7 @@ def find(name: str, built: Path, given: Optional[str] = None) -> Optional[str]:
 
 
 def find_program(given: Optional[str] = None) -> str:
-    """The path of `thpsplit`, as `find` looks for it; Unavailable where there is none."""
+    """Returns the path of `thpsplit`, as `find` looks for it; Unavailable where there is none."""
     found = find("thpsplit", BUILT, given)
     if not found:
         raise Unavailable("no thpsplit: build it (make run), or name it by --program or THPSPLIT")
@@ -92,7 +92,7 @@ def start(
     except (OSError, ValueError) as error:
         reason = getattr(error, "strerror", None) or str(error)
         rights = "" if user.is_caller else " as user nobody (CAP_SETUID, CAP_SETGID)"
-        raise Unavailable(f"{escaped(path)} can't be run{rights}: {reason}") from error
+        raise Unavailable(f"{escape(path)} can't be run{rights}: {reason}") from error
     finally:
         for each in descriptors:
             os.close(each)
@@ -126,14 +126,14 @@ def call(path: str, options: Sequence[str], text: str) -> subprocess.CompletedPr
 
 
 def check(path: str, options: Sequence[str], journal: str) -> Verdict:
-    """Whether a journal's text is legal, by a program that checks it with these options."""
+    """Returns whether a journal's text is legal, by a program that checks it with these options."""
     done = call(path, options, journal)
-    told = (done.stdout or done.stderr).strip()
-    found = re.fullmatch(r"illegal line ([0-9]{1,18})", told) if done.returncode == 1 else None
+    output = (done.stdout or done.stderr).strip()
+    found = re.fullmatch(r"illegal line ([0-9]{1,18})", output) if done.returncode == 1 else None
     line = int(found[1]) if found else None
     if done.returncode not in (0, 1, 2) or (done.returncode == 1 and line is None):
-        raise RunFailed(f"{escaped(path)} ended with status {done.returncode}: {escaped(told)[:200]}")
-    return Verdict(done.returncode == 0, line, told, done.stderr.strip() if line else "")
+        raise RunFailed(f"{escape(path)} ended with status {done.returncode}: {escape(output)[:200]}")
+    return Verdict(done.returncode == 0, line, output, done.stderr.strip() if line else "")
 
 
 class Program:
@@ -143,11 +143,11 @@ class Program:
         self.path = find_program(path)
 
     def report(self, kind: str, text: str, options: Sequence[str] = ()) -> str:
-        """A report on a script: `totals`, `answers` or `journal`. Refused where the script has a fault."""
+        """Returns a report on a script: `totals`, `answers` or `journal`. TextError where the script has an error."""
         return self._run([*options, "--report", kind], text)
 
     def totals(self, text: str, options: Sequence[str] = ()) -> List[Dict[str, int]]:
-        """The totals of each node by their names."""
+        """Returns the totals of each node by their names."""
         nodes: List[Dict[str, int]] = []
         try:
             for line in text_lines(self.report("totals", text, options)):
@@ -156,30 +156,30 @@ class Program:
                     nodes.append({})
                 nodes[-1][name] = int(value)
         except (ValueError, IndexError) as error:
-            raise RunFailed(f"{escaped(self.path)} writes no totals") from error
+            raise RunFailed(f"{escape(self.path)} writes no totals") from error
         return nodes
 
     def answers(self, text: str, options: Sequence[str] = ()) -> List[Answer]:
-        """The answers of all commands, in order."""
+        """Returns the answers of all commands, in order."""
         split = (line.split(" ", 2) for line in text_lines(self.report("answers", text, options)))
         try:
             return [Answer(int(section), int(place), words) for section, place, words in split]
         except ValueError as error:
-            raise RunFailed(f"{escaped(self.path)} writes no answers") from error
+            raise RunFailed(f"{escape(self.path)} writes no answers") from error
 
     def journal(self, text: str, options: Sequence[str] = ()) -> List[NodeJournal]:
-        """The journals of all nodes."""
+        """Returns the journals of all nodes."""
         return journal_of(self.report("journal", text, options))
 
     def check(self, journal: str) -> Verdict:
-        """Whether a journal's text is legal."""
+        """Returns whether a journal's text is legal."""
         return check(self.path, ["--check"], journal)
 
     def _run(self, options: Sequence[str], text: str) -> str:
         done = call(self.path, options, text)
         if done.returncode == 2:
-            raise Refused(escaped(done.stderr.strip()))
+            raise TextError(escape(done.stderr.strip()))
         if done.returncode:
-            told = escaped(done.stderr.strip())[:200]
-            raise RunFailed(f"{escaped(self.path)} ended with status {done.returncode}: {told}")
+            output = escape(done.stderr.strip())[:200]
+            raise RunFailed(f"{escape(self.path)} ended with status {done.returncode}: {output}")
         return done.stdout

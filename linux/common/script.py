@@ -12,10 +12,10 @@ from dataclasses import dataclass
 from pathlib import Path
 from typing import List, NoReturn, Optional, Sequence
 
+from .arguments import whole
 from .errors import InputFault
 from .files import PMD_ORDER, read_input
 from .text import text_lines
-from .words import whole
 
 MARK = "# thpsplit "
 MOST_NODES, MOST_BLOCKS, MOST_WORKERS, LEAST_ORDER = 8, 4096, 63, 2  # docs/FORMATS.md
@@ -65,17 +65,17 @@ def options_of(words: Sequence[str]) -> Options:
     for name in ("orders", "underused", "report"):
         parser.add_argument(f"--{name}")
     parser.add_argument("--check", action="store_true")
-    told = parser.parse_args(list(words))
-    if told.check:
+    parsed = parser.parse_args(list(words))
+    if parsed.check:
         raise InputFault("settings of a script: --check reads a journal")
-    orders = [_number(text, PMD_ORDER) for text in told.orders.split(",")] if told.orders else [PMD_ORDER] * told.nodes
-    switches = told.underused.split(",") if told.underused else ["off"] * told.nodes
-    if len(orders) != told.nodes or len(switches) != told.nodes:
+    orders = [_number(text, PMD_ORDER) for text in parsed.orders.split(",")] if parsed.orders else [PMD_ORDER] * parsed.nodes
+    switches = parsed.underused.split(",") if parsed.underused else ["off"] * parsed.nodes
+    if len(orders) != parsed.nodes or len(switches) != parsed.nodes:
         raise InputFault("settings of a script: a list is as long as there are nodes")
     if min(orders) < LEAST_ORDER:
         raise InputFault(f"settings of a script: orders are {LEAST_ORDER} to {PMD_ORDER}")
     underused = [None if text == "off" else _number(text, (1 << order) - 1) for text, order in zip(switches, orders)]
-    return Options(told.nodes, told.blocks, told.workers, tuple(orders), tuple(underused))
+    return Options(parsed.nodes, parsed.blocks, parsed.workers, tuple(orders), tuple(underused))
 
 
 @dataclass(frozen=True)

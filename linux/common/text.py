@@ -8,7 +8,7 @@ _SHOWN = [chr(byte) if 32 <= byte < 127 else f"\\x{byte:02x}" for byte in range(
 _SHOWN[ord("\\")] = "\\\\"
 
 
-def escaped(text: Union[str, bytes]) -> str:
+def escape(text: Union[str, bytes]) -> str:
     """Returns a text as one line of printable ASCII: a backslash as `\\\\`, every other byte as `\\xNN`."""
     if isinstance(text, str):
         text = text.encode("utf-8", "surrogateescape" if is_from_bytes(text) else "replace")
@@ -17,7 +17,7 @@ def escaped(text: Union[str, bytes]) -> str:
 
 def one_line(text: str) -> str:
     """Returns a message as one line of printable ASCII. What it quotes is escaped already, so its backslashes stay."""
-    return "".join(letter if " " <= letter <= "~" else escaped(letter) for letter in text)
+    return "".join(letter if " " <= letter <= "~" else escape(letter) for letter in text)
 
 
 def is_from_bytes(text: str) -> bool:

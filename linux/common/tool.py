@@ -6,7 +6,7 @@ import ctypes
 import os
 import signal
 import sys
-from typing import Callable, NoReturn
+from typing import Callable, NoReturn, Optional
 
 from .errors import end_by_signals, status_of
 from .keeper import recover
@@ -41,14 +41,19 @@ def heed_interrupts() -> None:
 
 
 def write_nothing_more() -> None:
-    """Leads standard output to /dev/null: what is still to be written there can't be."""
+    """Redirects standard output to /dev/null, since it can't be written."""
     os.dup2(os.open(os.devnull, os.O_WRONLY), sys.stdout.fileno())
 
 
-def run_tool(name: str, main: Callable[[], int]) -> NoReturn:
+def run_tool(name: str, main: Callable[[], int], on_error: Optional[int] = None) -> NoReturn:
     """Runs a tool's main function and ends with its status. Every error is one line on standard error: 77 where the
     machine lacks something, 2 for words and texts, 75 where another tool runs, 3 for the rest. What an earlier run left that
-    was killed with its guardian is put back first."""
+    was killed with its guardian is put back first. `on_error`: the status of every error, where callers need another."""
+
+    def status_for(error: BaseException) -> int:
+        status = status_of(name, error)
+        return status if on_error is None or status > 128 else on_error
+
     open_standard_streams()
     keep_memory_secret()
     heed_interrupts()
@@ -61,12 +66,14 @@ def run_tool(name: str, main: Callable[[], int]) -> NoReturn:
     except BrokenPipeError:
         write_nothing_more()
         status = 128 + signal.SIGPIPE
+    except SystemExit as end:  # by --help, --version or a signal
+        status = end.code if isinstance(end.code, int) else 0
     except (Exception, KeyboardInterrupt) as error:
-        status = status_of(name, error)
+        status = status_for(error)
     try:
         sys.stdout.flush()
     except OSError as error:
-        status = status or status_of(name, error)
+        status = status or status_for(error)
         write_nothing_more()
     signal.signal(signal.SIGINT, signal.SIG_DFL)
     sys.exit(status)

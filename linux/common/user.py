@@ -1,4 +1,4 @@
-"""The users as whom other programs are run: the one behind `sudo`, a named one, or nobody."""
+"""The users as whom other programs are run: the caller of `sudo`, a named one, or nobody."""
 
 from __future__ import annotations
 
@@ -12,7 +12,7 @@ from pathlib import Path
 from typing import Any, Dict, List, Optional, Tuple
 
 from .errors import InputFault, Unavailable
-from .text import escaped
+from .text import escape
 
 NOBODY = 65534  # of Debian's base-passwd
 
@@ -41,11 +41,11 @@ class User:
         resource.setrlimit(resource.RLIMIT_CORE, (0, resource.getrlimit(resource.RLIMIT_CORE)[1]))
 
     def rights(self) -> Dict[str, Any]:
-        """The words of subprocess.Popen by which a program runs as this user."""
+        """Returns the words of subprocess.Popen by which a program runs as this user."""
         return {} if self.is_caller else {"user": self.number, "group": self.group, "extra_groups": self.groups}
 
     def environment(self) -> Dict[str, str]:
-        """The environment of the user's programs: the caller's, with this user's name and home."""
+        """Returns the environment of the user's programs: the caller's, with this user's name and home."""
         out = {name: value for name, value in os.environ.items() if not name.startswith("SUDO_")}
         if not self.is_caller:
             out.update(HOME=self.home, USER=self.name, LOGNAME=self.name)
@@ -58,7 +58,7 @@ def _user(found: pwd.struct_passwd) -> User:
 
 
 def user_for(name: Optional[str]) -> User:
-    """Returns the user of a name or number; without one, the user behind `sudo`, or the caller. InputFault where there is
+    """Returns the user of a name or number; without one, the caller of `sudo`, or the caller. InputFault where there is
     no such user, Unavailable where the caller may not run programs as another user."""
     given = name if name is not None else os.environ.get("SUDO_UID") if os.geteuid() == 0 else None
     try:
@@ -69,7 +69,7 @@ def user_for(name: Optional[str]) -> User:
         else:
             found = pwd.getpwnam(given)
     except (KeyError, ValueError) as error:
-        raise InputFault(f"no user {escaped(given or str(os.geteuid()))[:40]}") from error
+        raise InputFault(f"no user {escape(given or str(os.geteuid()))[:40]}") from error
     user = _user(found)
     if os.geteuid() not in (0, user.number):
         raise Unavailable(f"not root: programs can't be run as {user.name}")

@@ -1,25 +1,25 @@
-"""The kernel's own deferred split queue as a journal, judged by `thpcheck`.
+"""Records the kernel's own deferred split queue as a journal, and has `thpcheck` check it.
 
-    options     the command line
-    recorder    a recording: control groups, taps, what runs in them
-        commands    commands in control groups, from their start to their end
-    tap         BPF programs on raw tracepoints, and the ring of their records
-        programs    a program for each tracepoint
-        pieces      what programs are made of, and which records are worth sending
-        ring        records taken out of the ring in bulk
-    store       records on disk, read back in passes
-    records     what a record reports
-    calls       what system calls do to mappings
-    folios      a recorded page, and who maps it
-    journalist  records made into a journal, over
-        state       what is known while they are told
-        lines       the journal's latest lines, and older ones on disk
-        mappings    what calls, forks and ends of address spaces do to pages
-        agreement   the kernel's queue beside ours
-        scans       what the shrinker took, split and put back
-    judging     the journal as a file, and its judge
-    outputs     the files that are asked for
-    tampering   spoilt copies of a journal
+    options          the command line
+    recorder         a recording: control groups, trace programs, the commands that run
+        commands         commands in control groups, from their start to their end
+    trace_programs   BPF programs on raw tracepoints, and the ring of their records
+        program_builder  a program for each tracepoint
+        program_parts    parts that programs share; which records are sent
+        ring             reads records from the ring in bulk
+    store            records on disk, read back in passes
+    records          the kinds and fields of records
+    calls            effects of system calls on mappings
+    pages            a recorded page, and the address spaces that map it
+    journal_builder  builds a journal from records, with
+        state            pages, mappings, queue and journal so far
+        lines            the journal's latest lines, and older ones on disk
+        mappings         effects of calls, forks and ends of address spaces on pages
+        queue_matcher    compares the kernel's queue with the journal's
+        scans            pages that the shrinker took, split and put back
+    journal_file     the journal as a file, and its check
+    outputs          the output files
+    tampering        altered copies of a journal
     workload.c  threads that make, divide and drop huge pages
     examples    programs to record
     __main__    recordings, one after another, and what is printed

@@ -1,4 +1,4 @@
-"""What system calls do to the mappings in their address space, by their arguments and answers.
+"""Effects of system calls on the mappings in their address space, by their arguments and return values.
 
 Rules: man pages of section 2; mm/mremap.c, mm/mmap.c and mm/madvise.c of the kernel. Numbers are those of x86-64.
 """
@@ -25,8 +25,8 @@ ERRORS = 4095  # answers from -ERRORS on are errors
 _WORD = (1 << 64) - 1
 
 
-class Does(enum.Enum):
-    """What becomes of the mappings in a range."""
+class MappingChange(enum.Enum):
+    """The change that an effect makes to the mappings in a range."""
 
     REMOVES = "they go, with the area"
     EMPTIES = "they go, and the area stays"
@@ -35,55 +35,56 @@ class Does(enum.Enum):
     LOSES = "it isn't followed"
 
 
-TAKING = (Does.REMOVES, Does.EMPTIES)
+REMOVING = (MappingChange.REMOVES, MappingChange.EMPTIES)
 
 
 @dataclass(frozen=True)
 class Effect:
-    """What a call does to a range of addresses; `by`: how far mappings move."""
+    """A change of the mappings in a range of addresses; `by`: how far mappings move."""
 
-    does: Does
+    change: MappingChange
     start: int
     end: int
     by: int = 0
 
 
-def _upward(address: int) -> int:
-    """The next border of base pages."""
+def _round_up(address: int) -> int:
+    """Returns the next border of base pages."""
     return (address + BASE - 1) // BASE * BASE
 
 
-def has_succeeded(asked: Record, answer: int) -> bool:
-    """Whether a call has done what it was asked."""
-    number, start = asked.values[:2]
+def has_succeeded(call: Record, answer: int) -> bool:
+    """Returns whether a call has done what it was asked."""
+    number, start = call.values[:2]
     error = -answer & _WORD if -answer & _WORD <= ERRORS else 0
     if number == BRK:
         return answer == start
     return not error or (number == MADVISE and error == NO_MEMORY)
 
 
-def effects(asked: Record, answer: Optional[int] = None) -> List[Effect]:
-    """What a call does, in order. Without an answer it still runs: what it does if it succeeds, but for moves."""
-    number, start, length, third, program_break = asked.values[:5]
-    end = _upward(start + length)
+def list_effects(call: Record, answer: Optional[int] = None) -> List[Effect]:
+    """Returns the effects of a call, in order. Without a return value the call still runs: its effects if it succeeds,
+    except moves."""
+    number, start, length, third, program_break = call.values[:5]
+    end = _round_up(start + length)
     if number in (MUNMAP, MMAP):  # of mmap those alone are recorded that replace what is there
-        return [Effect(Does.REMOVES, start, end)]
+        return [Effect(MappingChange.REMOVES, start, end)]
     if number == BRK:
-        return [Effect(Does.REMOVES, _upward(start), _upward(program_break))] if start < program_break else []
+        return [Effect(MappingChange.REMOVES, _round_up(start), _round_up(program_break))] if start < program_break else []
     if number == MREMAP:
-        return _moves(start, length, third, answer)
+        return _list_mremap_effects(start, length, third, answer)
     if number in (COLLAPSE, COPIED) or (number == MADVISE and third in EMPTYING):
-        return [Effect(Does.EMPTIES, start, end)]
+        return [Effect(MappingChange.EMPTIES, start, end)]
     if number == MPROTECT or (number == MADVISE and third in CUTTING):
-        return [Effect(Does.CUTS, start, end)]
-    return [Effect(Does.LOSES, start, end)] if number == MADVISE and third in LOSING else []
+        return [Effect(MappingChange.CUTS, start, end)]
+    return [Effect(MappingChange.LOSES, start, end)] if number == MADVISE and third in LOSING else []
 
 
-def _moves(start: int, old: int, new: int, answer: Optional[int]) -> List[Effect]:
-    """Of mremap: what is beyond the new length goes, then what stood at the new place; then the rest moves there."""
-    edge, end = _upward(start + new), _upward(start + old)
-    out = [Effect(Does.REMOVES, edge, end)] if edge < end else []
+def _list_mremap_effects(start: int, old: int, new: int, answer: Optional[int]) -> List[Effect]:
+    """Effects of mremap: removes what is beyond the new length, then what is at the new place; then moves the rest."""
+    edge, end = _round_up(start + new), _round_up(start + old)
+    out = [Effect(MappingChange.REMOVES, edge, end)] if edge < end else []
     if answer is not None and answer != start:
-        out.append(Effect(Does.REMOVES, answer, _upward(answer + new)))
-        out.append(Effect(Does.MOVES, start, min(edge, end), answer - start))
+        out.append(Effect(MappingChange.REMOVES, answer, _round_up(answer + new)))
+        out.append(Effect(MappingChange.MOVES, start, min(edge, end), answer - start))
     return out

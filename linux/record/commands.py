@@ -1,4 +1,4 @@
-"""What is recorded: commands in control groups, from their start to their end."""
+"""The recorded commands, in control groups, from their start to their end."""
 
 from __future__ import annotations
 
@@ -12,7 +12,7 @@ from typing import Any, Callable, Dict, List, Optional, Sequence, Type
 from ..common.errors import RunFailed
 from ..common.files import read, write
 from ..common.keeper import Keeper
-from ..common.text import escaped
+from ..common.text import escape
 from ..common.user import User
 
 PATIENCE = 2.0  # seconds from SIGTERM to SIGKILL
@@ -44,7 +44,7 @@ class Interrupts:
 
 
 class Commands:
-    """Children in control groups. `take` is called again and again while they run."""
+    """Children in control groups. `take` is called repeatedly while they run."""
 
     def __init__(self, keeper: Keeper, take: Callable[[], None]) -> None:
         self._keeper, self._take = keeper, take
@@ -66,13 +66,13 @@ class Commands:
             )
         except (OSError, subprocess.SubprocessError, ValueError) as error:
             reason = getattr(error, "strerror", None) or str(error)
-            raise RunFailed(f"{escaped(words[0])} can't be started: {reason}") from error
+            raise RunFailed(f"{escape(words[0])} can't be started: {reason}") from error
         self._keeper.own(child.pid)
         self._children.append(child)
         self._groups.append(group)
 
     def is_running(self) -> bool:
-        """Whether one of them runs."""
+        """Returns whether one of them runs."""
         return any([child.poll() is None for child in self._children])
 
     def end(self) -> None:
@@ -86,13 +86,13 @@ class Commands:
                 if sent is signal.SIGKILL:
                     self._send(sent)
 
-    def forget(self) -> None:
-        """They have ended."""
+    def disown(self) -> None:
+        """Notes that they have ended."""
         for child in self._children:
             self._keeper.disown(child.pid)
 
     def statuses(self) -> List[str]:
-        """How each of them ended."""
+        """Returns how each of them ended."""
         out = []
         for child in self._children:
             status = child.returncode
@@ -103,7 +103,7 @@ class Commands:
         return out
 
     def _members(self) -> List[int]:
-        """The processes of the groups."""
+        """Returns the processes of the groups."""
         out = []
         for group in set(self._groups):
             try:

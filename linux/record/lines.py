@@ -7,15 +7,15 @@ import tempfile
 from typing import IO, Dict, Iterator, List, Optional
 
 from ..common.errors import RunFailed
-from .folios import Line
+from .pages import JournalLine
 from .store import FOLDER
 
 WINDOW = 20000  # lines that can be reordered
 SLACK = 5000  # lines beyond these that are kept before the oldest go to the file
 
 
-class Lost:
-    """The numbers of the pages that are left out, a bit each."""
+class OmittedPages:
+    """The numbers of the omitted pages, a bit each."""
 
     def __init__(self) -> None:
         self._bits = bytearray()
@@ -30,36 +30,36 @@ class Lost:
         return number >> 3 < len(self._bits) and bool(self._bits[number >> 3] >> (number & 7) & 1)
 
 
-class Lines:
+class JournalLines:
     """All lines in order. `latest` may be replaced by a list of the same lines in another order."""
 
     def __init__(self) -> None:
-        self.latest: List[Line] = []
+        self.latest: List[JournalLine] = []
         self.final = 0  # how many lines went to the file
         self._file: Optional[IO[bytes]] = None
 
-    def add(self, line: Line) -> None:
+    def add(self, line: JournalLine) -> None:
         """Appends a line, and makes the oldest ones final where there are many more than can be reordered."""
         self.latest.append(line)
         if len(self.latest) >= WINDOW + SLACK:
-            self._settle(len(self.latest) - WINDOW)
+            self._write_oldest(len(self.latest) - WINDOW)
 
-    def place(self, line: Optional[Line]) -> int:
-        """Where a line is among the latest; -1: nowhere."""
+    def find(self, line: Optional[JournalLine]) -> int:
+        """Returns where a line is among the latest; -1: nowhere."""
         for at in range(len(self.latest) - 1, -1, -1):
             if self.latest[at] is line:
                 return at
         return -1
 
-    def texts(self, lost: Lost) -> Iterator[str]:
-        """The text of all lines but those of lost pages. A page's number is that of its first line; a lost page takes
-        its number with it."""
+    def texts(self, omitted: OmittedPages) -> Iterator[str]:
+        """Yields the text of all lines except those of omitted pages. Pages are numbered by their first lines; omitted pages
+        get no number."""
         numbers: Dict[int, str] = {}  # of the pages that live, by their numbers in `latest` and in the file
         given = 0
         for text in self._all():
             caller, word, page, *rest = text.split(" ", 3)
             number = int(page)
-            if number in lost:
+            if number in omitted:
                 continue
             if number not in numbers:
                 numbers[number] = str(given)
@@ -77,7 +77,7 @@ class Lines:
         for each in self.latest:
             yield each.text
 
-    def _settle(self, count: int) -> None:
+    def _write_oldest(self, count: int) -> None:
         """Writes the oldest lines to the file."""
         try:
             if not self._file:

@@ -9,11 +9,12 @@ import shutil
 from dataclasses import dataclass
 from typing import List, Optional, Union
 
+from ..common.arguments import OneLineParser, seconds, whole
 from ..common.errors import InputFault
 from ..common.files import PMD_ORDER
-from ..common.text import escaped
+from ..common.text import escape
 from ..common.user import User, user_for
-from ..common.words import Words, seconds, whole
+from ..common.version import add_version
 
 NODES = 8  # of a journal (docs/FORMATS.md)
 OWN_WORDS = ("zeros", "collapse", "areas")
@@ -23,8 +24,8 @@ MANY = 10 ** 15
 
 
 @dataclass(frozen=True)
-class Own:
-    """The own workload: threads, steps, seed, and words."""
+class OwnWorkload:
+    """The tool's own workload: threads, steps, seed, and words."""
 
     threads: int
     steps: int
@@ -32,8 +33,8 @@ class Own:
     extra: List[str]
 
 
-def own_of(text: str) -> Own:
-    """The own workload by its text."""
+def parse_workload(text: str) -> OwnWorkload:
+    """Returns the own workload by its text."""
     words = text.split(",")
     form = all(re.fullmatch("[0-9]{1,10}", word) for word in words[:3]) and {*words[3:]} <= {*OWN_WORDS}
     if len(words) < 3 or not form:
@@ -41,11 +42,11 @@ def own_of(text: str) -> Own:
     threads, steps, seed = (int(word) for word in words[:3])
     if not 1 <= threads <= MOST_THREADS or steps > MOST_STEPS or seed > MOST_SEED:
         raise InputFault(f"--own takes 1 to {MOST_THREADS} threads, {MOST_STEPS} steps and seeds up to {MOST_SEED}")
-    return Own(threads, steps, seed, words[3:])
+    return OwnWorkload(threads, steps, seed, words[3:])
 
 
-def orders_of(text: str) -> List[int]:
-    """Orders from text, each once."""
+def parse_orders(text: str) -> List[int]:
+    """Returns orders from text, each once."""
     orders = text.split(",")
     form = all(re.fullmatch("[0-9]{1,2}", order) and 2 <= int(order) <= PMD_ORDER for order in orders)
     if not form or len({*map(int, orders)}) < len(orders):
@@ -53,8 +54,8 @@ def orders_of(text: str) -> List[int]:
     return [int(order) for order in orders]
 
 
-def threshold_of(text: str) -> Union[str, int]:
-    """What --underused says: off, as-is or a number."""
+def parse_threshold(text: str) -> Union[str, int]:
+    """Returns the value of --underused: off, as-is or a number."""
     if text in ("off", "as-is"):
         return text
     if not re.fullmatch("[0-9]{1,3}", text) or int(text) >= 1 << PMD_ORDER:
@@ -62,63 +63,64 @@ def threshold_of(text: str) -> Union[str, int]:
     return int(text)
 
 
-class Asked:
-    """What the words of the command line ask for."""
+class RecordOptions:
+    """The options of the command line."""
 
     def __init__(self, text: str, name: str, words: Optional[List[str]] = None) -> None:
-        told = _parser(text, name).parse_args(words)
-        self.checker: Optional[str] = told.checker
-        self.program: Optional[str] = told.program
-        self.own = own_of(told.own)
-        self.orders = orders_of(told.order)
-        self.groups: int = told.groups
-        self.underused = threshold_of(told.underused)
-        self.every: float = told.every
-        self.collapse: Optional[int] = told.collapse
-        self.compact: bool = told.compact
-        self.straighten: bool = told.straighten
-        self.out: Optional[str] = told.out
-        self.records: Optional[str] = told.records
-        self.tamper: int = told.tamper
-        self.least: int = told.least
-        self.seconds: Optional[float] = told.seconds
-        self.events: Optional[int] = told.events
-        self.wait: bool = told.wait
-        self.command: List[str] = told.command
+        parsed = _parser(text, name).parse_args(words)
+        self.checker: Optional[str] = parsed.checker
+        self.program: Optional[str] = parsed.program
+        self.own = parse_workload(parsed.own)
+        self.orders = parse_orders(parsed.order)
+        self.groups: int = parsed.groups
+        self.underused = parse_threshold(parsed.underused)
+        self.every: float = parsed.every
+        self.collapse: Optional[int] = parsed.collapse
+        self.compact: bool = parsed.compact
+        self.straighten: bool = parsed.straighten
+        self.out: Optional[str] = parsed.out
+        self.records: Optional[str] = parsed.records
+        self.tamper: int = parsed.tamper
+        self.least: int = parsed.least
+        self.seconds: Optional[float] = parsed.seconds
+        self.events: Optional[int] = parsed.events
+        self.wait: bool = parsed.wait
+        self.command: List[str] = parsed.command
         if self.groups * len(self.orders) > NODES or (self.command and self.groups > 1):
             raise InputFault(f"--groups times --order are at most {NODES} nodes, and a command runs in one group")
-        if told.user is not None and not self.command:
+        if parsed.user is not None and not self.command:
             raise InputFault("--user needs a command")
-        self.user: Optional[User] = user_for(told.user) if self.command else None
+        self.user: Optional[User] = user_for(parsed.user) if self.command else None
 
-    def demand_command(self) -> None:
+    def check_command(self) -> None:
         """InputFault where there is no such command."""
         if self.user:
             path = self.user.environment().get("PATH", os.defpath)
             if not shutil.which(self.command[0], path=path):
-                raise InputFault(f"{escaped(self.command[0])}: no such command")
+                raise InputFault(f"{escape(self.command[0])}: no such command")
 
 
 def _parser(text: str, name: str) -> argparse.ArgumentParser:
-    parser = Words(prog=name, description=text, formatter_class=argparse.RawDescriptionHelpFormatter)
+    parser = OneLineParser(prog=name, description=text, formatter_class=argparse.RawDescriptionHelpFormatter)
+    add_version(parser, name)
     add = parser.add_argument
-    add("--checker", metavar="PATH", help="the thpcheck that judges")
-    add("--program", metavar="PATH", help="the thpsplit that judges instead")
-    add("--own", default="1,300,1", metavar="THREADS,STEPS,SEED[,WORDS]", help="the own workload")
+    add("--checker", metavar="PATH", help="the thpcheck to use")
+    add("--program", metavar="PATH", help="the thpsplit to use instead")
+    add("--own", default="1,300,1", metavar="THREADS,STEPS,SEED[,WORDS]", help="the tool's own workload")
     add("--order", default=str(PMD_ORDER), metavar="LIST", help="the orders of pages that are followed")
     add("--groups", type=whole(1, NODES), default=1, metavar="N", help="control groups, each with the workload")
     add("--underused", default="off", help="off, a threshold, or as-is: leave the machine's setting")
     add("--every", type=seconds(0, LONG), default=0.02, metavar="SECONDS", help="between two reclaims; 0: none")
-    add("--collapse", type=whole(0, 2 ** 32 - 1), metavar="MS", help="khugepaged's pause; an own workload has it long")
+    add("--collapse", type=whole(0, 2 ** 32 - 1), metavar="MS", help="khugepaged's pause; long with --own")
     add("--compact", action="store_true", help="compact all memory with each reclaim: pages migrate")
     add("--straighten", action="store_true", help="allow for E (order of putting back) and B (zeros)")
     add("--out", metavar="FILE", help="write the journal into this new file")
     add("--records", metavar="FILE", help="write the records into this new file; further groups' to FILE.2 ..")
-    add("--tamper", type=whole(0, 10 ** 6), default=0, metavar="N", help="check N spoilt copies of a legal journal")
+    add("--tamper", type=whole(0, 10 ** 6), default=0, metavar="N", help="check N altered copies of a legal journal")
     add("--least", type=whole(0, MANY), default=0, metavar="EVENTS", help="more seeds until so many events")
     add("--seconds", type=seconds(0.001, LONG), metavar="N", help="end the recording, and the command, after N seconds")
     add("--events", type=whole(1, MANY), metavar="N", help="end them once N events of the kernel are recorded")
-    add("--user", metavar="NAME", help="who runs the command; by default the user behind sudo")
+    add("--user", metavar="NAME", help="who runs the command; by default the caller of sudo")
     add("--wait", action="store_true", help="wait until no other tool is running")
-    add("command", nargs="*", metavar="COMMAND", help="-- COMMAND ARGS..: what runs instead of the own workload")
+    add("command", nargs="*", metavar="COMMAND", help="-- COMMAND ARGS..: runs instead of the own workload")
     return parser

@@ -8,9 +8,9 @@ from typing import IO, List, Optional
 
 from ..common.errors import InputFault, RunFailed
 from ..common.files import create
-from ..common.text import escaped
-from .judging import JournalFile
-from .options import Asked
+from ..common.text import escape
+from .journal_file import JournalFile
+from .options import RecordOptions
 from .store import Store
 
 
@@ -22,7 +22,7 @@ class Output:
         self._file: IO[bytes] = create(path).detach()  # type: ignore[attr-defined]
 
     def begin(self) -> IO[bytes]:
-        """The file, empty."""
+        """Returns the file, empty."""
         self._file.seek(0)
         self._file.truncate()
         return self._file
@@ -36,35 +36,35 @@ class Output:
                 os.unlink(self._path)
             self._file.close()
         except OSError as error:
-            raise RunFailed(f"{escaped(self._path)} can't be written: {error.strerror}") from error
+            raise RunFailed(f"{escape(self._path)} can't be written: {error.strerror}") from error
 
 
 class Outputs:
-    """What --out and --records ask for."""
+    """The files of --out and --records."""
 
-    def __init__(self, asked: Asked) -> None:
+    def __init__(self, options: RecordOptions) -> None:
         self._journal: Optional[Output] = None
         self._records: List[Output] = []
         try:
-            self._journal = Output(asked.out) if asked.out is not None else None
-            if asked.records is not None:
-                for number in range(1, asked.groups + 1):
-                    self._records.append(Output(asked.records + (f".{number}" if number > 1 else "")))
+            self._journal = Output(options.out) if options.out is not None else None
+            if options.records is not None:
+                for number in range(1, options.groups + 1):
+                    self._records.append(Output(options.records + (f".{number}" if number > 1 else "")))
         except InputFault:
             self.close()
             raise
 
     def write_journal(self, journal: JournalFile) -> None:
-        """Writes the journal, in place of an earlier one."""
+        """Writes the journal, and replaces an earlier one."""
         if self._journal:
             journal.copy_to(self._journal.begin())
 
     def write_records(self, stores: List[Store]) -> None:
-        """Writes the records of each group, in place of earlier ones: a line of JSON for each."""
+        """Writes the records of each group, a line of JSON for each, and replaces earlier ones."""
         for output, store in zip(self._records, stores):
             file = output.begin()
             for record in store.records():
-                file.write(json.dumps(record.plain()).encode("ascii") + b"\n")
+                file.write(json.dumps(record.to_json()).encode("ascii") + b"\n")
             file.flush()
 
     def close(self) -> None:

@@ -1,4 +1,4 @@
-"""A recording: control groups, a tap on each, commands that run in them, and reclaims."""
+"""A recording: control groups, trace programs for each, the commands that run in them, and reclaims."""
 
 from __future__ import annotations
 
@@ -13,11 +13,11 @@ from ..common.groups import Groups
 from ..common.keeper import Keeper
 from ..common.kernel_memory import KernelMemory
 from .commands import PAUSE, Commands, Interrupts
-from .options import Asked
+from .options import RecordOptions
 from .ring import SIZE
 from .state import Settings
 from .store import FOLDER, Store
-from .tap import Tap
+from .trace_programs import TracePrograms
 
 QUIET = 3600000  # milliseconds between khugepaged's rounds
 AFTER = 0.05  # seconds for what comes after the commands' end
@@ -41,56 +41,56 @@ class Recording:
 
 
 class Recorder:
-    """Control groups, and a recording of what is run in them."""
+    """Makes control groups, and records commands that run in them."""
 
-    def __init__(self, asked: Asked, keeper: Keeper, memory: KernelMemory) -> None:
-        self._asked, self._keeper, self._memory = asked, keeper, memory
-        if asked.collapse is not None or not asked.command:
-            keeper.set(COLLAPSE_SLEEP, QUIET if asked.collapse is None else asked.collapse)
-        if asked.underused != "as-is":
+    def __init__(self, options: RecordOptions, keeper: Keeper, memory: KernelMemory) -> None:
+        self._options, self._keeper, self._memory = options, keeper, memory
+        if options.collapse is not None or not options.command:
+            keeper.set(COLLAPSE_SLEEP, QUIET if options.collapse is None else options.collapse)
+        if options.underused != "as-is":
             if os.path.exists(SWITCH):
-                keeper.set(SWITCH, int(asked.underused != "off"))
-            if asked.underused != "off":
-                keeper.set(PTES_NONE, asked.underused)
-            for order in asked.orders:
+                keeper.set(SWITCH, int(options.underused != "off"))
+            if options.underused != "off":
+                keeper.set(PTES_NONE, options.underused)
+            for order in options.orders:
                 keeper.set(f"{size_folder(order)}/enabled", "madvise")
         self._groups = Groups(keeper, "thprecord")
-        self._paths = [self._groups.add(f"node{number}") for number in range(asked.groups)]
+        self._paths = [self._groups.add(f"node{number}") for number in range(options.groups)]
         on = os.path.exists(SWITCH) and read(SWITCH).strip() == "1"
         self._threshold: Optional[int] = int(read(PTES_NONE)) if on else None
 
     def record(self, commands: List[List[str]]) -> Recording:
         """Records these commands in each group until all have ended, or have to end."""
-        folder = os.path.dirname(os.path.abspath(self._asked.records)) if self._asked.records else FOLDER
+        folder = os.path.dirname(os.path.abspath(self._options.records)) if self._options.records else FOLDER
         room = 1 << (SIZE // len(self._paths)).bit_length() - 1
         stores = [Store(folder) for _ in self._paths]
-        taps: List[Tap] = []
+        traces: List[TracePrograms] = []
         try:
             for path in self._paths:
-                taps.append(Tap(self._memory, self._memory.group(path), self._asked.orders, room))
+                traces.append(TracePrograms(self._memory, self._memory.group(path), self._options.orders, room))
             self._memory.types.release()
 
             def take() -> None:
-                for tap, store in zip(taps, stores):
-                    tap.read(store)
+                for trace, store in zip(traces, stores):
+                    trace.read(store)
 
             running = Commands(self._keeper, take)
             ended = self._run(running, commands, stores, take)
-            lacking = taps[0].lacking
-            if any(tap.is_unfiltered() for tap in taps):
+            lacking = traces[0].lacking
+            if any(trace.is_unfiltered() for trace in traces):
                 lacking.append("more address spaces than can be known: all records were kept from then on")
-            return Recording(stores, sum(tap.lost() for tap in taps), running.statuses(), ended, lacking,
+            return Recording(stores, sum(trace.lost() for trace in traces), running.statuses(), ended, lacking,
                              self._threshold)
         finally:
-            for tap in taps:
-                tap.close()
+            for trace in traces:
+                trace.close()
 
     def _run(self, running: Commands, commands: List[List[str]], stores: List[Store], take: Callable[[], None]) -> str:
         """Runs the commands to their end; returns why they were ended."""
         with Interrupts() as interrupts:
             for path in self._paths:
                 for command in commands:
-                    running.start(command, path, self._asked.user)
+                    running.start(command, path, self._options.user)
             over = threading.Event()
             reclaimer = threading.Thread(target=self._reclaim, args=(over,))
             reclaimer.start()
@@ -99,41 +99,41 @@ class Recorder:
                 while not why and running.is_running():
                     time.sleep(PAUSE)
                     take()
-                    why = self._why_over(begun, stores, interrupts)
+                    why = self._end_reason(begun, stores, interrupts)
                 if why:
                     running.end()
             finally:
                 over.set()
                 reclaimer.join()
-            running.forget()
+            running.disown()
             time.sleep(AFTER)
             take()
         return why
 
-    def _why_over(self, begun: float, stores: List[Store], interrupts: Interrupts) -> str:
-        """Why the recording has to end; "": it goes on."""
-        asked = self._asked
+    def _end_reason(self, begun: float, stores: List[Store], interrupts: Interrupts) -> str:
+        """Returns why the recording has to end; "": it continues."""
+        options = self._options
         if interrupts.name:
             return f"by {interrupts.name}"
-        if asked.seconds is not None and time.monotonic() >= begun + asked.seconds:
-            return f"after {asked.seconds:g} seconds"
-        if asked.events is not None and sum(store.count for store in stores) >= asked.events:
-            return f"after {asked.events} events"
+        if options.seconds is not None and time.monotonic() >= begun + options.seconds:
+            return f"after {options.seconds:g} seconds"
+        if options.events is not None and sum(store.count for store in stores) >= options.events:
+            return f"after {options.events} events"
         return ""
 
     def _reclaim(self, over: threading.Event) -> None:
         """Reclaims again and again, beside the reader of records, which must not wait for it."""
-        while self._asked.every and not over.wait(self._asked.every):
+        while self._options.every and not over.wait(self._options.every):
             for path in self._paths:
                 self._groups.reclaim(path)
-            if self._asked.compact:
+            if self._options.compact:
                 try:
                     write(COMPACT, 1)
                 except OSError:
                     pass  # the next round tries it again
 
 
-def settings_for(recording: Recording, asked: Asked, order: int, page_size: int) -> Settings:
-    """How pages of this order are told: only those of PMD size are ever underused."""
+def settings_for(recording: Recording, options: RecordOptions, order: int, page_size: int) -> Settings:
+    """Returns the settings of a journal of this order: only pages of PMD size can be underused."""
     threshold = recording.threshold if order == PMD_ORDER else None
-    return Settings(order, threshold, asked.straighten, page_size)
+    return Settings(order, threshold, options.straighten, page_size)

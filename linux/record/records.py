@@ -1,4 +1,4 @@
-"""Records of the tap: what happened in the kernel, in the order of its ring buffer."""
+"""Records of the trace programs: events of the kernel, in the order of the ring buffer."""
 
 from __future__ import annotations
 
@@ -17,7 +17,7 @@ class Kind(enum.IntEnum):
     """What a record reports; its values in brackets. `how` and what follows it: see `Fault`."""
 
     ENTER = 0  # a system call begins (number, three arguments, program break)
-    EXIT = 1  # it ends (number, arguments, answer, and of the page at the first one the folio and map counts: `Counts`)
+    EXIT = 1  # it ends (number, arguments, answer, and of the page at the first one the folio and map counts: `FolioCounts`)
     FAULT = 2  # a page fault (address, error code); only a task's first one after an ALLOC or a COPY of its own
     ALLOC = 3  # a huge page is allocated (folio, order, how, the fault's address, its error code)
     FREE = 4  # a page is freed in a block where a huge page was made (folio, order)
@@ -44,7 +44,7 @@ class Fault:
 
 
 @dataclass(frozen=True)
-class Counts:
+class FolioCounts:
     """What struct folio counts of mappings: by PMD entries, all of them, and how many subpages PTEs map."""
 
     folio: int
@@ -56,7 +56,7 @@ class Counts:
 @dataclass(eq=False)
 class Record:
     """`queue`: folios, oldest first; None where none was copied, or its walk didn't end where it began. The last fields
-    are set by `link` or by a Store."""
+    are set by `link_records` or by a Store."""
 
     kind: Kind
     time: int  # ns
@@ -64,20 +64,20 @@ class Record:
     space: int  # address of the mm
     values: Tuple[int, ...]
     queue: Optional[List[int]]
-    done: bool = False  # told already
+    is_applied: bool = False  # its events are emitted
     end: Optional[Record] = None  # of a scan: its end; of an allocation: the collapse that it was for
-    begun: int = 0  # of an address space's end: when the last of its tasks' other records was made
-    later: Optional[List[int]] = None  # of a scan's end without a copy: the next copy, if no scan began before it
-    made: Optional[Dict[int, int]] = None  # of a scan: folios that were allocated until its end, and when last
-    dies: Optional[Record] = None  # of the first record of an address space (`newcomer`): the end of that space
-    child_dies: Optional[Record] = None  # of a fork: the end of the child's space
+    last_activity: int = 0  # of an address space's end: when the last of its tasks' other records was made
+    next_queue: Optional[List[int]] = None  # of a scan's end without a copy: the next copy, if no scan began before it
+    folios_made: Optional[Dict[int, int]] = None  # of a scan: folios that were allocated until its end, and when last
+    space_end: Optional[Record] = None  # of the first record of an address space (`first_record`): the end of that space
+    child_space_end: Optional[Record] = None  # of a fork: the end of the child's space
 
-    def shown(self) -> Optional[List[int]]:
-        """The queue at a scan's end, by its own copy or the next."""
-        return self.later if self.queue is None else self.queue
+    def queue_at_end(self) -> Optional[List[int]]:
+        """Returns the queue at a scan's end, by its own copy or the next."""
+        return self.next_queue if self.queue is None else self.queue
 
     def fault(self, last: Optional[Record]) -> Optional[Fault]:
-        """The fault in which an ALLOC or COPY was made, where `last` is the task's last FAULT record."""
+        """Returns the fault in which an ALLOC or COPY was made, where `last` is the task's last FAULT record."""
         at = _HOW_AT[self.kind]
         if self.values[at] == IN_FAULT:
             return Fault(*self.values[at + 1 : at + 3])
@@ -85,19 +85,19 @@ class Record:
             return Fault(*last.values[:2])
         return None
 
-    def newcomer(self) -> int:
-        """The address space that has pages after this record at the latest; 0: none."""
+    def space_with_pages(self) -> int:
+        """Returns the address space that has pages after this record at the latest; 0: none."""
         return self.values[0] if self.kind is Kind.COLLAPSED else 0 if self.kind is Kind.FREE else self.space
 
-    def counts(self) -> Optional[Counts]:
-        """The map counts of the page at a call's address, if one was known there and it wasn't split."""
+    def counts(self) -> Optional[FolioCounts]:
+        """Returns the map counts of the page at a call's address, if one was known there and it wasn't split."""
         folio, total, whole, mapped = self.values[5:9]
         if self.kind is not Kind.EXIT or not folio or mapped > _WORD:
             return None
-        return Counts(folio, _count(whole), _count(total), mapped & _SUBPAGES)
+        return FolioCounts(folio, _count(whole), _count(total), mapped & _SUBPAGES)
 
-    def plain(self) -> List[Any]:
-        """The record as JSON can write it."""
+    def to_json(self) -> List[Any]:
+        """Returns the record as JSON can write it."""
         return [int(self.kind), self.time, self.task, self.space, list(self.values), self.queue]
 
 
@@ -106,43 +106,43 @@ _SUBPAGES = (1 << 23) - 1  # of _nr_pages_mapped: the bits above it tell whether
 
 
 def _count(field: int) -> int:
-    """A map count, which the kernel begins at -1 (include/linux/mm.h: folio_entire_mapcount)."""
+    """Returns a map count, which the kernel begins at -1 (include/linux/mm.h: folio_entire_mapcount)."""
     return (field + 1) & _WORD
 
 
 _KINDS = tuple(Kind)
 
 
-def record_of(raw: bytes, place: int = 0) -> Record:
-    """A record by its bytes, which begin at a place."""
+def parse_record(raw: bytes, place: int = 0) -> Record:
+    """Returns a record by its bytes, which begin at a place."""
     words = HEAD.unpack_from(raw, place)
     kind, count = _KINDS[words[0]], words[14]
     queue = None
     if kind in WITH_QUEUE and count <= QUEUE_MOST:
-        queue = whole(list(struct.unpack_from(f"<{count}Q", raw, place + FOLIOS_AT)))
+        queue = without_repeats(list(struct.unpack_from(f"<{count}Q", raw, place + FOLIOS_AT)))
     return Record(kind, words[1], words[2] & 0xFFFFFFFF, words[3], words[4:13], queue)
 
 
-def record_from(plain: List[Any]) -> Record:
-    """A record by what `plain` gave."""
-    kind, time, task, space, values, queue = plain
-    return Record(Kind(kind), time, task, space, tuple(values), whole(queue))
+def record_from_json(to_json: List[Any]) -> Record:
+    """Returns a record by what `to_json` gave."""
+    kind, time, task, space, values, queue = to_json
+    return Record(Kind(kind), time, task, space, tuple(values), without_repeats(queue))
 
 
-def raw_of(record: Record) -> bytes:
-    """The bytes of a record, as the tap makes them; the task group's number is 0."""
+def pack_record(record: Record) -> bytes:
+    """Returns the bytes of a record, as the trace programs make them; the task group's number is 0."""
     queue = [] if record.queue is None else record.queue
     count = QUEUE_MOST + 1 if record.queue is None else len(queue)
     head = HEAD.pack(int(record.kind), record.time, record.task, record.space, *record.values, 0, count, 0)
     return head + struct.pack(f"<{len(queue)}Q", *queue)
 
 
-def whole(queue: Optional[List[int]]) -> Optional[List[int]]:
-    """A queue, if no page is in it twice: a walk of a list that changes may meet one again."""
+def without_repeats(queue: Optional[List[int]]) -> Optional[List[int]]:
+    """Returns a queue, if no page is in it twice: a walk of a list that changes may meet one again."""
     return queue if queue is not None and len({*queue}) == len(queue) else None
 
 
-def link(records: List[Record]) -> None:
+def link_records(records: List[Record]) -> None:
     """Links each scan and each allocation for a collapse with its end, a scan with what was allocated until then, a
     scan's end without a copy with the next one, and the first record of each address space with the space's end, which
     gets the time from when on nothing else was recorded of the space. A Store does the same for records on disk."""
@@ -154,28 +154,28 @@ def link(records: List[Record]) -> None:
     for record in records:
         if torn and record.queue is not None and record.time > torn[-1].time:
             for end in torn:
-                end.later = record.queue
+                end.next_queue = record.queue
             torn = []
         if record.kind is Kind.EXIT_MMAP:
-            record.begun = last.pop(record.values[0], 0)
+            record.last_activity = last.pop(record.values[0], 0)
             if record.values[0] in first:
-                newcomer, name = first.pop(record.values[0])
-                setattr(newcomer, name, record)
+                first_record, name = first.pop(record.values[0])
+                setattr(first_record, name, record)
         elif record.kind is not Kind.FREE:
             last[record.space] = record.time
-            first.setdefault(record.newcomer(), (record, "dies"))
+            first.setdefault(record.space_with_pages(), (record, "space_end"))
         if record.kind is Kind.FORK:
-            first.setdefault(record.values[1], (record, "child_dies"))
+            first.setdefault(record.values[1], (record, "child_space_end"))
         if record.kind is Kind.SCAN:
-            open_scans[record.task], record.made, torn = record, {}, []
+            open_scans[record.task], record.folios_made, torn = record, {}, []
         elif record.kind is Kind.SCANNED and record.task in open_scans:
             open_scans.pop(record.task).end = record
             torn += [record] if record.queue is None else []
         elif record.kind is Kind.ALLOC:
             allocated[record.task] = record
             for scan in open_scans.values():
-                assert scan.made is not None
-                scan.made[record.values[0]] = record.time
+                assert scan.folios_made is not None
+                scan.folios_made[record.values[0]] = record.time
         elif record.kind is Kind.COLLAPSED and record.task in allocated:
             alloc = allocated.pop(record.task)
             alloc.end = record if alloc.values[0] == record.values[2] else None

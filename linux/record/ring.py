@@ -22,7 +22,7 @@ Bytes = Union[bytes, memoryview]
 
 
 def room_of(head: int) -> int:
-    """The bytes that a record takes in the ring, by its head."""
+    """Returns the bytes that a record takes in the ring, by its head."""
     return HEAD + ((head & LENGTH) + 7 & ~7)
 
 

@@ -1,5 +1,5 @@
-"""What is known while records are told: the pages and who maps them, the queue, what still runs, and the journal so
-far. Pages that are gone leave nothing but a bit."""
+"""The state of a journal while it is built: pages and their mappings, the queue, what runs, and the journal so far.
+Of a freed page one bit remains."""
 
 from __future__ import annotations
 
@@ -10,20 +10,20 @@ from typing import Dict, Iterator, List, Optional, Tuple
 
 from ..common.files import BASE, PMD_ORDER
 from ..common.journal import FILLING, Event
-from .folios import Line, Mapping, Page
-from .lines import Lines, Lost
+from .lines import JournalLines, OmittedPages
+from .pages import JournalLine, Mapping, Page
 from .records import Kind, Record
 
 MOST_BLOCKS, CALLERS = 4096, 64  # of a journal's node (docs/FORMATS.md)
 SPARE_BLOCKS = 8  # of a journal's node, beyond the pages that lived at once
-NEVER_MAPPED = "another thread's fault was first"  # why such a page isn't told; it counts as none
-TOO_OLD = "joined the queue too long ago for its place to be told"
+NEVER_MAPPED = "another thread's fault was first"  # why such a page has no events; it isn't counted
+TOO_OLD = "joined the queue too long ago for its place to be changed"
 
 
 @dataclass(frozen=True)
 class Settings:
-    """What was recorded: the pages' order, the threshold (None: the switch is off). `straighten`: tell put-backs in the
-    order of taking (E), and at splits no mapped frames while the switch is off (B)."""
+    """What was recorded: the pages' order, the threshold (None: the switch is off). `straighten`: emit put-backs in the
+    order of taking (E), and splits without mapped frames while the switch is off (B)."""
 
     order: int
     threshold: Optional[int]
@@ -42,11 +42,11 @@ class Scan:
 
 @dataclass(eq=False)
 class State:
-    """What the records until now have shown."""
+    """What the records so far have shown."""
 
     settings: Settings
-    lines: Lines = field(default_factory=Lines)  # the journal
-    seen: Dict[str, int] = field(default_factory=Tallies)  # what was seen, inferred and left out, by words
+    lines: JournalLines = field(default_factory=JournalLines)  # the journal
+    tallies: Dict[str, int] = field(default_factory=Tallies)  # what was seen, inferred and left out, by words
     pages: int = 0  # all that ever lived
     never_mapped: int = 0  # of these
     left_out: int = 0  # of these too, for other reasons
@@ -54,16 +54,16 @@ class State:
     fills: int = 0  # of these, the ones that only version 3 of a journal has
     at: Dict[int, Page] = field(default_factory=dict)  # the pages that live, by folio
     queue: List[Page] = field(default_factory=list)  # the kernel's, oldest first
-    told: List[Page] = field(default_factory=list)  # the journal's, which differs where it is straightened
+    journal_queue: List[Page] = field(default_factory=list)  # the journal's, which differs where it is straightened
     joining: Dict[int, Page] = field(default_factory=dict)  # pages that join the queue before their task's next record
     spaces: Dict[int, Dict[Page, Mapping]] = field(default_factory=lambda: defaultdict(dict))  # by address space
     ends: Dict[int, Record] = field(default_factory=dict)  # the next end of each address space that has pages
     pending: Dict[Tuple[int, Kind], Record] = field(default_factory=dict)  # calls, collapses, copies that run, by task
     scans: Dict[int, Scan] = field(default_factory=dict)  # those that run, by task
     is_missing: bool = False  # a scan wasn't followed
-    now: int = 0  # the time of the record that is being told
-    teller: int = 0  # and its task
-    _lost: Lost = field(default_factory=Lost)
+    now: int = 0  # the time of the current record
+    task: int = 0  # and its task
+    _omitted: OmittedPages = field(default_factory=OmittedPages)
     _callers: bytearray = field(default_factory=bytearray)  # of each task, 0: none yet, else one more than its number
     _caller_count: int = 0
     _live: int = 0
@@ -75,23 +75,23 @@ class State:
         return min(MOST_BLOCKS, self._most + SPARE_BLOCKS)
 
     def texts(self) -> Iterator[str]:
-        """What was told, without the pages that are left out."""
-        return self.lines.texts(self._lost)
+        """Returns the journal's lines, without the pages that are left out."""
+        return self.lines.texts(self._omitted)
 
-    def say(
+    def emit(
         self, task: int, page: Page, word: str, first: int = 0, count: int = 0, outcome: str = "", given: int = 0
     ) -> None:
-        """Tells an event of a page."""
+        """Emits an event of a page."""
         event = Event(self._caller(task), word, page.number, first, count, outcome, given)
-        self.lines.add(Line(page.number, event.text()))
-        self.seen[f"events {word}"] += 1
-        if not page.lost:
+        self.lines.add(JournalLine(page.number, event.text()))
+        self.tallies[f"events {word}"] += 1
+        if not page.omission:
             fills = word in FILLING
             page.events, page.fills = page.events + 1, page.fills + fills
             self.events, self.fills = self.events + 1, self.fills + fills
 
     def _caller(self, task: int) -> int:
-        """The journal's number of a task."""
+        """Returns the journal's number of a task."""
         if task >= len(self._callers):
             self._callers.extend(bytes(task + 1024 - len(self._callers)))
         if not self._callers[task]:
@@ -100,7 +100,7 @@ class State:
         return self._callers[task] - 1
 
     def new_page(self, task: int, space: int, folio: int, address: int) -> Page:
-        """A page that an address space maps whole from now on."""
+        """Adds a page that an address space maps whole."""
         page = Page.new(self.pages, folio, self.settings.order)
         self.pages += 1
         self.at[folio] = page
@@ -109,71 +109,71 @@ class State:
         page.maps[space] = self.spaces[space][page] = mapping
         self._live += 1
         self._most = max(self._most, self._live)
-        self.say(task, page, "alloc")
+        self.emit(task, page, "alloc")
         if self.settings.threshold is not None and self.settings.order == PMD_ORDER:
-            self.joins(page)
+            self.enqueue(page)
         return page
 
-    def joins(self, page: Page) -> None:
-        """A page enters the queue by the event told last."""
+    def enqueue(self, page: Page) -> None:
+        """Adds a page to the queue, by the event emitted last."""
         self.queue.append(page)
-        self.told.append(page)
+        self.journal_queue.append(page)
         page.join = self.lines.latest[-1] if self.lines.latest else None
 
-    def leaves(self, page: Page) -> None:
-        """A page leaves the queue, if it stands there."""
-        for queue in (self.queue, self.told):
+    def dequeue(self, page: Page) -> None:
+        """Removes a page from the queue, if it is there."""
+        for queue in (self.queue, self.journal_queue):
             if page in queue:
                 queue.remove(page)
 
-    def lose(self, page: Page, why: str) -> None:
+    def omit(self, page: Page, why: str) -> None:
         """Leaves a page out of the journal."""
-        if not page.lost:
+        if not page.omission:
             self._leave_out(page, why)
             self.left_out += 1
-            self.seen[f"pages left out: {why}"] += 1
+            self.tallies[f"pages left out: {why}"] += 1
 
-    def give_up(self, page: Page) -> None:
+    def discard(self, page: Page) -> None:
         """Forgets a page that was never mapped."""
-        if page.lost:
+        if page.omission:
             self.left_out -= 1
         else:
             self._leave_out(page, NEVER_MAPPED)
         self.never_mapped += 1
-        self.seen[f"huge pages given up: {NEVER_MAPPED}"] += 1
-        self.gone(page)
+        self.tallies[f"huge pages given up: {NEVER_MAPPED}"] += 1
+        self.remove_page(page)
 
     def _leave_out(self, page: Page, why: str) -> None:
-        page.lost = why
-        self._lost.add(page.number)
+        page.omission = why
+        self._omitted.add(page.number)
         self.events, self.fills = self.events - page.events, self.fills - page.fills
 
-    def gone(self, page: Page) -> None:
-        """A page doesn't live any more."""
-        page.live, page.held = False, 0
+    def remove_page(self, page: Page) -> None:
+        """Removes a page that was freed."""
+        page.is_live, page.held = False, 0
         self._live -= 1
         if self.at.get(page.folio) is page:  # another page may have the folio already
             del self.at[page.folio]
-        self.leaves(page)
+        self.dequeue(page)
         for space in page.maps:
             self.spaces.get(space, {}).pop(page, None)
 
     def last_unpin(self, task: int, page: Page) -> None:
-        """The last pin of a page that nothing maps any more has gone."""
+        """Emits the last unpin of a page that nothing maps."""
         if not page.pins:
-            self.say(task, page, "pin")
-        self.say(task, page, "unpin", outcome="freed", given=page.held)
-        self.gone(page)
+            self.emit(task, page, "pin")
+        self.emit(task, page, "unpin", outcome="freed", given=page.held)
+        self.remove_page(page)
 
     def is_ending(self, page: Page) -> bool:
-        """Whether all address spaces that map a page are ending: nothing else of them comes any more."""
+        """Returns whether all address spaces that map a page are ending: nothing else of them comes any more."""
         ends = [self.ends.get(space) for space in page.maps]
-        return bool(ends) and all(end and end.begun < self.now for end in ends)
+        return bool(ends) and all(end and end.last_activity < self.now for end in ends)
 
     def place_of_join(self, page: Page) -> int:
-        """Where among the latest lines the event is by which a page joined the queue; -1: nowhere. A page whose event
-        is too old is left out."""
-        place = self.lines.place(page.join)
+        """Returns where among the latest lines the event is by which a page joined the queue; -1: nowhere. A page whose
+        event is too old is left out."""
+        place = self.lines.find(page.join)
         if page.join and place < 0 and self.lines.final:
-            self.lose(page, TOO_OLD)
+            self.omit(page, TOO_OLD)
         return place

@@ -2,8 +2,8 @@
 any length needs little memory.
 
 A record in the file is as in the ring: a head of 8 bytes, the record, padding to 8 bytes. Two words of a record that
-the tap leaves 0 become its links: the places in the file of the records that are its `end`, `later`, `dies` or
-`child_dies`.
+the trace programs leave 0 become its links: the places in the file of the records that are its `end`, `next_queue`,
+`space_end` or `child_space_end`.
 """
 
 from __future__ import annotations
@@ -14,7 +14,7 @@ import tempfile
 from typing import Callable, Dict, Iterator, List, Optional, Tuple
 
 from ..common.errors import RunFailed
-from .records import FOLIOS_AT, HEAD, IN_FAULT, QUEUE_MOST, WITH_QUEUE, Kind, Record, record_of, whole
+from .records import FOLIOS_AT, HEAD, IN_FAULT, QUEUE_MOST, WITH_QUEUE, Kind, Record, parse_record, without_repeats
 from .ring import DISCARDED, Bytes, room_of
 from .ring import HEAD as RING_HEAD
 
@@ -25,7 +25,7 @@ _WORD, _LINKS = struct.Struct("<Q"), struct.Struct("<3Q")
 _LENGTH = struct.Struct("<I")
 _LINKED = frozenset([Kind.SCAN, Kind.SCANNED, Kind.ALLOC, Kind.FORK, Kind.EXIT_MMAP])
 
-Words = Tuple[int, ...]
+OneLineParser = Tuple[int, ...]
 
 
 class Store:
@@ -56,21 +56,21 @@ class Store:
         self.count += 1
 
     def link(self) -> None:
-        """Links the records, all of which have come: what records.link does in memory."""
+        """Links the records, all of which have come: what records.link_records does in memory."""
         linker = _Linker(self._patch)
         for at, block, place in self._walk():
             linker.see(at, HEAD.unpack_from(block, place), block, place)
 
     def records(self) -> Iterator[Record]:
-        """The linked records in order."""
+        """Yields the linked records in order."""
         ends: Dict[int, Record] = {}  # ends of scans, which were read with their scans, by their places
         for at, block, place in self._walk():
             record = ends.pop(at, None)
             if record is None:
-                record = record_of(block, place)
+                record = parse_record(block, place)
             dies, _, link = _LINKS.unpack_from(block, place + DIES_AT)
             if dies:
-                record.dies = self._record_at(dies)
+                record.space_end = self._record_at(dies)
             if link and record.kind in _LINKED:
                 self._set_link(record, at, link)
                 if record.kind is Kind.SCAN and record.end:
@@ -83,30 +83,30 @@ class Store:
 
     def _set_link(self, record: Record, at: int, link: int) -> None:
         if record.kind is Kind.EXIT_MMAP:
-            record.begun = link
+            record.last_activity = link
         elif record.kind is Kind.FORK:
-            record.child_dies = self._record_at(link)
+            record.child_space_end = self._record_at(link)
         elif record.kind is Kind.SCANNED:
-            record.later = self._record_at(link).queue
+            record.next_queue = self._record_at(link).queue
         else:
             record.end = self._record_at(link)
             if record.kind is Kind.SCAN:
-                record.made = self._made(at, link)
+                record.folios_made = self._made(at, link)
                 later = self._word_at(link + LINK_AT)
-                record.end.later = self._record_at(later).queue if later else None
+                record.end.next_queue = self._record_at(later).queue if later else None
 
     def _record_at(self, at: int) -> Record:
         raw = os.pread(self._descriptor, FOLIOS_AT + 8 * QUEUE_MOST, at)
-        record = record_of(raw)
+        record = parse_record(raw)
         if record.kind is Kind.EXIT_MMAP:
-            record.begun = _WORD.unpack_from(raw, LINK_AT)[0]
+            record.last_activity = _WORD.unpack_from(raw, LINK_AT)[0]
         return record
 
     def _word_at(self, at: int) -> int:
         return int(_WORD.unpack(os.pread(self._descriptor, 8, at))[0])
 
     def _made(self, at: int, end: int) -> Dict[int, int]:
-        """The folios that were allocated between a scan's start and end, and when last."""
+        """Returns the folios that were allocated between a scan's start and end, and when last."""
         out: Dict[int, int] = {}
         for _, block, place in self._walk(at - RING_HEAD, end):
             kind, time, _, _, folio = struct.unpack_from("<5Q", block, place)
@@ -115,8 +115,8 @@ class Store:
         return out
 
     def _walk(self, at: int = 0, end: Optional[int] = None) -> Iterator[Tuple[int, bytes, int]]:
-        """The records from a place in the file to another, each as its place, a block of the file, and its place in the
-        block."""
+        """Yields the records from a place in the file to another, each as its place, a block of the file, and its place
+        in the block."""
         end = self._size if end is None else end
         while at < end:
             block, place = os.pread(self._descriptor, BLOCK, at), 0
@@ -148,7 +148,7 @@ class _Linker:
         self._torn: List[int] = []  # scans' ends without a copy: their places
         self._torn_time = 0
 
-    def see(self, at: int, words: Words, block: bytes, place: int) -> None:
+    def see(self, at: int, words: OneLineParser, block: bytes, place: int) -> None:
         """Takes the next record."""
         kind, time, task, space = words[0], words[1], words[2] & 0xFFFFFFFF, words[3]
         if self._torn or kind == Kind.SCANNED:
@@ -186,8 +186,8 @@ class _Linker:
         if first:
             self._patch(first, at)
 
-    def _has_queue(self, words: Words, block: bytes, place: int) -> bool:
+    def _has_queue(self, words: OneLineParser, block: bytes, place: int) -> bool:
         count = words[14]
         if words[0] not in WITH_QUEUE or count > QUEUE_MOST:
             return False
-        return whole(list(struct.unpack_from(f"<{count}Q", block, place + FOLIOS_AT))) is not None
+        return without_repeats(list(struct.unpack_from(f"<{count}Q", block, place + FOLIOS_AT))) is not None

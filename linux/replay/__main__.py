@@ -1,108 +1,27 @@
-"""Runs scripts of `thpsplit` on the running kernel, and reports where the kernel does something else. Needs root.
-
-Prints a line for each script: `agrees`, `agrees (but for A F)`, `differs: WHAT, kernel N, thpsplit M (command)`,
-`inconclusive: why` or `skipped: why`. docs/LINUX.md explains the letters. `inconclusive`: only counters of the whole
-machine differ, and other programs move them.
-
-Status 0: nothing differs; 1: something does; 2: an error in the words or files; 3: the run could not go on; 4: nothing
-differs, but something is inconclusive; 75: another tool runs; 77: nothing could be compared.
-"""
+"""The command line `thpreplay` (options.py)."""
 
 from __future__ import annotations
 
 import argparse
-import re
+import json
+import os
+import sys
 from collections import Counter as Tallies
-from itertools import chain
-from typing import Dict, Iterable, List, NoReturn, Optional, Sequence, Set, Tuple
+from typing import Dict, List, NoReturn, Optional, Set
 
-from ..common import machine
-from ..common.errors import DIFFERS, DONE, INCONCLUSIVE, InputFault, Unavailable
-from ..common.files import PMD_ORDER, OwnFolder
-from ..common.keeper import Keeper, recover
-from ..common.kernel_memory import KernelMemory
-from ..common.program import Program
-from ..common.script import LEAST_ORDER, MARK, MOST_NODES, Script, read_script
-from ..common.text import escaped, text_lines
+from ..common.errors import DIFFERS, DONE, INCONCLUSIVE, Busy, InputFault, RunFailed, Unavailable, status_of
+from ..common.files import OwnFolder
+from ..common.keeper import recover
+from ..common.script import MARK, Script
+from ..common.text import escape, one_line, text_lines
 from ..common.tool import run_tool
-from ..common.words import Words, whole
-from .bench import Bench
-from .generator import Shape, scripts
-from .running import Follower, Outcome, Result, Runner, aloud, silent
-from .seen import Seen
-
-NAME = "thpreplay"
-NEEDED = ["root", "huge pages", "page sizes", "memory control groups", "frames", "counters"]
-LEAST_LENGTH, MOST_LENGTH = 8, 10000  # commands of a random script
-MOST_SCRIPTS = 10 ** 9
-
-
-def words(given: Optional[Sequence[str]] = None) -> argparse.Namespace:
-    """Returns the options of a command line, by default this process's own."""
-    form = argparse.RawDescriptionHelpFormatter
-    parser = Words(prog=NAME, description=__doc__, formatter_class=form)
-    parser.add_argument("script", nargs="*",
-                        help="scripts (-: standard input); their settings are in the first line or in SCRIPT.args")
-    parser.add_argument("--program", metavar="PATH", help="the thpsplit to compare with")
-    for name in ("nodes", "orders", "underused", "blocks"):
-        parser.add_argument(f"--{name}", help="as for thpsplit, for scripts that are files")
-    parser.add_argument("--random", type=whole(0, MOST_SCRIPTS), default=0, metavar="COUNT",
-                        help="run COUNT random scripts")
-    parser.add_argument("--seed", type=whole(0, 10 ** 18 - 1), default=1)
-    parser.add_argument("--node-counts", default="1,1,1,2,4", metavar="LIST", help="random scripts draw from it")
-    parser.add_argument("--page-orders", default="9,9,9,2,3,4,5,6,7,8", metavar="LIST", help="and from it")
-    parser.add_argument("--thresholds", default="off", metavar="LIST", help="off or numbers, drawn for each script")
-    parser.add_argument("--length", type=whole(0, MOST_LENGTH), default=40,
-                        help="most commands of a random script, at least 8")
-    parser.add_argument("--fill", choices=("data", "zeros"), help="what new pages hold; else zeros by thresholds")
-    parser.add_argument("--keep", metavar="FOLDER", help="write random scripts that differ there")
-    parser.add_argument("--store", metavar="FOLDER", help="write what the kernel showed there, a line for each look")
-    parser.add_argument("--no-memory", action="store_true", help="leave kernel memory, and so the queues, unread")
-    parser.add_argument("--show", action="store_true", help="print the random scripts; nothing is run")
-    parser.add_argument("--wait", action="store_true", help="wait until another tool has ended")
-    parser.add_argument("--undo", action="store_true", help="put back what a killed run left; nothing is run")
-    parser.add_argument("-v", "--verbose", action="store_true", help="print each command")
-    parser.add_argument("-q", "--quiet", action="store_true",
-                        help="print what differs or is inconclusive, and the sums")
-    return parser.parse_args(given)
-
-
-def numbers(text: str, what: str, low: int, high: int) -> List[int]:
-    """Returns the numbers of a list. InputFault where one isn't from `low` to `high`."""
-    out = []
-    for word in text.split(","):
-        if not re.fullmatch("[0-9]{1,4}", word) or not low <= int(word) <= high:
-            raise InputFault(f"--{what}: {word[:40]!r} is no whole number from {low} to {high}")
-        out.append(int(word))
-    return out
-
-
-def shape_of(asked: argparse.Namespace) -> Shape:
-    """Returns what random scripts are drawn from."""
-    thresholds = asked.thresholds.split(",")
-    for threshold in thresholds:
-        if threshold != "off":
-            numbers(threshold, "thresholds", 0, (1 << PMD_ORDER) - 1)
-    return Shape(numbers(asked.node_counts, "node-counts", 1, MOST_NODES),
-                 numbers(asked.page_orders, "page-orders", LEAST_ORDER, PMD_ORDER), thresholds,
-                 max(asked.length, LEAST_LENGTH))
-
-
-def asked_scripts(asked: argparse.Namespace) -> Iterable[Script]:
-    """Returns the files' scripts, all of them read, then the random ones, made one by one."""
-    given = [f"--{name}={getattr(asked, name)}" for name in ("nodes", "orders", "underused", "blocks")
-             if getattr(asked, name) is not None]
-    shape = shape_of(asked)
-    return chain([read_script(path, given) for path in asked.script], scripts(asked.random, asked.seed, shape))
-
-
-def compared_parts(memory_wanted: bool) -> Tuple[List[machine.Part], Optional[KernelMemory]]:
-    """Returns what this machine can compare, and kernel memory where the queues can be read."""
-    parts = machine.common_parts()
-    if not memory_wanted:
-        return [*parts, machine.Part("kernel memory", False, "not wanted (--no-memory)")], None
-    memory, more = machine.memory()
-    return [*parts, *more], memory if all(part.here for part in more) else None
+from .letters import Match, find_all, look_on, markdown
+from .observation import Observation
+from .options import NAME, FoundScripts, list_scripts, parse_words
+from .reports import FAIL, SKIP, JsonReport, KtapReport, Report, RunHead, SumLine, TextReport, kselftest_status
+from .runner import Outcome, Result, RunComparer, Runner, ignore_line
+from .session import open_session
+from .shrinking import Shrinker, SmallScript
 
 
 class Folder:
@@ -130,38 +49,37 @@ class Folder:
 class Sums:
     """The outcomes counted, and files that are kept."""
 
-    def __init__(self, asked: argparse.Namespace) -> None:
-        self._is_quiet = asked.quiet
-        self._keep = Folder(asked.keep) if asked.keep else None
-        self._store = Folder(asked.store) if asked.store else None
+    def __init__(self, options: argparse.Namespace) -> None:
+        self._keep = Folder(options.keep) if options.keep else None
+        self._store = Folder(options.store) if options.store else None
         self.results: Dict[Result, int] = Tallies()
         self._letters: Dict[str, int] = Tallies()
         self._reasons: Dict[str, int] = Tallies()
 
-    def add(self, script: Script, outcome: Outcome, looks: Optional[List[Seen]]) -> None:
-        """Counts an outcome, prints its line, and writes the files that were asked for."""
+    def add(self, script: Script, outcome: Outcome, small: Optional[SmallScript], looks: Optional[List[Observation]]) -> None:
+        """Counts an outcome, and writes the files that were asked for."""
         self.results[outcome.result] += 1
         for letter in outcome.known:
             self._letters[letter] += 1
         if outcome.result is Result.SKIPPED:
             self._reasons[outcome.text] += 1
-        if not self._is_quiet or outcome.result in (Result.DIFFERS, Result.INCONCLUSIVE):
-            print(f"{escaped(script.name)}: {outcome.line()}", flush=True)
         if self._keep and outcome.result is Result.DIFFERS:
-            self._keep.write(f"{self._keep.stem(script.name)}.script", script.text)
+            stem = self._keep.stem(script.name)
+            self._keep.write(f"{stem}.script", script.text)
+            if small:
+                self._keep.write(f"{stem}.smallest.script", small.text())
         if self._store and looks:
             name = self._store.stem(script.name.replace(".script", ""))
             self._store.write(f"{name}.looks", "".join(f"{look.line()}\n" for look in looks))
             head = "" if script.text.startswith(MARK) else f"{MARK}{' '.join(script.options.words())}\n"
             self._store.write(f"{name}.script", head + script.text)
 
-    def tell(self, seen: Dict[str, int]) -> None:
-        """Prints the sums."""
+    def lines(self, sums: Dict[str, int]) -> List[SumLine]:
+        """Returns the sums: how many, and of what."""
         lines = [(self.results[result], result.value) for result in Result]
         lines += [(many, f"with known difference {letter}") for letter, many in sorted(self._letters.items())]
         lines += [(many, f"skipped: {reason}") for reason, many in sorted(self._reasons.items())]
-        for many, what in [*lines, *((many, what) for what, many in sorted(seen.items()))]:
-            print(f"{many:9} {escaped(what)}")
+        return [*lines, *((many, what) for what, many in sorted(sums.items()))]
 
     def status(self) -> int:
         """Returns the status of a run to its end. Unavailable where nothing was compared."""
@@ -174,49 +92,87 @@ class Sums:
         return DONE
 
 
-def run_all(asked: argparse.Namespace, found: Iterable[Script]) -> int:
+def run_all(options: argparse.Namespace, found: FoundScripts, report: Report) -> int:
     """Runs scripts on this kernel."""
-    parts, memory = compared_parts(not asked.no_memory)
-    machine.demand(parts, NEEDED)
-    program = Program(asked.program)
-    sums = Sums(asked)
-    print(f"{machine.kernel()}\n{machine.table(parts)}", flush=True)
-    compared = "queues are compared" if memory else "queues are not compared"
-    print(f"program {escaped(program.path)}; {compared}", flush=True)
-    zeros = None if asked.fill is None else asked.fill == "zeros"
-    with Keeper(NAME, asked.wait) as keeper:
-        bench = Bench(keeper, memory)
-        try:
-            follower = Follower(tell=aloud if asked.verbose else silent, looks=[] if asked.store else None)
-            runner = Runner(bench, program, follower)
-            for script in found:
-                sums.add(script, runner.run(script, zeros), follower.looks)
-        finally:
-            bench.close()
-    sums.tell(follower.sums)
+    zeros = None if options.fill is None else options.fill == "zeros"
+    command = report.print_command if options.verbose else ignore_line
+    comparer = RunComparer(report=command, looks=[] if options.store else None)
+    with open_session(NAME, options.program, not options.no_memory, options.wait) as session:
+        sums = Sums(options)
+        report.begin(RunHead(session.parts, session.program.path, session.reads_queues, found.count))
+        runner = Runner(session.bench, session.program, comparer)
+        quiet_runner = Runner(session.bench, session.program, RunComparer())
+        shrinker = Shrinker(lambda script: quiet_runner.run(script, zeros), options.shrink)
+        for script in found.scripts:
+            outcome, small = runner.run(script, zeros), None
+            try:
+                small = shrinker.shrink_first(script, outcome)
+            finally:  # a signal, too, leaves the outcome reported
+                report.print_script(script, outcome, small)
+                sums.add(script, outcome, small, comparer.looks)
+    report.end(sums.lines(comparer.sums))
     return sums.status()
 
 
-def replay(asked: argparse.Namespace) -> int:
-    """Does what a command line asks for, and returns the status."""
-    if asked.undo:
+def fingerprint(options: argparse.Namespace) -> int:
+    """Prints how this kernel does each known difference."""
+    with open_session(NAME, options.program, not options.no_memory, options.wait) as session:
+        found = find_all(look_on(session))
+    if options.markdown:
+        lines = markdown(found, os.uname().release)
+    elif options.json:
+        lines = [json.dumps({"letter": each.letter, "finding": each.match.value, "text": each.text}) for each in found]
+    else:
+        lines = [each.line() for each in found]
+    print("\n".join(lines))
+    matches = {each.match for each in found}
+    if matches == {Match.UNSEEN}:
+        raise Unavailable("no known difference can be seen here")
+    return DIFFERS if Match.NEITHER in matches else DONE
+
+
+def run_for_kselftest(options: argparse.Namespace) -> int:
+    """Runs scripts, and returns kselftest's statuses; an error is also in the output."""
+    report = KtapReport()
+    try:
+        return kselftest_status(run_all(options, list_scripts(options), report))
+    except (Unavailable, Busy, InputFault, RunFailed) as error:
+        status_of(NAME, error)
+        is_skip = isinstance(error, (Unavailable, Busy))
+        report.print_end(one_line(str(error)), is_skip)
+        return SKIP if is_skip else FAIL
+
+
+def replay(options: argparse.Namespace) -> int:
+    """Carries out a command line, and returns the status."""
+    if options.undo:
         for line in recover(NAME):
-            print(escaped(line))
+            print(escape(line))
         print("nothing more is to be put back")
         return DONE
-    if not asked.script and not asked.random:
+    if options.fingerprint:
+        if options.script or options.random or options.seeds or options.tap:
+            raise InputFault("--fingerprint runs its own scripts, and has no KTAP form")
+        return fingerprint(options)
+    if options.markdown:
+        raise InputFault("--markdown prints a fingerprint (--fingerprint)")
+    if not options.script and not options.random and not options.seeds:
         raise InputFault("no script: name one, or ask for random ones (--random COUNT)")
-    found = asked_scripts(asked)
-    if asked.show:
-        for script in found:
-            print("".join(f"{escaped(line)}\n" for line in text_lines(script.text)))
+    if options.tap and not options.show:
+        return run_for_kselftest(options)
+    found = list_scripts(options)
+    if options.show:
+        for script in found.scripts:
+            print("".join(f"{escape(line)}\n" for line in text_lines(script.text)))
         return DONE
-    return run_all(asked, found)
+    if options.json:
+        return run_all(options, found, JsonReport())
+    return run_all(options, found, TextReport(options.quiet))
 
 
 def start() -> NoReturn:
-    """Runs the tool."""
-    run_tool(NAME, lambda: replay(words()))
+    """Runs the tool. For kselftest no error has another status than a failure."""
+    run_tool(NAME, lambda: replay(parse_words()), FAIL if "--tap" in sys.argv[1:] else None)
 
 
 if __name__ == "__main__":

@@ -13,8 +13,8 @@ from ..common.keeper import Keeper
 from ..common.kernel_memory import KernelMemory
 from ..common.page_files import Frames
 from ..common.script import Options
+from .expected_answers import Unsupported
 from .mappers import Mapper, Mappers
-from .sayings import Unsayable
 
 QUIET = 3600000  # milliseconds between khugepaged's rounds: it collapses nothing meanwhile
 
@@ -47,31 +47,39 @@ class Bench:
         self.groups = Groups(keeper, "thpreplay")
         self.mappers = Mappers(keeper)
         self.servers: List[Server] = []
+        self._groups_made = 0
+
+    def renew(self) -> None:
+        """Ends the nodes, so that the next script gets new groups: a shrinker remembers what it left in a group."""
+        for server in self.servers:
+            server.process.close()
+        self.servers.clear()
 
     def prepare(self, options: Options) -> None:
-        """Makes the settings and nodes of a script. Unsayable where a kernel can't have such settings."""
+        """Makes the settings and nodes of a script. Unsupported where a kernel can't have such settings."""
         large = {switch for order, switch in zip(options.orders, options.underused) if order == PMD_ORDER}
         if None in large and len(large) > 1:
-            raise Unsayable("underused pages are split on some nodes only: the kernel has one switch")
+            raise Unsupported("underused pages are split on some nodes only: the kernel has one switch")
         if len(large) > 1:
-            raise Unsayable("thresholds differ by node: the kernel has one")
+            raise Unsupported("thresholds differ by node: the kernel has one")
         small = [switch for switch in options.underused if switch is not None]  # these pages aren't looked at (C)
         threshold = large.pop() if large else next(iter(small), None)
         if os.path.exists(SWITCH):
             self._keeper.set(SWITCH, int(threshold is not None))
         elif threshold is not None:
-            raise Unsayable("this kernel has no shrink_underused")
+            raise Unsupported("this kernel has no shrink_underused")
         if threshold is not None:
             self._keeper.set(PTES_NONE, threshold)
         for order in sorted(set(options.orders)):
             if not os.path.isdir(size_folder(order)):
-                raise Unsayable(f"this kernel has no pages of order {order}")
+                raise Unsupported(f"this kernel has no pages of order {order}")
             self._keeper.set(f"{size_folder(order)}/enabled", "madvise")
         self._serve(options.nodes)
 
     def _serve(self, nodes: int) -> None:
         while len(self.servers) < nodes:
-            path = self.groups.add(f"node{len(self.servers)}")
+            path = self.groups.add(f"node{self._groups_made}")
+            self._groups_made += 1
             process = self.mappers.root.fork()
             self._keeper.own_descriptor(process.pidfd)
             process.enter(path)
@@ -84,7 +92,6 @@ class Bench:
 
     def close(self) -> None:
         """Ends all processes."""
-        for server in self.servers:
-            server.process.close()
+        self.renew()
         self.mappers.close()
         self.frames.close()

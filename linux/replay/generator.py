@@ -1,4 +1,4 @@
-"""Random scripts that a kernel can be asked to do, by seed."""
+"""Random scripts that a kernel can run, by seed."""
 
 from __future__ import annotations
 
@@ -60,7 +60,7 @@ class Generator:
         self._length = chance.randint(8, shape.length)
         self._node = self._number = 0
         self._kinds: Dict[str, Tuple[float, Callable[[Sketch], None]]] = {
-            "partly": (5, self._partly),
+            "partly": (5, self._partial_unmap),
             "splitpmd": (3, self._splitpmd),
             "unmap": (5, self._unmap),
             "unmapwhole": (1, self._unmapwhole),
@@ -72,8 +72,8 @@ class Generator:
             "batch": (0.3, self._batch),
             "write": (1.5, lambda page: self._fill(page, "write")),
             "zero": (0.5, lambda page: self._fill(page, "zero")),
-            "count": (0.5, lambda page: self._say("count", page=False)),
-            "odd": (0.5, self._odd),
+            "count": (0.5, lambda page: self._add("count", page=False)),
+            "odd": (0.5, self._refused_command),
         }
 
     def script(self, name: str) -> Script:
@@ -86,7 +86,7 @@ class Generator:
             if fresh or not live:
                 if len(live) < MOST_PAGES:
                     pages.append(Sketch(1 << self._orders[self._node]))
-                    self._say("alloc", page=False)
+                    self._add("alloc", page=False)
                 continue
             self._number, page = self._chance.choice(live)
             kind = self._chance.choices(list(self._kinds), weights)[0]
@@ -101,40 +101,40 @@ class Generator:
         text = "\n".join([f"# thpsplit {' '.join(options.words())}", "setup", *self._lines])
         return script_of(name, text + "\n")
 
-    def _say(self, word: str, *operands: int, page: bool = True) -> None:
+    def _add(self, word: str, *operands: int, page: bool = True) -> None:
         self._lines.append(" ".join(map(str, [word, self._node, *([self._number] if page else []), *operands])))
 
     def _range(self, low: int, count: int) -> Tuple[int, int]:
-        """A range inside the one given, often one that touches an end or has a round size."""
+        """Returns a range inside the one given, often one that touches an end or has a round size."""
         chance = self._chance
         size = chance.choice([1, count // 2 or 1, count, chance.randint(1, count)])
         return chance.choice([low, low + count - size, chance.randint(low, low + count - size)]), size
 
-    def _partly(self, page: Sketch) -> None:
+    def _partial_unmap(self, page: Sketch) -> None:
         if page.whole != 1 or page.parts:
             return
         first, count = self._range(0, page.subpages)
         if count == page.subpages:
             first, count = 1, count - 1
         page.whole, page.parts = 0, [page.every & ~bits_of(first, count)]
-        self._say("splitpmd")
-        self._say("unmap", first, count)
+        self._add("splitpmd")
+        self._add("unmap", first, count)
 
     def _splitpmd(self, page: Sketch) -> None:
         if page.whole:
             page.whole -= 1
             page.parts.append(page.every)
-            self._say("splitpmd")
+            self._add("splitpmd")
 
     def _unmapwhole(self, page: Sketch) -> None:
         if page.whole:
             page.whole -= 1
-            self._say("unmapwhole")
+            self._add("unmapwhole")
 
     def _mapwhole(self, page: Sketch) -> None:
         if page.whole and not page.split:
             page.whole, page.shared = page.whole + 1, True
-            self._say("mapwhole")
+            self._add("mapwhole")
 
     def _unmap(self, page: Sketch) -> None:
         if page.parts:
@@ -142,7 +142,7 @@ class Generator:
             first, count = self._range(*self._chance.choice(list(runs(page.parts[part]))))
             page.parts[part] &= ~bits_of(first, count)
             page.parts = [bits for bits in page.parts if bits]
-            self._say("unmap", first, count)
+            self._add("unmap", first, count)
 
     def _map(self, page: Sketch) -> None:
         if page.mapped:
@@ -152,25 +152,25 @@ class Generator:
             first, count = self._range(*place)
             page.parts.append(bits_of(first, count))
             page.shared = True
-            self._say("map", first, count)
+            self._add("map", first, count)
 
     def _pin(self, page: Sketch) -> None:
         if page.mapped and page.pins < 3:
             page.pins += 1
-            self._say("pin")
+            self._add("pin")
 
     def _unpin(self, page: Sketch) -> None:
         if page.pins:
             page.pins -= 1
-            self._say("unpin")
+            self._add("unpin")
 
     def _fill(self, page: Sketch, word: str) -> None:
         if page.mapped and not page.shared:
             place = (0, page.subpages) if page.whole else self._chance.choice(list(runs(page.parts[0])))
-            self._say(word, *self._range(*place))
+            self._add(word, *self._range(*place))
 
-    def _shrunk(self) -> None:
-        """What a scan splits has no whole mapping any more; the sketch needn't know better."""
+    def _note_splits(self) -> None:
+        """Drops the PMD mappings of the pages that a scan may split; the sketch needs no more detail."""
         for page in self._pages[self._node]:
             if page and not page.pins and not page.whole:
                 union = 0
@@ -179,33 +179,33 @@ class Generator:
                 page.split = page.split or union != page.every
 
     def _scan(self, _page: Sketch) -> None:
-        self._say("scan", self._chance.choice([MOST_PAGES, 64, 128]), page=False)
-        self._shrunk()
+        self._add("scan", self._chance.choice([MOST_PAGES, 64, 128]), page=False)
+        self._note_splits()
 
     def _batch(self, _page: Sketch) -> None:
-        self._say("take", 128, page=False)
+        self._add("take", 128, page=False)
         for _ in range(MOST_PAGES + 1):
-            self._say("splitnext", page=False)
-        self._say("putback", page=False)
-        self._shrunk()
+            self._add("splitnext", page=False)
+        self._add("putback", page=False)
+        self._note_splits()
 
-    def _odd(self, page: Sketch) -> None:
-        """Often refused, and then nothing is done."""
+    def _refused_command(self, page: Sketch) -> None:
+        """Adds a command that is often refused."""
         kind = self._chance.randrange(5)
         if kind == 0:
-            self._say("unpin")
+            self._add("unpin")
             page.pins -= bool(page.pins)
         elif kind == 1:
-            self._say("splitpmd")
+            self._add("splitpmd")
             if page.whole:
                 page.whole -= 1
                 page.parts.append(page.every)
         elif kind == 2:
-            self._say("unmap", 0, page.subpages + 1)
+            self._add("unmap", 0, page.subpages + 1)
         elif kind == 3:
             self._lines.append(f"unmap {self._node} {len(self._pages[self._node])} 0 1")
         else:
-            self._say("unmap", 0, 1)
+            self._add("unmap", 0, 1)
             for part, bits in enumerate(page.parts):
                 if bits & 1:
                     page.parts[part] &= ~1

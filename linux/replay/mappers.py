@@ -51,7 +51,7 @@ def socket_pair() -> Tuple[socket.socket, socket.socket]:
     return socket.socketpair(socket.AF_UNIX, socket.SOCK_SEQPACKET | socket.SOCK_CLOEXEC)
 
 
-class Line:
+class MapperSocket:
     """The tool's end of a mapping process's socket. After the first failure nothing more can be asked of it."""
 
     def __init__(self, end: socket.socket) -> None:
@@ -110,7 +110,7 @@ class Mapper:
     """One process, and what it maps: `whole` by a PMD entry (or as one piece, below PMD size), `mapped` by subpages;
     `at` is the address of subpage 0."""
 
-    def __init__(self, line: Line, pidfd: int, like: Optional[Mapper] = None) -> None:
+    def __init__(self, line: MapperSocket, pidfd: int, like: Optional[Mapper] = None) -> None:
         self._line, self.pidfd = line, pidfd
         self._pagemap: Optional[NumberFile] = None
         self.whole: bool = like.whole if like else False
@@ -118,7 +118,7 @@ class Mapper:
         self.at: int = like.at if like else 0
         self.pins = 0
 
-    def tell(self, text: str, passed: Optional[int] = None) -> int:
+    def request(self, text: str, passed: Optional[int] = None) -> int:
         """Sends a command and returns the number of the reply."""
         number, carried = self._line.ask(text, passed)
         if carried is not None:
@@ -128,7 +128,7 @@ class Mapper:
 
     def alloc(self, order: int, fill: int) -> None:
         """Allocates a page and fills it with a byte, unless that is 0."""
-        at = self.tell(f"alloc {order} {fill}")
+        at = self.request(f"alloc {order} {fill}")
         if not at or at % (BASE << order):
             raise RunFailed(f"a mapping process maps a page at an address that isn't aligned: {at:#x}")
         self.at = at
@@ -139,7 +139,7 @@ class Mapper:
             mine, its = socket_pair()
         except OSError as error:
             raise Refusal(f"fork: {error.strerror}") from error
-        line = Line(mine)
+        line = MapperSocket(mine)
         try:
             with its:
                 _, pidfd = self._line.ask("fork", its.fileno())
@@ -154,7 +154,7 @@ class Mapper:
         """Moves the process into a control group. It moves itself, so no process number is used that another process
         may have by then."""
         with open(f"{group}/cgroup.procs", "wb", 0) as members:
-            self.tell("enter", members.fileno())
+            self.request("enter", members.fileno())
 
     def frames(self, count: int) -> List[Optional[int]]:
         """Returns the frame that each of its subpages has, or None where it maps none."""
@@ -179,7 +179,7 @@ class Mapper:
         """Has the process drop its mappings and end. One that failed before ends without a reply."""
         try:
             if self._line.is_open:
-                self.tell("exit")
+                self.request("exit")
         finally:
             self.close()
 
@@ -205,7 +205,7 @@ class Mappers:
             self._process = subprocess.Popen([path], stdin=its.fileno(), stdout=subprocess.DEVNULL,
                                              stderr=subprocess.DEVNULL, cwd="/", env=empty, start_new_session=True)
         keeper.own(self._process.pid)
-        self.root = Mapper(Line(mine), os.pidfd_open(self._process.pid))
+        self.root = Mapper(MapperSocket(mine), os.pidfd_open(self._process.pid))
 
     def close(self) -> None:
         """Ends the root process."""

@@ -1,4 +1,4 @@
-"""A script's commands on the running kernel, done by processes that map its pages.
+"""Runs a script's commands on the running kernel, by processes that map its pages.
 
     alloc             a fork of the node's server touches an aligned region with MADV_HUGEPAGE
     mapwhole          a fork of a process that maps the page whole
@@ -22,9 +22,9 @@ from ..common.page_files import PageFlag
 from ..common.script import Options
 from ..common.subpages import bits_of, runs
 from .bench import Bench
+from .expected_answers import ExpectedAnswer, Unsupported
 from .mappers import Mapper, Refusal
-from .sayings import Said, Unsayable
-from .seen import PageName, PageSeen, Seen
+from .observation import Observation, PageName, PageObservation
 from .states import NodeState, PageState
 
 DATA = 90  # the byte that subpages with data are filled with
@@ -36,7 +36,7 @@ def is_whole(mapper: Mapper) -> bool:
 
 
 @dataclass
-class HeldPage:
+class KernelPage:
     """A page on this kernel: its first frame, and the processes that map it."""
 
     mappers: List[Mapper]
@@ -48,20 +48,20 @@ class HeldPage:
     def subpages(self) -> int:
         return 1 << self.order
 
-    def by_pmd(self) -> Optional[Mapper]:
-        """A process that maps it whole."""
+    def find_by_pmd(self) -> Optional[Mapper]:
+        """Returns a process that maps it whole."""
         return next((mapper for mapper in self.mappers if mapper.whole), None)
 
-    def covering(self, bits: int, whole: bool = True) -> Optional[Mapper]:
-        """A process that maps all these subpages: by entries of their own if one does, by a PMD entry only if
+    def find_covering(self, bits: int, whole: bool = True) -> Optional[Mapper]:
+        """Returns a process that maps all these subpages: by entries of their own if one does, by a PMD entry only if
         `whole`."""
         found = [mapper for mapper in self.mappers if mapper.mapped & bits == bits and (whole or not mapper.whole)]
         return next((mapper for mapper in found if not mapper.whole), found[0] if found else None)
 
     def pieces(self, bits: int, whole: bool) -> List[Tuple[Mapper, int, int]]:
         """Processes with a first and a count that cover these subpages together; none where nobody maps one of them."""
-        alone = self.covering(bits, whole)
-        if alone:
+        alone = self.find_covering(bits, whole)
+        if alone and bits:
             return [(alone, *next(runs(bits)))]
         out = []
         while bits:
@@ -84,19 +84,19 @@ class KernelPages:
 
     def __init__(self, bench: Bench, options: Options, fill: int) -> None:
         self._bench, self._options, self._fill = bench, options, fill
-        self._pages: List[List[HeldPage]] = [[] for _ in range(options.nodes)]
+        self._pages: List[List[KernelPage]] = [[] for _ in range(options.nodes)]
         self._orders = sorted(set(options.orders))
         self._own_splits = 0
         self._before = counts(self._orders)
         self._started: List[Mapper] = []
 
-    def do(self, said: Said, state: NodeState) -> None:
-        """Does a command that wasn't refused, the node's state being that before it. Unsayable: nothing was done."""
-        word, operands = said.words[0], [int(text) for text in said.words[2:]]
+    def run_command(self, expected: ExpectedAnswer, state: NodeState) -> None:
+        """Runs a command that wasn't refused; the node's state is that before it. Unsupported: nothing was done."""
+        word, operands = expected.words[0], [int(text) for text in expected.words[2:]]
         try:
-            getattr(self, f"_{word}")(said.node, state, *operands)
+            getattr(self, f"_{word}")(expected.node, state, *operands)
         except Refusal as refusal:
-            raise Unsayable(str(refusal)) from refusal
+            raise Unsupported(str(refusal)) from refusal
 
     def close(self) -> None:
         """Ends the script's processes; their pages go with them. Where one fails, all others end nevertheless."""
@@ -111,20 +111,20 @@ class KernelPages:
 
     # what the kernel shows
 
-    def look(self, states: Sequence[NodeState]) -> Seen:
-        """The kernel now: counters, each live page, each queue."""
+    def look(self, states: Sequence[NodeState]) -> Observation:
+        """Returns the kernel now: counters, each live page, each queue."""
         since = counts(self._orders).since(self._before)
         splits = since.machine[Counter.SPLIT_PMD]
         machine = {**since.machine, Counter.SPLIT_PMD: None if splits is None else splits - self._own_splits}
-        pages: Dict[PageName, PageSeen] = {}
+        pages: Dict[PageName, PageObservation] = {}
         for node, state in enumerate(states):
             for number, page in enumerate(state.pages):
                 if page.live:
                     pages[node, number] = self._look_at(self._pages[node][number], page)
         queues = [self._queue(node, state) for node, state in enumerate(states)]
-        return Seen(Counts(machine, since.sizes), pages, queues)
+        return Observation(Counts(machine, since.sizes), pages, queues)
 
-    def _look_at(self, held: HeldPage, page: PageState) -> PageSeen:
+    def _look_at(self, held: KernelPage, page: PageState) -> PageObservation:
         frames = self._bench.frames
         mapped = 0
         if page.split:
@@ -133,7 +133,7 @@ class KernelPages:
                     for i, frame in enumerate(mapper.frames(held.subpages)):
                         mapped |= (frame == held.frame + i) << i
         whole = 0 if page.split else frames.whole(held.frame, held.subpages)
-        return PageSeen(whole, frames.counts(held.frame, held.subpages), mapped)
+        return PageObservation(whole, frames.counts(held.frame, held.subpages), mapped)
 
     def _queue(self, node: int, state: NodeState) -> Optional[List[int]]:
         frames = self._bench.queue(node)
@@ -150,12 +150,12 @@ class KernelPages:
         frames = mapper.frames(1 << state.order)
         first = frames[0]
         if first is None or first % len(frames) or frames != list(range(first, first + len(frames))):
-            raise Unsayable(f"no huge page of order {state.order} to be had")
+            raise Unsupported(f"no huge page of order {state.order} to be had")
         flags = self._bench.frames.flags(first, 2)
         if not (flags[0] & PageFlag.COMPOUND_HEAD and flags[1] & PageFlag.COMPOUND_TAIL):
-            raise Unsayable(f"no huge page of order {state.order} to be had")
+            raise Unsupported(f"no huge page of order {state.order} to be had")
         mapper.whole, mapper.mapped = True, bits_of(0, len(frames))
-        self._pages[node].append(HeldPage([mapper], state.order, first))
+        self._pages[node].append(KernelPage([mapper], state.order, first))
 
     def _fork(self, of: Mapper) -> Mapper:
         child = of.fork()
@@ -164,25 +164,25 @@ class KernelPages:
 
     def _mapwhole(self, node: int, _state: NodeState, number: int) -> None:
         page = self._pages[node][number]
-        source = page.by_pmd()
+        source = page.find_by_pmd()
         if source is None:
-            raise Unsayable("mapwhole where no PMD entry is left to be copied")
+            raise Unsupported("mapwhole where no PMD entry is left to be copied")
         page.mappers.append(self._fork(source))
         page.shared = True
 
     def _unmapwhole(self, node: int, _state: NodeState, number: int) -> None:
         page = self._pages[node][number]
-        mapper = page.by_pmd()
+        mapper = page.find_by_pmd()
         if mapper is None:
-            raise Unsayable("unmapwhole where nothing maps the page whole")
-        mapper.tell(f"unmap 0 {page.subpages}")
+            raise Unsupported("unmapwhole where nothing maps the page whole")
+        mapper.request(f"unmap 0 {page.subpages}")
         mapper.whole, mapper.mapped = False, 0
 
     def _map(self, node: int, _state: NodeState, number: int, first: int, count: int) -> None:
         page = self._pages[node][number]
         pieces = page.pieces(bits_of(first, count), True)
         if not pieces:
-            raise Unsayable("map of a subpage that nothing maps")
+            raise Unsupported("map of a subpage that nothing maps")
         for source, low, length in pieces:
             child = self._fork(source)
             page.mappers.append(child)
@@ -194,66 +194,66 @@ class KernelPages:
 
     def _drop(self, mapper: Mapper, bits: int) -> None:
         for first, count in runs(bits):
-            mapper.tell(f"unmap {first} {count}")
+            mapper.request(f"unmap {first} {count}")
         mapper.mapped &= ~bits
 
-    def _divide(self, mapper: Mapper, page: HeldPage) -> None:
+    def _divide(self, mapper: Mapper, page: KernelPage) -> None:
         if page.order == PMD_ORDER:  # smaller pages are always mapped by PTEs
-            mapper.tell("splitpmd")
+            mapper.request("splitpmd")
         mapper.whole = False
 
     def _unmap(self, node: int, state: NodeState, number: int, first: int, count: int) -> None:
         page, before = self._pages[node][number], state.pages[number]
         pieces = page.pieces(bits_of(first, count), False)
         if not pieces:
-            raise Unsayable("unmap of subpages that only whole mappings have")
+            raise Unsupported("unmap of subpages that only whole mappings have")
         left = before.own[:]
         for i in range(first, first + count):
             left[i] -= 1
         frees = not before.whole and not any(left)
         if len(pieces) > 1 and frees and not before.split and not before.partly:
-            raise Unsayable("the last mappings lie in several processes: the kernel would see the page partly mapped")
+            raise Unsupported("the last mappings lie in several processes: the kernel would see the page partly mapped")
         for mapper, low, length in pieces:
             self._drop(mapper, bits_of(low, length))
 
     def _splitpmd(self, node: int, _state: NodeState, number: int) -> None:
         page = self._pages[node][number]
-        mapper = page.by_pmd()
+        mapper = page.find_by_pmd()
         if mapper is None:
-            raise Unsayable("splitpmd where nothing maps the page whole")
+            raise Unsupported("splitpmd where nothing maps the page whole")
         self._divide(mapper, page)
 
     def _pin(self, node: int, _state: NodeState, number: int) -> None:
         mapper = next((mapper for mapper in self._pages[node][number].mappers if mapper.mapped), None)
         if mapper is None:
-            raise Unsayable("pin of a page that nothing maps")
-        mapper.tell(f"pin {next(runs(mapper.mapped))[0]}")
+            raise Unsupported("pin of a page that nothing maps")
+        mapper.request(f"pin {next(runs(mapper.mapped))[0]}")
         mapper.pins += 1
 
     def _unpin(self, node: int, _state: NodeState, number: int) -> None:
         mapper = next((mapper for mapper in self._pages[node][number].mappers if mapper.pins), None)
         if mapper is None:
-            raise Unsayable("unpin where no process holds a pin")
-        mapper.tell("unpin")
+            raise Unsupported("unpin where no process holds a pin")
+        mapper.request("unpin")
         mapper.pins -= 1
 
     def _write(self, node: int, _state: NodeState, number: int, first: int, count: int, byte: int = DATA) -> None:
         page = self._pages[node][number]
-        mapper = page.covering(bits_of(first, count))
+        mapper = page.find_covering(bits_of(first, count))
         if page.shared or mapper is None:
-            raise Unsayable("a write to a page that was shared: the kernel may copy it")
-        mapper.tell(f"fill {first} {count} {byte}")
+            raise Unsupported("a write to a page that was shared: the kernel may copy it")
+        mapper.request(f"fill {first} {count} {byte}")
 
     def _zero(self, node: int, state: NodeState, number: int, first: int, count: int) -> None:
         self._write(node, state, number, first, count, 0)
 
     def _scan(self, node: int, state: NodeState, most: int) -> None:
         if most < len(state.queue):
-            raise Unsayable("a scan of less than the whole queue: a reclaim takes all")
+            raise Unsupported("a scan of less than the whole queue: a reclaim takes all")
         self._bench.groups.reclaim(self._bench.servers[node].path)
 
-    def split_now(self, node: int, number: int) -> None:
-        """The page was split: all its mappings are by PTEs."""
+    def note_split(self, node: int, number: int) -> None:
+        """Notes that a page was split: all its mappings are by PTEs."""
         for mapper in self._pages[node][number].mappers:
             mapper.whole = False
 
@@ -261,9 +261,9 @@ class KernelPages:
         pass
 
     def _take(self, *_operands: object) -> None:
-        raise Unsayable("take, splitnext and putback by themselves: the kernel does them as one")
+        raise Unsupported("take, splitnext and putback by themselves: the kernel does them as one")
 
     _splitnext = _putback = _take
 
     def _close(self, *_operands: object) -> None:
-        raise Unsayable("close: a kernel's queue isn't closed")
+        raise Unsupported("close: a kernel's queue isn't closed")

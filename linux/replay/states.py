@@ -1,6 +1,6 @@
 """A node by its journal: map counts, frames, the queue, and what is counted in the model's way and in the kernel's.
 
-The model's rules are those of docs/MODEL.md; the kernel's are told where a field needs them (mm/rmap.c and
+The model's rules are those of docs/MODEL.md; the kernel's are described where a field needs them (mm/rmap.c and
 mm/huge_memory.c of the kernel).
 """
 
@@ -15,7 +15,7 @@ from ..common.subpages import bits_of
 
 
 @dataclass
-class Tally:
+class EventCounts:
     """What was counted on a node."""
 
     split: int = 0
@@ -54,11 +54,11 @@ class PageState:
         return bits_of(0, self.subpages)
 
     def totals(self) -> Tuple[int, ...]:
-        """The map count of each subpage."""
+        """Returns the map count of each subpage."""
         return tuple(self.whole + own for own in self.own)
 
-    def used(self) -> int:
-        """The subpages that are mapped."""
+    def used_subpages(self) -> int:
+        """Returns the subpages that are mapped."""
         if self.whole:
             return self.every
         return sum(1 << i for i, own in enumerate(self.own) if own)
@@ -74,7 +74,7 @@ class NodeState:
     pages: List[PageState] = field(default_factory=list)
     queue: List[int] = field(default_factory=list)
     flight: List[int] = field(default_factory=list)
-    tally: Tally = field(default_factory=Tally)
+    event_counts: EventCounts = field(default_factory=EventCounts)
 
     @property
     def splits_underused(self) -> bool:
@@ -104,14 +104,14 @@ class NodeState:
             page.held &= ~event.given
         if event.outcome == "queued":
             self.queue.append(event.page)
-            self.tally.queued += 1
+            self.event_counts.queued += 1
         elif event.outcome == "freed":
             page.live = False
             self.queue = [other for other in self.queue if other != event.page]
 
     def _mappings(self, event: Event, page: PageState) -> None:
         span = range(event.first, event.first + event.count)
-        before = page.used() if event.word in ("unmapwhole", "unmapsub") else 0
+        before = page.used_subpages() if event.word in ("unmapwhole", "unmapsub") else 0
         if event.word == "mapwhole":
             page.whole += 1
         elif event.word == "unmapwhole":
@@ -125,16 +125,16 @@ class NodeState:
         elif event.word == "splitpmd":
             page.whole -= 1
             page.own = [own + 1 for own in page.own]
-            self.tally.split_pmd += 1
+            self.event_counts.split_pmd += 1
         elif event.word in ("pin", "unpin"):
             page.pins += 1 if event.word == "pin" else -1
         elif event.word in ("write", "zero"):
             bits = bits_of(event.first, event.count)
             page.zero = page.zero & ~bits | (bits if event.word == "zero" else 0)
-        after = page.used() if before else 0
+        after = page.used_subpages() if before else 0
         if after and after != before and not page.partly:
             page.partly = True
-            self.tally.first_partly += not page.split
+            self.event_counts.first_partly += not page.split
 
     def _places(self, event: Event, page: PageState) -> None:
         number = event.page
@@ -144,7 +144,7 @@ class NodeState:
             self.queue.remove(number)
             self.flight.append(number)
         elif event.word == "pinned":
-            self.tally.failed += 1
+            self.event_counts.failed += 1
         elif event.word in ("split", "used", "back", "dropped"):
             self.flight.remove(number)
             if event.word == "back":
@@ -153,12 +153,12 @@ class NodeState:
                 self._split(page)
 
     def _split(self, page: PageState) -> None:
-        tally = self.tally
-        tally.split += 1
-        tally.underused += not page.partly
+        event_counts = self.event_counts
+        event_counts.split += 1
+        event_counts.underused += not page.partly
         if not page.partly and any(page.own):  # the kernel unmaps PTE by PTE: the page becomes partly mapped on the way
-            tally.perhaps_partly += bool(page.whole)
-            tally.partly_by_split += not page.whole
-        tally.split_pmd += page.whole
-        page.dropped_zero = 0 if self.splits_underused else page.zero & page.used()
+            event_counts.perhaps_partly += bool(page.whole)
+            event_counts.partly_by_split += not page.whole
+        event_counts.split_pmd += page.whole
+        page.dropped_zero = 0 if self.splits_underused else page.zero & page.used_subpages()
         page.own, page.whole, page.split = list(page.totals()), 0, True

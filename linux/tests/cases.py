@@ -1,4 +1,4 @@
-"""Named cases of a script of tests: each says what is wrong or nothing, and has a time limit."""
+"""Named cases of a test script: each returns what is wrong, or nothing, and has a time limit."""
 
 from __future__ import annotations
 

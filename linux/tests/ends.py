@@ -4,8 +4,8 @@
     linux/tests/ends.py COMMAND ARGS..      by default: thpreplay with random scripts
 
 Compared: every file below the kernel's folder of transparent huge pages that is a setting, the memory control groups,
-and the processes by their names. A line for each signal says at how many moments the tool had changed something that
-was to be put back. A tool that ends by itself shows nothing: that counts as failed. The last line is
+and the processes by their names. A line for each signal has the number of moments at which the tool had changed something
+that it had to restore. A tool that ends by itself shows nothing, which counts as failed. The last line is
 `N passed, M failed`; 77 without root.
 """
 
@@ -34,14 +34,14 @@ NAMES = ("mapper", "workload", "guardian.py")
 
 
 @dataclass(frozen=True)
-class Shot:
+class MachineState:
     """What a tool changes, at one moment: settings, control groups, and processes of its own."""
 
     settings: Dict[str, str]
     groups: Set[str]
     processes: List[str]
 
-    def changed(self, before: Shot) -> List[str]:
+    def list_changes(self, before: MachineState) -> List[str]:
         """What isn't as it was."""
         return [each.name for each in fields(self) if getattr(self, each.name) != getattr(before, each.name)]
 
@@ -55,12 +55,12 @@ def is_own(process: Path) -> bool:
     return any(Path(word.decode(errors="replace")).name.split("-")[-1] in NAMES for word in words[:4])
 
 
-def shot() -> Shot:
+def read_state() -> MachineState:
     """What is there now."""
     settings = {str(path): read(path) for path in Path(THP).rglob("*")
                 if path.is_file() and path.stat().st_mode & 0o200 and "stats" not in path.parts}
     groups = {path for path, _, _ in os.walk(find_hierarchy().top) if "/thp" in path}
-    return Shot(settings, groups, [path.name for path in Path("/proc").glob("[0-9]*") if is_own(path)])
+    return MachineState(settings, groups, [path.name for path in Path("/proc").glob("[0-9]*") if is_own(path)])
 
 
 def heed_interrupts() -> None:
@@ -68,24 +68,24 @@ def heed_interrupts() -> None:
     signal.signal(signal.SIGINT, signal.SIG_DFL)
 
 
-def settled() -> Shot:
+def read_settled_state() -> MachineState:
     """What is there once no tool holds the lock, and ended processes have had a moment to go."""
     with Keeper("ends", wait=True):
         pass
     time.sleep(0.1)
-    return shot()
+    return read_state()
 
 
 def end_at(command: List[str], sent: signal.Signals, moment: float) -> Tuple[bool, List[str]]:
     """Ends the tool at a moment: whether it still ran and all is as before, and what it had changed until then."""
-    before = settled()
+    before = read_settled_state()
     tool = subprocess.Popen(command, cwd=ROOT, stdout=subprocess.DEVNULL, stderr=subprocess.DEVNULL,
                             preexec_fn=heed_interrupts)
     time.sleep(moment)
-    meanwhile, ended = shot().changed(before), tool.poll()
+    meanwhile, ended = read_state().list_changes(before), tool.poll()
     tool.send_signal(sent)
     tool.wait()
-    left = settled().changed(before)
+    left = read_settled_state().list_changes(before)
     if ended is not None:
         print(f"after {moment:.2f} s the tool had ended by itself, with status {ended}", flush=True)
     if left:

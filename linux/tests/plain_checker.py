@@ -1,6 +1,6 @@
 #!/usr/bin/env python3
 """A stand-in for `thpcheck`: the plain reading of the model in tests/model.py. With $PLAIN_EXPLAINS it has --explain,
-which says less than the real one."""
+which reports less than the real one."""
 
 from __future__ import annotations
 

@@ -4,9 +4,9 @@
     unmap-short       a range unmapped is one subpage short
     back-at-head      what is put back joins the queue at its head
     splits-pinned     a pinned page is split
-    forgets-free      a freed page stays in the queue
+    forgets-free      a free is reported as a stay
 
-The tools run their programs with an environment of their own: `spoilt` makes a program that sets the variable.
+The tools run their programs with an environment of their own: `inject_bug` makes a program that sets the variable.
 """
 
 from __future__ import annotations
@@ -58,7 +58,7 @@ class SplitsPinned(Node):
 
 class ForgetsFree(Node):
     def lost(self, caller: int, number: int, held: Set[int], used: Set[int], *words: Union[int, str]) -> str:
-        """A page that its last unmap frees only says that it stays."""
+        """Reports that a page stays though its last unmap frees it."""
         answer = super().lost(caller, number, held, used, *words)
         self.journal[-1] = self.journal[-1].replace(" freed ", " stays ")
         return answer.replace("freed ", "stays ")
@@ -69,7 +69,7 @@ BUGS: Dict[str, Type[Node]] = {
 }
 
 
-def spoilt(bug: str, folder: str) -> str:
+def inject_bug(bug: str, folder: str) -> str:
     """Makes a program with a bug in a folder, and returns its path."""
     path = os.path.join(folder, f"plain-{bug}")
     with open(path, "w", encoding="ascii") as file:
@@ -78,13 +78,12 @@ def spoilt(bug: str, folder: str) -> str:
     return path
 
 
-def run_of(text: str, words: List[str]) -> Run:
+def run_of(text: str, words: List[str], bug: str) -> Run:
     options = options_of(words)
     run = Run([(options.blocks, order, switch) for order, switch in zip(options.orders, options.underused)])
-    kind = BUGS.get(os.environ.get("PLAIN_BUG", ""))
-    if kind:
-        run.nodes = [kind(node.blocks, node.order, node.underused) for node in run.nodes]
-        RANGE_CALLS["unmap"] = kind.unmap_sub
+    kind = BUGS.get(bug, Node)
+    run.nodes = [kind(node.blocks, node.order, node.underused) for node in run.nodes]
+    RANGE_CALLS["unmap"] = kind.unmap_sub
     sections: List[Tuple[int, List[str]]] = []
     for line in text_lines(text):
         if line and not line.startswith("#"):
@@ -98,6 +97,13 @@ def run_of(text: str, words: List[str]) -> Run:
     return run
 
 
+def report_of(kind: str, text: str, words: List[str], bug: str) -> str:
+    """Returns a report on a script: totals, answers or journal."""
+    run = run_of(text, words, bug)
+    lines = {"totals": run.totals, "answers": lambda: run.answers, "journal": run.journal}[kind]()
+    return "".join(f"{line}\n" for line in lines)
+
+
 def main() -> int:
     text, words = sys.stdin.read(), sys.argv[1:]
     if "--check" in words:
@@ -105,9 +111,7 @@ def main() -> int:
         print("legal" if line is None else f"illegal line {line}")
         return int(line is not None)
     kind = words[words.index("--report") + 1] if "--report" in words else "totals"
-    run = run_of(text, words)
-    lines = {"totals": run.totals, "answers": lambda: run.answers, "journal": run.journal}[kind]()
-    print("\n".join(lines))
+    sys.stdout.write(report_of(kind, text, words, os.environ.get("PLAIN_BUG", "")))
     return 0
 
 

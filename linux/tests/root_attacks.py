@@ -32,7 +32,7 @@ sys.path.insert(0, str(ROOT))
 from linux.common.errors import BUSY, FAILED, SKIPPED, USAGE  # noqa: E402
 from linux.common.files import THP, read  # noqa: E402
 from linux.common.guardian import release, start_of  # noqa: E402
-from linux.common.holding import is_stopped  # noqa: E402
+from linux.common.hold import is_stopped  # noqa: E402
 from linux.common.keeper import Keeper  # noqa: E402
 from linux.common.user import NOBODY  # noqa: E402
 from linux.tests.cases import Cases, Missing  # noqa: E402
@@ -44,7 +44,7 @@ SECONDS = 30  # that a call gets
 MANY = 3000  # processes of another user
 
 
-class Ended:
+class CallResult:
     """How a call ended: its status, and what it wrote."""
 
     def __init__(self, done: subprocess.CompletedProcess[bytes]) -> None:
@@ -54,21 +54,21 @@ class Ended:
     def wrong(self, statuses: Sequence[int], text: str = "") -> Optional[str]:
         """What is wrong where it ended otherwise than with one of these statuses and one line on standard error, which
         has this text."""
-        told = self.problems.decode("ascii", "backslashreplace")
-        if "Traceback" in told or b"Traceback" in self.out:
-            return f"a traceback: {told[-300:]}"
+        message = self.problems.decode("ascii", "backslashreplace")
+        if "Traceback" in message or b"Traceback" in self.out:
+            return f"a traceback: {message[-300:]}"
         if self.status not in statuses:
-            return f"status {self.status}: {told[-300:]}"
-        if text and (text not in told or told.count("\n") != 1):
-            return f"reports {told!r}"
+            return f"status {self.status}: {message[-300:]}"
+        if text and (text not in message or message.count("\n") != 1):
+            return f"reports {message!r}"
         return None
 
 
-def call(words: Sequence[str], **more: object) -> Ended:
+def call(words: Sequence[str], **more: object) -> CallResult:
     """Runs a tool to its end."""
     how: Dict[str, object] = {"stdin": subprocess.DEVNULL, "stdout": subprocess.PIPE, "stderr": subprocess.PIPE}
     done = subprocess.run(list(words), timeout=SECONDS, check=False, **{**how, **more})  # type: ignore[call-overload]
-    return Ended(done)
+    return CallResult(done)
 
 
 @contextmanager
@@ -82,7 +82,7 @@ def folder_of_nobody() -> Iterator[Path]:
         yield path
 
 
-def planted(path: Path, kind: str, target: Path) -> None:
+def place_target(path: Path, kind: str, target: Path) -> None:
     """Makes what a hostile user puts where root is going to write."""
     if kind == "a link":
         path.symlink_to(target)
@@ -105,6 +105,7 @@ OUTPUTS: Dict[str, List[str]] = {
     "thpwhatif -o": [WHATIF, "snapshot", "--pid", str(os.getpid()), "-o"],
     "thpwhatif --facts": [WHATIF, "snapshot", "--pid", str(os.getpid()), "--facts"],
     "thpwhatif --svg": [WHATIF, "now", "--pid", str(os.getpid()), "--svg"],
+    "thpwhatif --prometheus": [WHATIF, "watch", "1", "--rounds", "1", "--pid", str(os.getpid()), "--prometheus"],
     "thprecord --out": [RECORD, "--own", "1,5,1", "--out"],
     "thprecord --records": [RECORD, "--own", "1,5,1", "--records"],
 }
@@ -121,7 +122,7 @@ def outputs_are_refused(words: List[str]) -> Optional[str]:
         with folder_of_nobody() as folder:
             target = folder.parent / "target"
             target.write_text("precious")
-            planted(folder / "output", kind, target)
+            place_target(folder / "output", kind, target)
             wrong = call([*words, str(folder / "output")]).wrong([USAGE], "output")
             left = sorted(path.name for path in folder.parent.rglob("*"))
             if wrong or target.read_text() != "precious" or left != ["output", "own", "target"]:
@@ -136,7 +137,7 @@ def folders_are_refused(words: List[str]) -> Optional[str]:
             target = folder.parent / "target"
             target.write_text("precious")
             path = folder / "output"
-            planted(path, kind, target)
+            place_target(path, kind, target)
             if "folder" in kind:
                 path.mkdir()
                 os.chmod(path, 0o777 if kind == "a folder for all" else 0o700)
@@ -177,7 +178,7 @@ def reused_numbers_are_spared() -> Optional[str]:
 
 
 def user_namespace() -> Optional[str]:
-    """Root of a user namespace has no rights: each tool says so in one line."""
+    """Root of a user namespace has no rights: each tool reports that in one line."""
     unshare = shutil.which("unshare") or ""
     if not unshare or call([unshare, "-Ur", "true"], user=NOBODY, group=NOBODY, extra_groups=[]).status:
         raise Missing("no user namespaces for other users")
@@ -230,9 +231,9 @@ def limits() -> Optional[str]:
             for words in ([WHATIF, "now", "--pid", str(os.getpid())], [REPLAY, SCRIPT]):
                 set_limit = partial(resource.setrlimit, which, (value, value))
                 ended = call(words, preexec_fn=set_limit)
-                told = ended.problems
-                if ended.status < 0 or b"Traceback" in told and b"linux/common" in told:
-                    return f"limit {which} of {value}: status {ended.status}: {told[-200:]!r}"
+                message = ended.problems
+                if ended.status < 0 or b"Traceback" in message and b"linux/common" in message:
+                    return f"limit {which} of {value}: status {ended.status}: {message[-200:]!r}"
     return None
 
 
@@ -294,9 +295,9 @@ def signals_at_random(words: List[str], rounds: int) -> Optional[str]:
                                  preexec_fn=partial(signal.signal, signal.SIGINT, signal.default_int_handler))
         time.sleep(moment)
         child.send_signal(sent)
-        told = end_of(child)
-        if b"Traceback" in told:
-            return f"{sent.name} after {moment:.2f} s: {told[-300:]!r}"
+        message = end_of(child)
+        if b"Traceback" in message:
+            return f"{sent.name} after {moment:.2f} s: {message[-300:]!r}"
         if settings() != before:
             return f"{sent.name} after {moment:.2f} s: settings are not as before"
     return None

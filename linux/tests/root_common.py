@@ -1,5 +1,5 @@
 #!/usr/bin/env python3
-"""What is held runs on, and what is set is put back, however the tool and its guardians end (root).
+"""Held processes continue, and settings are restored, however the tool and its guardians end (root).
 
     linux/tests/root_common.py
 
@@ -26,7 +26,7 @@ from linux.common import user  # noqa: E402
 from linux.common.errors import BUSY, SKIPPED, USAGE  # noqa: E402
 from linux.common.files import PTES_NONE, SWITCH, read, write  # noqa: E402
 from linux.common.guardian import hierarchies  # noqa: E402
-from linux.common.holding import freezer_of, is_frozen, is_stopped  # noqa: E402
+from linux.common.hold import freezer_of, is_frozen, is_stopped  # noqa: E402
 from linux.common.keeper import FOLDER, Keeper, recover  # noqa: E402
 from linux.tests.cases import Cases, Missing  # noqa: E402
 
@@ -37,12 +37,12 @@ SLACK = 1.0  # seconds after the limit in which all must run on
 HOLDER = """
 import sys, time
 sys.path.insert(0, sys.argv[1])
-from linux.common.holding import held
+from linux.common.hold import hold_processes
 from linux.common.keeper import Keeper
 group, process, limit = sys.argv[2], int(sys.argv[3]), float(sys.argv[4])
 with Keeper("holder", wait=True) as keeper:
     print("kept", flush=True)
-    with held(lambda: [process], [group] if group else [], keeper, limit) as hold:
+    with hold_processes(lambda: [process], [group] if group else [], keeper, limit) as hold:
         print("held", flush=True)
         time.sleep(30)
 """
@@ -72,7 +72,7 @@ def descendants(number: int) -> List[int]:
     return children + [each for child in children for each in descendants(child)]
 
 
-def started(program: str, *words: str) -> subprocess.Popen[str]:
+def start_program(program: str, *words: str) -> subprocess.Popen[str]:
     """Starts one of the programs above, and waits until it has the lock."""
     tool = subprocess.Popen([sys.executable, "-c", program, str(ROOT), *words], stdout=subprocess.PIPE, text=True,
                             stderr=subprocess.DEVNULL)
@@ -151,7 +151,7 @@ def spared_after(kill: Callable[[subprocess.Popen[str]], None], file: str) -> Op
     moments: what is held must run on within the limit."""
     for moment in MOMENTS:
         with group_with(file) if file else sleeper_only() as group, sleeper(group) as process:
-            tool = started(HOLDER, group, str(process), str(LIMIT))
+            tool = start_program(HOLDER, group, str(process), str(LIMIT))
             time.sleep(moment)
             kill(tool)
 
@@ -221,7 +221,7 @@ def next_start_lets_run_on(file: str) -> Optional[str]:
     """Where the standby is killed too, the next start of a tool ends the hold."""
     for moment in MOMENTS:
         with group_with(file) if file else sleeper_only() as group, sleeper(group) as process:
-            tool = started(HOLDER, group, str(process), str(LIMIT))
+            tool = start_program(HOLDER, group, str(process), str(LIMIT))
             time.sleep(moment)
             kill_all(tool)
             end(tool)
@@ -247,7 +247,7 @@ def settings_are_put_back(kill: Callable[[subprocess.Popen[str]], None]) -> Opti
     """Settings and groups are as before after one later start of a tool."""
     before, busy = settings(), 0
     for moment in MOMENTS:
-        tool = started(SETTER)
+        tool = start_program(SETTER)
         time.sleep(moment / 2)
         kill(tool)
         busy += read(PTES_NONE) != before[0]
@@ -260,7 +260,7 @@ def settings_are_put_back(kill: Callable[[subprocess.Popen[str]], None]) -> Opti
 def changed_since_is_left() -> Optional[str]:
     """A setting that an administrator changed after the tool was killed is left as it is."""
     former = read(PTES_NONE)
-    tool = started(SETTER)
+    tool = start_program(SETTER)
     time.sleep(0.4)
     kill_all(tool)
     end(tool)
@@ -295,7 +295,7 @@ def own_group_is_refused(file: str) -> Optional[str]:
 
 def second_tool_is_busy() -> Optional[str]:
     """A tool that finds the lock taken names the holder and ends with its own status."""
-    tool = started(SETTER)
+    tool = start_program(SETTER)
     try:
         done = subprocess.run([sys.executable, "-c", "import sys; sys.path.insert(0, sys.argv[1])\n"
                                "from linux.common.tool import run_tool\nfrom linux.common.keeper import Keeper\n"
@@ -311,7 +311,7 @@ def nobody_reaches_the_folder() -> Optional[str]:
     """Another user can neither list the tools' folder nor open the lock or what is to be put back."""
     code = ("import os, sys\nfor path in sys.argv[1:]:\n    try:\n        os.open(path, os.O_RDONLY)\n"
             "        print(path)\n    except PermissionError:\n        pass\n")
-    tool = started(SETTER)
+    tool = start_program(SETTER)
     time.sleep(0.3)
     try:
         paths = [FOLDER, f"{FOLDER}/lock", f"{FOLDER}/undo"]

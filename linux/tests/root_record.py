@@ -1,5 +1,5 @@
 #!/usr/bin/env python3
-"""What `thprecord` promises of a recording on the running kernel (root).
+"""Tests of `thprecord` on the running kernel (root).
 
     linux/tests/root_record.py
 
@@ -35,14 +35,14 @@ MOST_RESIDENT = 64 << 10  # KiB
 FAULTS, DROPS = 300000, 20000
 PAGES, FOLLOWED, RUNS, TRIES = 48, 45, 5, 12  # of snapshots.py
 EXAMPLES = ROOT / "linux/record/examples"
-JUDGE = program.find("thpcheck", checker.BUILT) or str(ROOT / "linux/tests/plain_checker.py")
+CHECKER = program.find("thpcheck", checker.BUILT) or str(ROOT / "linux/tests/plain_checker.py")
 PYTHON = "/usr/bin/python3"
 USER = "nobody"
 FOLDER = Path("/")  # of this run; set at its start
 
 
 @dataclass(frozen=True)
-class Done:
+class RunResult:
     """What a run of the tool left."""
 
     status: int
@@ -70,11 +70,11 @@ def resident_of(number: int) -> int:
 
 
 def run(words: List[str], meanwhile: Callable[[subprocess.Popen[bytes], float], None] = lambda tool, since: None,
-        folder: Optional[str] = None) -> Done:
+        folder: Optional[str] = None) -> RunResult:
     """Runs the tool, looks at its memory, and calls `meanwhile` with the seconds since its start."""
     began, resident = time.monotonic(), 0
     with tempfile.TemporaryFile() as out, tempfile.TemporaryFile() as problems:
-        tool = subprocess.Popen([str(ROOT / "linux/thprecord"), "--wait", "--checker", JUDGE, "--straighten", *words],
+        tool = subprocess.Popen([str(ROOT / "linux/thprecord"), "--wait", "--checker", CHECKER, "--straighten", *words],
                                 stdin=subprocess.DEVNULL, stdout=out, stderr=problems, cwd=folder,
                                 preexec_fn=lambda: signal.signal(signal.SIGINT, signal.default_int_handler) and None)
         try:
@@ -90,7 +90,7 @@ def run(words: List[str], meanwhile: Callable[[subprocess.Popen[bytes], float], 
         for file in (out, problems):
             file.seek(0)
             texts.append(file.read().decode("utf-8", "replace"))
-        return Done(tool.returncode, texts[0], texts[1], resident, time.monotonic() - began)
+        return RunResult(tool.returncode, texts[0], texts[1], resident, time.monotonic() - began)
 
 
 def busy(*words: str) -> List[str]:
@@ -134,7 +134,7 @@ def copies_on_write() -> Optional[str]:
     good = 0
     for number in range(TRIES):
         done = run(["--", PYTHON, reachable(str(EXAMPLES / "snapshots.py")), str(number)])
-        found = re.search(r"^legal .* ([0-9]+) of ([0-9]+) pages told$", done.out, re.MULTILINE)
+        found = re.search(r"^legal .* ([0-9]+) of ([0-9]+) pages followed$", done.out, re.MULTILINE)
         followed, pages = map(int, found.groups()) if found else (0, 1)
         if done.status != DONE or followed * PAGES < FOLLOWED * pages:
             return f"run {number}: {done.out[:300]!r} {done.problems[:200]!r}"

@@ -29,16 +29,19 @@ sys.dont_write_bytecode = True
 
 from linux.common.errors import DIFFERS, DONE, INCONCLUSIVE, SKIPPED, USAGE  # noqa: E402
 from linux.common.files import read, read_bytes  # noqa: E402
+from linux.common.script import read_script  # noqa: E402
 from linux.common.text import lines  # noqa: E402
 from linux.common.user import nobody  # noqa: E402
 from linux.tests.cases import Cases  # noqa: E402
-from linux.tests.plain_program import spoilt  # noqa: E402
+from linux.tests.git_repository import Git  # noqa: E402
+from linux.tests.plain_program import inject_bug  # noqa: E402
 
 HERE = Path(__file__).resolve().parent
 SCRIPT = str(ROOT / "examples/first.script")
 RUNS = 50  # beside an attacker
 SECONDS = 40  # that a run of the tool gets
 KILLS = 8
+MOST_COMMANDS = 8  # of a smallest script
 
 
 class Attackers:
@@ -55,7 +58,7 @@ class Attackers:
             subprocess.run([*words, str(source)], check=True, timeout=60)
 
     @contextmanager
-    def running(self, name: str, *words: str) -> Iterator[subprocess.Popen[bytes]]:
+    def run_attacker(self, name: str, *words: str) -> Iterator[subprocess.Popen[bytes]]:
         """One of them as user nobody, until the end of the `with`."""
         process = subprocess.Popen([f"{self._folder}/{name}", *words], stdout=subprocess.PIPE, cwd="/",
                                    **nobody().rights())
@@ -128,7 +131,7 @@ def beside_attackers(tool: Tool, attackers: Attackers) -> Optional[str]:
     """Nobody is killed, nothing is taken, and the runs are as without."""
     with subprocess.Popen(["sleep", "600"]) as victim:
         try:
-            with attackers.running("sockets", str(victim.pid), "600") as attacker:
+            with attackers.run_attacker("sockets", str(victim.pid), "600") as attacker:
                 for number in range(RUNS):
                     memory = [] if number % 5 == 0 else ["--no-memory"]
                     status, out, problems = tool.call(SCRIPT, *memory)
@@ -138,10 +141,10 @@ def beside_attackers(tool: Tool, attackers: Attackers) -> Optional[str]:
                         return f"run {number}: the victim has ended with status {victim.returncode}"
                 attacker.terminate()
                 assert attacker.stdout
-                told = attacker.stdout.read()
+                output = attacker.stdout.read()
         finally:
             victim.kill()
-    return None if told == b"ready\n" else f"the attacker was heard: {told[:200]!r}"
+    return None if output == b"ready\n" else f"the attacker was heard: {output[:200]!r}"
 
 
 def has_no_names(tool: Tool) -> Optional[str]:
@@ -178,7 +181,7 @@ def rights_left(process: int) -> Optional[str]:
 
 def beside_noise(tool: Tool, attackers: Attackers, pause: str) -> Optional[str]:
     """Twenty runs of a script and five random ones never differ."""
-    with attackers.running("noise", "600", pause):
+    with attackers.run_attacker("noise", "600", pause):
         status, out, problems = tool.call(*[SCRIPT] * 20, "--random", "5", seconds=90)
     found = outcomes(out)
     print(f"  beside noise every {pause} us: {found.count('agrees')} agree, {found.count('inconclusive')} inconclusive")
@@ -189,8 +192,8 @@ def beside_noise(tool: Tool, attackers: Attackers, pause: str) -> Optional[str]:
 
 def bug_beside_noise(tool: Tool, attackers: Attackers) -> Optional[str]:
     """A difference of the own state is found whatever the counters do."""
-    with tempfile.TemporaryDirectory() as folder, attackers.running("noise", "600"):
-        status, out, _ = tool.call(SCRIPT, program=spoilt("unmap-short", folder))
+    with tempfile.TemporaryDirectory() as folder, attackers.run_attacker("noise", "600"):
+        status, out, _ = tool.call(SCRIPT, "--shrink", "5", program=inject_bug("unmap-short", folder))
     if status != DIFFERS or b"map count of page 0 of node 0, subpage 255, kernel 0, thpsplit 1" not in out:
         return f"status {status}: {out[-300:]!r}"
     return None
@@ -272,6 +275,72 @@ def wait_until(is_so: Callable[[], bool], seconds: float) -> bool:
     return is_so()
 
 
+def makes_small(tool: Tool, bug: str) -> Optional[str]:
+    """A random script that shows an injected bug is made small on the kernel; it differs again, and a correct program
+    agrees with it."""
+    with tempfile.TemporaryDirectory() as folder:
+        os.chmod(folder, 0o755)
+        program, kept = inject_bug(bug, folder), Path(folder) / "kept"
+        tool.call("--random", "8", "--seed", "7", "--quiet", "--keep", str(kept), program=program, seconds=90)
+        found = sorted(kept.glob("*.smallest.script"))
+        if not found:
+            return "no script was made small"
+        for path in found:
+            count = len(read_script(str(path)).commands())
+            if path.stat().st_mode & 0o7777 != 0o600 or count > MOST_COMMANDS:
+                return f"{count} commands, mode {path.stat().st_mode:o}: {path.read_text()}"
+            statuses = [tool.call(str(path), "--shrink", "0", program=each)[0] for each in (program, None)]
+            if statuses != [DIFFERS, DONE]:
+                return f"statuses {statuses}: {path.read_text()}"
+    return None
+
+
+def has_one_fingerprint(tool: Tool) -> Optional[str]:
+    """Two fingerprints have the same lines, and the document's column of this kernel is the table of the tool."""
+    prints = [tool.call("--fingerprint") for _ in range(2)]
+    if prints[0] != prints[1] or prints[0][0] != DONE or prints[0][1].count(b"\n") < 14:
+        return f"{prints}"
+    table = tool.call("--fingerprint", "--markdown")[1].decode("ascii")
+    document = read(ROOT / "docs/LINUX.md")
+    head = table.split("\n", 1)[0]
+    return None if table in document or head not in document else f"docs/LINUX.md has another table: {table}"
+
+
+def prints_ktap(tool: Tool) -> Optional[str]:
+    """Statuses are kselftest's, also where the run can't begin; lines have KTAP's forms."""
+    with tempfile.TemporaryDirectory() as folder:
+        os.chmod(folder, 0o755)
+        wrong = inject_bug("unmap-short", folder)
+        runs = [(0, "ok 1", tool.call("--tap", SCRIPT)), (1, "not ok 1", tool.call("--tap", SCRIPT, program=wrong)),
+                (1, "not ok 1", tool.call("--tap", f"{folder}/none")), (1, "", tool.call("--tap", "--random", "x")),
+                (4, "ok 1 run # SKIP", tool.call("--tap", SCRIPT, program=f"{folder}/none"))]
+    for wanted, line, (status, out, problems) in runs:
+        lines = out.decode("ascii").split("\n")
+        if status != wanted or (line and lines[0] != "KTAP version 1") or not any(each.startswith(line) for each in lines):
+            return f"status {status}, not {wanted}: {out!r} {problems!r}"
+    return None
+
+
+def is_bisected(tool: Tool) -> Optional[str]:
+    """`git bisect run` finds the commit from which on a program has a bug, over one that has no program."""
+    trees = ["correct", "correct", "", "correct", "unmap-short", "unmap-short", "unmap-short"]
+    with tempfile.TemporaryDirectory() as folder:
+        os.chmod(folder, 0o755)
+        git, path = Git(folder), Path(folder) / "program"
+        commits = []
+        for tree in trees:
+            if tree:
+                path.write_text(read(inject_bug(tree, folder)), encoding="ascii")
+                path.chmod(0o755)
+            else:
+                path.unlink()
+            commits.append(git.commit())
+        git.call("bisect", "start", commits[-1], commits[0])
+        words = [str(ROOT / "linux/thpbisect"), "--wait", "--no-memory", "--program", str(path), "--script", SCRIPT]
+        out = git.call("bisect", "run", *words)
+    return None if f"{commits[4]} is the first bad commit" in out else out[-500:]
+
+
 def main() -> int:
     if os.geteuid() != 0:
         print("root_replay: skipped: not root", file=sys.stderr)
@@ -292,6 +361,12 @@ def main() -> int:
         cases.run("an injected bug beside noise", partial(bug_beside_noise, tool, attackers))
         cases.run("files and words that can't be used", partial(refuses, tool))
         cases.run("a name with control characters", partial(prints_names, tool))
+        for bug in ("unmap-short", "splits-pinned", "forgets-free"):
+            cases.run(f"a script that shows {bug} is made small", partial(makes_small, tool, bug))
+        cases.run("two fingerprints", partial(has_one_fingerprint, tool))
+        cases.run("KTAP and its statuses", partial(prints_ktap, tool))
+        if shutil.which("git"):
+            cases.run("git bisect run", partial(is_bisected, tool))
         cases.run("SIGKILL leaves no mapping process", partial(leaves_no_mapper, tool))
     return cases.end()
 

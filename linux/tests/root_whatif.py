@@ -1,12 +1,12 @@
 #!/usr/bin/env python3
-"""What makes a look at huge pages hard, and thpwhatif beside it (root).
+"""Tests of thpwhatif beside hostile processes and large memory (root).
 
     linux/tests/root_whatif.py [--size GIB] [CASE..]
 
-Names with any bytes, thousands of locked areas, hundreds of forks, pages given to MADV_FREE, missing capabilities, a
-PID namespace, noise beside `verify`, and a limit of memory. `--size`: how many GiB of huge pages the case `memory` maps
-(1). The programs are those of hostile_pages.c, compiled by cc. The last line is `N passed, M failed`; 77 without root,
-cc or thpsplit. What a machine lacks is named and counted neither way.
+Names with any bytes, thousands of locked areas, hundreds of forks, pages given to MADV_FREE, missing capabilities, the
+capabilities of thpwhatif.service, a PID namespace, noise beside `verify`, and a limit of memory. `--size`: how many GiB
+of huge pages the case `memory` maps (1). The programs are those of hostile_pages.c, compiled by cc. The last line is
+`N passed, M failed`; 77 without root, cc or thpsplit. What a machine lacks is named and counted neither way.
 """
 
 from __future__ import annotations
@@ -147,12 +147,15 @@ def check_looks(pages: Pages, running: List[int]) -> Optional[str]:
         Call(["now", "--all", "--by-process", "--json"]),
         Call(["snapshot", "--all", "-o", script, "--facts", facts]),
         Call(["watch", "0.01", "--all", "--rounds", "2"]),
+        Call(["watch", "0.01", "--all", "--rounds", "2", "--json"]),
     ]
     looks += [Call(["what-if", file, "--by-process", "--json"]) for file in (script, facts)]
     for look in looks:
         if look.wrong(DONE):
             return look.wrong(DONE)
-    for look in (looks[1], looks[4], looks[5]):
+    if [json.loads(line)["look"] for line in looks[4].out.splitlines()] != [1, 2]:
+        return f"no JSON object for each look: {looks[4].out[:300]}"
+    for look in (looks[1], looks[5], looks[6]):
         seen = {share["process"] for share in look.json()["by_process"]["off"]}
         if not set(running) <= seen:
             return f"processes {sorted(set(running) - seen)} aren't seen"
@@ -248,8 +251,27 @@ def check_capabilities(pages: Pages) -> Optional[str]:
     return None
 
 
+def check_service(pages: Pages) -> Optional[str]:
+    """With the capabilities of thpwhatif.service alone, its command sees the pages of another user, and knows the queues."""
+    if not shutil.which("setpriv"):
+        raise Missing("no setpriv")
+    unit = (ROOT / "linux/whatif/thpwhatif.service").read_text()
+    names = re.findall(r"CAP_([A-Z_]+)", re.findall("^CapabilityBoundingSet=(.+)$", unit, re.MULTILINE)[0])
+    words = re.findall("^ExecStart=/usr/bin/thpwhatif (.+)$", unit, re.MULTILINE)[0].split()
+    bounds = ",".join(["-all", *(f"+{name.lower()}" for name in names)])
+    path = Path(pages.folder) / "thp.prom"
+    words[-1:] = [str(path)]
+    with pages.run("plain", 16, SECONDS, user=NOBODY):
+        look = Call(words, ["setpriv", f"--bounding-set={bounds}", "--inh-caps=-all", "--no-new-privs"])
+    if look.wrong(DONE):
+        return look.wrong(DONE)
+    values = dict(re.findall(r"^(thpwhatif_[a-z_]+) ([0-9.]+)$", path.read_text(), re.MULTILINE))
+    seen, queues = int(values["thpwhatif_huge_pages"]), values["thpwhatif_queues_read"]
+    return None if seen >= 8 and queues == "1" else f"{seen} huge pages are seen, queues read: {queues}"
+
+
 def check_namespace(pages: Pages) -> Optional[str]:
-    """In a PID namespace the look says that it sees these processes alone, and compares no sum of the machine."""
+    """In a PID namespace the look reports that it sees only these processes, and compares no sum of the machine."""
     if not shutil.which("unshare"):
         raise Missing("no unshare")
     look = Call(["now", "--all"], ["unshare", "--pid", "--fork", "--mount-proc"])
@@ -298,6 +320,7 @@ CASES: Dict[str, Callable[[Pages], Optional[str]]] = {
     "forks": check_forks,
     "freed": check_freed,
     "capabilities": check_capabilities,
+    "service": check_service,
     "namespace": check_namespace,
     "noise": check_noise,
 }

@@ -1,5 +1,5 @@
 #!/usr/bin/env python3
-"""All tests of linux/ that want neither root nor the built program. The last line is `N passed, M failed`."""
+"""Runs all tests of linux/ that need neither root nor the built program. The last line is `N passed, M failed`."""
 
 from __future__ import annotations
 

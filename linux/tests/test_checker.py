@@ -1,4 +1,4 @@
-"""Journals judged: by a stand-in for `thpcheck`, and by the real one where it is built."""
+"""Checks of journals: by a stand-in for `thpcheck`, and by the real one where it is built."""
 
 from __future__ import annotations
 
@@ -13,16 +13,16 @@ from unittest import mock
 
 from ..common import checker as checkers
 from ..common import program as programs
-from ..common.checker import Checker, find_judge
+from ..common.checker import Checker, find_checker
 from ..common.errors import InputFault, Unavailable
-from ..common.program import Program
 from ..common.journal import journal_of
+from ..common.program import Program
 from ..common.text import text_lines
-from ..record.journalist import Journalist
-from ..record.judging import JournalFile, Judged, judge
+from ..record.journal_builder import JournalBuilder
+from ..record.journal_file import JournalFile, JournalVerdict, check_journal
 from ..record.state import Settings
-from ..record.tampering import Spoil, journal_in, tampered
-from .recordings import recording
+from ..record.tampering import Alteration, alter_journal, read_journal
+from .recordings import read_recording
 
 HERE = Path(__file__).resolve().parent
 PLAIN, PLAIN_CHECKER = str(HERE / "plain_program.py"), str(HERE / "plain_checker.py")
@@ -31,27 +31,27 @@ BUILT = programs.find("thpcheck", checkers.BUILT)
 
 def journal_of_one_thread() -> str:
     """The journal of a stored recording, which is legal."""
-    journalist = Journalist(Settings(9, None, True))
-    journalist.tell(recording("one_thread"))
-    return journalist.text()
+    builder = JournalBuilder(Settings(9, None, True))
+    builder.add_records(read_recording("one_thread"))
+    return builder.text()
 
 
-def spoilt_copy() -> Tuple[str, int]:
+def altered_copy() -> Tuple[str, int]:
     """That journal without one event of the queue, and the line at which it is illegal by the plain reading."""
     text, chance = journal_of_one_thread(), random.Random(5)
     while True:
-        copy = tampered(text, chance)
-        line = Program(PLAIN).check(copy.text).line if copy and copy.spoil is Spoil.LEFT_OUT else None
+        copy = alter_journal(text, chance)
+        line = Program(PLAIN).check(copy.text).line if copy and copy.alteration is Alteration.LEFT_OUT else None
         if copy and line:
             return copy.text, line
 
 
-def judged_text(text: str, checker: Checker) -> Judged:
-    """A journal's text judged, as thprecord has its file judged."""
+def check_text(text: str, checker: Checker) -> JournalVerdict:
+    """Returns the verdict on a journal's text, as thprecord gets it for its file."""
     nodes = journal_of(text)
     journal = JournalFile(nodes)
     try:
-        return judge(journal, sum(len(node.events) for node in nodes), checker)
+        return check_journal(journal, sum(len(node.events) for node in nodes), checker)
     finally:
         journal.close()
 
@@ -69,32 +69,32 @@ class ExplainedTest(unittest.TestCase):
         return Checker(str(path))
 
     def test_an_illegal_journal_is_explained(self) -> None:
-        text, line = spoilt_copy()
-        judged = judged_text(text, self.checker(True))
-        self.assertEqual((judged.legal, judged.text.split(" (")[0]), (False, f"illegal line {line}"))
-        self.assertEqual(judged.why[0], f"line {line}: {text_lines(text)[line - 1]}")
+        text, line = altered_copy()
+        verdict = check_text(text, self.checker(True))
+        self.assertEqual((verdict.legal, verdict.text.split(" (")[0]), (False, f"illegal line {line}"))
+        self.assertEqual(verdict.why[0], f"line {line}: {text_lines(text)[line - 1]}")
 
     def test_a_checker_that_does_not_explain_is_not_asked_to(self) -> None:
-        text, line = spoilt_copy()
-        judged = judged_text(text, self.checker(False))
-        self.assertEqual((judged.legal, judged.why), (False, []))
-        self.assertTrue(judged.text.startswith(f"illegal line {line}: {text_lines(text)[line - 1]} ("))
+        text, line = altered_copy()
+        verdict = check_text(text, self.checker(False))
+        self.assertEqual((verdict.legal, verdict.why), (False, []))
+        self.assertTrue(verdict.text.startswith(f"illegal line {line}: {text_lines(text)[line - 1]} ("))
 
     def test_a_legal_journal_has_nothing_to_explain(self) -> None:
-        judged = judged_text(journal_of_one_thread(), self.checker(True))
-        self.assertEqual((judged.legal, judged.text.split(" (")[0], judged.why), (True, "legal", []))
+        verdict = check_text(journal_of_one_thread(), self.checker(True))
+        self.assertEqual((verdict.legal, verdict.text.split(" (")[0], verdict.why), (True, "legal", []))
 
     def test_an_empty_journal_is_no_legal_one(self) -> None:
-        self.assertFalse(judged_text("thp-journal 1\nnode 0 blocks 8\nend\n", self.checker(True)).legal)
+        self.assertFalse(check_text("thp-journal 1\nnode 0 blocks 8\nend\n", self.checker(True)).legal)
 
 
 @unittest.skipUnless(BUILT, "there is no thpcheck (make checker, or THPCHECK=PATH)")
 class BuiltTest(unittest.TestCase):
-    """The program itself says of a recording what the plain reading says."""
+    """The built program and the plain reading agree on a recording."""
 
-    def test_a_recording_and_a_spoilt_copy_of_it(self) -> None:
+    def test_a_recording_and_a_altered_copy_of_it(self) -> None:
         assert BUILT
-        text, line = spoilt_copy()
+        text, line = altered_copy()
         checker = Checker(BUILT)
         self.assertEqual(checker.check(journal_of_one_thread()).text, "legal")
         verdict = checker.check(text)
@@ -105,7 +105,7 @@ class BuiltTest(unittest.TestCase):
 
 
 class FoundTest(unittest.TestCase):
-    """Who judges; the folder stands for one in which nothing is built, and is the path."""
+    """Which checker is chosen; the folder is the path, and nothing is built in it."""
 
     def setUp(self) -> None:
         made = tempfile.TemporaryDirectory()
@@ -128,24 +128,24 @@ class FoundTest(unittest.TestCase):
 
     def test_thpcheck_comes_first_and_thpsplit_stands_in_for_it(self) -> None:
         with self.assertRaisesRegex(Unavailable, "no thpcheck .*, and no thpsplit"):
-            find_judge()
+            find_checker()
         split = self.made("thpsplit")
-        found = find_judge()
+        found = find_checker()
         self.assertEqual((type(found), found.path), (Program, split))
         check = self.made("thpcheck")
-        found = find_judge()
+        found = find_checker()
         self.assertEqual((type(found), found.path), (Checker, check))
 
     def test_one_that_is_named_judges(self) -> None:
         split, check = self.made("thpsplit"), self.made("thpcheck")
         other = self.made("other")
-        self.assertEqual(find_judge(program=split).path, split)
-        self.assertEqual(find_judge(checker=other, program=split).path, other)
+        self.assertEqual(find_checker(program=split).path, split)
+        self.assertEqual(find_checker(checker=other, program=split).path, other)
         with mock.patch.dict(os.environ, {"THPCHECK": other, "THPSPLIT": split}):
-            self.assertEqual(find_judge().path, other)
-        self.assertEqual(find_judge(checker=check).path, check)
+            self.assertEqual(find_checker().path, other)
+        self.assertEqual(find_checker(checker=check).path, check)
         with self.assertRaisesRegex(Unavailable, "no program nowhere"):
-            find_judge(checker="nowhere")
+            find_checker(checker="nowhere")
 
 
 class TamperingTest(unittest.TestCase):
@@ -156,7 +156,7 @@ class TamperingTest(unittest.TestCase):
             file.write(content)
             file.flush()
             with self.assertRaises(InputFault) as caught:
-                journal_in(file.name)
+                read_journal(file.name)
             return str(caught.exception).replace(file.name, "FILE")
 
     def test_bytes_that_are_no_journal(self) -> None:
@@ -176,4 +176,4 @@ class TamperingTest(unittest.TestCase):
         with tempfile.NamedTemporaryFile() as file:
             file.write(journal_of_one_thread().encode())
             file.flush()
-            self.assertEqual(journal_in(file.name)[1], journal_of_one_thread())
+            self.assertEqual(read_journal(file.name)[1], journal_of_one_thread())

@@ -15,18 +15,18 @@ from typing import List
 from unittest import mock
 
 from ..common import program as programs
-from ..common.btf import Missing, Types
+from ..common.btf import MissingType, Types
 from ..common.errors import Busy, InputFault, Unavailable
-from ..common.files import chosen
+from ..common.files import selected_word
 from ..common.groups import find_hierarchy
 from ..common.guardian import Entry, Guardian, put_back, write
-from ..common.holding import held
+from ..common.hold import hold_processes
 from ..common.journal import journal_of, journal_text
 from ..common.keeper import Keeper
 from ..common.kernel_memory import QueueFields
 from ..common.script import options_of, read_script, script_of
 from ..common.subpages import bits_of, runs, set_of, set_text
-from .made_types import queue_types
+from .sample_types import queue_types
 
 ROOT = Path(__file__).resolve().parent.parent.parent
 
@@ -54,34 +54,34 @@ def heed_signals() -> None:
 
 class TypesTest(unittest.TestCase):
     def test_fields_are_found_in_unnamed_structs(self) -> None:
-        fields = QueueFields.of(Types(queue_types()))
+        fields = QueueFields.from_types(Types(queue_types()))
         self.assertEqual((fields.head, fields.length, fields.link), (1536, 1552, 144))
 
     def test_a_field_that_moved_is_found_where_it_is(self) -> None:
-        self.assertEqual(QueueFields.of(Types(queue_types(link_at=160))).link, 160)
+        self.assertEqual(QueueFields.from_types(Types(queue_types(link_at=160))).link, 160)
 
     def test_a_field_taken_away_is_named(self) -> None:
-        with self.assertRaisesRegex(Missing, r"no field folio\._deferred_list"):
-            QueueFields.of(Types(queue_types(link_name="_other_list")))
+        with self.assertRaisesRegex(MissingType, r"no field folio\._deferred_list"):
+            QueueFields.from_types(Types(queue_types(link_name="_other_list")))
 
     def test_a_field_of_another_size_is_named(self) -> None:
-        with self.assertRaisesRegex(Missing, r"split_queue_len has 4 bytes in this kernel, not 8"):
-            QueueFields.of(Types(queue_types(length_size=4)))
+        with self.assertRaisesRegex(MissingType, r"split_queue_len has 4 bytes in this kernel, not 8"):
+            QueueFields.from_types(Types(queue_types(length_size=4)))
 
     def test_a_field_of_another_type_is_named(self) -> None:
         types = Types(queue_types())
-        with self.assertRaisesRegex(Missing, "folio.flags is long unsigned int in this kernel, not pointer"):
+        with self.assertRaisesRegex(MissingType, "folio.flags is long unsigned int in this kernel, not pointer"):
             types.field("folio", "flags", "pointer")
 
     def test_a_struct_or_enumerator_that_is_missing_is_named(self) -> None:
         types = Types(queue_types())
         self.assertEqual(types.enumerator("memory_cgrp_id"), 4)
-        with self.assertRaisesRegex(Missing, "no enumerator hugetlb_cgrp_id"):
+        with self.assertRaisesRegex(MissingType, "no enumerator hugetlb_cgrp_id"):
             types.enumerator("hugetlb_cgrp_id")
-        with self.assertRaisesRegex(Missing, "no struct page"):
+        with self.assertRaisesRegex(MissingType, "no struct page"):
             types.struct_size("page")
 
-    def test_what_is_no_type_information_is_said(self) -> None:
+    def test_what_is_no_type_information_is_named(self) -> None:
         with self.assertRaises(Unavailable):
             Types(b"\x7fELF" + bytes(60))
 
@@ -131,7 +131,7 @@ class TextsTest(unittest.TestCase):
 
 
 class WordsTest(unittest.TestCase):
-    """The tools as they are called; nothing of them wants root."""
+    """Command lines of the tools that need no root."""
 
     def called(self, *words: str) -> subprocess.CompletedProcess[str]:
         return subprocess.run([sys.executable, *words], cwd=ROOT, capture_output=True, text=True, timeout=60, check=False)
@@ -193,7 +193,7 @@ class KeeperTest(unittest.TestCase):
         self.assertEqual([*texts, (self.folder / "group").exists()], ["old", "defer", False])
 
     def test_chosen(self) -> None:
-        self.assertEqual((chosen("a [b] c\n"), chosen("12\n")), ("b", "12"))
+        self.assertEqual((selected_word("a [b] c\n"), selected_word("12\n")), ("b", "12"))
 
     def test_an_exception_puts_back(self) -> None:
         with self.assertRaises(ZeroDivisionError):
@@ -223,7 +223,7 @@ class KeeperTest(unittest.TestCase):
         child = subprocess.Popen(["sleep", "60"])
         try:
             with Keeper("test", folder=self.run_folder) as keeper:
-                with held(lambda: [child.pid], [], keeper) as hold:
+                with hold_processes(lambda: [child.pid], [], keeper) as hold:
                     self.assertEqual(state_of(child.pid, "T"), "T")
                 self.assertEqual((hold.count, hold.problem), (1, ""))
             self.assertEqual(state_of(child.pid, "S"), "S")
@@ -235,7 +235,7 @@ class KeeperTest(unittest.TestCase):
         child = subprocess.Popen(["sleep", "60"])
         try:
             with Keeper("test", folder=self.run_folder) as keeper:
-                with held(lambda: [child.pid], [], keeper, 0.3) as hold:
+                with hold_processes(lambda: [child.pid], [], keeper, 0.3) as hold:
                     time.sleep(0.6)
                     self.assertEqual(state_of(child.pid, "S"), "S")
             self.assertIn("limit of 0.3 s", hold.problem)
@@ -305,7 +305,7 @@ class KeeperTest(unittest.TestCase):
 
 
 def state_of(number: int, wanted: str) -> str:
-    """A process's state (proc(5)), once it is as wanted or a while has gone."""
+    """A process's state (proc(5)), once it is the expected one or a while has passed."""
     state, until = "", time.monotonic() + 5
     while state != wanted and time.monotonic() < until:
         state = Path(f"/proc/{number}/stat").read_text().rsplit(")", 1)[1].split()[0]
@@ -314,7 +314,7 @@ def state_of(number: int, wanted: str) -> str:
 
 
 def descendants(number: int, spared: int) -> List[int]:
-    """The processes that a process started, and those that they started, but for one."""
+    """The processes that a process started, and those that they started, except one."""
     children = Path(f"/proc/{number}/task/{number}/children").read_text().split()
     out = [int(each) for each in children if int(each) != spared]
     return out + [each for child in out for each in descendants(child, spared)]

@@ -14,12 +14,12 @@ from typing import List, Union
 from unittest import mock
 
 from ..common import helpers, user
+from ..common.arguments import OneLineParser, seconds, whole
 from ..common.errors import FAILED, INCONCLUSIVE, USAGE, InputFault, RunFailed, Unavailable, status_of
 from ..common.files import OwnFolder, create, read, read_input
 from ..common.groups import checked_group
 from ..common.program import start
-from ..common.text import escaped, lines, text_lines
-from ..common.words import Words, seconds, whole
+from ..common.text import escape, lines, text_lines
 
 ROOT = Path(__file__).resolve().parent.parent.parent
 ODD = ("\x0b", "\x0c", "\x1c", "\x1d", "\x1e", "\x85", "\u2028", "\u2029", "\r", "\x1b[2J", "\ud800", "\udcff", "\0")
@@ -31,12 +31,12 @@ class TextTest(unittest.TestCase):
         texts: List[Union[str, bytes]] = [*ODD, bytes(range(256)), "".join(ODD)]
         texts += [bytes(chance.randrange(256) for _ in range(50)) for _ in range(100)]
         for text in texts:
-            self.assertRegex(escaped(text), r"^[ -~]*$")
-        self.assertEqual(escaped("a\\b\nc\u2028"), r"a\\b\x0ac\xe2\x80\xa8")
+            self.assertRegex(escape(text), r"^[ -~]*$")
+        self.assertEqual(escape("a\\b\nc\u2028"), r"a\\b\x0ac\xe2\x80\xa8")
 
     def test_different_texts_are_escaped_differently(self) -> None:
         texts = [bytes([first, second]) for first in range(256) for second in (92, 120, 10)]
-        self.assertEqual(len({escaped(text) for text in texts}), len(texts))
+        self.assertEqual(len({escape(text) for text in texts}), len(texts))
 
     def test_lines_end_at_line_feeds_alone(self) -> None:
         for odd in ODD:
@@ -46,7 +46,7 @@ class TextTest(unittest.TestCase):
 
 class WordsTest(unittest.TestCase):
     def test_numbers_are_within_limits(self) -> None:
-        parser = Words(prog="x", add_help=False)
+        parser = OneLineParser(prog="x", add_help=False)
         parser.add_argument("--count", type=whole(1, 9))
         parser.add_argument("--time", type=seconds(0.5, 60))
         asked = parser.parse_args(["--count", "9", "--time", "0.5"])
@@ -128,13 +128,14 @@ class UserTest(unittest.TestCase):
                 user.user_for(name)
 
     def test_programs_run_without_rights_in_an_empty_folder(self) -> None:
-        code = "import os; print(os.getuid(), os.getgroups(), os.listdir('.'), sorted(os.environ), os.path.exists('/proc/self/fd/9'))"
+        code = ("import os; print(os.getuid(), os.getgroups(), os.listdir('.'), sorted(os.environ), "
+                "os.path.exists('/proc/self/fd/9'))")
         child = start(sys.executable if os.geteuid() else "/usr/bin/python3", ["-IS", "-c", code], stdout=subprocess.PIPE)
-        told, _ = child.communicate()
+        output, _ = child.communicate()
         number = os.geteuid() or user.NOBODY
         groups = os.getgroups() if os.geteuid() else []
         files = os.listdir("/") if os.geteuid() else []
-        self.assertEqual(told.decode().strip(), f"{number} {groups} {files} ['LC_ALL', 'PATH'] False")
+        self.assertEqual(output.decode().strip(), f"{number} {groups} {files} ['LC_ALL', 'PATH'] False")
 
     def test_the_user_behind_sudo(self) -> None:
         if os.geteuid():

@@ -17,7 +17,7 @@ from unittest import mock
 from ..common.errors import RunFailed
 from ..common.keeper import process_of
 from ..replay import mappers
-from ..replay.mappers import Line, Refusal, has_ended, parse_reply, socket_pair
+from ..replay.mappers import MapperSocket, Refusal, has_ended, parse_reply, socket_pair
 
 SOURCE = Path(__file__).resolve().parent.parent / "replay/mapper.c"
 WRONG = [
@@ -35,7 +35,7 @@ WRONG = [
 ]
 
 
-def compiled(folder: str) -> str:
+def compile_mapper(folder: str) -> str:
     """The mapper of this source, compiled."""
     path = f"{folder}/mapper"
     subprocess.run(["cc", "-std=c11", "-O2", "-Wall", "-Wextra", "-Werror", "-o", path, str(SOURCE)], check=True)
@@ -52,7 +52,7 @@ class MapperTest(unittest.TestCase):
     @classmethod
     def setUpClass(cls) -> None:
         cls.folder = tempfile.TemporaryDirectory()
-        cls.path = compiled(cls.folder.name)
+        cls.path = compile_mapper(cls.folder.name)
 
     @classmethod
     def tearDownClass(cls) -> None:
@@ -126,7 +126,7 @@ class MapperTest(unittest.TestCase):
             self.assertEqual(os.fstat(file.fileno()).st_size, 0)
 
     def test_an_end_of_the_socket_ends_parents_and_children(self) -> None:
-        line = Line(self.end.dup())
+        line = MapperSocket(self.end.dup())
         mine, its = socket_pair()
         with its:
             _, pidfd = line.ask("fork", its.fileno())
@@ -152,12 +152,12 @@ class MapperTest(unittest.TestCase):
                 self.assertEqual(process.wait(10), 2)
 
 
-class LineTest(unittest.TestCase):
+class MapperSocketTest(unittest.TestCase):
     """The tool's end."""
 
-    def pair(self) -> Tuple[Line, socket.socket]:
+    def pair(self) -> Tuple[MapperSocket, socket.socket]:
         mine, its = socket_pair()
-        line = Line(mine)
+        line = MapperSocket(mine)
         self.addCleanup(its.close)
         self.addCleanup(line.close)
         return line, its

@@ -1,4 +1,4 @@
-"""Records made into journals: records by hand, and stored recordings of a kernel, judged by the plain reading."""
+"""Journals built from written records and from stored recordings of a kernel, checked by the plain reading."""
 
 from __future__ import annotations
 
@@ -9,12 +9,12 @@ from pathlib import Path
 from typing import List, Optional, Sequence
 
 from ..common.program import Program
-from ..record.journalist import Journalist
-from ..record.records import COUNT_AT, FOLIOS_AT, QUEUE_MOST, SIZE, Kind, Record, record_from, record_of
+from ..record.journal_builder import JournalBuilder
+from ..record.records import COUNT_AT, FOLIOS_AT, QUEUE_MOST, SIZE, Kind, Record, parse_record, record_from_json
 from ..record.scans import batches_of
 from ..record.state import Settings
-from ..record.tampering import Spoil, tampered
-from .recordings import recording
+from ..record.tampering import Alteration, alter_journal
+from .recordings import read_recording
 
 HERE = Path(__file__).resolve().parent
 PLAIN = str(HERE / "plain_program.py")
@@ -23,7 +23,7 @@ FOLIO = 0xFFFFEA0000008000 & -(64 * 512)
 MADVISE, DONTNEED, MUNMAP = 28, 4, 11
 
 
-class Story:
+class RecordBuilder:
     """Records of one task."""
 
     def __init__(self) -> None:
@@ -51,10 +51,10 @@ class Story:
         self.add(Kind.SCANNED, [0, len(freed)], after)
 
     def journal(self, straighten: bool = False) -> str:
-        journalist = Journalist(Settings(9, None, straighten))
-        journalist.tell(self.records)
-        self.seen = journalist.seen
-        return journalist.text()
+        builder = JournalBuilder(Settings(9, None, straighten))
+        builder.add_records(self.records)
+        self.tallies = builder.tallies
+        return builder.text()
 
 
 def folio_of(number: int) -> int:
@@ -69,76 +69,76 @@ def verdict(text: str) -> str:
     return Program(PLAIN).check(text).text
 
 
-class ByHandTest(unittest.TestCase):
+class WrittenRecordsTest(unittest.TestCase):
     def test_a_page_divided_and_split(self) -> None:
-        story = Story()
-        page = story.page(0)
-        story.drop(0, 0, 256, [page])
-        story.scan([page], frames_of(0, 0, 256), [])
-        text = story.journal()
+        records = RecordBuilder()
+        page = records.page(0)
+        records.drop(0, 0, 256, [page])
+        records.scan([page], frames_of(0, 0, 256), [])
+        text = records.journal()
         self.assertEqual(text.splitlines()[2:-1], [
             "0 alloc 0", "0 splitpmd 0", "0 unmapsub 0 0 256 queued -", "0 taken 0", "0 split 0 0-255"])
         self.assertEqual(verdict(text), "legal")
 
     def test_the_kernel_turns_around_what_it_puts_back(self) -> None:
-        story = Story()
-        pages = [story.page(0), story.page(1)]
-        story.drop(0, 0, 8, pages[:1])
-        story.drop(1, 0, 8, pages)
-        story.scan(pages, [], pages[::-1])
-        self.assertTrue(verdict(story.journal()).startswith("illegal line"))
-        for record in story.records:
-            record.done = False
-        self.assertEqual(verdict(story.journal(straighten=True)), "legal")
-        self.assertEqual(story.seen["scans that put back two pages or more, turned around (E)"], 1)
+        records = RecordBuilder()
+        pages = [records.page(0), records.page(1)]
+        records.drop(0, 0, 8, pages[:1])
+        records.drop(1, 0, 8, pages)
+        records.scan(pages, [], pages[::-1])
+        self.assertTrue(verdict(records.journal()).startswith("illegal line"))
+        for record in records.records:
+            record.is_applied = False
+        self.assertEqual(verdict(records.journal(straighten=True)), "legal")
+        self.assertEqual(records.tallies["scans that put back two pages or more, turned around (E)"], 1)
 
     def test_a_frame_that_did_not_come_back_leaves_its_page_out(self) -> None:
-        story = Story()
-        page = story.page(0)
-        story.drop(0, 0, 256, [page])
-        story.scan([page], frames_of(0, 0, 255), [])
-        self.assertEqual(story.journal().splitlines()[2:], ["end"])
-        self.assertEqual(story.seen["pages left out: a frame was held beyond the split"], 1)
+        records = RecordBuilder()
+        page = records.page(0)
+        records.drop(0, 0, 256, [page])
+        records.scan([page], frames_of(0, 0, 255), [])
+        self.assertEqual(records.journal().splitlines()[2:], ["end"])
+        self.assertEqual(records.tallies["pages left out: a frame was held beyond the split"], 1)
 
     def test_a_queue_that_is_not_the_journals_is_counted(self) -> None:
-        story = Story()
-        pages = [story.page(0), story.page(1)]
-        story.drop(0, 0, 8, pages[:1])
-        story.add(Kind.EXIT, [MADVISE, 0, 0, 0, 0], [pages[1], pages[0]])
-        story.journal()
-        self.assertEqual(story.seen["pages left out: queued for no reason seen"], 1)
+        records = RecordBuilder()
+        pages = [records.page(0), records.page(1)]
+        records.drop(0, 0, 8, pages[:1])
+        records.add(Kind.EXIT, [MADVISE, 0, 0, 0, 0], [pages[1], pages[0]])
+        records.journal()
+        self.assertEqual(records.tallies["pages left out: queued for no reason seen"], 1)
 
     def test_a_page_that_another_thread_mapped_first_is_none(self) -> None:
         """Two threads fault in one place; the page of the one that comes late is freed in its own fault."""
-        story = Story()
-        page = story.page(0)
-        story.add(Kind.FAULT, [HUGE * 10, 6])
-        story.records[-1].task += 1
-        story.add(Kind.ALLOC, [folio_of(1), 9])
-        story.records[-1].task += 1
-        story.add(Kind.FREE, [folio_of(1), 9])
-        story.records[-1].task += 1
-        story.drop(0, 0, 8, [page])
-        self.assertEqual(story.journal().splitlines()[2:-1], [
+        records = RecordBuilder()
+        page = records.page(0)
+        records.add(Kind.FAULT, [HUGE * 10, 6])
+        records.records[-1].task += 1
+        records.add(Kind.ALLOC, [folio_of(1), 9])
+        records.records[-1].task += 1
+        records.add(Kind.FREE, [folio_of(1), 9])
+        records.records[-1].task += 1
+        records.drop(0, 0, 8, [page])
+        self.assertEqual(records.journal().splitlines()[2:-1], [
             "0 alloc 0", "0 splitpmd 0", "0 unmapsub 0 0 8 queued -"])
-        self.assertEqual(story.seen["huge pages given up: another thread's fault was first"], 1)
-        self.assertEqual(story.seen["queues that differ"], 0)
+        self.assertEqual(records.tallies["huge pages given up: another thread's fault was first"], 1)
+        self.assertEqual(records.tallies["queues that differ"], 0)
 
     def test_a_page_that_its_process_leaves_at_its_end_was_mapped(self) -> None:
-        story = Story()
-        story.add(Kind.FREE, [story.page(0), 9])
-        story.add(Kind.EXIT_MMAP, [SPACE], [])
-        self.assertEqual(story.journal().splitlines()[2:-1], ["0 alloc 0", "0 unmapwhole 0 freed 0-511"])
+        records = RecordBuilder()
+        records.add(Kind.FREE, [records.page(0), 9])
+        records.add(Kind.EXIT_MMAP, [SPACE], [])
+        self.assertEqual(records.journal().splitlines()[2:-1], ["0 alloc 0", "0 unmapwhole 0 freed 0-511"])
 
     def test_a_page_unmapped_whole_is_freed(self) -> None:
-        story = Story()
-        page = story.page(0)
+        records = RecordBuilder()
+        page = records.page(0)
         call = [MUNMAP, HUGE * 10, HUGE, 0]
-        story.add(Kind.ENTER, call)
-        story.add(Kind.FREE, [page, 9])
-        story.add(Kind.EXIT, [*call, 0], [])
-        text = story.journal()
-        # the page is freed while its mapping still stands: it is told at the call's end
+        records.add(Kind.ENTER, call)
+        records.add(Kind.FREE, [page, 9])
+        records.add(Kind.EXIT, [*call, 0], [])
+        text = records.journal()
+        # the page is freed while its mapping still exists: it is emitted at the call's end
         self.assertEqual(text.splitlines()[2:-1], ["0 alloc 0", "0 unmapwhole 0 freed 0-511"])
         self.assertEqual(verdict(text), "legal")
 
@@ -153,41 +153,41 @@ class RecordsTest(unittest.TestCase):
 
     def test_a_torn_copy_is_no_queue(self) -> None:
         plain = [int(Kind.SCAN), 5, 7, SPACE, [0] * 9, [100, 200, 100]]
-        self.assertIsNone(record_from(plain).queue)
+        self.assertIsNone(record_from_json(plain).queue)
 
     def test_bytes_are_read(self) -> None:
-        record = record_of(self.raw(Kind.SCAN, 3))
+        record = parse_record(self.raw(Kind.SCAN, 3))
         self.assertEqual((record.kind, record.task, record.space, record.queue), (Kind.SCAN, 7, SPACE, [100, 200, 300]))
-        self.assertEqual(record_from(record.plain()).plain(), record.plain())
+        self.assertEqual(record_from_json(record.to_json()).to_json(), record.to_json())
 
     def test_a_walk_that_did_not_end_is_no_queue(self) -> None:
-        self.assertIsNone(record_of(self.raw(Kind.SCAN, QUEUE_MOST + 1)).queue)
-        self.assertIsNone(record_of(self.raw(Kind.FREE, 0)).queue)
+        self.assertIsNone(parse_record(self.raw(Kind.SCAN, QUEUE_MOST + 1)).queue)
+        self.assertIsNone(parse_record(self.raw(Kind.FREE, 0)).queue)
 
 
 class StoredTest(unittest.TestCase):
     def stored(self, name: str, straighten: bool) -> str:
-        return self.told(name, straighten).text()
+        return self.build_journal(name, straighten).text()
 
-    def told(self, name: str, straighten: bool) -> Journalist:
-        journalist = Journalist(Settings(9, None, straighten))
-        journalist.tell(recording(name))
-        self.assertEqual(journalist.seen["queues that differ"], 0)
-        return journalist
+    def build_journal(self, name: str, straighten: bool) -> JournalBuilder:
+        builder = JournalBuilder(Settings(9, None, straighten))
+        builder.add_records(read_recording(name))
+        self.assertEqual(builder.tallies["queues that differ"], 0)
+        return builder
 
     def test_two_threads_that_ask_for_collapses(self) -> None:
-        journalist = self.told("collapses", True)
-        seen = [journalist.seen[f"map counts {what}"] for what in ("compared", "that differ")]
-        self.assertEqual((journalist.seen["pages made by collapses"], *seen), (12, 76, 0))
-        self.assertEqual((journalist.pages(), journalist.lost_pages()), (61, 1))
-        self.assertEqual(verdict(journalist.text()), "legal")
+        builder = self.build_journal("collapses", True)
+        seen = [builder.tallies[f"map counts {what}"] for what in ("compared", "that differ")]
+        self.assertEqual((builder.tallies["pages made by collapses"], *seen), (12, 76, 0))
+        self.assertEqual((builder.pages(), builder.count_omitted()), (61, 1))
+        self.assertEqual(verdict(builder.text()), "legal")
 
     def test_two_threads_that_move_and_replace_areas(self) -> None:
-        journalist = self.told("areas", True)
-        seen = [journalist.seen[f"map counts {what}"] for what in ("compared", "that differ")]
-        self.assertEqual((journalist.seen["pages whose mapping moved"], *seen), (11, 64, 0))
-        self.assertEqual((journalist.pages(), journalist.lost_pages()), (53, 0))
-        self.assertEqual(verdict(journalist.text()), "legal")
+        builder = self.build_journal("areas", True)
+        seen = [builder.tallies[f"map counts {what}"] for what in ("compared", "that differ")]
+        self.assertEqual((builder.tallies["pages whose mapping moved"], *seen), (11, 64, 0))
+        self.assertEqual((builder.pages(), builder.count_omitted()), (53, 0))
+        self.assertEqual(verdict(builder.text()), "legal")
 
     def test_a_recording_is_legal_once_straightened(self) -> None:
         self.assertEqual(verdict(self.stored("one_thread", True)), "legal")
@@ -198,48 +198,48 @@ class StoredTest(unittest.TestCase):
         assert line
         self.assertIn(" back ", text.splitlines()[line - 1])
 
-    def test_spoilt_copies_are_illegal(self) -> None:
+    def test_altered_copies_are_illegal(self) -> None:
         text, chance, found = self.stored("one_thread", True), random.Random(3), set()
         for _ in range(12):
-            copy = tampered(text, chance)
+            copy = alter_journal(text, chance)
             assert copy
-            found.add(copy.spoil)
+            found.add(copy.alteration)
             self.assertNotEqual(verdict(copy.text), "legal", copy)
-        self.assertEqual(found, set(Spoil))
+        self.assertEqual(found, set(Alteration))
 
 
 class ScanTest(unittest.TestCase):
-    def test_a_page_that_joins_while_a_scan_runs_is_told_after_it(self) -> None:
-        """The scan puts a pinned page back; meanwhile another joins at its fault, behind it."""
-        story = Story()
-        first = story.page(0)
-        story.drop(0, 0, 8, [first])
+    def test_a_page_that_joins_while_a_scan_runs_follows_it(self) -> None:
+        """The scan puts a pinned page back; meanwhile another joins at its fault, after it."""
+        records = RecordBuilder()
+        first = records.page(0)
+        records.drop(0, 0, 8, [first])
         scan = [Record(Kind.SCAN, 100, TASK + 1, SPACE, (1, 1, *[0] * 7), [first])]
         second = folio_of(1)
-        story.records += scan
-        story.page(1)
-        story.add(Kind.EXIT, [MADVISE, 0, 0, 0, 0], [first, second])
-        story.records.append(Record(Kind.SCANNED, 101, TASK + 1, SPACE, (0,) * 9, [first, second]))
-        journalist = Journalist(Settings(9, 100, True))
-        journalist.tell(story.records)
-        self.assertEqual(journalist.seen["queues that differ"], 0)
-        self.assertEqual(journalist.seen["pages that joined while a scan ran, told after it"], 1)
-        words = [line.split(" ", 1)[1] for line in journalist.text().splitlines()[2:-1]]
-        self.assertLess(words.index("back 0"), words.index("alloc 1"))
-        self.assertEqual(verdict(journalist.text()), "legal")
+        records.records += scan
+        records.page(1)
+        records.add(Kind.EXIT, [MADVISE, 0, 0, 0, 0], [first, second])
+        records.records.append(Record(Kind.SCANNED, 101, TASK + 1, SPACE, (0,) * 9, [first, second]))
+        builder = JournalBuilder(Settings(9, 100, True))
+        builder.add_records(records.records)
+        self.assertEqual(builder.tallies["queues that differ"], 0)
+        self.assertEqual(builder.tallies["pages that joined while a scan ran, moved after it"], 1)
+        event_words = [line.split(" ", 1)[1] for line in builder.text().splitlines()[2:-1]]
+        self.assertLess(event_words.index("back 0"), event_words.index("alloc 1"))
+        self.assertEqual(verdict(builder.text()), "legal")
 
-    def told(self, story: Story, threshold: Optional[int], seen: str) -> List[str]:
-        """The words of the journal, which is legal; `seen` was counted once."""
-        journalist = Journalist(Settings(9, threshold, True))
-        journalist.tell(story.records)
-        self.assertEqual(verdict(journalist.text()), "legal")
-        self.assertEqual((journalist.seen[seen], journalist.seen["queues that differ"]), (1, 0))
-        return [line.split(" ", 1)[1] for line in journalist.text().splitlines()[2:-1]]
+    def build_journal(self, records: RecordBuilder, threshold: Optional[int], seen: str) -> List[str]:
+        """Returns the words of the journal, which is legal; `seen` was counted once."""
+        builder = JournalBuilder(Settings(9, threshold, True))
+        builder.add_records(records.records)
+        self.assertEqual(verdict(builder.text()), "legal")
+        self.assertEqual((builder.tallies[seen], builder.tallies["queues that differ"]), (1, 0))
+        return [line.split(" ", 1)[1] for line in builder.text().splitlines()[2:-1]]
 
-    def by_another(self, story: Story, kind: Kind, values: Sequence[int], queue: List[int]) -> None:
+    def by_another(self, records: RecordBuilder, kind: Kind, values: Sequence[int], queue: List[int]) -> None:
         """A record of the task that scans."""
         padded = (*values, *[0] * (9 - len(values)))
-        story.records.append(Record(kind, len(story.records), TASK + 1, SPACE, padded, queue))
+        records.records.append(Record(kind, len(records.records), TASK + 1, SPACE, padded, queue))
 
     def test_batches(self) -> None:
         rows = {
@@ -249,43 +249,43 @@ class ScanTest(unittest.TestCase):
             self.assertEqual(list(batches_of(total, freeable)), wanted)
 
     def test_a_page_that_joins_before_a_scan_takes_is_taken(self) -> None:
-        story = Story()
-        first, second = story.page(0), story.page(1)
-        story.drop(0, 0, 8, [first])
-        self.by_another(story, Kind.SCAN, [2, 1], [first])
-        story.drop(1, 0, 8, [])
+        records = RecordBuilder()
+        first, second = records.page(0), records.page(1)
+        records.drop(0, 0, 8, [first])
+        self.by_another(records, Kind.SCAN, [2, 1], [first])
+        records.drop(1, 0, 8, [])
         for frame in frames_of(0, 0, 8) + frames_of(1, 0, 8):
-            story.add(Kind.FREE, [frame, 0])
-        self.by_another(story, Kind.SCANNED, [2], [])
-        words = self.told(story, None, "pages that joined between a scan's start and its taking")
-        self.assertEqual(words[-4:], ["taken 0", "taken 1", "split 1 0-7", "split 0 0-7"])
+            records.add(Kind.FREE, [frame, 0])
+        self.by_another(records, Kind.SCANNED, [2], [])
+        event_words = self.build_journal(records, None, "pages that joined between a scan's start and its taking")
+        self.assertEqual(event_words[-4:], ["taken 0", "taken 1", "split 1 0-7", "split 0 0-7"])
         self.assertIsNotNone(second)
 
-    def test_a_page_freed_while_a_scan_runs_is_told_before_it(self) -> None:
-        story = Story()
-        pages = [story.page(0), story.page(1)]
+    def test_a_page_freed_while_a_scan_runs_precedes_it(self) -> None:
+        records = RecordBuilder()
+        pages = [records.page(0), records.page(1)]
         for number in (0, 1):
-            story.drop(number, 0, 8, pages[: number + 1])
-        self.by_another(story, Kind.SCAN, [2, 2], pages)
+            records.drop(number, 0, 8, pages[: number + 1])
+        self.by_another(records, Kind.SCAN, [2, 2], pages)
         call = [MUNMAP, HUGE * 10, HUGE, 0]
-        story.add(Kind.ENTER, call)
-        story.add(Kind.FREE, [pages[0], 9])
-        self.by_another(story, Kind.SCANNED, [0], pages[1:])
-        story.add(Kind.EXIT, [*call, 0], pages[1:])
-        words = self.told(story, None, "pages told before their call's end")
-        self.assertEqual(words[-5:], ["unmapsub 0 8 504 freed 0-511", "taken 1", "pin 1", "pinned 1", "back 1"])
+        records.add(Kind.ENTER, call)
+        records.add(Kind.FREE, [pages[0], 9])
+        self.by_another(records, Kind.SCANNED, [0], pages[1:])
+        records.add(Kind.EXIT, [*call, 0], pages[1:])
+        event_words = self.build_journal(records, None, "pages followed before their call's end")
+        self.assertEqual(event_words[-5:], ["unmapsub 0 8 504 freed 0-511", "taken 1", "pin 1", "pinned 1", "back 1"])
 
     def test_a_page_written_while_it_is_split_is_left_out(self) -> None:
-        story = Story()
-        page = story.page(0)
-        story.add(Kind.EXIT, [MADVISE, 0, 0, 0, 0], [page])
-        story.scan([page], frames_of(0, 490, 22), [])
-        self.assertEqual(self.told(story, 100, "pages left out: written while a scan split it (Z)"), [])
+        records = RecordBuilder()
+        page = records.page(0)
+        records.add(Kind.EXIT, [MADVISE, 0, 0, 0, 0], [page])
+        records.scan([page], frames_of(0, 490, 22), [])
+        self.assertEqual(self.build_journal(records, 100, "pages left out: written while a scan split it (Z)"), [])
 
     def test_a_page_put_back_though_mapped_whole_is_left_out(self) -> None:
-        story = Story()
-        page = story.page(0)
-        story.add(Kind.EXIT, [MADVISE, 0, 0, 0, 0], [page])
-        story.scan([page], [], [page])
+        records = RecordBuilder()
+        page = records.page(0)
+        records.add(Kind.EXIT, [MADVISE, 0, 0, 0, 0], [page])
+        records.scan([page], [], [page])
         why = "pages left out: put back, though not partly mapped: another task held its lock (L)"
-        self.assertEqual(self.told(story, 100, why), [])
+        self.assertEqual(self.build_journal(records, 100, why), [])

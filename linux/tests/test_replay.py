@@ -11,40 +11,40 @@ from pathlib import Path
 from typing import Callable, Dict, List, Optional, Sequence, Set, Tuple
 from unittest import mock
 
-from ..common.counters import Counter, Counts, Quiet, SizeCounter
+from ..common.counters import Counter, CounterWatch, Counts, SizeCounter
 from ..common.errors import InputFault
-from ..common.program import Program, Refused
+from ..common.program import Program, TextError
 from ..common.script import Script, read_script, script_of
-from ..replay.__main__ import shape_of, words
-from ..replay.expecting import CountersDiffer, Differs
+from ..replay.options import parse_shape, parse_words
+from ..replay.comparison import CounterDifference, Difference
+from ..replay.expected_answers import Unsupported, expect_run
 from ..replay.generator import Generator, Shape, scripts
-from ..replay.known import Known
-from ..replay.running import Follower, Result, Runner, StoredKernel, judged
-from ..replay.sayings import Unsayable, story_of
-from ..replay.seen import PageSeen, Seen, seen_of
-from .plain_program import spoilt
+from ..replay.known_differences import KnownDifference
+from ..replay.observation import Observation, PageObservation, parse_observation
+from ..replay.runner import Result, RunComparer, Runner, StoredKernel, judge_tries
+from .plain_program import inject_bug
 
 HERE = Path(__file__).resolve().parent
 PLAIN = str(HERE / "plain_program.py")
 
 
-def stored(name: str) -> Tuple[Script, List[Seen]]:
+def load(name: str) -> Tuple[Script, List[Observation]]:
     script = read_script(str(HERE / f"stored/{name}.script"))
-    return script, [seen_of(line) for line in (HERE / f"stored/{name}.looks").read_text().splitlines()]
+    return script, [parse_observation(line) for line in (HERE / f"stored/{name}.looks").read_text().splitlines()]
 
 
-def followed(script: Script, looks: List[Seen], program: str = PLAIN) -> str:
+def replay(script: Script, looks: List[Observation], program: str = PLAIN) -> str:
     zeros = any(switch is not None for switch in script.options.underused)
-    return Follower().follow(story_of(script, Program(program)), zeros, StoredKernel(looks))
+    return RunComparer().compare_run(expect_run(script, Program(program)), zeros, StoredKernel(looks))
 
 
-def with_counter(look: Seen, counter: Counter, more: int) -> Seen:
+def with_counter(look: Observation, counter: Counter, more: int) -> Observation:
     machine: Dict[Counter, Optional[int]] = dict(look.counts.machine)
     machine[counter] = (machine[counter] or 0) + more
     return dataclasses.replace(look, counts=Counts(machine, look.counts.sizes))
 
 
-def with_failed(look: Seen, more: int) -> Seen:
+def with_failed(look: Observation, more: int) -> Observation:
     sizes: Dict[Tuple[SizeCounter, int], Optional[int]] = dict(look.counts.sizes)
     for key, value in sizes.items():
         sizes[key] = (value or 0) + more * (key[0] is SizeCounter.SPLIT_FAILED)
@@ -56,105 +56,105 @@ class StoredTest(unittest.TestCase):
         wanted = {"first": "", "fork": "W", "pins": "F", "underused": "AC", "never": "D", "two_workers": ""}
         for name, letters in wanted.items():
             with self.subTest(name):
-                self.assertEqual(followed(*stored(name)), letters)
+                self.assertEqual(replay(*load(name)), letters)
 
     def test_looks_are_read_as_they_were_written(self) -> None:
-        for look in stored("fork")[1]:
-            self.assertEqual(seen_of(look.line()), look)
+        for look in load("fork")[1]:
+            self.assertEqual(parse_observation(look.line()), look)
 
     def test_lines_that_are_no_looks_are_refused(self) -> None:
-        line = stored("fork")[1][3].line()
+        line = load("fork")[1][3].line()
         chance = random.Random(3)
         bad = ["", "{}", "[" * 100000, "null", "NaN", '{"machine": 1}', line[:-5], line.replace("0x", "0x" + "f" * 200),
                line.replace('"queues": [', '"queues": [[1e99], ')]
         for text in bad:
             with self.subTest(text[:40]), self.assertRaises(InputFault):
-                seen_of(text)
+                parse_observation(text)
         for _ in range(2000):
             at = chance.randrange(len(line))
             letter = chr(chance.choice([chance.randrange(32, 127), 0x2028]))
             text = line[:at] + letter + line[at + chance.randint(0, 2):]
             try:
-                seen_of(text)
+                parse_observation(text)
             except InputFault:
                 pass
 
-    def differs_if(self, name: str, at: int, spoil: Callable[[Seen], Seen], told: str) -> None:
-        script, looks = stored(name)
+    def differs_if(self, name: str, at: int, spoil: Callable[[Observation], Observation], pattern: str) -> None:
+        script, looks = load(name)
         looks[at] = spoil(looks[at])
-        with self.assertRaisesRegex(Differs, told):
-            followed(script, looks)
+        with self.assertRaisesRegex(Difference, pattern):
+            replay(script, looks)
 
-    def test_each_thing_compared_is_told_by_name(self) -> None:
+    def test_each_thing_compared_is_reported_by_name(self) -> None:
         for counter in Counter:
-            told = "failed" if counter is Counter.SPLIT_FAILED else f"{counter.value}, kernel .*command 4: scan 0 8"
-            self.differs_if("first", 4, partial(with_counter, counter=counter, more=1), told)
+            pattern = "failed" if counter is Counter.SPLIT_FAILED else f"{counter.value}, kernel .*command 4: scan 0 8"
+            self.differs_if("first", 4, partial(with_counter, counter=counter, more=1), pattern)
 
-    def test_a_map_count_is_told_by_subpage(self) -> None:
-        def spoil(look: Seen) -> Seen:
+    def test_a_map_count_is_reported_by_subpage(self) -> None:
+        def spoil(look: Observation) -> Observation:
             page = look.pages[0, 0]
             counts = (*page.counts[:300], 2, *page.counts[301:])
-            return dataclasses.replace(look, pages={(0, 0): PageSeen(page.whole, counts, page.mapped)})
+            return dataclasses.replace(look, pages={(0, 0): PageObservation(page.whole, counts, page.mapped)})
 
         self.differs_if("first", 3, spoil, "map count of page 0 of node 0, subpage 300, kernel 2, thpsplit 1")
 
-    def test_frames_are_told(self) -> None:
-        def fewer(look: Seen) -> Seen:
+    def test_frames_are_reported(self) -> None:
+        def fewer(look: Observation) -> Observation:
             page = look.pages[0, 0]
-            spoilt = PageSeen(page.whole, page.counts, page.mapped & ~(1 << 300))
+            spoilt = PageObservation(page.whole, page.counts, page.mapped & ~(1 << 300))
             return dataclasses.replace(look, pages={(0, 0): spoilt})
 
-        def broken(look: Seen) -> Seen:
+        def broken(look: Observation) -> Observation:
             page = look.pages[0, 0]
-            return dataclasses.replace(look, pages={(0, 0): PageSeen(511, page.counts, page.mapped)})
+            return dataclasses.replace(look, pages={(0, 0): PageObservation(511, page.counts, page.mapped)})
 
         self.differs_if("first", 4, fewer, "frames of page 0 of node 0, kernel 256-299,301-511, thpsplit 256-511")
         self.differs_if("first", 2, broken, "frames of page 0 of node 0, kernel 511, thpsplit 512")
 
-    def test_the_order_of_a_queue_is_told(self) -> None:
-        script, looks = stored("pins")
+    def test_the_order_of_a_queue_is_reported(self) -> None:
+        script, looks = load("pins")
         at = next(i for i, look in enumerate(looks) if len(look.queues[0] or []) == 3)
         self.differs_if("pins", at, lambda look: dataclasses.replace(look, queues=[(look.queues[0] or [])[::-1]]),
                         r"queue of node 0, kernel \[2, 1, 0\], thpsplit \[0, 1, 2\]")
 
-    def test_a_strange_frame_in_a_queue_is_told(self) -> None:
+    def test_a_strange_frame_in_a_queue_is_reported(self) -> None:
         self.differs_if("first", 3, lambda look: dataclasses.replace(look, queues=[[0, -4096]]), "frame 0x1000")
 
     def test_queues_that_were_not_read_are_not_compared(self) -> None:
-        script, looks = stored("pins")
+        script, looks = load("pins")
         looks = [dataclasses.replace(look, queues=[None]) for look in looks]
-        self.assertEqual(followed(script, looks), "F")
+        self.assertEqual(replay(script, looks), "F")
 
     def test_statistics_that_a_kernel_lacks_are_not_compared(self) -> None:
-        script, looks = stored("fork")
+        script, looks = load("fork")
         none = Counts({key: None for key in Counter}, {key: None for key in looks[0].counts.sizes})
-        self.assertEqual(followed(script, [dataclasses.replace(look, counts=none) for look in looks]), "W")
+        self.assertEqual(replay(script, [dataclasses.replace(look, counts=none) for look in looks]), "W")
 
     def test_a_counter_alone_leaves_the_own_state_compared(self) -> None:
-        script, looks = stored("first")
+        script, looks = load("first")
         looks[2:] = [with_counter(look, Counter.SPLIT_PMD, 1) for look in looks[2:]]
-        with self.assertRaises(CountersDiffer) as found:
-            followed(script, looks)
+        with self.assertRaises(CounterDifference) as found:
+            replay(script, looks)
         self.assertEqual(found.exception.place, "thp_split_pmd command 2: splitpmd 0 0")
         page = looks[4].pages[0, 0]
-        spoilt_page = PageSeen(page.whole, page.counts, page.mapped & ~(1 << 300))
+        spoilt_page = PageObservation(page.whole, page.counts, page.mapped & ~(1 << 300))
         looks[4] = dataclasses.replace(looks[4], pages={(0, 0): spoilt_page})
-        with self.assertRaisesRegex(Differs, "frames of page 0 .*; before it thp_split_pmd") as found_too:
-            followed(script, looks)
-        self.assertNotIsInstance(found_too.exception, CountersDiffer)
+        with self.assertRaisesRegex(Difference, "frames of page 0 .*; before it thp_split_pmd") as found_too:
+            replay(script, looks)
+        self.assertNotIsInstance(found_too.exception, CounterDifference)
 
     def test_passes_are_those_of_the_queue_where_counters_move(self) -> None:
-        script, looks = stored("pins")
-        self.assertEqual(followed(script, looks), "F")
+        script, looks = load("pins")
+        self.assertEqual(replay(script, looks), "F")
         for more in range(1, 5):
-            with self.subTest(more), self.assertRaises(CountersDiffer):
-                followed(script, [with_failed(look, more) for look in looks])
+            with self.subTest(more), self.assertRaises(CounterDifference):
+                replay(script, [with_failed(look, more) for look in looks])
 
 
-class JudgedTest(unittest.TestCase):
-    """What becomes of a script that differs at each try."""
+class TriesTest(unittest.TestCase):
+    """The outcome of a script that differs at each try."""
 
-    def outcome(self, differences: List[Differs], moved: Sequence[int] = ()) -> Result:
+    def outcome(self, differences: List[Difference], moved: Sequence[int] = ()) -> Result:
         steps = iter(moved)
         total = [0]
 
@@ -162,95 +162,95 @@ class JudgedTest(unittest.TestCase):
             total[0] += next(steps, 0)
             return Counts({Counter.SPLIT: total[0]}, {})
 
-        return judged(differences, Quiet([9], lambda _seconds: None, take)).result
+        return judge_tries(differences, CounterWatch([9], lambda _seconds: None, take)).result
 
     def test_own_state_differs_whatever_the_counters_do(self) -> None:
-        self.assertIs(self.outcome([Differs("a")] * 3, [0, 1]), Result.DIFFERS)
+        self.assertIs(self.outcome([Difference("a")] * 3, [0, 1]), Result.DIFFERS)
 
     def test_a_counter_differs_where_the_machine_is_quiet(self) -> None:
-        same: List[Differs] = [CountersDiffer("a", "here")] * 3
+        same: List[Difference] = [CounterDifference("a", "here")] * 3
         self.assertIs(self.outcome(same), Result.DIFFERS)
         self.assertIs(self.outcome(same, [0, 1]), Result.INCONCLUSIVE)
         self.assertIs(self.outcome(same, [0] * 31 + [1]), Result.INCONCLUSIVE)
 
     def test_tries_that_differ_at_other_places_are_inconclusive(self) -> None:
-        self.assertIs(self.outcome([CountersDiffer("a", "here"), CountersDiffer("a", "there")]), Result.INCONCLUSIVE)
+        self.assertIs(self.outcome([CounterDifference("a", "here"), CounterDifference("a", "there")]), Result.INCONCLUSIVE)
 
     def test_tries_are_run_until_one_agrees(self) -> None:
         script = script_of("x", "setup\n")
         for ends, wanted, text in (
-            ([Differs("a"), "F"], Result.AGREES, "agrees (but for F), at another try after: a"),
-            ([Unsayable("b")], Result.SKIPPED, "skipped: b"),
-            ([Differs("a"), Unsayable("b")], Result.INCONCLUSIVE, "inconclusive: b; an earlier try differs: a"),
-            ([Differs("a")] * 3, Result.DIFFERS, "differs: a"),
+            ([Difference("a"), "F"], Result.AGREES, "agrees (but for F), at another try after: a"),
+            ([Unsupported("b")], Result.SKIPPED, "skipped: b"),
+            ([Difference("a"), Unsupported("b")], Result.INCONCLUSIVE, "inconclusive: b; an earlier try differs: a"),
+            ([Difference("a")] * 3, Result.DIFFERS, "differs: a"),
         ):
-            runner = Runner(mock.Mock(), mock.Mock(), Follower())
-            with self.subTest(text), mock.patch.object(runner, "_once", side_effect=ends):
+            runner = Runner(mock.Mock(), mock.Mock(), RunComparer())
+            with self.subTest(text), mock.patch.object(runner, "_run_once", side_effect=ends):
                 outcome = runner.run(script)
             self.assertEqual((outcome.result, outcome.line()), (wanted, text))
 
     def test_noise_seen_earlier_counts(self) -> None:
-        quiet = Quiet([9], lambda _seconds: None, mock.Mock(side_effect=[
+        watch = CounterWatch([9], lambda _seconds: None, mock.Mock(side_effect=[
             Counts({Counter.SPLIT: 1}, {}), Counts({Counter.SPLIT: 2}, {})]))
-        self.assertFalse(quiet.window())
-        outcome = judged([CountersDiffer("a", "here"), Differs("b")], quiet)
+        self.assertFalse(watch.watch_once())
+        outcome = judge_tries([CounterDifference("a", "here"), Difference("b")], watch)
         self.assertIs(outcome.result, Result.INCONCLUSIVE)
         self.assertIn("other programs move thp_split_page", outcome.line())
 
 
 class InjectedTest(unittest.TestCase):
-    def planted(self, bug: str, name: str, told: str) -> None:
-        script, looks = stored(name)
-        with tempfile.TemporaryDirectory() as folder, self.assertRaisesRegex(Differs, told):
-            followed(script, looks, spoilt(bug, folder))
+    def assert_bug_is_found(self, bug: str, name: str, pattern: str) -> None:
+        script, looks = load(name)
+        with tempfile.TemporaryDirectory() as folder, self.assertRaisesRegex(Difference, pattern):
+            replay(script, looks, inject_bug(bug, folder))
 
     def test_an_unmap_that_is_one_short(self) -> None:
-        told = r"map count of page 0 of node 0, subpage 255, kernel 0, thpsplit 1 \(command 3: unmap"
-        self.planted("unmap-short", "first", told)
+        pattern = r"map count of page 0 of node 0, subpage 255, kernel 0, thpsplit 1 \(command 3: unmap"
+        self.assert_bug_is_found("unmap-short", "first", pattern)
 
     def test_a_put_back_at_the_head(self) -> None:
-        self.planted("back-at-head", "pins", r"order of putting back \[0, 1\]")
+        self.assert_bug_is_found("back-at-head", "pins", r"order of putting back \[0, 1\]")
 
     def test_a_pinned_page_that_is_split(self) -> None:
-        self.planted("splits-pinned", "pins", "split_failed of a scan")
+        self.assert_bug_is_found("splits-pinned", "pins", "split_failed of a scan")
 
 
-class StoryTest(unittest.TestCase):
+class ExpectedRunTest(unittest.TestCase):
     def setUp(self) -> None:
         self.program = Program(PLAIN)
 
-    def story(self, text: str) -> Tuple[Set[Known], List[str]]:
-        told = story_of(script_of("x", text), self.program)
-        return told.known, [said.answer for said in told.said]
+    def expect(self, text: str) -> Tuple[Set[KnownDifference], List[str]]:
+        pattern = expect_run(script_of("x", text), self.program)
+        return pattern.known, [said.answer for said in pattern.answers]
 
     def test_small_pages_are_not_queued_at_their_fault(self) -> None:
-        known, answers = self.story("# thpsplit --orders 4 --underused 3\nsetup\nalloc 0\ncount 0\nscan 0 8\n")
-        self.assertEqual((known, answers[1]), ({Known.C}, "count 0"))
+        known, answers = self.expect("# thpsplit --orders 4 --underused 3\nsetup\nalloc 0\ncount 0\nscan 0 8\n")
+        self.assertEqual((known, answers[1]), ({KnownDifference.C}, "count 0"))
 
     def test_511_is_never_and_leaves_the_page_as_it_was(self) -> None:
-        known, answers = self.story("# thpsplit --underused 511\nsetup\nalloc 0\nscan 0 8\ncount 0\nsplitpmd 0 0\n")
-        self.assertEqual(known, {Known.D})
+        known, answers = self.expect("# thpsplit --underused 511\nsetup\nalloc 0\nscan 0 8\ncount 0\nsplitpmd 0 0\n")
+        self.assertEqual(known, {KnownDifference.D})
         self.assertEqual(answers[1:], ["taken 1 split 0 pinned 0 back 0 dropped 0 used 1", "count 0", "ok"])
 
     def test_a_page_that_only_a_pin_holds_ends_too(self) -> None:
-        self.story("# thpsplit --underused 511\nsetup\nalloc 0\npin 0 0\nunmapwhole 0 0\nscan 0 8\n")
+        self.expect("# thpsplit --underused 511\nsetup\nalloc 0\npin 0 0\nunmapwhole 0 0\nscan 0 8\n")
 
     def test_a_batch_tried_to_its_end_is_a_scan(self) -> None:
         text = "setup\nalloc 0\nsplitpmd 0 0\nunmap 0 0 0 8\ntake 0 8\nsplitnext 0\nsplitnext 0\nputback 0\n"
-        told = story_of(script_of("x", text), self.program).said
-        self.assertEqual([said.words[0] for said in told], ["alloc", "splitpmd", "unmap", "scan"])
-        open_batch = story_of(script_of("x", text.replace("splitnext 0\nputback 0\n", "count 0\n")), self.program).said
+        pattern = expect_run(script_of("x", text), self.program).answers
+        self.assertEqual([said.words[0] for said in pattern], ["alloc", "splitpmd", "unmap", "scan"])
+        open_batch = expect_run(script_of("x", text.replace("splitnext 0\nputback 0\n", "count 0\n")), self.program).answers
         self.assertIn("take", [said.words[0] for said in open_batch])
 
-    def test_workers_that_share_a_node_are_not_said(self) -> None:
-        with self.assertRaisesRegex(Unsayable, "share a node"):
-            self.story("# thpsplit --workers 2\nsetup\nalloc 0\nworker 1\ncount 0\nworker 2\ncount 0\n")
+    def test_workers_that_share_a_node_are_unsupported(self) -> None:
+        with self.assertRaisesRegex(Unsupported, "share a node"):
+            self.expect("# thpsplit --workers 2\nsetup\nalloc 0\nworker 1\ncount 0\nworker 2\ncount 0\n")
 
-    def test_a_fault_is_told_by_the_program(self) -> None:
+    def test_a_fault_is_reported_by_the_program(self) -> None:
         program = mock.Mock(path="x")
-        program.answers.side_effect = Refused("thpsplit: line 2: bad-count")
-        with self.assertRaisesRegex(Refused, "bad-count"):
-            story_of(script_of("x", "setup\nalloc\n"), program)
+        program.answers.side_effect = TextError("thpsplit: line 2: bad-count")
+        with self.assertRaisesRegex(TextError, "bad-count"):
+            expect_run(script_of("x", "setup\nalloc\n"), program)
 
 
 class GeneratorTest(unittest.TestCase):
@@ -264,8 +264,8 @@ class GeneratorTest(unittest.TestCase):
         done = refused = 0
         for k in range(8):
             script = Generator(random.Random(k), Shape(orders=(4, 5), length=30)).script("x")
-            for said in story_of(script, Program(PLAIN)).said:
-                done, refused = done + (not said.refused), refused + said.refused
+            for said in expect_run(script, Program(PLAIN)).answers:
+                done, refused = done + (not said.is_refused), refused + said.is_refused
         self.assertGreater(done, 5 * refused)
 
     def test_every_command_is_drawn(self) -> None:
@@ -280,7 +280,8 @@ class WordsTest(unittest.TestCase):
     VALUES = ["", "0", "1", "9", "-1", "nan", "inf", "1e9", "9" * 40, "off", "9,9", "2,,3", ",", "\x1b[2J", "\udcff",
               "\u0663", "1_0", "0x9", " 1", "--", "-"]
     OPTIONS = ["--random", "--seed", "--node-counts", "--page-orders", "--thresholds", "--length", "--fill", "--nodes",
-               "--orders", "--underused", "--blocks", "--quiet", "--show", "--no-memory", "--unknown"]
+               "--orders", "--underused", "--blocks", "--quiet", "--show", "--no-memory", "--unknown", "--tap", "--json",
+               "--shrink", "--seeds", "--fingerprint", "--markdown"]
 
     def test_random_words(self) -> None:
         chance = random.Random(8)
@@ -290,8 +291,8 @@ class WordsTest(unittest.TestCase):
             for _ in range(chance.randint(0, 4)):
                 given += [chance.choice(self.OPTIONS)] + [chance.choice(self.VALUES)] * chance.randint(0, 1)
             try:
-                asked = words(given)
-                used += len(list(scripts(1, asked.seed, shape_of(asked))))
+                asked = parse_words(given)
+                used += len(list(scripts(1, asked.seed, parse_shape(asked))))
             except InputFault as fault:
                 self.assertNotEqual(str(fault), "")
         self.assertGreater(used, 50)
@@ -312,9 +313,9 @@ class WordsTest(unittest.TestCase):
 
     def test_a_worker_without_a_node_is_left_to_the_program(self) -> None:
         program = mock.Mock(path="x")
-        program.answers.side_effect = Refused("thpsplit: line 2: bad-count")
-        with self.assertRaisesRegex(Refused, "bad-count"):
-            story_of(script_of("x", "worker 1\nalloc\n"), program)
+        program.answers.side_effect = TextError("thpsplit: line 2: bad-count")
+        with self.assertRaisesRegex(TextError, "bad-count"):
+            expect_run(script_of("x", "worker 1\nalloc\n"), program)
 
     def test_a_program_that_answers_nonsense_is_refused(self) -> None:
         for answer in ("taken x", "taken", "", "taken 9 split 9 pinned 9 back"):
@@ -322,4 +323,4 @@ class WordsTest(unittest.TestCase):
             program.answers.return_value = [mock.Mock(text=answer)]
             program.journal.return_value = [mock.Mock(events=[])]
             with self.subTest(answer), self.assertRaises(InputFault):
-                story_of(script_of("x", "setup\nscan 0 8\n"), program)
+                expect_run(script_of("x", "setup\nscan 0 8\n"), program)

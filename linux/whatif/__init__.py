@@ -1,18 +1,18 @@
 """How much memory would the shrinker of transparent huge pages free now? The program is thpwhatif (docs/WHATIF.md).
 
-    folios       a huge page as it was seen; sets of subpages
-    reading      the huge pages that processes map, from /proc
+    folios       a huge page as it was read; sets of subpages
+    reader       the huge pages that processes map, from /proc
     queues       what the kernel's own structures contain of them, by BPF
     proc         files of /proc and of control groups, read as bytes
     processes    which processes are looked at
-    rights       what the tool may do here, tried on what it needs
+    rights       the rights that the tool has, tried on what it needs
     snapshot     all of it together, and what was left out
     stored       stored snapshots, read back and checked
-    saying       a huge page as commands of a script
+    page_commands   a huge page as commands of a script
     scripts      pages as scripts for thpsplit, and such scripts read back
-    predict      thpsplit run on scripts for each threshold
+    predictor    thpsplit run on scripts for each threshold
     table        the predictions as tables and as JSON; picture: as SVG
-    watch        repeated looks
-    known, verify, reference    known pages, the real shrinker, and a plain judge
+    watch        repeated looks; metrics: as metrics for Prometheus
+    known_pages, verify, reference    known pages, the real shrinker, and a plain reading of the kernel's functions
     options      the words of the command line; program: the commands
 """

@@ -1,4 +1,4 @@
-"""A huge page as it was seen. A set of subpages is an integer whose bit i is subpage i."""
+"""A huge page as it was read. A set of subpages is an integer whose bit i is subpage i."""
 
 from __future__ import annotations
 
@@ -27,16 +27,16 @@ def full_set(order: int) -> int:
 
 
 @lru_cache(maxsize=64)
-def even(count: int, size: int) -> Tuple[int, ...]:
+def even_counts(count: int, size: int) -> Tuple[int, ...]:
     """Returns the map counts of a page whose `size` subpages are all mapped `count` times: one object for all such
     pages."""
     return (count,) * size
 
 
-def compact(totals: Sequence[int]) -> Sequence[int]:
+def compact_counts(totals: Sequence[int]) -> Sequence[int]:
     """Returns map counts in the form that takes the least memory."""
     if totals and totals.count(totals[0]) == len(totals):
-        return even(totals[0], len(totals))
+        return even_counts(totals[0], len(totals))
     most = max(totals, default=0)
     return bytes(iter(totals)) if most < 256 else array("I", (min(total, MOST_MAPPED) for total in totals))
 
@@ -58,7 +58,7 @@ class Folio:
     order: int
     cgroup: int = 0  # the inode of its memory cgroup's directory (/proc/kpagecgroup), 0: none
     mappings: List[Mapping] = field(default_factory=list)
-    totals: Sequence[int] = ()  # map counts by subpage, all processes (/proc/kpagecount); see `compact`
+    totals: Sequence[int] = ()  # map counts by subpage, all processes (/proc/kpagecount); see `compact_counts`
     zero: int = 0  # zero-filled subpages
     known: int = 0  # subpages whose content was read
     kept: int = 0  # subpages that a locked VMA maps: a split leaves their zeros
@@ -83,7 +83,7 @@ class Folio:
         return full_set(self.order)
 
     @property
-    def whole_seen(self) -> int:
+    def known_pmd_mappings(self) -> int:
         """Mappings by PMD entries of the processes that were looked at."""
         return sum(mapping.by_pmd for mapping in self.mappings)
 
@@ -155,7 +155,7 @@ def counts_of(pairs: Any, size: int) -> Sequence[int]:
             break
     if len(totals) != size:
         raise ValueError(f"totals doesn't have {size} numbers")
-    return compact(totals)
+    return compact_counts(totals)
 
 
 def mapping_of(stored: Any, full: int) -> Mapping:

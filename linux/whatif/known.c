@@ -1,4 +1,4 @@
-/* Makes huge pages in known states, as lines on standard input say; for linux/whatif/known.py.
+/* Makes huge pages in known states, as lines on standard input describe them; for linux/whatif/known_pages.py.
  *
  *   alloc ORDER        the next page (numbers ascend from 0), all zeros
  *   fill P F C V       writes the byte V into C subpages from F on

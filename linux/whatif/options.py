@@ -4,12 +4,13 @@ from __future__ import annotations
 
 import argparse
 
+from ..common.arguments import OneLineParser, seconds, whole
 from ..common.errors import InputFault
-from ..common.holding import LIMIT
-from ..common.words import Words, seconds, whole
-from .processes import Choice
-from .reading import MEMORY
-from .snapshot import NAME, How
+from ..common.hold import LIMIT
+from ..common.version import add_version
+from .processes import ProcessChoice
+from .reader import MEMORY
+from .snapshot import NAME, LookOptions
 
 MOST_PROCESS = 1 << 22  # the kernel's limit of process numbers
 MOST_COUNT = 1000000  # rounds
@@ -19,7 +20,7 @@ MOST_FREED = 1e9  # MiB
 
 
 def add_choice(words: argparse.ArgumentParser) -> None:
-    """The options that say what is looked at, and how."""
+    """Adds the options that select what is looked at, and how."""
     process = whole(1, MOST_PROCESS)
     words.add_argument("--pid", type=process, action="append", default=[], metavar="P", help="a process; repeatable")
     words.add_argument("--cgroup", action="append", default=[], metavar="DIR", help="a control group and those below")
@@ -29,44 +30,45 @@ def add_choice(words: argparse.ArgumentParser) -> None:
     words.add_argument("--memory", type=whole(1, MOST_MEMORY), default=MEMORY, metavar="MIB", help="the look's limit")
     words.add_argument("--orders", action="store_true", help="huge pages below PMD size, too")
     words.add_argument(
-        "--queued", choices=("seen", "all"), default="seen", help="all: as if each page still stood in its queue"
+        "--queued", choices=("seen", "all"), default="seen", help="all: as if each page were still in its queue"
     )
     words.add_argument("--no-kernel", action="store_true", help="do without BPF: queues and pins are guessed")
 
 
 def add_hold(words: argparse.ArgumentParser) -> None:
-    """The options of holding processes."""
+    """Adds the options of holding processes."""
     limit = seconds(0.001, 60)
     words.add_argument("--freeze-limit", type=limit, default=LIMIT, metavar="SECONDS", help="the longest hold")
     words.add_argument("--wait", action="store_true", help="wait until another tool that changes or holds has ended")
 
 
 def add_thresholds(words: argparse.ArgumentParser) -> None:
-    """The options of a table."""
+    """Adds the options of a table."""
     words.add_argument("--thresholds", metavar="LIST", help="off and numbers from 0 to 511, joined by commas")
-    words.add_argument("--json", action="store_true", help="a JSON object in place of tables")
+    words.add_argument("--json", action="store_true", help="a JSON object instead of tables")
     words.add_argument("--by-process", action="store_true", help="a table by process, too")
     words.add_argument("--by-cgroup", action="store_true", help="a table by control group, too")
     words.add_argument("--svg", metavar="FILE", help="a picture of the table")
 
 
 def add_program(words: argparse.ArgumentParser) -> None:
-    """The option that names thpsplit."""
+    """Adds the option that names thpsplit."""
     words.add_argument("--program", metavar="PATH", help="the thpsplit to run")
 
 
 def parser() -> argparse.ArgumentParser:
-    """All commands and their options."""
-    top = Words(prog=NAME, description="What would the shrinker of transparent huge pages give back now?")
-    commands = top.add_subparsers(dest="command", required=True, metavar="COMMAND", parser_class=Words)
-    now = commands.add_parser("now", help="look, and tell what each threshold would give back")
+    """Returns all commands and their options."""
+    top = OneLineParser(prog=NAME, description="What would the shrinker of transparent huge pages give back now?")
+    add_version(top, NAME)
+    commands = top.add_subparsers(dest="command", required=True, metavar="COMMAND", parser_class=OneLineParser)
+    now = commands.add_parser("now", help="look, and print what each threshold would give back")
     add_choice(now)
     add_thresholds(now)
     add_program(now)
     snapshot = commands.add_parser("snapshot", help="look, and write scripts for thpsplit")
     add_choice(snapshot)
     snapshot.add_argument("-o", "--output", default="-", metavar="FILE", help="further scripts are FILE.2 and so on")
-    snapshot.add_argument("--facts", metavar="FILE", help="all that was seen, as JSON")
+    snapshot.add_argument("--facts", metavar="FILE", help="all that was read, as JSON")
     what_if = commands.add_parser("what-if", help="the table of scripts that snapshot wrote")
     what_if.add_argument("files", nargs="+", metavar="FILE")
     add_thresholds(what_if)
@@ -77,12 +79,14 @@ def parser() -> argparse.ArgumentParser:
     target.add_argument("--json", action="store_true")
     add_choice(target)
     add_program(target)
-    watching = commands.add_parser("watch", help="look again and again, and tell how the rows drift")
+    watching = commands.add_parser("watch", help="look again and again, and print how the rows change")
     longest = seconds(0.001, LONGEST)
     watching.add_argument("seconds", type=longest, metavar="SECONDS", help="from one look to the next")
     rounds = whole(0, MOST_COUNT)
-    watching.add_argument("--rounds", type=rounds, default=0, metavar="N", help="ends after so many; 0: by SIGINT")
+    watching.add_argument("--rounds", type=rounds, default=0, metavar="N", help="end after so many looks; 0: by SIGINT")
     watching.add_argument("--thresholds", metavar="LIST", help="as for now")
+    watching.add_argument("--json", action="store_true", help="a JSON object for each look, on a line")
+    watching.add_argument("--prometheus", metavar="FILE", help="write each look as metrics, replacing FILE")
     add_choice(watching)
     add_program(watching)
     add_verify(commands.add_parser("verify", help="known pages, or a command's, and then the real shrinker"))
@@ -90,7 +94,7 @@ def parser() -> argparse.ArgumentParser:
 
 
 def add_verify(words: argparse.ArgumentParser) -> None:
-    """The options of verify."""
+    """Adds the options of verify."""
     words.add_argument("--thresholds", metavar="LIST", help="as for now")
     count, most = whole(1, MOST_COUNT), whole(1, 4000)
     words.add_argument("--rounds", type=count, default=1, metavar="N", help="how often each threshold is tried")
@@ -100,32 +104,32 @@ def add_verify(words: argparse.ArgumentParser) -> None:
     words.add_argument("--change", type=micros, default=0, metavar="MICROS", help="known pages that change so often")
     after = seconds(0, LONGEST)
     words.add_argument("--after", type=after, default=5.0, metavar="SECONDS", help="for which the command runs first")
-    words.add_argument("--user", metavar="NAME", help="runs the command; if not given, the user behind sudo")
+    words.add_argument("--user", metavar="NAME", help="runs the command; if not given, the caller of sudo")
     add_hold(words)
-    words.add_argument("--running", action="store_true", help="don't hold the pages still until they are judged")
+    words.add_argument("--running", action="store_true", help="don't hold the pages still until the comparison")
     words.add_argument("--enabled", choices=("always", "madvise"), help="transparent_hugepage/enabled meanwhile")
     words.add_argument("--no-kernel", action="store_true", help="do without BPF: queues and pins are guessed")
     words.add_argument("--keep", default="", metavar="FOLDER", help="write what each trial saw there")
     words.add_argument("--verbose", action="store_true", help="a line for each trial")
-    words.add_argument("words", nargs="*", metavar="-- COMMAND", help="a command to try in place of known pages")
+    words.add_argument("words", nargs="*", metavar="-- COMMAND", help="a command to try instead of known pages")
     add_program(words)
 
 
-def choice_of(asked: argparse.Namespace) -> Choice:
+def parse_choice(options: argparse.Namespace) -> ProcessChoice:
     """Returns what is to be looked at."""
-    if not (asked.pid or asked.cgroup or asked.all):
-        raise InputFault(f"{asked.command} needs --pid, --cgroup or --all (--help has the options)")
-    return Choice(asked.pid, asked.cgroup, asked.all)
+    if not (options.pid or options.cgroup or options.all):
+        raise InputFault(f"{options.command} needs --pid, --cgroup or --all (--help has the options)")
+    return ProcessChoice(options.pid, options.cgroup, options.all)
 
 
-def how_of(asked: argparse.Namespace) -> How:
+def parse_look_options(options: argparse.Namespace) -> LookOptions:
     """Returns how it is to be looked at."""
-    return How(
-        freeze=asked.freeze,
-        with_small=asked.orders,
-        with_kernel=not asked.no_kernel,
-        all_queued=asked.queued == "all",
-        freeze_limit=asked.freeze_limit,
-        wait=asked.wait,
-        memory=asked.memory,
+    return LookOptions(
+        freeze=options.freeze,
+        with_small=options.orders,
+        with_kernel=not options.no_kernel,
+        all_queued=options.queued == "all",
+        freeze_limit=options.freeze_limit,
+        wait=options.wait,
+        memory=options.memory,
     )

@@ -1,4 +1,4 @@
-/* What a snapshot reads in bulk, as a shared library for linux/whatif/reading.py.
+/* What a snapshot reads in bulk, as a shared library for linux/whatif/reader.py.
  *
  *   walk_process    how a process maps huge anonymous pages
  *   find_locked     the address ranges of its locked VMAs
@@ -142,7 +142,7 @@ static void take_frames(struct walk *w, uint64_t address, uint64_t frame, long c
     }
 }
 
-/* Takes a block of addresses that one PMD entry maps: one huge page, so its first entry and first flags say all. */
+/* Takes a block of addresses that one PMD entry maps: one huge page, so its first entry and first flags describe it. */
 static void take_whole(struct walk *w, uint64_t at) {
     uint64_t entry, flags;
     if (pread(w->map, &entry, 8, at / BASE * 8) != 8 || !frame_of(entry)) { w->changed += BLOCK; return; }

@@ -4,7 +4,7 @@ from __future__ import annotations
 
 from typing import List, Optional, Sequence
 
-from .predict import Row, label
+from .predictor import Row, label
 
 WIDTH, HEIGHT = 720, 360
 LEFT, RIGHT, TOP, BOTTOM = 64, 16, 40, 56
@@ -12,7 +12,7 @@ PARTLY, UNDERUSED, TODAY = "#4c78a8", "#f58518", "#e45756"
 
 
 def round_up(value: float) -> float:
-    """The least of 1, 2 and 5 by a power of ten that is not below a value; at least 1."""
+    """Returns the least of 1, 2 and 5 by a power of ten that is not below a value; at least 1."""
     unit = 1.0
     while unit * 10 < value:
         unit *= 10
@@ -20,7 +20,7 @@ def round_up(value: float) -> float:
 
 
 def text_at(x: float, y: float, text: str, anchor: str = "middle", extra: str = "") -> str:
-    """A text of the picture."""
+    """Returns a text of the picture."""
     return f'<text x="{x:.1f}" y="{y:.1f}" text-anchor="{anchor}"{extra}>{text}</text>'
 
 
@@ -35,7 +35,8 @@ def axis(top: float) -> List[str]:
 
 
 def picture(rows: Sequence[Row], today: Optional[int]) -> str:
-    """A bar for each threshold, its height the MiB back, its number the pages split; today's setting is framed."""
+    """Returns a bar for each threshold, its height the MiB back, its number the pages split; today's setting is
+    framed."""
     top = round_up(max([row.mebibytes for row in rows] + [0.0]))
     height, step = HEIGHT - TOP - BOTTOM, (WIDTH - LEFT - RIGHT) / max(1, len(rows))
     out = [

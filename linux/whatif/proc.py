@@ -11,14 +11,14 @@ import re
 from typing import Dict, Iterator, List, Optional, Set
 
 from ..common.files import read_bytes
-from ..common.text import escaped, lines
+from ..common.text import escape, lines
 
 ROOT = "/proc"  # tests put another folder here
 CAPABILITIES = {"CAP_KILL": 5, "CAP_SYS_PTRACE": 19, "CAP_SYS_ADMIN": 21, "CAP_PERFMON": 38, "CAP_BPF": 39}
 
 
 class Unreadable(Exception):
-    """A text of /proc that has not the form that the kernel gives it."""
+    """A text of /proc that doesn't have the kernel's form."""
 
 
 def path_of(process: int, name: str) -> str:
@@ -58,7 +58,7 @@ def machine_huge() -> int:
 
 
 def has_memory(process: int) -> bool:
-    """Whether a process has memory of its own: threads of the kernel and ended processes don't."""
+    """Returns whether a process has memory of its own: threads of the kernel and ended processes don't."""
     try:
         words = read_file(process, "statm").split()
     except OSError:
@@ -72,7 +72,7 @@ def name_of(process: int) -> str:
         name = read_file(process, "comm")
     except OSError:
         return "ended"
-    return escaped(name[:-1] if name.endswith(b"\n") else name) or "?"
+    return escape(name[:-1] if name.endswith(b"\n") else name) or "?"
 
 
 def stat_fields(process: int) -> List[bytes]:
@@ -93,7 +93,7 @@ def processes() -> List[int]:
     return [int(name) for name in os.listdir(ROOT) if re.fullmatch("[1-9][0-9]{0,9}", name)]
 
 
-def lacking(*names: str) -> List[str]:
+def missing_capabilities(*names: str) -> List[str]:
     """Returns those of some capabilities that this process doesn't have in effect."""
     found = re.search(rb"^CapEff:\t([0-9a-f]{1,16})$", read_bytes("/proc/self/status"), re.MULTILINE)
     held = int(found[1], 16) if found else 0
@@ -135,5 +135,5 @@ def group_names(mount: str, wanted: Set[int]) -> Dict[int, str]:
         except OSError:
             continue  # it ended meanwhile
         if inode in wanted:
-            out[inode] = escaped(os.path.relpath(folder, mount)) if folder != mount else "/"
+            out[inode] = escape(os.path.relpath(folder, mount)) if folder != mount else "/"
     return out

@@ -8,23 +8,23 @@ from typing import List, Set
 
 from ..common.errors import InputFault
 from ..common.groups import checked_group
-from ..common.text import escaped
+from ..common.text import escape
 from . import proc
 from .proc import has_memory, members
 
 
 @dataclass
-class Choice:
-    """What a user asks for: processes, control groups with those below, or all processes."""
+class ProcessChoice:
+    """The processes that a user selects: by number, by control groups with those below, or all."""
 
     processes: List[int] = field(default_factory=list)
     groups: List[str] = field(default_factory=list)
     everything: bool = False
 
-    def told(self) -> str:
+    def describe(self) -> str:
         """Returns it in words."""
         words = [f"process {number}" for number in self.processes]
-        words += [f"control group {escaped(path)}" for path in self.groups]
+        words += [f"control group {escape(path)}" for path in self.groups]
         return ", ".join(words + (["all processes"] if self.everything else []))
 
     def check(self) -> None:

@@ -8,21 +8,22 @@ import os
 import sys
 import time
 from contextlib import ExitStack, contextmanager, suppress
-from typing import Any, Callable, Dict, Iterator, List, NoReturn, Optional, Sequence
+from typing import Any, Callable, Dict, Iterator, List, Mapping, NoReturn, Optional, Sequence
 
 from ..common.errors import DONE, InputFault
 from ..common.files import create, read_input
 from ..common.program import Program
-from ..common.text import escaped
+from ..common.text import escape
 from ..common.tool import run_tool
 from ..common.user import user_for
-from .options import choice_of, how_of, parser
+from .metrics import MetricsFile
+from .options import parse_choice, parse_look_options, parser
 from .picture import picture
-from .predict import DEFAULT, OFF, Predictor, Row, Share, highest_with, label, thresholds_of, with_today
-from .processes import Choice
+from .predictor import DEFAULT, OFF, Predictor, Row, Share, find_highest, label, thresholds_of, with_today
+from .processes import ProcessChoice
 from .rights import demand_root
 from .scripts import Script, Spool, read_script
-from .snapshot import NAME, Snapshot, Taker, guess_of, show_progress, told, warnings, write
+from .snapshot import NAME, Snapshot, SnapshotTaker, guess_of, list_notes, show_progress, warnings, write_snapshot
 from .stored import from_json
 from .table import (
     FRAMES_A_MEBIBYTE,
@@ -34,7 +35,7 @@ from .table import (
     share_json,
     table,
 )
-from .verify import THRESHOLDS, Task, verify
+from .verify import THRESHOLDS, TrialOptions, verify
 from .watch import Look, watch
 
 SLOW = 1.0  # seconds after which progress is shown
@@ -53,9 +54,9 @@ def progress() -> Optional[Callable[[str, int, int], None]]:
     return show_late
 
 
-def look(asked: argparse.Namespace, choice: Choice) -> Snapshot:
-    """Takes one snapshot as asked for."""
-    return Taker(how_of(asked), progress()).take(choice)
+def take_look(options: argparse.Namespace, choice: ProcessChoice) -> Snapshot:
+    """Takes one snapshot with these options."""
+    return SnapshotTaker(parse_look_options(options), progress()).take(choice)
 
 
 class Output:
@@ -69,7 +70,7 @@ class Output:
         try:
             self._file.write(text)
         except OSError as error:
-            raise InputFault(f"{escaped(self.path)} can't be written: {error.strerror}") from error
+            raise InputFault(f"{escape(self.path)} can't be written: {error.strerror}") from error
 
     def close(self) -> bool:
         """Closes the file; returns whether it holds anything."""
@@ -77,11 +78,11 @@ class Output:
             self._file.close()
             return os.stat(self.path).st_size > 0
         except OSError as error:
-            raise InputFault(f"{escaped(self.path)} can't be written: {error.strerror}") from error
+            raise InputFault(f"{escape(self.path)} can't be written: {error.strerror}") from error
 
 
 @contextmanager
-def output(path: Optional[str]) -> Iterator[Optional[Output]]:
+def open_output(path: Optional[str]) -> Iterator[Optional[Output]]:
     """Gives the output of a path, or nothing where there is no path or it is `-`. The file is removed again where the
     work fails, or writes nothing."""
     if path is None or path == "-":
@@ -103,10 +104,10 @@ def read_scripts(paths: Sequence[str]) -> List[Script]:
     out: List[Script] = []
     spool = Spool()
     for path in paths:
-        data, name = read_input(path), escaped(path)
+        data, name = read_input(path), escape(path)
         if data.startswith(b"{"):
             try:
-                out += write(from_json(data.decode("ascii"), name)).scripts
+                out += write_snapshot(from_json(data.decode("ascii"), name)).scripts
             except UnicodeDecodeError as error:
                 raise InputFault(f"{name} can't be read: it is not ASCII") from error
         else:
@@ -115,15 +116,15 @@ def read_scripts(paths: Sequence[str]) -> List[Script]:
 
 
 def left_out_of(scripts: Sequence[Script]) -> Dict[str, int]:
-    """What the scripts of one snapshot say of what was left out: all of them say the same."""
+    """Returns what was left out, by the comments of one snapshot's scripts, which all have the same."""
     out: Dict[str, int] = {}
     for script in scripts:
         out.update(script.left_out())
     return out
 
 
-def show(
-    asked: argparse.Namespace,
+def print_tables(
+    options: argparse.Namespace,
     scripts: List[Script],
     snapshot: Optional[Snapshot],
     program: Program,
@@ -132,34 +133,39 @@ def show(
     """Prints the tables, or the JSON object, of scripts."""
     told_today = [snapshot.today] if snapshot else [script.today() for script in scripts]
     today = next((threshold for threshold in told_today if threshold is not None), None)
-    given = thresholds_of(asked.thresholds) if asked.thresholds else DEFAULT
-    thresholds = with_today(given, None if asked.thresholds else today)
+    given = thresholds_of(options.thresholds) if options.thresholds else DEFAULT
+    thresholds = with_today(given, None if options.thresholds else today)
     predictor = Predictor(scripts, program)
     began = time.monotonic()
     rows = predictor.run(thresholds)
     names = {number: name for script in scripts for number, name in script.processes().items()}
-    shares = predictor.shares(thresholds) if asked.by_process else {}
-    groups = predictor.by_group(thresholds) if asked.by_cgroup else {}
+    shares = predictor.shares(thresholds) if options.by_process else {}
+    groups = predictor.by_group(thresholds) if options.by_cgroup else {}
     left_out = dict(snapshot.left_out) if snapshot else left_out_of(scripts)
     if svg:
         svg.write(picture(rows, today))
-    if asked.json:
-        out: Dict[str, Any] = {"rows": [row_json(row, today) for row in rows], "left_out": left_out}
+    if options.json:
+        out = rows_json(rows, today, left_out)
         out.update(parts_json(shares, groups, names, today))
-        out.update(about(snapshot, time.monotonic() - began))
+        out.update(look_json(snapshot, time.monotonic() - began))
         print(json.dumps(out, indent=1))
         return
     parts = [table(rows, today)]
-    parts += [process_table(shares, names)] if asked.by_process else []
-    parts += [group_table(groups)] if asked.by_cgroup else []
+    parts += [process_table(shares, names)] if options.by_process else []
+    parts += [group_table(groups)] if options.by_cgroup else []
     print("\n\n".join(parts))
     print(last_line(left_out))
+
+
+def rows_json(rows: Sequence[Row], today: Optional[int], left_out: Mapping[str, int]) -> Dict[str, Any]:
+    """Returns the rows, and what is in none of them, as JSON."""
+    return {"rows": [row_json(row, today) for row in rows], "left_out": dict(left_out)}
 
 
 def parts_json(
     shares: Dict[int, Dict[int, Share]], groups: Dict[str, List[Row]], names: Dict[int, str], today: Optional[int]
 ) -> Dict[str, Any]:
-    """The tables by process and by control group, where they were asked for, as JSON."""
+    """Returns the tables by process and by control group, where they were asked for, as JSON."""
     out: Dict[str, Any] = {}
     if shares:
         out["by_process"] = {
@@ -171,8 +177,8 @@ def parts_json(
     return out
 
 
-def about(snapshot: Optional[Snapshot], runs: float) -> Dict[str, Any]:
-    """What a JSON object tells of the look itself."""
+def look_json(snapshot: Optional[Snapshot], runs: float) -> Dict[str, Any]:
+    """Returns what a JSON object contains about the look itself."""
     if snapshot is None:
         return {"seconds": {"runs": round(runs, 3)}}
     spent = {step: round(value, 3) for step, value in snapshot.spent.items()}
@@ -192,81 +198,81 @@ def about(snapshot: Optional[Snapshot], runs: float) -> Dict[str, Any]:
     }
 
 
-def command_now(asked: argparse.Namespace) -> int:
+def command_now(options: argparse.Namespace) -> int:
     """Looks, and prints the tables."""
-    check_thresholds(asked)
-    choice = choice_of(asked)
+    check_thresholds(options)
+    choice = parse_choice(options)
     demand_root()
-    program = Program(asked.program)
-    with output(asked.svg) as svg:
-        snapshot = look(asked, choice)
-        made = write(snapshot)
-        for line in told(snapshot) if not asked.json else ():
+    program = Program(options.program)
+    with open_output(options.svg) as svg:
+        snapshot = take_look(options, choice)
+        made = write_snapshot(snapshot)
+        for line in list_notes(snapshot) if not options.json else ():
             print(line)
         if not made.scripts:
             print("no huge pages are mapped here", file=sys.stderr)
-            if not asked.json:
+            if not options.json:
                 print(last_line(snapshot.left_out))
                 return DONE
-        show(asked, made.scripts, snapshot, program, svg)
+        print_tables(options, made.scripts, snapshot, program, svg)
     return DONE
 
 
-def command_snapshot(asked: argparse.Namespace) -> int:
+def command_snapshot(options: argparse.Namespace) -> int:
     """Looks, and writes scripts."""
-    choice = choice_of(asked)
+    choice = parse_choice(options)
     demand_root()
     with ExitStack() as stack:
-        first = stack.enter_context(output(asked.output))
-        facts = stack.enter_context(output(asked.facts))
-        snapshot = look(asked, choice)
-        made = write(snapshot)
+        first = stack.enter_context(open_output(options.output))
+        facts = stack.enter_context(open_output(options.facts))
+        snapshot = take_look(options, choice)
+        made = write_snapshot(snapshot)
         if facts:
             for text in snapshot.json_parts():
                 facts.write(text)
-        for line in told(snapshot) + [last_line(snapshot.left_out)]:
+        for line in list_notes(snapshot) + [last_line(snapshot.left_out)]:
             print(line, file=sys.stderr)
         if not made.scripts:
             print("no huge pages are mapped here: no script is written", file=sys.stderr)
         if not first and len(made.scripts) > 1:
             raise InputFault(f"{len(made.scripts)} scripts don't go to one output: name a file (-o FILE)")
         for index, script in enumerate(made.scripts, 1):
-            out = first if index == 1 else stack.enter_context(output(f"{asked.output}.{index}"))
+            out = first if index == 1 else stack.enter_context(open_output(f"{options.output}.{index}"))
             for chunk in script.chunks():
                 (out.write if out else sys.stdout.write)(chunk.decode("ascii"))
     return DONE
 
 
-def command_what_if(asked: argparse.Namespace) -> int:
+def command_what_if(options: argparse.Namespace) -> int:
     """Prints the tables of scripts."""
-    check_thresholds(asked)
-    with output(asked.svg) as svg:
-        show(asked, read_scripts(asked.files), None, Program(asked.program), svg)
+    check_thresholds(options)
+    with open_output(options.svg) as svg:
+        print_tables(options, read_scripts(options.files), None, Program(options.program), svg)
     return DONE
 
 
-def command_target(asked: argparse.Namespace) -> int:
+def command_target(options: argparse.Namespace) -> int:
     """Finds the highest threshold that gives back so much."""
-    if asked.files and (asked.pid or asked.cgroup or asked.all):
+    if options.files and (options.pid or options.cgroup or options.all):
         raise InputFault("target takes files, or --pid, --cgroup or --all, not both")
-    if asked.files:
-        program, scripts = Program(asked.program), read_scripts(asked.files)
+    if options.files:
+        program, scripts = Program(options.program), read_scripts(options.files)
     else:
-        choice = choice_of(asked)
+        choice = parse_choice(options)
         demand_root()
-        program, scripts = Program(asked.program), write(look(asked, choice)).scripts
+        program, scripts = Program(options.program), write_snapshot(take_look(options, choice)).scripts
     predictor = Predictor(scripts, program)
-    found = highest_with(predictor, -int(-asked.mebibytes * FRAMES_A_MEBIBYTE // 1))
+    found = find_highest(predictor, -int(-options.mebibytes * FRAMES_A_MEBIBYTE // 1))
     names = {number: name for script in scripts for number, name in script.processes().items()}
     threshold = 0 if found is None else found
     row, shares = predictor.run([threshold])[0], predictor.by_process(threshold)
-    if asked.json:
+    if options.json:
         cost = [share_json(process, names.get(process, "?"), share) for process, share in sorted(shares.items())]
-        told_row = {"asked": asked.mebibytes, "reached": found is not None, "row": row_json(row, None), "cost": cost}
+        told_row = {"asked": options.mebibytes, "reached": found is not None, "row": row_json(row, None), "cost": cost}
         print(json.dumps(told_row, indent=1))
         return DONE
     if found is None:
-        print(f"no threshold gives back {asked.mebibytes:g} MiB: 0 gives {row.mebibytes:.1f} MiB. What 0 costs:")
+        print(f"no threshold gives back {options.mebibytes:g} MiB: 0 gives {row.mebibytes:.1f} MiB. What 0 costs:")
     elif found == OFF:
         print(f"{row.mebibytes:.1f} MiB come back with any threshold, also with 511. What that costs:")
     else:
@@ -276,54 +282,72 @@ def command_target(asked: argparse.Namespace) -> int:
     return DONE
 
 
-def check_thresholds(asked: argparse.Namespace) -> None:
+def check_thresholds(options: argparse.Namespace) -> None:
     """InputFault where the thresholds can't be used: before the work, not after it."""
-    if asked.thresholds is not None:
-        thresholds_of(asked.thresholds)
+    if options.thresholds is not None:
+        thresholds_of(options.thresholds)
 
 
-def command_watch(asked: argparse.Namespace) -> int:
+def command_watch(options: argparse.Namespace) -> int:
     """Looks again and again."""
-    check_thresholds(asked)
-    choice = choice_of(asked)
+    check_thresholds(options)
+    choice = parse_choice(options)
     demand_root()
-    program = Program(asked.program)
-    taker = Taker(how_of(asked))
-    given = thresholds_of(asked.thresholds) if asked.thresholds else DEFAULT
+    metrics = None if options.prometheus is None else MetricsFile(options.prometheus)
+    program = Program(options.program)
+    taker = SnapshotTaker(parse_look_options(options))
+    given = thresholds_of(options.thresholds) if options.thresholds else DEFAULT
 
     def look_once() -> Look:
         snapshot = taker.take(choice)
-        thresholds = with_today(given, None if asked.thresholds else snapshot.today)
-        rows = Predictor(write(snapshot).scripts, program).run(thresholds)
-        notes = ([snapshot.note] if snapshot.note else []) + ([guess_of(snapshot)] if snapshot.lacking else [])
-        notes += [last_line(snapshot.left_out)] if any(snapshot.left_out.values()) else []
-        return Look(rows, snapshot.today, notes + warnings(snapshot))
+        thresholds = with_today(given, None if options.thresholds else snapshot.today)
+        scripts, began = write_snapshot(snapshot).scripts, time.monotonic()
+        rows = Predictor(scripts, program).run(thresholds)
+        return look_of(snapshot, rows, time.monotonic() - began)
 
-    watch(look_once, asked.seconds, asked.rounds)
+    also = metrics.write if metrics else lambda look: None
+    watch(look_once, options.seconds, options.rounds, as_json=options.json, also=also)
     return DONE
 
 
-def command_verify(asked: argparse.Namespace) -> int:
+def look_of(snapshot: Snapshot, rows: List[Row], runs: float) -> Look:
+    """Returns a look of `watch`, given the rows and the seconds of their runs."""
+    notes = ([snapshot.note] if snapshot.note else []) + ([guess_of(snapshot)] if snapshot.lacking else [])
+    notes += [last_line(snapshot.left_out)] if any(snapshot.left_out.values()) else []
+    return Look(
+        rows,
+        snapshot.today,
+        notes + warnings(snapshot),
+        left_out=sum(snapshot.left_out.values()),
+        is_read=not snapshot.lacking,
+        changed=snapshot.changed,
+        seconds=snapshot.seconds,
+        ended=time.time(),
+        report={**rows_json(rows, snapshot.today, snapshot.left_out), **look_json(snapshot, runs)},
+    )
+
+
+def command_verify(options: argparse.Namespace) -> int:
     """Tries predictions."""
-    check_thresholds(asked)
+    check_thresholds(options)
     demand_root()
-    program, user = Program(asked.program), user_for(asked.user)
-    task = Task(
-        thresholds=thresholds_of(asked.thresholds) if asked.thresholds else THRESHOLDS,
-        rounds=asked.rounds,
-        seed=asked.seed,
-        pages=asked.pages,
-        command=asked.words,
+    program, user = Program(options.program), user_for(options.user)
+    task = TrialOptions(
+        thresholds=thresholds_of(options.thresholds) if options.thresholds else THRESHOLDS,
+        rounds=options.rounds,
+        seed=options.seed,
+        pages=options.pages,
+        command=options.words,
         user=user,
-        after=asked.after,
-        running=asked.running,
-        enabled=asked.enabled or "",
-        change=asked.change,
-        with_kernel=not asked.no_kernel,
-        freeze_limit=asked.freeze_limit,
-        wait=asked.wait,
-        verbose=asked.verbose,
-        keep=asked.keep,
+        after=options.after,
+        running=options.running,
+        enabled=options.enabled or "",
+        change=options.change,
+        with_kernel=not options.no_kernel,
+        freeze_limit=options.freeze_limit,
+        wait=options.wait,
+        verbose=options.verbose,
+        keep=options.keep,
     )
     return verify(task, program)
 
@@ -339,5 +363,5 @@ COMMANDS: Dict[str, Callable[[argparse.Namespace], int]] = {
 
 
 def main() -> NoReturn:
-    """Runs the command that the words ask for."""
-    run_tool(NAME, lambda: COMMANDS[(asked := parser().parse_args()).command](asked))
+    """Runs the command that the command line names."""
+    run_tool(NAME, lambda: COMMANDS[(options := parser().parse_args()).command](options))

@@ -14,7 +14,7 @@ from typing import Dict, List, Set
 from ..common.btf import Types
 from ..common.errors import Unavailable
 from ..common.kernel_memory import KernelMemory
-from .folios import Folio, even
+from .folios import Folio, even_counts
 
 HEADS = 4  # struct pages that a struct folio lies over
 
@@ -31,7 +31,7 @@ class FolioFields:
     partly: int
 
     @staticmethod
-    def of(types: Types) -> FolioFields:
+    def from_types(types: Types) -> FolioFields:
         """By this kernel's types. Raises Unavailable where a field is missing (before Linux 6.12)."""
         return FolioFields(
             types.offset("folio", "_refcount"),
@@ -48,7 +48,7 @@ class Queues:
 
     def __init__(self, memory: KernelMemory) -> None:
         self._memory = memory
-        self._fields = FolioFields.of(memory.types)
+        self._fields = FolioFields.from_types(memory.types)
         try:
             memory.queue_fields()
             self._ordered = True
@@ -69,12 +69,12 @@ class Queues:
         folio.is_partly = bool(flags & at.partly)
         whole = folio.whole = max(0, entire + 1)
         if large == entire:  # no mapping by PTEs: each subpage has the same count
-            folio.totals = even(whole, folio.size)
+            folio.totals = even_counts(whole, folio.size)
         folio.pins = references - (large + 1) - (folio.size if folio.is_swap_cached else 0)
         return bool(references > 0)
 
     def places(self, groups: List[int], wanted: Set[int]) -> Dict[int, int]:
-        """Returns the place in its queue of each wanted page (by frame) of these control groups (inodes). A queue that
+        """Returns the place in its queue of each selected page (by frame) of these control groups (inodes). A queue that
         changes all the time, and a group that ended, are left out: their pages then have no order, which changes no
         row. So are all queues where this kernel has them in another form."""
         out: Dict[int, int] = {}

@@ -1,4 +1,4 @@
-"""A plain judge of what a reclaim that drains the queues does to one huge page.
+"""A plain reading of the kernel's functions: what a reclaim that drains the queues does to one huge page.
 
 It is a direct reading of the kernel's functions, shares no code with the scripts or with thpsplit, and is what
 `verify` lays beside both: mm/huge_memory.c (deferred_split_scan, thp_underused, split_folio), mm/migrate.c
@@ -13,8 +13,8 @@ from .folios import Folio
 
 
 def given_back(folio: Folio, max_ptes_none: int, locked_are_tried: bool = False) -> Optional[List[bool]]:
-    """For each subpage whether its frame comes back; None where the page isn't split. `locked_are_tried`: as before
-    Linux 6.18."""
+    """Returns for each subpage whether its frame comes back; None where the page isn't split. `locked_are_tried`: as
+    before Linux 6.18."""
     size = 2**folio.order
     is_zero = [bool(folio.zero >> i & folio.known >> i & 1) for i in range(size)]
     is_kept = [bool(folio.kept >> i & 1) or folio.is_locked for i in range(size)]

@@ -1,4 +1,4 @@
-"""What the tool may do on this machine, tried on what it needs: a missing right is named, and never read as `nothing is
+"""The rights of the tool on this machine, tried on what it needs: a missing right is named, and never read as `nothing is
 here`."""
 
 from __future__ import annotations
@@ -11,7 +11,7 @@ from typing import Iterable
 from ..common.errors import Unavailable
 from ..common.files import BASE
 from ..common.page_files import NumberFile, frame_of_entry
-from .proc import lacking
+from .proc import missing_capabilities
 
 
 def demand_root() -> None:
@@ -37,7 +37,7 @@ def demand_signals(processes: Iterable[int]) -> None:
         try:
             os.kill(process, 0)
         except PermissionError as error:
-            why = "CAP_KILL is missing" if lacking("CAP_KILL") else "Operation not permitted"
+            why = "CAP_KILL is missing" if missing_capabilities("CAP_KILL") else "Operation not permitted"
             raise Unavailable(f"process {process} can't be held still: {why}") from error
         except OSError:
             continue  # it ended
@@ -45,5 +45,5 @@ def demand_signals(processes: Iterable[int]) -> None:
 
 def demand_reading(process: int) -> None:
     """Unavailable where the capability is missing to read the memory of others: for a process that wasn't readable."""
-    if lacking("CAP_SYS_PTRACE"):
+    if missing_capabilities("CAP_SYS_PTRACE"):
         raise Unavailable(f"process {process} can't be read: CAP_SYS_PTRACE is missing")

@@ -1,8 +1,8 @@
 """Huge pages as scripts that thpsplit reads as they are, and such scripts read back.
 
 A node of a script is a memory control group and an order, with at most 4,096 pages; pages beyond that are a further
-node. Beyond 8 nodes or 15 MiB there is a further script. The first line names the options for thpsplit; comments say
-where the pages come from. Scripts are written page by page into an unnamed temporary file, and lie there.
+node. Beyond 8 nodes or 15 MiB there is a further script. The first line names the options for thpsplit; comments name
+the origin of the pages. Scripts are written page by page into an unnamed temporary file, and stay there.
 """
 
 from __future__ import annotations
@@ -15,14 +15,14 @@ from typing import IO, Dict, Iterable, Iterator, List, Optional, Sequence, Tuple
 
 from ..common.errors import InputFault, RunFailed
 from ..common.files import PMD_ORDER
-from .saying import Said, begin, fill, state
+from .page_commands import PagePlan, commands_before, commands_of, fill_command
 
 MARK = "# the shrinker"  # the scans follow
 TAKE, BLOCKS, NODES = 128, 4096, 8  # limits of scripts (docs/FORMATS.md)
-MOST_TEXT = 15 << 20  # bytes; what `filled` adds fits below the limit of 16 MiB
+MOST_TEXT = 15 << 20  # bytes; what `filled_chunks` adds fits below the limit of 16 MiB
 MANY = 1 << 62
 CHUNK = 1 << 20  # bytes that are copied at a time
-BEGIN = 48  # bytes that the lines of `begin`, and scans, take of a page at most
+BEGIN = 48  # bytes that the lines of `commands_before`, and scans, take of a page at most
 
 
 FIRST = rb"# thpsplit --nodes ([0-9]{1,2}) --blocks ([0-9]{1,4})(?: --orders [0-9,]{1,64})?"
@@ -53,7 +53,7 @@ class Spool:
         self.length += len(data)
 
     def clear(self) -> None:
-        """Forgets all."""
+        """Removes all texts."""
         self._file.seek(0)
         self._file.truncate()
         self.length = 0
@@ -71,7 +71,7 @@ class Spool:
 
 @dataclass
 class Node:
-    """What a script says of a node."""
+    """A node of a script, by its comment."""
 
     order: int
     pages: int
@@ -80,7 +80,7 @@ class Node:
 
 @dataclass
 class Page:
-    """What a script says of a page: its frame, and the PMD mappings of each process that maps it."""
+    """A page of a script, by its comment: its frame, and the PMD mappings of each process that maps it."""
 
     frame: int
     by: Dict[int, int] = field(default_factory=dict)
@@ -117,19 +117,19 @@ class Script:
         return self.spool.chunks(self.first, self.length)
 
     def options(self) -> List[str]:
-        """The options for thpsplit, except thresholds."""
+        """Returns the options for thpsplit, except thresholds."""
         return options_of(self.orders, self.blocks)
 
-    def filled(self) -> Iterator[bytes]:
+    def filled_chunks(self) -> Iterator[bytes]:
         """Yields the text, in parts, with each page in full use before the shrinker runs, except those that are partly
-        mapped (saying.fill)."""
+        mapped (page_commands.fill_command)."""
         data = self.data
         front = data.index(f"\n{MARK}\n".encode()) + 1
         yield data[:front]
         for found in re.finditer(rb"^# page ([0-9]+) ([0-9]+) (.*)$", data[:front], re.MULTILINE):
             if b"partly" not in found[3].split(b" "):
                 node = int(found[1])
-                yield fill(node, int(found[2]), 1 << self.nodes[node].order).encode() + b"\n"
+                yield fill_command(node, int(found[2]), 1 << self.nodes[node].order).encode() + b"\n"
         yield data[front:]
 
     def pages(self) -> List[List[Page]]:
@@ -140,9 +140,9 @@ class Script:
             if node >= len(out) or number != len(out[node]):
                 raise InputFault(f"{self.name}: page {number} of node {node} isn't in its place")
             out[node].append(Page(frame, self._owners(found[4] or b"")))
-        for index, (node_pages, told) in enumerate(zip(out, self.nodes)):
-            if len(node_pages) != told.pages:
-                raise InputFault(f"{self.name}: node {index} has {len(node_pages)} lines '# page', not {told.pages}")
+        for index, (node_pages, nodes_found) in enumerate(zip(out, self.nodes)):
+            if len(node_pages) != nodes_found.pages:
+                raise InputFault(f"{self.name}: node {index} has {len(node_pages)} lines '# page', not {nodes_found.pages}")
         return out
 
     def _owners(self, words: bytes) -> Dict[int, int]:
@@ -153,22 +153,22 @@ class Script:
         return {int(process): int(count) for process, count in pairs}
 
     def processes(self) -> Dict[int, str]:
-        """The names of the processes that were looked at."""
+        """Returns the names of the processes that were looked at."""
         found = re.findall(rb"^# process ([0-9]{1,10}) (.*)$", self.head(), re.MULTILINE)
         return {int(number): name.decode("ascii") for number, name in found}
 
     def today(self) -> Optional[int]:
-        """The machine's max_ptes_none when the snapshot was taken."""
+        """Returns the machine's max_ptes_none when the snapshot was taken."""
         found = re.search(rb"^# today max_ptes_none ([0-9]{1,3}) ", self.head(), re.MULTILINE)
         return int(found[1]) if found else None
 
     def left_out(self) -> Dict[str, int]:
-        """What was left out, and how often, by reason."""
+        """Returns what was left out, and how often, by reason."""
         found = re.findall(rb"^# left out: ([0-9]{1,15}) (.*)$", self.head(), re.MULTILINE)
         return {why.decode("ascii"): int(count) for count, why in found}
 
     def head(self) -> bytes:
-        """The comments before the first command."""
+        """Returns the comments before the first command."""
         out = b""
         for chunk in self.chunks():
             out += chunk
@@ -184,7 +184,7 @@ def options_of(orders: Sequence[int], blocks: int) -> List[str]:
 
 
 def read_script(data: bytes, name: str, spool: Optional[Spool] = None) -> Script:
-    """Returns a script that `write_scripts` wrote. InputFault where its head says something else."""
+    """Returns a script that `write_scripts` wrote. InputFault where its head doesn't fit."""
     other = re.search(rb"[^\n -~]", data)
     if other:
         line = data.count(b"\n", 0, other.start()) + 1
@@ -198,13 +198,13 @@ def read_script(data: bytes, name: str, spool: Optional[Spool] = None) -> Script
     nodes = re.findall(NODE_LINE, data.partition(b"\nsetup\n")[0], re.MULTILINE)
     if [int(n[0]) for n in nodes] != list(range(count)) or not nodes:
         raise InputFault(f"{name}: line 1 has {count} nodes, and the lines '# node' {len(nodes)}")
-    told = [Node(int(order), int(pages), cgroup.decode("ascii")) for _, order, pages, cgroup in nodes]
-    if not all(2 <= node.order <= PMD_ORDER and 1 <= node.pages <= BLOCKS for node in told):
+    nodes_found = [Node(int(order), int(pages), cgroup.decode("ascii")) for _, order, pages, cgroup in nodes]
+    if not all(2 <= node.order <= PMD_ORDER and 1 <= node.pages <= BLOCKS for node in nodes_found):
         raise InputFault(f"{name}: a node has an order beyond 2 to {PMD_ORDER}, or more than {BLOCKS} pages")
     if count > NODES or not 1 <= blocks <= BLOCKS:
         raise InputFault(f"{name}: line 1 has more than {NODES} nodes, or not 1 to {BLOCKS} blocks")
     spool = spool or Spool()
-    script = Script(spool, spool.length, len(data), blocks, told, name)
+    script = Script(spool, spool.length, len(data), blocks, nodes_found, name)
     spool.add(data)
     script.pages()
     return script
@@ -213,14 +213,14 @@ def read_script(data: bytes, name: str, spool: Optional[Spool] = None) -> Script
 Group = Tuple[int, int]  # control group and order
 
 
-def groups_of(pages: Iterable[Said]) -> Iterator[Tuple[Group, List[Said]]]:
+def groups_of(pages: Iterable[PagePlan]) -> Iterator[Tuple[Group, List[PagePlan]]]:
     """Yields the pages of each group: those that left the queue first, then in the order of the queue."""
-    out: Dict[Group, List[Said]] = {}
-    for said in pages:
-        out.setdefault((said.folio.cgroup, said.folio.order), []).append(said)
+    out: Dict[Group, List[PagePlan]] = {}
+    for plan in pages:
+        out.setdefault((plan.folio.cgroup, plan.folio.order), []).append(plan)
     for group in sorted(out):
         own = out[group]
-        own.sort(key=lambda s: (s.is_standing, MANY if s.folio.place is None else s.folio.place, s.folio.frame))
+        own.sort(key=lambda s: (s.is_in_queue, MANY if s.folio.place is None else s.folio.place, s.folio.frame))
         yield group, own
 
 
@@ -231,12 +231,12 @@ class Part:
     group: Group
     first: int
     length: int = 0
-    pages: List[Said] = field(default_factory=list)
+    pages: List[PagePlan] = field(default_factory=list)
 
     def begin(self, node: int) -> bytes:
-        """The commands before the states: pages that left the queue."""
-        gone = [said for said in self.pages if not said.is_standing]
-        lines = [line for number, said in enumerate(gone) for line in begin(said, node, number)]
+        """Returns the commands before the states: pages that left the queue."""
+        gone = [plan for plan in self.pages if not plan.is_in_queue]
+        lines = [line for number, plan in enumerate(gone) for line in commands_before(plan, node, number)]
         lines += [f"scan {node} {TAKE}"] * -(-len(gone) // TAKE)
         return "".join(line + "\n" for line in lines).encode("ascii")
 
@@ -250,25 +250,25 @@ class Writer:
         self._parts: List[Part] = []
         self._length = self._least = sum(len(line) + 3 for line in head)
 
-    def has_room(self, group: Group, said: Said) -> bool:
+    def has_room(self, group: Group, plan: PagePlan) -> bool:
         """Adds a page to the script that is being written; returns whether there was room for it."""
         parts = self._parts
         is_new = not parts or parts[-1].group != group or len(parts[-1].pages) == BLOCKS
         if is_new and len(parts) == NODES:
             return False
         node, number = len(parts) - (not is_new), 0 if is_new else len(parts[-1].pages)
-        text = "".join(line + "\n" for line in state(said, node, number)).encode("ascii")
+        text = "".join(line + "\n" for line in commands_of(plan, node, number)).encode("ascii")
         if parts and self._length + len(text) + BEGIN > MOST_TEXT:
             return False
         if is_new:
             parts.append(Part(group, self._states.length))
         self._states.add(text)
-        parts[-1].pages.append(said)
+        parts[-1].pages.append(plan)
         parts[-1].length += len(text)
         self._length += len(text) + BEGIN
         return True
 
-    def finish(self) -> Tuple[Script, List[List[Said]]]:
+    def finish(self) -> Tuple[Script, List[List[PagePlan]]]:
         """Returns the script, and its pages by node; begins the next one."""
         nodes = [
             Node(part.group[1], len(part.pages), name_of(self._names, part.group[0])) for part in self._parts
@@ -298,16 +298,16 @@ def name_of(names: Dict[int, str], cgroup: int) -> str:
 
 
 def write_scripts(
-    pages: Iterable[Said], head: Sequence[str], names: Dict[int, str]
-) -> Iterator[Tuple[Script, List[List[Said]]]]:
+    pages: Iterable[PagePlan], head: Sequence[str], names: Dict[int, str]
+) -> Iterator[Tuple[Script, List[List[PagePlan]]]]:
     """Yields the scripts that hold these pages together, each with its pages by node. `head`: comment lines for each
     script; `names`: control groups by inode."""
     writer, is_empty = Writer(head, names), True
     for group, own in groups_of(pages):
-        for said in own:
-            if not writer.has_room(group, said):
+        for plan in own:
+            if not writer.has_room(group, plan):
                 yield writer.finish()
-                writer.has_room(group, said)
+                writer.has_room(group, plan)
             is_empty = False
     if not is_empty:
         yield writer.finish()

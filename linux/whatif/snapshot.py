@@ -1,4 +1,4 @@
-"""A look at the huge pages of processes: what was seen, the scripts that say it, and what was left out and why."""
+"""A look at the huge pages of processes: what was read, the scripts of it, and what was left out and why."""
 
 from __future__ import annotations
 
@@ -16,18 +16,18 @@ from ..common.direct_map import DirectMap
 from ..common.errors import Unavailable
 from ..common.files import BASE, PMD_ORDER, PTES_NONE, SWITCH, read
 from ..common.groups import find_hierarchy
-from ..common.holding import LIMIT, held
+from ..common.hold import LIMIT, hold_processes
 from ..common.keeper import Keeper
 from ..common.kernel_memory import KernelMemory
 from ..common.machine import namespace_note
-from ..common.text import escaped
+from ..common.text import escape
 from .folios import Folio
+from .page_commands import NotExpressible, PagePlan, plan_page
 from .proc import Unreadable, anonymous_huge, group_names, machine_huge, name_of
-from .processes import Choice
+from .processes import ProcessChoice
 from .queues import Queues
-from .reading import MEMORY, MOVED, Progress, Reader
+from .reader import MEMORY, MOVED, Progress, Reader
 from .rights import demand_frames, demand_reading, demand_signals
-from .saying import Said, Unsayable, prepare
 from .scripts import Script, write_scripts
 
 NAME = "thpwhatif"
@@ -36,13 +36,13 @@ FREED = "huge pages that were freed while they were read"
 
 
 @dataclass(frozen=True)
-class How:
+class LookOptions:
     """How a look is taken."""
 
     freeze: bool = False  # hold the processes meanwhile
     with_small: bool = False  # huge pages below PMD size too
     with_kernel: bool = True  # queues, flags and pins by BPF
-    all_queued: bool = False  # as if each page of PMD size still stood in its queue
+    all_queued: bool = False  # as if each page of PMD size were still in its queue
     threads: int = 0
     freeze_limit: float = LIMIT  # seconds for which processes are held at most
     wait: bool = False  # for another tool that holds processes
@@ -62,7 +62,7 @@ class Sums:
 
 @dataclass
 class Snapshot:
-    """What was seen at one look."""
+    """What one look has read."""
 
     folios: List[Folio]
     processes: Dict[int, str]  # names of those that map huge pages
@@ -108,9 +108,9 @@ class Snapshot:
         yield "]}\n"
 
     def head(self) -> List[str]:
-        """The comments of its scripts."""
+        """Returns the comments of its scripts."""
         lines = [f"snapshot of {self.chosen}: {self.looked_at} processes, {self.at}, {self.kernel}"]
-        lines += told(self)
+        lines += list_notes(self)
         if self.today is not None:
             lines.append(f"today max_ptes_none {self.today} shrink_underused {int(bool(self.switch))}")
         lines += [f"left out: {count} {why}" for why, count in sorted(self.left_out.items()) if count]
@@ -123,23 +123,23 @@ class Scripts:
     """The scripts of a snapshot, and what each page of them is."""
 
     scripts: List[Script]
-    pages: List[List[List[Said]]]  # by script, node, number
+    pages: List[List[List[PagePlan]]]  # by script, node, number
 
 
-def write(snapshot: Snapshot) -> Scripts:
-    """Says a snapshot's pages as scripts. What no script says is counted in `left_out`."""
-    said: List[Said] = []
+def write_snapshot(snapshot: Snapshot) -> Scripts:
+    """Writes a snapshot's pages as scripts. Pages that no script can express are counted in `left_out`."""
+    plans: List[PagePlan] = []
     for folio in snapshot.folios:
         try:
-            said.append(prepare(folio, snapshot.locked_are_tried))
-        except Unsayable as why:
+            plans.append(plan_page(folio, snapshot.locked_are_tried))
+        except NotExpressible as why:
             snapshot.left_out[why.reason.value] += 1
-    made = list(write_scripts(said, snapshot.head(), snapshot.names))
+    made = list(write_scripts(plans, snapshot.head(), snapshot.names))
     return Scripts([script for script, _ in made], [pages for _, pages in made])
 
 
-def told(snapshot: Snapshot) -> List[str]:
-    """What a reader of the numbers should know, a line each."""
+def list_notes(snapshot: Snapshot) -> List[str]:
+    """Returns notes that a reader of the numbers needs, a line each."""
     whole = [folio for folio in snapshot.folios if folio.order == PMD_ORDER]
     size = sum(BASE << folio.order for folio in snapshot.folios)
     sums, lines = snapshot.sums, [snapshot.note] if snapshot.note else []
@@ -179,7 +179,7 @@ def guess_of(snapshot: Snapshot) -> str:
 
 
 def warnings(snapshot: Snapshot) -> List[str]:
-    """Why the numbers may be off: pages changed while they were read."""
+    """Returns why the numbers may be off: pages changed while they were read."""
     if not snapshot.changed:
         return []
     return [
@@ -189,7 +189,7 @@ def warnings(snapshot: Snapshot) -> List[str]:
 
 
 def mapped(folio: Folio) -> int:
-    """The subpages that the processes looked at map."""
+    """Returns the subpages that the processes looked at map."""
     out = 0
     for mapping in folio.mappings:
         out |= mapping.subset
@@ -197,12 +197,12 @@ def mapped(folio: Folio) -> int:
 
 
 def mebibytes(size: int) -> str:
-    """Bytes as MiB, with one digit behind the point."""
+    """Returns bytes as MiB, with one digit after the point."""
     return f"{size / 2**20:.1f}"
 
 
-def setting() -> Dict[str, Any]:
-    """Today's threshold and switch; None where this kernel hasn't them."""
+def read_settings() -> Dict[str, Any]:
+    """Returns today's threshold and switch; None where this kernel lacks them."""
     try:
         switch = bool(int(read(SWITCH)))
     except (OSError, ValueError):
@@ -213,10 +213,10 @@ def setting() -> Dict[str, Any]:
         return {"today": None, "switch": switch}
 
 
-class Taker:
+class SnapshotTaker:
     """Takes snapshots; the kernel's types are read once for all of them."""
 
-    def __init__(self, how: How, progress: Optional[Progress] = None) -> None:
+    def __init__(self, how: LookOptions, progress: Optional[Progress] = None) -> None:
         self.how = how
         # a terminal may belong to a process that is held: nothing is written meanwhile
         self._progress = progress if progress and not how.freeze else lambda what, done, of: None
@@ -229,9 +229,9 @@ class Taker:
                 self._queues, self.lacking = Queues(memory), ""
                 self._direct = DirectMap(memory)
             except (Unavailable, OSError) as error:
-                self.lacking = "" if self._queues else escaped(str(error).partition("\n")[0])
+                self.lacking = "" if self._queues else escape(str(error).partition("\n")[0])
 
-    def take(self, choice: Choice) -> Snapshot:
+    def take(self, choice: ProcessChoice) -> Snapshot:
         """Looks once. A process that can't be read, or ends meanwhile, is counted in what was left out. While processes
         are held everything is read that has to be; the rest comes afterwards."""
         began = time.monotonic()
@@ -243,7 +243,7 @@ class Taker:
                 if how.freeze:
                     demand_signals(choice.find())
                     keeper = stack.enter_context(Keeper(NAME, how.wait))
-                    hold = stack.enter_context(held(choice.find, choice.groups, keeper, how.freeze_limit))
+                    hold = stack.enter_context(hold_processes(choice.find, choice.groups, keeper, how.freeze_limit))
                 reading, wanted = time.monotonic(), choice.find()
                 sums, places = self._read(reader, wanted)
                 machine = machine_huge() if choice.everything else None
@@ -258,7 +258,7 @@ class Taker:
         snapshot.sums.machine = None if snapshot.note else machine
         snapshot.looked_at = len(wanted)
         if hold:
-            snapshot.held, snapshot.hold = hold.count, escaped(hold.report())
+            snapshot.held, snapshot.hold = hold.count, escape(hold.report())
         snapshot.sampled, snapshot.changed = sampled, changed
         snapshot.seconds = time.monotonic() - began
         return snapshot
@@ -306,7 +306,7 @@ class Taker:
         reader.spent["queues"] += time.monotonic() - began
         return places
 
-    def _gather(self, reader: Reader, choice: Choice, sums: Sums, places: Dict[int, int]) -> Snapshot:
+    def _gather(self, reader: Reader, choice: ProcessChoice, sums: Sums, places: Dict[int, int]) -> Snapshot:
         folios = [reader.folios[frame] for frame in sorted(reader.folios)]
         for folio in folios:
             folio.place = places.get(folio.frame)
@@ -315,21 +315,21 @@ class Taker:
         numbers = sorted({mapping.process for folio in folios for mapping in folio.mappings})
         page = BASE << PMD_ORDER
         sums.by_pmd = sum(reader.by_pmd.values()) * page
-        sums.distinct = sum(page for folio in folios if folio.order == PMD_ORDER and folio.whole_seen)
-        sums.by_parts = sum(page for folio in folios if folio.order == PMD_ORDER and not folio.whole_seen)
+        sums.distinct = sum(page for folio in folios if folio.order == PMD_ORDER and folio.known_pmd_mappings)
+        sums.by_parts = sum(page for folio in folios if folio.order == PMD_ORDER and not folio.known_pmd_mappings)
         return Snapshot(
             folios=folios,
             processes={number: name_of(number) for number in numbers},
             left_out=reader.left_out,
             names=names_of_groups({folio.cgroup for folio in folios}),
-            chosen=choice.told(),
+            chosen=choice.describe(),
             lacking=self.lacking,
             others=reader.others,
             sums=sums,
             kernel=f"Linux {os.uname().release}",
             at=time.strftime("%Y-%m-%dT%H:%M:%SZ", time.gmtime()),
             spent=dict(reader.spent),
-            **setting(),
+            **read_settings(),
         )
 
 
@@ -348,11 +348,11 @@ def names_of_groups(wanted: Set[int]) -> Dict[int, str]:
         return {}
 
 
-def moved(snapshot: Snapshot) -> int:
-    """How many huge pages changed while they were read."""
+def count_moved(snapshot: Snapshot) -> int:
+    """Returns how many huge pages changed while they were read."""
     return snapshot.left_out[MOVED] + snapshot.left_out[FREED]
 
 
 def show_progress(what: str, done: int, of: int) -> None:
-    """A line on a terminal that is written over; see `Progress`."""
+    """Prints a line on a terminal, over the one before; see `Progress`."""
     print(f"\r{what}: {done} of {of}\033[K", end="\n" if done == of else "", file=sys.stderr, flush=True)

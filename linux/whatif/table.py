@@ -4,14 +4,14 @@ from __future__ import annotations
 
 from typing import Any, Dict, List, Optional, Sequence
 
-from .predict import Row, Share, label
+from .predictor import Row, Share, label
 
 HEAD = ("threshold", "pages split", "partly mapped", "underused", "pinned", "frames back", "MiB back", "pages kept")
 FRAMES_A_MEBIBYTE = 256
 
 
 def aligned(lines: Sequence[Sequence[object]], left: int = 0) -> str:
-    """Lines of cells, right-aligned but for the first `left` columns."""
+    """Returns lines of cells, right-aligned except the first `left` columns."""
     texts = [[str(cell) for cell in line] for line in lines]
     widths = [max(len(line[column]) for line in texts) for column in range(len(texts[0]))]
     out = []
@@ -22,7 +22,7 @@ def aligned(lines: Sequence[Sequence[object]], left: int = 0) -> str:
 
 
 def table(rows: Sequence[Row], today: Optional[int] = None) -> str:
-    """A line for each threshold; the machine's own is marked."""
+    """Returns a line for each threshold; the machine's own is marked."""
     lines: List[List[object]] = [[*HEAD, ""]]
     for row in rows:
         cells = [label(row.threshold), row.split, row.partly, row.underused, row.pinned, row.frames]
@@ -32,7 +32,7 @@ def table(rows: Sequence[Row], today: Optional[int] = None) -> str:
 
 
 def group_table(groups: Dict[str, List[Row]]) -> str:
-    """A line for each control group: its huge pages, then MiB back by threshold; most pages first."""
+    """Returns a line for each control group: its huge pages, then MiB back by threshold; most pages first."""
     first: List[Row] = next(iter(groups.values()), [])
     lines: List[List[object]] = [["control group", "pages", *(label(row.threshold) for row in first)]]
     for name, rows in sorted(groups.items(), key=lambda item: (-item[1][0].pages, item[0])):
@@ -41,7 +41,8 @@ def group_table(groups: Dict[str, List[Row]]) -> str:
 
 
 def process_table(shares: Dict[int, Dict[int, Share]], names: Dict[int, str]) -> str:
-    """A line for each process: its huge pages, then MiB back by threshold; most pages first. `shares`: by threshold."""
+    """Returns a line for each process: its huge pages, then MiB back by threshold; most pages first. `shares`: by
+    threshold."""
     lines: List[List[object]] = [["process", "name", "pages", *(label(threshold) for threshold in shares)]]
     first: Dict[int, Share] = next(iter(shares.values()), {})
     for process in sorted(first, key=lambda number: (-first[number].pages, number)):
@@ -52,7 +53,7 @@ def process_table(shares: Dict[int, Dict[int, Share]], names: Dict[int, str]) ->
 
 
 def cost_table(shares: Dict[int, Share], names: Dict[int, str]) -> str:
-    """What a threshold costs: huge mappings lost by each process, most first."""
+    """Returns what a threshold costs: huge mappings lost by each process, most first."""
     lines: List[List[object]] = [["process", "name", "huge mappings lost", "pages split", "MiB back"]]
     for process, share in sorted(shares.items(), key=lambda item: (-item[1].lost, item[0])):
         if share.lost or share.split:
@@ -62,7 +63,7 @@ def cost_table(shares: Dict[int, Share], names: Dict[int, str]) -> str:
 
 
 def last_line(left_out: Dict[str, int]) -> str:
-    """What was left out, in one line: how much, and why."""
+    """Returns what was left out, in one line: how much, and why."""
     some = {why: count for why, count in left_out.items() if count}
     if not some:
         return "left out: nothing"
@@ -73,7 +74,7 @@ def last_line(left_out: Dict[str, int]) -> str:
 
 
 def row_json(row: Row, today: Optional[int]) -> Dict[str, Any]:
-    """A row as a JSON object."""
+    """Returns a row as a JSON object."""
     return {
         "threshold": label(row.threshold) if label(row.threshold) == "off" else row.threshold,
         "today": row.threshold == today,
@@ -89,7 +90,7 @@ def row_json(row: Row, today: Optional[int]) -> Dict[str, Any]:
 
 
 def share_json(process: int, name: str, share: Share) -> Dict[str, Any]:
-    """A process's share as a JSON object."""
+    """Returns a process's share as a JSON object."""
     return {
         "process": process,
         "name": name,

@@ -1,9 +1,10 @@
-"""Predictions beside what the kernel's shrinker then does: known pages, or a command's, in a memory control group of
-its own.
+"""Compares predictions with what the kernel's shrinker then does, on known pages or a command's, in a memory control group
+of its own.
 
 A trial makes new pages, sets a threshold, looks, has the kernel reclaim in the group, and looks which pages are split
-and which frames came back; thpsplit and the plain judge (reference.py) predict the same from the look. Settings, groups
-and processes go away at any end (linux/common/keeper.py); one tool at a time holds the lock.
+and which frames came back; thpsplit and a plain reading of the kernel's functions (reference.py) predict both from the
+look. Settings are restored, and groups and processes removed, at any end (linux/common/keeper.py); one tool at a time
+holds the lock.
 
 The kernel's counters of splits are of the whole machine. They are compared where they don't move before and after the
 reclaim; where others move them, a trial whose pages are all as predicted is inconclusive, not exact.
@@ -25,26 +26,26 @@ from dataclasses import dataclass, field
 from typing import Dict, Iterator, List, Optional, Sequence, Set, Tuple
 
 from ..common.counters import Counter as Statistic
-from ..common.counters import Quiet, counts
+from ..common.counters import CounterWatch, counts
 from ..common.errors import DIFFERS, DONE, INCONCLUSIVE, InputFault, RunFailed
 from ..common.files import BASE, COLLAPSE_SLEEP, PMD_ORDER, PTES_NONE, SWITCH, THP, OwnFolder, size_folder
 from ..common.groups import Groups
-from ..common.holding import LIMIT, held
+from ..common.hold import LIMIT, hold_processes
 from ..common.keeper import Keeper
 from ..common.page_files import Frames, PageFlag, frame_of_entry
 from ..common.program import Program
 from ..common.subpages import size
-from ..common.text import escaped
+from ..common.text import escape
 from ..common.user import User
 from .folios import Folio
-from .known import KnownPages
-from .predict import OFF, Predictor, label
+from .known_pages import KnownPages
+from .page_commands import Reason
+from .predictor import OFF, Predictor, label
 from .proc import members
-from .processes import Choice
-from .reading import OpenFiles
+from .processes import ProcessChoice
+from .reader import OpenFiles
 from .reference import given_back
-from .saying import Reason
-from .snapshot import NAME, How, Scripts, Snapshot, Taker, write
+from .snapshot import NAME, LookOptions, Scripts, Snapshot, SnapshotTaker, write_snapshot
 
 THRESHOLDS = (OFF, 0, 1, 16, 32, 64, 128, 256, 409, 500, 510)
 SMALL_ORDERS = (4, 6)
@@ -58,7 +59,7 @@ FILES = 400  # open pagemaps
 
 
 class Outcome(enum.Enum):
-    """What a trial says of the prediction."""
+    """The outcome of a trial."""
 
     EXACT = "exact"
     INCONCLUSIVE = "inconclusive: others moved the counters, or the pages weren't held still"
@@ -66,7 +67,7 @@ class Outcome(enum.Enum):
 
 
 @dataclass(frozen=True)
-class Task:
+class TrialOptions:
     """What is to be tried."""
 
     thresholds: Sequence[int] = THRESHOLDS
@@ -94,15 +95,16 @@ class Task:
 
 @dataclass
 class Result:
-    """What a trial saw: for each page that is split which frames come back, by frame; said, judged and come."""
+    """What a trial found: the frames that come back of each split page, by frame: predicted by thpsplit (`predicted`) and
+    by the plain reading (`plain`), and those that the kernel returned (`returned`)."""
 
     snapshot: Snapshot
-    folios: Dict[int, Folio]  # those that a script says
-    partly: Set[int]  # of these, what is said as partly mapped
-    said: Dict[int, int]
-    judged: Dict[int, int]
-    came: Dict[int, int]
-    beside: Dict[int, int]  # what came of pages that no script says
+    folios: Dict[int, Folio]  # those that a script expresses
+    partly: Set[int]  # of these, the partly mapped ones
+    predicted: Dict[int, int]
+    plain: Dict[int, int]
+    returned: Dict[int, int]
+    unscripted: Dict[int, int]  # frames that came back of pages that no script expresses
     added: Dict[Statistic, int]  # to the kernel's counters
     is_undisturbed: bool = True  # nobody else moved the counters
     problem: str = ""  # why the pages weren't held still for the whole time, where they were to be
@@ -110,24 +112,24 @@ class Result:
     moved: int = 0  # pages that differ, but were moved to other frames meanwhile (compaction)
 
     def statistics(self) -> Dict[Statistic, int]:
-        """The two counters that the prediction says: pages of PMD size split, and those of them as underused."""
-        large = [frame for frame in self.said if self.folios[frame].order == PMD_ORDER]
-        under = [frame for frame in self.said if frame not in self.partly]
+        """Returns the two predicted counters: pages of PMD size split, and those of them split as underused."""
+        large = [frame for frame in self.predicted if self.folios[frame].order == PMD_ORDER]
+        under = [frame for frame in self.predicted if frame not in self.partly]
         return {Statistic.SPLIT: len(large), Statistic.UNDERUSED: len(under)}
 
     @property
     def are_counters_right(self) -> bool:
-        """Whether the counters were moved as predicted, but for pages that no script says."""
-        said = self.statistics()
-        return all(0 <= self.added[name] - said[name] <= len(self.beside) for name in said)
+        """Whether the counters moved as predicted, except for pages that no script can express."""
+        predicted = self.statistics()
+        return all(0 <= self.added[name] - predicted[name] <= len(self.unscripted) for name in predicted)
 
     @property
     def outcome(self) -> Outcome:
         """Exact: each page and each frame as predicted, and the counters too."""
-        said = self.statistics()
+        predicted = self.statistics()
         if self.problem:
             return Outcome.INCONCLUSIVE
-        if self.differing or any(self.added[name] < said[name] for name in said):  # others only add to the counters
+        if self.differing or any(self.added[name] < predicted[name] for name in predicted):  # others only add to the counters
             return Outcome.DIFFERS
         if self.moved or not self.is_undisturbed:
             return Outcome.INCONCLUSIVE
@@ -137,7 +139,7 @@ class Result:
 class Bench:
     """The machine, set for trials."""
 
-    def __init__(self, keeper: Keeper, task: Task, program: Program) -> None:
+    def __init__(self, keeper: Keeper, task: TrialOptions, program: Program) -> None:
         self.keeper, self.task, self._program = keeper, task, program
         self.groups = Groups(keeper, "thpwhatif")
         keeper.set(COLLAPSE_SLEEP, HOUR)
@@ -147,7 +149,7 @@ class Bench:
         for order in () if task.command else SMALL_ORDERS:
             keeper.set(f"{size_folder(order)}/enabled", "madvise")
         self._frames = Frames()
-        self._taker = Taker(How(with_small=True, with_kernel=task.with_kernel))
+        self._taker = SnapshotTaker(LookOptions(with_small=True, with_kernel=task.with_kernel))
         self._made = 0
 
     @property
@@ -161,25 +163,25 @@ class Bench:
         task, group = self.task, self.groups.add(f"trial{self._made}")
         self.keeper.set(PTES_NONE, threshold)
         with self._pages(group, threshold, chance), ExitStack() as stack:
-            is_undisturbed, hold = Quiet([]).window(WINDOW), None
+            is_undisturbed, hold = CounterWatch([]).watch_once(WINDOW), None
             if (task.command or task.change) and not task.running:
-                hold = stack.enter_context(held(lambda: members(group), [], self.keeper, task.freeze_limit))
-            snapshot = self._taker.take(Choice(groups=[group]))
+                hold = stack.enter_context(hold_processes(lambda: members(group), [], self.keeper, task.freeze_limit))
+            snapshot = self._taker.take(ProcessChoice(groups=[group]))
             before = counts([])
             self.groups.reclaim(group)
             added = counts([]).since(before).machine
-            came, moved = became(snapshot, self._frames)
+            returned, moved = find_returned(snapshot, self._frames)
             stack.close()
-            is_undisturbed = is_undisturbed and Quiet([]).window(WINDOW)
-            made = write(snapshot)
-            said = self._said(made, threshold)
+            is_undisturbed = is_undisturbed and CounterWatch([]).watch_once(WINDOW)
+            made = write_snapshot(snapshot)
+            predicted = self._predict(made, threshold)
         remove_group(group)
-        result = self._result(snapshot, made, said, came, {k: v or 0 for k, v in added.items()}, threshold)
+        result = self._result(snapshot, made, predicted, returned, {k: v or 0 for k, v in added.items()}, threshold)
         result.moved = len(moved.intersection(result.differing))
         result.differing = [frame for frame in result.differing if frame not in moved]
         result.is_undisturbed, result.problem = is_undisturbed, hold.problem if hold else ""
         if is_undisturbed and not result.differing and not result.are_counters_right:
-            result.is_undisturbed = Quiet([]).window(LONG_WINDOW)
+            result.is_undisturbed = CounterWatch([]).watch_once(LONG_WINDOW)
         return result
 
     @contextmanager
@@ -193,7 +195,7 @@ class Bench:
             process = known.process
         try:
             if known and task.change:
-                known.tell([f"alloc {PMD_ORDER}"] * task.pages)
+                known.send([f"alloc {PMD_ORDER}"] * task.pages)
                 known.change(task.change, chance.randrange(1 << 30))
                 time.sleep(CHANGE_TIME)
             elif known:
@@ -237,9 +239,9 @@ class Bench:
             )
         except (OSError, ValueError) as error:
             reason = getattr(error, "strerror", None) or error
-            raise InputFault(f"{escaped(command[0])} can't be run: {reason}") from error
+            raise InputFault(f"{escape(command[0])} can't be run: {reason}") from error
         except subprocess.SubprocessError as error:
-            raise RunFailed(f"{escaped(command[0])} can't be run in {group}: {error}") from error
+            raise RunFailed(f"{escape(command[0])} can't be run in {group}: {error}") from error
         self.keeper.own(process.pid)
         return process
 
@@ -249,32 +251,32 @@ class Bench:
         self.groups.reclaim(group)
         self.keeper.set(PTES_NONE, threshold)
 
-    def _said(self, made: Scripts, threshold: int) -> Dict[int, int]:
+    def _predict(self, made: Scripts, threshold: int) -> Dict[int, int]:
         predictor = Predictor(made.scripts, self._program)
-        fates = predictor.fates(threshold)
-        return {made.pages[fate.script][fate.node][fate.number].folio.frame: fate.given for fate in fates}
+        splits = predictor.list_splits(threshold)
+        return {made.pages[split.script][split.node][split.number].folio.frame: split.given for split in splits}
 
     def _result(
         self,
         snapshot: Snapshot,
         made: Scripts,
-        said: Dict[int, int],
-        came: Dict[int, int],
+        predicted: Dict[int, int],
+        returned: Dict[int, int],
         added: Dict[Statistic, int],
         threshold: int,
     ) -> Result:
         pages = [one for script in made.pages for node in script for one in node]
         folios = {one.folio.frame: one.folio for one in pages}
         partly = {one.folio.frame for one in pages if one.is_partly}
-        beside = {frame: given for frame, given in came.items() if frame not in folios}
-        judged = {}
+        unscripted = {frame: given for frame, given in returned.items() if frame not in folios}
+        plain = {}
         for frame, folio in folios.items():
             back = given_back(folio, threshold, snapshot.locked_are_tried)
             if back is not None:
-                judged[frame] = sum(1 << i for i, is_back in enumerate(back) if is_back)
-        own = {frame: given for frame, given in came.items() if frame in folios}
-        differing = [frame for frame in folios if said.get(frame) != own.get(frame)]
-        return Result(snapshot, folios, partly, said, judged, own, beside, added, differing=differing)
+                plain[frame] = sum(1 << i for i, is_back in enumerate(back) if is_back)
+        own = {frame: given for frame, given in returned.items() if frame in folios}
+        differing = [frame for frame in folios if predicted.get(frame) != own.get(frame)]
+        return Result(snapshot, folios, partly, predicted, plain, own, unscripted, added, differing=differing)
 
 
 def end_process(process: subprocess.Popen[str]) -> None:
@@ -302,10 +304,10 @@ def remove_group(path: str) -> None:
             time.sleep(0.01)
 
 
-def became(snapshot: Snapshot, frames: Frames) -> Tuple[Dict[int, int], Set[int]]:
-    """Which frames came back, by page: of those that are no longer whole, each subpage that no process of the
-    snapshot maps where it was. Frames that are a huge page, but nobody's where they were, came back altogether and
-    are in use again. Also the pages that were moved: a subpage with data is mapped where it was, from another frame."""
+def find_returned(snapshot: Snapshot, frames: Frames) -> Tuple[Dict[int, int], Set[int]]:
+    """Returns which frames came back, by page: of those that are no longer whole, each subpage that no process of the
+    snapshot maps where it was. Frames that are a huge page, but nobody's where they were, came back altogether and are
+    in use again. Also the pages that were moved: a subpage with data is mapped where it was, from another frame."""
     out: Dict[int, int] = {}
     moved: Set[int] = set()
     with OpenFiles("pagemap", FILES) as maps:
@@ -327,31 +329,31 @@ def became(snapshot: Snapshot, frames: Frames) -> Tuple[Dict[int, int], Set[int]
     return out, moved
 
 
-def count_result(seen: Counter[str], result: Result) -> None:
+def count_result(sums: Counter[str], result: Result) -> None:
     """Adds a trial to the sums that are printed at the end."""
-    came = sum(size(given) for given in result.came.values())
+    returned = sum(size(given) for given in result.returned.values())
     outcome = result.outcome
-    seen["trials"] += 1
-    seen["trials exact"] += outcome is Outcome.EXACT
-    seen["trials inconclusive: others moved counters or pages, or the hold ended"] += outcome is Outcome.INCONCLUSIVE
-    seen["trials that differ"] += outcome is Outcome.DIFFERS
-    seen["trials in which the plain judge says what came"] += result.judged == result.came
-    seen["pages"] += len(result.folios)
-    seen["pages as said, to the frame"] += len(result.folios) - len(result.differing)
-    seen["pages split"] += len(result.came)
-    seen["frames said"] += sum(size(given) for given in result.said.values())
-    seen["frames that came back"] += came
-    seen["pages that were left out"] += sum(result.snapshot.left_out.values())
-    seen["  of these given to MADV_FREE"] += result.snapshot.left_out[Reason.LAZILY_FREED.value]
-    seen["  of these split or dropped"] += len(result.beside)
-    seen["  and their frames"] += sum(size(given) for given in result.beside.values())
-    seen["pages found changed between two looks"] += result.snapshot.changed
+    sums["trials"] += 1
+    sums["trials exact"] += outcome is Outcome.EXACT
+    sums["trials inconclusive: others moved counters or pages, or the hold ended"] += outcome is Outcome.INCONCLUSIVE
+    sums["trials that differ"] += outcome is Outcome.DIFFERS
+    sums["trials in which the plain reading agrees with the kernel"] += result.plain == result.returned
+    sums["pages"] += len(result.folios)
+    sums["pages as predicted, to the frame"] += len(result.folios) - len(result.differing)
+    sums["pages split"] += len(result.returned)
+    sums["frames predicted"] += sum(size(given) for given in result.predicted.values())
+    sums["frames that came back"] += returned
+    sums["pages that were left out"] += sum(result.snapshot.left_out.values())
+    sums["  of these given to MADV_FREE"] += result.snapshot.left_out[Reason.LAZILY_FREED.value]
+    sums["  of these split or dropped"] += len(result.unscripted)
+    sums["  and their frames"] += sum(size(given) for given in result.unscripted.values())
+    sums["pages found changed between two looks"] += result.snapshot.changed
 
 
 def verdict_of(result: Result) -> str:
     """Returns the outcome in words."""
     if result.problem:
-        return f"inconclusive: not held still the whole time: {escaped(result.problem)}"
+        return f"inconclusive: not held still the whole time: {escape(result.problem)}"
     if result.differing:
         return f"{len(result.differing)} pages DIFFER"
     if result.moved:
@@ -359,26 +361,26 @@ def verdict_of(result: Result) -> str:
     return "the counters DIFFER" if result.outcome is Outcome.DIFFERS else str(result.outcome.value)
 
 
-def told(threshold: int, result: Result) -> str:
-    """One line of a trial."""
-    said = sum(size(given) for given in result.said.values())
-    came = sum(size(given) for given in result.came.values())
+def trial_line(threshold: int, result: Result) -> str:
+    """Returns one line of a trial."""
+    predicted = sum(size(given) for given in result.predicted.values())
+    returned = sum(size(given) for given in result.returned.values())
     verdict = verdict_of(result)
     names = result.statistics()
     counted = ", ".join(f"{name.value} {result.added[name]} of {names[name]}" for name in names)
     return (
-        f"{label(threshold):>4}: {len(result.folios)} pages; split {len(result.came)} of {len(result.said)} said; "
-        f"frames {came} of {said} said; {counted}, "
+        f"{label(threshold):>4}: {len(result.folios)} pages; split {len(result.returned)} of {len(result.predicted)} predicted; "
+        f"frames {returned} of {predicted} predicted; {counted}, "
         f"{Statistic.SPLIT_FAILED.value} {result.added[Statistic.SPLIT_FAILED]}: {verdict}"
     )
 
 
-def told_pages(result: Result) -> List[str]:
-    """The first pages that differ, a line each."""
+def difference_lines(result: Result) -> List[str]:
+    """Returns the first pages that differ, a line each."""
     lines = []
     for frame in result.differing[:6]:
         folio = result.folios[frame]
-        sets = {"said": result.said, "judged": result.judged, "came": result.came}
+        sets = {"predicted": result.predicted, "plain": result.plain, "returned": result.returned}
         words = [f"{name} {size(each[frame]) if frame in each else 'whole'}" for name, each in sets.items()]
         lines.append(
             f"      frame {frame} order {folio.order}: {', '.join(words)}; zero {size(folio.zeros)} "
@@ -388,46 +390,46 @@ def told_pages(result: Result) -> List[str]:
     return lines
 
 
-def verify(task: Task, program: Program) -> int:
+def verify(task: TrialOptions, program: Program) -> int:
     """Runs all trials; returns the status: DIFFERS where one differs, else INCONCLUSIVE where one is inconclusive.
     After TURN seconds another tool may have the lock for a while."""
-    seen: Counter[str] = Counter()
+    sums: Counter[str] = Counter()
     todo = [(number, threshold) for number in range(task.rounds) for threshold in task.thresholds][::-1]
     if task.command and not shutil.which(task.command[0]):
-        raise InputFault(f"{escaped(task.command[0])} can't be run: there is no such program")
+        raise InputFault(f"{escape(task.command[0])} can't be run: there is no such program")
     folder = OwnFolder(task.keep) if task.keep else None
     waits = task.wait
     while todo:
         with Keeper(NAME, waits) as keeper:
             bench, until = Bench(keeper, task, program), time.monotonic() + TURN
-            if not seen:
+            if not sums:
                 print("set meanwhile, and put back: " + ", ".join(task.settings), flush=True)
                 if bench.lacking:
                     print(f"queues and pins aren't read ({bench.lacking}): predictions are guesses", flush=True)
             while todo and time.monotonic() < until:
                 number, threshold = todo.pop()
                 result = bench.trial(threshold, random.Random(f"{task.seed} {number} {threshold}"))
-                count_result(seen, result)
+                count_result(sums, result)
                 if folder:
                     keep(folder, f"{task.seed}-{number}-{label(threshold)}", threshold, result)
                 if task.verbose or result.outcome is not Outcome.EXACT:
-                    print("\n".join([told(threshold, result)] + told_pages(result)), flush=True)
+                    print("\n".join([trial_line(threshold, result)] + difference_lines(result)), flush=True)
         waits = True
-    for what, count in seen.items():
+    for what, count in sums.items():
         print(f"{count:10} {what}")
-    if not seen["pages"]:
-        print("no huge pages were seen: nothing was tried")
+    if not sums["pages"]:
+        print("no huge pages were found: nothing was tried")
         return INCONCLUSIVE
-    if seen["trials that differ"]:
+    if sums["trials that differ"]:
         return DIFFERS
-    return DONE if seen["trials exact"] == seen["trials"] else INCONCLUSIVE
+    return DONE if sums["trials exact"] == sums["trials"] else INCONCLUSIVE
 
 
 def keep(folder: OwnFolder, name: str, threshold: int, result: Result) -> None:
-    """Writes what was seen before and after a trial, so that it can be judged again: `seen`, a stored snapshot, and
-    `came`, the frames that came back by the page's first frame, as hexadecimal sets."""
-    came = {str(frame): format(given, "x") for frame, given in {**result.came, **result.beside}.items()}
-    text = json.dumps({"threshold": threshold, "came": came, "seen": result.snapshot.to_json()})
+    """Writes what was seen before and after a trial, so that it can be checked again: `seen`, a stored snapshot, and
+    `returned`, the frames that came back by the page's first frame, as hexadecimal sets."""
+    returned = {str(frame): format(given, "x") for frame, given in {**result.returned, **result.unscripted}.items()}
+    text = json.dumps({"threshold": threshold, "came": returned, "seen": result.snapshot.to_json()})
     try:
         with folder.create(f"{name}.json") as file:
             file.write(text + "\n")

@@ -1,13 +1,14 @@
-"""Looks again and again, and tells how the rows drift."""
+"""Looks again and again, and prints how the rows change."""
 
 from __future__ import annotations
 
+import json
 import sys
 import time
-from dataclasses import dataclass
-from typing import Callable, Dict, List, Optional, Sequence, TextIO
+from dataclasses import dataclass, field
+from typing import Any, Callable, Dict, List, Optional, Sequence, TextIO
 
-from .predict import Row, label
+from .predictor import Row, label
 from .table import aligned
 
 CLEAR = "\033[H\033[J"  # of a terminal
@@ -25,7 +26,7 @@ class Drift:
     looks: int = 1
 
     def add(self, value: float) -> None:
-        """One look more."""
+        """Adds a look."""
         self.now, self.least, self.greatest = value, min(self.least, value), max(self.greatest, value)
         self.total += value
         self.looks += 1
@@ -39,7 +40,7 @@ class Watch:
         self.looks = 0
 
     def add(self, rows: Sequence[Row]) -> None:
-        """The rows of one look."""
+        """Adds the rows of one look."""
         self.looks += 1
         for row in rows:
             value = row.mebibytes
@@ -49,7 +50,7 @@ class Watch:
                 self.drifts[row.threshold] = Drift(value, value, value, value, value)
 
     def table(self, today: Optional[int]) -> str:
-        """A line for each threshold."""
+        """Returns a line for each threshold."""
         lines: List[List[object]] = [["threshold", "MiB back now", "since the first", "least", "greatest", "mean", ""]]
         for threshold, drift in self.drifts.items():
             numbers = [drift.now, drift.now - drift.first, drift.least, drift.greatest, drift.total / drift.looks]
@@ -59,7 +60,7 @@ class Watch:
 
 
 def line_of(rows: Sequence[Row]) -> str:
-    """One look as one line."""
+    """Returns one look as one line."""
     pages = rows[0].pages if rows else 0
     return f"{pages} pages; MiB back: " + ", ".join(f"{label(row.threshold)} {row.mebibytes:.1f}" for row in rows)
 
@@ -71,20 +72,41 @@ class Look:
     rows: List[Row]
     today: Optional[int]
     notes: List[str]
+    left_out: int = 0  # pages, parts of pages and processes
+    is_read: bool = True  # queues and pins; else they are guessed
+    changed: int = 0  # pages of those that were read twice
+    seconds: float = 0.0  # that it took
+    ended: float = 0.0  # when, in seconds since 1970
+    report: Dict[str, Any] = field(default_factory=dict)  # the JSON object of `now --json`
+
+    def to_json(self, number: int) -> Dict[str, Any]:
+        """Returns the look of a number, from 1, as a JSON object."""
+        return {"look": number, **self.report, "notes": self.notes}
 
 
-def watch(look: Callable[[], Look], seconds: float, rounds: int, out: TextIO = sys.stdout) -> Watch:
+def watch(
+    look: Callable[[], Look],
+    seconds: float,
+    rounds: int,
+    out: TextIO = sys.stdout,
+    as_json: bool = False,
+    also: Callable[[Look], None] = lambda look: None,
+) -> Watch:
     """Looks every so many seconds, `rounds` times (0: until it is interrupted). On a terminal a table is drawn over;
-    else each look is a line, and the table stands at the end."""
+    otherwise each look is a line, and the table is printed at the end. `as_json`: each look is a JSON object on a line,
+    and nothing else is printed. `also` gets each look before it is printed."""
     seen, today = Watch(), None
-    draws = out.isatty()
+    draws = out.isatty() and not as_json
     try:
         while True:
             began = time.monotonic()
             one = look()
             seen.add(one.rows)
             today = one.today
-            if draws:
+            also(one)
+            if as_json:
+                print(json.dumps(one.to_json(seen.looks)), file=out, flush=True)
+            elif draws:
                 print(CLEAR + "\n".join([seen.table(today)] + one.notes), file=out, flush=True)
             else:
                 moment = time.strftime("%H:%M:%S")
@@ -94,6 +116,6 @@ def watch(look: Callable[[], Look], seconds: float, rounds: int, out: TextIO = s
             time.sleep(max(0.0, seconds - (time.monotonic() - began)))
     except KeyboardInterrupt:
         pass  # the way to end it
-    if not draws and seen.looks:
+    if not draws and not as_json and seen.looks:
         print(seen.table(today), file=out)
     return seen

@@ -20,7 +20,7 @@ libc.munmap.argtypes = [ctypes.c_void_p, ctypes.c_size_t]
 
 
 def area() -> int:
-    """A MiB of pages of order 4, with a hole on each side; it fits no page of PMD size."""
+    """Returns a MiB of pages of order 4, with a hole on each side; it fits no page of PMD size."""
     room = libc.mmap(None, 2 * MIB, NOTHING, ANONYMOUS, -1, 0)
     start = int((room + 2 * SIZE - 1) // SIZE * SIZE)
     libc.mmap(start, MIB, READ_WRITE, FIXED, -1, 0)

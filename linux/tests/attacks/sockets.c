@@ -2,7 +2,7 @@
  *
  *   sockets VICTIM SECONDS
  *
- * Answers as a mapping process at each abstract name that the tool may have, and names VICTIM as its own number; sends
+ * Replies as a mapping process at each abstract name that the tool may have, and names VICTIM as its own number; sends
  * commands of mapping processes to each datagram socket that appears in /proc/net/unix. A line on standard output for
  * each message that somebody took.
  */

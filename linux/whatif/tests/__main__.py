@@ -1,4 +1,4 @@
-"""Runs all tests of this folder; the last line is `N passed, M failed`. A line tells how many were skipped, and why."""
+"""Runs all tests of this folder; the last line is `N passed, M failed`. A line reports how many were skipped, and why."""
 
 import sys
 import unittest

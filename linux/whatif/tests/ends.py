@@ -1,4 +1,4 @@
-"""Is the machine as before? Root, huge pages and thpsplit wanted: python3 -m linux.whatif.tests.ends [MOMENTS]
+"""Checks that thpwhatif leaves the machine as before: python3 -m linux.whatif.tests.ends [MOMENTS]
 
 1. 16 huge pages that a fork shares: after `now` and `now --freeze` their frames and map counts are the same.
 2. `verify` and `now --freeze` are sent SIGINT, SIGTERM and SIGKILL at so many moments (10): afterwards each setting
@@ -76,7 +76,7 @@ def counters() -> Dict[str, int]:
 
 
 def check_shared() -> List[bool]:
-    """Whether looking leaves shared pages as they are. The counters are told, since others move them too."""
+    """Whether looking leaves shared pages as they are. The counters are printed, since others move them, too."""
     memory, start, child = shared_pages()
     out: List[bool] = []
     choices: List[List[str]] = [[], ["--freeze", "--wait"]]
@@ -105,8 +105,8 @@ def check_end(words: List[str], sent: signal.Signals, wait: float, former: Dict[
     until = time.monotonic() + 30
     same = False
     while not same and time.monotonic() < until:
-        state = read(f"/proc/{sleeper.pid}/stat").rsplit(")", 1)[1].split()[0]
-        same = settings() == former and not groups() and state == "S"
+        commands_of = read(f"/proc/{sleeper.pid}/stat").rsplit(")", 1)[1].split()[0]
+        same = settings() == former and not groups() and commands_of == "S"
         time.sleep(0.05)
     sleeper.kill()
     sleeper.wait()

@@ -19,15 +19,15 @@ from unittest import mock
 
 from ...common.errors import InputFault, RunFailed, Unavailable
 from ...common.files import BASE
-from ...common.program import Refused
+from ...common.program import TextError
 from .. import proc, program
-from ..folios import compact, even
-from ..reading import Spans, load_library
+from ..folios import compact_counts, even_counts
+from ..page_commands import plan_page
+from ..reader import Spans, load_library
 from ..scripts import MARK, read_script, write_scripts
-from ..saying import prepare
+from ..snapshot import write_snapshot
 from ..stored import from_json
-from ..snapshot import write
-from .made_up import folio
+from .sample_folios import folio
 
 STORED = Path(__file__).resolve().parent / "stored"
 COMPILER = shutil.which(os.environ.get("CC", "cc")) or shutil.which("gcc")
@@ -161,11 +161,11 @@ class Spanned(unittest.TestCase):
     def test_compact_map_counts(self) -> None:
         from array import array
 
-        self.assertIs(compact(array("Q", [3] * 512)), even(3, 512))
+        self.assertIs(compact_counts(array("Q", [3] * 512)), even_counts(3, 512))
         for numbers in ([1, 2, 255, 0], [1, 256, 0, 70000], [0, 1 << 40, 0, 1]):
-            made = compact(array("Q", numbers))
+            made = compact_counts(array("Q", numbers))
             self.assertEqual(list(made), [min(number, (1 << 32) - 1) for number in numbers])
-        self.assertIsInstance(compact(array("Q", [0, 1])), bytes)
+        self.assertIsInstance(compact_counts(array("Q", [0, 1])), bytes)
 
 
 def good() -> Dict[str, Any]:
@@ -238,14 +238,14 @@ class Stored(unittest.TestCase):
             for _ in range(chance.randrange(1, 4)):
                 changed[chance.randrange(len(changed))] = chance.choice('0919"[]{},:-e.nul\\ \n')
             with contextlib.suppress(InputFault):
-                write(from_json("".join(changed), "name"))
+                write_snapshot(from_json("".join(changed), "name"))
 
 
 class Scripts(unittest.TestCase):
     """Scripts that somebody changed."""
 
     def test_any_change(self) -> None:
-        pages, head = [prepare(folio(n, cgroup=n % 2)) for n in range(4)], ["process 5 x", "today max_ptes_none 5 "]
+        pages, head = [plan_page(folio(n, cgroup=n % 2)) for n in range(4)], ["process 5 x", "today max_ptes_none 5 "]
         made, _ = next(write_scripts(pages, head, {}))
         chance, data = random.Random(9), made.data
         for _ in range(1000):
@@ -259,10 +259,10 @@ class Scripts(unittest.TestCase):
                     changed[at:at] = chance.choice(more)
             with contextlib.suppress(InputFault):
                 script = read_script(bytes(changed), "name")
-                script.processes(), script.today(), script.left_out(), b"".join(script.filled())
+                script.processes(), script.today(), script.left_out(), b"".join(script.filled_chunks())
 
     def test_numbers_that_are_too_large(self) -> None:
-        made, _ = next(write_scripts([prepare(folio(0))], [], {}))
+        made, _ = next(write_scripts([plan_page(folio(0))], [], {}))
         changes = ((b"--nodes 1", b"--nodes 99"), (b"--blocks 1", b"--blocks 99999999"), (b"# node 0", b"# node 99"))
         for old, new in changes:
             with self.assertRaises(InputFault):
@@ -274,6 +274,7 @@ class Scripts(unittest.TestCase):
 
 WORDS = """now snapshot what-if target watch verify --pid --cgroup --all --freeze --freeze-limit --wait --memory
 --orders --queued seen all --no-kernel --thresholds --json --by-process --by-cgroup --svg --program -o --facts --rounds
+--prometheus --version
 --seed --pages --change --after --running --enabled always --keep --verbose --user -- -1 0 1 60 61 nan inf
 -inf 1e999 0x1 1_0 -
 off off,0,511 512 1,,2 root nobody /dev/zero /dev/null /proc/self/mem / /nowhere/x FIFO JSON SCRIPT NEW --help --js
@@ -335,13 +336,13 @@ class CommandLine(unittest.TestCase):
         self.assertFalse(os.path.exists(target))
 
     def test_an_output_goes_away_with_its_work(self) -> None:
-        for fault in (InputFault("x"), RunFailed("x"), KeyboardInterrupt(), Refused("x")):
-            with self.assertRaises(type(fault)), program.output(self.paths["NEW"]) as out:
+        for fault in (InputFault("x"), RunFailed("x"), KeyboardInterrupt(), TextError("x")):
+            with self.assertRaises(type(fault)), program.open_output(self.paths["NEW"]) as out:
                 assert out
                 out.write("text")
                 raise fault
             self.assertFalse(os.path.lexists(self.paths["NEW"]))
-        with program.output(self.paths["NEW"]) as out:
+        with program.open_output(self.paths["NEW"]) as out:
             assert out
             out.write("text")
         self.assertEqual(os.stat(self.paths["NEW"]).st_mode & 0o777, 0o600)

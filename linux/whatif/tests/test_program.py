@@ -10,7 +10,7 @@ import unittest
 from pathlib import Path
 from typing import Sequence
 
-from .made_up import program
+from .sample_folios import program
 
 HERE = Path(__file__).resolve().parent
 ROOT = HERE.parent.parent.parent
@@ -44,6 +44,8 @@ class Program(unittest.TestCase):
             (("target", "0", "x"), "'0' is no number from 0.001 to"),
             (("what-if", str(HERE / "stored" / "known.json"), "--thresholds", "512"), "'512'"),
             (("watch", "0", "--all"), "SECONDS"),
+            (("watch", "1", "--all", "--prometheus", "/tmp/thp.prom"), "/tmp"),
+            (("watch", "1", "--all", "--prometheus", "/nowhere/thp.prom"), "/nowhere can't be used as a folder"),
         ):
             done = run(*words)
             self.assertIn(done.returncode, (2, 77), words)
@@ -51,14 +53,14 @@ class Program(unittest.TestCase):
                 self.expect(done, 2, told)
 
     @unittest.skipUnless(os.geteuid() or shutil.which("setpriv"), "there is no setpriv, by which root is another user")
-    def test_another_user_is_told_in_one_line(self) -> None:
+    def test_another_user_is_reported_in_one_line(self) -> None:
         for words in (("snapshot", "--all"), ("watch", "1", "--all"), ("verify",)):
             done = run(*words, user=65534)
             if "No module" in done.stderr or "ermission" in done.stderr:
                 self.skipTest("the source can't be read by another user here")
             self.expect(done, 77, "not root")
 
-    def test_no_program_is_told(self) -> None:
+    def test_no_program_is_reported(self) -> None:
         done = run("what-if", str(HERE / "stored" / "known.json"), env=["THPSPLIT=/nowhere/thpsplit"])
         self.expect(done, 77, "no program /nowhere/thpsplit")
 

@@ -6,19 +6,19 @@ import unittest
 from typing import List
 
 from ...common.errors import InputFault
-from ..saying import Said, prepare
+from ..page_commands import PagePlan, plan_page
 from ..scripts import BLOCKS, MARK, MOST_TEXT, read_script, write_scripts
-from .made_up import folio
+from .sample_folios import folio
 
 
-def pages(count: int, groups: int = 1, zero: int = 0) -> List[Said]:
+def pages(count: int, groups: int = 1, zero: int = 0) -> List[PagePlan]:
     """Pages of so many control groups, in turn."""
-    return [prepare(folio(number, cgroup=number % groups, zero=zero)) for number in range(count)]
+    return [plan_page(folio(number, cgroup=number % groups, zero=zero)) for number in range(count)]
 
 
 class Scripts(unittest.TestCase):
     def test_first_line_tells_the_options(self) -> None:
-        made, _ = next(write_scripts(pages(5, 2) + [prepare(folio(9, order=4))], ["a head"], {1: "one"}))
+        made, _ = next(write_scripts(pages(5, 2) + [plan_page(folio(9, order=4))], ["a head"], {1: "one"}))
         lines = made.text.splitlines()
         self.assertEqual(lines[0], "# thpsplit --nodes 3 --blocks 3 --orders 4,9,9")
         self.assertEqual(lines[1:5], [
@@ -44,7 +44,7 @@ class Scripts(unittest.TestCase):
         many = pages(4 * 900, 1, scattered)
         made = list(write_scripts(many, [], {}))
         self.assertGreater(sum(len(script.text) for script, _ in made), MOST_TEXT / 2)
-        self.assertTrue(all(len(b"".join(script.filled())) <= 16 << 20 for script, _ in made))
+        self.assertTrue(all(len(b"".join(script.filled_chunks())) <= 16 << 20 for script, _ in made))
         self.assertEqual(sum(node.pages for script, _ in made for node in script.nodes), len(many))
 
     def test_text_beyond_the_limit_is_two_scripts(self) -> None:
@@ -56,12 +56,12 @@ class Scripts(unittest.TestCase):
 
     def test_unqueued_pages_first_then_the_queue(self) -> None:
         many = [folio(0, place=5), folio(1, place=2), folio(2, is_queued=False), folio(3)]
-        (_, nodes), = write_scripts([prepare(one) for one in many], [], {})
+        (_, nodes), = write_scripts([plan_page(one) for one in many], [], {})
         self.assertEqual([said.folio.frame // 1024 - 1 for said in nodes[0]], [2, 1, 0, 3])
 
     def test_filled_writes_each_page_before_the_shrinker(self) -> None:
-        made, _ = next(write_scripts(pages(3) + [prepare(folio(9, is_partly=True))], [], {}))
-        filled = b"".join(made.filled()).decode("ascii")
+        made, _ = next(write_scripts(pages(3) + [plan_page(folio(9, is_partly=True))], [], {}))
+        filled = b"".join(made.filled_chunks()).decode("ascii")
         before, after = filled.split(MARK)
         self.assertTrue(before.endswith("\nwrite 0 0 0 512\nwrite 0 1 0 512\nwrite 0 2 0 512\n"))
         self.assertNotIn("write 0 3 0 512\nwrite", filled)
@@ -78,7 +78,7 @@ class Scripts(unittest.TestCase):
         wanted = [[{100: 1}, {102: 1}, {104: 1}], [{101: 1}, {103: 1}]]
         self.assertEqual([[page.by for page in node] for node in back.pages()], wanted)
 
-    def test_spoilt_scripts_are_named(self) -> None:
+    def test_altered_scripts_are_named(self) -> None:
         text = next(write_scripts(pages(5, 2), [], {}))[0].text
         for spoilt, word in (
             (text.replace("# thpsplit", "# thp", 1), "line 1 isn't"),

@@ -1,4 +1,4 @@
-"""Scripts and tables of stored snapshots, byte by byte. With REWRITE=1 the stored ones are made anew: look at what
+"""Scripts and tables of stored snapshots, byte by byte. With REWRITE=1 the stored ones are written again: look at what
 changed."""
 
 from __future__ import annotations
@@ -11,11 +11,11 @@ from typing import Callable, Dict
 
 from ...common.errors import InputFault
 from ..picture import picture
-from ..predict import DEFAULT, Predictor, with_today
-from ..snapshot import Snapshot, told, write
+from ..predictor import DEFAULT, Predictor, with_today
+from ..snapshot import Snapshot, list_notes, write_snapshot
 from ..stored import from_json
 from ..table import cost_table, group_table, last_line, process_table, row_json, table
-from .made_up import program
+from .sample_folios import program
 
 STORED = Path(__file__).resolve().parent / "stored"
 PROGRAM = program()
@@ -30,12 +30,12 @@ def load(name: str) -> Snapshot:
 def tables(snapshot: Snapshot) -> Dict[str, str]:
     """All texts that need thpsplit, by the ends of their files' names."""
     assert PROGRAM
-    made = write(snapshot)
+    made = write_snapshot(snapshot)
     predictor, today = Predictor(made.scripts, PROGRAM), snapshot.today
     thresholds = with_today(DEFAULT, today)
     rows = predictor.run(thresholds)
     shares = {threshold: predictor.by_process(threshold) for threshold in thresholds}
-    parts = [*told(snapshot), table(rows, today), process_table(shares, snapshot.processes)]
+    parts = [*list_notes(snapshot), table(rows, today), process_table(shares, snapshot.processes)]
     parts += [group_table(predictor.by_group(thresholds)), cost_table(shares[0], snapshot.processes)]
     parts.append(last_line(dict(snapshot.left_out)))
     return {
@@ -56,7 +56,7 @@ class Stored(unittest.TestCase):
                 self.assertEqual(path.read_text(encoding="ascii"), text, path.name)
 
     def test_scripts(self) -> None:
-        self.compare(lambda snapshot: {f"{i}.script": s.text for i, s in enumerate(write(snapshot).scripts, 1)})
+        self.compare(lambda snapshot: {f"{i}.script": s.text for i, s in enumerate(write_snapshot(snapshot).scripts, 1)})
 
     @unittest.skipUnless(PROGRAM, "there is no thpsplit (make run, or THPSPLIT=PATH)")
     def test_tables(self) -> None:
@@ -68,7 +68,7 @@ class Stored(unittest.TestCase):
             again = from_json(json.dumps(snapshot.to_json()), name)
             self.assertEqual(again, snapshot)
 
-    def test_spoilt_snapshots_are_named(self) -> None:
+    def test_altered_snapshots_are_named(self) -> None:
         good = json.loads((STORED / f"{NAMES[0]}.json").read_text())
         cut = {key: value for key, value in good.items() if key != "folios"}
         spoilt = [dict(good, version=9), cut, dict(good, folios=[{}]), [], 5]

@@ -8,8 +8,8 @@ from typing import List
 from xml.etree import ElementTree
 
 from ..picture import picture, round_up
-from ..predict import OFF, Row, Share
-from ..processes import Choice
+from ..predictor import OFF, Row, Share
+from ..processes import ProcessChoice
 from ..table import cost_table, last_line, row_json, table
 from ..watch import Look, Watch, line_of, watch
 
@@ -76,5 +76,5 @@ class Watching(unittest.TestCase):
 
 class Processes(unittest.TestCase):
     def test_choice_in_words(self) -> None:
-        self.assertEqual(Choice([4, 5], ["/a"], True).told(), "process 4, process 5, control group /a, all processes")
-        self.assertEqual(Choice(groups=["/a\n\x1b"]).told(), "control group /a\\x0a\\x1b")
+        self.assertEqual(ProcessChoice([4, 5], ["/a"], True).describe(), "process 4, process 5, control group /a, all processes")
+        self.assertEqual(ProcessChoice(groups=["/a\n\x1b"]).describe(), "control group /a\\x0a\\x1b")

@@ -1,4 +1,4 @@
-"""What a trial says: exact, inconclusive or different."""
+"""Outcomes of trials: exact, inconclusive or different."""
 
 from __future__ import annotations
 
@@ -8,8 +8,8 @@ from typing import Any, Dict
 
 from ...common.counters import Counter as Statistic
 from ..snapshot import Snapshot
-from ..verify import Outcome, Result, count_result, told
-from .made_up import folio
+from ..verify import Outcome, Result, count_result, trial_line
+from .sample_folios import folio
 
 NUMBERS = {Statistic.SPLIT: 1, Statistic.UNDERUSED: 1, Statistic.SPLIT_FAILED: 0}
 
@@ -18,7 +18,7 @@ def result(**facts: Any) -> Result:
     """A trial of one page that is split as underused, as predicted."""
     page = folio(0, zero=15)
     given = {page.frame: 15}
-    values: Dict[str, Any] = dict(said=given, judged=given, came=given, beside={}, added=dict(NUMBERS), **facts)
+    values: Dict[str, Any] = dict(predicted=given, plain=given, returned=given, unscripted={}, added=dict(NUMBERS), **facts)
     return Result(Snapshot([page], {}, Counter()), {page.frame: page}, set(), **values)
 
 
@@ -29,7 +29,7 @@ class Outcomes(unittest.TestCase):
         more = result()
         more.added[Statistic.SPLIT] = 2
         self.assertIs(more.outcome, Outcome.DIFFERS)
-        more.beside = {5: 1}
+        more.unscripted = {5: 1}
         self.assertIs(more.outcome, Outcome.EXACT)
 
     def test_disturbed_counters_decide_nothing(self) -> None:
@@ -42,7 +42,7 @@ class Outcomes(unittest.TestCase):
     def test_a_hold_that_ended_decides_nothing(self) -> None:
         one = result(problem="the limit of 1 s was met", differing=[1024])
         self.assertIs(one.outcome, Outcome.INCONCLUSIVE)
-        self.assertIn("the limit of 1 s was met", told(5, one))
+        self.assertIn("the limit of 1 s was met", trial_line(5, one))
 
     def test_others_only_add_to_the_counters(self) -> None:
         less = result(is_undisturbed=False)
@@ -56,4 +56,4 @@ class Outcomes(unittest.TestCase):
         names = ["trials", "trials exact", "trials that differ"]
         self.assertEqual([seen[name] for name in names], [3, 1, 1])
         self.assertEqual(sum(count for name, count in seen.items() if name.startswith("trials inconclusive")), 1)
-        self.assertTrue(told(5, result(is_undisturbed=False)).endswith(Outcome.INCONCLUSIVE.value))
+        self.assertTrue(trial_line(5, result(is_undisturbed=False)).endswith(Outcome.INCONCLUSIVE.value))

@@ -1,0 +1,19 @@
+# bash completion for thprecord
+_thprecord() {
+    local word=${COMP_WORDS[COMP_CWORD]} before=${COMP_WORDS[COMP_CWORD - 1]} i
+    for ((i = 1; i < COMP_CWORD; i++)); do
+        if [ "${COMP_WORDS[i]}" = -- ]; then
+            COMPREPLY=($(compgen -c -f -- "$word"))
+            return
+        fi
+    done
+    case $before in
+    --checker | --program | --out | --records) COMPREPLY=($(compgen -f -- "$word")); return ;;
+    --underused) COMPREPLY=($(compgen -W 'off as-is' -- "$word")); return ;;
+    --user) COMPREPLY=($(compgen -u -- "$word")); return ;;
+    --own | --order | --groups | --every | --collapse | --tamper | --least | --seconds | --events) COMPREPLY=(); return ;;
+    esac
+    COMPREPLY=($(compgen -W '--checker --program --own --order --groups --underused --every --collapse --compact --straighten
+        --out --records --tamper --least --seconds --events --user --wait --help --version --' -- "$word"))
+}
+complete -F _thprecord thprecord

@@ -1,0 +1,16 @@
+# bash completion for thpreplay
+_thpreplay() {
+    local word=${COMP_WORDS[COMP_CWORD]} before=${COMP_WORDS[COMP_CWORD - 1]}
+    case $before in
+    --program | --seeds) COMPREPLY=($(compgen -f -- "$word")); return ;;
+    --keep | --store) COMPREPLY=($(compgen -d -- "$word")); return ;;
+    --fill) COMPREPLY=($(compgen -W 'data zeros' -- "$word")); return ;;
+    --nodes | --orders | --underused | --blocks | --random | --seed | --node-counts | --page-orders | --thresholds | --length | --shrink)
+        COMPREPLY=(); return ;;
+    esac
+    COMPREPLY=($(compgen -W '--program --nodes --orders --underused --blocks --random --seed --node-counts --page-orders
+        --thresholds --length --fill --keep --shrink --store --no-memory
+        --seeds --fingerprint --markdown --tap --json --show --wait --undo --verbose --quiet --help --version' -- "$word"))
+    COMPREPLY+=($(compgen -f -- "$word"))
+}
+complete -F _thpreplay thpreplay

@@ -1,0 +1,110 @@
+"""A recorded page, and the address spaces that map it."""
+
+from __future__ import annotations
+
+from dataclasses import dataclass, field
+from typing import Dict, List, Optional, Tuple
+
+from ..common.files import PMD_ORDER
+from ..common.subpages import bits_of, size
+
+
+@dataclass(eq=False)
+class Mapping:
+    """One address space's mapping of a page: where subpage 0 is, whether by a PMD entry, which subpages, and since when
+    it is there."""
+
+    base: int
+    whole: bool
+    bits: int
+    since: int = 0
+
+
+class JournalLine:
+    """The text of a page's event, with the recorder's number of the page, which differs from the journal's."""
+
+    __slots__ = ("page", "text")
+
+    def __init__(self, page: int, text: str) -> None:
+        self.page, self.text = page, text
+
+
+class MapCounts:
+    """How often each subpage is mapped, as planes of bits: bit i of plane k has the weight 2 ** k."""
+
+    __slots__ = ("_planes",)
+
+    def __init__(self) -> None:
+        self._planes: List[int] = []
+
+    def add(self, bits: int) -> None:
+        """Adds a mapping of these subpages."""
+        at = 0
+        while bits:
+            if at == len(self._planes):
+                self._planes.append(0)
+            self._planes[at], bits = self._planes[at] ^ bits, self._planes[at] & bits
+            at += 1
+
+    def take(self, bits: int) -> None:
+        """Removes a mapping of these subpages, each of which is mapped."""
+        at = 0
+        while bits and at < len(self._planes):
+            self._planes[at], bits = self._planes[at] ^ bits, bits & ~self._planes[at]
+            at += 1
+
+    def used_subpages(self) -> int:
+        """Returns the subpages that are mapped."""
+        out = 0
+        for plane in self._planes:
+            out |= plane
+        return out
+
+    def total(self) -> int:
+        """Returns all mappings of all subpages."""
+        return sum(size(plane) << at for at, plane in enumerate(self._planes))
+
+
+@dataclass(eq=False)
+class Page:
+    """A huge page from its allocation on. Sets of subpages are numbers. `own`: mappings by PTEs."""
+
+    number: int
+    folio: int
+    subpages: int
+    own: MapCounts = field(default_factory=MapCounts)
+    whole: int = 1
+    held: int = 0
+    maps: Dict[int, Mapping] = field(default_factory=dict)
+    pins: int = 0
+    is_partly_mapped: bool = False
+    partly_since: int = 0  # when that was recorded
+    is_live: bool = True
+    split: bool = False
+    omission: str = ""  # why it is left out
+    is_freed: bool = False
+    freed_frames: int = 0
+    written: int = 0
+    last_change: int = 0  # when the last call that reached it was recorded
+    join: Optional[JournalLine] = None  # the event by which it joined the queue
+    events: int = 0  # how many were emitted
+    fills: int = 0  # of these, the ones that only version 3 of a journal has
+
+    @staticmethod
+    def new(number: int, folio: int, order: int) -> Page:
+        subpages = 1 << order
+        return Page(number, folio, subpages, held=bits_of(0, subpages))
+
+    @property
+    def every(self) -> int:
+        return bits_of(0, self.subpages)
+
+    def used_subpages(self) -> int:
+        return self.every if self.whole else self.own.used_subpages()
+
+    def counts(self) -> Tuple[int, int, int]:
+        """Returns what the kernel counts: mappings by PMD entries, all mappings, subpages that PTEs map. A page below
+        their size is mapped by PTEs alone."""
+        if self.subpages == 1 << PMD_ORDER:
+            return self.whole, self.whole + self.own.total(), size(self.own.used_subpages())
+        return 0, self.own.total() + self.whole * self.subpages, size(self.used_subpages())

@@ -1,0 +1,83 @@
+"""Decides for `git bisect run` whether the running kernel differs from the model. Needs root.
+
+--letter X: status 0 if this kernel does X as the model, 1 if it does X as docs/LINUX.md describes. --script FILE: 0 if the
+script agrees, 1 if it differs. 125, which has git skip the commit: neither, or it can't be decided here, or an error. 128,
+which ends the bisection: words or files that can't be used.
+"""
+
+from __future__ import annotations
+
+import argparse
+from typing import NoReturn, Optional, Sequence
+
+from ..common.arguments import OneLineParser
+from ..common.errors import InputFault, status_of
+from ..common.machine import kernel
+from ..common.script import Script, read_script
+from ..common.text import escape
+from ..common.tool import run_tool
+from .letters import Finding, LetterScript, Match, find_letter, look_on, read_letter
+from .runner import Outcome, Result, RunComparer, Runner, print_line
+from .session import open_session
+
+NAME = "thpbisect"
+GOOD, BAD, UNDECIDED, ENDED = 0, 1, 125, 128  # git-bisect(1)
+
+
+def parse_words(given: Optional[Sequence[str]] = None) -> argparse.Namespace:
+    """Returns the options of a command line, by default this process's own."""
+    form = argparse.RawDescriptionHelpFormatter
+    parser = OneLineParser(prog=NAME, description=__doc__, formatter_class=form)
+    subject = parser.add_mutually_exclusive_group(required=True)
+    subject.add_argument("--letter", metavar="X", help="a known difference that has a script in linux/letters")
+    subject.add_argument("--script", metavar="FILE", help="a script, for example a smallest one of thpreplay --keep")
+    parser.add_argument("--program", metavar="PATH", help="the thpsplit to compare with")
+    parser.add_argument("--no-memory", action="store_true", help="leave kernel memory, and so the queues, unread")
+    parser.add_argument("--wait", action="store_true", help="wait until another tool has ended")
+    return parser.parse_args(given)
+
+
+def judge_finding(finding: Finding) -> int:
+    """Returns the status for a letter."""
+    return {Match.MODEL: GOOD, Match.LETTER: BAD}.get(finding.match, UNDECIDED)
+
+
+def judge_outcome(outcome: Outcome) -> int:
+    """Returns the status for a script."""
+    return {Result.AGREES: GOOD, Result.DIFFERS: BAD}.get(outcome.result, UNDECIDED)
+
+
+def decide(options: argparse.Namespace, letter: Optional[LetterScript], script: Optional[Script]) -> int:
+    """Runs a letter's script or another one on this kernel, prints what it shows, and returns the status."""
+    with open_session(NAME, options.program, not options.no_memory, options.wait) as session:
+        if letter:
+            finding = find_letter(letter, look_on(session))
+            line, status = finding.line(), judge_finding(finding)
+        elif script:
+            outcome = Runner(session.bench, session.program, RunComparer()).run(script)
+            line, status = f"{escape(script.name)}: {outcome.line()}", judge_outcome(outcome)
+        else:
+            raise InputFault("no letter and no script")
+    print_line(f"{kernel()}: {line}")
+    return status
+
+
+def bisect(given: Optional[Sequence[str]] = None) -> int:
+    """Carries out a command line, and returns the status."""
+    try:
+        options = parse_words(given)
+        letter = read_letter(options.letter) if options.letter is not None else None
+        script = read_script(options.script) if options.script is not None else None
+    except InputFault as fault:
+        status_of(NAME, fault)
+        return ENDED
+    return decide(options, letter, script)
+
+
+def start() -> NoReturn:
+    """Runs the tool."""
+    run_tool(NAME, bisect, UNDECIDED)
+
+
+if __name__ == "__main__":
+    start()

@@ -1,0 +1,219 @@
+"""Compares what the kernel shows of a script with what `thpsplit` reports and the known differences predict.
+
+There is slack only in F (any number of passes that fits what a pinned page shows) and G (a page with both kinds of
+mappings: 0 or 1).
+
+A page's own state (frames, map counts, queues) belongs to the script alone: a difference there is raised at once. The
+counters are of the whole machine, and other programs move them too: the first difference there is kept, no counter is
+compared afterwards, and the comparison of the script's own state continues.
+"""
+
+from __future__ import annotations
+
+import re
+from collections import Counter as Tallies
+from typing import Dict, List, Optional, Sequence, Set
+
+from ..common.counters import Counter, SizeCounter
+from ..common.files import PMD_ORDER
+from ..common.subpages import set_text
+from .expected_answers import NEVER, ExpectedAnswer
+from .known_differences import KnownDifference
+from .observation import Observation, PageObservation
+from .states import NodeState, PageState
+
+_NUMBERS = re.compile(r"\[[^]]*\]|[0-9]+(?:[-,][0-9]+)*")
+
+
+class Difference(Exception):
+    """The kernel shows something else; the text names it, with the kernel's value and thpsplit's. `kind` is what differs,
+    without numbers, and after which command; `command` is that command's place in the script (0: before all)."""
+
+    def __init__(self, text: str, kind: str = "", command: int = 0) -> None:
+        super().__init__(text)
+        self.kind, self.command = kind, command
+
+
+class CounterDifference(Difference):
+    """Only counters of the whole machine differ; `place` names the counter and the command."""
+
+    def __init__(self, text: str, place: str, kind: str = "", command: int = 0) -> None:
+        super().__init__(text, kind, command)
+        self.place = place
+
+
+def kind_of(what: str, word: str) -> str:
+    """Returns what differs, without lists and numbers, and after which command."""
+    return f"{_NUMBERS.sub('N', what)} after {word}"
+
+
+def require_equal(what: str, kernel: object, model: object) -> None:
+    if kernel != model:
+        raise Difference(f"{what}, kernel {kernel}, thpsplit {model}", what)
+
+
+class Comparison:
+    """Follows a script on all nodes. `known` gathers the known differences that it met, beginning with the run's;
+    `counters` holds the first difference of a counter. `small`: nodes whose pages aren't queued at their fault (C); at
+    their splits zero-filled subpages go back, as in the script."""
+
+    def __init__(self, states: Sequence[NodeState], known: Set[KnownDifference], small: Set[int]) -> None:
+        self._states, self._small = states, small
+        self._queues: List[List[int]] = [[] for _ in states]  # the kernel's, as they should be
+        self._failed: Dict[int, int] = Tallies()  # failed splits by order, as they should be
+        self.known = set(known)
+        self.counters: Optional[CounterDifference] = None
+        self.sums: Dict[str, int] = Tallies()
+        self._where, self._word, self._number = "", "", 0
+
+    def update(self, expected: ExpectedAnswer, observed: Observation) -> None:
+        """Computes the kernel's queue and failed splits. The node's state is that after the command."""
+        state, queue = self._states[expected.node], self._queues[expected.node]
+        if expected.words[0] == "scan" and not expected.is_refused:
+            self._scan(expected, state, observed)
+            return
+        stays = [page for page in queue if page in state.queue]
+        self._queues[expected.node] = stays + [page for page in state.queue if page not in stays]
+
+    def _scan(self, expected: ExpectedAnswer, state: NodeState, observed: Observation) -> None:
+        pinned = sum(event.word == "pinned" for event in expected.events)
+        taken = [event.page for event in expected.events if event.word == "taken"]
+        stay = [event.page for event in expected.events if event.word == "back"]
+        in_order = [page for page in taken if page in stay]
+        if stay != in_order:  # E: the kernel's order is the other way round, the program's is that of taking
+            require_equal(f"order of putting back {in_order}, which the kernel turns around at each pass (E)", "so", stay)
+        queue = [page for page in self._queues[expected.node] if page in stay]
+        once = pinned - len(stay)  # pinned underused pages leave the queue after one try
+        if state.threshold == NEVER and once:
+            self.known.add(KnownDifference.D)
+            once = 0
+        turned = self._is_turned(queue, observed.queues[expected.node])
+        passes = self._passes(state.order, once, queue, turned, observed)
+        self._failed[state.order] += once + passes * len(queue)
+        if queue:
+            self.sums[f"scans of {passes} passes with pinned pages"] += 1
+        if passes > 1 and queue:
+            self.known.add(KnownDifference.F)
+        self._queues[expected.node] = queue[::-1] if passes % 2 else queue
+
+    @staticmethod
+    def _is_turned(queue: List[int], observed: Optional[List[int]]) -> Optional[bool]:
+        """Returns whether the kernel's queue has the pages that stayed in reverse order, which an odd number of passes
+        leaves; None where the queue can't show it."""
+        if observed is None or queue == queue[::-1] or observed not in (queue, queue[::-1]):
+            return None
+        return observed != queue
+
+    def _passes(self, order: int, once: int, queue: List[int], turned: Optional[bool], observed: Observation) -> int:
+        """Returns how many passes a scan made: by the failed splits where they are counted and no counter differed
+        before, else by the queue: an odd or even number."""
+        by_queue = 1 if turned is None or turned else 2
+        total = observed.counts.sizes[SizeCounter.SPLIT_FAILED, order]
+        if total is None and order == PMD_ORDER:
+            total = observed.counts.machine[Counter.SPLIT_FAILED]
+        if total is None or self.counters:
+            return by_queue
+        failed = total - self._failed[order]
+        passes = (failed - once) // len(queue) if queue else 1
+        if failed != once + passes * len(queue) or passes < 1:
+            self._counter_differs("split_failed of a scan", failed, f"{once} + {len(queue)} for each pass")
+            return by_queue
+        if turned is not None and turned != bool(passes % 2):
+            self._counter_differs(f"order of the queue after {passes} passes by split_failed", "so", "turned around")
+            return by_queue
+        return passes
+
+    def _counter_differs(self, what: str, kernel: object, model: object) -> None:
+        """Keeps the first difference of a counter; no other is compared afterwards."""
+        if not self.counters and kernel != model:
+            text = f"{what}, kernel {kernel}, thpsplit {model}"
+            kind = kind_of(what, self._word)
+            self.counters = CounterDifference(f"{text} ({self._where})", f"{what} {self._where}", kind, self._number)
+
+    def set_place(self, where: str, word: str = "", number: int = 0) -> None:
+        """Names the command that is compared next."""
+        self._where, self._word, self._number = where, word, number
+
+    def compare(self, observed: Observation) -> None:
+        """Raises Difference where the script's own state differs. A counter that differs is kept in `counters`."""
+        self._compare_machine(observed)
+        for order in sorted({state.order for state in self._states}):
+            self._compare_size(order, observed)
+        for node, state in enumerate(self._states):
+            for number, page in enumerate(state.pages):
+                if page.live:
+                    self._compare_page(node, f"page {number} of node {node}", page, observed.pages[node, number])
+            self._compare_queue(node, state, observed.queues[node])
+
+    def _sum(self, name: str, order: Optional[int] = None) -> int:
+        return sum(getattr(state.event_counts, name) for state in self._states if order in (None, state.order))
+
+    def _deferred(self, kernel: Optional[int]) -> int:
+        """Returns how many pages of PMD size the kernel should have counted as deferred (A, G)."""
+        least = self._sum("first_partly", PMD_ORDER) + self._sum("partly_by_split", PMD_ORDER)
+        return min(max(least, kernel or 0), least + self._sum("perhaps_partly", PMD_ORDER))
+
+    def _compare_machine(self, observed: Observation) -> None:
+        machine = observed.counts.machine
+        if self._sum("queued", PMD_ORDER) != self._sum("first_partly", PMD_ORDER):
+            self.known.add(KnownDifference.A)
+        if self._sum("partly_by_split") + self._sum("perhaps_partly"):
+            self.known.add(KnownDifference.G)
+        for state in self._states:
+            tally = state.event_counts
+            if state.order < PMD_ORDER and (tally.split or tally.failed or tally.queued or tally.split_pmd):
+                self.known.add(KnownDifference.W)
+        model = {
+            Counter.SPLIT: self._sum("split", PMD_ORDER),
+            Counter.DEFERRED: self._deferred(machine[Counter.DEFERRED]),
+            Counter.SPLIT_PMD: self._sum("split_pmd", PMD_ORDER),
+            Counter.UNDERUSED: self._sum("underused"),
+            Counter.SPLIT_FAILED: self._failed[PMD_ORDER],
+        }
+        for counter, value in model.items():
+            if machine[counter] is not None:
+                self._counter_differs(counter.value, machine[counter], value)
+
+    def _compare_size(self, order: int, observed: Observation) -> None:
+        sizes = observed.counts.sizes
+        deferred = self._sum("first_partly", order)
+        if order == PMD_ORDER:
+            deferred = self._deferred(sizes[SizeCounter.DEFERRED, order])
+        model = {
+            SizeCounter.SPLIT: self._sum("split", order),
+            SizeCounter.DEFERRED: deferred,
+            SizeCounter.SPLIT_FAILED: self._failed[order],
+        }
+        for counter, value in model.items():
+            if sizes[counter, order] is not None:
+                self._counter_differs(f"{counter.value} of order {order}", sizes[counter, order], value)
+
+    def _compare_page(self, node: int, name: str, page: PageState, observed: PageObservation) -> None:
+        totals = page.totals()
+        if not page.split:
+            require_equal(f"frames of {name}", observed.whole, page.subpages)
+            self._compare_counts(name, observed.counts, totals, page.every)
+            return
+        held = page.held & ~page.dropped_zero
+        if held != page.held:
+            self.known.add(KnownDifference.C if node in self._small else KnownDifference.B)
+        require_equal(f"frames of {name}", set_text(observed.mapped), set_text(held))
+        self._compare_counts(name, observed.counts, totals, observed.mapped)
+
+    def _compare_counts(self, name: str, kernel: Sequence[int], model: Sequence[int], of: int) -> None:
+        if tuple(kernel) == tuple(model):
+            return
+        for i, (count, wanted) in enumerate(zip(kernel, model)):
+            if of >> i & 1:
+                require_equal(f"map count of {name}, subpage {i}", count, wanted)
+
+    def _compare_queue(self, node: int, state: NodeState, queue: Optional[List[int]]) -> None:
+        if queue is None:
+            return
+        expected_queue = self._queues[node]
+        shown = [page if page >= 0 else f"frame {-page:#x}" for page in queue]
+        require_equal(f"queue of node {node}", shown, expected_queue)
+        self.sums["queues compared"] += 1
+        self.sums["queues compared, of two pages or more"] += len(expected_queue) > 1
+        if expected_queue != state.queue:
+            self.known.add(KnownDifference.E)

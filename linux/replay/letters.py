@@ -1,0 +1,198 @@
+"""The known differences of this kernel, by the smallest script of each (linux/letters).
+
+A script's comments name what is looked at after its last command, what the model shows there, and what a kernel with the
+difference shows. What is looked at is one of
+
+    thp_split_page                  a counter of /proc/vmstat
+    split of order 4                a statistic of a page size
+    frames NODE PAGE                the subpages of a split page that still have its frames
+    queue NODE after odd passes     the queue; each pass turns it around (E), so an even number of them shows nothing
+"""
+
+from __future__ import annotations
+
+import enum
+import re
+from dataclasses import dataclass
+from pathlib import Path
+from typing import Callable, Dict, List, Optional, Sequence, Tuple
+
+from ..common import machine
+from ..common.counters import Counter, SizeCounter
+from ..common.errors import InputFault, RunFailed, Unavailable
+from ..common.files import PMD_ORDER
+from ..common.script import Script, read_script
+from ..common.subpages import set_text
+from ..common.text import escape, text_lines
+from .expected_answers import ExpectedRun
+from .observation import Observation
+from .runner import Kernel, Result, RunComparer, Runner
+from .session import Session
+from .states import NodeState
+
+FOLDER = Path(__file__).resolve().parent.parent / "letters"
+ONLY_RECORDINGS = "KMURZL"  # collapses, migrations and other tasks: no script has them (docs/LINUX.md)
+MOST_RUNS = 6  # of a letter's script, until two of them show the same
+
+_COMMENT = re.compile(r"# (look|model|letter): (.*)")
+_SIZE = re.compile(r"(split|split_failed|split_deferred) of order ([2-9])")
+_FRAMES = re.compile(r"frames ([0-7]) ([0-9]{1,2})")
+_QUEUE = re.compile(r"queue ([0-7]) after odd passes")
+
+
+class Match(enum.Enum):
+    """How a kernel does what a letter is about."""
+
+    MODEL = "as the model"
+    LETTER = "as the letter"
+    NEITHER = "neither"
+    UNSEEN = "cannot be seen here"
+
+
+@dataclass(frozen=True)
+class Finding:
+    """A letter on this kernel; `text` is what was seen instead, or why nothing can be."""
+
+    letter: str
+    match: Match
+    text: str = ""
+
+    def line(self) -> str:
+        """Returns the report, printable."""
+        return f"{self.letter}: {self.match.value}" + (f": {escape(self.text)}" if self.text else "")
+
+    def cell(self) -> str:
+        """Returns the cell of a table."""
+        return {Match.MODEL: "model", Match.LETTER: "letter", Match.NEITHER: escape(self.text).replace("|", "/"),
+                Match.UNSEEN: "unseen"}[self.match]
+
+
+@dataclass(frozen=True)
+class LetterScript:
+    """A letter's script, what is looked at, and what the model and a kernel with the difference show."""
+
+    letter: str
+    script: Script
+    look: str
+    model: str
+    expected: str
+
+    def match(self, seen: str) -> Finding:
+        """Returns what a kernel does that shows this."""
+        if seen == self.model:
+            return Finding(self.letter, Match.MODEL)
+        least = re.fullmatch("([0-9]+) or more", self.expected)
+        if seen == self.expected or least and seen.isdigit() and int(seen) >= int(least[1]):
+            return Finding(self.letter, Match.LETTER)
+        return Finding(self.letter, Match.NEITHER, f"{self.look} {seen or 'empty'}")
+
+
+def read_letter(letter: str, folder: Path = FOLDER) -> LetterScript:
+    """Reads a letter's script. InputFault where there is none, or its comments are missing."""
+    if not re.fullmatch("[A-Z]", letter):
+        raise InputFault(f"{escape(letter)[:40]} is no letter of a known difference")
+    if letter in ONLY_RECORDINGS:
+        raise InputFault(f"{letter}: only recordings meet it")
+    path = folder / f"{letter}.script"
+    script = read_script(str(path))
+    found = [_COMMENT.fullmatch(line) for line in text_lines(script.text)]
+    comments: Dict[str, str] = {each[1]: each[2] for each in found if each}
+    if set(comments) != {"look", "model", "letter"}:
+        raise InputFault(f"{path} needs the comments look, model and letter")
+    return LetterScript(letter, script, comments["look"], comments["model"], comments["letter"])
+
+
+def letters(folder: Path = FOLDER) -> List[str]:
+    """Returns the letters that have a script."""
+    return sorted(path.stem for path in folder.glob("[A-Z].script"))
+
+
+def read_look(look: str, observed: Observation) -> str:
+    """Returns what a look shows. Unavailable where this kernel doesn't show it."""
+    size, frames, queue = _SIZE.fullmatch(look), _FRAMES.fullmatch(look), _QUEUE.fullmatch(look)
+    value: Optional[int] = None
+    if size:
+        value = observed.counts.sizes.get((SizeCounter(size[1]), int(size[2])))
+    elif frames:
+        return set_text(observed.pages[int(frames[1]), int(frames[2])].mapped)
+    elif queue:
+        return _read_queue(observed.queues[int(queue[1])], observed)
+    elif look in [counter.value for counter in Counter]:
+        value = observed.counts.machine[Counter(look)]
+    else:
+        raise InputFault(f"{escape(look)} is nothing to look at")
+    if value is None:
+        raise Unavailable(f"this kernel has no {look}")
+    return str(value)
+
+
+def _read_queue(queue: Optional[List[int]], observed: Observation) -> str:
+    failed = observed.counts.sizes.get((SizeCounter.SPLIT_FAILED, PMD_ORDER))
+    failed = observed.counts.machine[Counter.SPLIT_FAILED] if failed is None else failed
+    if queue is None:
+        raise Unavailable("the queue can't be read")
+    if failed is None:
+        raise Unavailable("failed splits aren't counted")
+    if queue and failed % len(queue) == 0 and failed // len(queue) % 2 == 0:
+        raise Unavailable(f"the scan made {failed // len(queue)} passes, an even number")
+    return " ".join(map(str, queue))
+
+
+class LastLook(RunComparer):
+    """Runs commands without a comparison, and keeps the last look."""
+
+    last: Optional[Observation] = None
+
+    def compare_run(self, expected_run: ExpectedRun, zero_filled: bool, kernel: Kernel) -> str:
+        """Returns no letters."""
+        options = expected_run.options
+        states = [NodeState(order, switch, zero_filled) for order, switch in zip(options.orders, options.underused)]
+        for expected in expected_run.answers:
+            self.run_command(expected, states, kernel)
+        self.last = kernel.look(states)
+        return ""
+
+
+Look = Callable[[Script], Observation]
+"""Runs a script, and returns what the kernel shows after it. Unavailable where the kernel can't run it."""
+
+
+def look_on(session: Session) -> Look:
+    """Returns the look at the kernel of a session."""
+    comparer = LastLook()
+    runner = Runner(session.bench, session.program, comparer)
+
+    def look(script: Script) -> Observation:
+        comparer.last = None
+        session.bench.renew()
+        outcome = runner.run(script)
+        if comparer.last is None or outcome.result is not Result.AGREES:
+            raise Unavailable(outcome.text or "the script was not run")
+        return comparer.last
+
+    return look
+
+
+def find_letter(letter: LetterScript, look: Look) -> Finding:
+    """Returns how a kernel does a letter: what two runs in a row show."""
+    seen: List[str] = []
+    try:
+        while len(seen) < MOST_RUNS:
+            seen.append(read_look(letter.look, look(letter.script)))
+            if seen[-2:-1] == seen[-1:]:
+                return letter.match(seen[-1])
+    except (Unavailable, RunFailed) as lacking:
+        return Finding(letter.letter, Match.UNSEEN, machine.first_line(lacking))
+    return Finding(letter.letter, Match.UNSEEN, f"{letter.look} is another at each run: other programs move it")
+
+
+def find_all(look: Look, folder: Path = FOLDER) -> List[Finding]:
+    """Returns how a kernel does each letter, those of recordings last."""
+    found = [find_letter(read_letter(letter, folder), look) for letter in letters(folder)]
+    return [*found, *(Finding(letter, Match.UNSEEN, "only recordings meet it") for letter in ONLY_RECORDINGS)]
+
+
+def markdown(findings: Sequence[Finding], version: str) -> List[str]:
+    """Returns the column of a kernel as a table."""
+    rows: List[Tuple[str, str]] = [("Letter", version), ("-", "-"), *((each.letter, each.cell()) for each in findings)]
+    return [f"|{letter}|{cell}|" for letter, cell in rows]

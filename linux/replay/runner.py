@@ -1,0 +1,210 @@
+"""Runs one script on the kernel: each command, a look, the comparison."""
+
+from __future__ import annotations
+
+import enum
+from collections import Counter as Tallies
+from dataclasses import dataclass, field
+from typing import Callable, Dict, List, Optional, Protocol, Sequence
+
+from ..common.counters import CounterWatch
+from ..common.errors import InputFault
+from ..common.program import Program
+from ..common.script import Script
+from ..common.text import escape
+from .bench import Bench
+from .comparison import Comparison, CounterDifference, Difference, kind_of
+from .expected_answers import ExpectedAnswer, ExpectedRun, Unsupported, expect_run
+from .known_differences import join_letters
+from .observation import Observation
+from .pages import DATA, KernelPages
+from .states import NodeState
+
+TRIES = 3  # a difference counts where each run of the script has one
+LAST_WINDOWS = 1.0  # seconds in which the counters are watched before a difference of theirs alone counts
+
+
+class Kernel(Protocol):
+    """A kernel that runs commands and can be looked at: the running one (pages.py), or a stored one."""
+
+    def run_command(self, expected: ExpectedAnswer, state: NodeState) -> None:
+        """Runs a command; the node's state is that before it."""
+
+    def look(self, states: Sequence[NodeState]) -> Observation:
+        """Returns what the kernel shows now."""
+
+    def note_split(self, node: int, number: int) -> None:
+        """Notes that the last command split a page."""
+
+
+class StoredKernel:
+    """Looks that were stored, one for the beginning and one for each command."""
+
+    def __init__(self, looks: List[Observation]) -> None:
+        self._looks = iter(looks)
+
+    def run_command(self, expected: ExpectedAnswer, state: NodeState) -> None:
+        pass
+
+    def look(self, states: Sequence[NodeState]) -> Observation:
+        look = next(self._looks, None)
+        if look is None:
+            raise InputFault("the recording has fewer looks than the script has commands")
+        return look
+
+    def note_split(self, node: int, number: int) -> None:
+        pass
+
+
+class Result(enum.Enum):
+    """How a script ends; `inconclusive`: only counters differ, and something else may have moved them."""
+
+    AGREES = "agrees"
+    DIFFERS = "differs"
+    INCONCLUSIVE = "inconclusive"
+    SKIPPED = "skipped"
+
+
+@dataclass(frozen=True)
+class Outcome:
+    """What is reported of a script: `known` are letters, `text` is the difference or the reason. Of one that differs:
+    `kind` is what differs, without numbers, and `command` the place of the command after which it does."""
+
+    result: Result
+    known: str = ""
+    text: str = ""
+    kind: str = ""
+    command: int = 0
+
+    def line(self) -> str:
+        """Returns the report, printable."""
+        if self.result is not Result.AGREES:
+            return f"{self.result.value}: {escape(self.text)}"
+        known = f" (but for {' '.join(self.known)})" if self.known else ""
+        return f"agrees{known}" + (f", at another try after: {escape(self.text)}" if self.text else "")
+
+
+def ignore_line(_line: str) -> None:
+    """Prints nothing."""
+
+
+def print_line(line: str) -> None:
+    """Prints a line."""
+    print(line, flush=True)
+
+
+@dataclass
+class RunComparer:
+    """Compares runs. `sums` counts commands and comparisons; `report` is called with each command; `looks` keeps each
+    look."""
+
+    sums: Dict[str, int] = field(default_factory=Tallies)
+    report: Callable[[str], None] = ignore_line
+    looks: Optional[List[Observation]] = None
+
+    def compare_run(self, expected_run: ExpectedRun, zero_filled: bool, kernel: Kernel) -> str:
+        """Returns the letters of the known differences that were met. Difference names the command after which the own
+        state is another; CounterDifference, raised at the end, that of a counter where nothing else differs."""
+        options = expected_run.options
+        states = [NodeState(order, switch, zero_filled) for order, switch in zip(options.orders, options.underused)]
+        comparison = Comparison(states, expected_run.known, expected_run.small)
+        where, word, place = "before all", "", 0
+        try:
+            comparison.set_place(where)
+            comparison.compare(self._look(kernel, states))
+            for expected in expected_run.answers:
+                word, place = expected.words[0], expected.place
+                where = f"command {place}: {' '.join(expected.words)}"
+                self.report(f"  {escape(where)} -> {escape(expected.answer)}")
+                self.run_command(expected, states, kernel)
+                observed = self._look(kernel, states)
+                comparison.set_place(where, word, place)
+                comparison.update(expected, observed)
+                comparison.compare(observed)
+        except Difference as difference:
+            earlier = f"; before it {comparison.counters}" if comparison.counters else ""
+            kind = kind_of(difference.kind or str(difference), word)
+            raise Difference(f"{difference} ({where}){earlier}", kind, place) from difference
+        finally:
+            for what, many in comparison.sums.items():
+                self.sums[what] += many
+        if comparison.counters:
+            raise comparison.counters
+        return join_letters(comparison.known)
+
+    def _look(self, kernel: Kernel, states: Sequence[NodeState]) -> Observation:
+        observed = kernel.look(states)
+        if self.looks is not None:
+            self.looks.append(observed)
+        return observed
+
+    def run_command(self, expected: ExpectedAnswer, states: Sequence[NodeState], kernel: Kernel) -> None:
+        """Runs one command, and applies its events to its node."""
+        state = states[expected.node]
+        if not expected.is_refused:
+            kernel.run_command(expected, state)
+        for event in expected.events:
+            try:
+                state.apply(event)
+            except InputFault as fault:
+                raise Difference(f"thpsplit gives {fault}") from fault
+            if event.word == "split" and event.page is not None:
+                kernel.note_split(expected.node, event.page)
+        self.sums["commands refused" if expected.is_refused else f"commands done: {expected.words[0]}"] += 1
+
+
+class Runner:
+    """Runs scripts on a bench beside a program."""
+
+    def __init__(self, bench: Bench, program: Program, comparer: RunComparer) -> None:
+        self._bench, self._program, self._comparer = bench, program, comparer
+
+    def run(self, script: Script, zero_filled: Optional[bool] = None) -> Outcome:
+        """Runs one script. `zero_filled`: whether new pages stay so; by default where some node splits underused
+        pages."""
+        if zero_filled is None:
+            zero_filled = any(switch is not None for switch in script.options.underused)
+        watch = CounterWatch(script.options.orders)
+        differences: List[Difference] = []
+        while len(differences) < TRIES:
+            if self._comparer.looks is not None:
+                self._comparer.looks.clear()
+            if differences:
+                watch.watch_once()
+            try:
+                letters_met = self._run_once(script, zero_filled)
+                return Outcome(Result.AGREES, letters_met, str(differences[-1]) if differences else "")
+            except (Unsupported, InputFault) as reason:
+                if differences:
+                    return Outcome(Result.INCONCLUSIVE, "", f"{reason}; an earlier try differs: {differences[-1]}")
+                return Outcome(Result.SKIPPED, "", str(reason))
+            except Difference as difference:
+                differences.append(difference)
+                watch.watch_once()
+        return judge_tries(differences, watch)
+
+    def _run_once(self, script: Script, zero_filled: bool) -> str:
+        expected_run = expect_run(script, self._program)
+        self._bench.prepare(script.options)
+        pages = KernelPages(self._bench, script.options, 0 if zero_filled else DATA)
+        try:
+            return self._comparer.compare_run(expected_run, zero_filled, pages)
+        finally:
+            pages.close()
+
+
+def judge_tries(differences: Sequence[Difference], watch: CounterWatch) -> Outcome:
+    """Returns the outcome of a script that differed at each try. If some tries differ only in the machine's counters, the
+    script differs only if the counters are at rest while the tool changes nothing, and these tries differ at one place."""
+    by_counter = [each for each in differences if isinstance(each, CounterDifference)]
+    last = differences[-1]
+    differs = Outcome(Result.DIFFERS, "", str(last), last.kind, last.command)
+    if not by_counter:
+        return differs
+    if watch.moved or not watch.watch_until(LAST_WINDOWS):
+        reason = f"other programs move {', '.join(sorted(watch.moved))}"
+    elif len({each.place for each in by_counter}) > 1:
+        reason = "each try differs in another counter or at another command"
+    else:
+        return differs
+    return Outcome(Result.INCONCLUSIVE, "", f"{reason}; differing counter: {by_counter[-1]}")

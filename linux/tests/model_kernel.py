@@ -1,0 +1,107 @@
+"""A stand-in for the running kernel: it does what the model and the known differences predict, one pass a scan.
+
+    InProcessProgram    the plain program without a process of its own, with an injected bug or none
+    ModelKernel         shows what a correct program expects of a script
+    run_on_model        a script's outcome for a program, on that kernel
+"""
+
+from __future__ import annotations
+
+from collections import Counter as Tallies
+from typing import Dict, List, Sequence, Tuple
+
+from ..common.counters import Counter, Counts, SizeCounter
+from ..common.errors import InputFault
+from ..common.files import PMD_ORDER
+from ..common.program import Program
+from ..common.script import Script
+from ..replay.comparison import Difference
+from ..replay.expected_answers import NEVER, ExpectedAnswer, Unsupported, expect_run
+from ..replay.observation import Observation, PageObservation
+from ..replay.runner import Outcome, Result, RunComparer, StoredKernel
+from ..replay.states import NodeState
+from .plain_program import report_of
+
+
+class InProcessProgram(Program):
+    """The plain program, called as a function."""
+
+    def __init__(self, bug: str = "") -> None:
+        self.path, self._bug = "plain", bug
+
+    def _run(self, options: Sequence[str], text: str) -> str:
+        return report_of(options[-1], text, list(options[:-2]), self._bug)
+
+
+class ModelKernel:
+    """The nodes of a script, and the kernel's queues and failed splits."""
+
+    def __init__(self, script: Script, zero_filled: bool) -> None:
+        self._expected = expect_run(script, InProcessProgram())
+        options = self._expected.options
+        self._states = [NodeState(order, switch, zero_filled) for order, switch in zip(options.orders, options.underused)]
+        self._queues: List[List[int]] = [[] for _ in self._states]
+        self._failed: Dict[int, int] = Tallies()
+
+    def looks(self) -> List[Observation]:
+        """Returns what it shows before all commands, and after each."""
+        out = [self._look()]
+        for expected in self._expected.answers:
+            for event in expected.events:
+                self._states[expected.node].apply(event)
+            self._requeue(expected)
+            out.append(self._look())
+        return out
+
+    def _requeue(self, expected: ExpectedAnswer) -> None:
+        state, queue = self._states[expected.node], self._queues[expected.node]
+        stays = [page for page in queue if page in state.queue]
+        if expected.words[0] != "scan" or expected.is_refused:
+            self._queues[expected.node] = stays + [page for page in state.queue if page not in stays]
+            return
+        back = {event.page for event in expected.events if event.word == "back"}
+        queue = [page for page in queue if page in back]
+        self._queues[expected.node] = queue[::-1]
+        pinned = sum(event.word == "pinned" for event in expected.events)
+        self._failed[state.order] += len(queue) if state.threshold == NEVER else pinned
+
+    def _sum(self, name: str, order: int) -> int:
+        return sum(getattr(state.event_counts, name) for state in self._states if state.order == order)
+
+    def _look(self) -> Observation:
+        partly = ("first_partly", "partly_by_split", "perhaps_partly")
+        underused = sum(state.event_counts.underused for state in self._states)
+        machine = {
+            Counter.SPLIT: self._sum("split", PMD_ORDER), Counter.SPLIT_FAILED: self._failed[PMD_ORDER],
+            Counter.DEFERRED: sum(self._sum(name, PMD_ORDER) for name in partly),
+            Counter.SPLIT_PMD: self._sum("split_pmd", PMD_ORDER), Counter.UNDERUSED: underused,
+        }
+        sizes = {}
+        for order in sorted({state.order for state in self._states}):
+            deferred = sum(self._sum(name, order) for name in (partly if order == PMD_ORDER else partly[:1]))
+            sizes[SizeCounter.SPLIT, order] = self._sum("split", order)
+            sizes[SizeCounter.SPLIT_FAILED, order] = self._failed[order]
+            sizes[SizeCounter.DEFERRED, order] = deferred
+        pages: Dict[Tuple[int, int], PageObservation] = {}
+        for node, state in enumerate(self._states):
+            for number, page in enumerate(state.pages):
+                if page.live and page.split:
+                    mapped = page.held & ~page.dropped_zero
+                    counts = tuple(count if mapped >> at & 1 else 0 for at, count in enumerate(page.totals()))
+                    pages[node, number] = PageObservation(0, counts, mapped)
+                else:
+                    pages[node, number] = PageObservation(page.subpages if page.live else 0, page.totals(), 0)
+        return Observation(Counts({**machine}, {**sizes}), pages, [list(queue) for queue in self._queues])
+
+
+def run_on_model(script: Script, program: Program) -> Outcome:
+    """Runs a script once, as Runner does on the running kernel."""
+    zero_filled = any(switch is not None for switch in script.options.underused)
+    try:
+        looks = ModelKernel(script, zero_filled).looks()
+        known = RunComparer().compare_run(expect_run(script, program), zero_filled, StoredKernel(looks))
+    except Difference as difference:
+        return Outcome(Result.DIFFERS, "", str(difference), difference.kind, difference.command)
+    except (KeyError, Unsupported, InputFault) as error:  # KeyError: a page that the program alone has
+        return Outcome(Result.SKIPPED, "", str(error))
+    return Outcome(Result.AGREES, known)

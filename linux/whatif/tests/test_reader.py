@@ -1,0 +1,43 @@
+"""The C helper on memory of our own: what is zero-filled, what is skipped, what can't be read."""
+
+from __future__ import annotations
+
+import ctypes
+import mmap
+import os
+import shutil
+import unittest
+from typing import Tuple
+
+from ...common.files import BASE
+from ..reader import load_library
+
+
+@unittest.skipUnless(shutil.which(os.environ.get("CC", "cc")) or shutil.which("gcc"), "no C compiler")
+class Zeros(unittest.TestCase):
+    def setUp(self) -> None:
+        self.memory = mmap.mmap(-1, 80 * BASE, flags=mmap.MAP_PRIVATE | mmap.MAP_ANONYMOUS)
+        self.at = ctypes.addressof(ctypes.c_char.from_buffer(self.memory))
+        self.library = load_library()
+
+    def found(self, count: int, skipped: int = 0) -> Tuple[int, int]:
+        """The zero-filled subpages, and those that couldn't be read."""
+        zero, unread = ctypes.create_string_buffer(64), ctypes.create_string_buffer(64)
+        file = os.open("/proc/self/mem", os.O_RDONLY)
+        try:
+            self.library.find_zeros(file, self.at, count, skipped.to_bytes(64, "little"), zero, unread)
+        finally:
+            os.close(file)
+        return int.from_bytes(zero.raw, "little"), int.from_bytes(unread.raw, "little")
+
+    def test_data_at_each_end_of_a_subpage(self) -> None:
+        for number, place in ((1, 0), (3, BASE - 1), (70, 2048)):
+            self.memory[number * BASE + place] = 1
+        self.assertEqual(self.found(80), ((1 << 80) - 1 & ~(1 << 1 | 1 << 3 | 1 << 70), 0))
+
+    def test_what_is_skipped_is_not_zero(self) -> None:
+        self.assertEqual(self.found(10, 0b1100000110), (0b0011111001, 0))
+
+    def test_what_is_not_mapped_is_not_known(self) -> None:
+        self.at = 0
+        self.assertEqual(self.found(3), (0, 7))
