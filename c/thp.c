@@ -1,15 +1,15 @@
-/* What stands between the header and the proved functions: pointers are tested for null, and the heap is that of the program. */
+/* Implements the header on the proved functions: tests pointers for null, and supplies the heap. */
 #include "thp.h"
 
 #include <stdbool.h>
 #include <stdlib.h>
 
-/* ---- the heap that the proved functions ask: the C library's, or that of thp_use_allocator */
+/* ---- the heap of the proved functions: that of the C library, or that of thp_use_allocator */
 
 static thp_allocator heap = {malloc, realloc, free};
-static bool is_asked = false; /* written once, by whoever asks first: to the one value that it can have then */
+static bool is_asked = false; /* set by the first allocation; concurrent ones all store the same value */
 
-/* what a request answers: the memory, or that it was refused and an address that is never read */
+/* the result of a request: the memory, or a failure and an address that is never read */
 typedef struct request {
     bool ok;
     void *memory;
@@ -32,7 +32,7 @@ request rattle_alloc(size_t size, size_t alignment);
 request rattle_realloc(void *memory, size_t kept, size_t size, size_t alignment);
 void rattle_dealloc(void *memory);
 
-/* alignments go up to 16, which malloc gives to each block that is large enough for it */
+/* alignments are at most 16, which malloc guarantees for every block of at least that size */
 request rattle_alloc(size_t size, size_t alignment) {
     note_asked();
     return answer(heap.allocate(size != 0 ? size : alignment));
@@ -54,7 +54,7 @@ thp_code thp_use_allocator(const thp_allocator *allocator) {
     return THP_OK;
 }
 
-/* ---- words */
+/* ---- texts */
 
 const char *thp_version(void) { return THP_VERSION; }
 
@@ -152,7 +152,7 @@ uint32_t thp_c_pass_put_back(thp_pass *pass, uint32_t caller, thp_back *back);
 uint32_t thp_c_pass_abandon(thp_pass *pass, uint32_t caller);
 uint32_t thp_c_pass_count(thp_pass *pass, uint32_t *pages);
 
-/* the proved functions lay their structs out as these do */
+/* the proved functions have structs of the same layout */
 _Static_assert(sizeof(thp_node) == 16 && offsetof(thp_node, live) == 8, "a handle is a pointer and a mark");
 _Static_assert(sizeof(thp_pass) == 16 && offsetof(thp_pass, live) == 8, "a handle is a pointer and a mark");
 _Static_assert(sizeof(thp_check) == 16 && offsetof(thp_check, live) == 8, "a handle is a pointer and a mark");
@@ -163,7 +163,7 @@ _Static_assert(sizeof(thp_back) == 8, "two numbers of 32 bits");
 _Static_assert(sizeof(thp_stats) == 80, "ten numbers of 64 bits");
 _Static_assert(sizeof(thp_code) == sizeof(uint32_t), "a code is a number of 32 bits");
 
-/* where an empty range of bytes lies whose pointer is null */
+/* the address of an empty range of bytes whose pointer is null */
 static uint8_t no_bytes;
 
 thp_code thp_check_text(const uint8_t *text, size_t length, uint32_t *line) {
@@ -308,7 +308,7 @@ thp_code thp_node_journal(thp_node *node, uint8_t *buffer, size_t capacity, size
 
 /* ---- shared nodes */
 
-/* the mark of the next cell: no two cells of a process have one, so passes of two cells are told by theirs */
+/* the mark of the next cell: unique within a process, so it distinguishes passes of different cells */
 static uint64_t next_mark = 0;
 
 thp_code thp_cell_create(thp_pass *pass, uint32_t blocks, uint32_t order, uint32_t underused, uint32_t callers) {

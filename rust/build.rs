@@ -1,10 +1,26 @@
 //! Links libthp.a, which `make -C c` leaves in `c/out`; the variable `THP_LIB` names another folder.
 use std::env;
+use std::path::PathBuf;
+use std::process::exit;
 
 fn main() {
-    let folder = env::var("THP_LIB").unwrap_or_else(|_| format!("{}/../c/out", env!("CARGO_MANIFEST_DIR")));
-    println!("cargo:rustc-link-search=native={folder}");
-    println!("cargo:rustc-link-lib=static=thp");
-    println!("cargo:rerun-if-changed={folder}/libthp.a");
     println!("cargo:rerun-if-env-changed=THP_LIB");
+    let folder = match env::var_os("THP_LIB") {
+        Some(folder) => PathBuf::from(folder),
+        None => PathBuf::from(concat!(env!("CARGO_MANIFEST_DIR"), "/../c/out")),
+    };
+    println!("cargo:rerun-if-changed={}", folder.join("libthp.a").display());
+    if !folder.is_absolute() {
+        // a build script runs in the crate's folder, which isn't that of the user
+        eprintln!("leversorrel: THP_LIB must be an absolute path: {}", folder.display());
+        exit(1);
+    }
+    if !folder.join("libthp.a").is_file() {
+        eprintln!("leversorrel: libthp.a isn't in {}:", folder.display());
+        eprintln!("build it by `make -C c archive all` in the repository,");
+        eprintln!("or set THP_LIB to the folder that has it, such as that of `pkg-config --variable=libdir thp`");
+        exit(1);
+    }
+    println!("cargo:rustc-link-search=native={}", folder.display());
+    println!("cargo:rustc-link-lib=static=thp");
 }

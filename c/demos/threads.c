@@ -34,7 +34,7 @@ static void *on_its_own(void *node) {
     return NULL;
 }
 
-static void *behind_the_lock(void *caller) {
+static void *after_the_lock(void *caller) {
     for (int round = 0; round < ROUNDS; round++) {
         if (pthread_mutex_lock(&lock) != 0) exit(1);
         live(&shared, *(const uint32_t *)caller);
@@ -80,7 +80,7 @@ int main(void) {
     want(thp_node_create(&shared, 64, 9, THP_UNDERUSED_OFF));
     for (uint32_t k = 0; k < THREADS; k++) {
         callers[k] = k;
-        start(&threads[k], behind_the_lock, &callers[k]);
+        start(&threads[k], after_the_lock, &callers[k]);
     }
     for (int k = 0; k < THREADS; k++) end(threads[k]);
     check(&shared);

@@ -74,7 +74,7 @@ static void texts(void) {
 /* the reason goes to a buffer of its length, and to no shorter one; nothing is written behind it */
 static void reasons(void) {
     static const char text[] = "thp-journal 1\nnode 0 blocks 1\n0 alloc 1\nend\n";
-    static const char reason[] = "line 3: 0 alloc 1\nexpected: 0 alloc 0\nwhy: the next page has the number 0\n";
+    static const char reason[] = "line 3: 0 alloc 1\nexpected: 0 alloc 0\nwhy: the next page number is 0\n";
     const size_t length = sizeof reason - 1;
     thp_check check = EMPTY;
     uint64_t line;

@@ -1,7 +1,7 @@
-/* Memory refused at each request in turn: the call tells it, nothing is lost, nothing is kept. */
+/* Memory refused at each request in turn: the call reports it, nothing is lost, nothing is kept. And what nodes and events take. */
 #include "wanted.h"
 
-static size_t requests, refused_request;
+static size_t requests, refused_request, requested;
 static long blocks;
 static int refusals;
 
@@ -9,6 +9,7 @@ static int is_refused(void) { return ++requests == refused_request; }
 
 static void *allocate(size_t size) {
     void *memory = is_refused() ? NULL : malloc(size);
+    requested += size;
     if (memory != NULL) blocks++;
     return memory;
 }
@@ -100,6 +101,30 @@ static void reserved(void) {
     WANT(blocks == 0);
 }
 
+/* the memory that creates a node of so many blocks, and then that of so many events */
+static size_t memory_of(uint32_t count_of_blocks, uint32_t events, size_t *of_events) {
+    thp_node node = THP_NODE_INIT;
+    refused_request = 0;
+    requested = 0;
+    ANSWERS(thp_node_create(&node, count_of_blocks, 9, THP_UNDERUSED_OFF), THP_OK);
+    const size_t of_node = requested;
+    ANSWERS(thp_node_reserve(&node, events), THP_OK);
+    *of_events = requested - of_node;
+    ANSWERS(thp_node_destroy(&node), THP_OK);
+    return of_node;
+}
+
+/* the header's figures: about 100 KB for a node, 1.2 KB for a block, 96 bytes for an event */
+static void figures(void) {
+    size_t of_events, of_none;
+    const size_t least = memory_of(1, 100000, &of_events);
+    const size_t most = memory_of(THP_MAX_BLOCKS, 0, &of_none);
+    const size_t block = (most - least) / (THP_MAX_BLOCKS - 1);
+    WANT(least > 95000 && least < 105000);
+    WANT(block > 1150 && block < 1250);
+    WANT(of_events == 96 * 100000 && of_none == 0);
+}
+
 int main(void) {
     static const thp_allocator counted = {allocate, resize, give_back};
     static const thp_allocator cut = {allocate, NULL, give_back};
@@ -118,6 +143,7 @@ int main(void) {
         WANT(size == length && memcmp(text, wanted, length) == 0);
     }
     reserved();
+    figures();
     if (failures == 0) printf("refused: done, each of %lu requests\n", (unsigned long)all);
     return failures != 0;
 }

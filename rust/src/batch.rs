@@ -1,9 +1,11 @@
 //! The open batch of one caller, as a value.
+use std::fmt;
+
 use crate::fault::Fault;
 use crate::node::{Back, Node, Tried};
 use crate::pass::Pass;
 
-/// What has batches: a [`Node`], or a [`Pass`] to a shared one.
+/// A source of batches: a [`Node`], or a [`Pass`] of a shared one.
 pub trait HasBatches: sealed::Calls {}
 
 impl HasBatches for Node {}
@@ -48,10 +50,10 @@ mod sealed {
     }
 }
 
-/// The open batch of a caller: pages that it took off the queue together.
+/// The open batch of a caller: pages that it took from the queue together.
 ///
-/// A batch that is dropped is put back. Where that fails (another pass has the node, or memory lacks) it stays open, and the
-/// caller's `put_back` on what it was taken from returns it later.
+/// Dropping a batch puts it back. If that fails, because another pass has the node or memory can't be allocated, the batch stays
+/// open, and the caller's `put_back` on the node or pass can return it later.
 ///
 /// ```
 /// use leversorrel::{Fault, Node, Tried};
@@ -67,6 +69,29 @@ mod sealed {
 /// assert_eq!(node.put_back(1), Err(Fault::NoBatch));
 /// # Ok::<(), Fault>(())
 /// ```
+///
+/// A batch can't outlive its node or pass, which nothing else uses meanwhile:
+///
+/// ```compile_fail,E0505
+/// let mut node = leversorrel::Node::new(16, 9, None).unwrap();
+/// let batch = node.batch(0, 8).unwrap();
+/// drop(node);
+/// batch.taken();
+/// ```
+///
+/// ```compile_fail,E0505
+/// let mut pass = leversorrel::Pass::of_new_cell(16, 9, None, 2).unwrap();
+/// let batch = pass.batch(0, 8).unwrap();
+/// drop(pass);
+/// batch.taken();
+/// ```
+///
+/// ```compile_fail,E0499
+/// let mut node = leversorrel::Node::new(16, 9, None).unwrap();
+/// let batch = node.batch(0, 8).unwrap();
+/// node.alloc(0).unwrap();
+/// batch.taken();
+/// ```
 pub struct Batch<'a, H: HasBatches> {
     of: &'a mut H,
     caller: u32,
@@ -75,22 +100,22 @@ pub struct Batch<'a, H: HasBatches> {
 }
 
 impl<'a, H: HasBatches> Batch<'a, H> {
-    // The batch that the caller has open.
+    // The open batch of the caller.
     pub(crate) fn new(of: &'a mut H, caller: u32, taken: u32) -> Batch<'a, H> {
         Batch { of, caller, taken, is_open: true }
     }
 
-    /// How many pages were taken.
+    /// Returns the number of pages taken.
     pub fn taken(&self) -> u32 {
         self.taken
     }
 
-    /// Tries the next page that is still in flight.
+    /// Tries the next page that is still in flight. An error leaves the batch open.
     pub fn split_next(&mut self) -> Result<Tried, Fault> {
         self.of.split_next(self.caller)
     }
 
-    /// Returns the pages that are left. After an error it is as it was: the error hands it back.
+    /// Returns the remaining pages to the node. An error returns the batch unchanged.
     pub fn put_back(mut self) -> Result<Back, (Self, Fault)> {
         match self.of.put_back(self.caller) {
             Ok(back) => {
@@ -101,7 +126,7 @@ impl<'a, H: HasBatches> Batch<'a, H> {
         }
     }
 
-    /// Leaves the pages in flight, out of the queue.
+    /// Closes the batch and leaves its pages in flight, out of the queue.
     pub fn abandon(mut self) -> Result<(), Fault> {
         self.is_open = false;
         self.of.abandon(self.caller)
@@ -111,8 +136,14 @@ impl<'a, H: HasBatches> Batch<'a, H> {
 impl<H: HasBatches> Drop for Batch<'_, H> {
     fn drop(&mut self) {
         if self.is_open {
-            // where it fails the batch stays open, as the type's description says
+            // on failure the batch stays open, as the type's description says
             let _ = self.of.put_back(self.caller);
         }
+    }
+}
+
+impl<H: HasBatches> fmt::Debug for Batch<'_, H> {
+    fn fmt(&self, f: &mut fmt::Formatter<'_>) -> fmt::Result {
+        f.debug_struct("Batch").field("caller", &self.caller).field("taken", &self.taken).finish_non_exhaustive()
     }
 }

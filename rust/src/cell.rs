@@ -3,21 +3,21 @@ use crate::fault::Fault;
 use crate::node::Node;
 use crate::pass::Pass;
 
-/// A node that threads share, while no pass of it is handed out: it is divided into passes, and made of them again.
+/// A node that threads share, as a whole: it can be divided into passes, and is assembled from them again.
 ///
 /// ```
 /// use leversorrel::{Cell, Fault};
 /// use std::thread;
 ///
-/// let passes = Cell::new(16, 9, None, 4)?.passes().map_err(|(_, fault)| fault)?;
+/// let passes = Cell::new(16, 9, None, 4)?.passes()?;
 /// let threads: Vec<_> = passes.into_iter().enumerate().map(|(caller, mut pass)| thread::spawn(move || {
-///     // made again where another pass has the node
+///     // repeated while another pass has the node
 ///     while pass.alloc(caller as u32) == Err(Fault::Busy) {}
 ///     pass
 /// })).collect();
 /// let passes = threads.into_iter().map(|thread| thread.join().unwrap()).collect();
-/// let cell = Cell::of(passes).map_err(|(_, fault)| fault)?;
-/// let mut node = cell.finish().map_err(|(_, fault)| fault)?;
+/// let cell = Cell::of(passes)?;
+/// let mut node = cell.finish()?;
 /// assert_eq!(node.stats().allocations, 4);
 /// # Ok::<(), Fault>(())
 /// ```
@@ -27,12 +27,13 @@ pub struct Cell {
 }
 
 impl Cell {
-    /// A shared node of this shape, as [`Node::new`] has it, for the callers below `callers` (1 to 64).
+    /// Creates a shared node of this shape, as [`Node::new`] does, for `callers` callers (1 to 64), which are numbered from 0.
     pub fn new(blocks: u32, order: u32, underused: Option<u32>, callers: u32) -> Result<Cell, Fault> {
         Ok(Cell { pass: Pass::of_new_cell(blocks, order, underused, callers)? })
     }
 
-    /// A pass for each caller, in their order. The error, want of memory, hands the cell back.
+    /// Divides the cell into one pass for each caller, in the callers' order. Fails with [`Fault::OutOfMemory`], and then returns
+    /// the cell.
     pub fn passes(self) -> Result<Vec<Pass>, (Cell, Fault)> {
         let mut first = self.pass;
         let mut others = Vec::new();
@@ -54,8 +55,8 @@ impl Cell {
         Ok(others)
     }
 
-    /// The cell whose passes these are, in any order. The error hands those back that weren't joined: [`Fault::BadPass`] where
-    /// they aren't all of one cell, or aren't all of its passes.
+    /// Joins all passes of a cell, in any order. Fails with [`Fault::BadPass`] if they are not all of one cell, or not all of its
+    /// passes, and then returns the passes that were not joined.
     pub fn of(mut passes: Vec<Pass>) -> Result<Cell, (Vec<Pass>, Fault)> {
         passes.sort_by_key(|pass| pass.callers().start);
         let mut passes = passes.into_iter();
@@ -74,12 +75,12 @@ impl Cell {
         }
     }
 
-    /// The pass of all callers, which never meets [`Fault::Busy`].
+    /// Returns the pass of all callers, which never gets [`Fault::Busy`].
     pub fn into_pass(self) -> Pass {
         self.pass
     }
 
-    /// Takes the node out, where no caller has a batch open ([`Fault::BatchOpen`]). Else hands the cell back.
+    /// Returns the node. Fails with [`Fault::BatchOpen`] if a caller has an open batch, and then returns the cell.
     pub fn finish(self) -> Result<Node, (Cell, Fault)> {
         self.pass.finish().map_err(|(pass, fault)| (Cell { pass }, fault))
     }

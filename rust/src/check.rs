@@ -5,8 +5,8 @@ use crate::fault::{done, Fault};
 use crate::sys;
 use crate::Verdict;
 
-/// A check of journals whose text comes in parts, of any length: of it no more is kept than what lives on the node at hand and the line
-/// begun.
+/// A check of journals of any length, whose text arrives in parts. It stores only the state of the current node and the line in
+/// progress.
 ///
 /// ```
 /// use leversorrel::{Check, Fault, Verdict};
@@ -16,7 +16,7 @@ use crate::Verdict;
 ///     check.read(part)?;
 /// }
 /// assert_eq!(check.finish()?, Verdict::Illegal { line: 3 });
-/// assert_eq!(check.reason()?, "line 3: 0 alloc 1\nexpected: 0 alloc 0\nwhy: the next page has the number 0\n");
+/// assert_eq!(check.reason()?, "line 3: 0 alloc 1\nexpected: 0 alloc 0\nwhy: the next page number is 0\n");
 /// assert_eq!(check.read(b"0 alloc 2\n"), Err(Fault::Finished));
 /// # Ok::<(), Fault>(())
 /// ```
@@ -24,22 +24,22 @@ pub struct Check {
     handle: sys::CheckHandle,
 }
 
-// SAFETY: what a handle leads to is plain data and memory of its own: proved, `check_handle_send` in
-// crates/thp_c_calls/proofs/CheckCrossings.antt. The allocator that the handle's memory goes back to, the C library's, takes memory of any
-// thread.
+// SAFETY: a handle refers to plain data and memory of its own: proved, `check_handle_send` in
+// crates/thp_capi/proofs/CheckCrossings.antt. The handle's memory is freed with the C library's allocator, which accepts memory
+// from any thread.
 unsafe impl Send for Check {}
 
 impl Check {
-    /// A check to which nothing has come. The error is want of memory.
+    /// Creates a check that has read nothing. Fails with [`Fault::OutOfMemory`].
     pub fn new() -> Result<Check, Fault> {
         let mut handle = sys::CheckHandle::EMPTY;
-        // SAFETY: the handle is a local that leads to nothing.
+        // SAFETY: the handle is local and empty.
         done(unsafe { sys::thp_check_create(&mut handle) })?;
         Ok(Check { handle })
     }
 
-    /// Reads the next part of the text. [`Fault::Finished`] behind a finish. Where memory is refused the check is lost, and this and
-    /// each call behind it answers [`Fault::OutOfMemory`].
+    /// Reads the next part of the text. Fails with [`Fault::Finished`] after a finish. Fails with [`Fault::OutOfMemory`] if
+    /// memory can't be allocated; the check is then lost, and every later call fails with that error too.
     pub fn read(&mut self, part: &[u8]) -> Result<(), Fault> {
         // SAFETY: the handle is this check's own, and the pointer and the length are those of one slice.
         match unsafe { sys::thp_check_read(&mut self.handle, part.as_ptr(), part.len()) } {
@@ -48,7 +48,7 @@ impl Check {
         }
     }
 
-    /// The verdict on the text that came, which is the whole text: no more is read then.
+    /// Finishes the check and returns the verdict on the text read, which is taken as the whole text.
     pub fn finish(&mut self) -> Result<Verdict, Fault> {
         let mut line = 0;
         // SAFETY: the handle is this check's own, and the line is a local.
@@ -58,8 +58,8 @@ impl Check {
         }
     }
 
-    /// Behind a finish that found an illegal event, why it doesn't fit: the text that `thpcheck --explain` writes. Else
-    /// [`Fault::NoReason`].
+    /// Returns why the illegal event does not fit, after a finish that found one: the text of `thpcheck --explain`. Otherwise
+    /// fails with [`Fault::NoReason`].
     pub fn reason(&mut self) -> Result<String, Fault> {
         const TOO_SMALL: u32 = 19;
         let mut text = Vec::new();
@@ -79,12 +79,12 @@ impl Check {
     }
 }
 
-// THP_EMPTY: a read found no memory, and gave the check back
+// THP_EMPTY: a read could not allocate memory and freed the check
 const LOST: u32 = 12;
 
 impl Drop for Check {
     fn drop(&mut self) {
-        // SAFETY: the handle is this check's own, and nothing uses it later. One that leads to nothing stays so.
+        // SAFETY: the handle is this check's own, and nothing uses it later. An empty one stays empty.
         unsafe { sys::thp_check_destroy(&mut self.handle) };
     }
 }

@@ -15,10 +15,36 @@
 //! # Ok::<(), leversorrel::Fault>(())
 //! ```
 //!
-//! What each call does to a node is proved of the library; docs/C.md of the repository tells it call by call. What the header
-//! asks of a caller is met by the types here: a handle is never copied, `&mut self` gives it to one call at a time, and it is
-//! given back once, by `Drop`.
-#![warn(missing_docs)]
+//! The effect of each call on a node is proved; docs/C.md of the repository describes it for each call. The types of this crate
+//! guarantee what the header requires of a program: a handle is never copied, `&mut self` gives it to one call at a time, and
+//! `Drop` frees it exactly once. The library changes a handle during each call, so a handle can move to another thread, but
+//! threads can't share it: they share a node by its passes.
+//!
+//! ```compile_fail,E0277
+//! fn share<T: Sync>(_: T) {}
+//! share(leversorrel::Node::new(16, 9, None).unwrap());
+//! ```
+//!
+//! ```compile_fail,E0277
+//! fn share<T: Sync>(_: T) {}
+//! share(leversorrel::Pass::of_new_cell(16, 9, None, 2).unwrap());
+//! ```
+//!
+//! ```compile_fail,E0599
+//! let copy = leversorrel::Node::new(16, 9, None).unwrap().clone();
+//! ```
+//!
+//! ```compile_fail,E0599
+//! let copy = leversorrel::Pass::of_new_cell(16, 9, None, 2).unwrap().clone();
+//! ```
+//!
+//! ```compile_fail,E0599
+//! let copy = leversorrel::Check::new().unwrap().clone();
+//! ```
+//!
+//! The library needs a processor of the level x86-64-v2 (POPCNT, SSE4.2). A node stores every event of its journal until it is
+//! dropped: 96 bytes each, in memory that doubles when it is full.
+#![deny(missing_docs)]
 
 mod batch;
 mod cell;
@@ -38,27 +64,27 @@ pub use pass::Pass;
 
 use std::ffi::CStr;
 
-/// What the check of a text of journals found.
+/// The result of the check of a text of journals.
 #[derive(Clone, Copy, PartialEq, Eq, Hash, Debug)]
 pub enum Verdict {
     /// Each event fits those before it.
     Legal,
-    /// The event of this line doesn't.
+    /// The event of this line does not.
     Illegal {
-        /// The line, from 1 on.
+        /// The line, counted from 1.
         line: u64,
     },
-    /// The text isn't one of journals.
+    /// The text is not a text of journals.
     Faulty {
-        /// The line of the first fault, from 1 on; 0 where the text is too long.
+        /// The line of the first error, counted from 1; 0 if the text is too long.
         line: u64,
-        /// Its kind.
+        /// The kind of the error.
         fault: Fault,
     },
 }
 
 impl Verdict {
-    // The verdict of a code and its line. The error is want of memory.
+    // Converts a code and its line to a verdict. Fails with `OutOfMemory`.
     pub(crate) fn of(code: u32, line: u64) -> Result<Verdict, Fault> {
         const ILLEGAL: u32 = 21;
         match code {
@@ -72,7 +98,7 @@ impl Verdict {
     }
 }
 
-/// Whether the journals that a text tells are legal. The error is want of memory.
+/// Checks whether the journals in a text are legal. Fails with [`Fault::OutOfMemory`].
 ///
 /// ```
 /// use leversorrel::{check, Fault, Verdict};
@@ -89,7 +115,12 @@ pub fn check(text: &[u8]) -> Result<Verdict, Fault> {
     Verdict::of(code, u64::from(line))
 }
 
-/// The version of the library that is linked.
+// The example of the crate's README.md is compiled and run.
+#[cfg(doctest)]
+#[doc = include_str!("../README.md")]
+struct Readme;
+
+/// Returns the version of the linked library.
 pub fn version() -> &'static str {
     // SAFETY: the text is static, ends with a zero and is never null.
     unsafe { CStr::from_ptr(sys::thp_version()) }.to_str().unwrap_or("")

@@ -5,51 +5,52 @@ use crate::batch::Batch;
 use crate::fault::{done, Fault};
 use crate::sys;
 
-/// What became of a page.
+/// The effect of an unmap or an unpin on its page.
 #[derive(Clone, Copy, PartialEq, Eq, Hash, Debug)]
+#[non_exhaustive]
 pub enum Outcome {
-    /// It lives on where it stood.
+    /// The page stays live, on the list that it was on.
     Stays,
-    /// It joined the deferred split queue.
+    /// The page joined the deferred split queue.
     Queued,
-    /// It is gone.
+    /// The page was freed.
     Freed,
 }
 
-/// A set of subpages of one page, numbered below 512.
+/// A set of subpages of one page, which are numbered below 512.
 #[derive(Clone, Copy, PartialEq, Eq, Hash, Debug, Default)]
 pub struct SubSet {
     words: [u64; 8],
 }
 
 impl SubSet {
-    /// Whether subpage `i` is in the set.
+    /// Returns whether subpage `i` is in the set.
     pub fn contains(&self, i: usize) -> bool {
         self.words.get(i / 64).is_some_and(|word| word >> (i % 64) & 1 == 1)
     }
 
-    /// How many subpages the set has.
+    /// Returns the number of subpages in the set.
     pub fn len(&self) -> usize {
         self.words.iter().map(|word| word.count_ones() as usize).sum()
     }
 
-    /// Whether the set has none.
+    /// Returns whether the set is empty.
     pub fn is_empty(&self) -> bool {
         self.words == [0; 8]
     }
 
-    /// Its subpages, ascending.
+    /// Returns the subpages in ascending order.
     pub fn iter(&self) -> impl Iterator<Item = usize> + '_ {
         (0..512).filter(|&i| self.contains(i))
     }
 }
 
-/// What an unmap or an unpin did.
+/// The result of an unmap or an unpin.
 #[derive(Clone, Copy, PartialEq, Eq, Hash, Debug)]
 pub struct Done {
-    /// What became of the page.
+    /// The effect on the page.
     pub outcome: Outcome,
-    /// The subpages whose frames came back.
+    /// The subpages whose frames were given back.
     pub released: SubSet,
 }
 
@@ -64,8 +65,9 @@ impl Done {
     }
 }
 
-/// What a try of a batch's next page did.
+/// The effect of a try of a batch's next page.
 #[derive(Clone, Copy, PartialEq, Eq, Hash, Debug)]
+#[non_exhaustive]
 pub enum Tried {
     /// No page of the batch is left to try.
     Done,
@@ -73,7 +75,7 @@ pub enum Tried {
     Split(u64),
     /// The page has pins and stays in the batch.
     Pinned(u64),
-    /// The page isn't worth a split and left the batch.
+    /// The page is not worth a split and left the batch.
     Used(u64),
 }
 
@@ -88,15 +90,20 @@ impl Tried {
     }
 }
 
-/// How many pages a scan took, split, found pinned, put back, dropped, and found in use.
+/// The result of a scan, as page counts.
 #[derive(Clone, Copy, PartialEq, Eq, Hash, Debug)]
-#[allow(missing_docs)]
 pub struct Scan {
+    /// The number of pages taken from the queue.
     pub taken: u32,
+    /// The number of pages split.
     pub split: u32,
+    /// The number of pages found pinned.
     pub pinned: u32,
+    /// The number of pinned pages queued again.
     pub back: u32,
+    /// The number of pinned pages not queued again.
     pub dropped: u32,
+    /// The number of pages not worth a split.
     pub used: u32,
 }
 
@@ -107,11 +114,12 @@ impl Scan {
     }
 }
 
-/// How many pages a put-back queued again, and how many it dropped.
+/// The result of a put back, as page counts.
 #[derive(Clone, Copy, PartialEq, Eq, Hash, Debug)]
-#[allow(missing_docs)]
 pub struct Back {
+    /// The number of pages queued again.
     pub back: u32,
+    /// The number of pages not queued again.
     pub dropped: u32,
 }
 
@@ -121,61 +129,65 @@ impl Back {
     }
 }
 
-/// A node's numbers; one that is larger than 2^64 - 1 is told as that.
+/// A node's statistics; numbers greater than 2^64 - 1 are stored as that.
 #[derive(Clone, Copy, PartialEq, Eq, Hash, Debug)]
 pub struct Stats {
-    /// Events in the journal.
+    /// The number of events in the journal.
     pub events: u64,
-    /// Pages allocated, those that are gone counted in.
+    /// The number of pages ever allocated, including those that were freed.
     pub allocations: u64,
-    /// Pages in the deferred split queue.
+    /// The number of pages in the deferred split queue.
     pub queued: u64,
-    /// Frames given back.
+    /// The number of frames given back.
     pub frames_given: u64,
-    /// Frames that the live pages hold.
+    /// The number of frames that the live pages hold.
     pub frames_held: u64,
-    /// Pages split.
+    /// The number of pages split.
     pub split_page: u64,
-    /// Tries that found a page pinned.
+    /// The number of tries that found a page pinned.
     pub split_page_failed: u64,
-    /// Times a page was queued; neither a put-back nor an allocation counts.
+    /// The number of times that an unmap or an unpin queued a page. A put back or an allocation doesn't count.
     pub deferred_split_page: u64,
-    /// Pages split that weren't partly mapped, but underused.
+    /// The number of pages split that were underused and not partly mapped.
     pub underused_split_page: u64,
-    /// PMD mappings split.
+    /// The number of PMD mappings split.
     pub split_pmd: u64,
 }
 
-/// A memory node: its huge pages, their deferred split queue, and the journal of all that happened. Callers are numbered below
-/// 64 ([`Fault::BadCaller`]). A call that fails leaves the node as it was.
+/// A memory node: its huge pages, their deferred split queue, and the journal of every call that changed them.
+///
+/// Callers are numbered from 0 to 63; a greater number fails with [`Fault::BadCaller`]. A call that records events can also fail
+/// with [`Fault::OutOfMemory`]. A call that fails leaves the node unchanged.
 pub struct Node {
     handle: sys::Handle,
 }
 
-// SAFETY: what a handle leads to is plain data and memory of its own: proved, `handle_send` in crates/thp_c_calls/proofs/Crossings.antt.
-// The allocator that the handle's memory goes back to, the C library's, takes memory of any thread.
+// SAFETY: a handle refers to plain data and memory of its own: proved, `handle_send` in crates/thp_capi/proofs/Crossings.antt.
+// The handle's memory is freed with the C library's allocator, which accepts memory from any thread.
 unsafe impl Send for Node {}
 
 impl Node {
-    // The node of a handle that leads to one, which nothing else has.
+    // The node of a handle that is not empty and that nothing else uses.
     pub(crate) fn of(handle: sys::Handle) -> Node {
         Node { handle }
     }
 
-    /// A node with no page, of `blocks` blocks (1 to 4,096), whose pages have `2^order` subpages (2 to 9). With a threshold
-    /// `underused`, below `2^order`, a page with more zero-filled subpages is worth a split.
+    /// Creates a node with no page, of `blocks` blocks (1 to 4,096), whose pages have `2^order` subpages (order 2 to 9).
+    ///
+    /// With a threshold `underused`, below `2^order`, a page with more zero-filled subpages is worth a split. Fails with
+    /// [`Fault::BadSize`] or [`Fault::OutOfMemory`].
     pub fn new(blocks: u32, order: u32, underused: Option<u32>) -> Result<Node, Fault> {
         const OFF: u32 = u32::MAX;
         if underused.is_some_and(|threshold| threshold >= 512) {
             return Err(Fault::BadSize);
         }
         let mut handle = sys::Handle::EMPTY;
-        // SAFETY: the handle is empty, and a local until the node has it.
+        // SAFETY: the handle is empty, and local until the node owns it.
         done(unsafe { sys::thp_node_create(&mut handle, blocks, order, underused.unwrap_or(OFF)) })?;
         Ok(Node { handle })
     }
 
-    /// A new page, mapped whole once; its number is the count of allocations before.
+    /// Allocates a page, mapped whole once; its number is the number of allocations before it. Fails with `Closed` or `NoBlock`.
     pub fn alloc(&mut self, caller: u32) -> Result<u64, Fault> {
         let mut page = 0;
         // SAFETY: the handle is this node's own, and the page is a local.
@@ -183,81 +195,87 @@ impl Node {
         Ok(page)
     }
 
-    /// One more mapping of the whole page, by a PMD entry.
+    /// Maps the whole page once more, by a PMD entry. Fails with `NoPage`, `IsSplit` or `TooMany`.
     pub fn map_whole(&mut self, caller: u32, page: u64) -> Result<(), Fault> {
         // SAFETY: the handle is this node's own.
         done(unsafe { sys::thp_node_map_whole(&mut self.handle, caller, page) })
     }
 
-    /// One mapping of the whole page less.
+    /// Removes one mapping of the whole page. Fails with `NoPage`, `IsSplit` or `NotMapped`.
     pub fn unmap_whole(&mut self, caller: u32, page: u64) -> Result<Done, Fault> {
         let mut told = sys::Done::default();
-        // SAFETY: the handle is this node's own, and what is told goes to a local.
+        // SAFETY: the handle is this node's own, and the result goes to a local.
         done(unsafe { sys::thp_node_unmap_whole(&mut self.handle, caller, page, &mut told) })?;
         Ok(Done::of(told))
     }
 
-    /// One more mapping of each of the `count` subpages from `first` on, by PTE entries.
+    /// Maps each of the `count` subpages from `first` on once more, by PTE entries. Fails with `NoPage`, `BadRange`, `Gone` or
+    /// `TooMany`.
     pub fn map_sub(&mut self, caller: u32, page: u64, first: u32, count: u32) -> Result<(), Fault> {
         // SAFETY: the handle is this node's own.
         done(unsafe { sys::thp_node_map_sub(&mut self.handle, caller, page, first, count) })
     }
 
-    /// One mapping of each of the `count` subpages from `first` on less, which may queue the page.
+    /// Removes one mapping of each of the `count` subpages from `first` on, which can queue or free the page. Fails with
+    /// `NoPage`, `BadRange` or `NotMapped`.
     pub fn unmap_sub(&mut self, caller: u32, page: u64, first: u32, count: u32) -> Result<Done, Fault> {
         let mut told = sys::Done::default();
-        // SAFETY: the handle is this node's own, and what is told goes to a local.
+        // SAFETY: the handle is this node's own, and the result goes to a local.
         done(unsafe { sys::thp_node_unmap_sub(&mut self.handle, caller, page, first, count, &mut told) })?;
         Ok(Done::of(told))
     }
 
-    /// One PMD mapping becomes a PTE mapping of each subpage.
+    /// Replaces one PMD mapping by a PTE mapping of each subpage. Fails with `NoPage`, `IsSplit` or `NotMapped`.
     pub fn split_pmd(&mut self, caller: u32, page: u64) -> Result<(), Fault> {
         // SAFETY: the handle is this node's own.
         done(unsafe { sys::thp_node_split_pmd(&mut self.handle, caller, page) })
     }
 
-    /// One more pin, which keeps the page from being split.
+    /// Adds a pin, which prevents the page from being split. Fails with `NoPage`, `IsSplit` or `TooMany`.
     pub fn pin(&mut self, caller: u32, page: u64) -> Result<(), Fault> {
         // SAFETY: the handle is this node's own.
         done(unsafe { sys::thp_node_pin(&mut self.handle, caller, page) })
     }
 
-    /// One pin less.
+    /// Removes a pin, which can free the page. Fails with `NoPage`, `IsSplit` or `NotPinned`.
     pub fn unpin(&mut self, caller: u32, page: u64) -> Result<Done, Fault> {
         let mut told = sys::Done::default();
-        // SAFETY: the handle is this node's own, and what is told goes to a local.
+        // SAFETY: the handle is this node's own, and the result goes to a local.
         done(unsafe { sys::thp_node_unpin(&mut self.handle, caller, page, &mut told) })?;
         Ok(Done::of(told))
     }
 
-    /// Data is written to each of the `count` subpages from `first` on, which aren't zero-filled then.
+    /// Records that data is written to each of the `count` subpages from `first` on, which are not zero-filled afterwards. Fails
+    /// with `NoPage`, `BadRange`, `IsSplit` or `NotMapped`.
     pub fn write(&mut self, caller: u32, page: u64, first: u32, count: u32) -> Result<(), Fault> {
         // SAFETY: the handle is this node's own.
         done(unsafe { sys::thp_node_write(&mut self.handle, caller, page, first, count) })
     }
 
-    /// Zeros are written to each of the `count` subpages from `first` on, which are zero-filled then.
+    /// Records that zeros are written to each of the `count` subpages from `first` on, which are zero-filled afterwards. Fails as
+    /// [`Node::write`] does.
     pub fn zero(&mut self, caller: u32, page: u64, first: u32, count: u32) -> Result<(), Fault> {
         // SAFETY: the handle is this node's own.
         done(unsafe { sys::thp_node_zero(&mut self.handle, caller, page, first, count) })
     }
 
-    /// From here on nothing enters the queue and no page is allocated.
+    /// Closes the node: no page is queued or allocated afterwards. Fails with `Closed`.
     pub fn close(&mut self, caller: u32) -> Result<(), Fault> {
         // SAFETY: the handle is this node's own.
         done(unsafe { sys::thp_node_close(&mut self.handle, caller) })
     }
 
-    /// Takes up to `n` pages (at most 128), the oldest first, tries each, and returns those that are pinned.
+    /// Takes up to `n` of the oldest queued pages (at most 128), in order, tries each, and returns the pinned ones. Fails with
+    /// `BadCount` or `HasBatch`.
     pub fn scan(&mut self, caller: u32, n: u32) -> Result<Scan, Fault> {
         let mut told = sys::Scan::default();
-        // SAFETY: the handle is this node's own, and what is told goes to a local.
+        // SAFETY: the handle is this node's own, and the result goes to a local.
         done(unsafe { sys::thp_node_scan(&mut self.handle, caller, n, &mut told) })?;
         Ok(Scan::of(told))
     }
 
-    /// Takes up to `n` pages (at most 128), the oldest first, into the caller's batch, which is open then. Answers how many.
+    /// Takes up to `n` of the oldest queued pages (at most 128), in order, into the caller's batch, which is open afterwards.
+    /// Returns the number of pages taken. Fails with `BadCount`, `BatchOpen` or `HasBatch`.
     pub fn take(&mut self, caller: u32, n: u32) -> Result<u32, Fault> {
         let mut count = 0;
         // SAFETY: the handle is this node's own, and the count is a local.
@@ -265,52 +283,55 @@ impl Node {
         Ok(count)
     }
 
-    /// Takes up to `n` pages as [`Node::take`] does, and answers the batch as a value that is put back where it is dropped.
+    /// Takes pages as [`Node::take`] does, and returns the batch as a value that is put back when it is dropped.
     pub fn batch(&mut self, caller: u32, n: u32) -> Result<Batch<'_, Node>, Fault> {
         let taken = self.take(caller, n)?;
         Ok(Batch::new(self, caller, taken))
     }
 
-    /// Tries the next page of the caller's open batch.
+    /// Tries the next page of the caller's open batch that is still in flight. Fails with `NoBatch`.
     pub fn split_next(&mut self, caller: u32) -> Result<Tried, Fault> {
         let mut told = sys::Tried::default();
-        // SAFETY: the handle is this node's own, and what is told goes to a local.
+        // SAFETY: the handle is this node's own, and the result goes to a local.
         done(unsafe { sys::thp_node_split_next(&mut self.handle, caller, &mut told) })?;
         Ok(Tried::of(told))
     }
 
-    /// Returns the pages that are left of the caller's open batch, and closes it.
+    /// Returns the remaining pages of the caller's open batch, and closes the batch. Fails with `NoBatch`; with `OutOfMemory` the
+    /// batch stays open.
     pub fn put_back(&mut self, caller: u32) -> Result<Back, Fault> {
         let mut told = sys::Back::default();
-        // SAFETY: the handle is this node's own, and what is told goes to a local.
+        // SAFETY: the handle is this node's own, and the result goes to a local.
         done(unsafe { sys::thp_node_put_back(&mut self.handle, caller, &mut told) })?;
         Ok(Back::of(told))
     }
 
-    /// Closes the caller's open batch, and leaves its pages in flight, out of the queue.
+    /// Closes the caller's open batch, and leaves its pages in flight, out of the queue. Fails with `NoBatch`.
     pub fn abandon(&mut self, caller: u32) -> Result<(), Fault> {
         // SAFETY: the handle is this node's own.
         done(unsafe { sys::thp_node_abandon(&mut self.handle, caller) })
     }
 
-    /// Makes room in the journal for so many events: calls that record no more are never refused for want of memory then.
+    /// Reserves room in the journal for `events` events: calls that record no more than that never fail with
+    /// [`Fault::OutOfMemory`].
     pub fn reserve(&mut self, events: u32) -> Result<(), Fault> {
         // SAFETY: the handle is this node's own.
         done(unsafe { sys::thp_node_reserve(&mut self.handle, events) })
     }
 
-    /// How many pages are queued, which is what the shrinker counts. (The library opens and shuts the handle: hence `&mut`.)
+    /// Returns the number of queued pages, which is the shrinker's count. It takes `&mut self` because the library changes the
+    /// handle during each call.
     pub fn queue_length(&mut self) -> u32 {
         let mut pages = 0;
-        // SAFETY: the handle is this node's own and leads to a node, and the number is a local.
+        // SAFETY: the handle is this node's own and is not empty, and the number is a local.
         unsafe { sys::thp_node_queue_length(&mut self.handle, &mut pages) };
         pages
     }
 
-    /// The node's numbers.
+    /// Returns the node's statistics.
     pub fn stats(&mut self) -> Stats {
         let mut told = sys::Stats::default();
-        // SAFETY: the handle is this node's own and leads to a node, and what is told goes to a local.
+        // SAFETY: the handle is this node's own and is not empty, and the result goes to a local.
         unsafe { sys::thp_node_stats(&mut self.handle, &mut told) };
         Stats {
             events: told.events,
@@ -326,7 +347,7 @@ impl Node {
         }
     }
 
-    /// The journal as text, which [`check`](crate::check) reads. The error is want of memory.
+    /// Returns the journal as text, which [`check`](crate::check) reads. Fails with [`Fault::OutOfMemory`].
     pub fn journal(&mut self) -> Result<Vec<u8>, Fault> {
         const TOO_SMALL: u32 = 19;
         let mut text = Vec::new();

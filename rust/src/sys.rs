@@ -9,7 +9,7 @@ pub struct Handle {
 }
 
 impl Handle {
-    /// The handle that leads to nothing.
+    /// The empty handle.
     pub const EMPTY: Handle = Handle { at: std::ptr::null_mut(), live: 0 };
 }
 
@@ -21,7 +21,7 @@ pub struct PassHandle {
 }
 
 impl PassHandle {
-    /// The handle that leads to nothing.
+    /// The empty handle.
     pub const EMPTY: PassHandle = PassHandle { at: std::ptr::null_mut(), live: 0 };
 }
 
@@ -33,7 +33,7 @@ pub struct CheckHandle {
 }
 
 impl CheckHandle {
-    /// The handle that leads to nothing.
+    /// The empty handle.
     pub const EMPTY: CheckHandle = CheckHandle { at: std::ptr::null_mut(), live: 0 };
 }
 

@@ -71,7 +71,7 @@ fn refusals_have_their_names() {
     assert_eq!(node.scan(0, 129), Err(Fault::BadCount));
     assert_eq!(node.abandon(0), Err(Fault::NoBatch));
     assert_eq!(Fault::NoPage.to_string(), "no such page");
-    assert_eq!(version(), "0.2.0");
+    assert_eq!(version(), env!("CARGO_PKG_VERSION"));
 }
 
 #[test]
@@ -115,7 +115,9 @@ fn each_caller_has_a_batch() -> Result<(), Fault> {
     assert_eq!(node.put_back(1), Err(Fault::NoBatch));
     node.abandon(0)?;
     assert_eq!(node.batch(0, 1).err(), Some(Fault::HasBatch));
-    assert_eq!(node.batch(1, 1)?.taken(), 1);
+    let batch = node.batch(1, 1)?;
+    assert_eq!((batch.taken(), format!("{batch:?}")), (1, "Batch { caller: 1, taken: 1, .. }".into()));
+    drop(batch);
     assert_eq!(node.put_back(2)?, Back { back: 0, dropped: 0 });
     assert_eq!(check(&node.journal()?)?, Verdict::Legal);
     Ok(())

@@ -15,8 +15,8 @@ fn two_passes_have_one_journal() -> Result<(), Fault> {
     assert_eq!((scan.taken, scan.split, scan.pinned), (2, 2, 0));
     let done = one.unmap_sub(0, 1, 2, 2)?;
     assert_eq!((done.outcome, done.released.len()), (Outcome::Freed, 2));
-    one.join(two).map_err(|(_, fault)| fault)?;
-    let mut node = one.finish().map_err(|(_, fault)| fault)?;
+    one.join(two)?;
+    let mut node = one.finish()?;
     assert_eq!(node.stats().split_page, 2);
     assert_eq!(check(&node.journal()?)?, Verdict::Legal);
     Ok(())

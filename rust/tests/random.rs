@@ -300,6 +300,7 @@ impl Place {
                 self.live.retain(|it| it.number != page);
                 "freed"
             }
+            other => panic!("{other:?}"),
         };
         format!("{word} {}", runs(&released))
     }
@@ -328,6 +329,7 @@ impl Place {
                     Tried::Split(page) => format!("split {page}"),
                     Tried::Pinned(page) => format!("pinned {page}"),
                     Tried::Used(page) => format!("used {page}"),
+                    other => panic!("{other:?}"),
                 }
             }
             _ => {
