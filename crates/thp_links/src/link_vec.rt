@@ -1,5 +1,6 @@
 //! A table that has nothing but its links.
-ghost use Rattle.std.specs.Prelude.{◌≡◌, ◌<◌, ◌^◌, ⊤, length, vec_len, slice_get, IfOk, IfSome};
+ghost use Rattle.std.specs.Prelude.{◌≡◌, ◌<◌, ◌^◌, ⊤, length, vec_len, slice_get, All, IfOk, IfSome};
+ghost use Rattle.thp_links.specs.LinkVecs.{IsAlone};
 
 use crate::access_count::AccessCount;
 use crate::link::{Link, NIL};
@@ -27,7 +28,8 @@ impl Model for LinkVec {
 impl LinkVec {
     /// Makes a table of so many indices, none of which is linked. Fails if the memory for it is refused.
     pub fn new(alloc: Global, len: u32) -> Result<LinkVec, AllocError>
-        ensures { IfOk result (λ t. length t.pairs ≡ len) }
+        ensures length { IfOk result (λ t. length t.pairs ≡ len) }
+        ensures alone { IfOk result (λ t. All IsAlone t.pairs) }
     {
         let alone = Link {
             prev: NIL,
