@@ -21,7 +21,7 @@ pub struct LivePage {
     pub worth_split: bool,
     /// The number of extra pins.
     pub pins: u32,
-    /// The entire map count: the number of PMD entries that map the page.
+    /// The whole map count: the number of PMD entries that map the page.
     pub whole: u32,
     /// The subpages in use.
     pub used: SubSet,

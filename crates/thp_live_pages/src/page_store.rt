@@ -242,7 +242,7 @@ impl PageStore {
         }
     }
 
-    /// Returns the entire map count of the page of a block.
+    /// Returns the whole map count of the page of a block.
     pub fn whole(&self, block: u32) -> u32
         requires { IsSome (slot_at self.now.table block) }
         ensures { AtSlot self.now.table block (λ x. result ≡ x.page.whole) }

@@ -34,7 +34,7 @@ total_is shape h p i t m below = omega (arith, m.totals i below)
 pub pins_is : (shape : Shape) (h : History) (p : ℕ) (t : PageState) → Tallies shape h p t → pins h p ≡ t.pins
 pins_is shape h p t m = omega (arith, m.pins_of)
 
--- the same of its entire map count
+-- the same of its whole map count
 pub whole_is : (shape : Shape) (h : History) (p : ℕ) (t : PageState) → Tallies shape h p t → whole h p ≡ t.whole
 whole_is shape h p t m =
     by_bool (is_split h p) _

@@ -91,7 +91,7 @@ total h p i = count_of (maps p i) h - count_of (unmaps p i) h
 abbrev pub is_split : History → ℕ → Bool
 is_split h p = some_event (splits p) h
 
--- the entire map count of page p: the number of PMD entries that map it
+-- the whole map count of page p: the number of PMD entries that map it
 abbrev pub whole : History → ℕ → ℕ
 whole h p = if is_split h p then 0 else count_of (maps_whole p) h - count_of (unmaps_whole p) h
 

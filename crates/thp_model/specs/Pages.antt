@@ -10,7 +10,7 @@ use Rattle.thp_model.specs.Counts.{maps, unmaps, maps_whole, unmaps_whole, pins_
 use Rattle.thp_model.specs.Underused.{shrinks_underused, is_zero_filled, is_partly_mapped, is_above}
 use Rattle.thp_model.specs.Refusals.{Call, map_whole, unmap_whole, map_sub, unmap_sub, split_pmd, pin, unpin, write, zero_fill, first_of, most}
 
--- a page's order, its entire map count, the own map counts of its subpages, its pins, and whether it is split; which of its
+-- a page's order, its whole map count, the own map counts of its subpages, its pins, and whether it is split; which of its
 -- subpages are zero-filled, whether it is partly mapped, and whether its split gave back the frames of the zero-filled subpages
 pub record PageState : Type 0 where
   pub order : ℕ
@@ -52,7 +52,7 @@ zero_set t = set_of (λ i. nat_lt i (size t) && zero_at t i)
 abbrev pub zero_count : PageState → ℕ
 zero_count t = count_below (size t) (zero_at t)
 
--- the page is worth a split, if pages are underused above this threshold
+-- the page is a split candidate, if pages are underused above this threshold
 abbrev pub is_split_candidate : Option ℕ → PageState → Bool
 is_split_candidate threshold t = t.partly || is_above threshold (zero_count t)
 

@@ -125,7 +125,7 @@ impl Blocks {
         self.places.is_in_batch(block, caller)
     }
 
-    // The number of the page of a block, its pins, and its entire map count.
+    // The number of the page of a block, its pins, and its whole map count.
     pub(crate) fn number(&self, block: u32) -> PageId
         requires { IsSome (slot_at self.now.table block) }
         ensures { AtSlot self.now.table block (λ x. result ≡ x.id) }
