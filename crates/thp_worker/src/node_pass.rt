@@ -4,7 +4,8 @@ ghost use Rattle.thp_model.specs.Legal.{IsLegal};
 ghost use Rattle.thp_node.specs.Batches.{no_batch};
 ghost use Rattle.thp_cell.specs.Calls.{IsJoined, PartsStay};
 ghost use Rattle.thp_cell.specs.Views.{HasAll, HasCaller};
-ghost use Rattle.thp_worker.specs.Does.{answer_of, IsStep};
+ghost use Rattle.thp_script.specs.declared.script.Op.{Op};
+ghost use Rattle.thp_worker.specs.Does.{answer_of, node_call_of, IsStep};
 ghost use Rattle.thp_worker.specs.Holdings.{batch_of, lower_part, loss_reply, page_reply, unit_reply, upper_part, HeldDone, IsShut, IsSomeBatch, OpenStay, keeping_node};
 
 use crate::reply::Reply;
@@ -168,22 +169,26 @@ impl<'a, R: Recorder> NodePass<'a, R> {
     {
         match node_call(op) {
             NodeCall::Alloc => page(self.cell.alloc_page(&mut self.pass, caller), reply),
-            NodeCall::Page {
-                page,
-                call: PageCall::Gain(gain),
-            } => unit(
-                self.cell.gain(&mut self.pass, caller, PageId(page), gain),
-                reply,
-            ),
-            NodeCall::Page {
-                page,
-                call: PageCall::Loss(kind),
-            } => loss(
-                self.cell.lose(&mut self.pass, caller, PageId(page), kind),
-                reply,
-            ),
+            NodeCall::Page { page, call } => self.page_call(caller, page, call, reply),
             NodeCall::Close => unit(self.cell.close(&mut self.pass, caller), reply),
             NodeCall::Count => count(self.cell.count(&mut self.pass), reply),
+        }
+    }
+
+    fn page_call(
+        &mut self,
+        caller: u32,
+        page: u64,
+        call: PageCall,
+        reply: &mut Reply,
+    ) -> Result<(), CellFault>
+        requires caller { HasCaller self.old.pass caller }
+        ensures { (op : Op) → node_call_of op ≡ NodeCall.Page page call → HeldDone caller (Step.One op) self.old self.new (answer_of result reply.new) }
+    {
+        let page = PageId(page);
+        match call {
+            PageCall::Gain(gain) => unit(self.cell.gain(&mut self.pass, caller, page, gain), reply),
+            PageCall::Loss(kind) => loss(self.cell.lose(&mut self.pass, caller, page, kind), reply),
         }
     }
 
