@@ -18,7 +18,7 @@ use Rattle.tests_runs.specs.Sharing.{shared, WasWorked}
 
 module _ (old new : Fronts) where
   same_shared : SameHolding old new → SameHolding (shared old) (shared new)
-  same_shared s = record { cells = s.cells; nodes = s.nodes; shape = s.shape; callers = ap (λ n. n + 1) s.end; first = s.first; end = s.end }
+  same_shared s = record { cells = s.cells; nodes = s.nodes; shape = s.shape; callers = rw (s.callers, s.end) refl; first = s.first; end = s.end }
 
   moves_shared : (c n : ℕ) (others own : List Event) (after : Option Open) → Moves c n old new others own after → Moves c n (shared old) (shared new) others own after
   moves_shared c n others own after m = record {
@@ -46,6 +46,10 @@ module _ (old new : Fronts) where
     others_batches = g.others_batches;
     legal = g.legal;
   }
+
+-- nodes that are held on as shared are held on
+pub same_inside : (old new : Fronts) → SameHolding (shared old) (shared new) → SameHolding old new
+same_inside old new s = record { cells = s.cells; nodes = s.nodes; shape = s.shape; callers = omega (arith, s.callers, s.end); first = s.first; end = s.end }
 
 -- nodes that are busy stay as they are
 pub busy_shared : (old new : Fronts) → new ≡ old → IsStepBusy (shared old) (shared new)

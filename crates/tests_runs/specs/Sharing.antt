@@ -4,13 +4,14 @@ use Rattle.thp_script.specs.declared.script.Command.{Command}
 use Rattle.thp_worker.specs.Fronts.{Fronts}
 use Rattle.thp_run.specs.Listed.{WorkedList, WorksOn}
 
--- one more caller than the holder has, so that it never has all
+-- more callers than the holder has, so that it never has all
 abbrev pub shared : Fronts → Fronts
-shared f = record f { callers = f.end + 1 }
+shared f = record f { callers = f.callers + f.end + 1 }
 
--- one node, and callers 0 and 1
+-- one node, and all of its callers: 0 and 1
 pub record OfTwo (f : Fronts) : Type 0 where
   pub nodes : f.nodes ≡ 1
+  pub callers : f.callers ≡ 2
   pub first : f.first ≡ 0
   pub end : f.end ≡ 2
 

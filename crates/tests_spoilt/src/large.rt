@@ -1,6 +1,6 @@
 //! Histories larger than any limit that a node or the check could have invented, beyond the size of an input.
 use std::alloc::Global;
-use thp_check::{CheckFault, check};
+use thp_check::{CheckFault, Replay, check};
 use thp_live_pages::{LeastBlocks, PageStore};
 use thp_model::{Event, Outcome, PageId, Shape, SubSet, What};
 use thp_node::Node;
@@ -91,6 +91,20 @@ fn is_full_history_of_many_blocks_told(alloc: Global) -> Option<bool> {
 #[test]
 fn a_check_of_many_blocks(rt: HostRuntime) {
     assert!(rt; is_full_history_of_many_blocks_told(rt.alloc()) == Some(true));
+}
+
+/// Whether a replay admits as many pages as there are blocks.
+fn is_replayed(alloc: Global) -> Option<bool> {
+    let mut replay = Replay::new(alloc, MANY_BLOCKS).ok()?;
+    for number in 0..70_000u32 {
+        replay = replay.admit(&allocation(number)).ok()?;
+    }
+    Some(replay.allocations() == 70_000)
+}
+
+#[test]
+fn a_replay_of_many_blocks(rt: HostRuntime) {
+    assert!(rt; is_replayed(rt.alloc()) == Some(true));
 }
 
 #[test]

@@ -1,6 +1,6 @@
 //! Rows of a section on a node that is busy at chosen calls.
 use crate::busy_nodes::sections::{BusyCalls, Queued, SectionResult, section};
-use thp_model::{PageId, Refusal};
+use thp_model::{Event, PageId, Refusal, What};
 use thp_node::{ScanReply, Tried};
 use thp_worker::{Answer, Command, Op, Reply};
 
@@ -125,6 +125,18 @@ fn scan_interrupted(rt: HostRuntime) {
     assert!(rt; is_scanned(&section));
 }
 
+// The journal's last events: page 0 is taken, found pinned and, after the close, dropped, all by caller 1.
+fn ends_with_a_drop(journal: &[Event]) -> bool {
+    let page = PageId(0);
+    let last = [
+        What::Taken { page },
+        What::Pinned { page },
+        What::Close,
+        What::Dropped { page },
+    ];
+    journal.ends_with(&last.map(|what| Event { caller: 1, what }))
+}
+
 #[test]
 fn open_batch_postponed(rt: HostRuntime) {
     let commands = [
@@ -160,6 +172,9 @@ fn open_batch_postponed(rt: HostRuntime) {
     assert!(rt; matches!(reply_at(answers, 2), Some(Ok(Reply::Unit))));
     // the page was dropped, since the node was closed
     assert!(rt; matches!(section.queued, Ok(Reply::Count(0))));
+    assert!(rt; ends_with_a_drop(section.node.journal()));
+    assert!(rt; section.node.frames_held() == 512);
+    assert!(rt; section.node.frames_given() == 0);
 }
 
 #[test]

@@ -1,8 +1,9 @@
 //! Sections on one node of two callers, from its making on. Want of memory is returned, so that each allocation can be made to fail.
-ghost use Rattle.std.specs.Prelude.{◌≡◌, ◌<◌, ◌^◌, All, IfOk, length};
+ghost use Rattle.std.specs.Prelude.{◌≡◌, ◌<◌, ◌^◌, [], ◌∷◌, All, IfOk, length};
 ghost use Rattle.thp_run.specs.Listed.{WorksOn};
 ghost use Rattle.thp_worker.specs.Does.{IsStep};
-ghost use Rattle.thp_worker.specs.Fronts.{Goes};
+ghost use Rattle.thp_cell.specs.Views.{HasAll};
+ghost use Rattle.thp_worker.specs.Fronts.{Goes, SameHolding};
 ghost use Rattle.thp_worker.specs.OpenBatches.{HasNoBatch};
 ghost use Rattle.thp_worker.specs.Passes.{fronts_in};
 ghost use Rattle.thp_worker.specs.Sections.{IsCommandFor};
@@ -49,6 +50,7 @@ pub fn passes_of<'a>(
     requires end { pass.end ≡ 2 }
     ensures two { IfOk result (λ r. OfTwo (fronts_in r)) }
     ensures shut { IfOk result (λ r. HasNoBatch 1 (fronts_in r)) }
+    ensures cells { IfOk result (λ r. (fronts_in r).cells ≡ cell.now ∷ []) }
 {
     let node = NodePass::new(alloc, cell, pass)?;
     let mut nodes = Vec::new(alloc);
@@ -87,6 +89,7 @@ pub fn begin<'a>(
     requires few { length commands.now < 2 ^ 32 }
     requires commands { All (IsCommandFor 1) commands.now }
     ensures two { IfOk result (λ r. OfTwo (fronts_in r.0)) }
+    ensures same { IfOk result (λ r. SameHolding (fronts_in passes) (fronts_in r.0)) }
     ensures worked { IfOk result (λ r. WasWorked 1 (fronts_in r.0) commands.now r.1) }
 {
     let mut nodes = Stutter {
@@ -119,6 +122,7 @@ pub fn go_on(
     requires commands { All (IsCommandFor 1) commands.now }
     requires worked { WasWorked 1 (fronts_in passes.old) commands.now worked }
     ensures two { OfTwo (fronts_in passes.new) }
+    ensures same { SameHolding (fronts_in passes.old) (fronts_in passes.new) }
 {
     work_rest(alloc, commands, 1, worked, passes)
 }
@@ -159,6 +163,7 @@ fn queue_pinned(rt: &impl Abort, passes: &mut NodePasses<'_>, page: u64) -> Resu
     requires two { OfTwo (fronts_in passes.old) }
     requires shut { HasNoBatch 1 (fronts_in passes.old) }
     ensures two { OfTwo (fronts_in passes.new) }
+    ensures same { SameHolding (fronts_in passes.old) (fronts_in passes.new) }
     ensures shut { HasNoBatch 1 (fronts_in passes.new) }
 {
     queue(rt, passes, page)?;
@@ -172,6 +177,7 @@ fn queue_two(rt: &impl Abort, passes: &mut NodePasses<'_>) -> Result<(), AllocEr
     requires two { OfTwo (fronts_in passes.old) }
     requires shut { HasNoBatch 1 (fronts_in passes.old) }
     ensures two { OfTwo (fronts_in passes.new) }
+    ensures same { SameHolding (fronts_in passes.old) (fronts_in passes.new) }
     ensures shut { HasNoBatch 1 (fronts_in passes.new) }
 {
     queue(rt, passes, 0)?;
@@ -197,6 +203,7 @@ fn queue_before(
     requires two { OfTwo (fronts_in passes.old) }
     requires shut { HasNoBatch 1 (fronts_in passes.old) }
     ensures two { OfTwo (fronts_in passes.new) }
+    ensures same { SameHolding (fronts_in passes.old) (fronts_in passes.new) }
     ensures shut { HasNoBatch 1 (fronts_in passes.new) }
 {
     match queued {
@@ -204,6 +211,19 @@ fn queue_before(
         Queued::OnePinned => queue_pinned(rt, passes, 0),
         Queued::TwoOnePinned => queue_two(rt, passes),
     }
+}
+
+// The pass of the only node.
+fn pass_of(passes: NodePasses<'_>) -> Pass
+    requires two { OfTwo (fronts_in passes) }
+    ensures cell { (fronts_in passes.entry).cells ≡ result.cell ∷ [] }
+    ensures all { HasAll result }
+{
+    let mut nodes = passes.into_nodes();
+    let Some(node) = nodes.pop() else {
+        unreachable!();
+    };
+    node.into_pass()
 }
 
 // A copy of answers.
@@ -224,6 +244,8 @@ pub struct SectionResult {
     pub worked: Worked,
     // the length of the queue after the section
     pub queued: Result<Reply, CellFault>,
+    // the node after the section
+    pub node: Node,
 }
 
 // A section of caller 1 on a new node that is busy at chosen calls, and what is left of it once the node is busy no more.
@@ -248,11 +270,13 @@ fn try_section(
     let answered_then = copied(alloc, worked.answers.as_slice())?;
     let worked = go_on(alloc, &mut passes, commands, worked)?;
     let queued = step(&mut passes, 0, Step::One(Op::Count));
+    let node = cell.finish(pass_of(passes));
     Ok(SectionResult {
         stopped,
         answered_then,
         worked,
         queued,
+        node,
     })
 }
 
