@@ -89,7 +89,7 @@ pub fn begin<'a>(
     requires few { length commands.now < 2 ^ 32 }
     requires commands { All (IsCommandFor 1) commands.now }
     ensures two { IfOk result (λ r. OfTwo (fronts_in r.0)) }
-    ensures same { IfOk result (λ r. SameHolding (fronts_in passes) (fronts_in r.0)) }
+    ensures same { IfOk result (λ r. SameHolding (fronts_in passes.entry) (fronts_in r.0)) }
     ensures worked { IfOk result (λ r. WasWorked 1 (fronts_in r.0) commands.now r.1) }
 {
     let mut nodes = Stutter {
@@ -270,7 +270,8 @@ fn try_section(
     let answered_then = copied(alloc, worked.answers.as_slice())?;
     let worked = go_on(alloc, &mut passes, commands, worked)?;
     let queued = step(&mut passes, 0, Step::One(Op::Count));
-    let node = cell.finish(pass_of(passes));
+    let pass = pass_of(passes);
+    let node = cell.finish(pass);
     Ok(SectionResult {
         stopped,
         answered_then,
