@@ -7,6 +7,7 @@
 # make deb:     Debian packages of these and of the library for C, in DEBS (default: out); needs dpkg-dev and debhelper
 # make dist:    proves and builds the release into DEBS: archives of programs, debug information and sources, and their hashes; each
 #               archive has a file PROOF. make reproduce: the same with the packages, twice, compared byte for byte
+# make dist-test: the archive, and packages, of DEBS in a clean Debian 12 by debootstrap (root, network; status 77 if one is missing)
 # make test:    every check: proofs from scratch, the must-fail edits in crates/NAME/must-fail, tests, stored runs, examples,
 #               documents; ends in 'N passed, M failed'. A check whose tool is missing is named and not counted; STRICT=1
 #               counts it as failed
@@ -36,7 +37,7 @@ DEBS ?= out
 CASES ?= 2000
 SEED ?= 1
 
-.PHONY: help try run checker drawer install put put-tools uninstall deb dist reproduce test outside toolchain fuzz memory c edits believe linux root-tests bench
+.PHONY: help try run checker drawer install put put-tools uninstall deb dist reproduce dist-test test outside toolchain fuzz memory c edits believe linux root-tests bench
 
 help:
 	@sed -n '/^[^#]/q; s/^# //p' Makefile
@@ -103,6 +104,9 @@ dist: run checker drawer $(ARCHIVE)
 
 reproduce: run checker drawer $(ARCHIVE)
 	@python3 release/reproduce.py $(PROGRAM) $(CHECKER) $(DRAWER) $(ARCHIVE) $(DEBS)
+
+dist-test:
+	@python3 tests/clean_root.py $(DEBS)
 
 test: toolchain
 	@python3 tests/gate.py

@@ -24,6 +24,7 @@ from random import Random
 ROOT = Path(__file__).resolve().parent.parent
 sys.path.insert(0, str(ROOT / "release"))
 
+import version as places  # noqa: E402
 from protection import weaknesses  # noqa: E402
 from random_texts import Script, joined, likely_words, operands, random_shapes, script_of_one  # noqa: E402
 from script import Run  # noqa: E402
@@ -240,15 +241,13 @@ def symbols_are_dated() -> str | None:
 
 
 def versions_agree() -> str | None:
-    """Header, cargo crate, manual page and Debian's list of symbols have one version and one soname."""
-    number = version()
+    """Header, cargo crate and manual page have one version, and Debian's files the soname."""
     wanted = {
-        "c/thp.h": f'#define THP_VERSION "{number}"', "rust/Cargo.toml": f'\nversion = "{number}"', "docs/libthp.3": f'"libthp {number}"',
-        "rust/Cargo.lock": f'name = "leversorrel"\nversion = "{number}"',
         "debian/libthp0.symbols": f"{soname()} libthp{soname().rpartition('.')[2]} #MINVER#",
         "debian/control": f"\nPackage: libthp{soname().rpartition('.')[2]}\n",
     }
-    return ", ".join(name for name, text in wanted.items() if text not in (ROOT / name).read_text()) or None
+    wrong = [name for name, text in wanted.items() if text not in (ROOT / name).read_text()]
+    return ", ".join(wrong + places.differing(places.LIBRARY)) or None
 
 
 def processor_is_named() -> str | None:

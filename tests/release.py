@@ -22,6 +22,7 @@ from pathlib import Path
 ROOT = Path(__file__).resolve().parent.parent
 sys.path[:0] = [str(ROOT), str(ROOT / "release")]
 
+import version  # noqa: E402
 from gate import Verdicts  # noqa: E402
 from prove import RELEASED, below, released  # noqa: E402
 from protection import is_elf, is_stripped, weaknesses  # noqa: E402
@@ -136,6 +137,15 @@ rt: thp_page is kept: an earlier run proved it
     return None if seen.lines == {"thp_links": f"{LINE}\n"} else f"{seen.lines}"
 
 
+def versions_differ() -> str | None:
+    """Sources, manual pages, library and cargo crate have one number. tests/package.py compares it with the packages."""
+    wrong = version.differing(version.PROGRAMS) + version.differing(version.LIBRARY)
+    programs, library = (next(iter(version.numbers(it).values())) for it in (version.PROGRAMS, version.LIBRARY))
+    if not wrong and programs != library:
+        raise Missing(f"the programs have {programs}, the library {library}: release/version.py NUMBER makes them one")
+    return "; ".join(wrong) or None
+
+
 def refuses(release: Release) -> str | None:
     """No release of crates without a verdict line, of other sources, of another program, or of an unprotected one."""
     low, other = below("thpsplit")[0], release.tree / "crates/thp_c/out/verdict"
@@ -231,6 +241,7 @@ def main() -> None:
     """Runs all tests."""
     tally = Tally()
     tally.run("verdict lines in the output of rt ci", lines_are_found)
+    tally.run("one version", versions_differ)
     with tempfile.TemporaryDirectory(prefix="thp-release-") as name:
         try:
             release = Release(Path(name))
