@@ -31,7 +31,7 @@ sys.path[:0] = [str(ROOT), str(ROOT / "debian"), str(ROOT / "release")]
 
 from build import date, version  # noqa: E402
 from prove import RELEASED, released, toolchain, verdict  # noqa: E402
-from protection import is_elf, is_stripped, weaknesses  # noqa: E402
+from protection import is_elf, is_stripped, oldest_glibc, weaknesses  # noqa: E402
 
 PLATFORM = "x86_64-linux"
 """What the binaries run on."""
@@ -167,6 +167,7 @@ def proof(of: Commit, lines: dict[str, str], built: list[Path], stage: Path, lib
     width = max(map(len, lines))
     rows = "\n".join(f"{crate:{width}}  {line}" for crate, line in lines.items())
     here = "\n".join(f"{hash_of(path)}  {path.relative_to(stage)}" for path in binaries(stage))
+    glibc = ".".join(map(str, max(oldest_glibc(path) for path in binaries(stage))))
     proved = "\n".join(f"{hash_of(path)}  crates/{crate}/out/{path.name}" for crate, path in zip(RELEASED, built))
     return f"""leversorrel {version()}{"" if version() == library else f", libthp {library}"}
 
@@ -177,6 +178,7 @@ Commit:     {of.name}
 Sources:    {of.tree} (`git rev-parse {of.name[:12]}^{{tree}}`)
 Toolchain:  {toolchain()}
 C compiler: {called(["cc", "--version"]).splitlines()[0]}
+Runs on:    Linux on x86-64-v2 (POPCNT, SSE4.2), glibc {glibc} or newer; thpreplay, thprecord and thpwhatif need Python 3.9
 
 Verdicts of {len(lines)} crates: {functions} functions proved; axioms: {axioms(lines)}. A line without `axioms=` counts none.
 
@@ -195,7 +197,8 @@ To repeat: check out the commit, put the `rt` of that toolchain on the PATH, and
     make dist
 
 It proves each crate that has no verdict line for these sources, and writes the same archives into out/; SHA256SUMS has their hashes.
-In the unpacked archive `grep -E '^[0-9a-f]{{64}}  (bin|lib)/' PROOF | sha256sum -c` compares the binaries with this file.
+In the unpacked archive `grep -E '^[0-9a-f]{{64}}  (bin|lib)/' PROOF | sha256sum -c` compares the binaries with this file. In that of the
+sources `rm PROOF; git init -q; git add -Af; git write-tree` prints the hash of the sources.
 """
 
 

@@ -38,6 +38,12 @@ def weaknesses(built: Path) -> list[str]:
     return lacks + [f"{built.name} has {it}" for it, pattern in ABSENT.items() if re.search(pattern, shown, re.M)]
 
 
+def oldest_glibc(built: Path) -> tuple[int, ...]:
+    """The oldest glibc that a file runs with, by the versions of the symbols that it needs; nothing if it needs none."""
+    shown = subprocess.run(["readelf", "-VW", built], capture_output=True, text=True, check=False).stdout
+    return max((tuple(map(int, it.split("."))) for it in re.findall(r"Name: GLIBC_([\d.]+)", shown)), default=())
+
+
 def is_stripped(built: Path) -> bool:
     """Whether a file has neither symbols nor debug information that could be stripped."""
     shown = subprocess.run(["readelf", "-SW", built], capture_output=True, text=True, check=False).stdout

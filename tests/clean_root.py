@@ -166,10 +166,12 @@ def is_left(folder: Path) -> str | None:
 
 
 def try_all(tally: Tally, root: Root, folder: Path) -> None:
-    """Runs the tests in the root."""
+    """Runs the tests in the root: after the first two, only if the archive was unpacked."""
     packages = [path for path in sorted(folder.glob("*.deb")) if "-dbgsym_" not in path.name]
     tally.run("no toolchain", root.has_no_toolchain)
     tally.run("the archive", partial(root.unpacks, next(folder.glob("leversorrel-*-linux.tar.xz"))))
+    if tally.failed:
+        return
     tally.run("the first run", root.first_run)
     tally.run("programs, manual pages, completions", root.programs_run)
     tally.run("a program in C by pkg-config", root.links_by_pkg_config)

@@ -204,7 +204,9 @@ def archives_differ(release: Release) -> str | None:
     top = places["x86_64-linux"]
     lacks = [name for name in HELD if not (top / name).exists()]
     lacks += [f"PROOF of {name}" for name, place in places.items() if (place / "PROOF").read_bytes() != (top / "PROOF").read_bytes()]
-    return f"lacks {', '.join(lacks)}" if lacks else proof_differs(release, top) or binaries_differ(top, places["x86_64-linux-debug"])
+    if lacks:
+        return f"lacks {', '.join(lacks)}"
+    return proof_differs(release, top) or binaries_differ(top, places["x86_64-linux-debug"]) or sources_differ(release, places["source"])
 
 
 def proof_differs(release: Release, top: Path) -> str | None:
@@ -213,7 +215,8 @@ def proof_differs(release: Release, top: Path) -> str | None:
     commit, tree = (run(["git", "rev-parse", it], release.tree).strip() for it in ("HEAD", "HEAD^{tree}"))
     count = len(released())
     wanted = [*(rf"^{name} +{re.escape(LINE)}$" for name in released()), f"^Commit: +{commit}$", f"^Sources: +{tree} ",
-              "^Toolchain:  kit-of-a-test logic 00$", f"^Verdicts of {count} crates: {7 * count} functions proved; axioms: none"]
+              "^Toolchain:  kit-of-a-test logic 00$", r"^Runs on: .* glibc 2\.\d+ ",
+              f"^Verdicts of {count} crates: {7 * count} functions proved; axioms: none"]
     lacks = [it for it in wanted if not re.search(it, text, re.M)]
     hashes = {name: it for it, name in re.findall(r"^([0-9a-f]{64})  (\S+)$", text, re.M)}
     files = {str(path.relative_to(top)): path for path in top.rglob("*") if is_elf(path) or path.suffix == ".a"}
@@ -221,6 +224,15 @@ def proof_differs(release: Release, top: Path) -> str | None:
     wrong = [name for name in {*hashes} | {*files}
              if name not in files or hashes.get(name) != hashlib.sha256(files[name].read_bytes()).hexdigest()]
     return f"PROOF lacks {lacks[0]}" if lacks else f"PROOF is wrong about {sorted(wrong)}" if wrong else None
+
+
+def sources_differ(release: Release, top: Path) -> str | None:
+    """What is wrong with the archive of the sources: it has the commit's, and PROOF."""
+    (top / "PROOF").unlink()
+    for words in (["init", "-q"], ["add", "-Af"]):
+        run(["git", *words], top)
+    made, wanted = run(["git", "write-tree"], top), run(["git", "rev-parse", "HEAD^{tree}"], release.tree)
+    return None if made == wanted else f"its hash is {made.strip()}, not {wanted.strip()}"
 
 
 def binaries_differ(top: Path, debug: Path) -> str | None:
