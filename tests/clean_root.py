@@ -35,6 +35,9 @@ FIRST = "setup\nalloc 0\nsplitpmd 0 0\nunmap 0 0 0 256\nscan 0 8\n"
 TOTALS = ("pages 1", "queue 0", "frames_held 256", "frames_given 256", "thp_split_page 1")
 """Lines of its totals: one page split, 256 frames given back, 256 held."""
 
+LINKED = "page 0 is queued\ntaken 1, split 1\nframes: 256 given back, 256 held\n"
+"""What examples/c/first.c prints, which does the same by the library."""
+
 PROGRAMS = ("thpsplit", "thpcheck", "thpdraw", "thpreplay", "thprecord", "thpwhatif")
 
 CMAKE = """cmake_minimum_required(VERSION 3.13)
@@ -50,11 +53,12 @@ endforeach()
 NOBODY = "65534:65534"
 
 
-def called(words: list[str], given: str = "") -> subprocess.CompletedProcess[str]:
+def called(words: list[str]) -> subprocess.CompletedProcess[str]:
     """Runs a command in a mount namespace of its own, so that none of its mounts outlives it."""
     whole = ["unshare", "--mount", "--propagation", "private", "--", *words]
     plain = {"PATH": "/usr/sbin:/usr/bin:/sbin:/bin", "LC_ALL": "C.UTF-8", "HOME": "/tmp", "DEBIAN_FRONTEND": "noninteractive"}
-    return subprocess.run(whole, input=given, capture_output=True, text=True, errors="replace", timeout=SECONDS, env=plain, check=False)
+    return subprocess.run(whole, stdin=subprocess.DEVNULL, capture_output=True, text=True, errors="replace", timeout=SECONDS, env=plain,
+                          check=False)
 
 
 class Root:
@@ -72,15 +76,17 @@ class Root:
             raise Missing(f"no Debian root: {told[-1] if told else f'status {done.returncode}'}")
         self.path.chmod(0o755)
 
-    def run(self, script: str, given: str = "", user: str = NOBODY) -> subprocess.CompletedProcess[str]:
+    def run(self, script: str, user: str = NOBODY) -> subprocess.CompletedProcess[str]:
         """Runs a shell script in the unpacked archive, as a user without rights."""
         words = ["chroot", f"--userspec={user}", str(self.path), "/bin/sh", "-ec", f"cd /opt/leversorrel-*/ 2> /dev/null || cd /\n{script}"]
-        return called(words, given)
+        return called(words)
 
-    def differs(self, script: str, given: str = "", user: str = NOBODY) -> str | None:
-        """What is wrong when such a script must end well, or None."""
-        done = self.run(script, given, user)
-        return None if done.returncode == 0 else f"status {done.returncode}: {(done.stdout + done.stderr).strip()[-400:]}"
+    def differs(self, script: str, wanted: str | None = None, user: str = NOBODY) -> str | None:
+        """What is wrong when such a script must end well, with this output if one is given, or None."""
+        done = self.run(script, user)
+        if done.returncode == 0 and wanted in (None, done.stdout):
+            return None
+        return f"status {done.returncode}: {(done.stdout + done.stderr).strip()[-400:]}"
 
     def has_no_toolchain(self) -> str | None:
         """Neither `rt` nor a Rattle library is in the root."""
@@ -114,10 +120,10 @@ class Root:
         return self.differs(script.replace("NAMES", " ".join(PROGRAMS)))
 
     def links_by_pkg_config(self) -> str | None:
-        """A program in C is built by pkg-config with the shared library, and runs."""
+        """A program in C is built by pkg-config with the shared library, and does what the first script does."""
         return self.differs("""room=$(mktemp -d); trap 'rm -rf "$room"' EXIT
             export PKG_CONFIG_PATH=$PWD/lib/pkgconfig LD_LIBRARY_PATH=$PWD/lib
-            cc examples/c/first.c $(pkg-config --cflags --libs thp) -o "$room/first"; "$room/first\"""")
+            cc examples/c/first.c $(pkg-config --cflags --libs thp) -o "$room/first"; "$room/first\"""", LINKED)
 
     def links_by_cmake(self) -> str | None:
         """The same by CMake, with either library."""
@@ -125,7 +131,7 @@ class Root:
             cp examples/c/first.c "$room"; cat > "$room/CMakeLists.txt" << 'END'\n{CMAKE}END
             cmake -S "$room" -B "$room/out" -DCMAKE_PREFIX_PATH=$PWD > "$room/log" || {{ cat "$room/log"; exit 1; }}
             cmake --build "$room/out" >> "$room/log" || {{ cat "$room/log"; exit 1; }}
-            "$room/out/by_thp"; "$room/out/by_static\"""")
+            "$room/out/by_thp"; "$room/out/by_static\"""", 2 * LINKED)
 
     def files(self) -> set[str]:
         """The files of the root, except those that dpkg writes for itself."""
