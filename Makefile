@@ -5,6 +5,9 @@
 #               pages and completions, below PREFIX (default /usr/local; DESTDIR as usual); SYSTEMD=1 also installs
 #               thpwhatif.service and thpwhatif.timer. make uninstall removes them all
 # make deb:     Debian packages of these and of the library for C, in DEBS (default: out); needs dpkg-dev and debhelper
+# make dist:    proves and builds the release into DEBS: archives of programs, debug information and sources, and their hashes; each
+#               archive has a file PROOF. make reproduce: the same with the packages, twice, compared byte for byte
+# make dist-test: the archive, and packages, of DEBS in a clean Debian 12 by debootstrap (root, network; status 77 if one is missing)
 # make test:    every check: proofs from scratch, the must-fail edits in crates/NAME/must-fail, tests, stored runs, examples,
 #               documents; ends in 'N passed, M failed'. A check whose tool is missing is named and not counted; STRICT=1
 #               counts it as failed
@@ -34,7 +37,7 @@ DEBS ?= out
 CASES ?= 2000
 SEED ?= 1
 
-.PHONY: help try run checker drawer install put put-tools uninstall deb test outside toolchain fuzz memory c edits believe linux root-tests bench
+.PHONY: help try run checker drawer install put put-tools uninstall deb dist reproduce dist-test test outside toolchain fuzz memory c edits believe linux root-tests bench
 
 help:
 	@sed -n '/^[^#]/q; s/^# //p' Makefile
@@ -47,18 +50,15 @@ try: toolchain
 	@cd crates/thpsplit && rt try < ../../$(SCRIPT)
 
 run: toolchain
-	@python3 prove.py thpsplit
-	@cd crates/thpsplit && rt run < ../../$(SCRIPT)
+	@python3 prove.py thpsplit run < $(SCRIPT)
 
 # the second program, for journals of any length: proves it, builds it, and runs it on an example
 checker: toolchain
-	@python3 prove.py thpcheck
-	@cd crates/thpcheck && rt run < ../../examples/two_workers.journal
+	@python3 prove.py thpcheck run < examples/two_workers.journal
 
 # the third one, which draws such journals: proves it, builds it, and prints the table of an example
 drawer: toolchain
-	@python3 prove.py thpdraw
-	@cd crates/thpdraw && rt run -- --table < ../../examples/two_workers.journal
+	@python3 prove.py thpdraw run -- --table < examples/two_workers.journal
 
 # what is installed: the path below the prefix, and the file
 INSTALLED = bin/thpsplit=$(PROGRAM) share/man/man1/thpsplit.1=docs/thpsplit.1 share/man/man5/thpsplit.5=docs/thpsplit.5 \
@@ -99,6 +99,15 @@ uninstall:
 deb: run checker drawer $(ARCHIVE)
 	@python3 debian/build.py $(PROGRAM) $(CHECKER) $(DRAWER) $(ARCHIVE) $(DEBS)
 
+dist: run checker drawer $(ARCHIVE)
+	@python3 release/dist.py $(PROGRAM) $(CHECKER) $(DRAWER) $(ARCHIVE) $(DEBS)
+
+reproduce: run checker drawer $(ARCHIVE)
+	@python3 release/reproduce.py $(PROGRAM) $(CHECKER) $(DRAWER) $(ARCHIVE) $(DEBS)
+
+dist-test:
+	@python3 tests/clean_root.py $(DEBS)
+
 test: toolchain
 	@python3 tests/gate.py
 
@@ -109,6 +118,7 @@ outside:
 	@python3 tests/docs.py
 	@python3 tests/surface.py
 	@python3 tests/installed.py
+	@python3 tests/release.py
 	@python3 tests/lint.py || test $$? = 77
 	@python3 tests/examples.py $(GIVEN)
 	@$(if $(GIVEN),python3 tests/rows.py $(GIVEN))
@@ -132,8 +142,7 @@ memory: run
 	@python3 tests/memory.py $(PROGRAM) crates/tests_spoilt/out/tests_spoilt_tests:memory::
 
 $(ARCHIVE):
-	@python3 prove.py thp_c
-	@cd crates/thp_c && rt lib
+	@python3 prove.py thp_c lib
 
 # always run: `rt lib` knows what has changed
 .PHONY: $(ARCHIVE)

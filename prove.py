@@ -1,7 +1,10 @@
 #!/usr/bin/env python3
 """Proves the libraries that a crate depends on, several at a time, each after those that it uses.
 
-    prove.py CRATE
+    prove.py CRATE [WORD..]
+
+With words it then runs `rt WORD..` in the crate's folder: `run` proves, builds and runs a program, `lib` builds a library, `verdict`
+proves the crate again from scratch.
 
 `rt` proves one library after the other, and allows only one run in a crate and the crates below it. This program therefore
 runs `rt lib` for each library in a folder of its own, with the built libraries that it uses next to it, and then moves the
@@ -9,13 +12,17 @@ result to the tree, where the next `rt` finds it. The library with the longest c
 as `rt` chooses; other libraries use the rest of the machine. Libraries that are already proved are left alone: `rt` itself
 checks them at the end.
 
+The line in which `rt` reports that a crate is proved, its verdict line, is stored in the crate's out/, with the sum of the sources
+that it is for (`verdict`). Where `rt` takes a proof from another checkout, the line of that checkout comes with it, if there is one.
+
 Writes a line for each library on standard error. The status is 1 if a library is not proved, and then the output of its `rt`
-is shown.
+is shown; with words it is otherwise that of `rt`.
 """
 
 from __future__ import annotations
 
 import fcntl
+import hashlib
 import os
 import re
 import shutil
@@ -55,6 +62,15 @@ def below(name: str) -> tuple[str, ...]:
     return tuple(dict.fromkeys(found))
 
 
+RELEASED = ("thpsplit", "thpcheck", "thpdraw", "thp_c")
+"""The crates that a release has the programs and the library of."""
+
+
+def released() -> list[str]:
+    """The crates that a release is built from, each after those that it uses."""
+    return list(dict.fromkeys(it for name in RELEASED for it in (*below(name), name)))
+
+
 def files(name: str) -> list[Path]:
     """The files of a crate that its proof reads."""
     return [it for part in PARTS for it in (CRATES / name / part).rglob("*") if it.is_file()]
@@ -78,6 +94,58 @@ def stands(name: str) -> bool:
     kit = Path(shutil.which("rt") or ROOT).resolve()
     sources = [*files(name), *stamps[1:], ROOT / "crates.txt", kit]
     return all(it.stat().st_mtime <= stamps[0].stat().st_mtime for it in sources)
+
+
+VERDICT = re.compile(r"^logic=proved( [\w-]+=\S+)+$", re.M)
+"""The line with which `rt` ends the proof of a crate."""
+
+
+@cache
+def toolchain() -> str:
+    """The version of the toolchain, or nothing where there is none."""
+    rt = shutil.which("rt")
+    return subprocess.run([rt, "version"], capture_output=True, text=True, check=False).stdout.strip() if rt else ""
+
+
+def sources(name: str) -> str:
+    """The sum of all that the proof of a crate reads: the toolchain's version, HANDLES, and the files and lines of crates.txt of the
+    crate and of those below it."""
+    handles = ROOT / "HANDLES"
+    whole = hashlib.sha256(f"{toolchain()}\n{handles.read_text() if handles.is_file() else ''}\n".encode())
+    for it in (*below(name), name):
+        whole.update(f"{listed()[it][0]}\n".encode())
+        for path in sorted(files(it)):
+            whole.update(f"{path.relative_to(CRATES)} {hashlib.sha256(path.read_bytes()).hexdigest()}\n".encode())
+    return whole.hexdigest()
+
+
+def products(name: str) -> list[Path]:
+    """What was built from a crate: its program, or its static library."""
+    return [it for it in (CRATES / name / "out" / name, CRATES / name / "out" / f"lib{name}.a") if it.is_file()]
+
+
+def keep_verdict(name: str, before: str, said: str, folder: Path | None = None) -> bool:
+    """Stores the verdict line in the output of a crate's proof, with the sum that the crate's sources had before the proof, and the
+    hashes of what was built. Returns whether there is such a line and the sources are still the same."""
+    lines = [found[0] for found in VERDICT.finditer(said)]
+    if not lines or sources(name) != before:
+        return False
+    folder = folder or CRATES / name / "out"
+    folder.mkdir(parents=True, exist_ok=True)
+    built = "".join(f"built={it.name} {hashlib.sha256(it.read_bytes()).hexdigest()}\n" for it in products(name))
+    (folder / "verdict").write_text(f"sources={before}\n{built}{lines[-1]}\n")
+    return True
+
+
+def verdict(name: str) -> tuple[str, dict[str, str]] | None:
+    """The stored verdict line of a crate, and the hash of each file that was built with it, by name; or None if there is none for the
+    present sources."""
+    now = sources(name)
+    for path in (CRATES / name / "out/verdict", CRATES / name / "out/rlib/verdict"):
+        lines = path.read_text(errors="replace").splitlines() if path.is_file() else []
+        if len(lines) >= 2 and lines[0] == f"sources={now}" and VERDICT.fullmatch(lines[-1]):
+            return lines[-1], dict(line.removeprefix("built=").split(" ", 1) for line in lines[1:-1])
+    return None
 
 
 def link(one: str, other: str) -> None:
@@ -121,7 +189,7 @@ def hand_in(made: Path, name: str) -> None:
 
 def prove(name: str, is_first: bool, started: list[subprocess.Popen[str]]) -> str | None:
     """Proves a library, and returns the output of `rt` if it is not proved."""
-    began = time.monotonic()
+    began, before = time.monotonic(), sources(name)
     with tempfile.TemporaryDirectory(prefix="thp-prove-") as top:
         set_up(Path(top), name)
         home = Path(top) / "crates" / name
@@ -134,6 +202,7 @@ def prove(name: str, is_first: bool, started: list[subprocess.Popen[str]]) -> st
         said, _ = child.communicate()
         if child.returncode:
             return str(said)
+        keep_verdict(name, before, said, home / "out/rlib")
         hand_in(home / "out", name)
     print(f"{name}: proved in {time.monotonic() - began:.0f} s", file=sys.stderr, flush=True)
     return None
@@ -172,6 +241,20 @@ def prove_all(target: str, most: int, started: list[subprocess.Popen[str]]) -> b
     return True
 
 
+def run_rt(name: str, words: list[str]) -> int:
+    """Runs `rt` in the folder of a crate with standard input and output of this process, and stores the verdict line in its output."""
+    before, said = sources(name), ""
+    with subprocess.Popen(["rt", *words], cwd=CRATES / name, stdout=subprocess.PIPE) as child:
+        assert child.stdout is not None
+        for line in child.stdout:
+            sys.stdout.buffer.write(line)
+            sys.stdout.buffer.flush()
+            said += line.decode(errors="replace") if line.startswith(b"logic=proved ") else ""
+    if child.returncode == 0:
+        keep_verdict(name, before, said)
+    return child.returncode
+
+
 def end(started: list[subprocess.Popen[str]]) -> None:
     """Ends the processes that are still running."""
     ENDING.set()
@@ -186,6 +269,8 @@ def main() -> None:
         is_proved = prove_all(sys.argv[1], lanes(), started)
     finally:
         end(started)
+    if is_proved and sys.argv[2:]:
+        sys.exit(run_rt(sys.argv[1], sys.argv[2:]))
     sys.exit(0 if is_proved else 1)
 
 

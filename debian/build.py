@@ -1,5 +1,5 @@
 #!/usr/bin/env python3
-"""Builds the Debian packages `thpsplit`, `libthp0` and `libthp-dev` from what was built before.
+"""Builds the Debian packages `thpsplit`, `thp-linux-tools`, `libthp0` and `libthp-dev` from what was built before.
 
     debian/build.py THPSPLIT THPCHECK THPDRAW ARCHIVE FOLDER
 
@@ -21,7 +21,8 @@ from email.utils import formatdate
 from pathlib import Path
 
 ROOT = Path(__file__).resolve().parent.parent
-PARTS = ("Makefile", "README.md", "CHANGELOG.md", "LICENSE-APACHE", "LICENSE-MIT", "c", "completions", "debian", "docs", "linux")
+PARTS = ("Makefile", "README.md", "CHANGELOG.md", "LICENSE-APACHE", "LICENSE-MIT", "c", "completions", "debian", "docs", "examples",
+         "linux")
 """What the packages are made from, beside what was built."""
 
 BUILT = ("crates/thpsplit/out/thpsplit", "crates/thpcheck/out/thpcheck", "crates/thpdraw/out/thpdraw",

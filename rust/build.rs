@@ -1,13 +1,17 @@
-//! Links libthp.a, which `make -C c` leaves in `c/out`; the variable `THP_LIB` names another folder.
+//! Links libthp.a, which `make -C c` leaves in `c/out`, and which a release has in `lib`; the variable `THP_LIB` names another folder.
 use std::env;
-use std::path::PathBuf;
+use std::path::{Path, PathBuf};
 use std::process::exit;
 
 fn main() {
     println!("cargo:rerun-if-env-changed=THP_LIB");
     let folder = match env::var_os("THP_LIB") {
         Some(folder) => PathBuf::from(folder),
-        None => PathBuf::from(concat!(env!("CARGO_MANIFEST_DIR"), "/../c/out")),
+        None => ["../lib", "../c/out"]
+            .map(|beside| Path::new(env!("CARGO_MANIFEST_DIR")).join(beside))
+            .into_iter()
+            .find(|folder| folder.join("libthp.a").is_file())
+            .unwrap_or(PathBuf::from(concat!(env!("CARGO_MANIFEST_DIR"), "/../c/out"))),
     };
     println!("cargo:rerun-if-changed={}", folder.join("libthp.a").display());
     if !folder.is_absolute() {

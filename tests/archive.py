@@ -19,7 +19,7 @@ from pathlib import Path
 ROOT = Path(__file__).resolve().parent.parent
 sys.path.insert(0, str(ROOT))
 
-from prove import below, listed  # noqa: E402
+from prove import below, keep_verdict, listed, sources  # noqa: E402
 from tally import Missing, Tally  # noqa: E402
 
 NAME = "thp_c"
@@ -53,10 +53,13 @@ def build(to: Path) -> str | None:
         raise Missing("rt isn't on the path")
     kit = Path(rt).resolve().parent.parent
     to.parent.mkdir(parents=True, exist_ok=True)
-    command = [str(kit / "bin/rattle"), "build", *words(kit, to)]
+    command, before = [str(kit / "bin/rattle"), "build", *words(kit, to)], sources(NAME)
     ended = subprocess.run(command, cwd=ROOT / "crates" / NAME, capture_output=True, text=True, errors="replace", check=False)
     said = (ended.stdout + ended.stderr).strip()
-    return None if ended.returncode == 0 else f"status {ended.returncode}: {said[-900:]}"
+    if ended.returncode != 0:
+        return f"status {ended.returncode}: {said[-900:]}"
+    keep_verdict(NAME, before, said)
+    return None
 
 
 def main() -> None:

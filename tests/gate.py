@@ -13,13 +13,18 @@ import re
 import subprocess
 import sys
 import time
+from collections.abc import Callable
 from pathlib import Path
 
 from tally import SKIPPED, Tally
 
 ROOT = Path(__file__).resolve().parent.parent
+sys.path.insert(0, str(ROOT))
+
+from prove import keep_verdict, listed, released, sources, verdict  # noqa: E402
+
 WITHOUT = (
-    "tests/docs.py", "tests/surface.py", "tests/installed.py", "tests/lint.py", "linux/tests/run.py",
+    "tests/docs.py", "tests/surface.py", "tests/installed.py", "tests/release.py", "tests/lint.py", "linux/tests/run.py",
     "linux/whatif/tests/__main__.py",
 )
 """The tests of the tree only, and of the tools for the running kernel with stored data. Those of `thpwhatif` use the built
@@ -61,10 +66,10 @@ TELLS_FAILURE = re.compile(r": failed: |^rt: FAILED|^(?:rt: )?must-fail .*: (?:N
 """Lines that name a failure, which are repeated at the end: often only the end of a long output is kept."""
 
 
-def run(command: list[str], failures: list[str]) -> tuple[int, int, int]:
+def run(command: list[str], failures: list[str], see: Callable[[str], None]) -> tuple[int, int, int]:
     """Runs a command from the top of the repository and prints its output as it comes; returns its count, and its status.
 
-    A command that prints no count counts as nothing passed. Lines that name a failure are kept.
+    A command that prints no count counts as nothing passed. Lines that name a failure are kept, and `see` gets all lines.
     """
     passed, failed = 0, 0
     try:
@@ -79,6 +84,7 @@ def run(command: list[str], failures: list[str]) -> tuple[int, int, int]:
             passed, failed = int(count[1]), int(count[2])
             continue
         print(line, end="", flush=True)
+        see(line)
         if TELLS_FAILURE.search(line):
             failures.append(line[:300].rstrip())
     return passed, failed, child.wait()
@@ -90,6 +96,33 @@ def spent() -> float:
     return times.children_user + times.children_system
 
 
+class Verdicts:
+    """The verdict lines in the output of `rt ci`, by crate."""
+
+    def __init__(self) -> None:
+        self.before = {name: sources(name) for name in listed()}
+        self.name, self.line = "", ""
+        self.lines: dict[str, str] = {}
+
+    def see(self, line: str) -> None:
+        """Takes a line of the output: the head of a crate's part, a line in it, or its end, which says if `rt` accepts the crate."""
+        if line.startswith("== "):
+            self.name, self.line = line[3:].strip(), ""
+        elif line.startswith("logic=proved "):
+            self.line = line
+        elif line == f"rt: {self.name} proved\n" and self.name in self.before:
+            self.lines[self.name] = self.line
+
+    def keep(self) -> None:
+        """Stores them once `rt ci` has ended, which moves what the crates' folders contain, and names crates that have none: `rt ci`
+        prints no verdict line of a proof that it kept from an earlier run."""
+        for name, line in self.lines.items():
+            keep_verdict(name, self.before[name], line)
+        lacking = [name for name in released() if verdict(name) is None]
+        if lacking:
+            print(f"no verdict line for `make dist`: {', '.join(lacking)}", flush=True)
+
+
 class Gate(Tally):
     """The parts of the gate, and what failed in them."""
 
@@ -97,13 +130,13 @@ class Gate(Tally):
         super().__init__()
         self.failures: list[str] = []
 
-    def add(self, name: str, command: list[str]) -> None:
+    def add(self, name: str, command: list[str], see: Callable[[str], None] = lambda line: None) -> None:
         """Runs a command, adds its count, and prints its processor time. A command that ends wrong and counts no failure counts
         as one
         failure."""
         lines: list[str] = []
         began = spent()
-        passed, failed, status = run(command, lines)
+        passed, failed, status = run(command, lines, see)
         if status not in (0, SKIPPED) and failed == 0:
             lines.append(f"{name}: ended with status {status}")
             failed = 1
@@ -133,7 +166,9 @@ def main() -> None:
     began = time.time() - 1
     # One process for each proof, and as many side by side as there are processors: several for one proof take a quarter more.
     os.environ.setdefault("RT_JOBS", str(len(os.sched_getaffinity(0))))
-    gate.add("rt ci", ["rt", "ci"])
+    verdicts = Verdicts()
+    gate.add("rt ci", ["rt", "ci"], verdicts.see)
+    verdicts.keep()
     for script in WITHOUT:
         gate.add(script, [sys.executable, script])
     programs = made_since(began, BUILT)

@@ -13,6 +13,7 @@ import os
 import re
 import shutil
 import subprocess
+import sys
 import tarfile
 import tempfile
 from collections.abc import Sequence
@@ -20,11 +21,15 @@ from functools import cache
 from pathlib import Path
 from random import Random
 
-from random_texts import Script, joined, likely_words, operands, random_shapes, script_of_one
-from script import Run
-from tally import Missing, Tally
-
 ROOT = Path(__file__).resolve().parent.parent
+sys.path.insert(0, str(ROOT / "release"))
+
+import version as places  # noqa: E402
+from protection import weaknesses  # noqa: E402
+from random_texts import Script, joined, likely_words, operands, random_shapes, script_of_one  # noqa: E402
+from script import Run  # noqa: E402
+from tally import Missing, Tally  # noqa: E402
+
 C = ROOT / "c"
 SECONDS = 300
 
@@ -236,15 +241,13 @@ def symbols_are_dated() -> str | None:
 
 
 def versions_agree() -> str | None:
-    """Header, cargo crate, manual page and Debian's list of symbols have one version and one soname."""
-    number = version()
+    """Header, cargo crate and manual page have one version, and Debian's files the soname."""
     wanted = {
-        "c/thp.h": f'#define THP_VERSION "{number}"', "rust/Cargo.toml": f'\nversion = "{number}"', "docs/libthp.3": f'"libthp {number}"',
-        "rust/Cargo.lock": f'name = "leversorrel"\nversion = "{number}"',
         "debian/libthp0.symbols": f"{soname()} libthp{soname().rpartition('.')[2]} #MINVER#",
         "debian/control": f"\nPackage: libthp{soname().rpartition('.')[2]}\n",
     }
-    return ", ".join(name for name, text in wanted.items() if text not in (ROOT / name).read_text()) or None
+    wrong = [name for name, text in wanted.items() if text not in (ROOT / name).read_text()]
+    return ", ".join(wrong + places.differing(places.LIBRARY)) or None
 
 
 def processor_is_named() -> str | None:
@@ -277,12 +280,10 @@ def elf_differs(library: Path) -> str | None:
 
 
 def is_unprotected(built: Path) -> str | None:
-    """What a library or program lacks of full RELRO: memory that becomes read-only, names that are resolved when it is loaded."""
+    """What a library or program lacks of the protection that distributions require."""
     if shutil.which("readelf") is None:
         raise Missing("no readelf here")
-    told = subprocess.run(["readelf", "-dlW", built], capture_output=True, text=True, check=False).stdout
-    wanted = {"RELRO": r"^ *GNU_RELRO ", "BIND_NOW": r"\(FLAGS\).*BIND_NOW|\(FLAGS_1\).*NOW"}
-    return ", ".join(f"{built.name} has no {it}" for it in wanted if not re.search(wanted[it], told, re.M)) or None
+    return ", ".join(weaknesses(built)) or None
 
 
 class Built:

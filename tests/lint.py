@@ -27,7 +27,7 @@ def checked(words: list[str]) -> str | None:
     if shutil.which(words[0]) is None:
         raise Missing(f"no {words[0]} here (Debian's package {words[0]})")
     done = subprocess.run(words, cwd=ROOT, capture_output=True, text=True, errors="replace", timeout=SECONDS, check=False,
-                          env={**os.environ, "MYPYPATH": "tests"})
+                          env={**os.environ, "MYPYPATH": "tests:release:debian"})
     told = [line for line in (done.stdout + done.stderr).split("\n") if ": note: " not in line]
     return None if done.returncode == 0 else "; ".join(line[:200] for line in told[:10])
 
@@ -35,13 +35,14 @@ def checked(words: list[str]) -> str | None:
 def main() -> None:
     """Checks all sources."""
     tally = Tally()
-    tests = sorted(str(path.relative_to(ROOT)) for path in [*ROOT.glob("tests/*.py"), *ROOT.glob("tests/edits/*.py")])
+    folders = ("tests", "tests/edits", "release", "debian")
+    tests = sorted(str(path.relative_to(ROOT)) for folder in folders for path in ROOT.glob(f"{folder}/*.py"))
     with tempfile.TemporaryDirectory() as cache:
         strict = ["mypy", "--strict", "--cache-dir", cache]
         tally.run("types of linux/", partial(checked, [*strict, "linux"]))
-        tally.run("types of tests/ and prove.py", partial(checked, [*strict, *tests, "prove.py"]))
+        tally.run("types of tests/, release/ and prove.py", partial(checked, [*strict, *tests, "prove.py"]))
         tally.run("types of docs/pictures", partial(checked, [*strict, "docs/pictures/layers.py"]))
-    tally.run("style", partial(checked, ["flake8", "linux", "tests", "docs/pictures", "prove.py"]))
+    tally.run("style", partial(checked, ["flake8", "linux", "tests", "release", "debian", "docs/pictures", "prove.py"]))
     tally.end()
 
 

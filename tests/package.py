@@ -19,12 +19,16 @@ import tempfile
 from pathlib import Path
 from typing import Optional
 
-from library import elf_differs, header, soname, version
-from process import Call, Ended, run
-from tables import table
-from tally import SKIPPED, Missing, Tally
-
 ROOT = Path(__file__).resolve().parent.parent
+sys.path[:0] = [str(ROOT / "debian"), str(ROOT / "release")]
+
+from build import PARTS  # noqa: E402
+from library import elf_differs, header, soname, version  # noqa: E402
+from process import Call, Ended, run  # noqa: E402
+from protection import is_elf, is_stripped, weaknesses  # noqa: E402
+from tables import table  # noqa: E402
+from tally import SKIPPED, Missing, Tally  # noqa: E402
+
 FIRST, LEGAL = ROOT / "examples/first.script", ROOT / "examples/two_workers.journal"
 ADMIN = "var/lib/dpkg"
 """The files of `dpkg` itself in a root."""
@@ -39,18 +43,24 @@ PUT = ("usr/bin/thpsplit", "usr/bin/thpcheck", "usr/bin/thpdraw", *(f"usr/bin/{n
        "usr/share/man/man1/thpcheck.1.gz", "usr/share/man/man1/thpdraw.1.gz",
        "usr/share/man/man1/thpsplit.1.gz", "usr/share/man/man5/thpsplit.5.gz",
        "usr/share/bash-completion/completions/thpsplit", "usr/share/doc/thpsplit/copyright",
+       *(f"usr/share/doc/{name}" for name in (
+           "thpsplit/README.md.gz", "thpsplit/CHANGELOG.md.gz", "thpsplit/FORMATS.md.gz", "thpsplit/examples/first.script",
+           "thp-linux-tools/WHATIF.md.gz", "thp-linux-tools/SECURITY.md.gz", "libthp0/README.md.gz", "libthp-dev/C.md.gz",
+           "libthp-dev/examples/first.c")),
        "usr/include/thp.h", "usr/share/man/man3/libthp.3.gz", "usr/share/man/man3/thp_node_create.3.gz", "usr/share/libthp/tsan.supp")
 """Files that the packages must have, among others."""
 
-PACKAGES = ("libthp-dev", "libthp0", "thpsplit")
-"""Their names; each after those that need it."""
-
+OF_LIBRARY = (f"libthp{soname().rpartition('.')[2]}", "libthp-dev")
+"""The packages with the library's version; the others have that of the programs."""
 
 DEPENDENCIES = {
-    "thpsplit": ("python3", "libc6 (>= 2."), f"libthp{soname().rpartition('.')[2]}": ("libc6 (>= 2.",),
-    "libthp-dev": (f"libthp{soname().rpartition('.')[2]} (= {version()})",),
+    "thp-linux-tools": ("python3", "thpsplit (= ", "libc6 (>= 2."), "thpsplit": ("libc6 (>= 2.",), OF_LIBRARY[0]: ("libc6 (>= 2.",),
+    "libthp-dev": (f"{OF_LIBRARY[0]} (= {version()})",),
 }
-"""Each package, and what its dependencies begin with."""
+"""Each package, after those that need it, and what its dependencies begin with."""
+
+DEBUG = "-dbgsym"
+"""The end of the name of a package with the debug information of another one."""
 
 
 def built(files: list[Path], folder: Path, tree: Path = ROOT, **more: str) -> list[Path]:
@@ -66,12 +76,10 @@ def built(files: list[Path], folder: Path, tree: Path = ROOT, **more: str) -> li
 
 def differ(packages: list[Path], files: list[Path], folder: Path) -> Optional[str]:
     """The packages whose bytes or names differ when they are built again, from a copy of the tree with other dates and modes."""
-    parts = ("c", "completions", "debian", "docs", "linux", "Makefile", "README.md", "CHANGELOG.md", "LICENSE-APACHE", "LICENSE-MIT",
-             "crates/thp_cli/src/version.rt")
     tree = folder / "copy"
     old = os.umask(0o077)
     try:
-        for part in parts:
+        for part in (*PARTS, "crates/thp_cli/src/version.rt"):
             (tree / part).parent.mkdir(parents=True, exist_ok=True)
             if (ROOT / part).is_dir():
                 shutil.copytree(ROOT / part, tree / part, ignore=shutil.ignore_patterns("__pycache__", "out"))
@@ -119,10 +127,12 @@ def fields_differ(packages: list[Path]) -> Optional[str]:
         fields = dict(line.split(": ", 1) for line in told.splitlines())
         name, needs = fields["Package"], fields.get("Depends", "").split(", ")
         names.add(name)
-        wanted = found[1] if name == "thpsplit" else version()
+        wanted = version() if name.removesuffix(DEBUG) in OF_LIBRARY else found[1]
         wrong += [] if fields["Version"] == wanted else [f"{name} has version {fields['Version']}, not {wanted}"]
         wrong += [f"{name} doesn't depend on {it}" for it in DEPENDENCIES.get(name, ()) if not any(need.startswith(it) for need in needs)]
-    wrong += [f"no package {name}" for name in sorted({*DEPENDENCIES} - names)]
+        wrong += ["thpsplit depends on python3"] if name == "thpsplit" and "python3" in needs else []
+    debug = {f"{name}{DEBUG}" for name in DEPENDENCIES if name != "libthp-dev"}
+    wrong += [f"{name} is missing, or too much" for name in sorted(names ^ {*DEPENDENCIES, *debug})]
     return "; ".join(wrong) or None
 
 
@@ -131,9 +141,9 @@ def unpacked(packages: list[Path], folder: Path) -> tuple[Path, Path]:
     root = folder / "library"
     if not root.exists():
         for path in packages:
-            if path.name.startswith("libthp"):
+            if path.name.startswith(tuple(f"{name}_" for name in OF_LIBRARY)):
                 subprocess.run(["dpkg-deb", "-x", path, root], check=True)
-            if re.match(r"libthp\d", path.name):
+            if path.name.startswith(f"{OF_LIBRARY[0]}_"):
                 subprocess.run(["dpkg-deb", "-e", path, root / "DEBIAN"], check=True)
     return next((root / "usr/lib").glob("*/libthp.a")).parent, root / "DEBIAN"
 
@@ -150,14 +160,14 @@ def needs_differ(packages: list[Path], folder: Path) -> Optional[str]:
         done = subprocess.run(command, cwd=other, capture_output=True, text=True)
         if done.returncode != 0:
             return f"{command[0]}: {done.stderr.strip()}"
-    wanted = f"libthp{soname().rpartition('.')[2]} (>= {version()})"
+    wanted = f"{OF_LIBRARY[0]} (>= {version()})"
     return None if wanted in done.stdout.strip().replace("=", ", ", 1).split(", ") else f"{done.stdout.strip()}, not {wanted}"
 
 
 def library_differs(packages: list[Path], folder: Path) -> Optional[str]:
     """What is wrong with the packaged library: its files, its protection, and what packages that use it must require."""
     place, control = unpacked(packages, folder)
-    own = next(path for path in packages if re.match(r"libthp\d", path.name))
+    own = next(path for path in packages if path.name.startswith(f"{OF_LIBRARY[0]}_"))
     name, number = soname(), version()
     if os.readlink(place / name) != f"{name.rpartition('.')[0]}.{number}" or os.readlink(place / "libthp.so") != name:
         return f"{sorted(path.name for path in place.iterdir())}"
@@ -170,6 +180,21 @@ def library_differs(packages: list[Path], folder: Path) -> Optional[str]:
     symbols = (control / "symbols").read_text()
     wrong += [it for it in header() if not re.search(rf"^ {it}@THP_[0-9.]+ [0-9.]+$", symbols, re.M)]
     return ", ".join(wrong) or elf_differs(place / name)
+
+
+def binaries_differ(packages: list[Path], folder: Path) -> Optional[str]:
+    """What the programs, helpers and libraries of the packages lack of protection; none has symbols, which are in packages apart."""
+    if shutil.which("readelf") is None:
+        raise Missing("no readelf here")
+    wrong: list[str] = []
+    (folder / "binaries").mkdir()
+    for path in packages:
+        if DEBUG not in path.name:
+            subprocess.run(["dpkg-deb", "-x", path, folder / "binaries" / path.name], check=True)
+    built = [path for path in (folder / "binaries").rglob("*") if is_elf(path)]
+    for path in built:
+        wrong += weaknesses(path) + ([] if is_stripped(path) else [f"{path.name} isn't stripped"])
+    return "; ".join(wrong) or (None if len(built) == 8 else f"{len(built)} binaries, not 8")
 
 
 def lintian(packages: list[Path]) -> Optional[str]:
@@ -220,7 +245,7 @@ def tools_work(root: Path, version: str) -> Optional[str]:
         wrong = run(root / "usr/bin" / name, Call(("--version",), b"")).differs_from(Ended(0, f"{name} {version}\n".encode()))
         if wrong:
             return f"{name}: {wrong}"
-    scripts = [path.name for path in (root / ADMIN / "info").glob("thpsplit.p*")]
+    scripts = [path.name for name in ("thpsplit", "thp-linux-tools") for path in (root / ADMIN / "info").glob(f"{name}.p*")]
     enabled = [name for name in below(root) if name.startswith("etc/systemd/")]
     return f"scripts {scripts}, enabled {enabled}" if scripts or enabled else None
 
@@ -248,7 +273,8 @@ def comes_and_goes(packages: list[Path], folder: Path) -> Optional[str]:
     if lacks:
         return f"not installed: {', '.join(lacks)}"
     number = packages[-1].name.split("_")[1]
-    wrong = works(root) or tools_work(root, number) or links(root) or dpkg(root, "--purge", *PACKAGES)
+    names = [path.name.split("_")[0] for path in packages]
+    wrong = works(root) or tools_work(root, number) or links(root) or dpkg(root, "--purge", *names)
     if wrong:
         return wrong
     left = below(root) - before - {"log"}
@@ -273,6 +299,7 @@ def main() -> None:
         tally.run("what a program needs that uses the library", lambda: needs_differ(packages, folder))
         tally.run("dates are the commit's", lambda: dates_differ(packages))
         tally.run("the same bytes from a second build", lambda: differ(packages, files, folder))
+        tally.run("protection of the binaries", lambda: binaries_differ(packages, folder))
         tally.run("lintian", lambda: lintian(packages))
         tally.run("installed, tried and removed", lambda: comes_and_goes(packages, folder))
     tally.end()

@@ -1,0 +1,221 @@
+"""The release in a clean Debian: unpacked, run and linked in a root folder that has no Rattle toolchain.
+
+    python3 tests/clean_root.py FOLDER [--root EXISTING] [--suite NAME] [--mirror URL]
+
+FOLDER has what `make dist` made, and the packages if `make deb` made them there. debootstrap makes the root, of Debian 12, in a
+temporary folder; with --root it is a copy of an existing one, which needs the packages that INCLUDED lists. Nothing is left behind. Needs
+root and the network. Status 77 with one line if something is missing.
+"""
+
+from __future__ import annotations
+
+import argparse
+import os
+import shutil
+import signal
+import subprocess
+import sys
+import tempfile
+from functools import partial
+from pathlib import Path
+from types import FrameType
+
+from tally import SKIPPED, Missing, Tally
+
+SUITE, MIRROR = "bookworm", "http://deb.debian.org/debian"
+INCLUDED = "gcc,libc6-dev,pkg-config,cmake,make,python3,xz-utils"
+"""The packages that the root has beside the essential ones."""
+
+SECONDS = 1800
+"""The greatest time that one command may take."""
+
+FIRST = "setup\nalloc 0\nsplitpmd 0 0\nunmap 0 0 0 256\nscan 0 8\n"
+"""The first script: one page, half of it unmapped, split by the shrinker."""
+
+TOTALS = ("pages 1", "queue 0", "frames_held 256", "frames_given 256", "thp_split_page 1")
+"""Lines of its totals: one page split, 256 frames given back, 256 held."""
+
+LINKED = "page 0 is queued\ntaken 1, split 1\nframes: 256 given back, 256 held\n"
+"""What examples/c/first.c prints, which does the same by the library."""
+
+PROGRAMS = ("thpsplit", "thpcheck", "thpdraw", "thpreplay", "thprecord", "thpwhatif")
+
+CMAKE = """cmake_minimum_required(VERSION 3.13)
+project(use C)
+find_package(thp REQUIRED)
+foreach(kind thp static)
+  add_executable(by_${kind} first.c)
+  target_link_libraries(by_${kind} thp::${kind})
+endforeach()
+"""
+"""A project that links the first demo with either library."""
+
+NOBODY = "65534:65534"
+
+
+def called(words: list[str]) -> subprocess.CompletedProcess[str]:
+    """Runs a command in a mount namespace of its own, so that none of its mounts outlives it."""
+    whole = ["unshare", "--mount", "--propagation", "private", "--", *words]
+    plain = {"PATH": "/usr/sbin:/usr/bin:/sbin:/bin", "LC_ALL": "C.UTF-8", "HOME": "/tmp", "DEBIAN_FRONTEND": "noninteractive"}
+    return subprocess.run(whole, stdin=subprocess.DEVNULL, capture_output=True, text=True, errors="replace", timeout=SECONDS, env=plain,
+                          check=False)
+
+
+class Root:
+    """A Debian root in a folder, with the unpacked archive in /opt."""
+
+    def __init__(self, folder: Path, asked: argparse.Namespace) -> None:
+        self.path = folder / "root"
+        if asked.root:
+            done = called(["cp", "-a", "--reflink=auto", asked.root, str(self.path)])
+        else:
+            words = ["debootstrap", "--variant=minbase", f"--include={INCLUDED}", asked.suite, str(self.path), asked.mirror]
+            done = called(words)
+        if done.returncode != 0:
+            told = (done.stdout + done.stderr).strip().splitlines()
+            raise Missing(f"no Debian root: {told[-1] if told else f'status {done.returncode}'}")
+        self.path.chmod(0o755)
+
+    def run(self, script: str, user: str = NOBODY) -> subprocess.CompletedProcess[str]:
+        """Runs a shell script in the unpacked archive, as a user without rights."""
+        words = ["chroot", f"--userspec={user}", str(self.path), "/bin/sh", "-ec", f"cd /opt/leversorrel-*/ 2> /dev/null || cd /\n{script}"]
+        return called(words)
+
+    def differs(self, script: str, wanted: str | None = None, user: str = NOBODY) -> str | None:
+        """What is wrong when such a script must end well, with this output if one is given, or None."""
+        done = self.run(script, user)
+        if done.returncode == 0 and wanted in (None, done.stdout):
+            return None
+        return f"status {done.returncode}: {(done.stdout + done.stderr).strip()[-400:]}"
+
+    def has_no_toolchain(self) -> str | None:
+        """Neither `rt` nor a Rattle library is in the root."""
+        done = self.run("! command -v rt && ! ls /opt/rattle 2> /dev/null")
+        return None if done.returncode == 0 else f"it has {done.stdout.strip()}"
+
+    def unpacks(self, archive: Path) -> str | None:
+        """tar of the root unpacks the archive, and its binaries have the hashes of PROOF."""
+        shutil.copy(archive, self.path / "opt")
+        done = called(["chroot", str(self.path), "tar", "-xJf", f"/opt/{archive.name}", "-C", "/opt"])
+        (self.path / "opt" / archive.name).unlink()
+        if done.returncode != 0:
+            return f"tar ended with status {done.returncode}: {done.stderr.strip()}"
+        return self.differs("grep -E '^[0-9a-f]{64}  (bin|lib)/' PROOF | sha256sum -c --quiet --strict")
+
+    def first_run(self) -> str | None:
+        """The first script splits one page, gives 256 frames back and holds 256."""
+        done = self.run("cat examples/first.script; exec bin/thpsplit < examples/first.script")
+        lines = done.stdout.removeprefix(FIRST).splitlines()
+        lacks = [line for line in TOTALS if line not in lines]
+        if done.returncode != 0 or lacks or not done.stdout.startswith(FIRST):
+            return f"status {done.returncode}, lacks {lacks}: {(done.stdout + done.stderr)[-400:]}"
+        return None
+
+    def programs_run(self) -> str | None:
+        """Each program prints its version, and has a manual page and completions."""
+        script = """for name in NAMES; do
+            case "$(bin/$name --version)" in "$name "[0-9]*) ;; *) echo "$name: another version"; exit 1 ;; esac
+            bin/$name --help > /tmp/help; test -s /tmp/help; rm -f /tmp/help
+            test -s share/man/man1/$name.1; test -s share/bash-completion/completions/$name; done"""
+        return self.differs(script.replace("NAMES", " ".join(PROGRAMS)))
+
+    def links_by_pkg_config(self) -> str | None:
+        """A program in C is built by pkg-config with the shared library, and does what the first script does."""
+        return self.differs("""room=$(mktemp -d); trap 'rm -rf "$room"' EXIT
+            export PKG_CONFIG_PATH=$PWD/lib/pkgconfig LD_LIBRARY_PATH=$PWD/lib
+            cc examples/c/first.c $(pkg-config --cflags --libs thp) -o "$room/first"; "$room/first\"""", LINKED)
+
+    def links_by_cmake(self) -> str | None:
+        """The same by CMake, with either library."""
+        return self.differs(f"""room=$(mktemp -d); trap 'rm -rf "$room"' EXIT
+            cp examples/c/first.c "$room"; cat > "$room/CMakeLists.txt" << 'END'\n{CMAKE}END
+            cmake -S "$room" -B "$room/out" -DCMAKE_PREFIX_PATH=$PWD > "$room/log" || {{ cat "$room/log"; exit 1; }}
+            cmake --build "$room/out" >> "$room/log" || {{ cat "$room/log"; exit 1; }}
+            "$room/out/by_thp"; "$room/out/by_static\"""", 2 * LINKED)
+
+    def files(self) -> set[str]:
+        """The files of the root, except those that dpkg writes for itself."""
+        found = subprocess.run(["find", str(self.path), "-xdev", "-not", "-type", "d", "-printf", "%P\\n"], capture_output=True, text=True,
+                               errors="replace", check=True).stdout.splitlines()
+        return {name for name in found if not name.startswith(("var/lib/dpkg/", "var/log/", "var/cache/", "opt/", "etc/ld.so.cache"))}
+
+    def packages_come_and_go(self, packages: list[Path]) -> str | None:
+        """The packages are installed, run and removed, and nothing of them is left."""
+        before, room = self.files(), self.path / "tmp/packages"
+        room.mkdir(mode=0o755)
+        for path in packages:
+            shutil.copy(path, room)
+        names = " ".join(path.name.split("_")[0] for path in packages)
+        run = " && ".join(f"{name} --version > /dev/null" for name in PROGRAMS)
+        wrong = self.differs("dpkg --install /tmp/packages/*.deb", user="0:0") or self.differs(f"{run} && thpsplit < examples/first.script")
+        wrong = wrong or self.differs(f"dpkg --purge {names}", user="0:0")
+        shutil.rmtree(room)
+        left = sorted(self.files() - before)
+        return wrong or (f"left: {', '.join(left[:5])}" if left else None)
+
+
+def missing(folder: Path, asked: argparse.Namespace) -> str | None:
+    """What this machine lacks, or None."""
+    if os.geteuid() != 0:
+        return "it needs root"
+    tools = {"unshare": "util-linux", "chroot": "coreutils"} | ({} if asked.root else {"debootstrap": "debootstrap"})
+    lacks = [package for tool, package in tools.items() if shutil.which(tool, path="/usr/sbin:/usr/bin:/sbin:/bin") is None]
+    if lacks:
+        return f"this machine lacks {', '.join(lacks)}"
+    return None if len(list(folder.glob("leversorrel-*-linux.tar.xz"))) == 1 else f"{folder} has not one archive: `make dist` makes it"
+
+
+def is_left(folder: Path) -> str | None:
+    """What is left of the root: a folder, or a mount in it."""
+    mounts = [line.split()[1] for line in Path("/proc/mounts").read_text().splitlines() if line.split()[1].startswith(str(folder))]
+    return f"{folder} is left" if folder.exists() else f"mounted: {mounts}" if mounts else None
+
+
+def try_all(tally: Tally, root: Root, folder: Path) -> None:
+    """Runs the tests in the root: after the first two, only if the archive was unpacked."""
+    packages = [path for path in sorted(folder.glob("*.deb")) if "-dbgsym_" not in path.name]
+    tally.run("no toolchain", root.has_no_toolchain)
+    tally.run("the archive", partial(root.unpacks, next(folder.glob("leversorrel-*-linux.tar.xz"))))
+    if tally.failed:
+        return
+    tally.run("the first run", root.first_run)
+    tally.run("programs, manual pages, completions", root.programs_run)
+    tally.run("a program in C by pkg-config", root.links_by_pkg_config)
+    tally.run("a program in C by CMake", root.links_by_cmake)
+    if packages:
+        tally.run("packages", partial(root.packages_come_and_go, packages))
+    else:
+        tally.skip("packages", f"none in {folder}: `make deb` makes them")
+
+
+def main() -> None:
+    """Makes the root, tests the release in it, and removes it."""
+    words = argparse.ArgumentParser(description=__doc__, formatter_class=argparse.RawDescriptionHelpFormatter)
+    words.add_argument("folder", type=Path)
+    words.add_argument("--root", help="a Debian root to copy")
+    words.add_argument("--suite", default=SUITE)
+    words.add_argument("--mirror", default=os.environ.get("DEBIAN_MIRROR", MIRROR))
+    asked = words.parse_args()
+    lacks = missing(asked.folder, asked)
+    if lacks:
+        print(f"clean root: skipped: {lacks}")
+        sys.exit(SKIPPED)
+
+    def end(number: int, _: FrameType | None) -> None:
+        sys.exit(128 + number)
+
+    signal.signal(signal.SIGTERM, end)
+    tally = Tally()
+    with tempfile.TemporaryDirectory(prefix="thp-clean-root-", dir="/var/tmp") as name:
+        try:
+            root = Root(Path(name), asked)
+        except Missing as why:
+            print(f"clean root: skipped: {why}")
+            sys.exit(SKIPPED)
+        try_all(tally, root, asked.folder)
+    tally.run("nothing is left", partial(is_left, Path(name)))
+    tally.end()
+
+
+if __name__ == "__main__":
+    main()
