@@ -8,7 +8,7 @@ import os
 import sys
 import time
 from contextlib import ExitStack, contextmanager, suppress
-from typing import Any, Callable, Dict, Iterator, List, Mapping, NoReturn, Optional, Sequence
+from typing import Any, Callable, Dict, Iterator, List, Mapping, NoReturn, Optional, Sequence, Union
 
 from ..common.errors import DONE, InputFault
 from ..common.files import create, read_input
@@ -16,6 +16,7 @@ from ..common.program import Program
 from ..common.text import escape
 from ..common.tool import run_tool
 from ..common.user import user_for
+from .kinds import KindPredictor
 from .metrics import MetricsFile
 from .options import parse_choice, parse_look_options, parser
 from .picture import picture
@@ -125,33 +126,29 @@ def left_out_of(scripts: Sequence[Script]) -> Dict[str, int]:
 
 def print_tables(
     options: argparse.Namespace,
-    scripts: List[Script],
+    predictor: Union[Predictor, KindPredictor],
+    today: Optional[int],
+    left_out: Dict[str, int],
     snapshot: Optional[Snapshot],
-    program: Program,
     svg: Optional[Output],
 ) -> None:
-    """Prints the tables, or the JSON object, of scripts."""
-    told_today = [snapshot.today] if snapshot else [script.today() for script in scripts]
-    today = next((threshold for threshold in told_today if threshold is not None), None)
+    """Prints the tables, or the JSON object, of a predictor."""
     given = thresholds_of(options.thresholds) if options.thresholds else DEFAULT
     thresholds = with_today(given, None if options.thresholds else today)
-    predictor = Predictor(scripts, program)
     began = time.monotonic()
     rows = predictor.run(thresholds)
-    names = {number: name for script in scripts for number, name in script.processes().items()}
     shares = predictor.shares(thresholds) if options.by_process else {}
     groups = predictor.by_group(thresholds) if options.by_cgroup else {}
-    left_out = dict(snapshot.left_out) if snapshot else left_out_of(scripts)
     if svg:
         svg.write(picture(rows, today))
     if options.json:
         out = rows_json(rows, today, left_out)
-        out.update(parts_json(shares, groups, names, today))
+        out.update(parts_json(shares, groups, predictor.names, today))
         out.update(look_json(snapshot, time.monotonic() - began))
         print(json.dumps(out, indent=1))
         return
     parts = [table(rows, today)]
-    parts += [process_table(shares, names)] if options.by_process else []
+    parts += [process_table(shares, predictor.names)] if options.by_process else []
     parts += [group_table(groups)] if options.by_cgroup else []
     print("\n\n".join(parts))
     print(last_line(left_out))
@@ -206,15 +203,15 @@ def command_now(options: argparse.Namespace) -> int:
     program = Program(options.program)
     with open_output(options.svg) as svg:
         snapshot = take_look(options, choice)
-        made = write_snapshot(snapshot)
+        predictor = KindPredictor(snapshot, program)
         for line in list_notes(snapshot) if not options.json else ():
             print(line)
-        if not made.scripts:
+        if not predictor.has_pages:
             print("no huge pages are mapped here", file=sys.stderr)
             if not options.json:
                 print(last_line(snapshot.left_out))
                 return DONE
-        print_tables(options, made.scripts, snapshot, program, svg)
+        print_tables(options, predictor, snapshot.today, dict(snapshot.left_out), snapshot, svg)
     return DONE
 
 
@@ -247,7 +244,10 @@ def command_what_if(options: argparse.Namespace) -> int:
     """Prints the tables of scripts."""
     check_thresholds(options)
     with open_output(options.svg) as svg:
-        print_tables(options, read_scripts(options.files), None, Program(options.program), svg)
+        scripts = read_scripts(options.files)
+        today = next((found for found in (script.today() for script in scripts) if found is not None), None)
+        predictor = Predictor(scripts, Program(options.program))
+        print_tables(options, predictor, today, left_out_of(scripts), None, svg)
     return DONE
 
 
@@ -255,15 +255,17 @@ def command_target(options: argparse.Namespace) -> int:
     """Finds the highest threshold that gives back so much."""
     if options.files and (options.pid or options.cgroup or options.all):
         raise InputFault("target takes files, or --pid, --cgroup or --all, not both")
+    predictor: Union[Predictor, KindPredictor]
     if options.files:
-        program, scripts = Program(options.program), read_scripts(options.files)
+        program = Program(options.program)
+        predictor = Predictor(read_scripts(options.files), program)
     else:
         choice = parse_choice(options)
         demand_root()
-        program, scripts = Program(options.program), write_snapshot(take_look(options, choice)).scripts
-    predictor = Predictor(scripts, program)
+        program = Program(options.program)
+        predictor = KindPredictor(take_look(options, choice), program)
     found = find_highest(predictor, -int(-options.mebibytes * FRAMES_A_MEBIBYTE // 1))
-    names = {number: name for script in scripts for number, name in script.processes().items()}
+    names = predictor.names
     threshold = 0 if found is None else found
     row, shares = predictor.run([threshold])[0], predictor.by_process(threshold)
     if options.json:
@@ -301,8 +303,8 @@ def command_watch(options: argparse.Namespace) -> int:
     def look_once() -> Look:
         snapshot = taker.take(choice)
         thresholds = with_today(given, None if options.thresholds else snapshot.today)
-        scripts, began = write_snapshot(snapshot).scripts, time.monotonic()
-        rows = Predictor(scripts, program).run(thresholds)
+        predictor, began = KindPredictor(snapshot, program), time.monotonic()
+        rows = predictor.run(thresholds)
         return look_of(snapshot, rows, time.monotonic() - began)
 
     also = metrics.write if metrics else lambda look: None
