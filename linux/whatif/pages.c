@@ -2,19 +2,22 @@
  *
  *   walk_process    how a process maps huge anonymous pages
  *   find_locked     the address ranges of its locked VMAs
- *   find_zeros      which subpages of a range are zero-filled
+ *   find_zeros      which subpages of a range are zero-filled, by /proc/PID/mem
+ *   scan_frames     the same of many huge pages, by a BPF program, in threads
  *
- * All of them only read. Content is read from /proc/PID/mem and not by process_vm_readv: that pins what it reads, and a pin of
- * a page that a fork shares makes the kernel copy it first (FAULT_FLAG_UNSHARE in mm/gup.c).
+ * All of them only read. Content is not read by process_vm_readv: that pins what it reads, and a pin of a page that a fork
+ * shares makes the kernel copy it first (FAULT_FLAG_UNSHARE in mm/gup.c).
  */
 #define _GNU_SOURCE
 #include <errno.h>
 #include <fcntl.h>
+#include <pthread.h>
 #include <stdint.h>
 #include <stdio.h>
 #include <stdlib.h>
 #include <string.h>
 #include <sys/ioctl.h>
+#include <sys/syscall.h>
 #include <unistd.h>
 
 enum { BASE = 4096, BLOCK = 512, PMD_ORDER = 9, CHUNK = 64, REGIONS = 256, RECENT = 64, TEXT = 1 << 16,
@@ -297,4 +300,55 @@ void find_zeros(int memory, uint64_t address, long count, const uint64_t *skippe
         for (long i = done; i < done + got; i++)
             if (!memcmp(buffer + (i - done) * BASE, zero_page, BASE)) zero[i / 64] |= 1ul << i % 64;
     }
+}
+
+/* include/uapi/linux/bpf.h: BPF_PROG_TEST_RUN */
+enum { SYS_BPF = 321, TEST_RUN = 10, WORD = 64, MOST_THREADS = 16 };
+struct test_run {
+    uint32_t program, answer, in_size, out_size;
+    uint64_t in, out;
+    uint32_t repeat, duration, context_size, context_out_size;
+    uint64_t context, context_out;
+    uint32_t flags, cpu, batch_size, unused;
+};
+
+/* A huge page: where its content is in the kernel's map of memory, its subpages, and which of them are zero-filled. */
+struct content {
+    uint64_t address;
+    uint32_t count, failed;
+    uint64_t zero[BLOCK / 64];
+};
+
+struct scan {
+    int program;
+    struct content *pages;
+    long count, next;
+};
+
+/* Fills in what is zero-filled in one page; `failed` where a subpage can't be read. */
+static void scan_page(int program, struct content *page) {
+    for (uint32_t done = 0; done < page->count && done < BLOCK; done += WORD) {
+        uint64_t left = page->count - done;
+        uint64_t context[4] = { page->address + (uint64_t)done * BASE, left < WORD ? left : WORD };
+        struct test_run run = { .program = (uint32_t)program, .context_size = sizeof context,
+                                .context = (uintptr_t)context };
+        if (syscall(SYS_BPF, TEST_RUN, &run, sizeof run) < 0 || run.answer) { page->failed = 1; return; }
+        page->zero[done / WORD] = context[2];
+    }
+}
+
+static void *scan_some(void *argument) {
+    struct scan *s = argument;
+    for (long i; (i = __atomic_fetch_add(&s->next, 1, __ATOMIC_RELAXED)) < s->count;) scan_page(s->program, &s->pages[i]);
+    return NULL;
+}
+
+/* Fills in what is zero-filled in many pages, by the BPF program of linux/common/direct_map.py, in so many threads. */
+void scan_frames(int program, struct content *pages, long count, int threads) {
+    struct scan s = { .program = program, .pages = pages, .count = count };
+    pthread_t others[MOST_THREADS];
+    int begun = 0;
+    while (begun < threads - 1 && begun < MOST_THREADS && !pthread_create(&others[begun], NULL, scan_some, &s)) begun++;
+    scan_some(&s);
+    while (begun) pthread_join(others[--begun], NULL);
 }
