@@ -153,7 +153,7 @@ def check_looks(pages: Pages, running: List[int]) -> Optional[str]:
     for look in looks:
         if look.wrong(DONE):
             return look.wrong(DONE)
-    if [json.loads(line)["look"] for line in looks[4].out.splitlines()] != [1, 2]:
+    if [json.loads(line)["look"] for line in looks[4].out.split("\n")[:-1]] != [1, 2]:
         return f"no JSON object for each look: {looks[4].out[:300]}"
     for look in (looks[1], looks[5], looks[6]):
         seen = {share["process"] for share in look.json()["by_process"]["off"]}

@@ -69,11 +69,13 @@ class KindPredictor:
         self._kinds: Dict[Kind, int] = {}
         self._counts: Counter[Tuple[int, int, By]] = Counter()  # pages by kind, control group and processes
         self._queues: Dict[Group, List[Tuple[bool, int, int, int]]] = {}  # of each page: what orders a queue, the kind
+        self._sums: Dict[Group, Counter[int]] = {}  # pages by kind
         for folio in snapshot.folios:
             try:
                 self._add(plan_page(folio, snapshot.locked_are_tried))
             except NotExpressible as why:
                 snapshot.left_out[why.reason.value] += 1
+        self._partly = [kind.is_partly for kind in self._kinds]
         pages = [page_of(kind, number) for kind, number in self._kinds.items()]
         made = list(write_scripts(pages, [], {}))
         self._program, self._numbers = program, [numbers for _, numbers in made]
@@ -95,7 +97,9 @@ class KindPredictor:
         number = self._kinds.setdefault(kind, len(self._kinds))
         self._counts[number, folio.cgroup, tuple(owners_of(folio).items())] += 1
         place = MANY if folio.place is None else folio.place
-        self._queues.setdefault((folio.cgroup, folio.order), []).append((kind.is_in_queue, place, folio.frame, number))
+        group = folio.cgroup, folio.order
+        self._queues.setdefault(group, []).append((kind.is_in_queue, place, folio.frame, number))
+        self._sums.setdefault(group, Counter())[number] += 1
 
     def _run(self, thresholds: Sequence[int]) -> None:
         """Runs thpsplit for each of these thresholds for which it has not run."""
@@ -116,15 +120,13 @@ class KindPredictor:
 
     def _row(self, threshold: int, group: Group) -> Row:
         """Returns the sums of a group: of a control group's pages of an order."""
-        pages, fates = self._queues[group], self._fates[threshold]
-        counts = Counter(number for _, _, _, number in pages)
+        counts, fates = self._sums[group], self._fates[threshold]
         split = {number: count for number, count in counts.items() if fates[number].frames is not None}
-        kinds = list(self._kinds)
         return Row(
             threshold,
-            len(pages),
+            sum(counts.values()),
             sum(split.values()),
-            sum(count for number, count in split.items() if not kinds[number].is_partly),
+            sum(count for number, count in split.items() if not self._partly[number]),
             self._tries(group, fates) if any(fates[number].is_pinned for number in counts) else 0,
             sum(count * (fates[number].frames or 0) for number, count in split.items()),
         )

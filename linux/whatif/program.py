@@ -1,4 +1,4 @@
-"""The command line of thpwhatif."""
+"""The command line of thpwhatif. What only one command needs is imported by it: the start of `now` is short."""
 
 from __future__ import annotations
 
@@ -8,24 +8,20 @@ import os
 import sys
 import time
 from contextlib import ExitStack, contextmanager, suppress
-from typing import Any, Callable, Dict, Iterator, List, Mapping, NoReturn, Optional, Sequence, Union
+from typing import TYPE_CHECKING, Any, Callable, Dict, Iterator, List, Mapping, NoReturn, Optional, Sequence, Union
 
 from ..common.errors import DONE, InputFault
 from ..common.files import create, read_input
 from ..common.program import Program
 from ..common.text import escape
 from ..common.tool import run_tool
-from ..common.user import user_for
 from .kinds import KindPredictor
-from .metrics import MetricsFile
 from .options import parse_choice, parse_look_options, parser
-from .picture import picture
 from .predictor import DEFAULT, OFF, Predictor, Row, Share, find_highest, label, thresholds_of, with_today
 from .processes import ProcessChoice
 from .rights import demand_root
 from .scripts import Script, Spool, read_script
 from .snapshot import NAME, Snapshot, SnapshotTaker, guess_of, list_notes, show_progress, warnings, write_snapshot
-from .stored import from_json
 from .table import (
     FRAMES_A_MEBIBYTE,
     cost_table,
@@ -36,8 +32,9 @@ from .table import (
     share_json,
     table,
 )
-from .verify import THRESHOLDS, TrialOptions, verify
-from .watch import Look, watch
+
+if TYPE_CHECKING:
+    from .watch import Look
 
 SLOW = 1.0  # seconds after which progress is shown
 
@@ -102,6 +99,8 @@ def open_output(path: Optional[str]) -> Iterator[Optional[Output]]:
 
 def read_scripts(paths: Sequence[str]) -> List[Script]:
     """Returns scripts of files; `-` is the standard input. A stored snapshot (--facts) is made into scripts."""
+    from .stored import from_json
+
     out: List[Script] = []
     spool = Spool()
     for path in paths:
@@ -140,6 +139,8 @@ def print_tables(
     shares = predictor.shares(thresholds) if options.by_process else {}
     groups = predictor.by_group(thresholds) if options.by_cgroup else {}
     if svg:
+        from .picture import picture
+
         svg.write(picture(rows, today))
     if options.json:
         out = rows_json(rows, today, left_out)
@@ -292,6 +293,9 @@ def check_thresholds(options: argparse.Namespace) -> None:
 
 def command_watch(options: argparse.Namespace) -> int:
     """Looks again and again."""
+    from .metrics import MetricsFile
+    from .watch import watch
+
     check_thresholds(options)
     choice = parse_choice(options)
     demand_root()
@@ -314,6 +318,8 @@ def command_watch(options: argparse.Namespace) -> int:
 
 def look_of(snapshot: Snapshot, rows: List[Row], runs: float) -> Look:
     """Returns a look of `watch`, given the rows and the seconds of their runs."""
+    from .watch import Look
+
     notes = ([snapshot.note] if snapshot.note else []) + ([guess_of(snapshot)] if snapshot.lacking else [])
     notes += [last_line(snapshot.left_out)] if any(snapshot.left_out.values()) else []
     return Look(
@@ -331,6 +337,9 @@ def look_of(snapshot: Snapshot, rows: List[Row], runs: float) -> Look:
 
 def command_verify(options: argparse.Namespace) -> int:
     """Tries predictions."""
+    from ..common.user import user_for
+    from .verify import THRESHOLDS, TrialOptions, verify
+
     check_thresholds(options)
     demand_root()
     program, user = Program(options.program), user_for(options.user)

@@ -14,13 +14,15 @@ import errno
 import mmap
 import os
 import struct
+import threading
 import time
 from array import array
 from bisect import bisect_right
-from collections import Counter, defaultdict
-from concurrent.futures import ThreadPoolExecutor
-from dataclasses import replace
-from typing import Callable, Dict, List, Optional, Sequence, Set, Tuple
+from collections import Counter, defaultdict, deque
+from concurrent.futures import Future, ThreadPoolExecutor
+from dataclasses import dataclass, replace
+from functools import lru_cache
+from typing import Callable, Deque, Dict, Iterator, List, Optional, Sequence, Set, Tuple
 
 from ..common.direct_map import DirectMap
 from ..common.errors import Unavailable
@@ -44,7 +46,8 @@ OPEN = 64  # files of processes' memory that one task has open
 MEMORY = 512  # MiB that a look keeps at most, if no other limit is given
 PIECE_COST, FOLIO_COST = 400, 2600  # bytes of a mapping and of a huge page, with all that is made of them
 MOST_LOCKED = 1 << 20  # locked areas of a process
-KNOWN = 12 << 18  # bytes that pages.c has for blocks of frames
+MOST_WALKED = 1 << 16  # pieces of a process that a thread finds; one that maps more is walked again
+KNOWN = 8 << 18  # bytes that pages.c has for blocks of frames
 
 
 class Piece(ctypes.Structure):
@@ -73,6 +76,7 @@ PIECE = struct.Struct("<QQQIIII64s")  # the same as Piece, unpacked in one call
 assert PIECE.size == ctypes.sizeof(Piece)
 
 
+@lru_cache(maxsize=None)
 def load_library() -> ctypes.CDLL:
     """Loads the C helper. Unavailable where it isn't built and there is no compiler."""
     library = ctypes.CDLL(helper("whatif/pages.c", ["-shared", "-fPIC"]))
@@ -83,6 +87,8 @@ def load_library() -> ctypes.CDLL:
     library.find_locked.restype = long
     library.find_zeros.argtypes = [number, ctypes.c_uint64, long, pointer, pointer, pointer]
     library.find_zeros.restype = None
+    library.run_each.argtypes = [number, pointer, long, long, pointer]
+    library.run_each.restype = None
     library.scan_frames.argtypes = [number, pointer, long, number]
     library.scan_frames.restype = None
     return library
@@ -94,6 +100,15 @@ class Room:
     def __init__(self, size: int) -> None:
         self.memory = mmap.mmap(-1, max(size, BASE), flags=mmap.MAP_PRIVATE | mmap.MAP_ANONYMOUS)
         self.address = ctypes.addressof(ctypes.c_char.from_buffer(self.memory))
+
+
+@dataclass(frozen=True)
+class Walk:
+    """What the page tables of a process contain of huge pages."""
+
+    found: int  # how many pieces, or an error's number below 0
+    pieces: bytes
+    sums: WalkSums
 
 
 class Spans:
@@ -133,7 +148,7 @@ class Reader:
         self._threads = threads or min(4, os.cpu_count() or 1)
         self._progress = progress or (lambda what, done, descriptor_of: None)
         self._most = (memory << 20) // (PIECE_COST + FOLIO_COST)
-        self._room, self._span_room = Room(self._most * PIECE.size), Room(MOST_LOCKED * 16)
+        self._own, self._span_room = threading.local(), Room(MOST_LOCKED * 16)
         self._known = Room(KNOWN)
         self._files = [open_numbers(f"/proc/kpage{name}") for name in ("flags", "count")]
         try:
@@ -162,21 +177,37 @@ class Reader:
         """Why pages are left out when the limit of memory is met."""
         return f"parts of huge pages beyond the limit of memory (--memory {self._memory})"
 
-    def add(self, process: int) -> None:
+    def walks(self, processes: Sequence[int]) -> Iterator[Tuple[int, Walk]]:
+        """Walks the page tables of processes in threads; yields what was found in their order."""
+        waiting: Deque[Future[Walk]] = deque()
+        with ThreadPoolExecutor(self._threads) as pool:
+            for index, process in enumerate(processes):
+                begun = index + len(waiting)
+                waiting.extend(
+                    pool.submit(self.walk, each, MOST_WALKED)
+                    for each in processes[begun : index + 2 * self._threads]
+                )
+                yield process, waiting.popleft().result()
+
+    def walk(self, process: int, most: int) -> Walk:
+        """Walks the page tables of a process, up to so many pieces."""
+        if not hasattr(self._own, "room"):
+            self._own.room = Room(min(self._most, MOST_WALKED) * PIECE.size)
+        room, sums = self._own.room, WalkSums()
+        if most * PIECE.size > len(room.memory):
+            room = Room(most * PIECE.size)
+        found = self._library.walk_process(
+            process, self._files[0], self._with_small, self._known.address, room.address, most, ctypes.byref(sums)
+        )
+        return Walk(found, room.memory[: max(0, found) * PIECE.size], sums)
+
+    def add(self, process: int, walk: Walk) -> None:
         """Adds what a process maps. OSError or Unreadable where that can't be read; then nothing of it is added."""
-        began = time.monotonic()
-        sums = WalkSums()
         used = self._pieces * PIECE_COST + len(self.folios) * FOLIO_COST + self._spans * 16
         most = max(0, min(self._most, ((self._memory << 20) - used) // (PIECE_COST + FOLIO_COST)))
-        found = self._library.walk_process(
-            process,
-            self._files[0],
-            self._with_small,
-            self._known.address,
-            self._room.address,
-            most,
-            ctypes.byref(sums),
-        )
+        if walk.found > most or walk.sums.lost:
+            walk = self.walk(process, most)
+        found, sums = walk.found, walk.sums
         if found in (-errno.ENOTTY, -errno.EINVAL):
             raise Unavailable("this kernel has no PAGEMAP_SCAN (before Linux 6.7)")
         if found < 0:
@@ -184,14 +215,13 @@ class Reader:
         if found and locked_bytes(process):
             self._locked[process] = spans = self._find_locked(process)
             self._spans += len(spans)
-        for piece in PIECE.iter_unpack(memoryview(self._room.memory)[: found * PIECE.size]):
+        for piece in PIECE.iter_unpack(walk.pieces):
             self._take(*piece)
         self._pieces += found
         self.others += sums.others
         for why, count in ((PARTS_MOVED, sums.changed), (SMALL, sums.small), (self.beyond, sums.lost)):
             if count:
                 self.left_out[why] += count
-        self.spent["walk"] += time.monotonic() - began
 
     def _find_locked(self, process: int) -> Spans:
         file = os.open(path_of(process, "smaps"), os.O_RDONLY | os.O_CLOEXEC)
