@@ -183,11 +183,17 @@ class Reader:
         with ThreadPoolExecutor(self._threads) as pool:
             for index, process in enumerate(processes):
                 begun = index + len(waiting)
-                waiting.extend(
-                    pool.submit(self.walk, each, MOST_WALKED)
-                    for each in processes[begun : index + 2 * self._threads]
-                )
+                waiting.extend(self._begin(pool, each) for each in processes[begun : index + 2 * self._threads])
                 yield process, waiting.popleft().result()
+
+    def _begin(self, pool: ThreadPoolExecutor, process: int) -> Future[Walk]:
+        """Begins to walk in a thread, or walks at once where there can be no further thread."""
+        try:
+            return pool.submit(self.walk, process, MOST_WALKED)
+        except RuntimeError:
+            walked: Future[Walk] = Future()
+            walked.set_result(self.walk(process, MOST_WALKED))
+            return walked
 
     def walk(self, process: int, most: int) -> Walk:
         """Walks the page tables of a process, up to so many pieces."""
