@@ -33,7 +33,7 @@ TOOLS = {"thpreplay": "linux/thpreplay", "thprecord": "linux/thprecord", "thpwha
 COMMANDS = ("now", "snapshot", "what-if", "target", "watch", "verify")
 """The commands of `thpwhatif`."""
 
-HELPERS = ("known", "mapper", "pages.so", "workload")
+HELPERS = ("btf.so", "known", "mapper", "pages.so", "workload")
 """The compiled helpers of the tools."""
 
 UNITS = ("thpwhatif.service", "thpwhatif.timer")

@@ -38,7 +38,7 @@ TOOLS = ("thpreplay", "thprecord", "thpwhatif")
 
 PUT = ("usr/bin/thpsplit", "usr/bin/thpcheck", "usr/bin/thpdraw", *(f"usr/bin/{name}" for name in TOOLS),
        *(f"usr/share/man/man1/{name}.1.gz" for name in TOOLS),
-       *(f"usr/lib/thpsplit/linux/out/{name}" for name in ("known", "mapper", "pages.so", "workload")),
+       *(f"usr/lib/thpsplit/linux/out/{name}" for name in ("btf.so", "known", "mapper", "pages.so", "workload")),
        "usr/lib/systemd/system/thpwhatif.service", "usr/lib/systemd/system/thpwhatif.timer",
        "usr/share/man/man1/thpcheck.1.gz", "usr/share/man/man1/thpdraw.1.gz",
        "usr/share/man/man1/thpsplit.1.gz", "usr/share/man/man5/thpsplit.5.gz",

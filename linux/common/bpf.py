@@ -156,6 +156,12 @@ class Assembler:
             return self.put(opcode | 8, left, right)
         return self.put(opcode, left, 0, 0, number)
 
+    def loop_end(self, name: str) -> Assembler:
+        """Goes to a label where a loop ran so often that the kernel ends it (may_goto, Linux 6.10): a loop with this in it
+        needs no bound that the verifier can find."""
+        self._jumps.append((len(self._code), name))
+        return self.put(0xE5)
+
     def read_kernel(self, at: int, size: int, offset: int = 0) -> Assembler:
         """Stack at r10 + at = `size` bytes of kernel memory at r3 + offset. Spoils r0 to r5."""
         if offset:

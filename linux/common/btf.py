@@ -6,12 +6,16 @@ another type, raises MissingType, which names it.
 
 from __future__ import annotations
 
+import ctypes
+import mmap
 import struct
 from array import array
 from dataclasses import dataclass
+from functools import lru_cache
 from typing import Dict, Iterator, List, Optional, Tuple
 
-from .errors import Unavailable
+from .errors import InputFault, RunFailed, Unavailable
+from .helpers import helper
 
 VMLINUX = "/sys/kernel/btf/vmlinux"
 _INT, _PTR, _ARRAY, _STRUCT, _UNION, _ENUM, _TYPEDEF, _PROTOTYPE = 1, 2, 3, 4, 5, 6, 8, 13
@@ -36,12 +40,29 @@ class Field:
     kind: str
 
 
+@lru_cache(maxsize=None)
+def load_library() -> Optional[ctypes.CDLL]:
+    """Loads the C helper. None where it can't be made: what it does is then done here, which takes a quarter second."""
+    try:
+        library = ctypes.CDLL(helper("common/btf.c", ["-shared", "-fPIC"]))
+    except (Unavailable, RunFailed, InputFault, OSError):
+        return None
+    long, pointer = ctypes.c_long, ctypes.c_void_p
+    library.index_types.argtypes = [pointer, long, long, pointer, pointer, pointer, long, pointer]
+    library.index_types.restype = long
+    library.find_name.argtypes = [pointer, long, long, pointer, long, ctypes.c_char_p]
+    library.find_name.restype = long
+    return library
+
+
 class Types:
     """The types of a BTF text, by default those of the running kernel. What was looked up stays known; the text of the
-    running kernel's types can be let go, and is read again where something else is looked up."""
+    running kernel's types can be let go, and is read again where something else is looked up. `with_helper`: the C helper
+    is used if there is one."""
 
-    def __init__(self, raw: Optional[bytes] = None) -> None:
+    def __init__(self, raw: Optional[bytes] = None, with_helper: bool = True) -> None:
         self._raw, self._strings, self._from_kernel = b"", 0, raw is None
+        self._library = load_library() if with_helper else None
         self._at = array("I")  # where each type is, by its number
         self._names: Dict[int, array[int]] = {}  # by kind: where the names of its types are
         self._numbers: Dict[int, array[int]] = {}  # by kind: the numbers of these types
@@ -78,6 +99,9 @@ class Types:
             raise Unavailable("the type information ends within a type") from error
 
     def _index(self, at: int, end: int) -> None:
+        if self._library and end <= len(self._raw):
+            self._index_by(self._library, at, end)
+            return
         unpack, raw, places = _HEAD.unpack_from, self._raw, self._at
         while at < end:
             name, info, _ = unpack(raw, at)
@@ -87,6 +111,25 @@ class Types:
                 self._numbers[kind].append(len(places))
             places.append(at)
             at += 12 + _EXTRA.get(kind, 0) + _EACH.get(kind, 0) * (info & 0xFFFF)
+
+    def _index_by(self, library: ctypes.CDLL, at: int, end: int) -> None:
+        most, kinds = (end - at) // _HEAD.size + 2, len(_NAMED)
+        room, counts = mmap.mmap(-1, (1 + 2 * kinds) * 4 * most), (ctypes.c_long * kinds)()
+        view = ctypes.c_char.from_buffer(room)
+        first = ctypes.addressof(view)
+        arrays = [first + 4 * most * place for place in (0, 1, 1 + kinds)]
+        found = library.index_types(self._raw, at, end, *arrays, most, ctypes.byref(counts))
+        del view
+        if found < 0:
+            raise IndexError
+
+        def numbers(place: int, count: int) -> array[int]:
+            return array("I", room[4 * most * place : 4 * (most * place + count)])
+
+        self._at = numbers(0, found)
+        for i, (kind, count) in enumerate(zip(_NAMED, counts)):
+            self._names[kind], self._numbers[kind] = numbers(1 + i, count), numbers(1 + kinds + i, count)
+        room.close()
 
     def _places_of(self, name: str) -> List[int]:
         """Returns where this name is among the strings; a string may be the end of another."""
@@ -100,8 +143,18 @@ class Types:
     def _types_named(self, kind: int, name: str) -> List[int]:
         """Returns the numbers of the types of a kind that have this name, the first one first."""
         self._load()
-        places = set(self._places_of(name))
-        return [number for place, number in zip(self._names[kind], self._numbers[kind]) if place in places]
+        if not self._library:
+            places = set(self._places_of(name))
+            return [number for place, number in zip(self._names[kind], self._numbers[kind]) if place in places]
+        names = self._names[kind]
+        out: List[int] = []
+        text = ctypes.cast(ctypes.c_char_p(self._raw), ctypes.c_void_p).value or 0
+        strings, length, index = text + self._strings, len(self._raw) - self._strings, -1
+        while True:
+            index = self._library.find_name(names.buffer_info()[0], index + 1, len(names), strings, length, name.encode())
+            if index < 0:
+                return out
+            out.append(self._numbers[kind][index])
 
     def _name(self, offset: int) -> str:
         start = self._strings + offset

@@ -10,32 +10,30 @@ import ctypes
 import mmap
 import os
 
-from .bpf import Assembler
+from .bpf import SLEEPABLE, Assembler, ProgramType, load_program
 from .errors import Unavailable
 from .files import BASE
-from .kernel_memory import KernelMemory, begin
+from .kernel_memory import KernelMemory
 from .page_files import frames_at
 
 ALIGNED = 1 << 30  # the map begins at a multiple of that
 FARTHEST = 1 << 14  # GiB of frames that are tried
-PIECE = 64  # bytes of a subpage that are looked at, at its begin and at its middle
-MOST = 512  # subpages of a call
+MOST = 64  # subpages of a run of the program
+GLANCE, REST = 64, 448  # bytes of a subpage that are read first, and then at a time: what a program's stack holds
 
 
 class DirectMap:
-    """Content of frames. Raises Unavailable where the map isn't found."""
+    """Content of frames. Raises Unavailable where the map isn't found. `program` finds zero-filled subpages: see
+    `build_zero_program`."""
 
     def __init__(self, memory: KernelMemory) -> None:
         self._memory = memory
         self._base = self._find()
-        self._looker = memory.load(build_scan_program)
+        self.program = load_program(ProgramType.SYSCALL, build_zero_program(), SLEEPABLE)
 
-    def with_data(self, frame: int, count: int) -> int:
-        """Of `count` subpages from `frame` on the set of those that show data in the bytes looked at: the others may
-        be zero-filled."""
-        if self._memory.run(self._looker, self._base + frame * BASE, count):
-            return 0
-        return int(self._memory.window[MOST - count : MOST], 2)
+    def address_of(self, frame: int) -> int:
+        """Returns where a frame's content is."""
+        return self._base + frame * BASE
 
     def _find(self) -> int:
         memory, offset = self._memory, self._memory.types.offset
@@ -58,17 +56,19 @@ class DirectMap:
         return frame is not None and self._memory.read(base + frame * BASE, BASE) == page[:]
 
 
-def build_scan_program(window: int) -> Assembler:
-    """For r7 subpages from r6 on: digits in the window, that of subpage i at MOST-1-i, 1 where its pieces aren't all
-    zero."""
-    code = begin(window).set(0, 1).jump("out", ">", 7, MOST).set(8, 0)
-    code.add(9, MOST - 1).label("next").jump("done", ">=", 8, right=7).jump("done", ">=", 8, MOST)
-    for offset in (0, BASE // 2):
-        code.move(3, 6).read_kernel(-PIECE, PIECE, offset).jump("out", "!=", 0, 0).load(1, 10, -PIECE)
-        for at in range(8, PIECE, 8):
-            code.load(2, 10, at - PIECE).bit_or_register(1, 2)
-        code.jump("data", "!=", 1, 0)
-    code.store_number(9, 0, ord("0"), 1).jump("step")
-    code.label("data").store_number(9, 0, ord("1"), 1)
-    code.label("step").add(6, BASE).add(9, -1).add(8, 1).jump("next")
-    return code.label("done").set(0, 0).label("out").exit()
+def build_zero_program() -> Assembler:
+    """Reads memory; no content leaves the kernel. The context is four numbers: an address, how many subpages from there on
+    (at most MOST), the set of those that are zero-filled as the answer, and one for the program's own use."""
+    code = Assembler().move(9, 1).load(6, 9, 0).load(7, 9, 8).jump("fails", ">", 7, MOST)
+    code.shift_left(7, 12).add_register(7, 6).set(8, 0).set(2, 1).store(9, 24, 2)  # r7: the end, r8: the set
+    code.label("next").jump("done", ">=", 6, right=7).loop_end("fails")
+    places = [(0, GLANCE), (BASE // 2, GLANCE)] + [(at, REST) for at in range(GLANCE, BASE, REST)]
+    for offset, length in places:
+        code.move(3, 6).read_kernel(-length, length, offset).jump("fails", "!=", 0, 0).load(1, 10, -length)
+        for at in range(8, length, 8):
+            code.load(2, 10, at - length).bit_or_register(1, 2)
+        code.jump("step", "!=", 1, 0)
+    code.load(2, 9, 24).bit_or_register(8, 2)
+    code.label("step").load(2, 9, 24).shift_left(2, 1).store(9, 24, 2).add(6, BASE).jump("next")
+    code.label("done").store(9, 16, 8).set(0, 0).exit()
+    return code.label("fails").set(0, 1).exit()

@@ -97,7 +97,7 @@ class KernelMemory:
         self.types = types or Types()
         self._descriptor = create_map(MapType.ARRAY, 4, WINDOW, 1, MMAPABLE)
         self.window = mmap.mmap(self._descriptor, WINDOW, mmap.MAP_SHARED, mmap.PROT_READ)
-        self._reader, self._walker = self.load(_reader), self.load(_walker)
+        self._reader, self._walker = self.load(_reader), 0
         self._context = ctypes.create_string_buffer(16)
         self._vmemmap: Optional[int] = None
         self._groups: Optional[GroupFields] = None
@@ -133,6 +133,7 @@ class KernelMemory:
 
     def links(self, head: int, limit: int = 1 << 20) -> List[int]:
         """Returns the addresses of a list's links, without its head (struct list_head)."""
+        self._walker = self._walker or self.load(_walker)
         for _ in range(TRIES):
             out: List[int] = []
             at = head
@@ -255,6 +256,14 @@ def _reader(window: int) -> Assembler:
     code.move(1, 9).move(2, 7).move(3, 6).jump("task", "==", 6, 0)
     code.call(Helper.PROBE_READ_KERNEL).label("out").exit()
     return code.label("task").call(Helper.CURRENT_TASK).store(9, 0, 0).set(0, 0).exit()
+
+
+def build_copier(words: int) -> Assembler:
+    """Copies kernel memory: the context is an address, and room for so many 64-bit numbers from there."""
+    code = Assembler().move(9, 1).load(3, 9, 0).read_kernel(-8 * words, 8 * words).jump("out", "!=", 0, 0)
+    for word in range(words):
+        code.load(1, 10, 8 * (word - words)).store(9, 8 + 8 * word, 1)
+    return code.set(0, 0).label("out").exit()
 
 
 def _walker(window: int) -> Assembler:

@@ -4,15 +4,17 @@
     linux/tests/root_whatif.py [--size GIB] [CASE..]
 
 Names with any bytes, thousands of locked areas, hundreds of forks, pages given to MADV_FREE, missing capabilities, the
-capabilities of thpwhatif.service, a PID namespace, noise beside `verify`, and a limit of memory. `--size`: how many GiB
-of huge pages the case `memory` maps (1). The programs are those of hostile_pages.c, compiled by cc. The last line is
-`N passed, M failed`; 77 without root, cc or thpsplit. What a machine lacks is named and counted neither way.
+capabilities of thpwhatif.service, a PID namespace, noise beside `verify`, content of a known page, and a limit of memory.
+`--size`: how many GiB of huge pages the case `memory` maps (1). The programs are those of hostile_pages.c, compiled by cc.
+The last line is `N passed, M failed`; 77 without root, cc or thpsplit. What a machine lacks is named and counted neither way.
 """
 
 from __future__ import annotations
 
 import argparse
+import ctypes
 import json
+import mmap
 import os
 import re
 import shutil
@@ -29,11 +31,17 @@ ROOT = Path(__file__).resolve().parent.parent.parent
 sys.path.insert(0, str(ROOT))
 sys.dont_write_bytecode = True
 
+from linux.common.direct_map import DirectMap  # noqa: E402
 from linux.common.errors import DONE, INCONCLUSIVE, SKIPPED, Unavailable  # noqa: E402
+from linux.common.files import BASE, PMD_ORDER  # noqa: E402
 from linux.common.groups import find_hierarchy  # noqa: E402
+from linux.common.kernel_memory import KernelMemory  # noqa: E402
+from linux.common.page_files import frames_at  # noqa: E402
 from linux.common.program import find_program  # noqa: E402
 from linux.common.user import NOBODY  # noqa: E402
 from linux.tests.cases import Cases, Missing  # noqa: E402
+from linux.whatif.folios import full_set  # noqa: E402
+from linux.whatif.reader import CONTENT, load_library  # noqa: E402
 
 WHATIF = str(ROOT / "linux/whatif/thpwhatif")
 SOURCE = ROOT / "linux/tests/hostile_pages.c"
@@ -153,7 +161,7 @@ def check_looks(pages: Pages, running: List[int]) -> Optional[str]:
     for look in looks:
         if look.wrong(DONE):
             return look.wrong(DONE)
-    if [json.loads(line)["look"] for line in looks[4].out.splitlines()] != [1, 2]:
+    if [json.loads(line)["look"] for line in looks[4].out.split("\n")[:-1]] != [1, 2]:
         return f"no JSON object for each look: {looks[4].out[:300]}"
     for look in (looks[1], looks[5], looks[6]):
         seen = {share["process"] for share in look.json()["by_process"]["off"]}
@@ -294,6 +302,33 @@ def check_noise(pages: Pages) -> Optional[str]:
     return tried.wrong(DONE, INCONCLUSIVE)
 
 
+def check_content(pages: Pages) -> Optional[str]:
+    """Finds the zero-filled subpages of a huge page of our own by the kernel's map of memory, in two threads."""
+    try:
+        direct = DirectMap(KernelMemory())
+    except Unavailable as lacking:
+        raise Missing(str(lacking)) from lacking
+    size = 1 << PMD_ORDER
+    room = mmap.mmap(-1, 2 * size * BASE, flags=mmap.MAP_PRIVATE | mmap.MAP_ANONYMOUS)
+    room.madvise(mmap.MADV_HUGEPAGE)
+    begin = ctypes.addressof(ctypes.c_char.from_buffer(room))
+    first = -begin % (size * BASE)
+    places = [0, 1, 63, 64, 65, 447, 511, 512, 2047, 2048, 2111, 2112, 4031, 4032, BASE - 1]
+    for number, place in enumerate(places):
+        room[first + 33 * number * BASE + place] = 1
+    frames = frames_at(os.getpid(), begin + first, size)
+    head = frames[0]
+    if head is None or frames != list(range(head, head + size)):
+        raise Missing("the kernel gave no huge page: memory is in pieces")
+    raw = bytearray().join(CONTENT.pack(at, size, 0, b"") for at in (direct.address_of(head), 0))
+    load_library().scan_frames(direct.program, ctypes.addressof(ctypes.c_char.from_buffer(raw)), 2, 2)
+    (_, _, failed, zero), (_, _, has_failed, _) = CONTENT.iter_unpack(raw)
+    wanted = full_set(PMD_ORDER) & ~sum(1 << 33 * number for number in range(len(places)))
+    if failed or int.from_bytes(zero, "little") != wanted:
+        return f"zero-filled {int.from_bytes(zero, 'little'):x}, not {wanted:x}"
+    return None if has_failed else "an address that can't be read isn't reported"
+
+
 def check_memory(pages: Pages, gibibytes: int) -> Optional[str]:
     """Looks at so many GiB of huge pages within a limit of memory."""
     found = re.search(rb"^MemAvailable: +([0-9]+) kB$", Path("/proc/meminfo").read_bytes(), re.MULTILINE)
@@ -323,6 +358,7 @@ CASES: Dict[str, Callable[[Pages], Optional[str]]] = {
     "service": check_service,
     "namespace": check_namespace,
     "noise": check_noise,
+    "content": check_content,
 }
 
 

@@ -15,7 +15,7 @@ from typing import List
 from unittest import mock
 
 from ..common import program as programs
-from ..common.btf import MissingType, Types
+from ..common.btf import VMLINUX, MissingType, Types
 from ..common.errors import Busy, InputFault, Unavailable
 from ..common.files import selected_word
 from ..common.groups import find_hierarchy
@@ -82,8 +82,26 @@ class TypesTest(unittest.TestCase):
             types.struct_size("page")
 
     def test_what_is_no_type_information_is_named(self) -> None:
-        with self.assertRaises(Unavailable):
-            Types(b"\x7fELF" + bytes(60))
+        for with_helper in (True, False):
+            for text in (b"\x7fELF" + bytes(60), queue_types()[:90], queue_types()[:40]):
+                with self.assertRaises(Unavailable):
+                    Types(text, with_helper)
+
+    def test_the_helper_finds_the_same(self) -> None:
+        found = []
+        for with_helper in (True, False):
+            types = Types(queue_types(), with_helper)
+            offsets = [types.offset("folio", "_deferred_list"), types.struct_size("list_head")]
+            found.append((offsets, types.enumerator("memory_cgrp_id"), types.field("mem_cgroup", "id")))
+        self.assertEqual(found[0], found[1])
+
+    @unittest.skipUnless(os.access(VMLINUX, os.R_OK), f"no {VMLINUX}")
+    def test_the_helper_finds_the_same_in_this_kernel(self) -> None:
+        found = []
+        for with_helper in (True, False):
+            types = Types(None, with_helper)
+            found.append((types.struct_size("page"), types.field("folio", "_refcount"), types.tracepoint("mm_page_free")))
+        self.assertEqual(found[0], found[1])
 
 
 class ProgramTest(unittest.TestCase):

@@ -11,6 +11,7 @@
     page_commands   a huge page as commands of a script
     scripts      pages as scripts for thpsplit, and such scripts read back
     predictor    thpsplit run on scripts for each threshold
+    kinds        the same from one page of each kind, for looks
     table        the predictions as tables and as JSON; picture: as SVG
     watch        repeated looks; metrics: as metrics for Prometheus
     known_pages, verify, reference    known pages, the real shrinker, and a plain reading of the kernel's functions

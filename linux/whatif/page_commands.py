@@ -120,11 +120,16 @@ def commands_before(plan: PagePlan, node: int, page: int) -> List[str]:
     return [f"alloc {node}", f"write {node} {page} 0 {plan.folio.size}"]
 
 
+def dropped_zeros(plan: PagePlan) -> int:
+    """Returns the zero-filled subpages, except those of a partly mapped page whose zeros a split leaves."""
+    if not plan.is_partly:
+        return plan.folio.zeros
+    return 0 if plan.folio.is_locked else plan.folio.zeros & ~plan.folio.kept
+
+
 def content_commands(plan: PagePlan, node: int, page: int) -> List[str]:
     """Returns the commands for zero-filled subpages; for a page in the queue its allocation, too."""
-    zero = plan.folio.zeros
-    if plan.is_partly:
-        zero = 0 if plan.folio.is_locked else zero & ~plan.folio.kept
+    zero = dropped_zeros(plan)
     if not plan.is_in_queue:
         return ranges("zero", node, page, zero)
     return [f"alloc {node}"] + ranges("write", node, page, plan.folio.full & ~zero)
@@ -162,6 +167,14 @@ def commands_of(plan: PagePlan, node: int, page: int) -> List[str]:
     return [comment_of(plan, node, page)] + [line for part in parts for line in part(plan, node, page)]
 
 
+def owners_of(folio: Folio) -> Dict[int, int]:
+    """Returns the processes that map a page, with how many PMD mappings each has of it."""
+    by: Dict[int, int] = {}
+    for mapping in folio.mappings:
+        by[mapping.process] = by.get(mapping.process, 0) + mapping.by_pmd
+    return by
+
+
 def comment_of(plan: PagePlan, node: int, page: int) -> str:
     """Returns the comment line of a page. `by`: processes with how many PMD mappings each has of it."""
     folio = plan.folio
@@ -172,9 +185,7 @@ def comment_of(plan: PagePlan, node: int, page: int) -> str:
         words.append(f"unread {folio.size - size(folio.known)}")
     if folio.pins:
         words.append(f"pins {folio.pins}")
-    by: Dict[int, int] = {}
-    for mapping in folio.mappings:
-        by[mapping.process] = by.get(mapping.process, 0) + mapping.by_pmd
+    by = owners_of(folio)
     if by:
         words.append("by " + ",".join(f"{process}:{count}" for process, count in by.items()))
     marks = {

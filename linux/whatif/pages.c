@@ -2,19 +2,23 @@
  *
  *   walk_process    how a process maps huge anonymous pages
  *   find_locked     the address ranges of its locked VMAs
- *   find_zeros      which subpages of a range are zero-filled
+ *   find_zeros      which subpages of a range are zero-filled, by /proc/PID/mem
+ *   scan_frames     the same of many huge pages, by a BPF program, in threads
+ *   run_each        runs a BPF program with many contexts
  *
- * All of them only read. Content is read from /proc/PID/mem and not by process_vm_readv: that pins what it reads, and a pin of
- * a page that a fork shares makes the kernel copy it first (FAULT_FLAG_UNSHARE in mm/gup.c).
+ * All of them only read. Content is not read by process_vm_readv: that pins what it reads, and a pin of a page that a fork
+ * shares makes the kernel copy it first (FAULT_FLAG_UNSHARE in mm/gup.c).
  */
 #define _GNU_SOURCE
 #include <errno.h>
 #include <fcntl.h>
+#include <pthread.h>
 #include <stdint.h>
 #include <stdio.h>
 #include <stdlib.h>
 #include <string.h>
 #include <sys/ioctl.h>
+#include <sys/syscall.h>
 #include <unistd.h>
 
 enum { BASE = 4096, BLOCK = 512, PMD_ORDER = 9, CHUNK = 64, REGIONS = 256, RECENT = 64, TEXT = 1 << 16,
@@ -38,11 +42,13 @@ struct piece {
     uint64_t set[BLOCK / 64];
 };
 
-/* Whether a block of frames has huge anonymous pages, once it was touched often: most memory has none. */
-struct known { uint32_t block, touches; enum { UNKNOWN, NONE, SOME } state; };
+/* Whether a block of frames has huge anonymous pages, once it was touched often: most memory has none. A number with the
+ * block in the high half, the touches, and one of these states in the last two bits. Threads share the table. */
+enum { UNKNOWN, NONE, SOME, STATES };
+typedef uint64_t known;
 
 struct walk {
-    struct known *known;                /* BLOCKS of them, of all processes of a look */
+    known *known;                       /* BLOCKS of them, of all processes of a look */
     int map, flags_file, process, with_small;
     struct piece *out;
     long found, most, lost, small, others, changed;
@@ -95,14 +101,15 @@ static int read_block(struct walk *w, uint64_t block) {
 
 /* Whether a block of frames is known to have no huge anonymous page. */
 static int is_plain(struct walk *w, uint64_t block) {
-    struct known *k = &w->known[block % BLOCKS];
-    if (k->block != (uint32_t)block) *k = (struct known){ .block = (uint32_t)block };
-    if (k->state == UNKNOWN && ++k->touches >= TOUCHES && !read_block(w, block)) {
-        k->state = NONE;
+    known *at = &w->known[block % BLOCKS], k = __atomic_load_n(at, __ATOMIC_RELAXED);
+    if (k >> 32 != (uint32_t)block) k = block << 32;
+    if (k % (STATES + 1) == UNKNOWN && (uint32_t)(k += STATES + 1) / (STATES + 1) >= TOUCHES && !read_block(w, block)) {
+        k += NONE;
         for (int i = 0; i < BLOCK; i++)
-            if (is_ours(w->block_flags[i])) k->state = SOME;
+            if (is_ours(w->block_flags[i])) { k += SOME - NONE; break; }
     }
-    return k->state == NONE;
+    __atomic_store_n(at, k, __ATOMIC_RELAXED);
+    return k % (STATES + 1) == NONE;
 }
 
 /* Finds the huge page around a frame of the block that was read: returns its order and fills `head`, or -1. */
@@ -185,8 +192,8 @@ struct sums { int64_t lost, small, others, changed; };
 
 /* Fills `out` with at most `most` pieces; returns how many, or -errno. `sums`: pieces that had no room, pages below
  * PMD size that weren't asked for, anonymous base pages beside them, base pages whose flags no longer fit their page
- * table. `known`: BLOCKS entries, zero before the first process. */
-long walk_process(int pid, int flags_file, int with_small, struct known *known, struct piece *out, long most,
+ * table. `known`: BLOCKS entries, zero before the first process. Several threads may walk at once. */
+long walk_process(int pid, int flags_file, int with_small, known *known, struct piece *out, long most,
                   struct sums *sums) {
     char path[64];
     struct region regions[REGIONS];
@@ -297,4 +304,64 @@ void find_zeros(int memory, uint64_t address, long count, const uint64_t *skippe
         for (long i = done; i < done + got; i++)
             if (!memcmp(buffer + (i - done) * BASE, zero_page, BASE)) zero[i / 64] |= 1ul << i % 64;
     }
+}
+
+/* include/uapi/linux/bpf.h: BPF_PROG_TEST_RUN */
+enum { SYS_BPF = 321, TEST_RUN = 10, WORD = 64, MOST_THREADS = 16 };
+struct test_run {
+    uint32_t program, answer, in_size, out_size;
+    uint64_t in, out;
+    uint32_t repeat, duration, context_size, context_out_size;
+    uint64_t context, context_out;
+    uint32_t flags, cpu, batch_size, unused;
+};
+
+/* Runs a BPF program once; returns whether its answer is 0. */
+static int run_program(int program, void *context, long size) {
+    struct test_run run = { .program = (uint32_t)program, .context_size = (uint32_t)size, .context = (uintptr_t)context };
+    return syscall(SYS_BPF, TEST_RUN, &run, sizeof run) >= 0 && !run.answer;
+}
+
+/* Runs a BPF program with each of `count` contexts, which follow each other; `failed`: a byte for each. */
+void run_each(int program, char *contexts, long count, long size, char *failed) {
+    for (long i = 0; i < count; i++) failed[i] = !run_program(program, contexts + i * size, size);
+}
+
+/* A huge page: where its content is in the kernel's map of memory, its subpages, and which of them are zero-filled. */
+struct content {
+    uint64_t address;
+    uint32_t count, failed;
+    uint64_t zero[BLOCK / 64];
+};
+
+struct scan {
+    int program;
+    struct content *pages;
+    long count, next;
+};
+
+/* Fills in what is zero-filled in one page; `failed` where a subpage can't be read. */
+static void scan_page(int program, struct content *page) {
+    for (uint32_t done = 0; done < page->count && done < BLOCK; done += WORD) {
+        uint64_t left = page->count - done;
+        uint64_t context[4] = { page->address + (uint64_t)done * BASE, left < WORD ? left : WORD };
+        if (!run_program(program, context, sizeof context)) { page->failed = 1; return; }
+        page->zero[done / WORD] = context[2];
+    }
+}
+
+static void *scan_some(void *argument) {
+    struct scan *s = argument;
+    for (long i; (i = __atomic_fetch_add(&s->next, 1, __ATOMIC_RELAXED)) < s->count;) scan_page(s->program, &s->pages[i]);
+    return NULL;
+}
+
+/* Fills in what is zero-filled in many pages, by the BPF program of linux/common/direct_map.py, in so many threads. */
+void scan_frames(int program, struct content *pages, long count, int threads) {
+    struct scan s = { .program = program, .pages = pages, .count = count };
+    pthread_t others[MOST_THREADS];
+    int begun = 0;
+    while (begun < threads - 1 && begun < MOST_THREADS && !pthread_create(&others[begun], NULL, scan_some, &s)) begun++;
+    scan_some(&s);
+    while (begun) pthread_join(others[--begun], NULL);
 }

@@ -13,7 +13,7 @@ import tempfile
 from concurrent.futures import ThreadPoolExecutor
 from dataclasses import dataclass
 from functools import partial
-from typing import Dict, Iterator, List, Optional, Sequence, Tuple
+from typing import Dict, Iterator, List, Optional, Protocol, Sequence, Tuple
 
 from ..common.errors import InputFault, RunFailed
 from ..common.program import Program, TextError, start
@@ -25,6 +25,7 @@ OFF = 511
 DEFAULT = (OFF, 0, 16, 64, 128, 256, 409, 510)
 BLOCK = 1 << 20  # bytes of a report that are read at a time
 SPLIT = rb"^(?:node ([0-9]{1,4}) .*|[0-9]+ split ([0-9]{1,6}) ([0-9,-]{1,4000}))$"  # lines of a journal
+EVENT = rb"^(?:node ([0-9]{1,4}) .*|[0-9]+ (split|pinned|back) ([0-9]{1,6})(?: ([0-9,-]{1,4000}))?)$"
 
 
 def label(threshold: int) -> str:
@@ -86,11 +87,28 @@ class SplitPage:
     given: int
 
 
+class Rows(Protocol):
+    """What predicts the sums for thresholds."""
+
+    def run(self, thresholds: Sequence[int]) -> List[Row]:
+        """Returns the sums for these thresholds."""
+
+
+@dataclass
+class Fate:
+    """What the shrinker does with a page."""
+
+    frames: Optional[int] = None  # that a split gives back; None: it stays whole
+    is_pinned: bool = False
+    is_put_back: bool = False  # into the queue
+
+
 class Predictor:
     """Runs thpsplit on the scripts of a snapshot."""
 
     def __init__(self, scripts: Sequence[Script], program: Program) -> None:
         self.scripts, self._program = list(scripts), program
+        self.names = {number: name for script in scripts for number, name in script.processes().items()}
         self._rows: Dict[int, Tuple[Row, List[List[Row]]]] = {}
         self._pages: List[List[List[Page]]] = []  # by script, node and number; empty until it is needed
 
@@ -172,6 +190,27 @@ class Predictor:
                     else:
                         yield SplitPage(index, node, int(found[2]), set_of(found[3].decode("ascii")))
 
+    def fates(self, threshold: int) -> Iterator[List[List[Fate]]]:
+        """Yields for each script what happens to its pages, by node and number."""
+        for script in self.scripts:
+            out, node = [[Fate() for _ in range(each.pages)] for each in script.nodes], -1
+            try:
+                for block in self._report("journal", script, threshold):
+                    for found in re.finditer(EVENT, block, re.MULTILINE):
+                        if found[1] is not None:
+                            node = int(found[1])
+                            continue
+                        fate = out[node][int(found[3])]
+                        fate.is_pinned = fate.is_pinned or found[2] == b"pinned"
+                        fate.is_put_back = fate.is_put_back or found[2] == b"back"
+                        if found[2] == b"split":
+                            fate.frames = size(set_of(found[4].decode("ascii")))
+            except (IndexError, AttributeError) as error:
+                raise RunFailed(f"{escape(self._program.path)} writes no journal of these pages") from error
+            if node != len(script.nodes) - 1:
+                raise RunFailed(f"{escape(self._program.path)} writes journals of {node + 1} nodes, not {len(script.nodes)}")
+            yield out
+
     def shares(self, thresholds: Sequence[int]) -> Dict[int, Dict[int, Share]]:
         """Returns what each process has of it, by threshold. Runs go side by side."""
         self._pages = self._pages or [script.pages() for script in self.scripts]
@@ -185,7 +224,7 @@ class Predictor:
         pages = self._pages = self._pages or [script.pages() for script in self.scripts]
         for page in (page for of_script in pages for of_node in of_script for page in of_node):
             if page.by:
-                share = out.setdefault(owner(page), Share())
+                share = out.setdefault(owner(page.by), Share())
                 share.pages += 1
         for split in self.list_splits(threshold):
             try:
@@ -194,7 +233,7 @@ class Predictor:
                 name = self.scripts[split.script].name
                 raise InputFault(f"{name}: page {split.number} of node {split.node} has no line '# page'") from error
             if page.by:
-                share = out[owner(page)]
+                share = out[owner(page.by)]
                 share.split += 1
                 share.frames += size(split.given)
             for process, count in page.by.items():
@@ -212,9 +251,9 @@ class Share:
     lost: int = 0  # PMD mappings
 
 
-def owner(page: Page) -> int:
-    """Returns the process with which a page counts."""
-    return min(page.by, key=lambda process: (-page.by[process], process))
+def owner(by: Dict[int, int]) -> int:
+    """Returns the process with which a page counts, of those that map it, with the PMD mappings of each."""
+    return min(by, key=lambda process: (-by[process], process))
 
 
 def row_of(threshold: int, node: Dict[str, int]) -> Row:
@@ -235,7 +274,7 @@ def sum_of(threshold: int, rows: Sequence[Row]) -> Row:
     return Row(threshold, *(sum(getattr(row, name) for row in rows) for name in names))
 
 
-def find_highest(predictor: Predictor, frames: int) -> Optional[int]:
+def find_highest(predictor: Rows, frames: int) -> Optional[int]:
     """Returns the highest threshold that gives at least so many frames back, found by halving: a lower threshold splits
     all that a higher one does. None where not even 0 gives so much."""
     if predictor.run([OFF])[0].frames >= frames:

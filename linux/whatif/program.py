@@ -1,4 +1,4 @@
-"""The command line of thpwhatif."""
+"""The command line of thpwhatif. What only one command needs is imported by it: the start of `now` is short."""
 
 from __future__ import annotations
 
@@ -8,23 +8,20 @@ import os
 import sys
 import time
 from contextlib import ExitStack, contextmanager, suppress
-from typing import Any, Callable, Dict, Iterator, List, Mapping, NoReturn, Optional, Sequence
+from typing import TYPE_CHECKING, Any, Callable, Dict, Iterator, List, Mapping, NoReturn, Optional, Sequence, Union
 
 from ..common.errors import DONE, InputFault
 from ..common.files import create, read_input
 from ..common.program import Program
 from ..common.text import escape
 from ..common.tool import run_tool
-from ..common.user import user_for
-from .metrics import MetricsFile
+from .kinds import KindPredictor
 from .options import parse_choice, parse_look_options, parser
-from .picture import picture
 from .predictor import DEFAULT, OFF, Predictor, Row, Share, find_highest, label, thresholds_of, with_today
 from .processes import ProcessChoice
 from .rights import demand_root
 from .scripts import Script, Spool, read_script
 from .snapshot import NAME, Snapshot, SnapshotTaker, guess_of, list_notes, show_progress, warnings, write_snapshot
-from .stored import from_json
 from .table import (
     FRAMES_A_MEBIBYTE,
     cost_table,
@@ -35,8 +32,9 @@ from .table import (
     share_json,
     table,
 )
-from .verify import THRESHOLDS, TrialOptions, verify
-from .watch import Look, watch
+
+if TYPE_CHECKING:
+    from .watch import Look
 
 SLOW = 1.0  # seconds after which progress is shown
 
@@ -101,6 +99,8 @@ def open_output(path: Optional[str]) -> Iterator[Optional[Output]]:
 
 def read_scripts(paths: Sequence[str]) -> List[Script]:
     """Returns scripts of files; `-` is the standard input. A stored snapshot (--facts) is made into scripts."""
+    from .stored import from_json
+
     out: List[Script] = []
     spool = Spool()
     for path in paths:
@@ -125,33 +125,31 @@ def left_out_of(scripts: Sequence[Script]) -> Dict[str, int]:
 
 def print_tables(
     options: argparse.Namespace,
-    scripts: List[Script],
+    predictor: Union[Predictor, KindPredictor],
+    today: Optional[int],
+    left_out: Dict[str, int],
     snapshot: Optional[Snapshot],
-    program: Program,
     svg: Optional[Output],
 ) -> None:
-    """Prints the tables, or the JSON object, of scripts."""
-    told_today = [snapshot.today] if snapshot else [script.today() for script in scripts]
-    today = next((threshold for threshold in told_today if threshold is not None), None)
+    """Prints the tables, or the JSON object, of a predictor."""
     given = thresholds_of(options.thresholds) if options.thresholds else DEFAULT
     thresholds = with_today(given, None if options.thresholds else today)
-    predictor = Predictor(scripts, program)
     began = time.monotonic()
     rows = predictor.run(thresholds)
-    names = {number: name for script in scripts for number, name in script.processes().items()}
     shares = predictor.shares(thresholds) if options.by_process else {}
     groups = predictor.by_group(thresholds) if options.by_cgroup else {}
-    left_out = dict(snapshot.left_out) if snapshot else left_out_of(scripts)
     if svg:
+        from .picture import picture
+
         svg.write(picture(rows, today))
     if options.json:
         out = rows_json(rows, today, left_out)
-        out.update(parts_json(shares, groups, names, today))
+        out.update(parts_json(shares, groups, predictor.names, today))
         out.update(look_json(snapshot, time.monotonic() - began))
         print(json.dumps(out, indent=1))
         return
     parts = [table(rows, today)]
-    parts += [process_table(shares, names)] if options.by_process else []
+    parts += [process_table(shares, predictor.names)] if options.by_process else []
     parts += [group_table(groups)] if options.by_cgroup else []
     print("\n\n".join(parts))
     print(last_line(left_out))
@@ -206,15 +204,15 @@ def command_now(options: argparse.Namespace) -> int:
     program = Program(options.program)
     with open_output(options.svg) as svg:
         snapshot = take_look(options, choice)
-        made = write_snapshot(snapshot)
+        predictor = KindPredictor(snapshot, program)
         for line in list_notes(snapshot) if not options.json else ():
             print(line)
-        if not made.scripts:
+        if not predictor.has_pages:
             print("no huge pages are mapped here", file=sys.stderr)
             if not options.json:
                 print(last_line(snapshot.left_out))
                 return DONE
-        print_tables(options, made.scripts, snapshot, program, svg)
+        print_tables(options, predictor, snapshot.today, dict(snapshot.left_out), snapshot, svg)
     return DONE
 
 
@@ -247,7 +245,10 @@ def command_what_if(options: argparse.Namespace) -> int:
     """Prints the tables of scripts."""
     check_thresholds(options)
     with open_output(options.svg) as svg:
-        print_tables(options, read_scripts(options.files), None, Program(options.program), svg)
+        scripts = read_scripts(options.files)
+        today = next((found for found in (script.today() for script in scripts) if found is not None), None)
+        predictor = Predictor(scripts, Program(options.program))
+        print_tables(options, predictor, today, left_out_of(scripts), None, svg)
     return DONE
 
 
@@ -255,15 +256,17 @@ def command_target(options: argparse.Namespace) -> int:
     """Finds the highest threshold that gives back so much."""
     if options.files and (options.pid or options.cgroup or options.all):
         raise InputFault("target takes files, or --pid, --cgroup or --all, not both")
+    predictor: Union[Predictor, KindPredictor]
     if options.files:
-        program, scripts = Program(options.program), read_scripts(options.files)
+        program = Program(options.program)
+        predictor = Predictor(read_scripts(options.files), program)
     else:
         choice = parse_choice(options)
         demand_root()
-        program, scripts = Program(options.program), write_snapshot(take_look(options, choice)).scripts
-    predictor = Predictor(scripts, program)
+        program = Program(options.program)
+        predictor = KindPredictor(take_look(options, choice), program)
     found = find_highest(predictor, -int(-options.mebibytes * FRAMES_A_MEBIBYTE // 1))
-    names = {number: name for script in scripts for number, name in script.processes().items()}
+    names = predictor.names
     threshold = 0 if found is None else found
     row, shares = predictor.run([threshold])[0], predictor.by_process(threshold)
     if options.json:
@@ -290,6 +293,9 @@ def check_thresholds(options: argparse.Namespace) -> None:
 
 def command_watch(options: argparse.Namespace) -> int:
     """Looks again and again."""
+    from .metrics import MetricsFile
+    from .watch import watch
+
     check_thresholds(options)
     choice = parse_choice(options)
     demand_root()
@@ -301,8 +307,8 @@ def command_watch(options: argparse.Namespace) -> int:
     def look_once() -> Look:
         snapshot = taker.take(choice)
         thresholds = with_today(given, None if options.thresholds else snapshot.today)
-        scripts, began = write_snapshot(snapshot).scripts, time.monotonic()
-        rows = Predictor(scripts, program).run(thresholds)
+        predictor, began = KindPredictor(snapshot, program), time.monotonic()
+        rows = predictor.run(thresholds)
         return look_of(snapshot, rows, time.monotonic() - began)
 
     also = metrics.write if metrics else lambda look: None
@@ -312,6 +318,8 @@ def command_watch(options: argparse.Namespace) -> int:
 
 def look_of(snapshot: Snapshot, rows: List[Row], runs: float) -> Look:
     """Returns a look of `watch`, given the rows and the seconds of their runs."""
+    from .watch import Look
+
     notes = ([snapshot.note] if snapshot.note else []) + ([guess_of(snapshot)] if snapshot.lacking else [])
     notes += [last_line(snapshot.left_out)] if any(snapshot.left_out.values()) else []
     return Look(
@@ -329,6 +337,9 @@ def look_of(snapshot: Snapshot, rows: List[Row], runs: float) -> Look:
 
 def command_verify(options: argparse.Namespace) -> int:
     """Tries predictions."""
+    from ..common.user import user_for
+    from .verify import THRESHOLDS, TrialOptions, verify
+
     check_thresholds(options)
     demand_root()
     program, user = Program(options.program), user_for(options.user)

@@ -7,16 +7,21 @@ mm/huge_memory.c (folio_expected_ref_count: a reference for each mapping; any mo
 
 from __future__ import annotations
 
+import ctypes
 import struct
 from dataclasses import dataclass
 from typing import Dict, List, Set
 
+from ..common.bpf import SLEEPABLE, ProgramType, load_program
 from ..common.btf import Types
 from ..common.errors import Unavailable
-from ..common.kernel_memory import KernelMemory
+from ..common.kernel_memory import KernelMemory, build_copier
 from .folios import Folio, even_counts
+from .reader import load_library
 
 HEADS = 4  # struct pages that a struct folio lies over
+BATCH = 1024  # pages that are read at a time
+NUMBER, COUNT = struct.Struct("<Q"), struct.Struct("<i")
 
 
 @dataclass(frozen=True)
@@ -50,21 +55,38 @@ class Queues:
         self._memory = memory
         self._fields = FolioFields.from_types(memory.types)
         try:
-            memory.queue_fields()
+            memory.queue_fields(), memory.group_fields()
             self._ordered = True
         except Unavailable:  # queues of another form (Linux 7: struct list_lru): that a page is in one is in the page
             self._ordered = False
         self._start, self._size = memory.vmemmap()
+        self._copier = load_program(ProgramType.SYSCALL, build_copier(HEADS * self._size // 8), SLEEPABLE)
 
-    def look(self, folio: Folio) -> bool:
-        """Fills in what the structures contain of a page; returns whether it is still in use."""
-        address, at = self._start + self._size * folio.frame, self._fields
-        try:
-            raw = self._memory.read(address, HEADS * self._size)
-        except Unavailable:
-            return False  # memory that was taken away from the machine
-        references, entire, large = (struct.unpack_from("<i", raw, o)[0] for o in (at.references, at.entire, at.large))
-        flags, following = (struct.unpack_from("<Q", raw, o)[0] for o in (at.flags, at.link))
+    def look(self, folios: List[Folio]) -> List[Folio]:
+        """Fills in what the structures contain of pages; returns those that are no longer in use."""
+        gone: List[Folio] = []
+        for first in range(0, len(folios), BATCH):
+            gone += self._look(folios[first : first + BATCH])
+        return gone
+
+    def _look(self, folios: List[Folio]) -> List[Folio]:
+        each, gone = 8 + HEADS * self._size, []
+        contexts, failed = bytearray(each * len(folios)), bytearray(len(folios))
+        for index, folio in enumerate(folios):
+            struct.pack_into("<Q", contexts, each * index, self._start + self._size * folio.frame)
+        places = [ctypes.addressof(ctypes.c_char.from_buffer(room)) for room in (contexts, failed)]
+        load_library().run_each(self._copier, places[0], len(folios), each, places[1])
+        for index, folio in enumerate(folios):
+            if failed[index] or not self._fill(folio, contexts, each * index):  # failed: memory was taken from the machine
+                gone.append(folio)
+        return gone
+
+    def _fill(self, folio: Folio, raw: bytearray, start: int) -> bool:
+        """Fills in what a page's structure contains, whose address is at a place, and the structure after it; returns
+        whether the page is in use."""
+        at, here = self._fields, start + 8
+        (address,), (following,), (flags,) = (NUMBER.unpack_from(raw, o) for o in (start, here + at.link, here + at.flags))
+        (references,), (entire,), (large,) = (COUNT.unpack_from(raw, here + o) for o in (at.references, at.entire, at.large))
         folio.is_queued = folio.order > 1 and following != address + at.link
         folio.is_partly = bool(flags & at.partly)
         whole = folio.whole = max(0, entire + 1)

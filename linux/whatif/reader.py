@@ -1,8 +1,8 @@
 """Finds the huge anonymous pages that processes map, how each subpage is mapped, and which subpages are zero-filled.
 
 Nothing is changed by it: page tables by PAGEMAP_SCAN and /proc/PID/pagemap, frames by /proc/kpageflags, kpagecount and
-kpagecgroup, content by /proc/PID/mem. Such a read may count as an access to a page, as any read does. Where the
-kernel's own map of memory can be read, a first look there finds most subpages with data, and only the others are read.
+kpagecgroup, content by the kernel's own map of memory. Where that can't be read, and a second time of a sample, content is
+read by /proc/PID/mem, which may count as an access to a page, as any read does.
 
 All steps up to `read_sample` read; they run while processes are held. `finish` computes, and reads nothing.
 """
@@ -14,13 +14,15 @@ import errno
 import mmap
 import os
 import struct
+import threading
 import time
 from array import array
 from bisect import bisect_right
-from collections import Counter, defaultdict
-from concurrent.futures import ThreadPoolExecutor
-from dataclasses import replace
-from typing import Callable, Dict, List, Optional, Sequence, Set, Tuple
+from collections import Counter, defaultdict, deque
+from concurrent.futures import Future, ThreadPoolExecutor
+from dataclasses import dataclass, replace
+from functools import lru_cache
+from typing import Callable, Deque, Dict, Iterator, List, Optional, Sequence, Set, Tuple
 
 from ..common.direct_map import DirectMap
 from ..common.errors import Unavailable
@@ -39,12 +41,13 @@ HEAD, TAIL, ANON = int(PageFlag.COMPOUND_HEAD), int(PageFlag.COMPOUND_TAIL), int
 MLOCKED, POISONED = int(PageFlag.MLOCKED), int(PageFlag.HWPOISON)
 SWAP_CACHE, SWAP_BACKED = int(PageFlag.SWAPCACHE), int(PageFlag.SWAPBACKED)
 SAMPLE = 64  # huge pages that are read twice
-BATCH = 64  # huge pages that one task of a thread reads
+BATCH = 1024  # huge pages whose content is read at a time
 OPEN = 64  # files of processes' memory that one task has open
 MEMORY = 512  # MiB that a look keeps at most, if no other limit is given
 PIECE_COST, FOLIO_COST = 400, 2600  # bytes of a mapping and of a huge page, with all that is made of them
 MOST_LOCKED = 1 << 20  # locked areas of a process
-KNOWN = 12 << 18  # bytes that pages.c has for blocks of frames
+MOST_WALKED = 1 << 16  # pieces of a process that a thread finds; one that maps more is walked again
+KNOWN = 8 << 18  # bytes that pages.c has for blocks of frames
 
 
 class Piece(ctypes.Structure):
@@ -68,10 +71,12 @@ class WalkSums(ctypes.Structure):
     _fields_ = [(name, ctypes.c_int64) for name in ("lost", "small", "others", "changed")]
 
 
+CONTENT = struct.Struct("<QII64s")  # struct content of pages.c
 PIECE = struct.Struct("<QQQIIII64s")  # the same as Piece, unpacked in one call
 assert PIECE.size == ctypes.sizeof(Piece)
 
 
+@lru_cache(maxsize=None)
 def load_library() -> ctypes.CDLL:
     """Loads the C helper. Unavailable where it isn't built and there is no compiler."""
     library = ctypes.CDLL(helper("whatif/pages.c", ["-shared", "-fPIC"]))
@@ -82,6 +87,10 @@ def load_library() -> ctypes.CDLL:
     library.find_locked.restype = long
     library.find_zeros.argtypes = [number, ctypes.c_uint64, long, pointer, pointer, pointer]
     library.find_zeros.restype = None
+    library.run_each.argtypes = [number, pointer, long, long, pointer]
+    library.run_each.restype = None
+    library.scan_frames.argtypes = [number, pointer, long, number]
+    library.scan_frames.restype = None
     return library
 
 
@@ -91,6 +100,15 @@ class Room:
     def __init__(self, size: int) -> None:
         self.memory = mmap.mmap(-1, max(size, BASE), flags=mmap.MAP_PRIVATE | mmap.MAP_ANONYMOUS)
         self.address = ctypes.addressof(ctypes.c_char.from_buffer(self.memory))
+
+
+@dataclass(frozen=True)
+class Walk:
+    """What the page tables of a process contain of huge pages."""
+
+    found: int  # how many pieces, or an error's number below 0
+    pieces: bytes
+    sums: WalkSums
 
 
 class Spans:
@@ -130,7 +148,7 @@ class Reader:
         self._threads = threads or min(4, os.cpu_count() or 1)
         self._progress = progress or (lambda what, done, descriptor_of: None)
         self._most = (memory << 20) // (PIECE_COST + FOLIO_COST)
-        self._room, self._span_room = Room(self._most * PIECE.size), Room(MOST_LOCKED * 16)
+        self._own, self._span_room = threading.local(), Room(MOST_LOCKED * 16)
         self._known = Room(KNOWN)
         self._files = [open_numbers(f"/proc/kpage{name}") for name in ("flags", "count")]
         try:
@@ -138,6 +156,7 @@ class Reader:
         except Unavailable:
             pass  # a kernel without memory control groups: all pages are in one node
         self._locked: Dict[int, Spans] = {}  # by process
+        self._readable: Dict[int, bool] = {}  # by process
         self._pieces = self._spans = 0  # how many are kept
         self._sample: List[Tuple[Folio, Folio]] = []
         self.folios: Dict[int, Folio] = {}  # by frame
@@ -158,21 +177,43 @@ class Reader:
         """Why pages are left out when the limit of memory is met."""
         return f"parts of huge pages beyond the limit of memory (--memory {self._memory})"
 
-    def add(self, process: int) -> None:
+    def walks(self, processes: Sequence[int]) -> Iterator[Tuple[int, Walk]]:
+        """Walks the page tables of processes in threads; yields what was found in their order."""
+        waiting: Deque[Future[Walk]] = deque()
+        with ThreadPoolExecutor(self._threads) as pool:
+            for index, process in enumerate(processes):
+                begun = index + len(waiting)
+                waiting.extend(self._begin(pool, each) for each in processes[begun : index + 2 * self._threads])
+                yield process, waiting.popleft().result()
+
+    def _begin(self, pool: ThreadPoolExecutor, process: int) -> Future[Walk]:
+        """Begins to walk in a thread, or walks at once where there can be no further thread."""
+        try:
+            return pool.submit(self.walk, process, MOST_WALKED)
+        except RuntimeError:
+            walked: Future[Walk] = Future()
+            walked.set_result(self.walk(process, MOST_WALKED))
+            return walked
+
+    def walk(self, process: int, most: int) -> Walk:
+        """Walks the page tables of a process, up to so many pieces."""
+        if not hasattr(self._own, "room"):
+            self._own.room = Room(min(self._most, MOST_WALKED) * PIECE.size)
+        room, sums = self._own.room, WalkSums()
+        if most * PIECE.size > len(room.memory):
+            room = Room(most * PIECE.size)
+        found = self._library.walk_process(
+            process, self._files[0], self._with_small, self._known.address, room.address, most, ctypes.byref(sums)
+        )
+        return Walk(found, room.memory[: max(0, found) * PIECE.size], sums)
+
+    def add(self, process: int, walk: Walk) -> None:
         """Adds what a process maps. OSError or Unreadable where that can't be read; then nothing of it is added."""
-        began = time.monotonic()
-        sums = WalkSums()
         used = self._pieces * PIECE_COST + len(self.folios) * FOLIO_COST + self._spans * 16
         most = max(0, min(self._most, ((self._memory << 20) - used) // (PIECE_COST + FOLIO_COST)))
-        found = self._library.walk_process(
-            process,
-            self._files[0],
-            self._with_small,
-            self._known.address,
-            self._room.address,
-            most,
-            ctypes.byref(sums),
-        )
+        if walk.found > most or walk.sums.lost:
+            walk = self.walk(process, most)
+        found, sums = walk.found, walk.sums
         if found in (-errno.ENOTTY, -errno.EINVAL):
             raise Unavailable("this kernel has no PAGEMAP_SCAN (before Linux 6.7)")
         if found < 0:
@@ -180,14 +221,13 @@ class Reader:
         if found and locked_bytes(process):
             self._locked[process] = spans = self._find_locked(process)
             self._spans += len(spans)
-        for piece in PIECE.iter_unpack(memoryview(self._room.memory)[: found * PIECE.size]):
+        for piece in PIECE.iter_unpack(walk.pieces):
             self._take(*piece)
         self._pieces += found
         self.others += sums.others
         for why, count in ((PARTS_MOVED, sums.changed), (SMALL, sums.small), (self.beyond, sums.lost)):
             if count:
                 self.left_out[why] += count
-        self.spent["walk"] += time.monotonic() - began
 
     def _find_locked(self, process: int) -> Spans:
         file = os.open(path_of(process, "smaps"), os.O_RDONLY | os.O_CLOEXEC)
@@ -238,38 +278,64 @@ class Reader:
         """Finds which subpages are zero-filled. What can't be read isn't `known`."""
         began = time.monotonic()
         folios = list(self.folios.values())
-        batches = [folios[i : i + BATCH] for i in range(0, len(folios), BATCH)]
-        with ThreadPoolExecutor(self._threads) as pool:
-            looks = ((batch, [self._shown(folio) for folio in batch]) for batch in batches)
-            for done, _ in enumerate(pool.map(lambda look: self._read_batch(*look), looks), 1):
-                self._progress("reading content", min(done * BATCH, len(folios)), len(folios))
+        for first in range(0, len(folios), BATCH):
+            batch = folios[first : first + BATCH]
+            self._read_content(self._scan(batch, self._direct) if self._direct else batch)
+            self._progress("reading content", first + len(batch), len(folios))
         self.spent["content"] += time.monotonic() - began
 
-    def _shown(self, folio: Folio) -> int:
-        """Returns the subpages that a first look finds data in: they needn't be read."""
-        return self._direct.with_data(folio.frame, folio.size) if self._direct else 0
+    def _scan(self, folios: List[Folio], direct: DirectMap) -> List[Folio]:
+        """Reads pages by the kernel's map of memory; returns those that can't be read so."""
+        raw = bytearray().join(CONTENT.pack(direct.address_of(folio.frame), folio.size, 0, b"") for folio in folios)
+        room = (ctypes.c_char * len(raw)).from_buffer(raw)
+        self._library.scan_frames(direct.program, ctypes.addressof(room), len(folios), self._threads)
+        rest = []
+        for folio, (_, _, failed, zero) in zip(folios, CONTENT.iter_unpack(raw)):
+            if failed:
+                rest.append(folio)
+                continue
+            known = 0
+            for mapping in folio.mappings:
+                if known != folio.full and self._may_read(mapping.process):
+                    known |= mapping.subset
+            folio.known = folio.full if known == folio.full else known  # one object for all pages
+            folio.zero = int.from_bytes(zero, "little") & known
+        return rest
 
-    def _read_batch(self, folios: List[Folio], shown: List[int]) -> None:
+    def _may_read(self, process: int) -> bool:
+        """Returns whether the content of a process may be read."""
+        if process not in self._readable:
+            with OpenFiles("mem") as memory:
+                self._readable[process] = memory.descriptor_of(process) >= 0
+            self.denied |= memory.denied
+        return self._readable[process]
+
+    def _read_content(self, folios: List[Folio]) -> None:
+        """Reads pages by /proc/PID/mem, in threads."""
+        each = -(-len(folios) // self._threads) or 1
+        with ThreadPoolExecutor(self._threads) as pool:
+            list(pool.map(self._read_batch, [folios[i : i + each] for i in range(0, len(folios), each)]))
+
+    def _read_batch(self, folios: List[Folio]) -> None:
         with OpenFiles("mem") as memory:
-            for folio, data in zip(folios, shown):
+            for folio in folios:
                 wanted = folio.full
                 for mapping in folio.mappings:
                     if not wanted:
                         break
                     file = memory.descriptor_of(mapping.process) if mapping.subset & wanted else -1
                     if file >= 0:
-                        wanted &= ~self._read_mapping(folio, mapping, file, wanted, data)
+                        wanted &= ~self._read_mapping(folio, mapping, file, wanted)
                 if folio.known == folio.full:
                     folio.known = folio.full  # one object for all pages
         self.denied |= memory.denied
 
-    def _read_mapping(self, folio: Folio, mapping: Mapping, memory: int, wanted: int, data: int) -> int:
+    def _read_mapping(self, folio: Folio, mapping: Mapping, memory: int, wanted: int) -> int:
         """Reads those of the selected subpages that a process maps; returns which are known then."""
         part = mapping.subset & wanted
         zero, unread = ctypes.create_string_buffer(64), ctypes.create_string_buffer(64)
-        if part & ~data:
-            skipped = (data | ~part & folio.full).to_bytes(64, "little")
-            self._library.find_zeros(memory, mapping.address, folio.size, skipped, zero, unread)
+        skipped = (~part & folio.full).to_bytes(64, "little")
+        self._library.find_zeros(memory, mapping.address, folio.size, skipped, zero, unread)
         known = part & ~int.from_bytes(unread.raw, "little")
         folio.zero |= int.from_bytes(zero.raw, "little") & known
         folio.known |= known
@@ -306,7 +372,7 @@ class Reader:
         some = [self.folios[frame] for frame in frames[:: max(1, len(frames) // SAMPLE)]]
         self._sample = [(folio, replace(folio, zero=0, known=0)) for folio in some]
         again = [folio for _, folio in self._sample]
-        self._read_batch(again, [0] * len(again))
+        self._read_content(again)
         for folio in again:
             self._count(folio)
         self.spent["sample"] += time.monotonic() - began

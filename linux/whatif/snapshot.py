@@ -220,7 +220,8 @@ class SnapshotTaker:
         self.how = how
         # a terminal may belong to a process that is held: nothing is written meanwhile
         self._progress = progress if progress and not how.freeze else lambda what, done, of: None
-        self._queues, self.lacking = None, "not asked for"
+        self._queues: Optional[Queues] = None
+        self.lacking = "not asked for"
         self._direct: Optional[DirectMap] = None
         demand_frames()
         if how.with_kernel:
@@ -228,6 +229,7 @@ class SnapshotTaker:
                 memory = KernelMemory()
                 self._queues, self.lacking = Queues(memory), ""
                 self._direct = DirectMap(memory)
+                memory.types.release()
             except (Unavailable, OSError) as error:
                 self.lacking = "" if self._queues else escape(str(error).partition("\n")[0])
 
@@ -279,10 +281,10 @@ class SnapshotTaker:
 
     def _walk(self, reader: Reader, wanted: List[int]) -> Sums:
         """Reads page tables of all processes."""
-        sums = Sums()
-        for done, process in enumerate(wanted, 1):
+        sums, began = Sums(), time.monotonic()
+        for done, (process, walk) in enumerate(reader.walks(wanted), 1):
             try:
-                reader.add(process)
+                reader.add(process, walk)
                 if reader.by_pmd[process]:
                     sums.kernel += anonymous_huge(process)
             except (OSError, Unreadable) as error:
@@ -290,6 +292,7 @@ class SnapshotTaker:
                     demand_reading(process)
                 reader.left_out[f"process {process} ({name_of(process)}): {reason_of(error)}"] += 1
             self._progress("walking page tables", done, len(wanted))
+        reader.spent["walk"] = time.monotonic() - began
         return sums
 
     def _look(self, reader: Reader) -> Dict[int, int]:
@@ -297,9 +300,9 @@ class SnapshotTaker:
         if not self._queues:
             return {}
         began = time.monotonic()
-        gone = [frame for frame, folio in reader.folios.items() if not self._queues.look(folio)]
-        for frame in gone:
-            del reader.folios[frame]
+        gone = self._queues.look(list(reader.folios.values()))
+        for folio in gone:
+            del reader.folios[folio.frame]
         if gone:
             reader.left_out[FREED] += len(gone)
         places = self._queues.places(sorted({folio.cgroup for folio in reader.folios.values()}), set(reader.folios))
