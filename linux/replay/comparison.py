@@ -61,7 +61,7 @@ class Comparison:
     def __init__(self, states: Sequence[NodeState], known: Set[KnownDifference], small: Set[int]) -> None:
         self._states, self._small = states, small
         self._queues: List[List[int]] = [[] for _ in states]  # the kernel's, as they should be
-        self._homes: List[Dict[int, int]] = [{} for _ in states]  # NUMA nodes of queued pages, where a node has several lists
+        self._numa_nodes: List[Dict[int, int]] = [{} for _ in states]  # NUMA nodes of queued pages, where a node has several lists
         self._failed: Dict[int, int] = Tallies()  # failed splits by order, as they should be
         self.known = set(known)
         self.counters: Optional[CounterDifference] = None
@@ -70,8 +70,8 @@ class Comparison:
 
     def update(self, expected: ExpectedAnswer, observed: Observation) -> None:
         """Computes the kernel's queue and failed splits. The node's state is that after the command."""
-        for (node, page), home in observed.homes.items():
-            self._homes[node][page] = home
+        for (node, page), numa_node in observed.numa_nodes.items():
+            self._numa_nodes[node][page] = numa_node
         state, queue = self._states[expected.node], self._queues[expected.node]
         if expected.words[0] == "scan" and not expected.is_refused:
             self._scan(expected, state, observed)
@@ -91,7 +91,7 @@ class Comparison:
         if state.threshold == NEVER and once:
             self.known.add(KnownDifference.D)
             once = 0
-        if len(lists_of(queue, self._homes[expected.node])) > 1:
+        if len(lists_of(queue, self._numa_nodes[expected.node])) > 1:
             self._queues[expected.node] = self._scan_lists(expected.node, state.order, once, queue, observed)
             return
         turned = self._is_turned(queue, observed.queues[expected.node])
@@ -106,20 +106,20 @@ class Comparison:
     def _scan_lists(self, node: int, order: int, once: int, queue: List[int], observed: Observation) -> List[int]:
         """Returns the queue after a scan whose pages that stayed are on lists of several NUMA nodes, each with passes of its
         own, as many as fit the failed splits and the order."""
-        lists, shown = (lists_of(pages, self._homes[node]) for pages in (queue, observed.queues[node] or []))
-        turned = {home: self._is_turned(pages, shown.get(home)) for home, pages in lists.items()}
+        lists, shown = (lists_of(pages, self._numa_nodes[node]) for pages in (queue, observed.queues[node] or []))
+        turned = {numa_node: self._is_turned(pages, shown.get(numa_node)) for numa_node, pages in lists.items()}
         total = self._failed_total(order, observed)
         if total is not None and not self.counters:
             failed = total - self._failed[order]
-            if can_fail(failed - once, [(len(pages), turned[home]) for home, pages in lists.items()]):
+            if can_fail(failed - once, [(len(pages), turned[numa_node]) for numa_node, pages in lists.items()]):
                 self._failed[order] = total
             else:
-                each = ", ".join(f"{len(pages)} for each pass of NUMA node {home}" for home, pages in lists.items())
+                each = ", ".join(f"{len(pages)} for each pass of NUMA node {numa_node}" for numa_node, pages in lists.items())
                 self._counter_differs("split_failed of a scan", failed, f"{once} + {each}")
             if failed > once + len(queue):
                 self.known.add(KnownDifference.F)
         self.sums["scans of several NUMA nodes with pinned pages"] += 1
-        return join_lists({home: pages if turned[home] is False else pages[::-1] for home, pages in lists.items()})
+        return join_lists({numa_node: pages if turned[numa_node] is False else pages[::-1] for numa_node, pages in lists.items()})
 
     @staticmethod
     def _failed_total(order: int, observed: Observation) -> Optional[int]:
@@ -239,12 +239,12 @@ class Comparison:
     def _compare_queue(self, node: int, state: NodeState, queue: Optional[List[int]]) -> None:
         if queue is None:
             return
-        homes = self._homes[node]
-        expected_queue = join_lists(lists_of(self._queues[node], homes))
+        numa_nodes = self._numa_nodes[node]
+        expected_queue = join_lists(lists_of(self._queues[node], numa_nodes))
         shown = [page if page >= 0 else f"frame {-page:#x}" for page in queue]
         require_equal(f"queue of node {node}", shown, expected_queue)
         self.sums["queues compared"] += 1
         self.sums["queues compared, of two pages or more"] += len(expected_queue) > 1
-        self.sums["queues compared, of several NUMA nodes"] += len(lists_of(expected_queue, homes)) > 1
-        if expected_queue != join_lists(lists_of(state.queue, homes)):
+        self.sums["queues compared, of several NUMA nodes"] += len(lists_of(expected_queue, numa_nodes)) > 1
+        if expected_queue != join_lists(lists_of(state.queue, numa_nodes)):
             self.known.add(KnownDifference.E)

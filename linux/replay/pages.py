@@ -121,9 +121,9 @@ class KernelPages:
             for number, page in enumerate(state.pages):
                 if page.live:
                     pages[node, number] = self._look_at(self._pages[node][number], page)
-        homes: Dict[PageName, int] = {}
-        queues = [self._queue(node, state, homes) for node, state in enumerate(states)]
-        return Observation(Counts(machine, since.sizes), pages, queues, homes)
+        numa_nodes: Dict[PageName, int] = {}
+        queues = [self._queue(node, state, numa_nodes) for node, state in enumerate(states)]
+        return Observation(Counts(machine, since.sizes), pages, queues, numa_nodes)
 
     def _look_at(self, held: KernelPage, page: PageState) -> PageObservation:
         frames = self._bench.frames
@@ -136,16 +136,16 @@ class KernelPages:
         whole = 0 if page.split else frames.whole(held.frame, held.subpages)
         return PageObservation(whole, frames.counts(held.frame, held.subpages), mapped)
 
-    def _queue(self, node: int, state: NodeState, homes: Dict[PageName, int]) -> Optional[List[int]]:
-        """Returns a node's queue as page numbers, by NUMA node; puts the NUMA nodes other than 0 into `homes`."""
+    def _queue(self, node: int, state: NodeState, numa_nodes: Dict[PageName, int]) -> Optional[List[int]]:
+        """Returns a node's queue as page numbers, by NUMA node; puts the NUMA nodes other than 0 into `numa_nodes`."""
         queues = self._bench.queues(node)
         if queues is None:
             return None
         numbers = {held.frame: i for i, held in enumerate(self._pages[node]) if state.pages[i].live}
         out: List[int] = []
-        for home, frames in sorted(queues.items()):
+        for numa_node, frames in sorted(queues.items()):
             shown = [numbers.get(frame, -frame) for frame in frames]
-            homes.update({(node, number): home for number in shown if home and number >= 0})
+            numa_nodes.update({(node, number): numa_node for number in shown if numa_node and number >= 0})
             out += shown
         return out
 

@@ -7,17 +7,17 @@ from typing import Dict, List, Optional, Sequence, Tuple
 Lists = Dict[int, List[int]]  # pages by NUMA node
 
 
-def lists_of(queue: Sequence[int], homes: Dict[int, int]) -> Lists:
+def lists_of(queue: Sequence[int], numa_nodes: Dict[int, int]) -> Lists:
     """Returns the pages of a queue by NUMA node, in their order; a page whose node isn't known is on node 0."""
     out: Lists = {}
     for page in queue:
-        out.setdefault(homes.get(page, 0), []).append(page)
-    return {home: out[home] for home in sorted(out)}
+        out.setdefault(numa_nodes.get(page, 0), []).append(page)
+    return {numa_node: out[numa_node] for numa_node in sorted(out)}
 
 
 def join_lists(lists: Lists) -> List[int]:
     """Returns the lists in the order of their NUMA nodes as one."""
-    return [page for home in sorted(lists) for page in lists[home]]
+    return [page for numa_node in sorted(lists) for page in lists[numa_node]]
 
 
 def can_fail(failed: int, lists: Sequence[Tuple[int, Optional[bool]]]) -> bool:

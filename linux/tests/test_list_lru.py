@@ -143,7 +143,7 @@ def scan_of(pages: List[int]) -> ExpectedAnswer:
 class ComparisonTests(unittest.TestCase):
     """Queues of a node on two NUMA nodes: pages 0, 2 on node 0; 1, 3, 4 on node 1."""
 
-    HOMES = {(0, 1): 1, (0, 3): 1, (0, 4): 1}
+    NUMA_NODES = {(0, 1): 1, (0, 3): 1, (0, 4): 1}
 
     def compare(self, failed: int, queue: List[int]) -> Comparison:
         """Compares what a kernel shows after a scan."""
@@ -165,7 +165,7 @@ class ComparisonTests(unittest.TestCase):
         machine: Dict[Counter, Optional[int]] = {counter: None for counter in Counter}
         sizes: Dict[Tuple[SizeCounter, int], Optional[int]] = {(counter, 4): None for counter in SizeCounter}
         pages = {(0, number): PageObservation(16, page.totals(), 0) for number, page in enumerate(state.pages)}
-        return Observation(Counts(machine, {**sizes, (SizeCounter.SPLIT_FAILED, 4): failed}), pages, [queue], self.HOMES)
+        return Observation(Counts(machine, {**sizes, (SizeCounter.SPLIT_FAILED, 4): failed}), pages, [queue], self.NUMA_NODES)
 
     def test_each_list_is_turned_around_by_its_own_passes(self) -> None:
         comparison = self.compare(5, [2, 0, 4, 3, 1])
@@ -180,12 +180,12 @@ class ComparisonTests(unittest.TestCase):
                 self.compare(5, queue)
         self.assertIsNotNone(self.compare(6, [2, 0, 4, 3, 1]).counters)
 
-    def test_homes_are_stored_with_a_look(self) -> None:
+    def test_numa_nodes_are_stored_with_a_look(self) -> None:
         state = NodeState(4, None, False)
         look = self.look(state, 0, [0])
         self.assertEqual(parse_observation(look.line()), look)
         with self.assertRaises(InputFault):
-            parse_observation(look.line().replace('"homes": [[0, 1, 1]', '"homes": [[0, 1]'))
+            parse_observation(look.line().replace('"numa_nodes": [[0, 1, 1]', '"numa_nodes": [[0, 1]'))
 
 
 if __name__ == "__main__":
