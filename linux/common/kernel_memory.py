@@ -106,6 +106,7 @@ class KernelMemory:
         self._groups: Optional[GroupFields] = None
         self._queues: Optional[QueueFields] = None
         self._list_lru: Optional[ListLru] = None
+        self._is_list_lru: Optional[bool] = None
 
     # memory
 
@@ -173,7 +174,9 @@ class KernelMemory:
 
     def has_list_lru(self) -> bool:
         """Returns whether the queues are a list_lru: where a control group's struct has none (mm/huge_memory.c)."""
-        return not self.types.has_field("mem_cgroup", "deferred_split_queue")
+        if self._is_list_lru is None:
+            self._is_list_lru = not self.types.has_field("mem_cgroup", "deferred_split_queue")
+        return self._is_list_lru
 
     def locate_queues(self) -> str:
         """Returns where this kernel has the queues, in words. Unavailable where they are in no known form."""
@@ -215,11 +218,10 @@ class KernelMemory:
             links = self.links(group + at.head)
             return [Queue([link - at.link for link in links], self.word(group + at.length))]
         link_at = self.types.offset("folio", "_deferred_list", "struct list_head")
-        found, fields = self.list_lru(), ListLruFields.from_types(self.types)
-        out = []
+        found, out = self.list_lru(), []
         for node, address in zip(found.nodes, found.lists(group)):
-            folios = [link - link_at for link in self.links(address + fields.head)]
-            out.append(Queue(folios, self.word(address + fields.length), node))
+            folios = [link - link_at for link in self.links(address + found.fields.head)]
+            out.append(Queue(folios, self.word(address + found.fields.length), node))
         return out
 
     # struct page

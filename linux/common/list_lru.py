@@ -72,13 +72,13 @@ class ListLru:
     """The list_lru at an address. `nodes`: the NUMA nodes that have memory; `root`: the root control group's struct."""
 
     def __init__(self, memory: Memory, fields: ListLruFields, address: int, nodes: Sequence[int], root: int) -> None:
-        self._memory, self._fields, self._address, self._root = memory, fields, address, root
-        self.nodes = nodes
+        self._memory, self._address, self._root = memory, address, root
+        self.fields, self.nodes = fields, nodes
 
     def lists(self, group: int) -> List[int]:
         """Returns the address of a group's struct list_lru_one for each NUMA node; none where the group never had a page
         that may be queued. Unavailable where groups have no lists of their own."""
-        at, memory = self._fields, self._memory
+        at, memory = self.fields, self._memory
         number = struct.unpack("<i", memory.read(group + at.group, 4))[0]
         if group == self._root:
             first = memory.word(self._address + at.nodes) + at.node_list
@@ -102,7 +102,7 @@ class ListLru:
 
     def _find(self, index: int) -> int:
         """Returns an entry of the xarray, or 0 (lib/xarray.c: xa_load)."""
-        at, memory = self._fields, self._memory
+        at, memory = self.fields, self._memory
         entry, most = memory.word(self._address + at.array), MOST_SHIFT
         if not is_node(entry):
             return entry if index == 0 else 0
