@@ -3,9 +3,12 @@
 from __future__ import annotations
 
 import struct
+import tempfile
 import unittest
 from typing import Dict, List, Optional, Tuple
+from unittest import mock
 
+from ..common import kernel_memory
 from ..common.btf import MissingType, Types
 from ..common.counters import Counter, Counts, SizeCounter
 from ..common.errors import InputFault, Unavailable
@@ -113,6 +116,15 @@ class ListLruTests(unittest.TestCase):
         with self.assertRaisesRegex(MissingType, r"no field mem_cgroup\.kmemcg_id"):
             ListLruFields.from_types(Types(list_lru_types("other_id")))
         self.assertEqual((FIELDS.list_size, FIELDS.group_lists, FIELDS.slot_count, FIELDS.node_size), (32, 16, 64, 64))
+
+
+    def test_nodes_with_memory_are_read_from_the_kernels_list(self) -> None:
+        with tempfile.NamedTemporaryFile("w") as file, mock.patch.object(kernel_memory, "NUMA_NODES", file.name):
+            file.write("0-1,3\n")
+            file.flush()
+            self.assertEqual(kernel_memory.numa_nodes(), [0, 1, 3])
+        with mock.patch.object(kernel_memory, "NUMA_NODES", "/nonexistent"):
+            self.assertEqual(kernel_memory.numa_nodes(), [0])
 
 
 class PassTests(unittest.TestCase):
