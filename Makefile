@@ -1,8 +1,8 @@
 # make try:     builds thpsplit without proofs and runs the first script (SCRIPT=file: another)
 # make run:     proves thpsplit and every library below it, several at a time (prove.py), builds it, and runs the first script
 # make checker: the same for thpcheck, which checks journals of any length; make drawer: for thpdraw, which draws them
-# make install: proves and installs the programs, the tools for the running kernel (thpreplay, thprecord, thpwhatif), manual
-#               pages and completions, below PREFIX (default /usr/local; DESTDIR as usual); SYSTEMD=1 also installs
+# make install: proves and installs the programs, the tools for the running kernel (thpreplay, thprecord, thpvm, thpwhatif),
+#               manual pages and completions, below PREFIX (default /usr/local; DESTDIR as usual); SYSTEMD=1 also installs
 #               thpwhatif.service and thpwhatif.timer. make uninstall removes them all
 # make deb:     Debian packages of these and of the library for C, in DEBS (default: out); needs dpkg-dev and debhelper
 # make dist:    proves and builds the release into DEBS: archives of programs, debug information and sources, and their hashes; each
@@ -23,6 +23,8 @@
 # make believe: counts the definitions and lines below the contracts that docs/PROVED.md names
 # make linux:   random scripts on the running kernel and on the program: CASES=n SEED=s PROGRAM=path (needs root; status 77
 #               if this machine can compare nothing)
+# make linux-vm: the same on Debian's kernels in virtual machines, with the plain reading of the model: KERNELS="SUITE:PACKAGE .."
+#               CASES=n SEED=s (needs qemu-system-x86; hours without KVM)
 # make root-tests: attacks on the tools that run as root, and what these leave after any end (needs root; about 10 minutes)
 # make bench:   times on large scripts, beside plain Rust, and of single calls (docs/PERFORMANCE.md has the figures)
 # make help:    these lines
@@ -37,7 +39,7 @@ DEBS ?= out
 CASES ?= 2000
 SEED ?= 1
 
-.PHONY: help try run checker drawer install put put-tools uninstall deb dist reproduce dist-test test outside toolchain fuzz memory c edits believe linux root-tests bench
+.PHONY: help try run checker drawer install put put-tools uninstall deb dist reproduce dist-test test outside toolchain fuzz memory c edits believe linux linux-vm root-tests bench
 
 help:
 	@sed -n '/^[^#]/q; s/^# //p' Makefile
@@ -85,7 +87,7 @@ put:
 	done
 
 # installs the tools for the running kernel, and compiles their helpers
-TOOLS = thpreplay thprecord thpwhatif
+TOOLS = thpreplay thprecord thpvm thpwhatif
 put-tools:
 	@if command -v $(CC) > /dev/null; then \
 		$(MAKE) --no-print-directory -s -C linux install PREFIX="$(PREFIX)" DESTDIR="$(abspath $(DESTDIR))" && \
@@ -158,6 +160,9 @@ believe:
 
 linux:
 	@python3 -m linux.replay --program $(PROGRAM) --random $(CASES) --seed $(SEED) --quiet
+
+linux-vm:
+	@python3 linux/tests/vm_trials.py --seed $(SEED) $(if $(filter command%,$(origin CASES)),--cases $(CASES)) $(KERNELS)
 
 root-tests:
 	@for script in linux/tests/root_*.py; do echo "== $$script"; python3 $$script || test $$? = 77 || failed=1; done; test -z "$$failed"

@@ -27,7 +27,8 @@ CHECKER_COMPLETIONS = {"bash": "completions/thpcheck.bash", "zsh": "completions/
                        "fish": "completions/thpcheck.fish"}
 DRAWER_COMPLETIONS = {"bash": "completions/thpdraw.bash", "zsh": "completions/_thpdraw", "fish": "completions/thpdraw.fish"}
 LIBRARY_PAGE = "docs/libthp.3"
-TOOLS = {"thpreplay": "linux/thpreplay", "thprecord": "linux/thprecord", "thpwhatif": "linux/whatif/thpwhatif"}
+TOOLS = {"thpreplay": "linux/thpreplay", "thprecord": "linux/thprecord", "thpvm": "linux/thpvm",
+         "thpwhatif": "linux/whatif/thpwhatif"}
 """The tools for the running kernel, and their files in a checkout."""
 
 COMMANDS = ("now", "snapshot", "what-if", "target", "watch", "verify")

@@ -33,7 +33,7 @@ FIRST, LEGAL = ROOT / "examples/first.script", ROOT / "examples/two_workers.jour
 ADMIN = "var/lib/dpkg"
 """The files of `dpkg` itself in a root."""
 
-TOOLS = ("thpreplay", "thprecord", "thpwhatif")
+TOOLS = ("thpreplay", "thprecord", "thpvm", "thpwhatif")
 """The tools for the running kernel."""
 
 PUT = ("usr/bin/thpsplit", "usr/bin/thpcheck", "usr/bin/thpdraw", *(f"usr/bin/{name}" for name in TOOLS),

@@ -237,6 +237,14 @@ class Types:
             raise MissingType(f"{of}.{path} has {field.size} bytes in this kernel, not {size}")
         return field
 
+    def has_field(self, of: str, path: str) -> bool:
+        """Returns whether a struct has the field at a path."""
+        try:
+            self.field(of, path)
+        except MissingType:
+            return False
+        return True
+
     def _find_field(self, of: str, path: str) -> Field:
         number, total, bits = self._struct(of), 0, 0
         for word in path.split("."):

@@ -18,12 +18,14 @@ from typing import Callable, Dict, Iterable, List, Optional, Tuple
 from .bpf import MMAPABLE, SLEEPABLE, Assembler, Command, Helper, MapType, ProgramType, bpf, create_map, load_program
 from .btf import Types
 from .errors import Unavailable
-from .files import BASE
+from .files import BASE, read
+from .list_lru import SYMBOL, ListLru, ListLruFields
 from .page_files import frames_at
 
 WINDOW = 65536  # bytes that one call reads at most
 LINKS = 2048  # list links that one call follows
 TRIES = 20  # walks of a list that changes
+NUMA_NODES = "/sys/devices/system/node/has_memory"
 
 
 class ListChanged(Unavailable):
@@ -35,7 +37,8 @@ class Queue:
     """A deferred split queue at one moment."""
 
     folios: List[int]  # addresses of struct folio, oldest first
-    length: int  # as the kernel counts it (split_queue_len)
+    length: int  # as the kernel counts it (split_queue_len, nr_items)
+    numa_node: int = 0  # whose pages are in it, where the group has a queue for each NUMA node
 
 
 @dataclass(frozen=True)
@@ -102,6 +105,8 @@ class KernelMemory:
         self._vmemmap: Optional[int] = None
         self._groups: Optional[GroupFields] = None
         self._queues: Optional[QueueFields] = None
+        self._list_lru: Optional[ListLru] = None
+        self._is_list_lru: Optional[bool] = None
 
     # memory
 
@@ -158,13 +163,42 @@ class KernelMemory:
             self._queues = QueueFields.from_types(self.types)
         return self._queues
 
-    def groups(self) -> Dict[int, int]:
-        """Returns the addresses of all struct mem_cgroup by the inode numbers of their folders."""
+    def list_lru(self) -> ListLru:
+        """Returns the list_lru that the queues are, where this kernel has them in this form."""
+        if self._list_lru is None:
+            fields = ListLruFields.from_types(self.types)
+            address = symbols([SYMBOL]).get(SYMBOL)
+            if not address:
+                raise Unavailable(f"no address of {SYMBOL} in /proc/kallsyms (KALLSYMS_ALL, kptr_restrict)")
+            self._list_lru = ListLru(self, fields, address, numa_nodes(), self._root_group())
+        return self._list_lru
+
+    def has_list_lru(self) -> bool:
+        """Returns whether the queues are a list_lru: where a control group's struct has none (mm/huge_memory.c)."""
+        if self._is_list_lru is None:
+            self._is_list_lru = not self.types.has_field("mem_cgroup", "deferred_split_queue")
+        return self._is_list_lru
+
+    def locate_queues(self) -> str:
+        """Returns where this kernel has the queues, in words. Unavailable where they are in no known form."""
+        if self.has_list_lru():
+            self.types.offset("folio", "_deferred_list", "struct list_head")
+            return f"{SYMBOL}, a list_lru; NUMA nodes: {', '.join(map(str, self.list_lru().nodes))}"
+        self.queue_fields()
+        return "mem_cgroup.deferred_split_queue, folio._deferred_list"
+
+    def _root_group(self) -> int:
+        """Returns the address of the root control group's struct mem_cgroup."""
         at = self.group_fields()
         css = self.word(self.word(self.task() + at.task) + at.css)
         while self.word(css + at.parent):
             css = self.word(css + at.parent)
-        todo, out = [css], {}
+        return css
+
+    def groups(self) -> Dict[int, int]:
+        """Returns the addresses of all struct mem_cgroup by the inode numbers of their folders."""
+        at = self.group_fields()
+        todo, out = [self._root_group()], {}
         while todo:
             css = todo.pop()
             out[self.word(self.word(self.word(css + at.cgroup) + at.node) + at.number)] = css
@@ -178,11 +212,18 @@ class KernelMemory:
             raise Unavailable(f"no memory control group at {path}")
         return found
 
-    def queue(self, group: int) -> Queue:
-        """Returns the deferred split queue of the struct mem_cgroup at this address."""
-        at = self.queue_fields()
-        links = self.links(group + at.head)
-        return Queue([link - at.link for link in links], self.word(group + at.length))
+    def queues(self, group: int) -> List[Queue]:
+        """Returns the deferred split queues of the struct mem_cgroup at this address: one, or one for each NUMA node."""
+        if not self.has_list_lru():
+            at = self.queue_fields()
+            links = self.links(group + at.head)
+            return [Queue([link - at.link for link in links], self.word(group + at.length))]
+        link_at = self.types.offset("folio", "_deferred_list", "struct list_head")
+        found, out = self.list_lru(), []
+        for node, address in zip(found.nodes, found.lists(group)):
+            folios = [link - link_at for link in self.links(address + found.fields.head)]
+            out.append(Queue(folios, self.word(address + found.fields.length), node))
+        return out
 
     # struct page
 
@@ -205,8 +246,8 @@ class KernelMemory:
         return start + size * frame
 
     def queue_frames(self, group: int) -> List[int]:
-        """Returns the first frames of the pages in a control group's queue, oldest first."""
-        return [self.frame(folio) for folio in self.queue(group).folios]
+        """Returns the first frames of the pages in a control group's queues, oldest first in each."""
+        return [self.frame(folio) for queue in self.queues(group) for folio in queue.folios]
 
     def _find_vmemmap(self, size: int) -> int:
         offset = self.types.offset
@@ -241,6 +282,14 @@ def symbols(wanted: Iterable[str]) -> Dict[str, int]:
             if len(words) > 2 and words[2] in names:
                 out.setdefault(words[2].decode(), int(words[0], 16))
     return out
+
+
+def numa_nodes() -> List[int]:
+    """Returns the NUMA nodes that have memory; only 0 where the kernel has no NUMA nodes."""
+    if not os.path.exists(NUMA_NODES):
+        return [0]
+    ranges = [part.split("-") for part in read(NUMA_NODES).strip().split(",") if part]
+    return [node for part in ranges for node in range(int(part[0]), int(part[-1]) + 1)]
 
 
 def begin(window: int) -> Assembler:

@@ -132,15 +132,11 @@ def memory() -> Tuple[Optional[KernelMemory], List[Part]]:
         found.group_fields()
         return f"{len(found.groups())} control groups"
 
-    def locate_queues() -> str:
-        found.queue_fields()
-        return "mem_cgroup.deferred_split_queue, folio._deferred_list"
-
     def locate_pages() -> str:
         return f"struct page of {found.vmemmap()[1]} bytes"
 
     parts = [Part("kernel memory", True, "BPF, BTF"), probe_part("control groups in it", locate_groups)]
-    return found, [*parts, probe_part("queues in it", locate_queues), probe_part("struct page in it", locate_pages)]
+    return found, [*parts, probe_part("queues in it", found.locate_queues), probe_part("struct page in it", locate_pages)]
 
 
 def common_parts() -> List[Part]:

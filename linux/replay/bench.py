@@ -5,7 +5,7 @@ from __future__ import annotations
 import os
 import resource
 from dataclasses import dataclass
-from typing import Iterable, List, Optional
+from typing import Dict, List, Optional
 
 from ..common.files import COLLAPSE_SLEEP, PMD_ORDER, PTES_NONE, SWITCH, size_folder
 from ..common.groups import Groups
@@ -85,10 +85,13 @@ class Bench:
             process.enter(path)
             self.servers.append(Server(path, process, self.memory.group(path) if self.memory else None))
 
-    def queue(self, node: int) -> Optional[Iterable[int]]:
-        """Returns the first frames of the pages in a node's queue, oldest first; None where queues aren't read."""
-        group = self.servers[node].group
-        return self.memory.queue_frames(group) if self.memory and group is not None else None
+    def queues(self, node: int) -> Optional[Dict[int, List[int]]]:
+        """Returns the first frames of the pages in a node's queue, oldest first, by NUMA node where the kernel has a queue
+        for each; None where queues aren't read."""
+        group, memory = self.servers[node].group, self.memory
+        if memory is None or group is None:
+            return None
+        return {each.numa_node: [memory.frame(folio) for folio in each.folios] for each in memory.queues(group)}
 
     def close(self) -> None:
         """Ends all processes."""

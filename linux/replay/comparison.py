@@ -20,6 +20,7 @@ from ..common.subpages import set_text
 from .expected_answers import NEVER, ExpectedAnswer
 from .known_differences import KnownDifference
 from .observation import Observation, PageObservation
+from .passes import can_fail, join_lists, lists_of
 from .states import NodeState, PageState
 
 _NUMBERS = re.compile(r"\[[^]]*\]|[0-9]+(?:[-,][0-9]+)*")
@@ -60,6 +61,7 @@ class Comparison:
     def __init__(self, states: Sequence[NodeState], known: Set[KnownDifference], small: Set[int]) -> None:
         self._states, self._small = states, small
         self._queues: List[List[int]] = [[] for _ in states]  # the kernel's, as they should be
+        self._numa_nodes: List[Dict[int, int]] = [{} for _ in states]  # NUMA nodes of queued pages, where a node has several lists
         self._failed: Dict[int, int] = Tallies()  # failed splits by order, as they should be
         self.known = set(known)
         self.counters: Optional[CounterDifference] = None
@@ -68,6 +70,8 @@ class Comparison:
 
     def update(self, expected: ExpectedAnswer, observed: Observation) -> None:
         """Computes the kernel's queue and failed splits. The node's state is that after the command."""
+        for (node, page), numa_node in observed.numa_nodes.items():
+            self._numa_nodes[node][page] = numa_node
         state, queue = self._states[expected.node], self._queues[expected.node]
         if expected.words[0] == "scan" and not expected.is_refused:
             self._scan(expected, state, observed)
@@ -87,6 +91,9 @@ class Comparison:
         if state.threshold == NEVER and once:
             self.known.add(KnownDifference.D)
             once = 0
+        if len(lists_of(queue, self._numa_nodes[expected.node])) > 1:
+            self._queues[expected.node] = self._scan_lists(expected.node, state.order, once, queue, observed)
+            return
         turned = self._is_turned(queue, observed.queues[expected.node])
         passes = self._passes(state.order, once, queue, turned, observed)
         self._failed[state.order] += once + passes * len(queue)
@@ -95,6 +102,30 @@ class Comparison:
         if passes > 1 and queue:
             self.known.add(KnownDifference.F)
         self._queues[expected.node] = queue[::-1] if passes % 2 else queue
+
+    def _scan_lists(self, node: int, order: int, once: int, queue: List[int], observed: Observation) -> List[int]:
+        """Returns the queue after a scan whose pages that stayed are on lists of several NUMA nodes, each with passes of its
+        own, as many as fit the failed splits and the order."""
+        lists, shown = (lists_of(pages, self._numa_nodes[node]) for pages in (queue, observed.queues[node] or []))
+        turned = {numa_node: self._is_turned(pages, shown.get(numa_node)) for numa_node, pages in lists.items()}
+        total = self._failed_total(order, observed)
+        if total is not None and not self.counters:
+            failed = total - self._failed[order]
+            if can_fail(failed - once, [(len(pages), turned[numa_node]) for numa_node, pages in lists.items()]):
+                self._failed[order] = total
+            else:
+                each = ", ".join(f"{len(pages)} for each pass of NUMA node {numa_node}" for numa_node, pages in lists.items())
+                self._counter_differs("split_failed of a scan", failed, f"{once} + {each}")
+            if failed > once + len(queue):
+                self.known.add(KnownDifference.F)
+        self.sums["scans of several NUMA nodes with pinned pages"] += 1
+        return join_lists({numa_node: pages if turned[numa_node] is False else pages[::-1] for numa_node, pages in lists.items()})
+
+    @staticmethod
+    def _failed_total(order: int, observed: Observation) -> Optional[int]:
+        """Returns the kernel's count of failed splits of an order."""
+        total = observed.counts.sizes[SizeCounter.SPLIT_FAILED, order]
+        return observed.counts.machine[Counter.SPLIT_FAILED] if total is None and order == PMD_ORDER else total
 
     @staticmethod
     def _is_turned(queue: List[int], observed: Optional[List[int]]) -> Optional[bool]:
@@ -108,9 +139,7 @@ class Comparison:
         """Returns how many passes a scan made: by the failed splits where they are counted and no counter differed
         before, else by the queue: an odd or even number."""
         by_queue = 1 if turned is None or turned else 2
-        total = observed.counts.sizes[SizeCounter.SPLIT_FAILED, order]
-        if total is None and order == PMD_ORDER:
-            total = observed.counts.machine[Counter.SPLIT_FAILED]
+        total = self._failed_total(order, observed)
         if total is None or self.counters:
             return by_queue
         failed = total - self._failed[order]
@@ -210,10 +239,12 @@ class Comparison:
     def _compare_queue(self, node: int, state: NodeState, queue: Optional[List[int]]) -> None:
         if queue is None:
             return
-        expected_queue = self._queues[node]
+        numa_nodes = self._numa_nodes[node]
+        expected_queue = join_lists(lists_of(self._queues[node], numa_nodes))
         shown = [page if page >= 0 else f"frame {-page:#x}" for page in queue]
         require_equal(f"queue of node {node}", shown, expected_queue)
         self.sums["queues compared"] += 1
         self.sums["queues compared, of two pages or more"] += len(expected_queue) > 1
-        if expected_queue != state.queue:
+        self.sums["queues compared, of several NUMA nodes"] += len(lists_of(expected_queue, numa_nodes)) > 1
+        if expected_queue != join_lists(lists_of(state.queue, numa_nodes)):
             self.known.add(KnownDifference.E)

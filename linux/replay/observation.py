@@ -4,7 +4,7 @@ from __future__ import annotations
 
 import json
 import re
-from dataclasses import dataclass
+from dataclasses import dataclass, field
 from typing import Any, Dict, List, Optional, Tuple
 
 from ..common.counters import Counter, Counts, SizeCounter
@@ -30,18 +30,21 @@ class PageObservation:
 class Observation:
     """The kernel at one moment. Counters since the script's start, the PMD splits that only served to map less than
     a whole page taken off. A queue lists page numbers, oldest first, and a frame of no page as its negative; None: it
-    wasn't read."""
+    wasn't read. Where the kernel has a queue for each NUMA node, they are joined in the order of these nodes; `numa_nodes` has
+    the NUMA node of each queued page that isn't on node 0."""
 
     counts: Counts
     pages: Dict[PageName, PageObservation]
     queues: List[Optional[List[int]]]
+    numa_nodes: Dict[PageName, int] = field(default_factory=dict)
 
     def line(self) -> str:
         """Returns the look as a line of JSON."""
         machine = {key.value: value for key, value in self.counts.machine.items()}
         sizes = [[key.value, order, value] for (key, order), value in self.counts.sizes.items()]
         pages = [[*name, page.whole, _pack_runs(page.counts), hex(page.mapped)] for name, page in self.pages.items()]
-        return json.dumps({"machine": machine, "sizes": sizes, "pages": pages, "queues": self.queues})
+        numa_nodes = {"numa_nodes": [[*name, numa_node] for name, numa_node in self.numa_nodes.items()]} if self.numa_nodes else {}
+        return json.dumps({"machine": machine, "sizes": sizes, "pages": pages, "queues": self.queues, **numa_nodes})
 
 
 def parse_observation(line: str) -> Observation:
@@ -57,9 +60,11 @@ def parse_observation(line: str) -> Observation:
             for node, page, whole, counts, mapped in parsed["pages"]
         }
         queues = [None if queue is None else [_parse_integer(page) for page in queue] for queue in parsed["queues"]]
+        placed = parsed.get("numa_nodes", [])
+        numa_nodes = {(_parse_index(node), _parse_index(page)): _parse_index(place) for node, page, place in placed}
     except (ValueError, KeyError, TypeError, AttributeError, RecursionError) as error:
         raise InputFault(f"a line that is no look: {line[:60]!r}") from error
-    return Observation(Counts(machine, sizes), pages, queues)
+    return Observation(Counts(machine, sizes), pages, queues, numa_nodes)
 
 
 def _parse_optional(value: Any) -> Optional[int]:

@@ -121,8 +121,9 @@ class KernelPages:
             for number, page in enumerate(state.pages):
                 if page.live:
                     pages[node, number] = self._look_at(self._pages[node][number], page)
-        queues = [self._queue(node, state) for node, state in enumerate(states)]
-        return Observation(Counts(machine, since.sizes), pages, queues)
+        numa_nodes: Dict[PageName, int] = {}
+        queues = [self._queue(node, state, numa_nodes) for node, state in enumerate(states)]
+        return Observation(Counts(machine, since.sizes), pages, queues, numa_nodes)
 
     def _look_at(self, held: KernelPage, page: PageState) -> PageObservation:
         frames = self._bench.frames
@@ -135,12 +136,18 @@ class KernelPages:
         whole = 0 if page.split else frames.whole(held.frame, held.subpages)
         return PageObservation(whole, frames.counts(held.frame, held.subpages), mapped)
 
-    def _queue(self, node: int, state: NodeState) -> Optional[List[int]]:
-        frames = self._bench.queue(node)
-        if frames is None:
+    def _queue(self, node: int, state: NodeState, numa_nodes: Dict[PageName, int]) -> Optional[List[int]]:
+        """Returns a node's queue as page numbers, by NUMA node; puts the NUMA nodes other than 0 into `numa_nodes`."""
+        queues = self._bench.queues(node)
+        if queues is None:
             return None
         numbers = {held.frame: i for i, held in enumerate(self._pages[node]) if state.pages[i].live}
-        return [numbers.get(frame, -frame) for frame in frames]
+        out: List[int] = []
+        for numa_node, frames in sorted(queues.items()):
+            shown = [numbers.get(frame, -frame) for frame in frames]
+            numa_nodes.update({(node, number): numa_node for number in shown if numa_node and number >= 0})
+            out += shown
+        return out
 
     # the commands
 

@@ -6,7 +6,7 @@ import struct
 from dataclasses import dataclass, field
 from typing import Dict, List, Tuple
 
-_INT, _PTR, _STRUCT, _ENUM, _TYPEDEF, _PROTOTYPE = 1, 2, 4, 6, 8, 13
+_INT, _PTR, _ARRAY, _STRUCT, _ENUM, _TYPEDEF, _PROTOTYPE = 1, 2, 3, 4, 6, 8, 13
 
 
 @dataclass
@@ -34,6 +34,9 @@ class SampleTypes:
 
     def pointer(self, to: int) -> int:
         return self._add("", _PTR, 0, to, b"")
+
+    def array(self, element: int, index: int, count: int) -> int:
+        return self._add("", _ARRAY, 0, 0, struct.pack("<III", element, index, count))
 
     def typedef(self, name: str, of: int) -> int:
         return self._add(name, _TYPEDEF, 0, of, b"")
@@ -69,4 +72,22 @@ def queue_types(link_at: int = 144, link_name: str = "_deferred_list", length_si
     inner = made.struct("", 32, [(link_name, link, 16)])
     made.struct("folio", 192, [("flags", long, 0), ("", inner, link_at - 16)])
     made.enum("cgroup_subsys_id", [("cpu_cgrp_id", 1), ("memory_cgrp_id", 4)])
+    return made.text()
+
+
+def list_lru_types(group_name: str = "kmemcg_id") -> bytes:
+    """The types that queues need which are a list_lru, with the field of a group's number renamed."""
+    made = SampleTypes()
+    long = made.integer("long int", 8)
+    number, flag = made.integer("int", 4), made.integer("_Bool", 1)
+    pointer = made.pointer(0)
+    link = made.struct("list_head", 16, [("next", pointer, 0), ("prev", pointer, 8)])
+    one = made.struct("list_lru_one", 32, [("list", link, 0), ("nr_items", long, 16), ("lock", number, 24)])
+    made.struct("list_lru_node", 64, [("lru", one, 0), ("nr_items", long, 32)])
+    made.struct("list_lru_memcg", 16, [("rcu", link, 0), ("node", made.array(one, number, 0), 16)])
+    tree = made.struct("xarray", 16, [("xa_lock", number, 0), ("xa_head", pointer, 8)])
+    made.struct("list_lru", 56, [("node", pointer, 0), ("list", link, 8), ("memcg_aware", flag, 28), ("xa", tree, 32)])
+    made.struct("xa_node", 576, [("shift", flag, 0), ("slots", made.array(pointer, number, 64), 40)])
+    made.struct("mem_cgroup", 2000, [("id", long, 0), (group_name, number, 1400)])
+    made.struct("folio", 192, [("flags", long, 0), ("_deferred_list", link, 144)])
     return made.text()

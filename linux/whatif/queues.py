@@ -55,9 +55,10 @@ class Queues:
         self._memory = memory
         self._fields = FolioFields.from_types(memory.types)
         try:
-            memory.queue_fields(), memory.group_fields()
+            memory.locate_queues()
+            memory.group_fields()
             self._ordered = True
-        except Unavailable:  # queues of another form (Linux 7: struct list_lru): that a page is in one is in the page
+        except Unavailable:  # queues of another form: that a page is in one is in the page
             self._ordered = False
         self._start, self._size = memory.vmemmap()
         self._copier = load_program(ProgramType.SYSCALL, build_copier(HEADS * self._size // 8), SLEEPABLE)

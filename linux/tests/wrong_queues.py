@@ -1,0 +1,45 @@
+#!/usr/bin/env python3
+"""`thpreplay` with an injected bug in its reader of queues, which a comparison must find. Needs root.
+
+    python3 linux/tests/wrong_queues.py reverse|other OPTIONS..
+
+    reverse   a queue is read from its end
+    other     pages of another control group are counted in
+"""
+
+from __future__ import annotations
+
+import sys
+from pathlib import Path
+from typing import Callable, Dict, List
+
+sys.path.insert(0, str(Path(__file__).resolve().parent.parent.parent))
+sys.dont_write_bytecode = True
+
+from linux.common.kernel_memory import KernelMemory, Queue  # noqa: E402
+from linux.replay.__main__ import start  # noqa: E402
+
+READ = KernelMemory.queues
+
+
+def read_in_reverse(memory: KernelMemory, group: int) -> List[Queue]:
+    """Returns a group's queues, each from its end."""
+    return [Queue(each.folios[::-1], each.length, each.numa_node) for each in READ(memory, group)]
+
+
+def read_with_others(memory: KernelMemory, group: int) -> List[Queue]:
+    """Returns a group's queues with those of all other groups."""
+    out: Dict[int, Queue] = {}
+    for address in [group, *sorted(set(memory.groups().values()) - {group})]:
+        for each in READ(memory, address):
+            former = out.get(each.numa_node, Queue([], 0, each.numa_node))
+            out[each.numa_node] = Queue(former.folios + each.folios, former.length + each.length, each.numa_node)
+    return [out[node] for node in sorted(out)]
+
+
+BUGS: Dict[str, Callable[[KernelMemory, int], List[Queue]]] = {"reverse": read_in_reverse, "other": read_with_others}
+
+
+if __name__ == "__main__":
+    setattr(KernelMemory, "queues", BUGS[sys.argv.pop(1)])
+    start()

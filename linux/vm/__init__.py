@@ -1,0 +1,13 @@
+"""Runs a command on another kernel, in a virtual machine of qemu.
+
+    options          the command line of thpvm
+    kernels          the kernel's image: a file, a folder, a Debian package
+    packages         images of Debian packages, downloaded and stored in the caller's cache
+    archive          the initial file system as bytes (cpio, form newc)
+    guest_files      what the guest's file system contains: Python, the tools, helpers, the command
+    init             the guest's first process; needs nothing of this package
+    messages         what the guest sends, and the end of its console
+    virtual_machine  qemu: its words, its start and its end
+    guest_run        one run: the boot, the command, limits of time
+    __main__         thpvm
+"""

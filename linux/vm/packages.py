@@ -1,0 +1,144 @@
+"""Kernel images of Debian packages: downloaded by apt, which checks their signatures, and stored in the caller's cache.
+
+Nothing is installed, and no list of the machine is changed: a suite other than the machine's own gets lists of its own.
+"""
+
+from __future__ import annotations
+
+import os
+import re
+import shutil
+import subprocess
+import tarfile
+import tempfile
+import time
+from pathlib import Path
+from typing import List, Optional, Sequence
+
+from ..common.errors import RunFailed, Unavailable
+from ..common.helpers import own_folder_of_helpers
+from ..common.keeper import open_folder
+from ..common.text import escape
+
+PACKAGE = re.compile(r"linux-(?:image|binary)-[a-z0-9][a-z0-9.+~-]{0,80}")
+SUITE = re.compile(r"[a-z][a-z0-9-]{1,40}")
+MIRROR, KEYS = "http://deb.debian.org/debian", "/usr/share/keyrings/debian-archive-keyring.gpg"
+MOST_IMAGE = 256 << 20  # bytes of an image
+MOST_STEPS = 4  # packages that depend on one another until one has the image
+SECONDS = 600.0  # that a program of apt gets
+AGE = 86400.0  # seconds after which lists are fetched again
+_IMAGE = re.compile(r"(?:\./)?(?:boot/vmlinuz-[^/]+|(?:usr/)?lib/modules/[^/]+/vmlinuz)")
+_URI = re.compile(r"^'[^']+' ([A-Za-z0-9.+~_%-]+)\.deb ", re.MULTILINE)
+
+
+def call(words: Sequence[str], folder: Optional[str] = None) -> subprocess.CompletedProcess[bytes]:
+    """Runs a program of apt or dpkg. Unavailable where it isn't there or takes too long."""
+    if not shutil.which(words[0]):
+        raise Unavailable(f"no {words[0]}: packages can't be used here")
+    environment = {"PATH": "/usr/sbin:/usr/bin:/sbin:/bin", "LC_ALL": "C.UTF-8"}
+    try:
+        return subprocess.run(words, cwd=folder, env=environment, stdin=subprocess.DEVNULL, capture_output=True, check=False,
+                              timeout=SECONDS)
+    except subprocess.TimeoutExpired as error:
+        raise Unavailable(f"{words[0]} takes more than {SECONDS:.0f} s") from error
+
+
+def reason_of(done: subprocess.CompletedProcess[bytes]) -> str:
+    """Returns the last line of a program's errors, printable."""
+    lines = [line for line in done.stderr.split(b"\n") if line.startswith(b"E:")] or [b"no reason"]
+    return escape(lines[-1])[:200]
+
+
+class PackageLists:
+    """The lists of the machine, or those of a suite in a folder of the cache."""
+
+    def __init__(self, suite: Optional[str]) -> None:
+        self._folder = own_folder_of_helpers() / "kernels"
+        open_folder(str(self._folder))
+        self._suite = suite
+        self._options: List[str] = ["-o", "APT::Sandbox::User=root"] if os.geteuid() == 0 else []
+        if suite:
+            self._use_suite(suite)
+
+    def _use_suite(self, suite: str) -> None:
+        if not os.path.exists(KEYS):
+            raise Unavailable(f"no {KEYS} (Debian's package debian-archive-keyring)")
+        place = self._folder / f"lists-{suite}"
+        for folder in ("lists/partial", "cache/archives/partial"):
+            (place / folder).mkdir(parents=True, exist_ok=True)
+        sources = place / "sources.list"
+        sources.write_text(f"deb [signed-by={KEYS}] {MIRROR} {suite} main\n")
+        for name, value in (("Etc::sourcelist", sources), ("Etc::sourceparts", "-"), ("State::lists", place / "lists"),
+                            ("Cache", place / "cache"), ("State::status", "/dev/null")):
+            self._options += ["-o", f"Dir::{name}={value}"]
+        fetched = place / "fetched"
+        if not fetched.exists() or time.time() - fetched.stat().st_mtime > AGE:
+            done = call(["apt-get", *self._options, "-qq", "update"])
+            if done.returncode or b"\nW: Failed" in b"\n" + done.stderr:
+                raise Unavailable(f"the lists of {suite} can't be fetched: {reason_of(done)}")
+            fetched.touch()
+
+    def _stem(self, name: str) -> str:
+        """Returns the name and version of a package's file, without its ending."""
+        done = call(["apt-get", *self._options, "-qq", "--print-uris", "download", name])
+        found = _URI.search(done.stdout.decode("utf-8", "replace"))
+        if found:
+            return found[1]
+        stored = sorted(self._folder.glob(f"{name}_*.vmlinuz"), key=lambda path: path.stat().st_mtime)
+        if stored:
+            return stored[-1].name.removesuffix(".vmlinuz")
+        where = f"suite {self._suite}" if self._suite else "the machine's lists (--suite names others)"
+        raise Unavailable(f"no package {escape(name)} in {where}: {reason_of(done)}")
+
+    def image(self, name: str) -> bytes:
+        """Returns the kernel image of a package, or of the first package that it depends on and that has one."""
+        for _ in range(MOST_STEPS):
+            stored = self._folder / f"{self._stem(name)}.vmlinuz"
+            if stored.exists():
+                return stored.read_bytes()
+            with tempfile.TemporaryDirectory(dir=self._folder) as folder:
+                package = self._download(name, folder)
+                image = extract_image(package)
+                if image:
+                    part = Path(folder) / "image"
+                    part.write_bytes(image)
+                    os.replace(part, stored)
+                    return image
+                name = next_package(package)
+        raise Unavailable(f"package {escape(name)} leads to no kernel image")
+
+    def _download(self, name: str, folder: str) -> str:
+        done = call(["apt-get", *self._options, "-qq", "download", name], folder)
+        found = sorted(Path(folder).glob("*.deb"))
+        if done.returncode or not found:
+            raise Unavailable(f"package {escape(name)} can't be downloaded: {reason_of(done)}")
+        return str(found[0])
+
+
+def next_package(package: str) -> str:
+    """Returns the first package of a kernel on which a package without an image depends."""
+    depends = call(["dpkg-deb", "-f", package, "Depends"]).stdout.decode("utf-8", "replace")
+    for word in re.split(r"[,|]", depends):
+        found = PACKAGE.match(word.strip())
+        if found:
+            return found[0]
+    raise Unavailable(f"{escape(os.path.basename(package))} has no kernel image, and depends on no package that may")
+
+
+def extract_image(package: str) -> bytes:
+    """Returns the kernel image in a package's file, or nothing. Only the image is unpacked."""
+    if not shutil.which("dpkg-deb"):
+        raise Unavailable("no dpkg-deb: packages can't be used here")
+    words = ["dpkg-deb", "--fsys-tarfile", package]
+    with subprocess.Popen(words, stdin=subprocess.DEVNULL, stdout=subprocess.PIPE, stderr=subprocess.DEVNULL) as child:
+        try:
+            with tarfile.open(fileobj=child.stdout, mode="r|") as archive:
+                for member in archive:
+                    if member.isfile() and _IMAGE.fullmatch(member.name) and member.size <= MOST_IMAGE:
+                        file = archive.extractfile(member)
+                        return file.read() if file else b""
+        except (tarfile.TarError, OSError, EOFError) as error:
+            raise RunFailed(f"{escape(package)} can't be read as a package: {escape(str(error))}") from error
+        finally:
+            child.kill()
+    return b""

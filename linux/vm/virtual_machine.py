@@ -1,0 +1,148 @@
+"""qemu: its words, its start and its end.
+
+The kernel, the file system and both serial lines are descriptors without names, so nothing is left on the machine after
+any end. qemu has no network, no disk and no rights: where this tool is root, it runs as nobody. The kernel ends it with
+this tool (PR_SET_PDEATHSIG).
+"""
+
+from __future__ import annotations
+
+import ctypes
+import fcntl
+import os
+import shutil
+import signal
+import socket
+import stat
+import subprocess
+from dataclasses import dataclass
+from typing import List
+
+from ..common.errors import Unavailable
+from ..common.user import User, nobody
+
+QEMU = "qemu-system-x86_64"
+KVM_DEVICE = "/dev/kvm"
+KVM_CREATE_VM = 0xAE01  # include/uapi/linux/kvm.h
+KVM_FAILURES = (b"KVM internal error", b"kvm run failed", b"failed to initialize kvm", b"Could not access KVM")
+PR_SET_PDEATHSIG = 1  # include/uapi/linux/prctl.h
+KERNEL_WORDS = "console=ttyS0 panic=-1 rdinit=/init"
+SANDBOX = "on,obsolete=deny,elevateprivileges=deny,spawn=deny,resourcecontrol=deny"
+_LIBC = ctypes.CDLL(None)
+
+
+@dataclass(frozen=True)
+class Shape:
+    """A machine: memory in MiB, NUMA nodes, processors."""
+
+    memory: int
+    nodes: int
+    processors: int
+
+    def words(self) -> List[str]:
+        """Returns qemu's words for it."""
+        out = ["-smp", str(self.processors), "-m", f"{self.memory // self.nodes * self.nodes}M"]
+        for node in range(self.nodes):
+            processors = "".join(f",cpus={number}" for number in range(node, self.processors, self.nodes))
+            out += ["-object", f"memory-backend-ram,id=memory{node},size={self.memory // self.nodes}M",
+                    "-numa", f"node,nodeid={node},memdev=memory{node}{processors}"]
+        return out
+
+
+def find_qemu() -> str:
+    """Returns the path of qemu. Unavailable where it isn't installed."""
+    found = shutil.which(QEMU)
+    if not found:
+        raise Unavailable(f"no {QEMU} (Debian's package qemu-system-x86)")
+    return found
+
+
+def groups_for_kvm() -> List[int]:
+    """Returns the group that may use KVM, for a user without rights; none where that is root's."""
+    try:
+        found = os.stat(KVM_DEVICE)
+    except OSError:
+        return []
+    return [found.st_gid] if found.st_gid and found.st_mode & stat.S_IRGRP and found.st_mode & stat.S_IWGRP else []
+
+
+def find_kvm_problem() -> str:
+    """Returns why a virtual machine of KVM can't be made here, or nothing. A machine that can be made may yet not run."""
+    user = nobody()
+    try:
+        mode = os.stat(KVM_DEVICE).st_mode
+        if not user.is_caller and not groups_for_kvm() and not (mode & stat.S_IROTH and mode & stat.S_IWOTH):
+            return f"{KVM_DEVICE} isn't for user nobody, as whom qemu runs"
+        device = os.open(KVM_DEVICE, os.O_RDWR | os.O_CLOEXEC)
+    except OSError as error:
+        return f"{KVM_DEVICE}: {error.strerror}"
+    try:
+        os.close(fcntl.ioctl(device, KVM_CREATE_VM))
+    except OSError as error:
+        return f"{KVM_DEVICE} makes no machine: {error.strerror}"
+    finally:
+        os.close(device)
+    return ""
+
+
+def memory_file(name: str, data: bytes) -> int:
+    """Returns the descriptor of a file without a name."""
+    descriptor = os.memfd_create(name, os.MFD_CLOEXEC)
+    with open(os.dup(descriptor), "wb") as file:
+        file.write(data)
+    return descriptor
+
+
+def end_with_parent() -> None:
+    """Has the kernel end this process with its parent."""
+    _LIBC.prctl(PR_SET_PDEATHSIG, signal.SIGKILL, 0, 0, 0)
+
+
+class VirtualMachine:
+    """A running qemu, with the host's ends of its console and of its second serial line."""
+
+    def __init__(self, shape: Shape, kernel: int, files: int, with_kvm: bool, more: str) -> None:
+        self.console, console = socket.socketpair()
+        self.line, line = socket.socketpair()
+        passed = [kernel, files, console.fileno(), line.fileno()]
+        words = [find_qemu(), "-no-user-config", "-nodefaults", "-no-reboot", "-display", "none", "-sandbox", SANDBOX]
+        words += ["-accel", "kvm", "-cpu", "host"] if with_kvm else ["-accel", "tcg", "-cpu", "max"]
+        words += [*shape.words(), "-kernel", f"/proc/self/fd/{kernel}", "-initrd", f"/proc/self/fd/{files}"]
+        words += ["-append", f"{KERNEL_WORDS} {more}".strip()]
+        for name, end in (("console", console), ("line", line)):
+            words += ["-chardev", f"socket,id={name},fd={end.fileno()}", "-device", f"isa-serial,chardev={name}"]
+        user = nobody()
+        with console, line:
+            self._process = self._start(words, passed, user, with_kvm)
+
+    @staticmethod
+    def _start(words: List[str], passed: List[int], user: User, with_kvm: bool) -> subprocess.Popen[bytes]:
+        rights = user.rights()
+        if rights and with_kvm:
+            rights["extra_groups"] = groups_for_kvm()
+        environment = {"PATH": os.defpath, "LC_ALL": "C.UTF-8"}
+        try:
+            return subprocess.Popen(words, stdin=subprocess.DEVNULL, stdout=subprocess.DEVNULL, stderr=subprocess.PIPE, cwd="/",
+                                    pass_fds=passed, env=environment, start_new_session=True, preexec_fn=end_with_parent,
+                                    **rights)
+        except OSError as error:
+            raise Unavailable(f"{words[0]} can't be run: {error.strerror}") from error
+
+    @property
+    def problems(self) -> int:
+        """The descriptor of qemu's own messages."""
+        assert self._process.stderr
+        return self._process.stderr.fileno()
+
+    def find_status(self) -> int:
+        """Returns the status with which qemu has ended, or -1 while it runs."""
+        status = self._process.poll()
+        return -1 if status is None else abs(status)
+
+    def end(self) -> None:
+        """Ends the machine."""
+        self._process.kill()
+        self._process.wait()
+        for each in (self.console, self.line, self._process.stderr):
+            if each:
+                each.close()
