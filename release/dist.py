@@ -172,13 +172,14 @@ def proof(of: Commit, lines: dict[str, str], built: list[Path], stage: Path, lib
     return f"""leversorrel {version()}{"" if version() == library else f", libthp {library}"}
 
 The programs thpsplit, thpcheck and thpdraw and the library libthp are built from proved crates. Not proved are the C half of libthp
-(c/thp.c), thpreplay, thprecord and thpwhatif with their helpers, and the crate for Rust. docs/PROVED.md states what is proved and trusted.
+(c/thp.c), thpreplay, thprecord, thpvm and thpwhatif with their helpers, and the crate for Rust. docs/PROVED.md states what is proved
+and trusted.
 
 Commit:     {of.name}
 Sources:    {of.tree} (`git rev-parse {of.name[:12]}^{{tree}}`)
 Toolchain:  {toolchain()}
 C compiler: {called(["cc", "--version"]).splitlines()[0]}
-Runs on:    Linux on x86-64-v2 (POPCNT, SSE4.2), glibc {glibc} or newer; thpreplay, thprecord and thpwhatif need Python 3.9
+Runs on:    Linux on x86-64-v2 (POPCNT, SSE4.2), glibc {glibc} or newer; thpreplay, thprecord, thpvm and thpwhatif need Python 3.9
 
 Verdicts of {len(lines)} crates: {functions} functions proved; axioms: {axioms(lines)}. A line without `axioms=` counts none.
 

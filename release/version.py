@@ -22,7 +22,7 @@ PROGRAMS = {
     "tests/stored/checker_version.txt": r"^thpcheck ([\d.]+)$",
     "tests/stored/drawer_version.txt": r"^thpdraw ([\d.]+)$",
     **{f"docs/{name}": r'^\.TH \w+ \d "[\d-]+" "Leversorrel ([\d.]+)"' for name in (
-        "thpcheck.1", "thpdraw.1", "thprecord.1", "thpreplay.1", "thpsplit.1", "thpsplit.5", "thpwhatif.1")},
+        "thpcheck.1", "thpdraw.1", "thprecord.1", "thpreplay.1", "thpsplit.1", "thpsplit.5", "thpvm.1", "thpwhatif.1")},
 }
 """The version of the programs: each file that has it, and where."""
 

@@ -38,7 +38,7 @@ TOTALS = ("pages 1", "queue 0", "frames_held 256", "frames_given 256", "thp_spli
 LINKED = "page 0 is queued\ntaken 1, split 1\nframes: 256 given back, 256 held\n"
 """What examples/c/first.c prints, which does the same by the library."""
 
-PROGRAMS = ("thpsplit", "thpcheck", "thpdraw", "thpreplay", "thprecord", "thpwhatif")
+PROGRAMS = ("thpsplit", "thpcheck", "thpdraw", "thpreplay", "thprecord", "thpvm", "thpwhatif")
 
 CMAKE = """cmake_minimum_required(VERSION 3.13)
 project(use C)
