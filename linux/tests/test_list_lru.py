@@ -117,7 +117,6 @@ class ListLruTests(unittest.TestCase):
             ListLruFields.from_types(Types(list_lru_types("other_id")))
         self.assertEqual((FIELDS.list_size, FIELDS.group_lists, FIELDS.slot_count, FIELDS.node_size), (32, 16, 64, 64))
 
-
     def test_nodes_with_memory_are_read_from_the_kernels_list(self) -> None:
         with tempfile.NamedTemporaryFile("w") as file, mock.patch.object(kernel_memory, "NUMA_NODES", file.name):
             file.write("0-1,3\n")
