@@ -1,5 +1,5 @@
 -- The order of a queue, read from its history backwards: the event that queued a page last is the page's place.
-use Rattle.std.proofs.Common.{◌≡◌, ◌∙◌, ◌≢◌, ℕ, zero, suc, ◌+◌, ◌-◌, ◌<◌, ◌≤◌, min, Bool, true, false, cond, not, ◌||◌, List, [], ◌∷◌, ◌++◌, Option, Some, None, length, take, drop, get_or, refl, ap, sym, subst, arith, nat_eq, nat_lt, eq-eqb, eqb-true, inl, inr}
+use Rattle.std.proofs.Common.{◌≡◌, ◌∙◌, ℕ, zero, suc, ◌+◌, ◌-◌, ◌<◌, ◌≤◌, Bool, true, false, cond, not, ◌||◌, List, [], ◌∷◌, ◌++◌, Some, None, length, take, drop, get_or, refl, ap, sym, subst, arith, nat_eq, eq-eqb, eqb-true}
 use Rattle.std.specs.List.{filter}
 use Rattle.std.proofs.lemmas.List.{take_more, take_all, length-take}
 use Rattle.std.proofs.lemmas.List.Elements.{filter-append}
@@ -16,7 +16,7 @@ use Rattle.thp_model.specs.Underused.{shrinks_underused}
 use Rattle.thp_model.proofs.Bools.{by_bool, or_first, or_second}
 use Rattle.thp_model.proofs.LegalSteps.{legal_take}
 use Rattle.thp_model.proofs.ListPlaces.{append_none}
-use Rattle.thp_model.proofs.OnePlace.{once_queued, has_times, hasnt_times, times-append, filter_in, not_before}
+use Rattle.thp_model.proofs.OnePlace.{once_queued, has_times, hasnt_times, filter_in}
 use Rattle.thp_model.proofs.Pushes.{queue_push}
 use Rattle.thp_model.proofs.Standing.{times, times-cons, times_push, times-filter, times-without}
 use Rattle.thp_capi.specs.Joining.{joins, joins_by}

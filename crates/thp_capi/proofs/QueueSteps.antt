@@ -1,5 +1,5 @@
 -- The steps of a walk back through a node's journal, which finds the queued pages from the newest to the oldest.
-use Rattle.std.proofs.Common.{◌≡◌, ◌∙◌, ℕ, zero, suc, ◌+◌, ◌-◌, ◌<◌, ◌≤◌, Bool, true, false, not, ◌||◌, List, [], ◌∷◌, ◌++◌, Option, Some, None, length, take, drop, set, get_or, replicate, refl, ap, sym, subst, arith, nat_eq, eqb-true, inl, inr}
+use Rattle.std.proofs.Common.{◌≡◌, ◌∙◌, ℕ, zero, suc, ◌+◌, ◌-◌, ◌<◌, ◌≤◌, Bool, true, false, not, ◌||◌, List, [], ◌∷◌, ◌++◌, Some, None, length, take, drop, set, get_or, replicate, refl, ap, sym, subst, arith, nat_eq, eqb-true, inl, inr}
 use Rattle.std.proofs.lemmas.Bool.Decides.{eqb_tells}
 use Rattle.std.proofs.lemmas.List.{take_more, take_all, length-set, get_or-set_same, get_or-set_other, take-append-drop, drop_more, length-replicate}
 use Rattle.thp_model.specs.declared.events.Event.{Event}

@@ -1,5 +1,5 @@
 -- What the table has of the subpage is what the journal determines.
-use Rattle.std.proofs.Common.{◌≡◌, ◌∙◌, ◌<◌, ◌≤◌, ap, sym, subst, arith, cond, nat_lt, true, ℕ}
+use Rattle.std.proofs.Common.{◌≡◌, ◌∙◌, ◌<◌, ◌≤◌, ap, sym, arith, cond, nat_lt, true, ℕ}
 use Rattle.thp_model.specs.Counts.{is_live, own}
 use Rattle.thp_model.specs.Pages.{own_at}
 use Rattle.thp_model.specs.Shapes.{subpages}

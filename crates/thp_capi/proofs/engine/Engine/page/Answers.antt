@@ -1,5 +1,5 @@
 -- What the table has of the page is what the journal determines.
-use Rattle.std.proofs.Common.{◌∙◌, ap, sym, subst}
+use Rattle.std.proofs.Common.{◌∙◌, ap, sym}
 use Rattle.thp_model.specs.Counts.{is_live}
 use Rattle.thp_capi.specs.Engines.{EngineState}
 use Rattle.thp_capi.specs.Reading.{page_state_of}

@@ -1,10 +1,9 @@
 -- The list that the table has of the page is the one that the journal determines.
-use Rattle.std.proofs.Common.{◌≡◌, ◌∙◌, Bool, ap, sym, subst, arith, ℕ, ◌<◌, ◌≤◌, length}
+use Rattle.std.proofs.Common.{◌∙◌, ap, sym}
 use Rattle.thp_model.specs.Places.{has_page, queue}
 use Rattle.thp_live_pages.proofs.Standings.{queued_has}
-use Rattle.thp_live_pages.specs.Homes.{block_of}
 use Rattle.thp_capi.specs.Engines.{EngineState}
-use Rattle.thp_capi.proofs.Reading.{at_block, elsewhere, inside_blocks, standing_is, unqueued, unseen}
+use Rattle.thp_capi.proofs.Reading.{at_block, elsewhere, standing_is, unqueued, unseen}
 use Rattle.thp_capi.proofs.engine.Engine.queued_block.Goals as goal
 
 pub returns-in_default-clause-none : goal.returns-in_default-clause-none
