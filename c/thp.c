@@ -127,6 +127,9 @@ uint32_t thp_c_node_put_back(thp_node *node, uint32_t caller, thp_back *back);
 uint32_t thp_c_node_abandon(thp_node *node, uint32_t caller);
 uint32_t thp_c_node_reserve(thp_node *node, uint32_t events);
 uint32_t thp_c_node_queue_length(thp_node *node, uint32_t *pages);
+uint32_t thp_c_node_queue(thp_node *node, uint64_t *pages, size_t room, uint32_t *count);
+uint32_t thp_c_node_page(thp_node *node, uint64_t page, thp_page_state *state);
+uint32_t thp_c_node_mapcount(thp_node *node, uint64_t page, uint32_t subpage, uint32_t *own);
 uint32_t thp_c_node_stats(thp_node *node, thp_stats *stats);
 uint32_t thp_c_node_journal(thp_node *node, uint8_t *buffer, size_t capacity, size_t *size);
 uint32_t thp_c_cell_create(thp_pass *pass, uint32_t blocks, uint32_t order, uint32_t underused, uint32_t callers, uint64_t mark);
@@ -134,6 +137,7 @@ uint32_t thp_c_cell_finish(thp_pass *pass, thp_node *node);
 uint32_t thp_c_pass_destroy(thp_pass *pass);
 uint32_t thp_c_pass_split(thp_pass *pass, uint32_t at, thp_pass *other);
 uint32_t thp_c_pass_join(thp_pass *pass, thp_pass *other);
+uint32_t thp_c_pass_callers(thp_pass *pass, uint32_t *first, uint32_t *end);
 uint32_t thp_c_pass_alloc(thp_pass *pass, uint32_t caller, uint64_t *page);
 uint32_t thp_c_pass_split_pmd(thp_pass *pass, uint32_t caller, uint64_t page);
 uint32_t thp_c_pass_unmap_sub(thp_pass *pass, uint32_t caller, uint64_t page, uint32_t first, uint32_t count, thp_done *done);
@@ -161,10 +165,12 @@ _Static_assert(sizeof(thp_scan) == 24, "six numbers of 32 bits");
 _Static_assert(sizeof(thp_tried) == 16 && offsetof(thp_tried, page) == 8, "a kind and a page");
 _Static_assert(sizeof(thp_back) == 8, "two numbers of 32 bits");
 _Static_assert(sizeof(thp_stats) == 80, "ten numbers of 64 bits");
+_Static_assert(sizeof(thp_page_state) == 24, "six numbers of 32 bits");
 _Static_assert(sizeof(thp_code) == sizeof(uint32_t), "a code is a number of 32 bits");
 
-/* the address of an empty range of bytes whose pointer is null */
+/* the addresses of an empty range of bytes, and of pages, whose pointer is null */
 static uint8_t no_bytes;
+static uint64_t no_pages;
 
 thp_code thp_check_text(const uint8_t *text, size_t length, uint32_t *line) {
     if ((text == NULL && length != 0) || line == NULL) return THP_NULL;
@@ -291,19 +297,43 @@ thp_code thp_node_reserve(thp_node *node, uint32_t events) {
     return (thp_code)thp_c_node_reserve(node, events);
 }
 
-thp_code thp_node_queue_length(thp_node *node, uint32_t *pages) {
+/* The proved readers take what they read out of the handle and put it back in the same place. They work on a copy, so a const handle
+   is never written. */
+
+thp_code thp_node_queue_length(const thp_node *node, uint32_t *pages) {
     if (node == NULL || pages == NULL) return THP_NULL;
-    return (thp_code)thp_c_node_queue_length(node, pages);
+    thp_node copy = *node;
+    return (thp_code)thp_c_node_queue_length(&copy, pages);
 }
 
-thp_code thp_node_stats(thp_node *node, thp_stats *stats) {
+thp_code thp_node_queue(const thp_node *node, uint64_t *pages, size_t room, uint32_t *count) {
+    if (node == NULL || (pages == NULL && room != 0) || count == NULL) return THP_NULL;
+    thp_node copy = *node;
+    return (thp_code)thp_c_node_queue(&copy, pages != NULL ? pages : &no_pages, room, count);
+}
+
+thp_code thp_node_page(const thp_node *node, uint64_t page, thp_page_state *state) {
+    if (node == NULL || state == NULL) return THP_NULL;
+    thp_node copy = *node;
+    return (thp_code)thp_c_node_page(&copy, page, state);
+}
+
+thp_code thp_node_mapcount(const thp_node *node, uint64_t page, uint32_t subpage, uint32_t *own) {
+    if (node == NULL || own == NULL) return THP_NULL;
+    thp_node copy = *node;
+    return (thp_code)thp_c_node_mapcount(&copy, page, subpage, own);
+}
+
+thp_code thp_node_stats(const thp_node *node, thp_stats *stats) {
     if (node == NULL || stats == NULL) return THP_NULL;
-    return (thp_code)thp_c_node_stats(node, stats);
+    thp_node copy = *node;
+    return (thp_code)thp_c_node_stats(&copy, stats);
 }
 
-thp_code thp_node_journal(thp_node *node, uint8_t *buffer, size_t capacity, size_t *size) {
+thp_code thp_node_journal(const thp_node *node, uint8_t *buffer, size_t capacity, size_t *size) {
     if (node == NULL || (buffer == NULL && capacity != 0) || size == NULL) return THP_NULL;
-    return (thp_code)thp_c_node_journal(node, buffer != NULL ? buffer : &no_bytes, capacity, size);
+    thp_node copy = *node;
+    return (thp_code)thp_c_node_journal(&copy, buffer != NULL ? buffer : &no_bytes, capacity, size);
 }
 
 /* ---- shared nodes */
@@ -337,6 +367,12 @@ thp_code thp_pass_join(thp_pass *pass, thp_pass *other) {
     if (pass == NULL || other == NULL) return THP_NULL;
     if (pass == other) return THP_BAD_PASS;
     return (thp_code)thp_c_pass_join(pass, other);
+}
+
+thp_code thp_pass_callers(const thp_pass *pass, uint32_t *first, uint32_t *end) {
+    if (pass == NULL || first == NULL || end == NULL) return THP_NULL;
+    thp_pass copy = *pass;
+    return (thp_code)thp_c_pass_callers(&copy, first, end);
 }
 
 thp_code thp_pass_alloc(thp_pass *pass, uint32_t caller, uint64_t *page) {

@@ -29,9 +29,9 @@
  *  - a handle is THP_NODE_INIT, THP_PASS_INIT or THP_CHECK_INIT (or zeros) before its first call; only these calls change it; of
  *    all copies of it only one is used;
  *  - a pointer is null or points to a valid object of its type, which overlaps nothing else that the call is given;
- *  - only one call at a time uses a handle, even if the call only reads. Calls on different handles need no lock. A handle passes
- *    from one thread to another by a lock, a thread's start or a join. Different threads may use passes of one cell at the same
- *    time;
+ *  - only one call at a time uses a handle, even if the call only reads and takes a const handle. Calls on different handles need no
+ *    lock. A handle passes from one thread to another by a lock, a thread's start or a join. Different threads may use passes of
+ *    one cell at the same time;
  *  - after fork() in a program with threads the child makes no call, not even a destroy: its copy of a node can be in the middle of
  *    another thread's call, and its copy of a cell busy for ever. It may call exec or _exit. In a program without threads the
  *    child may use its own copies of the handles;
@@ -52,10 +52,10 @@
 #include <stdint.h>
 
 #define THP_VERSION_MAJOR 0 /**< the first number of THP_VERSION */
-#define THP_VERSION_MINOR 2 /**< its second number */
+#define THP_VERSION_MINOR 3 /**< its second number */
 #define THP_VERSION_PATCH 0 /**< its third number */
 /** @brief The version of this header; thp_version() returns that of the library. */
-#define THP_VERSION "0.2.0"
+#define THP_VERSION "0.3.0"
 
 #define THP_MAX_BLOCKS 4096   /**< the greatest number of live pages of a node; the least is 1 */
 #define THP_MIN_ORDER 2       /**< the least order of a node's pages */
@@ -204,6 +204,23 @@ typedef struct thp_stats {
     uint64_t underused_split_page; /**< pages split that were underused and not partly mapped */
     uint64_t split_pmd;            /**< PMD mappings split */
 } thp_stats;
+
+/** @brief The list that a page is on. */
+typedef enum thp_list {
+    THP_LIST_NONE = 0,  /**< no list */
+    THP_LIST_QUEUE = 1, /**< the deferred split queue */
+    THP_LIST_FLIGHT = 2 /**< the flight of a caller: a take took the page, and nothing has removed it since */
+} thp_list;
+
+/** @brief The state of a live page. */
+typedef struct thp_page_state {
+    uint32_t whole_mapcount; /**< the whole map count: PMD entries that map the page */
+    uint32_t pins;           /**< pins */
+    uint32_t partly_mapped;  /**< 1 if the page is partly mapped, otherwise 0 */
+    uint32_t split;          /**< 1 if the page was split into base pages, otherwise 0 */
+    uint32_t list;           /**< a thp_list */
+    uint32_t caller;         /**< with THP_LIST_FLIGHT the caller in whose flight the page is, otherwise 0 */
+} thp_page_state;
 
 /**
  * @name Memory
@@ -380,7 +397,7 @@ thp_code thp_node_abandon(thp_node *node, uint32_t caller);
 /** @} */
 
 /**
- * @name A node's memory, statistics and journal
+ * @name A node's memory, pages, statistics and journal
  * @{
  */
 /**
@@ -390,9 +407,30 @@ thp_code thp_node_abandon(thp_node *node, uint32_t caller);
  */
 thp_code thp_node_reserve(thp_node *node, uint32_t events);
 /** @brief Stores the number of queued pages, which is the shrinker's count. @return THP_OK, THP_EMPTY, THP_NULL */
-thp_code thp_node_queue_length(thp_node *node, uint32_t *pages);
+thp_code thp_node_queue_length(const thp_node *node, uint32_t *pages);
+/**
+ * @brief Stores the queued pages, oldest first, as many as there is room for. Allocates no memory. Reads the journal back to the event
+ * that queued the oldest page.
+ * @param node the node
+ * @param[out] pages receives the pages; may be null if room is 0
+ * @param room the number of pages that the array holds
+ * @param[out] count the number of queued pages, which can be greater than room
+ * @return THP_OK, THP_EMPTY, THP_NULL
+ */
+thp_code thp_node_queue(const thp_node *node, uint64_t *pages, size_t room, uint32_t *count);
+/**
+ * @brief Stores the state of a live page.
+ * @return THP_OK, THP_EMPTY, THP_NO_PAGE, THP_NULL
+ */
+thp_code thp_node_page(const thp_node *node, uint64_t page, thp_page_state *state);
+/**
+ * @brief Stores the own map count of a subpage of a live page: the number of PTE entries that map it. Its total map count is that plus
+ * the whole map count of its page.
+ * @return THP_OK, THP_EMPTY, THP_NO_PAGE, THP_BAD_RANGE (the page has no such subpage), THP_NULL
+ */
+thp_code thp_node_mapcount(const thp_node *node, uint64_t page, uint32_t subpage, uint32_t *own);
 /** @brief Stores the node's statistics. @return THP_OK, THP_EMPTY, THP_NULL */
-thp_code thp_node_stats(thp_node *node, thp_stats *stats);
+thp_code thp_node_stats(const thp_node *node, thp_stats *stats);
 /**
  * @brief Writes the journal as text (docs/FORMATS.md), which thp_check_text reads. The text has no terminating null byte.
  * @param node the node
@@ -401,7 +439,7 @@ thp_code thp_node_stats(thp_node *node, thp_stats *stats);
  * @param[out] size the length of the text in bytes, with THP_OK and THP_TOO_SMALL
  * @return THP_OK, THP_EMPTY, THP_TOO_SMALL, THP_OUT_OF_MEMORY, THP_NULL
  */
-thp_code thp_node_journal(thp_node *node, uint8_t *buffer, size_t capacity, size_t *size);
+thp_code thp_node_journal(const thp_node *node, uint8_t *buffer, size_t capacity, size_t *size);
 /** @} */
 
 /**
@@ -452,6 +490,8 @@ thp_code thp_pass_split(thp_pass *pass, uint32_t at, thp_pass *other);
  * @return THP_OK, THP_BAD_PASS
  */
 thp_code thp_pass_join(thp_pass *pass, thp_pass *other);
+/** @brief Stores the callers of the pass: those from `first` on and below `end`. @return THP_OK */
+thp_code thp_pass_callers(const thp_pass *pass, uint32_t *first, uint32_t *end);
 /**
  * @brief Does what thp_node_alloc does.
  * @return THP_OK, THP_BAD_CALLER (not one of the pass's), THP_BUSY, THP_CLOSED, THP_NO_BLOCK, THP_OUT_OF_MEMORY

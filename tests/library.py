@@ -25,6 +25,7 @@ ROOT = Path(__file__).resolve().parent.parent
 sys.path.insert(0, str(ROOT / "release"))
 
 import version as places  # noqa: E402
+from model import Node  # noqa: E402
 from protection import weaknesses  # noqa: E402
 from random_texts import Script, joined, likely_words, operands, random_shapes, script_of_one  # noqa: E402
 from script import Run  # noqa: E402
@@ -52,7 +53,9 @@ TYPES = {
     "&mut ThpScan": "scan", "&mut ThpTried": "tried", "&mut ThpBack": "back", "&mut ThpStats": "stats", "u32": "u32", "u64": "u64",
     "usize": "usize", "*mut Handle": "handle", "*mut u32": "u32*", "*mut u64": "u64*", "*mut usize": "usize*",
     "*mut Done": "done", "*mut Scan": "scan", "*mut Tried": "tried", "*mut Back": "back", "*mut Stats": "stats",
-    "*const u8": "u8*", "*mut u8": "u8*",
+    "*const u8": "u8*", "*mut u8": "u8*", "const thp_node *": "const handle", "*const Handle": "const handle",
+    "const thp_pass *": "const pass", "*const PassHandle": "const pass", "thp_page_state *": "page state",
+    "&mut ThpPageState": "page state", "*mut PageState": "page state",
 }
 """A type in C, in Rattle or in Rust, and one word for it."""
 
@@ -62,8 +65,8 @@ FIELD_TYPES = {
 }
 """The type of a field in C, in Rattle or in Rust, and one word for it."""
 
-STRUCTS = {"done": "Done", "scan": "Scan", "tried": "Tried", "back": "Back", "stats": "Stats", "node": "Handle", "pass": "PassHandle",
-           "check": "CheckHandle"}
+STRUCTS = {"done": "Done", "scan": "Scan", "tried": "Tried", "back": "Back", "stats": "Stats", "page_state": "PageState", "node": "Handle",
+           "pass": "PassHandle", "check": "CheckHandle"}
 """Each struct of the header without its prefix, and its name in the cargo crate."""
 
 HANDLES = {"&mut ThpNode": "node", "&mut ThpPass": "pass", "&mut ThpCheck": "check"}
@@ -97,6 +100,8 @@ def of_rust(parameters: str) -> list[tuple[str, str]]:
             continue
         if type_ in ("&[u8]", "&mut [u8]"):
             found += [(name, "u8*"), ("capacity" if "mut" in type_ else "length", "usize")]
+        elif type_ == "&mut [u64]":
+            found += [(name, "u64*"), ("room", "usize")]
         else:
             found.append((HANDLES[type_] if name == "handle" else name, TYPES[type_]))
     return found
@@ -134,9 +139,10 @@ def exports_are_declared() -> str | None:
 
 
 def header_is_proved() -> str | None:
-    """The header's functions are the proved ones, parameter for parameter, and three of thp.c's own."""
+    """The header's functions are the proved ones, parameter for parameter, and three of thp.c's own. A const handle is copied first."""
     own = {"thp_strerror", "thp_version", "thp_use_allocator"}
-    return differing({name: it + OWN.get(name, []) for name, it in header().items() if name not in own}, inner())
+    proved = {name: it + OWN.get(name, []) for name, it in header().items() if name not in own}
+    return differing({name: [(word, type_.removeprefix("const ")) for word, type_ in it] for name, it in proved.items()}, inner())
 
 
 def names_are_listed() -> str | None:
@@ -166,9 +172,11 @@ def codes_agree() -> str | None:
     replies = (ROOT / "crates/thp_capi/src/replies.rt").read_text()
     effects = re.findall(r"Outcome::(\w+) => (\d),", replies)
     effects += [(f"Try{name}", kind) for name, kind in re.findall(r"Tried::(\w+)[^=]* => ThpTried \{\s*kind: (\d)", replies)]
+    lists = re.findall(r"Standing::(\w+)[^=]* => \((\d)", (ROOT / "crates/thp_capi/src/page_state.rt").read_text())
+    effects += [({"Nowhere": "ListNone", "Queued": "ListQueue", "Batch": "ListFlight"}[name], number) for name, number in lists]
     wrong = [name for name, number in [*in_rust, *in_proved, *effects] if in_c.get(name.lower()) != int(number)]
     found = (len(in_rust), len(in_proved), len(effects))
-    return ", ".join(wrong) or (None if found == (28, 23, 7) else f"found are {found}")
+    return ", ".join(wrong) or (None if found == (28, 23, 10) else f"found are {found}")
 
 
 def named_fields(text: str, start: str, pattern: str) -> list[tuple[str, str]]:
@@ -188,7 +196,7 @@ def structs_agree() -> str | None:
     for name, rust in STRUCTS.items():
         wanted = named_fields((C / "thp.h").read_text(), f"struct thp_{name} {{", in_c)
         places = {"rust/src/sys.rs": named_fields(sys, f"pub struct {rust} {{", in_rust),
-                  "thp_capi": named_fields(proved, f"pub struct Thp{name.title()} {{", in_rust)}
+                  "thp_capi": named_fields(proved, f"pub struct Thp{name.title().replace('_', '')} {{", in_rust)}
         if "Handle" not in rust:
             places["docs/libthp.3"] = named_fields(page, f"struct thp_{name} {{", in_c)
         wrong += [f"thp_{name}: {place}" for place, fields in places.items() if not wanted or fields != wanted]
@@ -495,13 +503,28 @@ def differs(replay: Path, program: Path, script: Script, options: list[str]) -> 
     return None
 
 
+def seen_of(node: Node) -> list[str]:
+    """What `look` writes of a node: its queue, and the state of each live page."""
+    lists = {page: (2, caller) for caller, flight in node.flights.items() for page in flight} | {page: (1, 0) for page in node.queue}
+    found = [" ".join(["queue", *map(str, node.queue)])]
+    for number, page in sorted(node.live.items()):
+        numbers = (page.whole, page.pins, int(page.is_partly), int(page.is_split), *lists.get(number, (0, 0)))
+        state = "page {} whole {} pins {} partly {} split {} list {} {} own".format(number, *numbers)
+        found.append(" ".join([state, *map(str, page.own)]))
+    return found
+
+
 def differs_on_batches(replay: Path, chance: Random) -> str | None:
     """How the library differs from the model when callers of one node take turns, each with its own open batch."""
     shape = random_shapes(chance, 1)[0]
     run, callers = Run([shape]), sorted(chance.sample(range(64), chance.choice((2, 3, 8))))
     open_by: dict[int, dict[int, list[int]]] = {caller: {} for caller in callers}
     lines: list[str] = []
+    seen: dict[int, list[str]] = {}
     for index in range(1, chance.randrange(300) + 1):
+        if chance.randrange(20) == 0:
+            lines.append("look")
+            seen[len(run.answers)] = seen_of(run.nodes[0])
         caller = chance.choice(callers)
         run.batches = open_by[caller]
         word = chance.choice(likely_words(run, 0))
@@ -511,9 +534,10 @@ def differs_on_batches(replay: Path, chance: Random) -> str | None:
     for caller in callers:
         run.batches = open_by[caller]
         run.end(caller)
-    wanted = joined([*run.answers, *run.journal()])
+    by_node = [line for at, answer in enumerate([*run.answers, ""]) for line in (*seen.get(at, []), answer)][:-1]
     told = f"{shape[1]},{'off' if shape[2] is None else shape[2]}"
-    for way in ("nodes", "passes"):
+    for way, answers in (("nodes", by_node), ("passes", run.answers)):
+        wanted = joined([*answers, *run.journal()])
         ended = subprocess.run([replay, way, str(shape[0]), told], input=joined(lines), capture_output=True, check=False)
         if ended.returncode != 0 or ended.stdout != wanted:
             pairs = zip(ended.stdout.splitlines() + [b"(end)"], wanted.splitlines() + [b"(end)"])

@@ -32,7 +32,7 @@ NEEDED = ("git", "cc", "make", "ar", "objcopy", "readelf", "tar")
 LINE = "logic=proved functions=7 sum=00 native=nat,char,string logic-built=trusted libraries-built=trusted statements=trusted"
 """A verdict line."""
 
-APART = ("0.1.0", "0.2.0")
+APART = ("0.1.0", "0.3.0")
 """The only numbers of programs and library that may differ: a change of the first needs proofs."""
 
 PROTECTED = ["-fPIE", "-pie", "-Wl,-z,relro", "-Wl,-z,now", "-Wl,-z,noexecstack"]

@@ -75,6 +75,7 @@ static void empty_handle(void) {
     thp_tried tried = {7, 7};
     thp_back back = {7, 7};
     thp_stats stats = {7, 7, 7, 7, 7, 7, 7, 7, 7, 7};
+    thp_page_state state = {7, 7, 7, 7, 7, 7};
     ANSWERS(thp_node_alloc(&node, 0, &page), THP_EMPTY);
     ANSWERS(thp_node_map_whole(&node, 0, 0), THP_EMPTY);
     ANSWERS(thp_node_unmap_whole(&node, 0, 0, &done), THP_EMPTY);
@@ -93,17 +94,23 @@ static void empty_handle(void) {
     ANSWERS(thp_node_abandon(&node, 0), THP_EMPTY);
     ANSWERS(thp_node_reserve(&node, 1), THP_EMPTY);
     ANSWERS(thp_node_queue_length(&node, &count), THP_EMPTY);
+    ANSWERS(thp_node_queue(&node, &page, 1, &count), THP_EMPTY);
+    ANSWERS(thp_node_page(&node, 0, &state), THP_EMPTY);
+    ANSWERS(thp_node_mapcount(&node, 0, 0, &count), THP_EMPTY);
     ANSWERS(thp_node_stats(&node, &stats), THP_EMPTY);
     ANSWERS(thp_node_journal(&node, &byte, 1, &size), THP_EMPTY);
     WANT(page == 7 && count == 7 && size == 7 && byte == 7 && done.outcome == 7 && done.released[7] == 7);
     WANT(scan.taken == 7 && scan.used == 7 && tried.kind == 7 && back.dropped == 7 && stats.events == 7 && stats.split_pmd == 7);
+    WANT(state.whole_mapcount == 7 && state.caller == 7);
     WANT(node.at == NULL && node.live == 0);
 }
 
 static void null_pointers(void) {
     thp_node node = small_node(1);
-    uint32_t line;
+    uint32_t line, count;
+    uint64_t page;
     size_t size;
+    thp_page_state state;
     ANSWERS(thp_check_text(NULL, 1, &line), THP_NULL);
     ANSWERS(thp_check_text((const uint8_t *)"", 0, NULL), THP_NULL);
     ANSWERS(thp_use_allocator(NULL), THP_NULL);
@@ -126,6 +133,14 @@ static void null_pointers(void) {
     ANSWERS(thp_node_abandon(NULL, 0), THP_NULL);
     ANSWERS(thp_node_reserve(NULL, 1), THP_NULL);
     ANSWERS(thp_node_queue_length(&node, NULL), THP_NULL);
+    ANSWERS(thp_node_queue_length(NULL, &count), THP_NULL);
+    ANSWERS(thp_node_queue(NULL, &page, 1, &count), THP_NULL);
+    ANSWERS(thp_node_queue(&node, NULL, 1, &count), THP_NULL);
+    ANSWERS(thp_node_queue(&node, &page, 1, NULL), THP_NULL);
+    ANSWERS(thp_node_page(NULL, 0, &state), THP_NULL);
+    ANSWERS(thp_node_page(&node, 0, NULL), THP_NULL);
+    ANSWERS(thp_node_mapcount(NULL, 0, 0, &count), THP_NULL);
+    ANSWERS(thp_node_mapcount(&node, 0, 0, NULL), THP_NULL);
     ANSWERS(thp_node_stats(&node, NULL), THP_NULL);
     ANSWERS(thp_node_journal(&node, NULL, 1, &size), THP_NULL);
     ANSWERS(thp_node_journal(&node, NULL, 0, NULL), THP_NULL);
@@ -300,6 +315,64 @@ static void batches_of_callers(void) {
     ANSWERS(thp_node_destroy(&node), THP_OK);
 }
 
+/* the state of a page is this */
+static int is_page(const thp_node *node, uint64_t page, uint32_t whole, uint32_t pins, uint32_t partly, uint32_t split, uint32_t list, uint32_t caller) {
+    thp_page_state state = {9, 9, 9, 9, 9, 9};
+    ANSWERS(thp_node_page(node, page, &state), THP_OK);
+    return state.whole_mapcount == whole && state.pins == pins && state.partly_mapped == partly && state.split == split && state.list == list &&
+           state.caller == caller;
+}
+
+/* the states of pages and the queue, through a const handle: a reader leaves the node where it is, which the sanitizers watch */
+static void readers(void) {
+    thp_node node = small_node(8);
+    const thp_node *const seen = &node;
+    thp_page_state state = {9, 9, 9, 9, 9, 9};
+    thp_tried tried;
+    thp_back back;
+    thp_done done;
+    uint32_t own = 9, count = 9;
+    uint64_t pages[6] = {9, 9, 9, 9, 9, 9};
+    ANSWERS(thp_node_queue(seen, NULL, 0, &count), THP_OK);
+    WANT(count == 0);
+    ANSWERS(thp_node_page(seen, 0, &state), THP_NO_PAGE);
+    WANT(state.whole_mapcount == 9 && state.caller == 9);
+    for (uint64_t k = 0; k < 5; k++) WANT(queued_page(&node, 0) == k);
+    ANSWERS(thp_node_alloc(&node, 0, pages), THP_OK);
+    ANSWERS(thp_node_map_whole(&node, 0, 5), THP_OK);
+    ANSWERS(thp_node_pin(&node, 0, 5), THP_OK);
+    ANSWERS(thp_node_map_sub(&node, 0, 1, 2, 2), THP_OK);
+    WANT(is_page(seen, 5, 2, 1, 0, 0, THP_LIST_NONE, 0));
+    WANT(is_page(seen, 1, 0, 0, 1, 0, THP_LIST_QUEUE, 0));
+    for (uint32_t i = 0; i < 4; i++) {
+        ANSWERS(thp_node_mapcount(seen, 1, i, &own), THP_OK);
+        WANT(own == (i == 0 ? 0 : i == 1 ? 1 : 2));
+    }
+    ANSWERS(thp_node_mapcount(seen, 1, 4, &own), THP_BAD_RANGE);
+    ANSWERS(thp_node_mapcount(seen, 6, 4, &own), THP_NO_PAGE);
+    ANSWERS(thp_node_mapcount(seen, UINT64_MAX, UINT32_MAX, &own), THP_NO_PAGE);
+    WANT(own == 2);
+    /* page 0 is pinned and goes back behind the others, page 1 is split, page 3 is freed */
+    ANSWERS(thp_node_pin(&node, 0, 0), THP_OK);
+    ANSWERS(thp_node_take(&node, 63, 2, &count), THP_OK);
+    WANT(is_page(seen, 0, 0, 1, 1, 0, THP_LIST_FLIGHT, 63));
+    ANSWERS(thp_node_split_next(&node, 63, &tried), THP_OK);
+    ANSWERS(thp_node_split_next(&node, 63, &tried), THP_OK);
+    WANT(is_page(seen, 1, 0, 0, 1, 1, THP_LIST_NONE, 0));
+    ANSWERS(thp_node_put_back(&node, 63, &back), THP_OK);
+    ANSWERS(thp_node_unmap_sub(&node, 0, 3, 1, 3, &done), THP_OK);
+    ANSWERS(thp_node_page(seen, 3, &state), THP_NO_PAGE);
+    for (size_t room = 0; room <= 6; room++) {
+        static const uint64_t queue[] = {2, 4, 0};
+        for (size_t k = 0; k < 6; k++) pages[k] = 9;
+        count = 9;
+        ANSWERS(thp_node_queue(seen, room != 0 ? pages : NULL, room, &count), THP_OK);
+        WANT(count == 3);
+        for (size_t k = 0; k < 6; k++) WANT(pages[k] == (k < room && k < 3 ? queue[k] : 9));
+    }
+    ANSWERS(thp_node_destroy(&node), THP_OK);
+}
+
 /* a page that is queued since it was allocated, and is found in use */
 static void underused(void) {
     thp_node node = EMPTY;
@@ -426,6 +499,7 @@ int main(void) {
     pages();
     batches();
     batches_of_callers();
+    readers();
     underused();
     journals();
     texts();

@@ -32,6 +32,7 @@ static thp_pass small_cell(uint32_t pages, uint32_t callers) {
 static void nulls(void) {
     thp_pass pass = small_cell(1, 2);
     uint64_t page;
+    uint32_t number;
     ANSWERS(thp_cell_create(NULL, 1, 2, 2, 1), THP_NULL);
     ANSWERS(thp_cell_finish(NULL, NULL), THP_NULL);
     ANSWERS(thp_cell_finish(&pass, NULL), THP_NULL);
@@ -58,6 +59,9 @@ static void nulls(void) {
     ANSWERS(thp_pass_put_back(&pass, 0, NULL), THP_NULL);
     ANSWERS(thp_pass_abandon(NULL, 0), THP_NULL);
     ANSWERS(thp_pass_count(&pass, NULL), THP_NULL);
+    ANSWERS(thp_pass_callers(NULL, &number, &number), THP_NULL);
+    ANSWERS(thp_pass_callers(&pass, NULL, &number), THP_NULL);
+    ANSWERS(thp_pass_callers(&pass, &number, NULL), THP_NULL);
     ANSWERS(thp_pass_destroy(&pass), THP_OK);
 }
 
@@ -91,6 +95,7 @@ static void empty_handles(void) {
     ANSWERS(thp_pass_put_back(&pass, 0, &back), THP_EMPTY);
     ANSWERS(thp_pass_abandon(&pass, 0), THP_EMPTY);
     ANSWERS(thp_pass_count(&pass, &pages), THP_EMPTY);
+    ANSWERS(thp_pass_callers(&pass, &pages, &pages), THP_EMPTY);
     WANT(tried.page == 7 && back.dropped == 7);
     WANT(page == 7 && pages == 7 && done.outcome == 7 && done.released[7] == 7 && scan.taken == 7);
 }
@@ -127,6 +132,30 @@ static void refused(void) {
     ANSWERS(thp_pass_destroy(&pass), THP_EMPTY);
     ANSWERS(thp_pass_destroy(&stranger), THP_OK);
     ANSWERS(thp_pass_destroy(&strangers), THP_OK);
+}
+
+/* the callers of a pass, before and after it is divided and joined, and when that is refused */
+static void callers_are(const thp_pass *pass, uint32_t from, uint32_t to) {
+    uint32_t first = 99, end = 99;
+    ANSWERS(thp_pass_callers(pass, &first, &end), THP_OK);
+    WANT(first == from && end == to);
+}
+
+static void callers(void) {
+    thp_pass pass = small_cell(1, 64), middle = NO_PASS, last = NO_PASS;
+    callers_are(&pass, 0, 64);
+    ANSWERS(thp_pass_split(&pass, 10, &middle), THP_OK);
+    ANSWERS(thp_pass_split(&middle, 63, &last), THP_OK);
+    callers_are(&pass, 0, 10);
+    callers_are(&middle, 10, 63);
+    callers_are(&last, 63, 64);
+    ANSWERS(thp_pass_join(&pass, &last), THP_BAD_PASS);
+    callers_are(&pass, 0, 10);
+    ANSWERS(thp_pass_join(&pass, &middle), THP_OK);
+    callers_are(&pass, 0, 63);
+    ANSWERS(thp_pass_destroy(&pass), THP_OK);
+    callers_are(&last, 63, 64);
+    ANSWERS(thp_pass_destroy(&last), THP_OK);
 }
 
 static void faults(void) {
@@ -296,6 +325,7 @@ int main(void) {
     nulls();
     empty_handles();
     refused();
+    callers();
     faults();
     batches();
     WANT(blocks == 0);

@@ -5,7 +5,8 @@
  *
  * a word for each node, UNDERUSED a threshold or off. The script has no fault, and its sections are done one after the other. With
  * `passes` each node is shared by two, which are joined and divided elsewhere before each command. Beside the script's own lines there
- * may be `as CALLER`: what follows is that caller's, and the others keep their open batches. */
+ * may be `as CALLER`: what follows is that caller's, and the others keep their open batches; and, with `nodes`, `look`, which writes the
+ * first node's queue and the state of each of its live pages. */
 #include <inttypes.h>
 #include <stdbool.h>
 #include <stdio.h>
@@ -62,11 +63,46 @@ static void put_tried(const thp_tried *tried) {
     else printf("%s %" PRIu64 "\n", kinds[tried->kind], tried->page);
 }
 
+/* the pass has these callers */
+static void has_callers(const thp_pass *pass, uint32_t from, uint32_t to) {
+    uint32_t first, end;
+    if (thp_pass_callers(pass, &first, &end) != THP_OK || first != from || end != to) fail("other callers");
+}
+
 /* passes that were divided are so at the next place */
 static void divide(place *at) {
     if (thp_pass_join(&at->lower, &at->upper) != THP_OK) fail("no joint");
     at->at = at->at % (CALLERS - 1) + 1;
     if (thp_pass_split(&at->lower, at->at, &at->upper) != THP_OK) fail("no division");
+    has_callers(&at->lower, 0, at->at);
+    has_callers(&at->upper, at->at, CALLERS);
+}
+
+/* a node's queue, read with every room up to its length, and its live pages */
+static void look(const thp_node *node) {
+    enum { MOST = 4096 };
+    static uint64_t pages[MOST], part[MOST];
+    uint32_t count, again, own;
+    thp_stats stats;
+    if (thp_node_queue(node, pages, MOST, &count) != THP_OK) fail("no queue");
+    printf("queue");
+    for (uint32_t k = 0; k < count; k++) printf(" %" PRIu64, pages[k]);
+    printf("\n");
+    for (size_t room = 0; room <= count; room++) {
+        if (thp_node_queue(node, part, room, &again) != THP_OK || again != count) fail("another length");
+        if (memcmp(pages, part, room * sizeof *part) != 0) fail("another queue");
+    }
+    if (thp_node_stats(node, &stats) != THP_OK) fail("no statistics");
+    for (uint64_t page = 0; page <= stats.allocations; page++) {
+        thp_page_state state;
+        const thp_code code = thp_node_page(node, page, &state);
+        if (code != THP_OK && code != THP_NO_PAGE) fail("no state");
+        if (code != THP_OK) continue;
+        printf("page %" PRIu64 " whole %" PRIu32 " pins %" PRIu32 " partly %" PRIu32 " split %" PRIu32 " list %" PRIu32 " %" PRIu32 " own", page,
+               state.whole_mapcount, state.pins, state.partly_mapped, state.split, state.list, state.caller);
+        for (uint32_t i = 0; thp_node_mapcount(node, page, i, &own) == THP_OK; i++) printf(" %" PRIu32, own);
+        printf("\n");
+    }
 }
 
 /* the pass of a caller, divided anew */
@@ -212,6 +248,10 @@ int main(int argc, char **argv) {
             end_section(caller);
             caller = found > 1 ? (uint32_t)strtoul(words[1], NULL, 10) : 0;
             count = 0;
+            continue;
+        }
+        if (strcmp(words[0], "look") == 0) {
+            if (!by_passes) look(&places[0].node);
             continue;
         }
         if (strcmp(words[0], "as") == 0) {

@@ -17,7 +17,7 @@ use crate::pass::Pass;
 /// })).collect();
 /// let passes = threads.into_iter().map(|thread| thread.join().unwrap()).collect();
 /// let cell = Cell::of(passes)?;
-/// let mut node = cell.finish()?;
+/// let node = cell.finish()?;
 /// assert_eq!(node.stats().allocations, 4);
 /// # Ok::<(), Fault>(())
 /// ```

@@ -17,7 +17,7 @@
 //!
 //! The effect of each call on a node is proved; docs/C.md of the repository describes it for each call. The types of this crate
 //! guarantee what the header requires of a program: a handle is never copied, `&mut self` gives it to one call at a time, and
-//! `Drop` frees it exactly once. The library changes a handle during each call, so a handle can move to another thread, but
+//! `Drop` frees it exactly once. One call at a time may use a handle, even to read, so a handle can move to another thread, but
 //! threads can't share it: they share a node by its passes.
 //!
 //! ```compile_fail,E0277
@@ -59,7 +59,7 @@ pub use batch::{Batch, HasBatches};
 pub use cell::Cell;
 pub use check::Check;
 pub use fault::Fault;
-pub use node::{Back, Done, Node, Outcome, Scan, Stats, SubSet, Tried};
+pub use node::{Back, Done, List, Node, Outcome, PageState, Scan, Stats, SubSet, Tried};
 pub use pass::Pass;
 
 use std::ffi::CStr;

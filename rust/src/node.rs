@@ -154,6 +154,46 @@ pub struct Stats {
     pub split_pmd: u64,
 }
 
+/// The list that a page is on.
+#[derive(Clone, Copy, PartialEq, Eq, Hash, Debug)]
+#[non_exhaustive]
+pub enum List {
+    /// No list.
+    Nowhere,
+    /// The deferred split queue.
+    Queue,
+    /// The flight of this caller: a take took the page, and nothing has removed it since.
+    Flight(u32),
+}
+
+/// The state of a live page.
+#[derive(Clone, Copy, PartialEq, Eq, Hash, Debug)]
+#[non_exhaustive]
+pub struct PageState {
+    /// The whole map count: the number of PMD entries that map the page.
+    pub whole_mapcount: u32,
+    /// The number of pins.
+    pub pins: u32,
+    /// Whether the page is partly mapped.
+    pub partly_mapped: bool,
+    /// Whether the page was split into base pages.
+    pub split: bool,
+    /// The list that the page is on.
+    pub list: List,
+}
+
+impl PageState {
+    fn of(told: sys::PageState) -> PageState {
+        let sys::PageState { whole_mapcount, pins, partly_mapped, split, list, caller } = told;
+        let list = match list {
+            0 => List::Nowhere,
+            1 => List::Queue,
+            _ => List::Flight(caller),
+        };
+        PageState { whole_mapcount, pins, partly_mapped: partly_mapped != 0, split: split != 0, list }
+    }
+}
+
 /// A memory node: its huge pages, their deferred split queue, and the journal of every call that changed them.
 ///
 /// Callers are numbered from 0 to 63; a greater number fails with [`Fault::BadCaller`]. A call that records events can also fail
@@ -319,20 +359,49 @@ impl Node {
         done(unsafe { sys::thp_node_reserve(&mut self.handle, events) })
     }
 
-    /// Returns the number of queued pages, which is the shrinker's count. It takes `&mut self` because the library changes the
-    /// handle during each call.
-    pub fn queue_length(&mut self) -> u32 {
+    /// Returns the number of queued pages, which is the shrinker's count.
+    pub fn queue_length(&self) -> u32 {
         let mut pages = 0;
         // SAFETY: the handle is this node's own and is not empty, and the number is a local.
-        unsafe { sys::thp_node_queue_length(&mut self.handle, &mut pages) };
+        unsafe { sys::thp_node_queue_length(&self.handle, &mut pages) };
         pages
     }
 
+    /// Returns the queued pages, oldest first. Reads the journal back to the event that queued the oldest page. Fails with
+    /// [`Fault::OutOfMemory`].
+    pub fn queue(&self) -> Result<Vec<u64>, Fault> {
+        let length = self.queue_length() as usize;
+        let mut pages = Vec::new();
+        pages.try_reserve_exact(length).map_err(|_| Fault::OutOfMemory)?;
+        pages.resize(length, 0);
+        let mut count = 0;
+        // SAFETY: the handle is this node's own, the buffer is the vector's, and the number is a local.
+        done(unsafe { sys::thp_node_queue(&self.handle, pages.as_mut_ptr(), pages.len(), &mut count) })?;
+        Ok(pages)
+    }
+
+    /// Returns the state of a live page. Fails with `NoPage`.
+    pub fn page(&self, page: u64) -> Result<PageState, Fault> {
+        let mut told = sys::PageState::default();
+        // SAFETY: the handle is this node's own, and the result goes to a local.
+        done(unsafe { sys::thp_node_page(&self.handle, page, &mut told) })?;
+        Ok(PageState::of(told))
+    }
+
+    /// Returns the own map count of a subpage of a live page: the number of PTE entries that map it. Fails with `NoPage` or
+    /// `BadRange`.
+    pub fn mapcount(&self, page: u64, subpage: u32) -> Result<u32, Fault> {
+        let mut own = 0;
+        // SAFETY: the handle is this node's own, and the number is a local.
+        done(unsafe { sys::thp_node_mapcount(&self.handle, page, subpage, &mut own) })?;
+        Ok(own)
+    }
+
     /// Returns the node's statistics.
-    pub fn stats(&mut self) -> Stats {
+    pub fn stats(&self) -> Stats {
         let mut told = sys::Stats::default();
         // SAFETY: the handle is this node's own and is not empty, and the result goes to a local.
-        unsafe { sys::thp_node_stats(&mut self.handle, &mut told) };
+        unsafe { sys::thp_node_stats(&self.handle, &mut told) };
         Stats {
             events: told.events,
             allocations: told.allocations,
@@ -348,13 +417,13 @@ impl Node {
     }
 
     /// Returns the journal as text, which [`check`](crate::check) reads. Fails with [`Fault::OutOfMemory`].
-    pub fn journal(&mut self) -> Result<Vec<u8>, Fault> {
+    pub fn journal(&self) -> Result<Vec<u8>, Fault> {
         const TOO_SMALL: u32 = 19;
         let mut text = Vec::new();
         let mut size = 0;
         loop {
             // SAFETY: the handle is this node's own, the buffer is the vector's, and the size is a local.
-            match unsafe { sys::thp_node_journal(&mut self.handle, text.as_mut_ptr(), text.len(), &mut size) } {
+            match unsafe { sys::thp_node_journal(&self.handle, text.as_mut_ptr(), text.len(), &mut size) } {
                 0 => return Ok(text),
                 TOO_SMALL => {
                     text.try_reserve_exact(size).map_err(|_| Fault::OutOfMemory)?;

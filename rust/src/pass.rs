@@ -23,14 +23,12 @@ use crate::sys;
 /// two.unmap_sub(1, page, 0, 256)?;
 /// assert_eq!(one.scan(0, 8)?.split, 1);
 /// one.join(two)?;
-/// let mut node = one.finish()?;
+/// let node = one.finish()?;
 /// assert_eq!(node.stats().frames_given, 256);
 /// # Ok::<(), Fault>(())
 /// ```
 pub struct Pass {
     handle: sys::PassHandle,
-    // as the calls that divide and join the pass leave them
-    callers: Range<u32>,
     // the number of the node's callers
     all: u32,
 }
@@ -49,17 +47,20 @@ impl Pass {
         let mut handle = sys::PassHandle::EMPTY;
         // SAFETY: the handle is local and empty.
         done(unsafe { sys::thp_cell_create(&mut handle, blocks, order, underused.unwrap_or(OFF), callers) })?;
-        Ok(Pass { handle, callers: 0..callers, all: callers })
+        Ok(Pass { handle, all: callers })
     }
 
     /// Returns the callers of the pass.
     pub fn callers(&self) -> Range<u32> {
-        self.callers.clone()
+        let (mut first, mut end) = (0, 0);
+        // SAFETY: the handle is this pass's own and is not empty, and the numbers are locals.
+        unsafe { sys::thp_pass_callers(&self.handle, &mut first, &mut end) };
+        first..end
     }
 
     // Whether the pass has all callers of its node.
     pub(crate) fn has_all(&self) -> bool {
-        self.callers == (0..self.all)
+        self.callers() == (0..self.all)
     }
 
     /// Divides the callers: those below `at` stay, and the result has those from `at` on. Fails with [`Fault::BadCaller`] if
@@ -68,9 +69,7 @@ impl Pass {
         let mut other = sys::PassHandle::EMPTY;
         // SAFETY: the handle is this pass's own, and the other is local and empty.
         done(unsafe { sys::thp_pass_split(&mut self.handle, at, &mut other) })?;
-        let callers = at..self.callers.end;
-        self.callers.end = at;
-        Ok(Pass { handle: other, callers, all: self.all })
+        Ok(Pass { handle: other, all: self.all })
     }
 
     /// Adds the other pass's callers, which must directly follow this one's. Otherwise fails with [`Fault::BadPass`], and then
@@ -78,10 +77,7 @@ impl Pass {
     pub fn join(&mut self, mut other: Pass) -> Result<(), (Pass, Fault)> {
         // SAFETY: each handle is its pass's own, and they are different.
         match done(unsafe { sys::thp_pass_join(&mut self.handle, &mut other.handle) }) {
-            Ok(()) => {
-                self.callers.end = other.callers.end;
-                Ok(())
-            }
+            Ok(()) => Ok(()),
             Err(fault) => Err((other, fault)),
         }
     }
@@ -240,6 +236,6 @@ impl Drop for Pass {
 
 impl fmt::Debug for Pass {
     fn fmt(&self, f: &mut fmt::Formatter<'_>) -> fmt::Result {
-        f.debug_struct("Pass").field("callers", &self.callers).finish_non_exhaustive()
+        f.debug_struct("Pass").field("callers", &self.callers()).finish_non_exhaustive()
     }
 }

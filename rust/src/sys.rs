@@ -84,6 +84,17 @@ pub struct Stats {
     pub split_pmd: u64,
 }
 
+#[repr(C)]
+#[derive(Default)]
+pub struct PageState {
+    pub whole_mapcount: u32,
+    pub pins: u32,
+    pub partly_mapped: u32,
+    pub split: u32,
+    pub list: u32,
+    pub caller: u32,
+}
+
 const _: () = assert!(std::mem::size_of::<Handle>() == 2 * std::mem::size_of::<usize>());
 const _: () = assert!(std::mem::size_of::<PassHandle>() == 2 * std::mem::size_of::<usize>());
 const _: () = assert!(std::mem::size_of::<CheckHandle>() == 2 * std::mem::size_of::<usize>());
@@ -92,6 +103,7 @@ const _: () = assert!(std::mem::size_of::<Scan>() == 24);
 const _: () = assert!(std::mem::size_of::<Tried>() == 16);
 const _: () = assert!(std::mem::size_of::<Back>() == 8);
 const _: () = assert!(std::mem::size_of::<Stats>() == 80);
+const _: () = assert!(std::mem::size_of::<PageState>() == 24);
 
 extern "C" {
     pub fn thp_strerror(code: u32) -> *const c_char;
@@ -121,14 +133,18 @@ extern "C" {
     pub fn thp_node_put_back(node: *mut Handle, caller: u32, back: *mut Back) -> u32;
     pub fn thp_node_abandon(node: *mut Handle, caller: u32) -> u32;
     pub fn thp_node_reserve(node: *mut Handle, events: u32) -> u32;
-    pub fn thp_node_queue_length(node: *mut Handle, pages: *mut u32) -> u32;
-    pub fn thp_node_stats(node: *mut Handle, stats: *mut Stats) -> u32;
-    pub fn thp_node_journal(node: *mut Handle, buffer: *mut u8, capacity: usize, size: *mut usize) -> u32;
+    pub fn thp_node_queue_length(node: *const Handle, pages: *mut u32) -> u32;
+    pub fn thp_node_queue(node: *const Handle, pages: *mut u64, room: usize, count: *mut u32) -> u32;
+    pub fn thp_node_page(node: *const Handle, page: u64, state: *mut PageState) -> u32;
+    pub fn thp_node_mapcount(node: *const Handle, page: u64, subpage: u32, own: *mut u32) -> u32;
+    pub fn thp_node_stats(node: *const Handle, stats: *mut Stats) -> u32;
+    pub fn thp_node_journal(node: *const Handle, buffer: *mut u8, capacity: usize, size: *mut usize) -> u32;
     pub fn thp_cell_create(pass: *mut PassHandle, blocks: u32, order: u32, underused: u32, callers: u32) -> u32;
     pub fn thp_cell_finish(pass: *mut PassHandle, node: *mut Handle) -> u32;
     pub fn thp_pass_destroy(pass: *mut PassHandle) -> u32;
     pub fn thp_pass_split(pass: *mut PassHandle, at: u32, other: *mut PassHandle) -> u32;
     pub fn thp_pass_join(pass: *mut PassHandle, other: *mut PassHandle) -> u32;
+    pub fn thp_pass_callers(pass: *const PassHandle, first: *mut u32, end: *mut u32) -> u32;
     pub fn thp_pass_alloc(pass: *mut PassHandle, caller: u32, page: *mut u64) -> u32;
     pub fn thp_pass_split_pmd(pass: *mut PassHandle, caller: u32, page: u64) -> u32;
     pub fn thp_pass_unmap_sub(pass: *mut PassHandle, caller: u32, page: u64, first: u32, count: u32, done: *mut Done) -> u32;

@@ -1,5 +1,5 @@
 //! Each call of the crate, and what it answers.
-use leversorrel::{check, version, Back, Fault, Node, Outcome, Tried, Verdict};
+use leversorrel::{check, version, Back, Fault, List, Node, Outcome, Tried, Verdict};
 
 #[test]
 fn a_page_is_queued_and_split() -> Result<(), Fault> {
@@ -62,6 +62,36 @@ fn pages_gain_and_lose() -> Result<(), Fault> {
 }
 
 #[test]
+fn pages_and_the_queue_are_read() -> Result<(), Fault> {
+    let mut node = Node::new(4, 2, None)?;
+    for page in 0..3 {
+        assert_eq!(node.alloc(0)?, page);
+        node.split_pmd(0, page)?;
+        node.unmap_sub(0, page, 0, 1)?;
+    }
+    node.alloc(0)?;
+    node.pin(0, 1)?;
+    node.take(7, 2)?;
+    let seen = &node;
+    assert_eq!(seen.queue()?, [2]);
+    let page = seen.page(1)?;
+    assert_eq!(
+        (page.whole_mapcount, page.pins, page.partly_mapped, page.split, page.list),
+        (0, 1, true, false, List::Flight(7))
+    );
+    assert_eq!((seen.page(2)?.list, seen.page(3)?.list, seen.page(3)?.whole_mapcount), (List::Queue, List::Nowhere, 1));
+    assert_eq!((seen.mapcount(1, 0)?, seen.mapcount(1, 3)?), (0, 1));
+    assert_eq!(
+        (seen.page(4).err(), seen.mapcount(4, 0), seen.mapcount(1, 4)),
+        (Some(Fault::NoPage), Err(Fault::NoPage), Err(Fault::BadRange))
+    );
+    assert_eq!(node.split_next(7)?, Tried::Split(0));
+    assert_eq!(node.put_back(7)?, Back { back: 1, dropped: 0 });
+    assert_eq!((node.page(0)?.split, node.queue()?), (true, vec![2, 1]));
+    Ok(())
+}
+
+#[test]
 fn refusals_have_their_names() {
     assert_eq!(Node::new(0, 9, None).err(), Some(Fault::BadSize));
     assert_eq!(Node::new(1, 9, Some(512)).err(), Some(Fault::BadSize));
@@ -78,7 +108,7 @@ fn refusals_have_their_names() {
 fn a_node_goes_to_another_thread_and_back() -> Result<(), Fault> {
     let mut node = Node::new(4, 9, None)?;
     let page = node.alloc(0)?;
-    let mut node = std::thread::spawn(move || node.pin(1, page).map(|()| node)).join().unwrap()?;
+    let node = std::thread::spawn(move || node.pin(1, page).map(|()| node)).join().unwrap()?;
     assert_eq!(node.stats().events, 2);
     Ok(())
 }

@@ -5,6 +5,7 @@ use leversorrel::{check, Back, Cell, Fault, Outcome, Pass, Tried, Verdict};
 fn two_passes_have_one_journal() -> Result<(), Fault> {
     let mut one = Pass::of_new_cell(16, 2, None, 3)?;
     let mut two = one.split(2)?;
+    assert_eq!((one.callers(), two.callers()), (0..2, 2..3));
     for caller in [0, 1] {
         let page = one.alloc(caller)?;
         two.split_pmd(2, page)?;
@@ -16,7 +17,8 @@ fn two_passes_have_one_journal() -> Result<(), Fault> {
     let done = one.unmap_sub(0, 1, 2, 2)?;
     assert_eq!((done.outcome, done.released.len()), (Outcome::Freed, 2));
     one.join(two)?;
-    let mut node = one.finish()?;
+    assert_eq!(one.callers(), 0..3);
+    let node = one.finish()?;
     assert_eq!(node.stats().split_page, 2);
     assert_eq!(check(&node.journal()?)?, Verdict::Legal);
     Ok(())
@@ -32,7 +34,7 @@ fn four_threads_share_a_node() -> Result<(), Fault> {
     for thread in threads.into_iter().rev() {
         first.join(thread.join().expect("a thread ended")?).map_err(|(_, fault)| fault)?;
     }
-    let mut node = first.finish().map_err(|(_, fault)| fault)?;
+    let node = first.finish().map_err(|(_, fault)| fault)?;
     assert_eq!((node.stats().allocations, node.stats().frames_held), (400, 0));
     assert_eq!(check(&node.journal()?)?, Verdict::Legal);
     Ok(())

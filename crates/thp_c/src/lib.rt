@@ -2,7 +2,7 @@
 //!
 //! Each export is a call of `thp_capi` under that call's contract, and nothing else; what a call does is proved there.
 //!
-//! - `node`, `page_calls` (about one page, of nodes and of passes), `pass`, `pass_batches`, `check`.
+//! - `node`, `node_readers`, `page_calls` (about one page, of nodes and of passes), `pass`, `pass_batches`, `check`.
 //!
 //! `c/thp.h` declares the library, `c/thp.c` wraps the exports; docs/C.md states, call by call, what is proved and what a C
 //! program must ensure.
@@ -10,6 +10,7 @@
 
 mod check;
 mod node;
+mod node_readers;
 mod page_calls;
 mod pass;
 mod pass_batches;

@@ -133,3 +133,19 @@ pub extern "C" fn thp_c_pass_count(handle: &mut ThpPass, alloc: Global, pages: &
 {
     thp_capi::pass_count(handle, alloc, pages)
 }
+
+/// Stores in `first` and `end` the callers of the pass: those from `first` on and below `end`.
+#[unsafe(no_mangle)]
+pub extern "C" fn thp_c_pass_callers(
+    handle: &mut ThpPass,
+    alloc: Global,
+    first: &mut u32,
+    end: &mut u32,
+) -> u32
+    ensures does { PassDoes (pass_of handle.old.held) (pass_of handle.new.held) (pass_answer_of result) (λ old new answer. (new ≡ old) × (answer ≡ Ok tt) × (first.new ≡ old.pass.first) × (end.new ≡ old.pass.end)) }
+    ensures known { IsPassCode result }
+    ensures kept_first { OnErr (pass_answer_of result) (first.new ≡ first.old) }
+    ensures kept_end { OnErr (pass_answer_of result) (end.new ≡ end.old) }
+{
+    thp_capi::pass_callers(handle, alloc, first, end)
+}

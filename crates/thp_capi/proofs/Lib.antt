@@ -5,6 +5,10 @@ mod CheckValues
 mod TextSoFar
 mod Masks
 mod Losses
+mod QueueOrder
+mod QueueBuffer
+mod QueueSteps
+mod Reading
 mod Crossings
 mod PassCrossings
 mod CheckCrossings

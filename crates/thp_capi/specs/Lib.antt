@@ -4,6 +4,8 @@ pub mod OpenBatches
 pub mod Engines
 pub mod Calls
 pub mod Replies
+pub mod Reading
+pub mod Joining
 pub mod NodeHandle
 pub mod PassCodes
 pub mod Sharing

@@ -8,6 +8,9 @@ ghost use Rattle.thp_capi.specs.Calls.{OneCall, Allowed, Loses, ReportsOutcome, 
 ghost use Rattle.thp_capi.specs.Engines.{NoneOpen, OthersOpen, open_of};
 ghost use Rattle.thp_capi.specs.Replies.{stats_of};
 
+mod queue_reader;
+mod readers;
+
 use crate::codes::Fault;
 use crate::open_batches::{is_open, none_open, put_at, take_at};
 use crate::stats::{ThpStats, narrow};

@@ -3,8 +3,8 @@
 //! A C program holds a handle, a struct in its own memory: a pointer and a mark. What the handle owns is its ghost value; the
 //! contract of each call states what it did to that. `thp_c` exports each call; docs/C.md has what is proved, call by call.
 //!
-//! - Nodes: `node_calls`, `engine` (a node and its open batches), `node_handle`, `replies`, `stats`; `Calls`, `Replies`,
-//!   `Engines`, `NodeHandle`. `loose`: a box as its pointer.
+//! - Nodes: `node_calls`, `node_readers`, `engine` (a node and its open batches), `node_handle`, `replies`, `page_state`, `stats`;
+//!   `Calls`, `Reading`, `Replies`, `Engines`, `NodeHandle`. `raw_box`: a box as its pointer.
 //! - Shared nodes: `pass_calls`, `pass_batch_calls`, `shared_pass`, `open_batches`, `pass_handle`, `pass_box`; `Passes`,
 //!   `Sharing`, `PassBatches`, `PassHandle`, `OpenBatches` (of nodes, too).
 //! - Checks: `checks` (a whole text; `Checks`), `check_calls`, `check_handle`, `check_box` (in parts; `LongChecks`,
@@ -23,7 +23,9 @@ mod codes;
 mod engine;
 mod node_calls;
 mod node_handle;
+mod node_readers;
 mod open_batches;
+mod page_state;
 mod pass_batch_calls;
 mod pass_box;
 mod pass_calls;
@@ -46,10 +48,12 @@ pub use node_calls::{
     node_stats, node_take,
 };
 pub use node_handle::ThpNode;
+pub use node_readers::{node_mapcount, node_page, node_queue};
+pub use page_state::ThpPageState;
 pub use pass_batch_calls::{pass_abandon, pass_put_back, pass_split_next, pass_take};
 pub use pass_calls::{
-    cell_create, cell_finish, pass_alloc, pass_close, pass_count, pass_destroy, pass_gain,
-    pass_join, pass_lose, pass_scan, pass_split,
+    cell_create, cell_finish, pass_alloc, pass_callers, pass_close, pass_count, pass_destroy,
+    pass_gain, pass_join, pass_lose, pass_scan, pass_split,
 };
 pub use pass_codes::PassFault;
 pub use pass_handle::ThpPass;

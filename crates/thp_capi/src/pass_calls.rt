@@ -317,3 +317,28 @@ pub fn pass_count(handle: &mut ThpPass, alloc: Global, pages: &mut u32) -> u32
         Err(fault) => pass_code(Err(fault)),
     }
 }
+
+/// Stores in `first` and `end` the callers of the pass: those from `first` on and below `end`.
+pub fn pass_callers(handle: &mut ThpPass, alloc: Global, first: &mut u32, end: &mut u32) -> u32
+    ensures does { PassDoes (pass_of handle.old.held) (pass_of handle.new.held) (pass_answer_of result) (λ old new answer. (new ≡ old) × (answer ≡ Ok tt) × (first.new ≡ old.pass.first) × (end.new ≡ old.pass.end)) }
+    ensures known { IsPassCode result }
+    ensures kept_first { OnErr (pass_answer_of result) (first.new ≡ first.old) }
+    ensures kept_end { OnErr (pass_answer_of result) (end.new ≡ end.old) }
+{
+    let Some(room) = handle.lend(alloc) else {
+        return pass_code(Err(PassFault::Plain(Fault::Empty)));
+    };
+    let answer = match &room.shared {
+        Some(shared) => Ok(shared.callers()),
+        None => Err(PassFault::Plain(Fault::Empty)),
+    };
+    *handle = ThpPass::of_room(room);
+    match answer {
+        Ok((from, to)) => {
+            *first = from;
+            *end = to;
+            pass_code(Ok(()))
+        }
+        Err(fault) => pass_code(Err(fault)),
+    }
+}

@@ -177,6 +177,14 @@ impl SharedPass {
         self.cell.count(&mut self.pass)
     }
 
+    /// Returns the callers of the pass: the first of them, and the end before which the last is.
+    pub fn callers(&self) -> (u32, u32)
+        ensures first { result.0 ≡ self.now.pass.first }
+        ensures end { result.1 ≡ self.now.pass.end }
+    {
+        self.pass.callers()
+    }
+
     /// Divides the callers of the pass at this one. Open batches stay with their callers.
     pub fn split(
         self,

@@ -1,0 +1,105 @@
+-- What a node's table reports of a page is what the journal determines.
+use Rattle.std.proofs.Common.{◌≡◌, ◌∙◌, ℕ, ◌<◌, true, false, List, [], ◌∷◌, zero, suc, Option, Some, None, length, ap, sym, subst, refl, arith, get_or}
+use Rattle.std.specs.Prelude.{IfSome}
+use Rattle.std.specs.Int.{from_bool}
+use Rattle.thp_model.specs.Counts.{is_live, is_split, pins, whole}
+use Rattle.thp_model.specs.Pages.{PageState, Tallies}
+use Rattle.thp_model.specs.Places.{has_page, queue, stands}
+use Rattle.thp_model.specs.Underused.{is_partly_mapped}
+use Rattle.thp_model.proofs.Bools.{by_bool, or_first}
+use Rattle.thp_model.proofs.Tallying.{pins_is, whole_is}
+use Rattle.thp_page.specs.declared.standing.Standing.{Standing}
+use Rattle.thp_page.specs.declared.standing.Standing.TheVariants.{Queued}
+use Rattle.thp_page.specs.Slots.{slot_at, page_in, HoldsPage}
+use Rattle.thp_page.specs.Table.{Slot, Table}
+use Rattle.thp_live_pages.specs.Holding.{Fills, HasBlock}
+use Rattle.thp_live_pages.specs.Homes.{block_of, standing_of, LiesWherePlaced}
+use Rattle.thp_live_pages.proofs.Standings.{standing_queued}
+use Rattle.thp_node.specs.JournalLaws.{StandsWhole}
+use Rattle.thp_node.specs.NodeState.{NodeState}
+use Rattle.thp_capi.specs.Reading.{flight_caller, list_number, page_state_of}
+use Rattle.thp_capi.specs.declared.page_state.ThpPageState.{ThpPageState}
+use Rattle.thp_capi.proofs.QueueOrder.{has-append}
+
+-- page p is live, and what the table has of it in block b is what the journal determines
+pub record AtBlock (n : NodeState) (t : Table) (p b : ℕ) : Type 0 where
+  pub slot : Slot
+  pub at : slot_at t b ≡ Some slot
+  pub live : is_live n.journal p ≡ true
+  pub home : block_of n.journal p ≡ Some b
+  pub tallies : Tallies n.shape n.journal p slot.page
+  pub stands_is : slot.standing ≡ standing_of n.shape n.journal p
+
+-- a page that is found in a block
+pub at_block : (n : NodeState) (t : Table) → t ≡ n.table → ((b : ℕ) → Fills n.shape n.journal b (slot_at n.table b)) → LiesWherePlaced n.journal →
+    (p b : ℕ) → HoldsPage (slot_at t b) p → AtBlock n t p b
+at_block n t same fills lies p b held = go (slot_at t b) refl (subst F (sym same) (fills b)) held where
+  F : Table → Type 0
+  F = λ u. Fills n.shape n.journal b (slot_at u b)
+
+  go : (o : Option Slot) → slot_at t b ≡ o → Fills n.shape n.journal b o → HoldsPage o p → AtBlock n t p b
+  go None e f i = absurd i
+  go (Some y) e f i =
+      let home : block_of n.journal p ≡ Some b = ap (block_of n.journal) (sym i) ∙ f.home in
+      let N : ℕ → Type 0 = λ m. Tallies n.shape n.journal m y.page in
+      record {
+        slot = y;
+        at = e;
+        live = ((lies p b).0 home).0;
+        home = home;
+        tallies = subst N i f.tallies;
+        stands_is = f.stands ∙ ap (standing_of n.shape n.journal) i;
+      }
+
+-- what is read of it
+pub page_is : (n : NodeState) (t : Table) (p b : ℕ) (w : AtBlock n t p b) (x : PageState) → Some x ≡ page_in (slot_at t b) → Tallies n.shape n.journal p x
+page_is n t p b w x e =
+    let there : Some x ≡ Some w.slot.page = e ∙ ap page_in w.at in
+    let P : PageState → Type 0 = λ z. Tallies n.shape n.journal p z in
+    subst P (sym (same x w.slot.page there)) w.tallies where
+      same : (x y : PageState) → Some x ≡ Some y → x ≡ y
+      same x y e = cc
+
+pub standing_is : (n : NodeState) (t : Table) (p b : ℕ) (w : AtBlock n t p b) (d : Standing) → IfSome (slot_at t b) (λ s. d ≡ s.standing) → d ≡ standing_of n.shape n.journal p
+standing_is n t p b w d e = let I : Option Slot → Type 0 = λ o. IfSome o (λ s. d ≡ s.standing) in subst I w.at e ∙ w.stands_is
+
+-- a block in use is one of the node's
+pub inside_blocks : (n : NodeState) (t : Table) (p b : ℕ) → AtBlock n t p b → b < length t.slots
+inside_blocks n t p b w = go t.slots b w.slot w.at where
+  go : (os : List (Option Slot)) (k : ℕ) (y : Slot) → get_or os k None ≡ Some y → k < length os
+  go [] k y e = absurd (cc)
+  go (o ∷ os) zero y e = omega arith
+  go (o ∷ os) (suc k) y e = omega (arith, go os k y e)
+
+-- a page that is in no block is not live
+pub unseen : (n : NodeState) (t : Table) → t ≡ n.table → ((p : ℕ) → is_live n.journal p ≡ true → HasBlock n.table p) →
+    (p : ℕ) → ((b : ℕ) → HoldsPage (slot_at t b) p → ⊥) → is_live n.journal p ≡ false
+unseen n t same has p none = by_bool (is_live n.journal p) _ (λ y. absurd (go (subst H (sym same) (has p y)))) (λ y. y) where
+  H : Table → Type 0
+  H = λ u. HasBlock u p
+
+  go : HasBlock t p → ⊥
+  go w = none w.0 w.1
+
+-- one that is not live is not queued
+pub unqueued : (n : NodeState) → StandsWhole n.shape n.journal → (p : ℕ) → is_live n.journal p ≡ false → has_page p (queue n.shape n.journal) ≡ false
+unfolding StandsWhole
+unqueued n whole_pages p gone = by_bool (has_page p (queue n.shape n.journal)) _ (λ y. absurd (let live = (whole_pages p (stood y)).0 in cc)) (λ y. y) where
+  stood : has_page p (queue n.shape n.journal) ≡ true → stands n.shape n.journal p ≡ true
+  stood y = has-append p (queue n.shape n.journal) _ ∙ or_first _ _ y
+
+-- one that is on another list is not queued
+pub elsewhere : (n : NodeState) (p : ℕ) (d : Standing) → d ≡ standing_of n.shape n.journal p → (d ≡ Queued → ⊥) → has_page p (queue n.shape n.journal) ≡ false
+elsewhere n p d is other = by_bool (has_page p (queue n.shape n.journal)) _ (λ y. absurd (other (is ∙ standing_queued n.shape n.journal p y))) (λ y. y)
+
+-- the numbers of a page's state
+pub state_is : (n : NodeState) (p : ℕ) (x : PageState) (w : Standing) (t : ThpPageState) → Tallies n.shape n.journal p x → w ≡ standing_of n.shape n.journal p →
+    t.whole_mapcount ≡ x.whole → t.pins ≡ x.pins → t.partly_mapped ≡ from_bool x.partly → t.split ≡ from_bool x.split →
+    t.list ≡ list_number w → t.caller ≡ flight_caller w → t ≡ page_state_of n p
+state_is n p x w t m stands_is a b c d e f =
+    go t (a ∙ sym (whole_is n.shape n.journal p x m)) (b ∙ sym (pins_is n.shape n.journal p x m)) (c ∙ ap from_bool m.partly) (d ∙ ap from_bool m.split)
+    (e ∙ ap list_number stands_is) (f ∙ ap flight_caller stands_is) where
+      go : (t : ThpPageState) → t.whole_mapcount ≡ whole n.journal p → t.pins ≡ pins n.journal p →
+          t.partly_mapped ≡ from_bool (is_partly_mapped n.shape n.journal p) → t.split ≡ from_bool (is_split n.journal p) →
+          t.list ≡ list_number (standing_of n.shape n.journal p) → t.caller ≡ flight_caller (standing_of n.shape n.journal p) → t ≡ page_state_of n p
+      go t a b c d e f = rw (← a, ← b, ← c, ← d, ← e, ← f) refl

@@ -1,0 +1,89 @@
+//! The reader of an engine's queue.
+//!
+//! A node lends its table for reading, and the table's links are read only by calls that count the reads. So the order comes from
+//! the journal: pages are in the queue in the order of the events that queued them last.
+ghost use Rattle.std.specs.Prelude.{◌≡◌, ◌<◌, false, true, IfNone, IfSome, Some, length};
+ghost use Rattle.thp_model.specs.Places.{has_page, queue};
+ghost use Rattle.thp_live_pages.specs.Homes.{block_of};
+ghost use Rattle.thp_capi.specs.Joining.{joins};
+ghost use Rattle.thp_capi.specs.Reading.{filled_with};
+
+use crate::engine::Engine;
+use thp_model::{Outcome, PageId, Shape, What};
+use thp_page::Standing;
+
+impl Engine {
+    /// Stores the queued pages, oldest first, as many as there is room for, and returns the number of queued pages. Reads the
+    /// journal back to the event that queued the oldest page.
+    pub fn queue(&self, pages: &mut [u64]) -> u32
+        ensures length { result ≡ length (queue self.now.node.shape self.now.node.journal) }
+        ensures pages { pages.new ≡ filled_with (queue self.now.node.shape self.now.node.journal) pages.old }
+    {
+        let shape = self.node.shape();
+        let events = self.node.journal();
+        let length = self.node.queue_len();
+        let mut left = length as usize;
+        let mut found = [false; 4096];
+        for at in (0..events.len()).rev() {
+            if left == 0 {
+                return length;
+            }
+            if let Some(page) = joining_page(shape, &events[at].what) {
+                if let Some(block) = self.queued_block(page) {
+                    if !found[block] {
+                        found[block] = true;
+                        left -= 1;
+                        if left < pages.len() {
+                            pages[left] = page.0;
+                        }
+                    }
+                }
+            }
+        }
+        length
+    }
+
+    // The block of a page, if the page is queued.
+    fn queued_block(&self, page: PageId) -> Option<usize>
+        ensures queued { IfSome result (λ b. has_page page (queue self.now.node.shape self.now.node.journal) ≡ true) }
+        ensures home { IfSome result (λ b. block_of self.now.node.journal page ≡ Some b) }
+        ensures inside { IfSome result (λ b. b < 4096) }
+        ensures none { IfNone result (has_page page (queue self.now.node.shape self.now.node.journal) ≡ false) }
+    {
+        // Shows the proof that the queued pages are live, and that there are at most 4,096 blocks.
+        self.node.laws();
+        let _ = self.node.shape();
+        let table = self.node.table();
+        let Some(block) = table.block_of(page) else {
+            return None;
+        };
+        match table.standing(block) {
+            Standing::Queued => Some(block as usize),
+            Standing::Nowhere => None,
+            Standing::Batch(_) => None,
+        }
+    }
+}
+
+// The page that an event appends to the queue, if any.
+fn joining_page(shape: Shape, what: &What) -> Option<PageId>
+    ensures { result ≡ joins shape what.now }
+{
+    match *what {
+        What::Alloc { page, .. } => {
+            if shape.shrinks_underused() {
+                Some(page)
+            } else {
+                None
+            }
+        }
+        What::UnmapWhole { outcome, page, .. }
+        | What::UnmapSub { outcome, page, .. }
+        | What::Unpin { outcome, page, .. } => match outcome {
+            Outcome::Queued => Some(page),
+            _ => None,
+        },
+        What::Back { page } => Some(page),
+        _ => None,
+    }
+}

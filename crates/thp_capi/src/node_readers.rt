@@ -1,0 +1,72 @@
+//! The calls that read a node's pages and queue, for C.
+ghost use Rattle.std.specs.Prelude.{◌≡◌, ◌<◌, OnErr, length};
+ghost use Rattle.thp_capi.specs.Codes.{answer_of, answers, answer_with};
+ghost use Rattle.thp_capi.specs.Engines.{Does};
+ghost use Rattle.thp_capi.specs.Reading.{MapcountCall, PageCall, QueueCall};
+
+use crate::codes::{Fault, code};
+use crate::node_handle::ThpNode;
+use crate::page_state::ThpPageState;
+use std::alloc::Global;
+use thp_model::PageId;
+
+/// Stores the state of a live page in `state`.
+pub fn node_page(handle: &mut ThpNode, alloc: Global, page: u64, state: &mut ThpPageState) -> u32
+    ensures does { Does handle.old.held handle.new.held (answer_of result) (λ old new answer. PageCall page old new (answer_with answer state.new)) }
+    ensures known { result < length answers }
+    ensures kept { OnErr (answer_of result) (state.new ≡ state.old) }
+{
+    let Some(engine) = handle.take(alloc) else {
+        return code(Err(Fault::Empty));
+    };
+    let answer = engine.page(PageId(page));
+    *handle = ThpNode::store(engine);
+    match answer {
+        Ok(found) => {
+            *state = found;
+            code(Ok(()))
+        }
+        Err(fault) => code(Err(fault)),
+    }
+}
+
+/// Stores the own map count of a subpage of a live page in `own`: the number of PTE entries that map it.
+pub fn node_mapcount(
+    handle: &mut ThpNode,
+    alloc: Global,
+    page: u64,
+    subpage: u32,
+    own: &mut u32,
+) -> u32
+    ensures does { Does handle.old.held handle.new.held (answer_of result) (λ old new answer. MapcountCall page subpage old new (answer_with answer own.new)) }
+    ensures known { result < length answers }
+    ensures kept { OnErr (answer_of result) (own.new ≡ own.old) }
+{
+    let Some(engine) = handle.take(alloc) else {
+        return code(Err(Fault::Empty));
+    };
+    let answer = engine.mapcount(PageId(page), subpage);
+    *handle = ThpNode::store(engine);
+    match answer {
+        Ok(count) => {
+            *own = count;
+            code(Ok(()))
+        }
+        Err(fault) => code(Err(fault)),
+    }
+}
+
+/// Stores in `pages` the queued pages, oldest first, as many as there is room for, and in `count` the number of queued pages.
+pub fn node_queue(handle: &mut ThpNode, alloc: Global, pages: &mut [u64], count: &mut u32) -> u32
+    ensures does { Does handle.old.held handle.new.held (answer_of result) (QueueCall pages.old pages.new count.new) }
+    ensures known { result < length answers }
+    ensures kept_pages { OnErr (answer_of result) (pages.new ≡ pages.old) }
+    ensures kept_count { OnErr (answer_of result) (count.new ≡ count.old) }
+{
+    let Some(engine) = handle.take(alloc) else {
+        return code(Err(Fault::Empty));
+    };
+    *count = engine.queue(pages);
+    *handle = ThpNode::store(engine);
+    code(Ok(()))
+}
