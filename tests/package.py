@@ -182,6 +182,10 @@ def library_differs(packages: list[Path], folder: Path) -> Optional[str]:
     return ", ".join(wrong) or elf_differs(place / name)
 
 
+BINARIES = 9
+"""The binaries of all packages: three programs, the library, and five helpers of the kernel tools."""
+
+
 def binaries_differ(packages: list[Path], folder: Path) -> Optional[str]:
     """What the programs, helpers and libraries of the packages lack of protection; none has symbols, which are in packages apart."""
     if shutil.which("readelf") is None:
@@ -194,7 +198,7 @@ def binaries_differ(packages: list[Path], folder: Path) -> Optional[str]:
     built = [path for path in (folder / "binaries").rglob("*") if is_elf(path)]
     for path in built:
         wrong += weaknesses(path) + ([] if is_stripped(path) else [f"{path.name} isn't stripped"])
-    return "; ".join(wrong) or (None if len(built) == 8 else f"{len(built)} binaries, not 8")
+    return "; ".join(wrong) or (None if len(built) == BINARIES else f"{len(built)} binaries, not {BINARIES}")
 
 
 def lintian(packages: list[Path]) -> Optional[str]:
