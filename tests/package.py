@@ -148,6 +148,17 @@ def unpacked(packages: list[Path], folder: Path) -> tuple[Path, Path]:
     return next((root / "usr/lib").glob("*/libthp.a")).parent, root / "DEBIAN"
 
 
+DEMO = ROOT / "c/demos/first.c"
+"""A program that uses the library."""
+
+
+def oldest_version(symbols: str, source: str) -> str:
+    """The oldest version of the library that has all the calls that a C program makes, by the package's file of symbols."""
+    used = set(re.findall(r"\bthp_\w+", source))
+    since = [found[2] for found in re.finditer(r"^ (thp_\w+)@\S+ ([\d.]+)$", symbols, re.M) if found[1] in used]
+    return max(since, key=lambda number: [int(part) for part in number.split(".")])
+
+
 def needs_differ(packages: list[Path], folder: Path) -> Optional[str]:
     """What is wrong with the dependency of a package with a program that was linked with the packaged library."""
     place, control = unpacked(packages, folder)
@@ -155,12 +166,12 @@ def needs_differ(packages: list[Path], folder: Path) -> Optional[str]:
     (other / "debian").mkdir(parents=True)
     control_text = "Source: other\nMaintainer: nobody <nobody@example.invalid>\n\nPackage: other\nArchitecture: any\n"
     (other / "debian/control").write_text(control_text)
-    words = ["cc", str(ROOT / "c/demos/first.c"), f"-I{control.parent}/usr/include", f"-L{place}", "-lthp", "-o", "first"]
+    words = ["cc", str(DEMO), f"-I{control.parent}/usr/include", f"-L{place}", "-lthp", "-o", "first"]
     for command in (words, ["dpkg-shlibdeps", "-O", f"-S{control.parent}", f"-l{place}", "first"]):
         done = subprocess.run(command, cwd=other, capture_output=True, text=True)
         if done.returncode != 0:
             return f"{command[0]}: {done.stderr.strip()}"
-    wanted = f"{OF_LIBRARY[0]} (>= {version()})"
+    wanted = f"{OF_LIBRARY[0]} (>= {oldest_version((control / 'symbols').read_text(), DEMO.read_text())})"
     return None if wanted in done.stdout.strip().replace("=", ", ", 1).split(", ") else f"{done.stdout.strip()}, not {wanted}"
 
 
@@ -258,7 +269,7 @@ def links(root: Path) -> Optional[str]:
     """What is wrong when a program in C is built with the installed library and run, or None."""
     place = next((root / "usr/lib").glob("*/libthp.so")).parent
     first = root.parent / "first"
-    words = ["cc", str(ROOT / "c/demos/first.c"), f"-I{root}/usr/include", f"-L{place}", "-lthp", "-o", str(first)]
+    words = ["cc", str(DEMO), f"-I{root}/usr/include", f"-L{place}", "-lthp", "-o", str(first)]
     for command in (words, [str(first)]):
         done = subprocess.run(command, capture_output=True, text=True, env={**os.environ, "LD_LIBRARY_PATH": str(place)})
         if done.returncode != 0:
