@@ -58,13 +58,24 @@ struct event {
     char word[16];
 };
 
+/* A caller's batch, as the journal has it. A try is done when the journal tries the page whose turn it is here. Others wait until each page
+ * has had one there: the kernel tries the newest page first, the node the oldest. */
+struct batch {
+    bool is_open;
+    uint32_t count;  /* pages, without those that were freed since */
+    uint32_t wanted; /* tries that the journal has so far */
+    uint32_t tried;  /* tries done here */
+    uint64_t pages[THP_MAX_BATCH];
+};
+
 /* A node under the policy. */
 struct run {
     const struct policy *policy;
     thp_node node;
     uint32_t subpages;
     uint32_t taken, taker;         /* the takes in a row that the journal has here, and their caller */
-    bool is_open[THP_MAX_CALLERS]; /* the callers with open batches, as the journal has them */
+    uint64_t takes[THP_MAX_BATCH]; /* their pages */
+    struct batch batches[THP_MAX_CALLERS];
     uint64_t calls;                /* since the last scan */
     bool is_timed;                 /* an event had its time */
     double last_scan, now;         /* seconds */
@@ -136,23 +147,52 @@ static void scan(struct run *run, uint32_t caller, uint32_t n) {
     run->sums.scans++;
 }
 
-/* Tries the next page of a caller's open batch, if one is left. */
-static void try_next(struct run *run, uint32_t caller) {
-    thp_tried tried;
+/* Does the tries that the journal has had of a caller's open batch, where a page is left. */
+static void do_tries(struct run *run, uint32_t caller) {
+    struct batch *batch = &run->batches[caller];
     uint64_t before = stats_of(run).frames_given;
-    demand(thp_node_split_next(&run->node, caller, &tried));
-    run->sums.split += tried.kind == THP_TRY_SPLIT;
-    run->sums.huge -= tried.kind == THP_TRY_SPLIT;
-    run->sums.failed += tried.kind == THP_TRY_PINNED;
+    for (thp_tried tried; batch->tried < batch->wanted; batch->tried++) {
+        demand(thp_node_split_next(&run->node, caller, &tried));
+        run->sums.split += tried.kind == THP_TRY_SPLIT;
+        run->sums.huge -= tried.kind == THP_TRY_SPLIT;
+        run->sums.failed += tried.kind == THP_TRY_PINNED;
+    }
     run->sums.back += stats_of(run).frames_given - before;
+}
+
+/* Does the tries of a caller's open batch once the journal has had them all. */
+static void do_all_tries(struct run *run, uint32_t caller) {
+    const struct batch *batch = &run->batches[caller];
+    if (batch->is_open && batch->wanted >= batch->count) do_tries(run, caller);
+}
+
+/* A try that the journal has. */
+static void try_page(struct run *run, uint32_t caller, uint64_t page) {
+    struct batch *batch = &run->batches[caller];
+    bool has_turn = batch->tried == batch->wanted && batch->tried < batch->count && batch->pages[batch->tried] == page;
+    batch->wanted++;
+    if (has_turn) do_tries(run, caller);
+    else do_all_tries(run, caller);
+}
+
+/* Removes a page that was freed from a caller's batch. */
+static void leave_batch(struct run *run, uint32_t caller, uint64_t page) {
+    struct batch *batch = &run->batches[caller];
+    for (uint32_t i = batch->tried; batch->is_open && i < batch->count; i++)
+        if (batch->pages[i] == page) {
+            batch->count--;
+            memmove(&batch->pages[i], &batch->pages[i + 1], (batch->count - i) * sizeof *batch->pages);
+            do_all_tries(run, caller);
+        }
 }
 
 /* Ends a caller's open batch: puts back what is left of it. */
 static void end_batch(struct run *run, uint32_t caller) {
     thp_back back;
-    if (!run->is_open[caller]) return;
+    if (!run->batches[caller].is_open) return;
+    do_tries(run, caller);
     demand(thp_node_put_back(&run->node, caller, &back));
-    run->is_open[caller] = false;
+    run->batches[caller].is_open = false;
 }
 
 /* Does the takes in a row that the journal had: by a batch that stays open, or as a scan where the policy changes how many are taken. */
@@ -169,7 +209,9 @@ static void end_takes(struct run *run) {
     }
     end_batch(run, run->taker);
     demand(thp_node_take(&run->node, run->taker, n, &taken));
-    run->is_open[run->taker] = true;
+    struct batch *batch = &run->batches[run->taker];
+    *batch = (struct batch){.is_open = true, .count = taken};
+    memcpy(batch->pages, run->takes, sizeof run->takes);
     run->sums.scans++;
 }
 
@@ -266,6 +308,7 @@ static void call_page(struct run *run, const struct event *event) {
         demand(code);
         is_same = page.split ? call_split(run, event, &done) : call_whole(run, event, &page, &done);
         run->sums.huge -= done.outcome == THP_FREED && !page.split;
+        if (done.outcome == THP_FREED && page.list == THP_LIST_FLIGHT) leave_batch(run, page.caller, event->page);
     }
     run->sums.changed += !is_same;
 }
@@ -275,12 +318,16 @@ static void follow_scan(struct run *run, const struct event *event) {
     if (!strcmp(event->word, "taken")) {
         if (run->taken && run->taker != event->caller) end_takes(run);
         run->taker = event->caller;
+        if (run->taken < THP_MAX_BATCH) run->takes[run->taken] = event->page;
         run->taken++;
     } else {
         end_takes(run);
-        if (!run->is_open[event->caller]) return;
-        if (!strcmp(event->word, "back") || !strcmp(event->word, "dropped")) end_batch(run, event->caller);
-        else try_next(run, event->caller);
+        if (!run->batches[event->caller].is_open) return;
+        if (!strcmp(event->word, "back") || !strcmp(event->word, "dropped")) {
+            end_batch(run, event->caller);
+        } else {
+            try_page(run, event->caller, event->page);
+        }
     }
 }
 
@@ -328,6 +375,8 @@ static void begin(struct run *run, const struct policy *policy, const char *text
 /* Ends a node, and prints its numbers. */
 static void end(struct run *run) {
     end_takes(run);
+    for (uint32_t caller = 0; caller < THP_MAX_CALLERS; caller++)
+        if (run->batches[caller].is_open) do_tries(run, caller);
     const struct sums *sums = &run->sums;
     printf("node %" PRIu64 " %" PRIu64 " %" PRIu64 " %" PRIu64 " %" PRIu64 " %.3f %.6f %" PRIu64 " %" PRIu64 "\n", sums->scans,
            sums->split, sums->failed, sums->back, sums->peak, sums->held, sums->weight, sums->huge, sums->changed);
@@ -337,12 +386,24 @@ static void end(struct run *run) {
     demand(thp_node_destroy(&run->node));
 }
 
+/* Reads a number and the space after it; 0 where there is none. */
+static uint64_t number_at(const char **text) {
+    uint64_t number = 0;
+    for (; **text >= '0' && **text <= '9'; ++*text) number = 10 * number + (uint64_t)(**text - '0');
+    if (**text == ' ') ++*text;
+    return number;
+}
+
 /* Reads an event's line. */
 static struct event event_of(const char *text) {
-    struct event event = {0};
-    int words = sscanf(text, "%" SCNu32 " %15s %" SCNu64 " %" SCNu32 " %" SCNu32, &event.caller, event.word, &event.page,
-                       &event.first, &event.count);
-    if (words < 2 || event.caller >= THP_MAX_CALLERS) fail(1, "no event");
+    struct event event = {.caller = (uint32_t)number_at(&text)};
+    size_t length = strcspn(text, " \n");
+    if (length == 0 || length >= sizeof event.word || event.caller >= THP_MAX_CALLERS) fail(1, "no event");
+    memcpy(event.word, text, length);
+    text += length + (text[length] == ' ');
+    event.page = number_at(&text);
+    event.first = (uint32_t)number_at(&text);
+    event.count = (uint32_t)number_at(&text);
     return event;
 }
 
