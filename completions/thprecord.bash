@@ -8,12 +8,12 @@ _thprecord() {
         fi
     done
     case $before in
-    --checker | --program | --out | --records) COMPREPLY=($(compgen -f -- "$word")); return ;;
+    --checker | --program | --out | --times | --records) COMPREPLY=($(compgen -f -- "$word")); return ;;
     --underused) COMPREPLY=($(compgen -W 'off as-is' -- "$word")); return ;;
     --user) COMPREPLY=($(compgen -u -- "$word")); return ;;
     --own | --order | --groups | --every | --collapse | --tamper | --least | --seconds | --events) COMPREPLY=(); return ;;
     esac
     COMPREPLY=($(compgen -W '--checker --program --own --order --groups --underused --every --collapse --compact --straighten
-        --out --records --tamper --least --seconds --events --user --wait --help --version --' -- "$word"))
+        --out --times --records --tamper --least --seconds --events --user --wait --help --version --' -- "$word"))
 }
 complete -F _thprecord thprecord

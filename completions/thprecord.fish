@@ -13,6 +13,7 @@ complete -c thprecord -l collapse -x -d 'The pause of khugepaged, in millisecond
 complete -c thprecord -l compact -d 'Compact all memory with each reclaim'
 complete -c thprecord -l straighten -d 'Allow for the known differences E and B'
 complete -c thprecord -l out -r -F -d 'A new file for the journal'
+complete -c thprecord -l times -r -F -d 'A new file for the times of the events'
 complete -c thprecord -l records -r -F -d 'A new file for the records'
 complete -c thprecord -l tamper -x -d 'Check altered copies of a legal journal'
 complete -c thprecord -l least -x -d 'More seeds until so many events'

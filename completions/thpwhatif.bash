@@ -3,17 +3,18 @@ _thpwhatif() {
     local word=${COMP_WORDS[COMP_CWORD]} before=${COMP_WORDS[COMP_CWORD - 1]} command=${COMP_WORDS[1]} words
     local choice='--pid --cgroup --all --freeze --freeze-limit --wait --memory --orders --queued --no-kernel'
     if [ "$COMP_CWORD" -eq 1 ]; then
-        COMPREPLY=($(compgen -W 'now snapshot what-if target watch verify --help --version' -- "$word"))
+        COMPREPLY=($(compgen -W 'now snapshot what-if target watch verify policies --help --version' -- "$word"))
         return
     fi
     case $before in
     --pid) COMPREPLY=($(compgen -W "$(cd /proc && echo [0-9]*)" -- "$word")); return ;;
     --cgroup | --keep) COMPREPLY=($(compgen -d -- "$word")); return ;;
-    --svg | --facts | -o | --output | --program | --prometheus) COMPREPLY=($(compgen -f -- "$word")); return ;;
+    --svg | --facts | --times | --checker | -o | --output | --program | --prometheus) COMPREPLY=($(compgen -f -- "$word")); return ;;
     --queued) COMPREPLY=($(compgen -W 'seen all' -- "$word")); return ;;
     --enabled) COMPREPLY=($(compgen -W 'always madvise' -- "$word")); return ;;
+    --take) COMPREPLY=($(compgen -W 'recorded all' -- "$word")); return ;;
     --user) COMPREPLY=($(compgen -u -- "$word")); return ;;
-    --thresholds | --rounds | --seed | --pages | --change | --after | --freeze-limit | --memory) COMPREPLY=(); return ;;
+    --thresholds | --threshold | --scan | --best | --rounds | --seed | --pages | --change | --after | --freeze-limit | --memory) COMPREPLY=(); return ;;
     esac
     case $command in
     now) words="$choice --thresholds --json --by-process --by-cgroup --svg --program" ;;
@@ -22,8 +23,9 @@ _thpwhatif() {
     target) words="$choice --json --program" ;;
     watch) words="$choice --rounds --thresholds --json --prometheus --program" ;;
     verify) words='--thresholds --rounds --seed --pages --change --after --user --freeze-limit --wait --running --enabled --no-kernel --keep --verbose --program' ;;
+    policies) words='--threshold --scan --take --times --best --json --svg --checker' ;;
     esac
     COMPREPLY=($(compgen -W "$words --help" -- "$word"))
-    case $command in what-if | target) COMPREPLY+=($(compgen -f -- "$word")) ;; esac
+    case $command in what-if | target | policies) COMPREPLY+=($(compgen -f -- "$word")) ;; esac
 }
 complete -F _thpwhatif thpwhatif

@@ -27,9 +27,8 @@ WITHOUT = (
     "tests/docs.py", "tests/surface.py", "tests/installed.py", "tests/release.py", "tests/lint.py", "linux/tests/run.py",
     "linux/whatif/tests/__main__.py",
 )
-"""The tests of the tree only, and of the tools for the running kernel with stored data. Those of `thpwhatif` use the built
-program
-if there is one."""
+"""The tests of the tree only, and of the tools for the running kernel with stored data. Those of `thpwhatif` use the built program if
+there is one."""
 
 BUILT = ("crates/thpsplit/out/thpsplit", "crates/thpsplit/out/thpsplit.by-rattle")
 """Where `rt ci` leaves the program, built with LLVM and with Rattle's own compiler."""
@@ -131,8 +130,7 @@ class Gate(Tally):
         self.failures: list[str] = []
 
     def add(self, name: str, command: list[str], see: Callable[[str], None] = lambda line: None) -> None:
-        """Runs a command, adds its count, and prints its processor time. A command that ends wrong and counts no failure counts
-        as one
+        """Runs a command, adds its count, and prints its processor time. A command that ends wrong and counts no failure counts as one
         failure."""
         lines: list[str] = []
         began = spent()
@@ -185,6 +183,7 @@ def main() -> None:
     gate.add("archive.py", [sys.executable, "tests/archive.py", ARCHIVE])
     archives = made_since(began, (ARCHIVE,))
     gate.add("library.py", [sys.executable, "tests/library.py", *archives, *(programs[:1] if archives else [])])
+    gate.add("policies", [sys.executable, "linux/whatif/tests/__main__.py", "test_policies.py"])
     checkers = made_since(began, CHECKERS)
     for program in checkers:
         gate.add(f"checker.py {Path(program).name}", [sys.executable, "tests/checker.py", program])

@@ -26,9 +26,9 @@ FLAGS = ("-std=c11", "-O2", "-Wall", "-Wextra", "-Wl,-z,relro", "-Wl,-z,now")
 SECONDS = 60.0  # that a compiler gets
 
 
-def helper(source: str, flags: Sequence[str] = ()) -> str:
+def helper(source: str, flags: Sequence[str] = (), libraries: Sequence[str] = ("-lpthread",)) -> str:
     """Returns the path of the compiled helper of this source, a path below linux/. Unavailable where none can be
-    made."""
+    made. `libraries`: what it is linked with, a word for the compiler or the path of an archive."""
     path = LINUX / source
     name = path.stem + (".so" if "-shared" in flags else "")
     if LINUX.parts[-3:] == INSTALLED and is_trusted(LINUX / "out" / name):
@@ -37,9 +37,9 @@ def helper(source: str, flags: Sequence[str] = ()) -> str:
     if not shutil.which(compiler[0]):
         raise Unavailable(f"no C compiler ({escape(compiler[0] or 'cc')}) for the helper {path.name}")
     words = [*compiler, *FLAGS, *flags]
-    built = own_folder_of_helpers() / f"{hash_of(path, words)}-{name}"
+    built = own_folder_of_helpers() / f"{hash_of(path, words, libraries)}-{name}"
     if not built.exists():
-        compile_helper(words, path, built)
+        compile_helper(words, path, libraries, built)
     return str(built)
 
 
@@ -65,17 +65,19 @@ def own_folder_of_helpers() -> Path:
     return cache / "leversorrel"
 
 
-def hash_of(path: Path, words: List[str]) -> str:
-    """Returns the hash of a source and of the compiler's words."""
-    return hashlib.sha256(path.read_bytes() + b"\0" + "\0".join(words).encode()).hexdigest()[:32]
+def hash_of(path: Path, words: List[str], libraries: Sequence[str]) -> str:
+    """Returns the hash of a source, of the compiler's words and of archives."""
+    parts = [path.read_bytes(), *(word.encode() for word in (*words, *libraries))]
+    parts += [Path(library).read_bytes() for library in libraries if not library.startswith("-")]
+    return hashlib.sha256(b"\0".join(parts)).hexdigest()[:32]
 
 
-def compile_helper(words: List[str], path: Path, built: Path) -> None:
+def compile_helper(words: List[str], path: Path, libraries: Sequence[str], built: Path) -> None:
     """Compiles a helper. It appears under its name once it is whole."""
     part = built.with_name(f"{built.name}.{os.getpid()}")
     try:
         done = subprocess.run(
-            [*words, "-o", str(part), str(path), "-lpthread"], stdin=subprocess.DEVNULL, capture_output=True,
+            [*words, "-o", str(part), str(path), *libraries], stdin=subprocess.DEVNULL, capture_output=True,
             check=False, timeout=SECONDS, cwd="/",
         )
         if done.returncode or not part.exists():

@@ -77,16 +77,17 @@ ENVIRONMENT = {"PATH": os.defpath, "LC_ALL": "C.UTF-8"}  # of the programs that 
 
 
 def start(
-    path: str, options: Sequence[str], stdin: Stream = None, stdout: Stream = None, stderr: Stream = None
+    path: str, options: Sequence[str], stdin: Stream = None, stdout: Stream = None, stderr: Stream = None,
+    inherited: Sequence[int] = (),
 ) -> subprocess.Popen[bytes]:
-    """Starts a program that needs no rights: where this tool is root, as user nobody, in an empty folder. Unavailable
-    where it can't be run."""
+    """Starts a program that needs no rights: where this tool is root, as user nobody, in an empty folder. It inherits these
+    descriptors. Unavailable where it can't be run."""
     user = nobody()
     descriptors: List[int] = []
     try:
         word, descriptors = command_of(path, user)
         return subprocess.Popen(
-            [word, *options], stdin=stdin, stdout=stdout, stderr=stderr, cwd=empty_folder(), pass_fds=descriptors,
+            [word, *options], stdin=stdin, stdout=stdout, stderr=stderr, cwd=empty_folder(), pass_fds=[*descriptors, *inherited],
             env=ENVIRONMENT, **user.rights(),
         )
     except (OSError, ValueError) as error:

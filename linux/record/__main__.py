@@ -101,6 +101,7 @@ class Run:
         journal = JournalFile(builders)
         try:
             self._outputs.write_journal(journal)
+            self._outputs.write_times(time for builder in builders for time in builder.times())
             self._report(recording, builders, journal)
         finally:
             journal.close()

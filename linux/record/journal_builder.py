@@ -78,7 +78,15 @@ class JournalBuilder:
 
     def texts(self) -> Iterator[str]:
         """Returns the journal's lines, without the pages that are left out."""
-        return self._state.texts()
+        return (text for _, text in self._state.timed_texts())
+
+    def times(self) -> Iterator[int]:
+        """Returns the time (ns) of each line. An event is shown by a later record at times, and lines are reordered: none is before
+        the line above it."""
+        latest = 0
+        for time, _ in self._state.timed_texts():
+            latest = max(latest, time)
+            yield latest
 
     def list_mappings(self, space: int) -> List[Mapping]:
         """Returns the mappings of an address space."""

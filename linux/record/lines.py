@@ -4,7 +4,7 @@ temporary file."""
 from __future__ import annotations
 
 import tempfile
-from typing import IO, Dict, Iterator, List, Optional
+from typing import IO, Dict, Iterator, List, Optional, Tuple
 
 from ..common.errors import RunFailed
 from .pages import JournalLine
@@ -51,12 +51,12 @@ class JournalLines:
                 return at
         return -1
 
-    def texts(self, omitted: OmittedPages) -> Iterator[str]:
-        """Yields the text of all lines except those of omitted pages. Pages are numbered by their first lines; omitted pages
-        get no number."""
+    def timed_texts(self, omitted: OmittedPages) -> Iterator[Tuple[int, str]]:
+        """Yields the time (ns) and the text of all lines except those of omitted pages. Pages are numbered by their first lines;
+        omitted pages get no number."""
         numbers: Dict[int, str] = {}  # of the pages that live, by their numbers in `latest` and in the file
         given = 0
-        for text in self._all():
+        for time, text in self._all():
             caller, word, page, *rest = text.split(" ", 3)
             number = int(page)
             if number in omitted:
@@ -64,18 +64,19 @@ class JournalLines:
             if number not in numbers:
                 numbers[number] = str(given)
                 given += 1
-            yield " ".join([caller, word, numbers[number], *rest])
+            yield time, " ".join([caller, word, numbers[number], *rest])
             if rest and rest[0].rpartition(" ")[0].endswith("freed"):
                 del numbers[number]  # this was its last line
 
-    def _all(self) -> Iterator[str]:
+    def _all(self) -> Iterator[Tuple[int, str]]:
         if self._file:
             self._file.flush()
             self._file.seek(0)
             for line in self._file:
-                yield line[:-1].decode("ascii")
+                time, _, text = line[:-1].decode("ascii").partition(" ")
+                yield int(time), text
         for each in self.latest:
-            yield each.text
+            yield each.time, each.text
 
     def _write_oldest(self, count: int) -> None:
         """Writes the oldest lines to the file."""
@@ -83,7 +84,7 @@ class JournalLines:
             if not self._file:
                 self._file = tempfile.TemporaryFile(dir=FOLDER)
             self._file.seek(0, 2)
-            self._file.writelines(line.text.encode("ascii") + b"\n" for line in self.latest[:count])
+            self._file.writelines(f"{line.time} {line.text}\n".encode("ascii") for line in self.latest[:count])
         except OSError as error:
             raise RunFailed(f"the journal can't be written to {FOLDER}: {error.strerror}") from error
         del self.latest[:count]

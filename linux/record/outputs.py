@@ -4,7 +4,7 @@ from __future__ import annotations
 
 import json
 import os
-from typing import IO, List, Optional
+from typing import IO, Iterable, List, Optional
 
 from ..common.errors import InputFault, RunFailed
 from ..common.files import create
@@ -40,13 +40,15 @@ class Output:
 
 
 class Outputs:
-    """The files of --out and --records."""
+    """The files of --out, --times and --records."""
 
     def __init__(self, options: RecordOptions) -> None:
         self._journal: Optional[Output] = None
+        self._times: Optional[Output] = None
         self._records: List[Output] = []
         try:
             self._journal = Output(options.out) if options.out is not None else None
+            self._times = Output(options.times) if options.times is not None else None
             if options.records is not None:
                 for number in range(1, options.groups + 1):
                     self._records.append(Output(options.records + (f".{number}" if number > 1 else "")))
@@ -59,6 +61,13 @@ class Outputs:
         if self._journal:
             journal.copy_to(self._journal.begin())
 
+    def write_times(self, times: Iterable[int]) -> None:
+        """Writes the time of each event of the journal, given in ns, in seconds, and replaces earlier ones."""
+        if self._times:
+            file = self._times.begin()
+            file.writelines(b"%d.%09d\n" % divmod(time, 10 ** 9) for time in times)
+            file.flush()
+
     def write_records(self, stores: List[Store]) -> None:
         """Writes the records of each group, a line of JSON for each, and replaces earlier ones."""
         for output, store in zip(self._records, stores):
@@ -69,5 +78,5 @@ class Outputs:
 
     def close(self) -> None:
         """Closes all files."""
-        for output in [*self._records, *([self._journal] if self._journal else [])]:
+        for output in filter(None, [*self._records, self._journal, self._times]):
             output.close()

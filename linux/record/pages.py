@@ -21,12 +21,13 @@ class Mapping:
 
 
 class JournalLine:
-    """The text of a page's event, with the recorder's number of the page, which differs from the journal's."""
+    """The text of a page's event, with the recorder's number of the page, which differs from the journal's, and the time (ns)
+    of the record that showed it."""
 
-    __slots__ = ("page", "text")
+    __slots__ = ("page", "text", "time")
 
-    def __init__(self, page: int, text: str) -> None:
-        self.page, self.text = page, text
+    def __init__(self, page: int, text: str, time: int) -> None:
+        self.page, self.text, self.time = page, text, time
 
 
 class MapCounts:

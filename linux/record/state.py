@@ -74,16 +74,16 @@ class State:
         """The blocks that the journal's node needs."""
         return min(MOST_BLOCKS, self._most + SPARE_BLOCKS)
 
-    def texts(self) -> Iterator[str]:
-        """Returns the journal's lines, without the pages that are left out."""
-        return self.lines.texts(self._omitted)
+    def timed_texts(self) -> Iterator[Tuple[int, str]]:
+        """Returns the times and texts of the journal's lines, without the pages that are left out."""
+        return self.lines.timed_texts(self._omitted)
 
     def emit(
         self, task: int, page: Page, word: str, first: int = 0, count: int = 0, outcome: str = "", given: int = 0
     ) -> None:
         """Emits an event of a page."""
         event = Event(self._caller(task), word, page.number, first, count, outcome, given)
-        self.lines.add(JournalLine(page.number, event.text()))
+        self.lines.add(JournalLine(page.number, event.text(), self.now))
         self.tallies[f"events {word}"] += 1
         if not page.omission:
             fills = word in FILLING

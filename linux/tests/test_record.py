@@ -130,6 +130,19 @@ class WrittenRecordsTest(unittest.TestCase):
         records.add(Kind.EXIT_MMAP, [SPACE], [])
         self.assertEqual(records.journal().splitlines()[2:-1], ["0 alloc 0", "0 unmapwhole 0 freed 0-511"])
 
+    def test_each_event_has_a_time(self) -> None:
+        records = RecordBuilder()
+        records.page(0)
+        records.page(1)
+        records.drop(1, 0, 256, [folio_of(1)])
+        records.drop(0, 0, 512, [folio_of(1)])
+        builder = JournalBuilder(Settings(9, None, False))
+        builder.add_records(records.records)
+        times, texts = list(builder.times()), list(builder.texts())
+        self.assertEqual(len(times), len(texts))
+        self.assertEqual(times, sorted(times))
+        self.assertEqual((times[0], {*times} <= {record.time for record in records.records}), (1, True))
+
     def test_a_page_unmapped_whole_is_freed(self) -> None:
         records = RecordBuilder()
         page = records.page(0)

@@ -90,7 +90,23 @@ def parser() -> argparse.ArgumentParser:
     add_choice(watching)
     add_program(watching)
     add_verify(commands.add_parser("verify", help="known pages, or a command's, and then the real shrinker"))
+    add_policies(commands.add_parser("policies", help="a recorded journal under other thresholds and scans"))
     return top
+
+
+def add_policies(words: argparse.ArgumentParser) -> None:
+    """Adds the options of policies."""
+    words.add_argument("journals", nargs="+", metavar="JOURNAL", help="of thprecord or thpsplit; - is standard input")
+    words.add_argument("--threshold", default="recorded", metavar="LIST", help="recorded, off, numbers from 0 to 511")
+    words.add_argument(
+        "--scan", default="recorded,never", metavar="LIST", help="when: recorded, never, events:N, seconds:S, held:MIB"
+    )
+    words.add_argument("--take", default="recorded", metavar="N", help="pages that a scan takes: recorded, all, a number")
+    words.add_argument("--times", action="append", metavar="FILE", help="of a journal: seconds of each event; repeatable")
+    words.add_argument("--best", type=seconds(0.001, MOST_FREED), metavar="MIB", help="fewest splits within so much memory")
+    words.add_argument("--json", action="store_true", help="a JSON object instead of a table")
+    words.add_argument("--svg", metavar="FILE", help="a picture of the memory held")
+    words.add_argument("--checker", metavar="PATH", help="the thpcheck to run")
 
 
 def add_verify(words: argparse.ArgumentParser) -> None:

@@ -10,7 +10,8 @@ import time
 from contextlib import ExitStack, contextmanager, suppress
 from typing import TYPE_CHECKING, Any, Callable, Dict, Iterator, List, Mapping, NoReturn, Optional, Sequence, Union
 
-from ..common.errors import DONE, InputFault
+from ..common.checker import find_checker
+from ..common.errors import DIFFERS, DONE, InputFault
 from ..common.files import create, read_input
 from ..common.program import Program
 from ..common.text import escape
@@ -34,6 +35,7 @@ from .table import (
 )
 
 if TYPE_CHECKING:
+    from .policies import Outcome as PolicyOutcome
     from .watch import Look
 
 SLOW = 1.0  # seconds after which progress is shown
@@ -363,6 +365,51 @@ def command_verify(options: argparse.Namespace) -> int:
     return verify(task, program)
 
 
+def command_policies(options: argparse.Namespace) -> int:
+    """Tries policies on journals."""
+    from .policies import IllegalJournal, best_of, policies_of, policy_table, read_recording, try_policies
+    from .policies_picture import policies_picture
+
+    policies = policies_of(options.threshold, options.scan, options.take)
+    times: Sequence[Optional[str]] = options.times or [None] * len(options.journals)
+    if len(times) != len(options.journals):
+        raise InputFault(f"{len(times)} files of times for {len(options.journals)} journals")
+    if not options.times and any(policy.when == "seconds" for policy in policies):
+        raise InputFault("seconds:S needs the times of the events (--times FILE)")
+    with open_output(options.svg) as svg:
+        try:
+            checker = find_checker(options.checker)
+            recordings = [read_recording(path, file, checker) for path, file in zip(options.journals, times)]
+        except IllegalJournal as error:
+            print(f"{NAME}: {error}", file=sys.stderr)
+            return DIFFERS
+        outcomes, timed = try_policies(policies, recordings), bool(options.times)
+        best = best_of(outcomes, options.best) if options.best else None
+        lacks_contents = any(policy.threshold.isdigit() for policy in policies) and not all(
+            recording.has_contents() for recording in recordings
+        )
+        if svg:
+            svg.write(policies_picture(outcomes))
+    if options.json:
+        out = {"policies": [outcome.to_json(timed) for outcome in outcomes], "contents_recorded": not lacks_contents}
+        print(json.dumps({**out, **({"best": best.to_json(timed) if best else None} if options.best else {})}, indent=1))
+        return DONE
+    print(policy_table(outcomes, timed))
+    if lacks_contents:
+        print("no contents are recorded: each subpage counts as zero-filled, so each number splits the same pages")
+    if options.best:
+        print(best_line(best, options.best))
+    return DONE
+
+
+def best_line(best: Optional[PolicyOutcome], mebibytes: float) -> str:
+    """Returns which policy is the best."""
+    if best is None:
+        return f"no policy holds at most {mebibytes:g} MiB"
+    policy, peak = best.policy, best.peak_mebibytes
+    return f"best: threshold {policy.threshold}, scans {policy.scans}: {best.split} pages split, at most {peak:.1f} MiB"
+
+
 COMMANDS: Dict[str, Callable[[argparse.Namespace], int]] = {
     "now": command_now,
     "snapshot": command_snapshot,
@@ -370,6 +417,7 @@ COMMANDS: Dict[str, Callable[[argparse.Namespace], int]] = {
     "target": command_target,
     "watch": command_watch,
     "verify": command_verify,
+    "policies": command_policies,
 }
 
 

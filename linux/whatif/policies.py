@@ -1,0 +1,288 @@
+"""What a recorded workload would have given back under other policies: another threshold, and other scans.
+
+`policies.c` repeats the calls of a journal on nodes of libthp, once for each policy.
+"""
+
+from __future__ import annotations
+
+import os
+import re
+import stat
+import subprocess
+import sys
+import tempfile
+from concurrent.futures import ThreadPoolExecutor
+from dataclasses import dataclass, field
+from pathlib import Path
+from typing import IO, Any, Dict, List, Optional, Sequence, Tuple
+
+from ..common.checker import JournalChecker, check_file
+from ..common.errors import USAGE, InputFault, RunFailed, Unavailable
+from ..common.files import PMD_ORDER
+from ..common.helpers import INSTALLED, LINUX, helper
+from ..common.program import start
+from ..common.text import escape, one_line, text_lines
+from .table import FRAMES_A_MEBIBYTE, aligned
+
+RECORDED, OFF, NEVER, ALL = "recorded", "off", "never", "all"
+AMOUNTS = {"events": (1.0, 1e15), "seconds": (0.001, 1e9), "held": (0.001, 1e9)}
+HEAD = ("threshold", "scans", "takes", "pages split", "failed", "frames back", "MiB back", "peak MiB", "huge at end")
+HOUR = 3600.0
+
+
+@dataclass(frozen=True)
+class Policy:
+    """A threshold (`recorded`, `off` or a number), when a scan comes, by how much, and how many pages it takes."""
+
+    threshold: str
+    when: str
+    amount: float
+    take: str
+
+    @property
+    def scans(self) -> str:
+        """Returns when a scan comes, as a user writes it."""
+        return f"{self.when}:{self.amount:g}" if self.when in AMOUNTS else self.when
+
+    @property
+    def takes(self) -> str:
+        """Returns how many pages a scan takes, as the table has it."""
+        return "-" if self.when == NEVER else self.take
+
+    def words(self) -> List[str]:
+        """Returns the words for the helper. It counts what is held in frames."""
+        amount = self.amount * FRAMES_A_MEBIBYTE if self.when == "held" else self.amount
+        return [self.threshold, self.when, repr(amount), self.take]
+
+
+@dataclass
+class Outcome:
+    """What a policy gives on all nodes of the journals. Frames are base pages; `held` is their sum by seconds (events,
+    where times aren't known), `columns` the most frames held in so many events."""
+
+    policy: Policy
+    scans: int = 0
+    split: int = 0
+    failed: int = 0
+    back: int = 0
+    peak: int = 0
+    held: float = 0.0
+    weight: float = 0.0
+    huge: int = 0
+    changed: int = 0
+    columns: List[List[Tuple[int, int]]] = field(default_factory=list)
+
+    def add(self, numbers: Sequence[float]) -> None:
+        """Adds the numbers of a node, in the order of the helper's line."""
+        scans, split, failed, back, peak, held, weight, huge, changed = numbers
+        self.scans += int(scans)
+        self.split += int(split)
+        self.failed += int(failed)
+        self.back += int(back)
+        self.peak += int(peak)
+        self.held += held
+        self.weight = max(self.weight, weight)
+        self.huge += int(huge)
+        self.changed += int(changed)
+        self.columns.append([])
+
+    @property
+    def mean(self) -> float:
+        """The mean of the MiB held."""
+        return self.held / self.weight / FRAMES_A_MEBIBYTE if self.weight else 0.0
+
+    @property
+    def peak_mebibytes(self) -> float:
+        """The most MiB held: of several nodes the sum of each one's most."""
+        return self.peak / FRAMES_A_MEBIBYTE
+
+    def to_json(self, timed: bool) -> Dict[str, Any]:
+        """Returns it as a JSON object."""
+        out: Dict[str, Any] = {
+            "threshold": int(self.policy.threshold) if self.policy.threshold.isdigit() else self.policy.threshold,
+            "scans": self.policy.scans,
+            "takes": self.policy.take,
+            "scans_done": self.scans,
+            "split": self.split,
+            "failed": self.failed,
+            "frames_back": self.back,
+            "mebibytes_back": round(self.back / FRAMES_A_MEBIBYTE, 3),
+            "peak_mebibytes": round(self.peak_mebibytes, 3),
+            "mean_mebibytes": round(self.mean, 3),
+            "huge_at_end": self.huge,
+            "calls_changed": self.changed,
+        }
+        if timed:
+            out["mebibyte_hours"] = round(self.held / FRAMES_A_MEBIBYTE / HOUR, 6)
+        return out
+
+
+def parse_threshold(text: str) -> str:
+    """Returns a threshold of the list. InputFault where it isn't one."""
+    if text in (RECORDED, OFF):
+        return text
+    if re.fullmatch("[0-9]{1,3}", text) and int(text) < 1 << PMD_ORDER:
+        return OFF if int(text) == (1 << PMD_ORDER) - 1 else str(int(text))
+    raise InputFault(f"{escape(text)[:40]!r} is no threshold: recorded, off, or a number from 0 to 511")
+
+
+def parse_scans(text: str) -> Tuple[str, float]:
+    """Returns when a scan comes. InputFault where the word isn't one."""
+    if text in (RECORDED, NEVER):
+        return text, 0.0
+    found = re.fullmatch(r"(events|seconds|held):([0-9]{1,15}(?:\.[0-9]{1,6})?)", text)
+    low, high = AMOUNTS[found[1]] if found else (0.0, 0.0)
+    if not found or not low <= float(found[2]) <= high or (found[1] == "events" and "." in found[2]):
+        raise InputFault(f"{escape(text)[:40]!r} is no time of scans: recorded, never, events:N, seconds:S, held:MIB")
+    return found[1], float(found[2])
+
+
+def parse_take(text: str) -> str:
+    """Returns how many pages a scan takes. InputFault where the word isn't one."""
+    if text in (RECORDED, ALL) or re.fullmatch("[1-9][0-9]{0,5}", text):
+        return text
+    raise InputFault(f"{escape(text)[:40]!r} is no number of pages: recorded, all, or a number from 1 to 999999")
+
+
+def policies_of(thresholds: str, scans: str, take: str) -> List[Policy]:
+    """Returns each threshold with each time of scans, in the order given, each once. Without scans a threshold changes nothing."""
+    out: Dict[Policy, None] = {}
+    for threshold in map(parse_threshold, thresholds.split(",")):
+        for when, amount in map(parse_scans, scans.split(",")):
+            out[Policy(RECORDED if when == NEVER else threshold, when, amount, parse_take(take))] = None
+    return list(out)
+
+
+def find_helper() -> str:
+    """Returns the helper, compiled with the library of this checkout ($THP_LIB: another folder), beside the installed tools, or
+    of the machine. Unavailable where there is no library or no compiler."""
+    if LINUX.parts[-3:] == INSTALLED:
+        header, folder = LINUX.parents[2] / "include", LINUX.parents[1]
+    else:
+        header, folder = LINUX.parent / "c", LINUX.parent / "c/out"
+    archive = Path(os.environ.get("THP_LIB") or folder).absolute() / "libthp.a"
+    flags = [f"-I{header}"] if (header / "thp.h").exists() else []
+    try:
+        return helper("whatif/policies.c", flags, [str(archive) if archive.exists() else "-lthp", "-lpthread"])
+    except Unavailable as error:
+        raise Unavailable(f"no libthp and C compiler (Debian: libthp-dev, gcc; or make c): {error}") from error
+
+
+def open_input(path: str) -> IO[bytes]:
+    """Opens a file that a user named, or copies standard input (`-`) to an unnamed file. InputFault where it can't be read."""
+    try:
+        if path == "-":
+            spool = tempfile.TemporaryFile(prefix="thpwhatif-")
+            while part := sys.stdin.buffer.read(1 << 20):
+                spool.write(part)
+            spool.flush()
+            return spool
+        descriptor = os.open(path, os.O_RDONLY | os.O_NONBLOCK | os.O_NOCTTY | os.O_CLOEXEC)
+        if not stat.S_ISREG(os.fstat(descriptor).st_mode):
+            os.close(descriptor)
+            raise InputFault(f"{escape(path)} is no regular file")
+        return os.fdopen(descriptor, "rb")
+    except OSError as error:
+        raise InputFault(f"{escape(path)} can't be read: {error.strerror}") from error
+
+
+@dataclass(frozen=True)
+class Recording:
+    """A journal that is legal, and the times of its events, if they are known."""
+
+    name: str
+    journal: IO[bytes]
+    times: Optional[IO[bytes]]
+
+    def has_contents(self) -> bool:
+        """Whether an event has written contents; without them each page counts as zero-filled."""
+        self.journal.seek(0)
+        return any(line.split(b" ", 2)[1:2] in ([b"write"], [b"zero"]) for line in self.journal)
+
+
+def reopened(file: IO[bytes]) -> IO[bytes]:
+    """Opens a file again, at its start: two runs at a time don't share a place in it."""
+    return open(f"/proc/self/fd/{file.fileno()}", "rb")
+
+
+def read_recording(path: str, times: Optional[str], by: JournalChecker) -> Recording:
+    """Opens a journal, and checks it. InputFault where it is no journal, RunFailed where it isn't legal."""
+    journal = open_input(path)
+    verdict = check_file(by, journal.fileno())
+    if verdict.line is not None:
+        why = "".join(f"; {escape(line)}" for line in text_lines(verdict.why) if line.startswith("why: "))
+        raise IllegalJournal(f"{escape(path)}: {verdict.text}{why}")
+    if not verdict.legal:
+        raise InputFault(f"{escape(path)} is no journal: {escape(verdict.text)}")
+    return Recording(path, journal, open_input(times) if times is not None else None)
+
+
+class IllegalJournal(Exception):
+    """A journal that isn't legal; the text names it, the line and the reason."""
+
+
+def try_policy(program: str, policy: Policy, recordings: Sequence[Recording]) -> Outcome:
+    """Repeats the calls of all recordings under a policy."""
+    outcome = Outcome(policy)
+    for recording in recordings:
+        with reopened(recording.journal) as journal:
+            words, inherited = policy.words(), []
+            times = reopened(recording.times) if recording.times else None
+            if times:
+                inherited = [times.fileno()]
+                words.append(str(times.fileno()))
+            child = start(program, words, journal, subprocess.PIPE, subprocess.PIPE, inherited)
+            try:
+                out, problems = child.communicate()
+            except BaseException:
+                child.kill()
+                child.wait()
+                raise
+            finally:
+                if times:
+                    times.close()
+        told = one_line(escape(problems.decode("ascii", "replace").strip()))
+        if child.returncode:
+            fault = InputFault if child.returncode == USAGE else RunFailed
+            raise fault(f"{escape(recording.name)}: {told[:200] or f'status {child.returncode}'}")
+        add_lines(outcome, text_lines(out.decode("ascii", "replace")))
+    return outcome
+
+
+def add_lines(outcome: Outcome, lines: Sequence[str]) -> None:
+    """Adds what the helper wrote. RunFailed where it can't be read."""
+    try:
+        for line in lines:
+            word, *numbers = line.split(" ")
+            if word == "node":
+                outcome.add([float(number) for number in numbers])
+            else:
+                width, most = map(int, numbers)
+                outcome.columns[-1].append((width, most))
+    except (ValueError, IndexError) as error:
+        raise RunFailed("the helper policies writes no numbers") from error
+
+
+def try_policies(policies: Sequence[Policy], recordings: Sequence[Recording]) -> List[Outcome]:
+    """Tries all policies, as many at a time as there are processors."""
+    program = find_helper()
+    with ThreadPoolExecutor(max_workers=max(1, len(os.sched_getaffinity(0)))) as pool:
+        return list(pool.map(lambda policy: try_policy(program, policy, recordings), policies))
+
+
+def policy_table(outcomes: Sequence[Outcome], timed: bool) -> str:
+    """Returns a line for each policy."""
+    lines: List[List[object]] = [[*HEAD[:-1], "MiB x hours" if timed else "mean MiB", HEAD[-1]]]
+    for outcome in outcomes:
+        policy, back = outcome.policy, outcome.back / FRAMES_A_MEBIBYTE
+        hours = outcome.held / FRAMES_A_MEBIBYTE / HOUR
+        held = f"{hours:.3f}" if timed else f"{outcome.mean:.1f}"
+        cells = [policy.threshold, policy.scans, policy.takes, outcome.split, outcome.failed, outcome.back, f"{back:.1f}"]
+        lines.append([*cells, f"{outcome.peak_mebibytes:.1f}", held, outcome.huge])
+    return aligned(lines, 3)
+
+
+def best_of(outcomes: Sequence[Outcome], mebibytes: float) -> Optional[Outcome]:
+    """Returns the policy with the fewest pages split that never holds more than so much; of equal ones the first."""
+    fitting = [each for each in outcomes if each.peak_mebibytes <= mebibytes]
+    return min(fitting, key=lambda each: each.split) if fitting else None

@@ -1,0 +1,204 @@
+"""Policies: recorded journals under other thresholds and scans."""
+
+from __future__ import annotations
+
+import atexit
+import json
+import os
+import shutil
+import subprocess
+import tempfile
+import unittest
+from pathlib import Path
+from typing import Any, Dict, List, Sequence, Tuple
+
+from ...common.errors import InputFault, Unavailable
+from ...common.journal import journal_of
+from ...common.program import find
+from ..policies import Outcome, Policy, best_of, find_helper, parse_scans, parse_threshold, policies_of
+from .test_program import ROOT, run
+
+
+def build_library() -> None:
+    """Builds libthp into a folder of its own where only its proved archive is there."""
+    if (ROOT / "crates/thp_c/out/libthp_c.a").exists() and "THP_LIB" not in os.environ and shutil.which("make"):
+        folder = tempfile.mkdtemp(prefix="libthp-")
+        atexit.register(shutil.rmtree, folder)
+        if subprocess.run(["make", "-s", "-C", ROOT / "c", f"OUT={folder}"], capture_output=True, check=False).returncode == 0:
+            os.environ["THP_LIB"] = folder
+
+
+def lacking() -> str:
+    """Returns what the tests lack on this machine."""
+    try:
+        build_library()
+        find_helper()
+    except (Unavailable, InputFault) as error:
+        return str(error)
+    return "" if find("thpcheck", ROOT / "crates/thpcheck/out/thpcheck") else "no thpcheck (make checker, THPCHECK)"
+
+
+LACKING = lacking()
+
+TWO = """thp-journal 1
+node 0 blocks 2
+0 alloc 0
+0 splitpmd 0
+0 unmapsub 0 0 256 queued -
+0 alloc 1
+0 splitpmd 1
+0 unmapsub 1 0 128 queued -
+0 taken 0
+0 split 0 0-255
+0 unmapsub 1 128 384 freed 0-511
+0 unmapsub 0 256 256 freed 256-511
+end
+"""
+"""Two pages; the first one is split."""
+
+CONTENTS = """thp-journal 3
+node 0 blocks 2 order 9 underused 500
+0 alloc 0
+0 write 0 0 100
+0 alloc 1
+0 write 1 0 512
+0 taken 0
+0 taken 1
+0 used 0
+0 used 1
+0 unmapwhole 1 freed 0-511
+end
+"""
+"""Page 0 has 412 zero-filled subpages, page 1 none."""
+
+SPLIT_EARLY = """thp-journal 3
+node 0 blocks 1 order 9 underused off
+0 alloc 0
+0 mapwhole 0
+0 pin 0
+0 unpin 0 stays -
+0 splitpmd 0
+0 unmapsub 0 0 512 stays -
+0 unmapwhole 0 freed 0-511
+end
+"""
+"""A page that another policy splits at once: calls of PMD mappings follow."""
+
+
+class Words(unittest.TestCase):
+    def test_each_policy_once(self) -> None:
+        found = policies_of("recorded,off", "recorded,never,events:10", "all")
+        self.assertEqual([each.threshold for each in found], ["recorded", "recorded", "recorded", "off", "off"])
+        self.assertEqual([each.scans for each in found], ["recorded", "never", "events:10", "recorded", "events:10"])
+
+    def test_words_that_are_none(self) -> None:
+        for text in ("", "512", "-1", "on", "0x1", "1e3"):
+            self.assertRaises(InputFault, parse_threshold, text)
+        for text in ("", "events", "events:0", "events:1.5", "seconds:", "held:-1", "always", "held:1e3"):
+            self.assertRaises(InputFault, parse_scans, text)
+        self.assertEqual((parse_threshold("511"), parse_scans("held:1.5")), ("off", ("held", 1.5)))
+
+    def test_best_has_fewest_splits(self) -> None:
+        made = [Outcome(Policy("off", "never", 0, "all"), split=split, peak=peak) for split, peak in ((0, 900), (9, 256), (7, 200))]
+        self.assertEqual(best_of(made, 1.0), made[2])
+        self.assertIsNone(best_of(made, 0.5))
+
+
+@unittest.skipIf(LACKING, LACKING)
+class Runs(unittest.TestCase):
+    def setUp(self) -> None:
+        folder = tempfile.TemporaryDirectory()
+        self.addCleanup(folder.cleanup)
+        self.folder = Path(folder.name)
+
+    def write(self, text: str, name: str = "journal") -> str:
+        path = self.folder / name
+        path.write_text(text, encoding="ascii")
+        return str(path)
+
+    def rows(self, text: str, *words: str) -> List[Dict[str, Any]]:
+        done = run("policies", self.write(text), "--json", *words)
+        self.assertEqual((done.returncode, done.stderr), (0, ""))
+        found: List[Dict[str, Any]] = json.loads(done.stdout)["policies"]
+        return found
+
+    def numbers(self, text: str, *words: str) -> List[Tuple[Any, ...]]:
+        names = ("split", "failed", "frames_back", "huge_at_end", "calls_changed")
+        return [tuple(row[name] for name in names) for row in self.rows(text, *words)]
+
+    def test_as_recorded_and_never(self) -> None:
+        self.assertEqual(self.numbers(TWO), [(1, 0, 256, 0, 0), (0, 0, 0, 0, 0)])
+
+    def test_memory_held(self) -> None:
+        recorded, never = self.rows(TWO)
+        self.assertEqual((recorded["peak_mebibytes"], never["peak_mebibytes"]), (4.0, 4.0))
+        # after the ten events: 2, 2, 2, 4, 4, 4, 4, 3, 1, 0 MiB, each for a second but the last
+        self.assertEqual(recorded["mean_mebibytes"], round(26 / 9, 3))
+        self.assertEqual(never["mean_mebibytes"], round((2 * 3 + 4 * 5 + 2) / 9, 3))
+
+    def test_scans_by_events_and_memory(self) -> None:
+        by_events, by_memory = self.rows(TWO, "--scan", "events:6,held:3.5", "--take", "all")
+        self.assertEqual((by_events["scans_done"], by_events["split"], by_events["frames_back"]), (1, 2, 384))
+        # page 0 is split when the second one comes; then 3 MiB are held
+        self.assertEqual((by_memory["scans_done"], by_memory["split"], by_memory["frames_back"]), (1, 1, 256))
+
+    def test_scans_by_time(self) -> None:
+        times = "".join(f"{at}\n" for at in (100, 100.5, 101, 101.5, 160, 161, 200, 201, 202, 203))
+        row = self.rows(TWO, "--scan", "seconds:30", "--take", "all", "--times", self.write(times, "times"))[0]
+        self.assertEqual((row["scans_done"], row["split"]), (2, 2))
+        self.assertGreater(row["mebibyte_hours"], 0)
+
+    def test_times_that_do_not_fit(self) -> None:
+        ten = [str(number) for number in range(10)]
+        for times, told in ((ten[:9], "no time of this event"), (ten + ["10"], "more times"), (["5", *ten[:9]], "before that")):
+            done = run("policies", self.write(TWO), "--times", self.write("\n".join(times) + "\n", "times"))
+            self.assertEqual((done.returncode, done.stdout), (2, ""))
+            self.assertIn(told, done.stderr)
+
+    def test_thresholds(self) -> None:
+        rows = self.numbers(CONTENTS, "--threshold", "recorded,411,412,off", "--scan", "recorded")
+        self.assertEqual([row[:3] for row in rows], [(0, 0, 0), (1, 0, 412), (0, 0, 0), (0, 0, 0)])
+
+    def test_a_page_split_early_takes_calls_of_its_subpages(self) -> None:
+        row = self.rows(SPLIT_EARLY, "--threshold", "0", "--scan", "events:2", "--take", "all")[0]
+        self.assertEqual((row["split"], row["frames_back"], row["huge_at_end"]), (1, 512, 0))
+        self.assertEqual(row["calls_changed"], 4)
+
+    def test_the_examples_as_recorded(self) -> None:
+        for path in ("kernel", "two_workers", "eight_workers", "underused"):
+            text = (ROOT / "examples" / f"{path}.journal").read_text(encoding="ascii")
+            events = [event for node in journal_of(text) for event in node.events]
+            wanted = [sum(event.word == word for event in events) for word in ("split", "pinned")]
+            wanted.append(sum(bin(event.given).count("1") for event in events if event.word == "split"))
+            row = self.numbers(text, "--scan", "recorded")[0]
+            self.assertEqual((list(row[:3]), row[4]), (wanted, 0), path)
+
+    def test_an_illegal_journal(self) -> None:
+        done = run("policies", self.write(TWO.replace("split 0 0-255", "split 0 0-254")))
+        self.assertEqual((done.returncode, done.stdout, done.stderr.count("\n")), (1, "", 1))
+        self.assertIn("illegal line 10", done.stderr)
+
+    def test_faults(self) -> None:
+        journal = self.write(TWO)
+        cases: Sequence[Tuple[Sequence[str], str]] = (
+            (("/nowhere",), "/nowhere can't be read"),
+            ((str(self.folder),), "no regular file"),
+            ((journal, "--threshold", "512"), "'512' is no threshold"),
+            ((journal, "--scan", "always"), "'always' is no time of scans"),
+            ((journal, "--take", "0"), "'0' is no number of pages"),
+            ((journal, "--scan", "seconds:2"), "needs the times"),
+            ((journal, journal, "--times", journal), "1 files of times for 2 journals"),
+            ((str(ROOT / "examples" / "first.script"),), "is no journal"),
+            ((journal, "--svg", journal), "exists already"),
+        )
+        for words, told in cases:
+            done = run("policies", *words)
+            self.assertEqual((done.returncode, done.stdout, done.stderr.count("\n")), (2, "", 1), done.stderr)
+            self.assertIn(told, done.stderr)
+
+    def test_best_and_picture(self) -> None:
+        picture = self.folder / "picture.svg"
+        done = run("policies", self.write(TWO), "--best", "4", "--svg", str(picture))
+        self.assertIn("best: threshold recorded, scans never: 0 pages split, at most 4.0 MiB", done.stdout)
+        self.assertIn("no policy holds at most 1 MiB", run("policies", self.write(TWO), "--best", "1").stdout)
+        self.assertEqual(picture.read_text(encoding="utf-8").count("<polyline"), 2)
