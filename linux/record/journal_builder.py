@@ -1,10 +1,10 @@
 """Builds a journal from records.
 
 Observed: huge pages allocated in a fault or by a collapse; the queue at each scan's start and end, so the pages taken and
-put back, and their order; frames and pages freed; pages that migrate. Inferred: mappings from the arguments of system calls
-(compared with the page's own counts at the call's end), from forks and ends of address spaces; pins from what a scan leaves;
-writes (with the switch on) from the kernel's verdicts. A page with an event that isn't understood is left out, with a
-reason. docs/LINUX.md has the table.
+put back, and their order; frames and pages freed; pages that migrate; contents, where the recording looks at them. Inferred:
+mappings from the arguments of system calls (compared with the page's own counts at the call's end), from forks and ends of
+address spaces; pins from what a scan leaves; other writes (with the switch on) from the kernel's verdicts. A page with an
+event that isn't understood is left out, with a reason. docs/LINUX.md has the table.
 """
 
 from __future__ import annotations
@@ -14,6 +14,7 @@ from typing import Callable, Deque, Dict, Iterable, Iterator, List, Optional
 
 from ..common.files import BASE, PMD_ORDER
 from ..common.journal import journal_text
+from ..common.subpages import runs
 from .calls import COLLAPSE, COPIED, MADVISE, MADV_COLLAPSE, has_succeeded
 from .mappings import MappingEvents
 from .pages import Mapping, Page
@@ -42,7 +43,7 @@ class JournalBuilder:
             Kind.ALLOC: self._handle_alloc,
             Kind.FREE: self._handle_free, Kind.FORK: self._mappings.fork, Kind.EXIT_MMAP: self._handle_exit_mmap,
             Kind.SCAN: self._scans.begin, Kind.SCANNED: self._scans.end, Kind.COPY: self._handle_copy,
-            Kind.COLLAPSED: self._handle_collapsed, Kind.MOVED: self._handle_moved,
+            Kind.COLLAPSED: self._handle_collapsed, Kind.MOVED: self._handle_moved, Kind.CONTENTS: self._handle_contents,
         }
 
     # what comes out
@@ -129,7 +130,7 @@ class JournalBuilder:
                 # begun before the end of a scan whose record came first: the copy may show the queue before that
                 record.queue = None
                 state.tallies["copies begun before the end of a scan, not used"] += 1
-            if record.kind is not Kind.FREE:  # an interrupt frees in any task's name
+            if record.kind not in (Kind.FREE, Kind.CONTENTS):  # an interrupt frees in any task's name
                 self._end_last_step(record)
             if not record.is_applied:
                 self._steps[record.kind](record)
@@ -199,6 +200,25 @@ class JournalBuilder:
         self._fault_pages[record.task] = page
         if page in self._state.queue:
             self._state.joining[record.task] = page  # it joins between this record and the task's next one
+
+    def _handle_contents(self, record: Record) -> None:
+        """Emits what was written since the last look at a page: data where zeros were, and zeros where data was. What the first
+        look finds was written at the allocation, unless a scan tried the page since: until then nothing is known of it. A page
+        that was made or changed during the look is left to the next one."""
+        page = self._state.at.get(record.values[0])
+        began = record.values[1]
+        if page is None or record.contents is None or page.split or page.born > began or page.last_change > began:
+            return
+        data, zero = record.contents
+        used, lines, is_first = page.used_subpages(), 0, not page.is_seen
+        for word, bits in (("write", data & used & ~page.written), ("zero", zero & used & page.written)):
+            for first, count in runs(bits):
+                self._state.emit(record.task, page, word, first, count)
+                lines += 1
+            page.written ^= bits
+        page.is_seen = True
+        if is_first and lines and not page.is_tried:
+            self._state.lines.move_behind(page.first, lines)
 
     def _handle_copy(self, record: Record) -> None:
         """Follows a copy on write: a base page allocated in a fault on a mapped subpage. It counts as a call that unmaps

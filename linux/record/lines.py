@@ -51,6 +51,16 @@ class JournalLines:
                 return at
         return -1
 
+    def move_behind(self, line: Optional[JournalLine], count: int) -> None:
+        """Moves the latest `count` lines behind a line, and to its time, unless that is final."""
+        place = self.find(line)
+        if line is not None and 0 <= place < len(self.latest) - count:
+            moved = self.latest[len(self.latest) - count :]
+            del self.latest[len(self.latest) - count :]
+            for each in moved:
+                each.time = line.time
+            self.latest[place + 1 : place + 1] = moved
+
     def timed_texts(self, omitted: OmittedPages) -> Iterator[Tuple[int, str]]:
         """Yields the time (ns) and the text of all lines except those of omitted pages. Pages are numbered by their first lines;
         omitted pages get no number."""

@@ -80,6 +80,7 @@ class RecordOptions:
         self.straighten: bool = parsed.straighten
         self.out: Optional[str] = parsed.out
         self.times: Optional[str] = parsed.times
+        self.contents: Optional[float] = parsed.contents
         self.records: Optional[str] = parsed.records
         self.tamper: int = parsed.tamper
         self.least: int = parsed.least
@@ -117,6 +118,7 @@ def _parser(text: str, name: str) -> argparse.ArgumentParser:
     add("--straighten", action="store_true", help="allow for E (order of putting back) and B (zeros)")
     add("--out", metavar="FILE", help="write the journal into this new file")
     add("--times", metavar="FILE", help="write the time of each event into this new file")
+    add("--contents", type=seconds(0.01, LONG), metavar="SECONDS", help="look at the pages' contents so often")
     add("--records", metavar="FILE", help="write the records into this new file; further groups' to FILE.2 ..")
     add("--tamper", type=whole(0, 10 ** 6), default=0, metavar="N", help="check N altered copies of a legal journal")
     add("--least", type=whole(0, MANY), default=0, metavar="EVENTS", help="more seeds until so many events")

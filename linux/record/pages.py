@@ -86,6 +86,10 @@ class Page:
     is_freed: bool = False
     freed_frames: int = 0
     written: int = 0
+    born: int = 0  # when its allocation was recorded
+    first: Optional[JournalLine] = None  # its allocation
+    is_seen: bool = False  # its contents were looked at
+    is_tried: bool = False  # a scan tried it
     last_change: int = 0  # when the last call that reached it was recorded
     join: Optional[JournalLine] = None  # the event by which it joined the queue
     events: int = 0  # how many were emitted

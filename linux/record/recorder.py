@@ -13,6 +13,7 @@ from ..common.groups import Groups
 from ..common.keeper import Keeper
 from ..common.kernel_memory import KernelMemory
 from .commands import PAUSE, Commands, Interrupts
+from .contents import ContentLooks
 from .options import RecordOptions
 from .ring import SIZE
 from .state import Settings
@@ -68,11 +69,20 @@ class Recorder:
         try:
             for path in self._paths:
                 traces.append(TracePrograms(self._memory, self._memory.group(path), self._options.orders, room))
+            looks: Optional[ContentLooks] = None
+            if self._options.contents is not None:
+                looks = ContentLooks(self._memory, self._paths, self._options.orders, self._options.contents)
             self._memory.types.release()
 
             def take() -> None:
                 for trace, store in zip(traces, stores):
                     trace.read(store)
+                if looks and looks.is_due():
+                    found = looks.look()
+                    for trace, store, records in zip(traces, stores, found):
+                        trace.read(store)
+                        for record in records:
+                            store.append(record)
 
             running = Commands(self._keeper, take)
             ended = self._run(running, commands, stores, take)

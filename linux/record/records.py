@@ -10,6 +10,7 @@ from typing import Any, Dict, List, Optional, Tuple
 QUEUE_MOST = 500  # pages of a queue that a record carries
 VALUES_AT, COUNT_AT, FOLIOS_AT = 32, 112, 128
 SIZE = FOLIOS_AT + 8 * QUEUE_MOST
+SET = 64  # bytes of a set of subpages
 HEAD = struct.Struct("<16Q")  # kind, time, tid and tgid, mm, nine values, length, count, nothing
 
 
@@ -28,6 +29,7 @@ class Kind(enum.IntEnum):
     COPY = 9  # a base page is allocated, perhaps for a copy on write (folio, how, the fault's address, its error code)
     COLLAPSED = 10  # a region has become a huge page (mm, 1, its folio, its index)
     MOVED = 11  # a page is mapped again by a migration, or by a split that failed (address, folio, order)
+    CONTENTS = 12  # this tool looked at a page (folio, when the look began); with the subpages with data and the zero-filled ones
 
 
 WITH_QUEUE = frozenset([Kind.EXIT, Kind.EXIT_MMAP, Kind.SCAN, Kind.SCANNED, Kind.COLLAPSED])
@@ -71,6 +73,7 @@ class Record:
     folios_made: Optional[Dict[int, int]] = None  # of a scan: folios that were allocated until its end, and when last
     space_end: Optional[Record] = None  # of the first record of an address space (`first_record`): the end of that space
     child_space_end: Optional[Record] = None  # of a fork: the end of the child's space
+    contents: Optional[Tuple[int, int]] = None  # of a look: the subpages with data, the zero-filled ones
 
     def queue_at_end(self) -> Optional[List[int]]:
         """Returns the queue at a scan's end, by its own copy or the next."""
@@ -98,7 +101,8 @@ class Record:
 
     def to_json(self) -> List[Any]:
         """Returns the record as JSON can write it."""
-        return [int(self.kind), self.time, self.task, self.space, list(self.values), self.queue]
+        out = [int(self.kind), self.time, self.task, self.space, list(self.values), self.queue]
+        return out if self.contents is None else [*out, list(self.contents)]
 
 
 _WORD = (1 << 32) - 1
@@ -120,17 +124,27 @@ def parse_record(raw: bytes, place: int = 0) -> Record:
     queue = None
     if kind in WITH_QUEUE and count <= QUEUE_MOST:
         queue = without_repeats(list(struct.unpack_from(f"<{count}Q", raw, place + FOLIOS_AT)))
-    return Record(kind, words[1], words[2] & 0xFFFFFFFF, words[3], words[4:13], queue)
+    out = Record(kind, words[1], words[2] & 0xFFFFFFFF, words[3], words[4:13], queue)
+    if kind is Kind.CONTENTS:
+        at = place + FOLIOS_AT
+        sets = (int.from_bytes(raw[start : start + SET], "little") for start in (at, at + SET))
+        out.contents = next(sets), next(sets)
+    return out
 
 
 def record_from_json(to_json: List[Any]) -> Record:
     """Returns a record by what `to_json` gave."""
-    kind, time, task, space, values, queue = to_json
-    return Record(Kind(kind), time, task, space, tuple(values), without_repeats(queue))
+    kind, time, task, space, values, queue, *contents = to_json
+    out = Record(Kind(kind), time, task, space, tuple(values), without_repeats(queue))
+    out.contents = (contents[0][0], contents[0][1]) if contents else None
+    return out
 
 
 def pack_record(record: Record) -> bytes:
     """Returns the bytes of a record, as the trace programs make them; the task group's number is 0."""
+    if record.contents is not None:
+        head = HEAD.pack(int(record.kind), record.time, record.task, record.space, *record.values, 0, 2 * SET // 8, 0)
+        return head + b"".join(each.to_bytes(SET, "little") for each in record.contents)
     queue = [] if record.queue is None else record.queue
     count = QUEUE_MOST + 1 if record.queue is None else len(queue)
     head = HEAD.pack(int(record.kind), record.time, record.task, record.space, *record.values, 0, count, 0)
@@ -161,7 +175,7 @@ def link_records(records: List[Record]) -> None:
             if record.values[0] in first:
                 first_record, name = first.pop(record.values[0])
                 setattr(first_record, name, record)
-        elif record.kind is not Kind.FREE:
+        elif record.kind not in (Kind.FREE, Kind.CONTENTS):
             last[record.space] = record.time
             first.setdefault(record.space_with_pages(), (record, "space_end"))
         if record.kind is Kind.FORK:

@@ -182,6 +182,7 @@ class ScanEvents:
 
     def _emit_try(self, record: Record, page: Page, stays: bool) -> None:
         """Emits the try of a page that was taken."""
+        page.is_tried = True
         if stays and not page.is_partly_mapped:
             self._state.omit(page, "put back, though not partly mapped: another task held its lock (L)")
         if stays:
@@ -194,7 +195,8 @@ class ScanEvents:
         elif page.is_partly_mapped or page.freed_frames:
             self._emit_split(record, page)
         else:
-            self._emit_writes(record, page, page.used_subpages())
+            if not page.is_seen or page.subpages - size(page.written) > (self._state.settings.threshold or 0):
+                self._emit_writes(record, page, page.used_subpages())
             self._state.emit(record.task, page, "used")
 
     def _emit_writes(self, record: Record, page: Page, bits: int) -> None:

@@ -104,12 +104,14 @@ class State:
         page = Page.new(self.pages, folio, self.settings.order)
         self.pages += 1
         self.at[folio] = page
+        page.born = self.now
         length = BASE << self.settings.order
         mapping = Mapping(address // length * length, True, page.every, self.now)
         page.maps[space] = self.spaces[space][page] = mapping
         self._live += 1
         self._most = max(self._most, self._live)
         self.emit(task, page, "alloc")
+        page.first = self.lines.latest[-1]
         if self.settings.threshold is not None and self.settings.order == PMD_ORDER:
             self.enqueue(page)
         return page

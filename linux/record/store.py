@@ -159,7 +159,7 @@ class _Linker:
                 self._torn = []
         if kind == Kind.EXIT_MMAP:
             self._space_ends(at, words[4])
-        elif kind != Kind.FREE:
+        elif kind not in (Kind.FREE, Kind.CONTENTS):
             self._last[space] = time
             self._first.setdefault(words[4] if kind == Kind.COLLAPSED else space, at + DIES_AT)
         if kind == Kind.FORK:

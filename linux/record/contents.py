@@ -1,0 +1,74 @@
+"""Looks at the contents of a control group's huge pages: which subpages have data, and which are zero-filled."""
+
+from __future__ import annotations
+
+import os
+import time
+from typing import Iterator, List, Optional, Sequence
+
+from ..common.direct_map import DirectMap
+from ..common.errors import Unavailable
+from ..common.files import PMD_ORDER, read_bytes
+from ..common.kernel_memory import KernelMemory
+from ..whatif.proc import Unreadable
+from ..whatif.reader import Reader
+from .records import Kind, Record, pack_record
+
+MOST_MEMORY = 64  # MiB of one look
+
+
+class ContentLooks:
+    """Looks at control groups, one as often as the other. The kernel's types are needed when it is made, and not later."""
+
+    def __init__(self, memory: KernelMemory, paths: Sequence[str], orders: Sequence[int], every: float) -> None:
+        self._paths, self._orders, self._every = list(paths), set(orders), every
+        self._first_page, self._page_size = memory.vmemmap()
+        self._direct: Optional[DirectMap] = None
+        try:
+            self._direct = DirectMap(memory)
+        except Unavailable:
+            pass  # contents are read through the processes
+        self._due = time.monotonic() + every
+        self.count = 0
+        self.seconds = 0.0
+
+    def is_due(self) -> bool:
+        """Returns whether it is time for the next look."""
+        return time.monotonic() >= self._due
+
+    def look(self) -> List[List[bytes]]:
+        """Returns for each group the records of what its pages contain."""
+        began = time.monotonic()
+        out = [[pack_record(record) for record in self._look_at(path)] for path in self._paths]
+        self.count += 1
+        self.seconds += time.monotonic() - began
+        self._due = time.monotonic() + self._every
+        return out
+
+    def _look_at(self, path: str) -> Iterator[Record]:
+        began = time.monotonic_ns()
+        reader = Reader(min(self._orders) < PMD_ORDER, 1, direct=self._direct, memory=MOST_MEMORY)
+        try:
+            for process, walk in reader.walks(processes_of(path)):
+                try:
+                    reader.add(process, walk)
+                except (OSError, Unreadable):
+                    continue  # it has ended
+            reader.read_zeros()
+            reader.check_again()
+            now = time.monotonic_ns()
+            for frame, folio in reader.folios.items():
+                if folio.order in self._orders:
+                    values = (self._first_page + self._page_size * frame, began, *(0,) * 7)
+                    yield Record(Kind.CONTENTS, now, 0, 0, values, None, contents=(folio.known & ~folio.zero, folio.zero))
+        finally:
+            reader.close()
+
+
+def processes_of(path: str) -> List[int]:
+    """Returns the processes of a control group, without this tool."""
+    try:
+        found = [int(number) for number in read_bytes(f"{path}/cgroup.procs").split()]
+    except (OSError, ValueError):
+        return []
+    return [number for number in found if number > 0 and number != os.getpid()]
