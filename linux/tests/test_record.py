@@ -10,7 +10,7 @@ from typing import List, Optional, Sequence
 
 from ..common.program import Program
 from ..record.journal_builder import JournalBuilder
-from ..record.records import COUNT_AT, FOLIOS_AT, QUEUE_MOST, SIZE, Kind, Record, parse_record, record_from_json
+from ..record.records import COUNT_AT, FOLIOS_AT, QUEUE_MOST, SIZE, Kind, Record, pack_record, parse_record, record_from_json
 from ..record.scans import batches_of
 from ..record.state import Settings
 from ..record.tampering import Alteration, alter_journal
@@ -43,6 +43,11 @@ class RecordBuilder:
         call = [MADVISE, HUGE * (number + 10) + BASE * first, BASE * count, DONTNEED]
         self.add(Kind.ENTER, call)
         self.add(Kind.EXIT, [*call, 0], queue)
+
+    def look_at(self, number: int, data: int, zero: int, began: Optional[int] = None) -> None:
+        """A look at a page: the subpages with data, and the zero-filled ones."""
+        self.add(Kind.CONTENTS, [folio_of(number), len(self.records) if began is None else began])
+        self.records[-1].contents = data, zero
 
     def scan(self, before: List[int], freed: List[int], after: List[int]) -> None:
         self.add(Kind.SCAN, [len(before), len(before)], before)
@@ -142,6 +147,27 @@ class WrittenRecordsTest(unittest.TestCase):
         self.assertEqual(len(times), len(texts))
         self.assertEqual(times, sorted(times))
         self.assertEqual((times[0], {*times} <= {record.time for record in records.records}), (1, True))
+
+    def test_contents(self) -> None:
+        records = RecordBuilder()
+        records.page(0)
+        records.drop(0, 500, 12, [folio_of(0)])
+        every = (1 << 500) - 1
+        records.look_at(0, 0b1100, every & ~0b1100)
+        records.look_at(0, 0b0110, every & ~0b0110)
+        records.look_at(0, every, 0, began=0)  # begun before the page was made: of another page
+        lines = records.journal().split("\n")
+        # what the first look finds was written at the allocation
+        self.assertEqual(lines[:2] + lines[2:4], ["thp-journal 3", "node 0 blocks 9 order 9 underused off", "0 alloc 0", "0 write 0 2 2"])
+        self.assertEqual(lines[-4:-2], ["0 write 0 1 1", "0 zero 0 3 1"])
+        self.assertEqual(sum(" write " in line or " zero " in line for line in lines), 3)
+
+    def test_a_look_as_bytes(self) -> None:
+        records = RecordBuilder()
+        records.look_at(0, 1 << 511, 5)
+        again = parse_record(pack_record(records.records[0]))
+        self.assertEqual((again.kind, again.values, again.contents), (Kind.CONTENTS, records.records[0].values, (1 << 511, 5)))
+        self.assertEqual(record_from_json(again.to_json()).contents, again.contents)
 
     def test_a_page_unmapped_whole_is_freed(self) -> None:
         records = RecordBuilder()
