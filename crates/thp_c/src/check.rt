@@ -2,7 +2,7 @@
 ghost use Rattle.std.specs.Prelude.{◌≡◌};
 ghost use Rattle.thp_capi.specs.Checks.{CheckAnswer, ReportsText, numbers_of};
 ghost use Rattle.thp_capi.specs.CheckCodes.{check_answer_of, IsCheckCode};
-ghost use Rattle.thp_capi.specs.CheckHandle.{check_of};
+ghost use Rattle.thp_capi.specs.Rooms.{value_of};
 ghost use Rattle.thp_capi.specs.LongChecks.{CheckMade, CheckEmptied, CheckReads, CheckEnds, CheckTells};
 
 use std::alloc::Global;
@@ -20,7 +20,7 @@ pub extern "C" fn thp_c_check_text(alloc: Global, text: &[u8], line: &mut u32) -
 /// Creates a check that has read nothing, and fills the handle with it.
 #[unsafe(no_mangle)]
 pub extern "C" fn thp_c_check_create(handle: &mut ThpCheck, alloc: Global) -> u32
-    ensures does { CheckMade (check_of handle.old.held) (check_of handle.new.held) (check_answer_of result) }
+    ensures does { CheckMade (value_of handle.old.held) (value_of handle.new.held) (check_answer_of result) }
     ensures known { IsCheckCode result }
 {
     thp_capi::check_create(handle, alloc)
@@ -29,7 +29,7 @@ pub extern "C" fn thp_c_check_create(handle: &mut ThpCheck, alloc: Global) -> u3
 /// Frees the check that the handle refers to, and empties the handle.
 #[unsafe(no_mangle)]
 pub extern "C" fn thp_c_check_destroy(handle: &mut ThpCheck, alloc: Global) -> u32
-    ensures does { CheckEmptied (check_of handle.old.held) (check_of handle.new.held) (check_answer_of result) }
+    ensures does { CheckEmptied (value_of handle.old.held) (value_of handle.new.held) (check_answer_of result) }
     ensures known { IsCheckCode result }
 {
     thp_capi::check_destroy(handle, alloc)
@@ -38,7 +38,7 @@ pub extern "C" fn thp_c_check_destroy(handle: &mut ThpCheck, alloc: Global) -> u
 /// Reads the next part of the text. If memory for that can't be allocated, the check is lost and the handle is empty.
 #[unsafe(no_mangle)]
 pub extern "C" fn thp_c_check_read(handle: &mut ThpCheck, alloc: Global, part: &[u8]) -> u32
-    ensures does { CheckReads part.now (check_of handle.old.held) (check_of handle.new.held) (check_answer_of result) }
+    ensures does { CheckReads part.now (value_of handle.old.held) (value_of handle.new.held) (check_answer_of result) }
     ensures known { IsCheckCode result }
 {
     thp_capi::check_read(handle, alloc, part)
@@ -48,7 +48,7 @@ pub extern "C" fn thp_c_check_read(handle: &mut ThpCheck, alloc: Global, part: &
 /// for an error of that kind in the text. `line` is the line of the first illegal event or error, otherwise 0.
 #[unsafe(no_mangle)]
 pub extern "C" fn thp_c_check_finish(handle: &mut ThpCheck, alloc: Global, line: &mut u64) -> u32
-    ensures { CheckEnds (check_of handle.old.held) (check_of handle.new.held) result line.old line.new }
+    ensures { CheckEnds (value_of handle.old.held) (value_of handle.new.held) result line.old line.new }
 {
     thp_capi::check_finish(handle, alloc, line)
 }
@@ -62,7 +62,7 @@ pub extern "C" fn thp_c_check_reason(
     buffer: &mut [u8],
     size: &mut usize,
 ) -> u32
-    ensures does { CheckTells (check_of handle.old.held) (check_of handle.new.held) buffer.old buffer.new size.old size.new (check_answer_of result) }
+    ensures does { CheckTells (value_of handle.old.held) (value_of handle.new.held) buffer.old buffer.new size.old size.new (check_answer_of result) }
     ensures known { IsCheckCode result }
 {
     thp_capi::check_reason(handle, alloc, buffer, size)

@@ -5,7 +5,7 @@ ghost use Rattle.thp_capi.specs.Calls.{OneCall};
 ghost use Rattle.thp_capi.specs.Codes.{answer_of, answers, answer_with};
 ghost use Rattle.thp_capi.specs.Engines.{Does};
 ghost use Rattle.thp_capi.specs.PassCodes.{pass_answer_of, pass_answer_with, IsPassCode};
-ghost use Rattle.thp_capi.specs.PassHandle.{pass_of};
+ghost use Rattle.thp_capi.specs.Rooms.{value_of};
 ghost use Rattle.thp_capi.specs.Passes.{PassDoes, PassOne, PassLost};
 ghost use Rattle.thp_capi.specs.Replies.{LoseCall};
 
@@ -168,7 +168,7 @@ pub extern "C" fn thp_c_pass_map_whole(
     caller: u32,
     page: u64,
 ) -> u32
-    ensures does { PassDoes (pass_of handle.old.held) (pass_of handle.new.held) (pass_answer_of result) (PassOne caller (call.map_whole page) (What.MapWhole page)) }
+    ensures does { PassDoes (value_of handle.old.held) (value_of handle.new.held) (pass_answer_of result) (PassOne caller (call.map_whole page) (What.MapWhole page)) }
     ensures known { IsPassCode result }
 {
     thp_capi::pass_gain(handle, alloc, caller, page, Gain::MapWhole)
@@ -184,7 +184,7 @@ pub extern "C" fn thp_c_pass_map_sub(
     first: u32,
     count: u32,
 ) -> u32
-    ensures does { PassDoes (pass_of handle.old.held) (pass_of handle.new.held) (pass_answer_of result) (PassOne caller (call.map_sub page first count) (What.MapSub page first count)) }
+    ensures does { PassDoes (value_of handle.old.held) (value_of handle.new.held) (pass_answer_of result) (PassOne caller (call.map_sub page first count) (What.MapSub page first count)) }
     ensures known { IsPassCode result }
 {
     let first = narrowed(first);
@@ -201,7 +201,7 @@ pub extern "C" fn thp_c_pass_split_pmd(
     caller: u32,
     page: u64,
 ) -> u32
-    ensures does { PassDoes (pass_of handle.old.held) (pass_of handle.new.held) (pass_answer_of result) (PassOne caller (call.split_pmd page) (What.SplitPmd page)) }
+    ensures does { PassDoes (value_of handle.old.held) (value_of handle.new.held) (pass_answer_of result) (PassOne caller (call.split_pmd page) (What.SplitPmd page)) }
     ensures known { IsPassCode result }
 {
     thp_capi::pass_gain(handle, alloc, caller, page, Gain::SplitPmd)
@@ -210,7 +210,7 @@ pub extern "C" fn thp_c_pass_split_pmd(
 /// Adds a pin to the page.
 #[unsafe(no_mangle)]
 pub extern "C" fn thp_c_pass_pin(handle: &mut ThpPass, alloc: Global, caller: u32, page: u64) -> u32
-    ensures does { PassDoes (pass_of handle.old.held) (pass_of handle.new.held) (pass_answer_of result) (PassOne caller (call.pin page) (What.Pin page)) }
+    ensures does { PassDoes (value_of handle.old.held) (value_of handle.new.held) (pass_answer_of result) (PassOne caller (call.pin page) (What.Pin page)) }
     ensures known { IsPassCode result }
 {
     thp_capi::pass_gain(handle, alloc, caller, page, Gain::Pin)
@@ -226,7 +226,7 @@ pub extern "C" fn thp_c_pass_write(
     first: u32,
     count: u32,
 ) -> u32
-    ensures does { PassDoes (pass_of handle.old.held) (pass_of handle.new.held) (pass_answer_of result) (PassOne caller (call.write page first count) (What.Write page first count)) }
+    ensures does { PassDoes (value_of handle.old.held) (value_of handle.new.held) (pass_answer_of result) (PassOne caller (call.write page first count) (What.Write page first count)) }
     ensures known { IsPassCode result }
 {
     let first = narrowed(first);
@@ -245,7 +245,7 @@ pub extern "C" fn thp_c_pass_zero(
     first: u32,
     count: u32,
 ) -> u32
-    ensures does { PassDoes (pass_of handle.old.held) (pass_of handle.new.held) (pass_answer_of result) (PassOne caller (call.zero_fill page first count) (What.Zero page first count)) }
+    ensures does { PassDoes (value_of handle.old.held) (value_of handle.new.held) (pass_answer_of result) (PassOne caller (call.zero_fill page first count) (What.Zero page first count)) }
     ensures known { IsPassCode result }
 {
     let first = narrowed(first);
@@ -263,7 +263,7 @@ pub extern "C" fn thp_c_pass_unmap_whole(
     page: u64,
     done: &mut ThpDone,
 ) -> u32
-    ensures does { PassDoes (pass_of handle.old.held) (pass_of handle.new.held) (pass_answer_of result) (λ old new answer. PassLost caller (call.unmap_whole page) page (λ o released. What.UnmapWhole o page released) old new (pass_answer_with answer done.new)) }
+    ensures does { PassDoes (value_of handle.old.held) (value_of handle.new.held) (pass_answer_of result) (λ old new answer. PassLost caller (call.unmap_whole page) page (λ o released. What.UnmapWhole o page released) old new (pass_answer_with answer done.new)) }
     ensures known { IsPassCode result }
     ensures kept { OnErr (pass_answer_of result) (done.new ≡ done.old) }
 {
@@ -281,7 +281,7 @@ pub extern "C" fn thp_c_pass_unmap_sub(
     count: u32,
     done: &mut ThpDone,
 ) -> u32
-    ensures does { PassDoes (pass_of handle.old.held) (pass_of handle.new.held) (pass_answer_of result) (λ old new answer. PassLost caller (call.unmap_sub page first count) page (λ o released. What.UnmapSub o page first count released) old new (pass_answer_with answer done.new)) }
+    ensures does { PassDoes (value_of handle.old.held) (value_of handle.new.held) (pass_answer_of result) (λ old new answer. PassLost caller (call.unmap_sub page first count) page (λ o released. What.UnmapSub o page first count released) old new (pass_answer_with answer done.new)) }
     ensures known { IsPassCode result }
     ensures kept { OnErr (pass_answer_of result) (done.new ≡ done.old) }
 {
@@ -300,7 +300,7 @@ pub extern "C" fn thp_c_pass_unpin(
     page: u64,
     done: &mut ThpDone,
 ) -> u32
-    ensures does { PassDoes (pass_of handle.old.held) (pass_of handle.new.held) (pass_answer_of result) (λ old new answer. PassLost caller (call.unpin page) page (λ o released. What.Unpin o page released) old new (pass_answer_with answer done.new)) }
+    ensures does { PassDoes (value_of handle.old.held) (value_of handle.new.held) (pass_answer_of result) (λ old new answer. PassLost caller (call.unpin page) page (λ o released. What.Unpin o page released) old new (pass_answer_with answer done.new)) }
     ensures known { IsPassCode result }
     ensures kept { OnErr (pass_answer_of result) (done.new ≡ done.old) }
 {

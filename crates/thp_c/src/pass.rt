@@ -3,7 +3,7 @@ ghost use Rattle.std.specs.Prelude.{◌≡◌, None, OnOk, OnErr, IfErr, Ok};
 ghost use Rattle.thp_model.specs.Refusals as call;
 ghost use Rattle.thp_capi.specs.Engines.{shape_of};
 ghost use Rattle.thp_capi.specs.PassCodes.{pass_answer_of, pass_answer_with, IsPassCode};
-ghost use Rattle.thp_capi.specs.PassHandle.{pass_of};
+ghost use Rattle.thp_capi.specs.Rooms.{value_of};
 ghost use Rattle.thp_capi.specs.Passes.{PassDoes, PassOne, PassAlloc, PassScan, PassCount, CellMade, PassEmptied, Divided, WhyUndivided, Joined, WhyApart, OneCellHeld, Finished, WhyUnfinished};
 ghost use Rattle.thp_capi.specs.Replies.{scan_of};
 
@@ -23,7 +23,7 @@ pub extern "C" fn thp_c_cell_create(
     callers: u32,
     mark: u64,
 ) -> u32
-    ensures does { CellMade (pass_of handle.old.held) (pass_of handle.new.held) (shape_of blocks order underused) callers mark (pass_answer_of result) }
+    ensures does { CellMade (value_of handle.old.held) (value_of handle.new.held) (shape_of blocks order underused) callers mark (pass_answer_of result) }
     ensures known { IsPassCode result }
 {
     thp_capi::cell_create(handle, alloc, blocks, order, underused, callers, mark)
@@ -32,7 +32,7 @@ pub extern "C" fn thp_c_cell_create(
 /// Frees the pass that the handle refers to, and empties the handle. The last pass frees the cell too.
 #[unsafe(no_mangle)]
 pub extern "C" fn thp_c_pass_destroy(handle: &mut ThpPass, alloc: Global) -> u32
-    ensures does { PassEmptied (pass_of handle.old.held) (pass_of handle.new.held) (pass_answer_of result) }
+    ensures does { PassEmptied (value_of handle.old.held) (value_of handle.new.held) (pass_answer_of result) }
     ensures known { IsPassCode result }
 {
     thp_capi::pass_destroy(handle, alloc)
@@ -46,10 +46,10 @@ pub extern "C" fn thp_c_pass_split(
     at: u32,
     other: &mut ThpPass,
 ) -> u32
-    ensures done { OnOk (pass_answer_of result) (Divided at (pass_of handle.old.held) (pass_of handle.new.held) (pass_of other.new.held)) }
-    ensures same { OnErr (pass_answer_of result) (pass_of handle.new.held ≡ pass_of handle.old.held) }
-    ensures same_other { OnErr (pass_answer_of result) (pass_of other.new.held ≡ pass_of other.old.held) }
-    ensures why { IfErr (pass_answer_of result) (WhyUndivided at (pass_of handle.old.held) (pass_of other.old.held)) }
+    ensures done { OnOk (pass_answer_of result) (Divided at (value_of handle.old.held) (value_of handle.new.held) (value_of other.new.held)) }
+    ensures same { OnErr (pass_answer_of result) (value_of handle.new.held ≡ value_of handle.old.held) }
+    ensures same_other { OnErr (pass_answer_of result) (value_of other.new.held ≡ value_of other.old.held) }
+    ensures why { IfErr (pass_answer_of result) (WhyUndivided at (value_of handle.old.held) (value_of other.old.held)) }
     ensures known { IsPassCode result }
 {
     thp_capi::pass_split(handle, alloc, at, other)
@@ -59,12 +59,12 @@ pub extern "C" fn thp_c_pass_split(
 /// this pass.
 #[unsafe(no_mangle)]
 pub extern "C" fn thp_c_pass_join(handle: &mut ThpPass, alloc: Global, other: &mut ThpPass) -> u32
-    requires { OneCellHeld (pass_of handle.old.held) (pass_of other.old.held) }
-    ensures done { OnOk (pass_answer_of result) (Joined (pass_of handle.old.held) (pass_of other.old.held) (pass_of handle.new.held)) }
-    ensures emptied { OnOk (pass_answer_of result) (pass_of other.new.held ≡ None) }
-    ensures same { OnErr (pass_answer_of result) (pass_of handle.new.held ≡ pass_of handle.old.held) }
-    ensures same_other { OnErr (pass_answer_of result) (pass_of other.new.held ≡ pass_of other.old.held) }
-    ensures why { IfErr (pass_answer_of result) (WhyApart (pass_of handle.old.held) (pass_of other.old.held)) }
+    requires { OneCellHeld (value_of handle.old.held) (value_of other.old.held) }
+    ensures done { OnOk (pass_answer_of result) (Joined (value_of handle.old.held) (value_of other.old.held) (value_of handle.new.held)) }
+    ensures emptied { OnOk (pass_answer_of result) (value_of other.new.held ≡ None) }
+    ensures same { OnErr (pass_answer_of result) (value_of handle.new.held ≡ value_of handle.old.held) }
+    ensures same_other { OnErr (pass_answer_of result) (value_of other.new.held ≡ value_of other.old.held) }
+    ensures why { IfErr (pass_answer_of result) (WhyApart (value_of handle.old.held) (value_of other.old.held)) }
     ensures known { IsPassCode result }
 {
     thp_capi::pass_join(handle, alloc, other)
@@ -74,11 +74,11 @@ pub extern "C" fn thp_c_pass_join(handle: &mut ThpPass, alloc: Global, other: &m
 /// node, and empties the first.
 #[unsafe(no_mangle)]
 pub extern "C" fn thp_c_cell_finish(handle: &mut ThpPass, alloc: Global, node: &mut ThpNode) -> u32
-    ensures done { OnOk (pass_answer_of result) (Finished (pass_of handle.old.held) node.new.held) }
-    ensures emptied { OnOk (pass_answer_of result) (pass_of handle.new.held ≡ None) }
-    ensures same { OnErr (pass_answer_of result) (pass_of handle.new.held ≡ pass_of handle.old.held) }
+    ensures done { OnOk (pass_answer_of result) (Finished (value_of handle.old.held) node.new.held) }
+    ensures emptied { OnOk (pass_answer_of result) (value_of handle.new.held ≡ None) }
+    ensures same { OnErr (pass_answer_of result) (value_of handle.new.held ≡ value_of handle.old.held) }
     ensures same_node { OnErr (pass_answer_of result) (node.new.held ≡ node.old.held) }
-    ensures why { IfErr (pass_answer_of result) (WhyUnfinished (pass_of handle.old.held) node.old.held) }
+    ensures why { IfErr (pass_answer_of result) (WhyUnfinished (value_of handle.old.held) node.old.held) }
     ensures known { IsPassCode result }
 {
     thp_capi::cell_finish(handle, alloc, node)
@@ -92,7 +92,7 @@ pub extern "C" fn thp_c_pass_alloc(
     caller: u32,
     page: &mut u64,
 ) -> u32
-    ensures does { PassDoes (pass_of handle.old.held) (pass_of handle.new.held) (pass_answer_of result) (λ old new answer. PassAlloc caller old new (pass_answer_with answer page.new)) }
+    ensures does { PassDoes (value_of handle.old.held) (value_of handle.new.held) (pass_answer_of result) (λ old new answer. PassAlloc caller old new (pass_answer_with answer page.new)) }
     ensures known { IsPassCode result }
     ensures kept { OnErr (pass_answer_of result) (page.new ≡ page.old) }
 {
@@ -102,7 +102,7 @@ pub extern "C" fn thp_c_pass_alloc(
 /// Closes the node: no page is queued or allocated afterwards.
 #[unsafe(no_mangle)]
 pub extern "C" fn thp_c_pass_close(handle: &mut ThpPass, alloc: Global, caller: u32) -> u32
-    ensures does { PassDoes (pass_of handle.old.held) (pass_of handle.new.held) (pass_answer_of result) (PassOne caller call.close What.Close) }
+    ensures does { PassDoes (value_of handle.old.held) (value_of handle.new.held) (pass_answer_of result) (PassOne caller call.close What.Close) }
     ensures known { IsPassCode result }
 {
     thp_capi::pass_close(handle, alloc, caller)
@@ -117,7 +117,7 @@ pub extern "C" fn thp_c_pass_scan(
     n: u32,
     scan: &mut ThpScan,
 ) -> u32
-    ensures does { PassDoes (pass_of handle.old.held) (pass_of handle.new.held) (pass_answer_of result) (λ old new answer. PassScan caller n old new (pass_answer_with answer (scan_of scan.new))) }
+    ensures does { PassDoes (value_of handle.old.held) (value_of handle.new.held) (pass_answer_of result) (λ old new answer. PassScan caller n old new (pass_answer_with answer (scan_of scan.new))) }
     ensures known { IsPassCode result }
     ensures kept { OnErr (pass_answer_of result) (scan.new ≡ scan.old) }
 {
@@ -127,7 +127,7 @@ pub extern "C" fn thp_c_pass_scan(
 /// Stores in `pages` the number of queued pages, even while another pass has the node.
 #[unsafe(no_mangle)]
 pub extern "C" fn thp_c_pass_count(handle: &mut ThpPass, alloc: Global, pages: &mut u32) -> u32
-    ensures does { PassDoes (pass_of handle.old.held) (pass_of handle.new.held) (pass_answer_of result) (λ old new answer. (answer ≡ Ok tt) × PassCount pages.new old new) }
+    ensures does { PassDoes (value_of handle.old.held) (value_of handle.new.held) (pass_answer_of result) (λ old new answer. (answer ≡ Ok tt) × PassCount pages.new old new) }
     ensures known { IsPassCode result }
     ensures kept { OnErr (pass_answer_of result) (pages.new ≡ pages.old) }
 {
@@ -142,7 +142,7 @@ pub extern "C" fn thp_c_pass_callers(
     first: &mut u32,
     end: &mut u32,
 ) -> u32
-    ensures does { PassDoes (pass_of handle.old.held) (pass_of handle.new.held) (pass_answer_of result) (λ old new answer. (new ≡ old) × (answer ≡ Ok tt) × (first.new ≡ old.pass.first) × (end.new ≡ old.pass.end)) }
+    ensures does { PassDoes (value_of handle.old.held) (value_of handle.new.held) (pass_answer_of result) (λ old new answer. (new ≡ old) × (answer ≡ Ok tt) × (first.new ≡ old.pass.first) × (end.new ≡ old.pass.end)) }
     ensures known { IsPassCode result }
     ensures kept_first { OnErr (pass_answer_of result) (first.new ≡ first.old) }
     ensures kept_end { OnErr (pass_answer_of result) (end.new ≡ end.old) }

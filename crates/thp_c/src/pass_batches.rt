@@ -2,7 +2,7 @@
 ghost use Rattle.std.specs.Prelude.{◌≡◌, ◌≤◌, OnErr, OnOk};
 ghost use Rattle.thp_capi.specs.PassBatches.{PassTake, PassNext, PassBack, PassAbandon};
 ghost use Rattle.thp_capi.specs.PassCodes.{pass_answer_of, pass_answer_with, IsPassCode};
-ghost use Rattle.thp_capi.specs.PassHandle.{pass_of};
+ghost use Rattle.thp_capi.specs.Rooms.{value_of};
 ghost use Rattle.thp_capi.specs.Passes.{PassDoes};
 ghost use Rattle.thp_capi.specs.Replies.{tried_of, back_of};
 
@@ -19,7 +19,7 @@ pub extern "C" fn thp_c_pass_take(
     n: u32,
     count: &mut u32,
 ) -> u32
-    ensures does { PassDoes (pass_of handle.old.held) (pass_of handle.new.held) (pass_answer_of result) (λ old new answer. PassTake caller n old new (pass_answer_with answer count.new)) }
+    ensures does { PassDoes (value_of handle.old.held) (value_of handle.new.held) (pass_answer_of result) (λ old new answer. PassTake caller n old new (pass_answer_with answer count.new)) }
     ensures known { IsPassCode result }
     ensures kept { OnErr (pass_answer_of result) (count.new ≡ count.old) }
 {
@@ -34,7 +34,7 @@ pub extern "C" fn thp_c_pass_split_next(
     caller: u32,
     tried: &mut ThpTried,
 ) -> u32
-    ensures does { PassDoes (pass_of handle.old.held) (pass_of handle.new.held) (pass_answer_of result) (λ old new answer. PassNext caller old new (pass_answer_with answer (tried_of tried.new))) }
+    ensures does { PassDoes (value_of handle.old.held) (value_of handle.new.held) (pass_answer_of result) (λ old new answer. PassNext caller old new (pass_answer_with answer (tried_of tried.new))) }
     ensures known { IsPassCode result }
     ensures kept { OnErr (pass_answer_of result) (tried.new ≡ tried.old) }
     ensures kind { OnOk (pass_answer_of result) (tried.new.kind ≤ 3) }
@@ -50,7 +50,7 @@ pub extern "C" fn thp_c_pass_put_back(
     caller: u32,
     back: &mut ThpBack,
 ) -> u32
-    ensures does { PassDoes (pass_of handle.old.held) (pass_of handle.new.held) (pass_answer_of result) (λ old new answer. PassBack caller old new (pass_answer_with answer (back_of back.new))) }
+    ensures does { PassDoes (value_of handle.old.held) (value_of handle.new.held) (pass_answer_of result) (λ old new answer. PassBack caller old new (pass_answer_with answer (back_of back.new))) }
     ensures known { IsPassCode result }
     ensures kept { OnErr (pass_answer_of result) (back.new ≡ back.old) }
 {
@@ -60,7 +60,7 @@ pub extern "C" fn thp_c_pass_put_back(
 /// Discards the caller's open batch: its pages stay in the caller's flight, out of the queue.
 #[unsafe(no_mangle)]
 pub extern "C" fn thp_c_pass_abandon(handle: &mut ThpPass, alloc: Global, caller: u32) -> u32
-    ensures does { PassDoes (pass_of handle.old.held) (pass_of handle.new.held) (pass_answer_of result) (PassAbandon caller) }
+    ensures does { PassDoes (value_of handle.old.held) (value_of handle.new.held) (pass_answer_of result) (PassAbandon caller) }
     ensures known { IsPassCode result }
 {
     thp_capi::pass_abandon(handle, alloc, caller)

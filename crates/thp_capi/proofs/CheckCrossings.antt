@@ -1,17 +1,13 @@
 -- A handle of a check may go to another thread, as what it leads to may: a check's reader of its text, and a node's replay.
-use base.Shift.{Keyless}
-use mir.Raw.{raw}
-use denote.Memory.{lone}
-use denote.RawPtr.{Ptr}
-use denote.Param.Send.{IsSend, AllSend, view_send, owning_send, struct_send, sendable}
+use denote.Param.Send.{IsSend, view_send, owning_send, struct_send, sendable}
 use denote.Param.SendFields.{declared_send, variants_send}
+use denote.RattleType.{RattleType}
 use denote.Struct.Struct.{exits_of}
 use denote.Struct.Owning.{shape, fields, to}
-use Rattle.std.specs.Prelude.{Option, None, Some}
-use Rattle.std.proofs.Crossing.{Box-send, crosses, frees, send}
+use Rattle.std.proofs.Crossing.{Box-send, crosses, send}
 use Rattle.std.proofs.option.Option.TheSendSync as option
 use Rattle.std.proofs.result.Result.TheSendSync as result
-use Rattle.std_alloc.proofs.SendSync.{lies, quiet}
+use Rattle.std_alloc.proofs.SendSync.{quiet}
 use Rattle.thp_live_pages.specs.contracts.free_blocks.FreeBlocks as FreeBlocks
 use Rattle.thp_live_pages.specs.contracts.free_blocks.FreeBlocks.TheInside as in_free
 use Rattle.thp_live_pages.specs.contracts.past.EventTrace as EventTrace
@@ -37,13 +33,10 @@ use Rattle.thp_journal_reader.specs.contracts.long_check.LongCheck as LongCheck
 use Rattle.thp_journal_reader.specs.contracts.long_check.LongCheck.TheInside as in_check
 use Rattle.thp_script.specs.contracts.text_in_parts.TextInParts as TextInParts
 use Rattle.thp_script.specs.contracts.text_in_parts.TextInParts.TheInside as in_text
-use Rattle.thp_capi.specs.NodeHandle.{heap}
-use Rattle.thp_capi.specs.CheckHandle.{boxed_at}
-use Rattle.thp_capi.specs.declared.check_box.CheckBox.{CheckBox}
-use Rattle.thp_capi.specs.contracts.check_box.CheckBox.{the_row as R, the_type as room_type}
+use Rattle.thp_capi.specs.contracts.room.Room as Room
 use Rattle.thp_capi.specs.contracts.check_handle.ThpCheck.{the_row, the_type}
-use Rattle.thp_capi.proofs.Crossings.{places_send}
-use Rattle.thp_capi.specs.contracts.check_box.CheckStage as CheckStage
+use Rattle.thp_capi.specs.contracts.check_stage.CheckStage as CheckStage
+use Rattle.thp_capi.proofs.Crossings.{boxed_send, places_send, words_send}
 
 free_send : IsSend FreeBlocks.the_row
 free_send = view_send in_free.the_row _ _ _ _ (declared_send in_free.the_type (search (sendable, crosses) depth 30, tt))
@@ -87,16 +80,12 @@ check_send = view_send in_check.the_row _ _ _ _ (declared_send in_check.the_type
 stage_send : IsSend CheckStage.the_row
 stage_send = variants_send CheckStage.enum ((check_send, tt), ((result.the_send _ _ (option.the_send _ illegal.the_send) fault.the_send, tt), tt))
 
+abbrev R : RattleType
+R = Room.the_row CheckStage.the_row
+
 room_send : IsSend R
-room_send = declared_send room_type (option.the_send _ stage_send, tt)
-
-boxed : (at : Ptr) (v : Option CheckBox) → Keyless (boxed_at at v)
-boxed at None = tt
-boxed at (Some x) = (lies R room_send at x, frees.frees heap (raw (lone R.mir)) at)
-
-all : AllSend (fields the_type)
-all = (search sendable, (search sendable, tt))
+room_send = declared_send (Room.the_type CheckStage.the_row) (option.the_send _ stage_send, tt)
 
 -- a handle of a check may go to another thread
 pub check_handle_send : IsSend the_row
-check_handle_send = owning_send the_type all (λ d. (tt, boxed d.at d.held)) (λ k. quiet (to the_type) (exits_of k (fields the_type)) ((struct_send (shape the_type) all).leaving k))
+check_handle_send = owning_send the_type words_send (λ d. (tt, boxed_send R room_send d.at d.held)) (λ k. quiet (to the_type) (exits_of k (fields the_type)) ((struct_send (shape the_type) words_send).leaving k))

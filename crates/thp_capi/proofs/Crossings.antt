@@ -2,12 +2,14 @@
 use base.Shift.{Keyless}
 use mir.Raw.{raw}
 use denote.Memory.{lone}
+use denote.Builtin.{RawPtr, u32}
+use denote.RattleType.{RattleType}
 use denote.RawPtr.{Ptr}
 use denote.Param.Send.{IsSend, AllSend, view_send, owning_send, struct_send, sendable}
 use denote.Param.SendFields.{declared_send}
 use denote.Struct.Struct.{exits_of}
 use denote.Struct.Owning.{shape, fields, to}
-use Rattle.std.specs.Prelude.{Option, None, Some}
+use Rattle.std.specs.Prelude.{Option, None, Some, [], ◌∷◌}
 use Rattle.std.proofs.Crossing.{crosses, frees, Vec-send}
 use Rattle.std_alloc.proofs.SendSync.{lies, quiet}
 use Rattle.thp_page.proofs.page_table.Descriptor.TheSendSync as descriptor
@@ -27,8 +29,7 @@ use Rattle.thp_node.specs.contracts.journal.Journal as Journal
 use Rattle.thp_node.specs.contracts.journal.Journal.TheInside as in_journal
 use Rattle.thp_node.specs.contracts.node.Node as Node
 use Rattle.thp_node.specs.contracts.node.Node.TheInside as in_node
-use Rattle.thp_capi.specs.NodeHandle.{boxed_at, heap}
-use Rattle.thp_capi.specs.declared.engine.Engine.{Engine}
+use Rattle.thp_capi.specs.Handles.{boxed_at, heap}
 use Rattle.thp_capi.specs.contracts.engine.Engine.{the_row as R}
 use Rattle.thp_capi.specs.contracts.engine.Engine.TheInside as in_engine
 use Rattle.thp_capi.specs.contracts.node_handle.ThpNode.{the_row, the_type}
@@ -57,13 +58,14 @@ node_send = view_send (in_node.the_row FullLog.the_row keeps.ghosts) _ _ _ _ (de
 engine_send : IsSend R
 engine_send = view_send in_engine.the_row _ _ _ _ (declared_send in_engine.the_type (node_send, (search (sendable, crosses, batch_send) depth 30, tt)))
 
-boxed : (at : Ptr) (v : Option Engine) → Keyless (boxed_at at v)
-boxed at None = tt
-boxed at (Some x) = (lies R engine_send at x, frees.frees heap (raw (lone R.mir)) at)
+-- ---- what the handles share: their words are plain data, and what they hold may go to another thread as its type may
+pub words_send : AllSend (RawPtr ∷ u32 ∷ [])
+words_send = (search sendable, (search sendable, tt))
 
-all : AllSend (fields the_type)
-all = (search sendable, (search sendable, tt))
+pub boxed_send : (R : RattleType) → IsSend R → (at : Ptr) (v : Option R.Denot) → Keyless (boxed_at R at v)
+boxed_send R send at None = tt
+boxed_send R send at (Some x) = (lies R send at x, frees.frees heap (raw (lone R.mir)) at)
 
 -- a handle of a node may go to another thread
 pub handle_send : IsSend the_row
-handle_send = owning_send the_type all (λ d. (tt, boxed d.at d.held)) (λ k. quiet (to the_type) (exits_of k (fields the_type)) ((struct_send (shape the_type) all).leaving k))
+handle_send = owning_send the_type words_send (λ d. (tt, boxed_send R engine_send d.at d.held)) (λ k. quiet (to the_type) (exits_of k (fields the_type)) ((struct_send (shape the_type) words_send).leaving k))

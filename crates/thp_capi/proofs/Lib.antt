@@ -1,7 +1,6 @@
 mod Values
-mod NodeValues
-mod PassValues
-mod CheckValues
+mod Handles
+mod Exchanges
 mod TextSoFar
 mod Masks
 mod Losses

@@ -1,8 +1,9 @@
 -- The steps of a walk back through a node's journal, which finds the queued pages from the newest to the oldest.
-use Rattle.std.proofs.Common.{◌≡◌, ◌∙◌, ℕ, zero, suc, ◌+◌, ◌-◌, ◌<◌, ◌≤◌, Bool, true, false, not, ◌||◌, List, [], ◌∷◌, ◌++◌, Some, None, length, take, drop, set, get_or, replicate, refl, ap, sym, subst, arith, nat_eq, eqb-true, inl, inr}
+use Rattle.std.proofs.Common.{◌≡◌, ◌∙◌, ℕ, zero, suc, ◌+◌, ◌-◌, ◌<◌, ◌≤◌, Bool, true, false, not, ◌||◌, List, [], ◌∷◌, ◌++◌, Option, Some, None, length, take, drop, set, get_or, replicate, refl, ap, sym, subst, arith, nat_eq, eqb-true, inl, inr}
 use Rattle.std.proofs.lemmas.Bool.Decides.{eqb_tells}
 use Rattle.std.proofs.lemmas.List.{take_more, take_all, length-set, get_or-set_same, get_or-set_other, take-append-drop, drop_more, length-replicate}
 use Rattle.thp_model.specs.declared.events.Event.{Event}
+use Rattle.thp_model.specs.declared.shape.Shape.{Shape}
 use Rattle.thp_model.specs.History.{History}
 use Rattle.thp_model.specs.Legal.{IsLegal}
 use Rattle.thp_model.specs.Places.{queue, has_page}
@@ -12,6 +13,7 @@ use Rattle.thp_model.proofs.Standing.{times}
 use Rattle.thp_live_pages.specs.Homes.{block_of}
 use Rattle.thp_live_pages.proofs.Homing.{legal_homed}
 use Rattle.thp_node.specs.NodeState.{NodeState}
+use Rattle.thp_capi.specs.Engines.{EngineState}
 use Rattle.thp_capi.specs.Joining.{joins}
 use Rattle.thp_capi.specs.Reading.{filled_with}
 use Rattle.thp_capi.proofs.QueueOrder.{NoneTwice, Walked, Finds, has-append, walk_begins, walk_on, walk_over, walk_finds, walk_ends}
@@ -95,6 +97,26 @@ marked_found h ps left found p b m there home e = go (has_page p (take left ps))
   go : (x : Bool) → not x ≡ true → x ≡ false
   go true e = absurd (cc)
   go false e = refl
+
+-- ---- the event before `at`, as the loop reads it: the page that it queues, if any, is `joined`
+pub record Read (n : NodeState) (at : ℕ) (e : Event) (joined : Option ℕ) : Type 0 where
+  pub legal : IsLegal n.shape n.journal
+  pub within : at ≤ length n.journal
+  pub is : e ≡ get_or n.journal (at - 1) e
+  pub queues : joins n.shape e.what ≡ joined
+
+-- the engine's fields say it of the engine
+pub reads : {inside seen : EngineState} → inside ≡ seen → {events : History} → events ≡ inside.node.journal → IsLegal inside.node.shape inside.node.journal → {shape : Shape} → shape ≡ inside.node.shape →
+    (at : ℕ) → at ≤ length events → (e : Event) → e ≡ get_or events (at - 1) e → {joined : Option ℕ} → joined ≡ joins shape (get_or events (at - 1) e).what → Read seen.node at e joined
+reads {inside} {seen} view {events} value legal {shape} same at below e is {joined} queues =
+    let R : EngineState → Type 0 = λ s. Read s.node at e joined in
+    let H : History → Type 0 = λ h. e ≡ get_or h (at - 1) e in
+    subst R view (record {
+      legal = legal;
+      within = omega (arith, ap length value, below);
+      is = subst H value is;
+      queues = sym (queues ∙ ap (λ (x : Event). joins shape x.what) (sym is) ∙ ap (λ (s : Shape). joins s e.what) same);
+    })
 
 -- ---- the walk, its marks and its buffer
 

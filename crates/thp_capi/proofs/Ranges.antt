@@ -1,6 +1,6 @@
 -- A call of a range whose operands were kept in 16 bits does what the call of the range itself does.
-use Rattle.std.proofs.Common.{◌≡◌, ℕ, ◌≤◌, List, Bool, ◌∷◌, [], Option, Some, None, Ok, Err, refl, ap, ap₂, sym, ◌∙◌, subst}
-use Rattle.std.specs.Prelude.{IfSome, IfErr, OnOk, IfOk}
+use Rattle.std.proofs.Common.{◌≡◌, ℕ, ◌≤◌, List, Bool, ◌∷◌, [], Option, Some, None, Ok, Err, ap₂, sym, ◌∙◌, subst}
+use Rattle.std.specs.Prelude.{IfSome}
 use Rattle.thp_model.specs.declared.events.Outcome.{Outcome}
 use Rattle.thp_model.specs.declared.events.Outcome.TheVariants.{Stays}
 use Rattle.thp_model.specs.declared.events.What.{What}
@@ -14,16 +14,13 @@ use Rattle.thp_model.specs.Refusals.{Call, refusal}
 use Rattle.thp_model.specs.Refusals as call
 use Rattle.thp_model.proofs.Narrowing.{kept, map_sub, map_sub-whole, unmap_sub, unmap_sub-whole, write, write-whole, zero_fill, zero_fill-whole}
 use Rattle.thp_node.specs.Calls.{Did}
-use Rattle.thp_cell.specs.Calls.{Called}
-use Rattle.thp_cell.specs.Says.{DidOne, DidLose}
-use Rattle.thp_cell.specs.Views.{PassState}
 use Rattle.thp_cell.proofs.Narrowed.{one_as, lose_as}
 use Rattle.thp_capi.specs.Calls.{OneCall, Fails}
 use Rattle.thp_capi.specs.Codes.{Answer, answer_with}
 use Rattle.thp_capi.specs.Engines.{EngineState, Does, IsLow}
 use Rattle.thp_capi.specs.PassCodes.{PassAnswer, pass_answer_with}
 use Rattle.thp_capi.specs.Passes.{PassDoes, PassOne, PassLost, PassFails, IsLowPass}
-use Rattle.thp_capi.specs.Replies.{LoseCall, MasksSet, outcome_number}
+use Rattle.thp_capi.specs.Replies.{LoseCall}
 use Rattle.thp_capi.specs.Sharing.{SharedState}
 use Rattle.thp_capi.specs.declared.replies.ThpDone.{ThpDone}
 

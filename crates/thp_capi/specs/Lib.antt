@@ -6,12 +6,11 @@ pub mod Calls
 pub mod Replies
 pub mod Reading
 pub mod Joining
-pub mod NodeHandle
+pub mod Handles
+pub mod Rooms
 pub mod PassCodes
 pub mod Sharing
 pub mod Passes
 pub mod PassBatches
-pub mod PassHandle
 pub mod CheckCodes
 pub mod LongChecks
-pub mod CheckHandle

@@ -15,8 +15,8 @@ use Rattle.thp_capi.specs.Checks.{text_code}
 use Rattle.thp_capi.specs.CheckCodes.{CheckAnswer}
 use Rattle.thp_capi.specs.declared.check_codes.CheckCallFault.{CheckCallFault}
 use Rattle.thp_capi.specs.declared.check_codes.CheckCallFault.TheVariants.{Plain, Finished, NoReason}
-use Rattle.thp_capi.specs.declared.check_box.CheckStage.{CheckStage}
-use Rattle.thp_capi.specs.declared.check_box.CheckStage.TheVariants.{Reading, Judged}
+use Rattle.thp_capi.specs.declared.check_stage.CheckStage.{CheckStage}
+use Rattle.thp_capi.specs.declared.check_stage.CheckStage.TheVariants.{Reading, Judged}
 use Rattle.thp_capi.specs.declared.codes.Fault.TheVariants.{Refused, Empty, InUse}
 
 -- this text was read by the check: whatever follows it, the check reports the verdict on the whole text

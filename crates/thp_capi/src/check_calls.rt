@@ -2,15 +2,16 @@
 ghost use Rattle.std.specs.Prelude.{◌≡◌, [], IfErr, IfOk, Some};
 ghost use Rattle.thp_check.specs.Explanations.{explanation};
 ghost use Rattle.thp_capi.specs.CheckCodes.{check_answer_of, IsCheckCode};
-ghost use Rattle.thp_capi.specs.CheckHandle.{check_of};
+ghost use Rattle.thp_capi.specs.Rooms.{value_of};
 ghost use Rattle.thp_capi.specs.LongChecks.{CheckMade, CheckEmptied, CheckReads, CheckEnds, CheckTells, HasRead, Judges, ReadsOn, WhyNoReason, reason_of, verdict_numbers};
 
-use crate::check_box::CheckStage;
 use crate::check_codes::{CheckCallFault, check_code};
 use crate::check_handle::ThpCheck;
+use crate::check_stage::CheckStage;
 use crate::checks::code_of_kind;
 use crate::codes::Fault;
 use crate::node_calls::put;
+use crate::room::Room;
 use std::alloc::{AllocError, Global};
 use thp_check::put_explanation;
 use thp_journal_reader::{Illegal, LongCheck, TextFault};
@@ -18,17 +19,17 @@ use thp_model::Refusal;
 
 /// Creates a check that has read nothing, and fills the handle with it.
 pub fn check_create(handle: &mut ThpCheck, alloc: Global) -> u32
-    ensures does { CheckMade (check_of handle.old.held) (check_of handle.new.held) (check_answer_of result) }
+    ensures does { CheckMade (value_of handle.old.held) (value_of handle.new.held) (check_answer_of result) }
     ensures known { IsCheckCode result }
 {
     if let Some((room, stage)) = handle.take(alloc) {
-        *handle = ThpCheck::put(room, stage);
+        handle.put(room, stage);
         return check_code(Err(CheckCallFault::Plain(Fault::InUse)));
     }
-    let Some(room) = ThpCheck::room(alloc) else {
+    let Some(room) = Room::new(alloc) else {
         return check_code(Err(CheckCallFault::Plain(Fault::Refused(Refusal::OutOfMemory))));
     };
-    *handle = ThpCheck::put(room, CheckStage::Reading(begun(alloc)));
+    handle.put(room, CheckStage::Reading(begun(alloc)));
     check_code(Ok(()))
 }
 
@@ -41,7 +42,7 @@ fn begun(alloc: Global) -> LongCheck
 
 /// Frees the check that the handle refers to, and empties the handle.
 pub fn check_destroy(handle: &mut ThpCheck, alloc: Global) -> u32
-    ensures does { CheckEmptied (check_of handle.old.held) (check_of handle.new.held) (check_answer_of result) }
+    ensures does { CheckEmptied (value_of handle.old.held) (value_of handle.new.held) (check_answer_of result) }
     ensures known { IsCheckCode result }
 {
     match handle.take(alloc) {
@@ -52,7 +53,7 @@ pub fn check_destroy(handle: &mut ThpCheck, alloc: Global) -> u32
 
 /// Reads the next part of the text. If memory for that can't be allocated, the check is lost and the handle is empty.
 pub fn check_read(handle: &mut ThpCheck, alloc: Global, part: &[u8]) -> u32
-    ensures does { CheckReads part.now (check_of handle.old.held) (check_of handle.new.held) (check_answer_of result) }
+    ensures does { CheckReads part.now (value_of handle.old.held) (value_of handle.new.held) (check_answer_of result) }
     ensures known { IsCheckCode result }
 {
     let Some((room, stage)) = handle.take(alloc) else {
@@ -60,12 +61,12 @@ pub fn check_read(handle: &mut ThpCheck, alloc: Global, part: &[u8]) -> u32
     };
     match stage {
         CheckStage::Judged(verdict) => {
-            *handle = ThpCheck::put(room, CheckStage::Judged(verdict));
+            handle.put(room, CheckStage::Judged(verdict));
             check_code(Err(CheckCallFault::Finished))
         }
         CheckStage::Reading(check) => match read_on(check, part) {
             Ok(check) => {
-                *handle = ThpCheck::put(room, CheckStage::Reading(check));
+                handle.put(room, CheckStage::Reading(check));
                 check_code(Ok(()))
             }
             Err(_) => check_code(Err(CheckCallFault::Plain(Fault::Refused(Refusal::OutOfMemory)))),
@@ -104,14 +105,14 @@ fn numbers(verdict: &Result<Option<Illegal>, TextFault>) -> (u32, u64)
 /// Finishes the check, unless it is finished already. Returns 0 if the text read is legal, 21 for an illegal event, and 22 to 29
 /// for an error of that kind in the text. `line` is the line of the first illegal event or error, otherwise 0.
 pub fn check_finish(handle: &mut ThpCheck, alloc: Global, line: &mut u64) -> u32
-    ensures { CheckEnds (check_of handle.old.held) (check_of handle.new.held) result line.old line.new }
+    ensures { CheckEnds (value_of handle.old.held) (value_of handle.new.held) result line.old line.new }
 {
     let Some((room, stage)) = handle.take(alloc) else {
         return 12;
     };
     let verdict = judge(stage);
     let (code, at) = numbers(&verdict);
-    *handle = ThpCheck::put(room, CheckStage::Judged(verdict));
+    handle.put(room, CheckStage::Judged(verdict));
     *line = at;
     code
 }
@@ -149,14 +150,14 @@ pub fn check_reason(
     buffer: &mut [u8],
     size: &mut usize,
 ) -> u32
-    ensures does { CheckTells (check_of handle.old.held) (check_of handle.new.held) buffer.old buffer.new size.old size.new (check_answer_of result) }
+    ensures does { CheckTells (value_of handle.old.held) (value_of handle.new.held) buffer.old buffer.new size.old size.new (check_answer_of result) }
     ensures known { IsCheckCode result }
 {
     let Some((room, stage)) = handle.take(alloc) else {
         return check_code(Err(CheckCallFault::Plain(Fault::Empty)));
     };
     let text = reason(alloc, &stage);
-    *handle = ThpCheck::put(room, stage);
+    handle.put(room, stage);
     match text {
         Ok(text) => {
             *size = text.len();

@@ -1,10 +1,12 @@
 //! The handle of a check, as a C program holds it.
-ghost use Rattle.std.specs.Prelude.{◌≡◌, Option, None, Some, IfSome, IfNone, IsSome, is_some};
-ghost use Rattle.thp_capi.specs.CheckHandle.{check_of};
-ghost use Rattle.thp_capi.specs.declared.check_box.CheckBox.{CheckBox};
+ghost use Rattle.std.specs.Prelude.{◌≡◌, Option, None, Some, IfSome, IfNone};
+ghost use Rattle.thp_capi.specs.Rooms.{value_of};
+ghost use Rattle.thp_capi.specs.declared.check_stage.CheckStage.{CheckStage};
+ghost use Rattle.thp_capi.specs.declared.room.Room.{Room};
 
-use crate::check_box::{CheckBox, CheckStage};
-use crate::raw_box::RawBox;
+use crate::check_stage::CheckStage;
+use crate::handle::Handle;
+use crate::room::Room;
 use std::alloc::Global;
 use std::marker::Model;
 
@@ -15,96 +17,46 @@ pub struct ThpCheck {
     at: *mut u8,
     live: u32,
     // The room that the handle owns, for contracts.
-    pub ghost held: { Option CheckBox },
+    pub ghost held: { Option (Room CheckStage) },
 }
 
 impl Model for ThpCheck {
-    ghost use Rattle.thp_capi.specs.CheckHandle.{check_owns};
+    ghost use Rattle.thp_capi.specs.Handles.{handle_owns};
+    ghost use Rattle.thp_capi.specs.contracts.check_stage.CheckStage as stage;
+    ghost use Rattle.thp_capi.specs.contracts.room.Room as room;
 
-    ghost also_owns = { λ h. check_owns h.at h.live h.held };
+    ghost also_owns = { λ h. handle_owns (room.the_row stage.the_row) h.at h.live h.held };
 }
 
 impl ThpCheck {
-    /// Returns the empty handle.
-    fn empty() -> ThpCheck
-        ensures { result.held ≡ None }
+    // Replaces what the handle owns, and returns what it owned.
+    fn exchange(&mut self, new: Handle<Room<CheckStage>>) -> Handle<Room<CheckStage>>
+        ensures old { result.held ≡ self.old.held }
+        ensures new { self.new.held ≡ new.held }
     {
-        ThpCheck {
-            at: std::ptr::null_mut(),
-            live: 0,
-        }
-    }
-
-    fn of(loose: RawBox<CheckBox, Global>) -> ThpCheck
-        ensures { result.held ≡ Some loose.value }
-    {
-        let RawBox { at, alloc: _ } = loose;
-        ThpCheck {
-            at: at as *mut u8,
-            live: 1,
-        }
-    }
-
-    fn is_full(&mut self) -> bool
-        ensures same { self.new ≡ self.old }
-        ensures full { result ≡ is_some self.old.held }
-    {
-        self.live == 1
-    }
-
-    fn into_loose(self, alloc: Global) -> RawBox<CheckBox, Global>
-        requires { IsSome self.held }
-        ensures { self.held ≡ Some result.value }
-    {
-        RawBox {
-            at: self.at as *mut CheckBox,
-            alloc,
-        }
-    }
-
-    // The handle of an occupied room.
-    fn store(room: Box<CheckBox>) -> ThpCheck
-        ensures { result.held ≡ Some room.value }
-    {
-        ThpCheck::of(RawBox::of(room))
-    }
-
-    // Removes the room from the handle, if it has one.
-    fn take_room(&mut self, alloc: Global) -> Option<Box<CheckBox>>
-        ensures none { IfNone result (self.old.held ≡ None) }
-        ensures some { IfSome result (λ room. self.old.held ≡ Some room.value) }
-        ensures empty { self.new.held ≡ None }
-    {
-        if self.is_full() {
-            let handle = std::mem::replace(self, ThpCheck::empty());
-            Some(handle.into_loose(alloc).into_box())
-        } else {
-            None
-        }
+        let Handle { at, live } = new;
+        let old = Handle {
+            at: self.at as *mut Room<CheckStage>,
+            live: self.live,
+        };
+        self.at = at as *mut u8;
+        self.live = live;
+        old
     }
 
     /// Removes the check and its room from the handle, if it has one.
-    pub fn take(&mut self, alloc: Global) -> Option<(Box<CheckBox>, CheckStage)>
-        ensures none { IfNone result (check_of self.old.held ≡ None) }
-        ensures some { IfSome result (λ taken. check_of self.old.held ≡ Some taken.1) }
-        ensures empty { check_of self.new.held ≡ None }
+    pub fn take(&mut self, alloc: Global) -> Option<(Box<Room<CheckStage>>, CheckStage)>
+        ensures none { IfNone result (value_of self.old.held ≡ None) }
+        ensures some { IfSome result (λ taken. value_of self.old.held ≡ Some taken.1) }
+        ensures empty { value_of self.new.held ≡ None }
     {
-        let mut room = self.take_room(alloc)?;
-        let stage = room.stage.take()?;
-        Some((room, stage))
+        Room::take(self.exchange(Handle::empty()), alloc)
     }
 
-    /// Puts a check in its room, and returns the handle of both.
-    pub fn put(room: Box<CheckBox>, stage: CheckStage) -> ThpCheck
-        ensures { check_of result.held ≡ Some stage }
+    /// Puts a check in its room, and stores both in the handle.
+    pub fn put(&mut self, room: Box<Room<CheckStage>>, stage: CheckStage)
+        ensures { value_of self.new.held ≡ Some stage }
     {
-        let mut room = room;
-        room.stage = Some(stage);
-        ThpCheck::store(room)
-    }
-
-    /// Allocates an empty room, or returns `None` if that is not possible.
-    pub fn room(alloc: Global) -> Option<Box<CheckBox>> {
-        Box::new(alloc, CheckBox { stage: None }).ok()
+        let _old = self.exchange(Room::put(room, stage));
     }
 }

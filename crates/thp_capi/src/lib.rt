@@ -3,36 +3,38 @@
 //! A C program holds a handle, a struct in its own memory: a pointer and a mark. What the handle owns is its ghost value; the
 //! contract of each call states what it did to that. `thp_c` exports each call; docs/C.md has what is proved, call by call.
 //!
-//! - Nodes: `node_calls`, `node_readers`, `engine` (a node and its open batches), `node_handle`, `replies`, `page_state`, `stats`;
-//!   `Calls`, `Reading`, `Replies`, `Engines`, `NodeHandle`. `raw_box`: a box as its pointer.
-//! - Shared nodes: `pass_calls`, `pass_batch_calls`, `shared_pass`, `open_batches`, `pass_handle`, `pass_box`; `Passes`,
-//!   `Sharing`, `PassBatches`, `PassHandle`, `OpenBatches` (of nodes, too).
-//! - Checks: `checks` (a whole text; `Checks`), `check_calls`, `check_handle`, `check_box` (in parts; `LongChecks`,
-//!   `CheckHandle`).
+//! - Handles: `handle` (one for all; `Handles`), `raw_box` (a box as its pointer), `room` (`Rooms`), and what C sees of them:
+//!   `node_handle`, `pass_handle`, `check_handle`.
+//! - Nodes: `node_calls`, `node_readers`, `engine` (a node and its open batches), `replies`, `page_state`, `stats`; `Calls`,
+//!   `Reading`, `Replies`, `Engines`.
+//! - Shared nodes: `pass_calls`, `pass_batch_calls`, `shared_pass`, `open_batches`; `Passes`, `Sharing`, `PassBatches`,
+//!   `OpenBatches` (of nodes, too).
+//! - Checks: `checks` (a whole text; `Checks`), `check_calls`, `check_stage` (in parts; `LongChecks`).
 //! - Codes: `codes`, `pass_codes`, `check_codes` (`Codes`, `PassCodes`, `CheckCodes`).
 //!
 //! A new call also needs `thp_c`, `c/thp.h`, `c/thp.c`, `c/names`, docs/libthp.3, docs/C.md, `rust/src` and the tests of both.
 #![tactic(auto)]
 
-mod check_box;
 mod check_calls;
 mod check_codes;
 mod check_handle;
+mod check_stage;
 mod checks;
 mod codes;
 mod engine;
+mod handle;
 mod node_calls;
 mod node_handle;
 mod node_readers;
 mod open_batches;
 mod page_state;
 mod pass_batch_calls;
-mod pass_box;
 mod pass_calls;
 mod pass_codes;
 mod pass_handle;
 mod raw_box;
 mod replies;
+mod room;
 mod shared_pass;
 mod stats;
 

@@ -30,13 +30,13 @@ pub fn node_create(
     ensures known { result < length answers }
 {
     if let Some(engine) = handle.take(alloc) {
-        *handle = ThpNode::store(engine);
+        handle.store(engine);
         return code(Err(Fault::InUse));
     }
     match Engine::new(alloc, shape(blocks, order, underused)) {
         Ok(engine) => match Box::new(alloc, engine) {
             Ok(engine) => {
-                *handle = ThpNode::store(engine);
+                handle.store(engine);
                 code(Ok(()))
             }
             Err(_) => code(Err(Fault::Refused(Refusal::OutOfMemory))),
@@ -81,7 +81,7 @@ pub fn node_alloc(handle: &mut ThpNode, alloc: Global, caller: u32, page: &mut u
         return code(Err(Fault::Empty));
     };
     let answer = engine.alloc_page(caller);
-    *handle = ThpNode::store(engine);
+    handle.store(engine);
     match answer {
         Ok(number) => {
             *page = number.0;
@@ -102,7 +102,7 @@ pub fn node_gain(handle: &mut ThpNode, alloc: Global, caller: u32, page: u64, ga
         return code(Err(Fault::Empty));
     };
     let answer = engine.gain(caller, PageId(page), gain);
-    *handle = ThpNode::store(engine);
+    handle.store(engine);
     code(answer)
 }
 
@@ -115,7 +115,7 @@ pub fn node_close(handle: &mut ThpNode, alloc: Global, caller: u32) -> u32
         return code(Err(Fault::Empty));
     };
     let answer = engine.close(caller);
-    *handle = ThpNode::store(engine);
+    handle.store(engine);
     code(answer)
 }
 
@@ -138,7 +138,7 @@ pub fn node_lose(
         return code(Err(Fault::Empty));
     };
     let answer = engine.lose(caller, PageId(page), loss);
-    *handle = ThpNode::store(engine);
+    handle.store(engine);
     match answer {
         Ok(did) => {
             *done = ThpDone::of(&did);
@@ -164,7 +164,7 @@ pub fn node_scan(
         return code(Err(Fault::Empty));
     };
     let answer = engine.scan(caller, n);
-    *handle = ThpNode::store(engine);
+    handle.store(engine);
     match answer {
         Ok(reply) => {
             *scan = ThpScan::of(&reply);
@@ -185,7 +185,7 @@ pub fn node_take(handle: &mut ThpNode, alloc: Global, caller: u32, n: u32, count
         return code(Err(Fault::Empty));
     };
     let answer = engine.take(caller, n);
-    *handle = ThpNode::store(engine);
+    handle.store(engine);
     match answer {
         Ok(reply) => {
             *count = reply;
@@ -211,7 +211,7 @@ pub fn node_split_next(
         return code(Err(Fault::Empty));
     };
     let answer = engine.split_next(caller);
-    *handle = ThpNode::store(engine);
+    handle.store(engine);
     match answer {
         Ok(reply) => {
             *tried = ThpTried::of(&reply);
@@ -231,7 +231,7 @@ pub fn node_put_back(handle: &mut ThpNode, alloc: Global, caller: u32, back: &mu
         return code(Err(Fault::Empty));
     };
     let answer = engine.put_back(caller);
-    *handle = ThpNode::store(engine);
+    handle.store(engine);
     match answer {
         Ok(reply) => {
             *back = ThpBack::of(&reply);
@@ -250,7 +250,7 @@ pub fn node_abandon(handle: &mut ThpNode, alloc: Global, caller: u32) -> u32
         return code(Err(Fault::Empty));
     };
     let answer = engine.abandon(caller);
-    *handle = ThpNode::store(engine);
+    handle.store(engine);
     code(answer)
 }
 
@@ -264,7 +264,7 @@ pub fn node_reserve(handle: &mut ThpNode, alloc: Global, events: u32) -> u32
         return code(Err(Fault::Empty));
     };
     let answer = engine.reserve(events);
-    *handle = ThpNode::store(engine);
+    handle.store(engine);
     code(answer)
 }
 
@@ -278,7 +278,7 @@ pub fn node_queue_length(handle: &mut ThpNode, alloc: Global, pages: &mut u32) -
         return code(Err(Fault::Empty));
     };
     *pages = engine.queue_length();
-    *handle = ThpNode::store(engine);
+    handle.store(engine);
     code(Ok(()))
 }
 
@@ -292,7 +292,7 @@ pub fn node_stats(handle: &mut ThpNode, alloc: Global, stats: &mut ThpStats) -> 
         return code(Err(Fault::Empty));
     };
     *stats = engine.stats();
-    *handle = ThpNode::store(engine);
+    handle.store(engine);
     code(Ok(()))
 }
 
@@ -305,7 +305,7 @@ pub fn node_journal(handle: &mut ThpNode, alloc: Global, buffer: &mut [u8], size
         return code(Err(Fault::Empty));
     };
     let text = engine.text(alloc);
-    *handle = ThpNode::store(engine);
+    handle.store(engine);
     match text {
         Ok(text) => {
             *size = text.len();

@@ -1,9 +1,9 @@
 //! The handle of a node, as a C program holds it.
-ghost use Rattle.std.specs.Prelude.{◌≡◌, Option, None, Some, IfSome, IfNone, IsSome, is_some};
+ghost use Rattle.std.specs.Prelude.{◌≡◌, Option, None, Some, IfSome, IfNone};
 ghost use Rattle.thp_capi.specs.declared.engine.Engine.{Engine};
 
 use crate::engine::Engine;
-use crate::raw_box::RawBox;
+use crate::handle::Handle;
 use std::alloc::Global;
 use std::marker::Model;
 
@@ -18,54 +18,33 @@ pub struct ThpNode {
 }
 
 impl Model for ThpNode {
-    ghost use Rattle.thp_capi.specs.NodeHandle.{node_owns};
+    ghost use Rattle.thp_capi.specs.Handles.{handle_owns};
+    ghost use Rattle.thp_capi.specs.contracts.engine.Engine.{the_row};
 
-    ghost also_owns = { λ h. node_owns h.at h.live h.held };
+    ghost also_owns = { λ h. handle_owns the_row h.at h.live h.held };
 }
 
 impl ThpNode {
-    /// Returns the empty handle.
-    fn empty() -> ThpNode
-        ensures { result.held ≡ None }
+    // Replaces what the handle owns, and returns what it owned.
+    fn exchange(&mut self, new: Handle<Engine>) -> Handle<Engine>
+        ensures old { result.held ≡ self.old.held }
+        ensures new { self.new.held ≡ new.held }
     {
-        ThpNode {
-            at: std::ptr::null_mut(),
-            live: 0,
-        }
-    }
-
-    fn of(loose: RawBox<Engine, Global>) -> ThpNode
-        ensures { result.held ≡ Some loose.value }
-    {
-        let RawBox { at, alloc: _ } = loose;
-        ThpNode {
-            at: at as *mut u8,
-            live: 1,
-        }
-    }
-
-    fn is_full(&mut self) -> bool
-        ensures same { self.new ≡ self.old }
-        ensures full { result ≡ is_some self.old.held }
-    {
-        self.live == 1
-    }
-
-    fn into_loose(self, alloc: Global) -> RawBox<Engine, Global>
-        requires { IsSome self.held }
-        ensures { self.held ≡ Some result.value }
-    {
-        RawBox {
+        let Handle { at, live } = new;
+        let old = Handle {
             at: self.at as *mut Engine,
-            alloc,
-        }
+            live: self.live,
+        };
+        self.at = at as *mut u8;
+        self.live = live;
+        old
     }
 
-    /// Returns the handle of an engine.
-    pub fn store(engine: Box<Engine>) -> ThpNode
-        ensures { result.held ≡ Some engine.value }
+    /// Stores the engine in the handle.
+    pub fn store(&mut self, engine: Box<Engine>)
+        ensures { self.new.held ≡ Some engine.value }
     {
-        ThpNode::of(RawBox::of(engine))
+        let _old = self.exchange(Handle::store(engine));
     }
 
     /// Removes the engine from the handle, if it has one.
@@ -74,11 +53,6 @@ impl ThpNode {
         ensures some { IfSome result (λ engine. self.old.held ≡ Some engine.value) }
         ensures empty { self.new.held ≡ None }
     {
-        if self.is_full() {
-            let handle = std::mem::replace(self, ThpNode::empty());
-            Some(handle.into_loose(alloc).into_box())
-        } else {
-            None
-        }
+        self.exchange(Handle::empty()).into_box(alloc)
     }
 }

@@ -20,7 +20,7 @@ pub fn node_page(handle: &mut ThpNode, alloc: Global, page: u64, state: &mut Thp
         return code(Err(Fault::Empty));
     };
     let answer = engine.page(PageId(page));
-    *handle = ThpNode::store(engine);
+    handle.store(engine);
     match answer {
         Ok(found) => {
             *state = found;
@@ -46,7 +46,7 @@ pub fn node_mapcount(
         return code(Err(Fault::Empty));
     };
     let answer = engine.mapcount(PageId(page), subpage);
-    *handle = ThpNode::store(engine);
+    handle.store(engine);
     match answer {
         Ok(count) => {
             *own = count;
@@ -67,6 +67,6 @@ pub fn node_queue(handle: &mut ThpNode, alloc: Global, pages: &mut [u64], count:
         return code(Err(Fault::Empty));
     };
     *count = engine.queue(pages);
-    *handle = ThpNode::store(engine);
+    handle.store(engine);
     code(Ok(()))
 }

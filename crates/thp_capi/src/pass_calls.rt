@@ -4,7 +4,7 @@ ghost use Rattle.thp_model.specs.PageCalls.{gain_call, gain_what, loss_call, los
 ghost use Rattle.thp_model.specs.Refusals as call;
 ghost use Rattle.thp_capi.specs.Engines.{NoneOpen, shape_of};
 ghost use Rattle.thp_capi.specs.PassCodes.{pass_answer_of, pass_answer_with, IsPassCode};
-ghost use Rattle.thp_capi.specs.PassHandle.{pass_of};
+ghost use Rattle.thp_capi.specs.Rooms.{value_of};
 ghost use Rattle.thp_capi.specs.Passes.{IsLowPass, PassDoes, PassOne, PassAlloc, PassLost, PassScan, PassCount, CellMade, PassEmptied, Divided, WhyUndivided, Joined, WhyApart, OneCellHeld, Finished, WhyUnfinished};
 ghost use Rattle.thp_capi.specs.Replies.{scan_of};
 
@@ -15,6 +15,7 @@ use crate::node_handle::ThpNode;
 use crate::pass_codes::{PassFault, pass_code};
 use crate::pass_handle::ThpPass;
 use crate::replies::{ThpDone, ThpScan};
+use crate::room::Room;
 use crate::shared_pass::SharedPass;
 use std::alloc::Global;
 use thp_model::{Gain, Loss, PageId, Refusal, Shape, What};
@@ -31,19 +32,19 @@ pub fn cell_create(
     callers: u32,
     mark: u64,
 ) -> u32
-    ensures does { CellMade (pass_of handle.old.held) (pass_of handle.new.held) (shape_of blocks order underused) callers mark (pass_answer_of result) }
+    ensures does { CellMade (value_of handle.old.held) (value_of handle.new.held) (shape_of blocks order underused) callers mark (pass_answer_of result) }
     ensures known { IsPassCode result }
 {
     if let Some((room, shared)) = handle.take(alloc) {
-        *handle = ThpPass::put(room, shared);
+        handle.put(room, shared);
         return pass_code(Err(PassFault::Plain(Fault::InUse)));
     }
-    let Some(room) = ThpPass::room(alloc) else {
+    let Some(room) = Room::new(alloc) else {
         return pass_code(Err(PassFault::Plain(Fault::Refused(Refusal::OutOfMemory))));
     };
     match SharedPass::new(alloc, shape(blocks, order, underused), callers, mark) {
         Ok(shared) => {
-            *handle = ThpPass::put(room, shared);
+            handle.put(room, shared);
             pass_code(Ok(()))
         }
         Err(NewFault::BadSize) => pass_code(Err(PassFault::Plain(Fault::BadSize))),
@@ -55,7 +56,7 @@ pub fn cell_create(
 
 /// Frees the pass that the handle refers to, and empties the handle. The last pass frees the cell too.
 pub fn pass_destroy(handle: &mut ThpPass, alloc: Global) -> u32
-    ensures does { PassEmptied (pass_of handle.old.held) (pass_of handle.new.held) (pass_answer_of result) }
+    ensures does { PassEmptied (value_of handle.old.held) (value_of handle.new.held) (pass_answer_of result) }
     ensures known { IsPassCode result }
 {
     match handle.take(alloc) {
@@ -66,31 +67,31 @@ pub fn pass_destroy(handle: &mut ThpPass, alloc: Global) -> u32
 
 /// Divides the callers of a pass: those below `at` stay, and the other handle is filled with a pass of those from `at` on.
 pub fn pass_split(handle: &mut ThpPass, alloc: Global, at: u32, other: &mut ThpPass) -> u32
-    ensures done { OnOk (pass_answer_of result) (Divided at (pass_of handle.old.held) (pass_of handle.new.held) (pass_of other.new.held)) }
-    ensures same { OnErr (pass_answer_of result) (pass_of handle.new.held ≡ pass_of handle.old.held) }
-    ensures same_other { OnErr (pass_answer_of result) (pass_of other.new.held ≡ pass_of other.old.held) }
-    ensures why { IfErr (pass_answer_of result) (WhyUndivided at (pass_of handle.old.held) (pass_of other.old.held)) }
+    ensures done { OnOk (pass_answer_of result) (Divided at (value_of handle.old.held) (value_of handle.new.held) (value_of other.new.held)) }
+    ensures same { OnErr (pass_answer_of result) (value_of handle.new.held ≡ value_of handle.old.held) }
+    ensures same_other { OnErr (pass_answer_of result) (value_of other.new.held ≡ value_of other.old.held) }
+    ensures why { IfErr (pass_answer_of result) (WhyUndivided at (value_of handle.old.held) (value_of other.old.held)) }
     ensures known { IsPassCode result }
 {
     if let Some((room, shared)) = other.take(alloc) {
-        *other = ThpPass::put(room, shared);
+        other.put(room, shared);
         return pass_code(Err(PassFault::Plain(Fault::InUse)));
     }
     let Some((room, shared)) = handle.take(alloc) else {
         return pass_code(Err(PassFault::Plain(Fault::Empty)));
     };
-    let Some(other_room) = ThpPass::room(alloc) else {
-        *handle = ThpPass::put(room, shared);
+    let Some(other_room) = Room::new(alloc) else {
+        handle.put(room, shared);
         return pass_code(Err(PassFault::Plain(Fault::Refused(Refusal::OutOfMemory))));
     };
     match shared.split(alloc, at) {
         Ok((left, right)) => {
-            *handle = ThpPass::put(room, left);
-            *other = ThpPass::put(other_room, right);
+            handle.put(room, left);
+            other.put(other_room, right);
             pass_code(Ok(()))
         }
         Err((shared, fault)) => {
-            *handle = ThpPass::put(room, shared);
+            handle.put(room, shared);
             pass_code(Err(PassFault::Plain(fault)))
         }
     }
@@ -99,27 +100,27 @@ pub fn pass_split(handle: &mut ThpPass, alloc: Global, at: u32, other: &mut ThpP
 /// Joins the pass of the other handle to this one, and empties the other. The callers of the other must directly follow those of
 /// this pass.
 pub fn pass_join(handle: &mut ThpPass, alloc: Global, other: &mut ThpPass) -> u32
-    requires { OneCellHeld (pass_of handle.old.held) (pass_of other.old.held) }
-    ensures done { OnOk (pass_answer_of result) (Joined (pass_of handle.old.held) (pass_of other.old.held) (pass_of handle.new.held)) }
-    ensures emptied { OnOk (pass_answer_of result) (pass_of other.new.held ≡ None) }
-    ensures same { OnErr (pass_answer_of result) (pass_of handle.new.held ≡ pass_of handle.old.held) }
-    ensures same_other { OnErr (pass_answer_of result) (pass_of other.new.held ≡ pass_of other.old.held) }
-    ensures why { IfErr (pass_answer_of result) (WhyApart (pass_of handle.old.held) (pass_of other.old.held)) }
+    requires { OneCellHeld (value_of handle.old.held) (value_of other.old.held) }
+    ensures done { OnOk (pass_answer_of result) (Joined (value_of handle.old.held) (value_of other.old.held) (value_of handle.new.held)) }
+    ensures emptied { OnOk (pass_answer_of result) (value_of other.new.held ≡ None) }
+    ensures same { OnErr (pass_answer_of result) (value_of handle.new.held ≡ value_of handle.old.held) }
+    ensures same_other { OnErr (pass_answer_of result) (value_of other.new.held ≡ value_of other.old.held) }
+    ensures why { IfErr (pass_answer_of result) (WhyApart (value_of handle.old.held) (value_of other.old.held)) }
     ensures known { IsPassCode result }
 {
     let Some((room, left)) = handle.take(alloc) else {
         return pass_code(Err(PassFault::Plain(Fault::Empty)));
     };
     let Some((other_room, right)) = other.take(alloc) else {
-        *handle = ThpPass::put(room, left);
+        handle.put(room, left);
         return pass_code(Err(PassFault::Plain(Fault::Empty)));
     };
     if left.adjoins(&right) {
-        *handle = ThpPass::put(room, left.join(right));
+        handle.put(room, left.join(right));
         pass_code(Ok(()))
     } else {
-        *handle = ThpPass::put(room, left);
-        *other = ThpPass::put(other_room, right);
+        handle.put(room, left);
+        other.put(other_room, right);
         pass_code(Err(PassFault::BadPass))
     }
 }
@@ -127,32 +128,32 @@ pub fn pass_join(handle: &mut ThpPass, alloc: Global, other: &mut ThpPass) -> u3
 /// Dismantles the cell if the pass has all its callers and no other handle refers to the cell: fills the second handle with the
 /// node, and empties the first.
 pub fn cell_finish(handle: &mut ThpPass, alloc: Global, node: &mut ThpNode) -> u32
-    ensures done { OnOk (pass_answer_of result) (Finished (pass_of handle.old.held) node.new.held) }
-    ensures emptied { OnOk (pass_answer_of result) (pass_of handle.new.held ≡ None) }
-    ensures same { OnErr (pass_answer_of result) (pass_of handle.new.held ≡ pass_of handle.old.held) }
+    ensures done { OnOk (pass_answer_of result) (Finished (value_of handle.old.held) node.new.held) }
+    ensures emptied { OnOk (pass_answer_of result) (value_of handle.new.held ≡ None) }
+    ensures same { OnErr (pass_answer_of result) (value_of handle.new.held ≡ value_of handle.old.held) }
     ensures same_node { OnErr (pass_answer_of result) (node.new.held ≡ node.old.held) }
-    ensures why { IfErr (pass_answer_of result) (WhyUnfinished (pass_of handle.old.held) node.old.held) }
+    ensures why { IfErr (pass_answer_of result) (WhyUnfinished (value_of handle.old.held) node.old.held) }
     ensures known { IsPassCode result }
 {
     if let Some(engine) = node.take(alloc) {
-        *node = ThpNode::store(engine);
+        node.store(engine);
         return pass_code(Err(PassFault::Plain(Fault::InUse)));
     }
     let Some((room, shared)) = handle.take(alloc) else {
         return pass_code(Err(PassFault::Plain(Fault::Empty)));
     };
     let Some(mut engine) = spare(alloc) else {
-        *handle = ThpPass::put(room, shared);
+        handle.put(room, shared);
         return pass_code(Err(PassFault::Plain(Fault::Refused(Refusal::OutOfMemory))));
     };
     match shared.finish() {
         Ok(found) => {
             engine.replace(found);
-            *node = ThpNode::store(engine);
+            node.store(engine);
             pass_code(Ok(()))
         }
         Err((shared, fault)) => {
-            *handle = ThpPass::put(room, shared);
+            handle.put(room, shared);
             pass_code(Err(fault))
         }
     }
@@ -179,18 +180,18 @@ fn spare(alloc: Global) -> Option<Box<Engine>>
 
 /// Allocates a page, mapped whole once. Its number is the number of allocations before it.
 pub fn pass_alloc(handle: &mut ThpPass, alloc: Global, caller: u32, page: &mut u64) -> u32
-    ensures does { PassDoes (pass_of handle.old.held) (pass_of handle.new.held) (pass_answer_of result) (λ old new answer. PassAlloc caller old new (pass_answer_with answer page.new)) }
+    ensures does { PassDoes (value_of handle.old.held) (value_of handle.new.held) (pass_answer_of result) (λ old new answer. PassAlloc caller old new (pass_answer_with answer page.new)) }
     ensures known { IsPassCode result }
     ensures kept { OnErr (pass_answer_of result) (page.new ≡ page.old) }
 {
     let Some(mut room) = handle.lend(alloc) else {
         return pass_code(Err(PassFault::Plain(Fault::Empty)));
     };
-    let answer = match &mut room.shared {
+    let answer = match &mut room.value {
         Some(shared) => shared.alloc_page(caller),
         None => Err(PassFault::Plain(Fault::Empty)),
     };
-    *handle = ThpPass::of_room(room);
+    handle.restore(room);
     match answer {
         Ok(number) => {
             *page = number.0;
@@ -203,18 +204,18 @@ pub fn pass_alloc(handle: &mut ThpPass, alloc: Global, caller: u32, page: &mut u
 /// Adds mappings or a pin, or fills subpages of the page.
 #[inline(always)]
 pub fn pass_gain(handle: &mut ThpPass, alloc: Global, caller: u32, page: u64, gain: Gain) -> u32
-    ensures does { PassDoes (pass_of handle.old.held) (pass_of handle.new.held) (pass_answer_of result) (PassOne caller (gain_call gain page) (gain_what gain page)) }
+    ensures does { PassDoes (value_of handle.old.held) (value_of handle.new.held) (pass_answer_of result) (PassOne caller (gain_call gain page) (gain_what gain page)) }
     ensures known { IsPassCode result }
-    ensures low { IfSome (pass_of handle.old.held) IsLowPass }
+    ensures low { IfSome (value_of handle.old.held) IsLowPass }
 {
     let Some(mut room) = handle.lend(alloc) else {
         return pass_code(Err(PassFault::Plain(Fault::Empty)));
     };
-    let answer = match &mut room.shared {
+    let answer = match &mut room.value {
         Some(shared) => shared.gain(caller, PageId(page), gain),
         None => Err(PassFault::Plain(Fault::Empty)),
     };
-    *handle = ThpPass::of_room(room);
+    handle.restore(room);
     pass_code(answer)
 }
 
@@ -228,19 +229,19 @@ pub fn pass_lose(
     loss: Loss,
     done: &mut ThpDone,
 ) -> u32
-    ensures does { PassDoes (pass_of handle.old.held) (pass_of handle.new.held) (pass_answer_of result) (λ old new answer. PassLost caller (loss_call loss page) page (loss_what loss page) old new (pass_answer_with answer done.new)) }
+    ensures does { PassDoes (value_of handle.old.held) (value_of handle.new.held) (pass_answer_of result) (λ old new answer. PassLost caller (loss_call loss page) page (loss_what loss page) old new (pass_answer_with answer done.new)) }
     ensures known { IsPassCode result }
     ensures kept { OnErr (pass_answer_of result) (done.new ≡ done.old) }
-    ensures low { IfSome (pass_of handle.old.held) IsLowPass }
+    ensures low { IfSome (value_of handle.old.held) IsLowPass }
 {
     let Some(mut room) = handle.lend(alloc) else {
         return pass_code(Err(PassFault::Plain(Fault::Empty)));
     };
-    let answer = match &mut room.shared {
+    let answer = match &mut room.value {
         Some(shared) => shared.lose(caller, PageId(page), loss),
         None => Err(PassFault::Plain(Fault::Empty)),
     };
-    *handle = ThpPass::of_room(room);
+    handle.restore(room);
     match answer {
         Ok(did) => {
             *done = ThpDone::of(&did);
@@ -252,17 +253,17 @@ pub fn pass_lose(
 
 /// Closes the node: no page is queued or allocated afterwards.
 pub fn pass_close(handle: &mut ThpPass, alloc: Global, caller: u32) -> u32
-    ensures does { PassDoes (pass_of handle.old.held) (pass_of handle.new.held) (pass_answer_of result) (PassOne caller call.close What.Close) }
+    ensures does { PassDoes (value_of handle.old.held) (value_of handle.new.held) (pass_answer_of result) (PassOne caller call.close What.Close) }
     ensures known { IsPassCode result }
 {
     let Some(mut room) = handle.lend(alloc) else {
         return pass_code(Err(PassFault::Plain(Fault::Empty)));
     };
-    let answer = match &mut room.shared {
+    let answer = match &mut room.value {
         Some(shared) => shared.close(caller),
         None => Err(PassFault::Plain(Fault::Empty)),
     };
-    *handle = ThpPass::of_room(room);
+    handle.restore(room);
     pass_code(answer)
 }
 
@@ -274,18 +275,18 @@ pub fn pass_scan(
     n: u32,
     scan: &mut ThpScan,
 ) -> u32
-    ensures does { PassDoes (pass_of handle.old.held) (pass_of handle.new.held) (pass_answer_of result) (λ old new answer. PassScan caller n old new (pass_answer_with answer (scan_of scan.new))) }
+    ensures does { PassDoes (value_of handle.old.held) (value_of handle.new.held) (pass_answer_of result) (λ old new answer. PassScan caller n old new (pass_answer_with answer (scan_of scan.new))) }
     ensures known { IsPassCode result }
     ensures kept { OnErr (pass_answer_of result) (scan.new ≡ scan.old) }
 {
     let Some(mut room) = handle.lend(alloc) else {
         return pass_code(Err(PassFault::Plain(Fault::Empty)));
     };
-    let answer = match &mut room.shared {
+    let answer = match &mut room.value {
         Some(shared) => shared.scan(caller, n),
         None => Err(PassFault::Plain(Fault::Empty)),
     };
-    *handle = ThpPass::of_room(room);
+    handle.restore(room);
     match answer {
         Ok(reply) => {
             *scan = ThpScan::of(&reply);
@@ -297,18 +298,18 @@ pub fn pass_scan(
 
 /// Stores in `pages` the number of queued pages, even while another pass has the node.
 pub fn pass_count(handle: &mut ThpPass, alloc: Global, pages: &mut u32) -> u32
-    ensures does { PassDoes (pass_of handle.old.held) (pass_of handle.new.held) (pass_answer_of result) (λ old new answer. (answer ≡ Ok tt) × PassCount pages.new old new) }
+    ensures does { PassDoes (value_of handle.old.held) (value_of handle.new.held) (pass_answer_of result) (λ old new answer. (answer ≡ Ok tt) × PassCount pages.new old new) }
     ensures known { IsPassCode result }
     ensures kept { OnErr (pass_answer_of result) (pages.new ≡ pages.old) }
 {
     let Some(mut room) = handle.lend(alloc) else {
         return pass_code(Err(PassFault::Plain(Fault::Empty)));
     };
-    let answer = match &mut room.shared {
+    let answer = match &mut room.value {
         Some(shared) => Ok(shared.count()),
         None => Err(PassFault::Plain(Fault::Empty)),
     };
-    *handle = ThpPass::of_room(room);
+    handle.restore(room);
     match answer {
         Ok(count) => {
             *pages = count;
@@ -320,7 +321,7 @@ pub fn pass_count(handle: &mut ThpPass, alloc: Global, pages: &mut u32) -> u32
 
 /// Stores in `first` and `end` the callers of the pass: those from `first` on and below `end`.
 pub fn pass_callers(handle: &mut ThpPass, alloc: Global, first: &mut u32, end: &mut u32) -> u32
-    ensures does { PassDoes (pass_of handle.old.held) (pass_of handle.new.held) (pass_answer_of result) (λ old new answer. (new ≡ old) × (answer ≡ Ok tt) × (first.new ≡ old.pass.first) × (end.new ≡ old.pass.end)) }
+    ensures does { PassDoes (value_of handle.old.held) (value_of handle.new.held) (pass_answer_of result) (λ old new answer. (new ≡ old) × (answer ≡ Ok tt) × (first.new ≡ old.pass.first) × (end.new ≡ old.pass.end)) }
     ensures known { IsPassCode result }
     ensures kept_first { OnErr (pass_answer_of result) (first.new ≡ first.old) }
     ensures kept_end { OnErr (pass_answer_of result) (end.new ≡ end.old) }
@@ -328,11 +329,11 @@ pub fn pass_callers(handle: &mut ThpPass, alloc: Global, first: &mut u32, end: &
     let Some(room) = handle.lend(alloc) else {
         return pass_code(Err(PassFault::Plain(Fault::Empty)));
     };
-    let answer = match &room.shared {
+    let answer = match &room.value {
         Some(shared) => Ok(shared.callers()),
         None => Err(PassFault::Plain(Fault::Empty)),
     };
-    *handle = ThpPass::of_room(room);
+    handle.restore(room);
     match answer {
         Ok((from, to)) => {
             *first = from;

@@ -1,10 +1,11 @@
 //! The handle of a pass, as a C program holds it.
-ghost use Rattle.std.specs.Prelude.{◌≡◌, Option, None, Some, IfSome, IfNone, IsSome, is_some};
-ghost use Rattle.thp_capi.specs.PassHandle.{pass_of};
-ghost use Rattle.thp_capi.specs.declared.pass_box.PassBox.{PassBox};
+ghost use Rattle.std.specs.Prelude.{◌≡◌, Option, None, Some, IfSome, IfNone, IsSome};
+ghost use Rattle.thp_capi.specs.Rooms.{value_of};
+ghost use Rattle.thp_capi.specs.Sharing.{SharedState};
+ghost use Rattle.thp_capi.specs.declared.room.Room.{Room};
 
-use crate::pass_box::PassBox;
-use crate::raw_box::RawBox;
+use crate::handle::Handle;
+use crate::room::Room;
 use crate::shared_pass::SharedPass;
 use std::alloc::Global;
 use std::marker::Model;
@@ -16,118 +17,63 @@ pub struct ThpPass {
     at: *mut u8,
     live: u32,
     // The room that the handle owns, for contracts.
-    pub ghost held: { Option PassBox },
+    pub ghost held: { Option (Room SharedState) },
 }
 
 impl Model for ThpPass {
-    ghost use Rattle.thp_capi.specs.PassHandle.{pass_owns};
+    ghost use Rattle.thp_capi.specs.Handles.{handle_owns};
+    ghost use Rattle.thp_capi.specs.contracts.room.Room as room;
+    ghost use Rattle.thp_capi.specs.contracts.shared_pass.SharedPass as shared;
 
-    ghost also_owns = { λ h. pass_owns h.at h.live h.held };
+    ghost also_owns = { λ h. handle_owns (room.the_row shared.the_row) h.at h.live h.held };
 }
 
 impl ThpPass {
-    /// Returns the empty handle.
-    fn empty() -> ThpPass
-        ensures { result.held ≡ None }
+    // Replaces what the handle owns, and returns what it owned.
+    fn exchange(&mut self, new: Handle<Room<SharedPass>>) -> Handle<Room<SharedPass>>
+        ensures old { result.held ≡ self.old.held }
+        ensures new { self.new.held ≡ new.held }
     {
-        ThpPass {
-            at: std::ptr::null_mut(),
-            live: 0,
-        }
-    }
-
-    fn of(loose: RawBox<PassBox, Global>) -> ThpPass
-        ensures { result.held ≡ Some loose.value }
-    {
-        let RawBox { at, alloc: _ } = loose;
-        ThpPass {
-            at: at as *mut u8,
-            live: 1,
-        }
-    }
-
-    fn is_full(&mut self) -> bool
-        ensures same { self.new ≡ self.old }
-        ensures full { result ≡ is_some self.old.held }
-    {
-        self.live == 1
-    }
-
-    fn into_loose(self, alloc: Global) -> RawBox<PassBox, Global>
-        requires { IsSome self.held }
-        ensures { self.held ≡ Some result.value }
-    {
-        RawBox {
-            at: self.at as *mut PassBox,
-            alloc,
-        }
-    }
-
-    // The handle of an occupied room.
-    fn store(room: Box<PassBox>) -> ThpPass
-        ensures { result.held ≡ Some room.value }
-    {
-        ThpPass::of(RawBox::of(room))
-    }
-
-    // Removes the room from the handle, if it has one.
-    fn take_room(&mut self, alloc: Global) -> Option<Box<PassBox>>
-        ensures none { IfNone result (self.old.held ≡ None) }
-        ensures some { IfSome result (λ room. self.old.held ≡ Some room.value) }
-        ensures empty { self.new.held ≡ None }
-    {
-        if self.is_full() {
-            let handle = std::mem::replace(self, ThpPass::empty());
-            Some(handle.into_loose(alloc).into_box())
-        } else {
-            None
-        }
+        let Handle { at, live } = new;
+        let old = Handle {
+            at: self.at as *mut Room<SharedPass>,
+            live: self.live,
+        };
+        self.at = at as *mut u8;
+        self.live = live;
+        old
     }
 
     /// Removes the pass and its room from the handle, if it has one.
-    pub fn take(&mut self, alloc: Global) -> Option<(Box<PassBox>, SharedPass)>
-        ensures none { IfNone result (pass_of self.old.held ≡ None) }
-        ensures some { IfSome result (λ taken. pass_of self.old.held ≡ Some taken.1) }
-        ensures empty { pass_of self.new.held ≡ None }
+    pub fn take(&mut self, alloc: Global) -> Option<(Box<Room<SharedPass>>, SharedPass)>
+        ensures none { IfNone result (value_of self.old.held ≡ None) }
+        ensures some { IfSome result (λ taken. value_of self.old.held ≡ Some taken.1) }
+        ensures empty { value_of self.new.held ≡ None }
     {
-        let mut room = self.take_room(alloc)?;
-        let shared = room.shared.take()?;
-        Some((room, shared))
+        Room::take(self.exchange(Handle::empty()), alloc)
+    }
+
+    /// Puts a pass in its room, and stores both in the handle.
+    pub fn put(&mut self, room: Box<Room<SharedPass>>, shared: SharedPass)
+        ensures { value_of self.new.held ≡ Some shared }
+    {
+        let _old = self.exchange(Room::put(room, shared));
     }
 
     /// Removes the room with the pass from the handle, if it has one.
-    pub fn lend(&mut self, alloc: Global) -> Option<Box<PassBox>>
-        ensures none { IfNone result (pass_of self.old.held ≡ None) }
-        ensures some { IfSome result (λ room. room.value.shared ≡ pass_of self.old.held) }
-        ensures full { IfSome result (λ room. IsSome room.value.shared) }
-        ensures empty { pass_of self.new.held ≡ None }
+    pub fn lend(&mut self, alloc: Global) -> Option<Box<Room<SharedPass>>>
+        ensures none { IfNone result (value_of self.old.held ≡ None) }
+        ensures some { IfSome result (λ room. room.value.value ≡ value_of self.old.held) }
+        ensures full { IfSome result (λ room. IsSome room.value.value) }
+        ensures empty { value_of self.new.held ≡ None }
     {
-        let room = self.take_room(alloc)?;
-        if room.shared.is_some() {
-            Some(room)
-        } else {
-            None
-        }
+        Room::lend(self.exchange(Handle::empty()), alloc)
     }
 
-    /// Returns the handle of a room and the pass in it.
-    pub fn of_room(room: Box<PassBox>) -> ThpPass
-        ensures { pass_of result.held ≡ room.value.shared }
+    /// Stores a room and the pass in it in the handle.
+    pub fn restore(&mut self, room: Box<Room<SharedPass>>)
+        ensures { value_of self.new.held ≡ room.value.value }
     {
-        ThpPass::store(room)
-    }
-
-    /// Puts a pass in its room, and returns the handle of both.
-    pub fn put(room: Box<PassBox>, shared: SharedPass) -> ThpPass
-        ensures { pass_of result.held ≡ Some shared }
-    {
-        let mut room = room;
-        room.shared = Some(shared);
-        ThpPass::store(room)
-    }
-
-    /// Allocates an empty room, or returns `None` if that is not possible.
-    pub fn room(alloc: Global) -> Option<Box<PassBox>> {
-        Box::new(alloc, PassBox { shared: None }).ok()
+        let _old = self.exchange(Handle::store(room));
     }
 }

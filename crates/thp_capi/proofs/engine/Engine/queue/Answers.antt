@@ -1,13 +1,9 @@
 -- Each event that is read finds a page of the queue, or leaves what is to be found.
-use Rattle.std.proofs.Common.{◌≡◌, ◌∙◌, ℕ, ◌-◌, ◌<◌, ◌≤◌, true, length, set, get_or, ap, sym, subst, arith}
-use Rattle.thp_model.specs.declared.events.Event.{Event}
-use Rattle.thp_model.specs.declared.shape.Shape.{Shape}
-use Rattle.thp_model.specs.History.{History}
+use Rattle.std.proofs.Common.{◌∙◌, ℕ, ◌-◌, true, length, set, ap, sym, subst, arith}
 use Rattle.thp_model.specs.Legal.{IsLegal}
 use Rattle.thp_model.specs.Places.{queue}
 use Rattle.thp_capi.specs.Engines.{EngineState}
-use Rattle.thp_capi.specs.Joining.{joins}
-use Rattle.thp_capi.proofs.QueueSteps.{Progress, progress_begins, progress_done, progress_ends, progress_found, progress_on, progress_passes, progress_stores, progress_unqueued}
+use Rattle.thp_capi.proofs.QueueSteps.{Progress, progress_begins, progress_done, progress_ends, progress_found, progress_on, progress_passes, progress_stores, progress_unqueued, reads}
 use Rattle.thp_capi.proofs.engine.Engine.queue.Goals as goal
 
 pub loop-at-init : goal.loop-at-init
@@ -37,77 +33,33 @@ returns-clause-pages c =
 pub loop-at-preserved : goal.loop-at-preserved
 loop-at-preserved c =
     let n = c.args.self.now.node in
-    let L : EngineState → Type 0 = λ e. IsLegal e.node.shape e.node.journal in
-    let legal = subst L c.self.view_is c.journal-events.ensures.legal in
-    let events = c.journal-events.ensures.value ∙ ap (λ (e : EngineState). e.node.journal) c.self.view_is in
-    let e = c.index-events-at.result in
-    let some : 0 < c.loop-at.at = omega (arith, c.loop-at-test.true) in
-    let within : c.loop-at.at ≤ length n.journal = omega (arith, ap length events, c.loop-at.auto.at) in
-    let H : History → Type 0 = λ h. e ≡ get_or h (c.loop-at.at - 1) e in
-    let is : e ≡ get_or n.journal (c.loop-at.at - 1) e = subst H events c.index-events-at.is in
-    let shape = c.shape-shape.ensures.value ∙ ap (λ (s : EngineState). s.node.shape) c.self.view_is in
-    record { progress = progress_on n legal c.args.pages.now c.loop-at.pages c.loop-at.found c.loop-at.at c.loop-at.left e some within is c.loop-at.invariant.progress (sym (c.in_default.ensures ∙ ap (λ (x : Event). joins c.shape-shape.result x.what) (sym c.index-events-at.is) ∙ ap (λ (s : Shape). joins s e.what) shape)) }
+    let r = reads c.self.view_is c.journal-events.ensures.value c.journal-events.ensures.legal c.shape-shape.ensures.value c.loop-at.at (omega (arith, c.loop-at.auto.at)) c.index-events-at.result c.index-events-at.is c.in_default.ensures in
+    record { progress = progress_on n r.legal c.args.pages.now c.loop-at.pages c.loop-at.found c.loop-at.at c.loop-at.left c.index-events-at.result (omega (arith, c.loop-at-test.true)) r.within r.is c.loop-at.invariant.progress r.queues }
 
 pub loop-at-preserved-in_default-queued_block : goal.loop-at-preserved-in_default-queued_block
 loop-at-preserved-in_default-queued_block c =
     let n = c.args.self.now.node in
-    let L : EngineState → Type 0 = λ e. IsLegal e.node.shape e.node.journal in
-    let legal = subst L c.self.view_is c.journal-events.ensures.legal in
-    let events = c.journal-events.ensures.value ∙ ap (λ (e : EngineState). e.node.journal) c.self.view_is in
-    let e = c.index-events-at.result in
-    let some : 0 < c.loop-at.at = omega (arith, c.loop-at-test.true) in
-    let within : c.loop-at.at ≤ length n.journal = omega (arith, ap length events, c.loop-at.auto.at) in
-    let H : History → Type 0 = λ h. e ≡ get_or h (c.loop-at.at - 1) e in
-    let is : e ≡ get_or n.journal (c.loop-at.at - 1) e = subst H events c.index-events-at.is in
-    let shape = c.shape-shape.ensures.value ∙ ap (λ (s : EngineState). s.node.shape) c.self.view_is in
-    let joined = sym (c.in-Some.ensures ∙ ap (λ (x : Event). joins c.shape-shape.result x.what) (sym c.index-events-at.is) ∙ ap (λ (s : Shape). joins s e.what) shape) in
-    record { progress = progress_unqueued n legal c.args.pages.now c.loop-at.pages c.loop-at.found c.loop-at.at c.loop-at.left e some within is c.loop-at.invariant.progress c.in-Some.page joined c.in_default-queued_block.ensures.none }
+    let r = reads c.self.view_is c.journal-events.ensures.value c.journal-events.ensures.legal c.shape-shape.ensures.value c.loop-at.at (omega (arith, c.loop-at.auto.at)) c.index-events-at.result c.index-events-at.is c.in-Some.ensures in
+    record { progress = progress_unqueued n r.legal c.args.pages.now c.loop-at.pages c.loop-at.found c.loop-at.at c.loop-at.left c.index-events-at.result (omega (arith, c.loop-at-test.true)) r.within r.is c.loop-at.invariant.progress c.in-Some.page r.queues c.in_default-queued_block.ensures.none }
 
 pub loop-at-preserved-else-not-found-block : goal.loop-at-preserved-else-not-found-block
 loop-at-preserved-else-not-found-block c =
     let n = c.args.self.now.node in
-    let L : EngineState → Type 0 = λ e. IsLegal e.node.shape e.node.journal in
-    let legal = subst L c.self.view_is c.journal-events.ensures.legal in
-    let events = c.journal-events.ensures.value ∙ ap (λ (e : EngineState). e.node.journal) c.self.view_is in
-    let e = c.index-events-at.result in
-    let some : 0 < c.loop-at.at = omega (arith, c.loop-at-test.true) in
-    let within : c.loop-at.at ≤ length n.journal = omega (arith, ap length events, c.loop-at.auto.at) in
-    let H : History → Type 0 = λ h. e ≡ get_or h (c.loop-at.at - 1) e in
-    let is : e ≡ get_or n.journal (c.loop-at.at - 1) e = subst H events c.index-events-at.is in
-    let shape = c.shape-shape.ensures.value ∙ ap (λ (s : EngineState). s.node.shape) c.self.view_is in
-    let joined = sym (c.in-Some.ensures ∙ ap (λ (x : Event). joins c.shape-shape.result x.what) (sym c.index-events-at.is) ∙ ap (λ (s : Shape). joins s e.what) shape) in
+    let r = reads c.self.view_is c.journal-events.ensures.value c.journal-events.ensures.legal c.shape-shape.ensures.value c.loop-at.at (omega (arith, c.loop-at.auto.at)) c.index-events-at.result c.index-events-at.is c.in-Some.ensures in
     let there = c.in-Some-queued_block.ensures in
-    record { progress = progress_found n legal c.args.pages.now c.loop-at.pages c.loop-at.found c.loop-at.at c.loop-at.left e some within is c.loop-at.invariant.progress c.in-Some.page joined c.in-Some-queued_block.block there.queued there.home (c.if-not-found-block.false) }
+    record { progress = progress_found n r.legal c.args.pages.now c.loop-at.pages c.loop-at.found c.loop-at.at c.loop-at.left c.index-events-at.result (omega (arith, c.loop-at-test.true)) r.within r.is c.loop-at.invariant.progress c.in-Some.page r.queues c.in-Some-queued_block.block there.queued there.home c.if-not-found-block.false }
 
 pub loop-at-preserved-then-left-pages : goal.loop-at-preserved-then-left-pages
 loop-at-preserved-then-left-pages c =
     let n = c.args.self.now.node in
-    let L : EngineState → Type 0 = λ e. IsLegal e.node.shape e.node.journal in
-    let legal = subst L c.self.view_is c.journal-events.ensures.legal in
-    let events = c.journal-events.ensures.value ∙ ap (λ (e : EngineState). e.node.journal) c.self.view_is in
-    let e = c.index-events-at.result in
-    let some : 0 < c.loop-at.at = omega (arith, c.loop-at-test.true) in
-    let within : c.loop-at.at ≤ length n.journal = omega (arith, ap length events, c.loop-at.auto.at) in
-    let H : History → Type 0 = λ h. e ≡ get_or h (c.loop-at.at - 1) e in
-    let is : e ≡ get_or n.journal (c.loop-at.at - 1) e = subst H events c.index-events-at.is in
-    let shape = c.shape-shape.ensures.value ∙ ap (λ (s : EngineState). s.node.shape) c.self.view_is in
-    let joined = sym (c.in-Some.ensures ∙ ap (λ (x : Event). joins c.shape-shape.result x.what) (sym c.index-events-at.is) ∙ ap (λ (s : Shape). joins s e.what) shape) in
+    let r = reads c.self.view_is c.journal-events.ensures.value c.journal-events.ensures.legal c.shape-shape.ensures.value c.loop-at.at (omega (arith, c.loop-at.auto.at)) c.index-events-at.result c.index-events-at.is c.in-Some.ensures in
     let there = c.in-Some-queued_block.ensures in
     let P : ℕ → Type 0 = λ x. Progress n c.args.pages.now (set c.loop-at.pages (c.loop-at.left - 1) x) (set c.loop-at.found c.in-Some-queued_block.block true) (c.loop-at.at - 1) (c.loop-at.left - 1) in
-    record { progress = subst P (sym c.page.view_is) (progress_stores n legal c.args.pages.now c.loop-at.pages c.loop-at.found c.loop-at.at c.loop-at.left e some within is c.loop-at.invariant.progress c.in-Some.page joined c.in-Some-queued_block.block there.queued there.home (c.if-not-found-block.true) there.inside (omega (arith, c.if-left-pages.true))) }
+    record { progress = subst P (sym c.page.view_is) (progress_stores n r.legal c.args.pages.now c.loop-at.pages c.loop-at.found c.loop-at.at c.loop-at.left c.index-events-at.result (omega (arith, c.loop-at-test.true)) r.within r.is c.loop-at.invariant.progress c.in-Some.page r.queues c.in-Some-queued_block.block there.queued there.home c.if-not-found-block.true there.inside (omega (arith, c.if-left-pages.true))) }
 
 pub loop-at-preserved-else-left-pages : goal.loop-at-preserved-else-left-pages
 loop-at-preserved-else-left-pages c =
     let n = c.args.self.now.node in
-    let L : EngineState → Type 0 = λ e. IsLegal e.node.shape e.node.journal in
-    let legal = subst L c.self.view_is c.journal-events.ensures.legal in
-    let events = c.journal-events.ensures.value ∙ ap (λ (e : EngineState). e.node.journal) c.self.view_is in
-    let e = c.index-events-at.result in
-    let some : 0 < c.loop-at.at = omega (arith, c.loop-at-test.true) in
-    let within : c.loop-at.at ≤ length n.journal = omega (arith, ap length events, c.loop-at.auto.at) in
-    let H : History → Type 0 = λ h. e ≡ get_or h (c.loop-at.at - 1) e in
-    let is : e ≡ get_or n.journal (c.loop-at.at - 1) e = subst H events c.index-events-at.is in
-    let shape = c.shape-shape.ensures.value ∙ ap (λ (s : EngineState). s.node.shape) c.self.view_is in
-    let joined = sym (c.in-Some.ensures ∙ ap (λ (x : Event). joins c.shape-shape.result x.what) (sym c.index-events-at.is) ∙ ap (λ (s : Shape). joins s e.what) shape) in
+    let r = reads c.self.view_is c.journal-events.ensures.value c.journal-events.ensures.legal c.shape-shape.ensures.value c.loop-at.at (omega (arith, c.loop-at.auto.at)) c.index-events-at.result c.index-events-at.is c.in-Some.ensures in
     let there = c.in-Some-queued_block.ensures in
-    record { progress = progress_passes n legal c.args.pages.now c.loop-at.pages c.loop-at.found c.loop-at.at c.loop-at.left e some within is c.loop-at.invariant.progress c.in-Some.page joined c.in-Some-queued_block.block there.queued there.home (c.if-not-found-block.true) there.inside (omega (arith, c.if-left-pages.false)) }
+    record { progress = progress_passes n r.legal c.args.pages.now c.loop-at.pages c.loop-at.found c.loop-at.at c.loop-at.left c.index-events-at.result (omega (arith, c.loop-at-test.true)) r.within r.is c.loop-at.invariant.progress c.in-Some.page r.queues c.in-Some-queued_block.block there.queued there.home c.if-not-found-block.true there.inside (omega (arith, c.if-left-pages.false)) }

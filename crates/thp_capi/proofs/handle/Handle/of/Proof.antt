@@ -1,7 +1,8 @@
 -- `of` keeps the pointer of a box, and owns what the box owned.
 use Rattle.std.proofs.Common.{◌≡◌, List, [], ◌∷◌, ◌++◌, refl, sym, subst, lit<}
-use mir.Syntax.{w32}
-use mir.Val.{Val, vptr, vint}
+use mir.Syntax.{a_type}
+use mir.MapTy.{inst_fn}
+use mir.Val.{Val, vptr}
 use base.Logic.{SProp, ent, emp, id⊢}
 use prog.Wp.{WpFn}
 use types.Kit.{‵, raw, ◌⊛◌, ◌$◌, ◌∵◌, !, qed, by, keep, move, drop, split, fsplit, suffices, use0}
@@ -10,7 +11,8 @@ use types.ByLocal.{alloc_all, pass_all, free_all, look_at, get, get_in, sets}
 use types.Part.{agg, sub, whole}
 use contract.Monad.{fact, fact_i}
 use contract.Running.{tables}
-use denote.Exit.{yes}
+use denote.Exit.{no}
+use denote.Param.{param, layouts}
 use denote.RattleType.{RattleType, owns}
 use denote.Signature.{types_at, plain}
 use denote.RawPtr.{block_ptr}
@@ -22,33 +24,33 @@ use Rattle.std.specs.contracts.alloc.Global as heap
 use Rattle.std.proofs.alloc.Global.TheLaws as heap_laws
 use Rattle.std.specs.contracts.impls.GlobalAllocator.TheImpl.{ghosts}
 use Rattle.std.proofs.raw_atomic.Walks.{proved_at, leaves}
-use Rattle.thp_capi.specs.declared.engine.Engine.{Engine}
-use Rattle.thp_capi.specs.contracts.engine.Engine.{the_row as R}
 use Rattle.thp_capi.proofs.Values.{both, RawBox, loose_good, loose_out}
-use Rattle.thp_capi.proofs.NodeValues.{S, node_in}
-use Rattle.thp_capi.specs.contracts.node_handle.ThpNode.of.{ended, clauses}
-use Rattle.thp_capi.specs.contracts.node_handle.ThpNode.of.Key.{name as #self}
-use Rattle.thp_capi.proofs.node_handle.ThpNode.of.Statement.{statement}
-use Rattle.thp_capi.proofs.node_handle.ThpNode.of.Code as code
+use Rattle.thp_capi.proofs.Handles.{words, handle_in}
+use Rattle.thp_capi.specs.contracts.handle.Handle as handle
+use Rattle.thp_capi.specs.contracts.handle.Handle.of.{ended, clauses}
+use Rattle.thp_capi.specs.contracts.handle.Handle.of.Key.{name as #self}
+use Rattle.thp_capi.proofs.handle.Handle.of.Statement.{statement}
+use Rattle.thp_capi.proofs.handle.Handle.of.Code as code
 
 pub of_spec : {M : Type 1} → statement M
-of_spec 𝓤 𝓛 𝓜 𝓡 wired =
-    let H = 𝓛.H in let 𝓣 = tables 𝓤 H 𝓜 𝓡 𝓡.env in let c = clauses 𝓛 𝓜.mem 𝓡.returns in let fn = code.function in
+of_spec 𝓤 𝓛 𝓜 𝓡 wired T L =
+    let H = 𝓛.H in let 𝓣 = tables 𝓤 H 𝓜 𝓡 𝓡.env in let c = clauses T 𝓛 𝓜.mem 𝓡.returns in let En = ended T in
+    let inst = layouts (a_type ∷ []) (T, tt) in let fn = inst_fn inst code.function in let R : RattleType = param 0 T in let S : RattleType = handle.the_row R in
     let Z : RattleType = heap.the_row in let LZ = heap_laws.the_row_laws in
-    let hs : Stays ended.signature.params ended.kept = (stay_dropped (plain (λ _. RawBox R Z LZ ghosts)) yes, tt) in
-    proved_at 𝓛 ended hs c 𝓜 𝓡 (Goes-dropped 𝓛 0 (plain (λ _. RawBox R Z LZ ghosts)) yes (λ κs x f. refl), tt) #self fn (code.unfolded 𝓤 H 𝓜 𝓡 wired) (λ z are.
-    let κs = z.0.0 in let qs = z.0.1 in let v = z.0.3.0 in let Post : Val → SProp 𝓤 = (walk_of 𝓛 ended hs c).post z in let Run : List Val → SProp 𝓤 = λ ws. WpFn 𝓤 H 𝓣.C 𝓣.Λ fn ws Post in
-    qed 𝓛 ((raw (alive 𝓛 ended.signature κs qs) ⊛ ‵ (owns (types_at ended.signature.params κs) z.0.3 z.0.4)) ∷ raw ((c κs z.0.3).requires z.1) ∷ []) ∵
+    let hs : Stays En.signature.params En.kept = (stay_dropped (plain (λ _. RawBox R Z LZ ghosts)) no, tt) in
+    proved_at 𝓛 En hs c 𝓜 𝓡 (Goes-dropped 𝓛 1 (plain (λ _. RawBox R Z LZ ghosts)) no (λ κs x f. refl), tt) (#self inst) fn (code.unfolded 𝓤 H 𝓜 𝓡 wired (T, tt)) (λ z are.
+    let κs = z.0.0 in let qs = z.0.1 in let v = z.0.3.0 in let Post : Val → SProp 𝓤 = (walk_of 𝓛 En hs c).post z in let Run : List Val → SProp 𝓤 = λ ws. WpFn 𝓤 H 𝓣.C 𝓣.Λ fn ws Post in
+    qed 𝓛 ((raw (alive 𝓛 En.signature κs qs) ⊛ ‵ (owns (types_at En.signature.params κs) z.0.3 z.0.4)) ∷ raw ((c κs z.0.3).requires z.1) ∷ []) ∵
     split ! $ move ! (1 ∷ []) $ fsplit ! $ loose_out R Z LZ ghosts ! v z.0.4.0 (λ b o h e ws fits.
-    let w : Val = both (vptr b o) h in let out : Val = both (vptr b o) (vint w32 1) in
-    let value : Option Engine = Some v.value in
+    let w : Val = both (vptr b o) h in let out : Val = words (block_ptr b o) 1 in
+    let value : Option R.Denot = Some v.value in
     let made : S.Denot = record { at = block_ptr b o; live = 1; held = value } in
     suffices ! (Run (w ∷ [])) (subst (λ (us : List Val). ent 𝓤 (Run (w ∷ [])) (Run us)) (sym (λ i. ws i ++ [])) (id⊢ 𝓤 (Run (w ∷ [])))) $
     enter ! 𝓣.C 𝓣.Λ fn (w ∷ []) Post $ alloc_all ! (λ l. pass_all ! refl (loose_good R Z LZ ghosts b o h fits, tt) $
-    sets ! (of_opd ! (get_in ! (fld ! refl (stop !)) (sub ! 0 refl (whole !)))) refl (tt, tt) $ sets ! (of_opd ! (get ! refl)) refl (tt, tt) $
+    sets ! (of_opd ! (get_in ! (fld ! refl (stop !)) (sub ! 0 refl (whole !)))) refl (tt, tt) $
     sets ! (agg ! (and_then ! (get ! refl) (and_then ! (lit ! tt) (no_more !)))) refl (tt, (tt, (record { fits = lit< tt }, tt))) $
     returns ! (look_at ! 0 refl) $ free_all ! refl $
     -- [what the box owned; the allocator; true; the tokens]
-    node_in ! (block_ptr b o) 1 value (lit< tt) refl $
+    handle_in R ! (block_ptr b o) 1 value (lit< tt) refl $
     use0 𝓛 (raw (fact 𝓤 (made.held ≡ Some v.value))) (fact_i 𝓤 (made.held ≡ Some v.value) (emp 𝓤) refl) $ nothing ! $ nothing ! $ types.Kit.fjoin ! $
-    keep ! (5 ∷ 0 ∷ 2 ∷ 1 ∷ []) $ by ! (leaves 𝓛 ended hs c z out made (tt, tt) (tt, tt)))))
+    keep ! (5 ∷ 0 ∷ 2 ∷ 1 ∷ []) $ by ! (leaves 𝓛 En hs c z out made (tt, tt) (tt, tt)))))

@@ -1,0 +1,77 @@
+//! A handle of any kind of value.
+ghost use Rattle.std.specs.Prelude.{◌≡◌, Option, None, Some, IfSome, IfNone, IsSome, is_some};
+
+use crate::raw_box::RawBox;
+use std::alloc::Global;
+use std::marker::Model;
+
+/// A handle: it owns a value in memory, or is empty. C sees it as a `ThpNode`, a `ThpCheck` or a `ThpPass`, since a struct that
+/// crosses to C has no type parameter.
+#[derive(Drop)]
+pub struct Handle<T> {
+    pub(crate) at: *mut T,
+    pub(crate) live: u32,
+    // The value that the handle owns, for contracts.
+    pub ghost held: { Option T },
+}
+
+impl<T> Model for Handle<T> {
+    ghost use Rattle.thp_capi.specs.Handles.{handle_owns};
+
+    ghost also_owns = { λ h. handle_owns T.row h.at h.live h.held };
+}
+
+impl<T> Handle<T> {
+    /// Returns the empty handle.
+    pub fn empty() -> Handle<T>
+        ensures { result.held ≡ None }
+    {
+        Handle {
+            at: std::ptr::null_mut(),
+            live: 0,
+        }
+    }
+
+    fn of(loose: RawBox<T, Global>) -> Handle<T>
+        ensures { result.held ≡ Some loose.value }
+    {
+        let RawBox { at, alloc: _ } = loose;
+        Handle { at, live: 1 }
+    }
+
+    fn is_full(&mut self) -> bool
+        ensures same { self.new ≡ self.old }
+        ensures full { result ≡ is_some self.old.held }
+    {
+        self.live == 1
+    }
+
+    fn into_loose(self, alloc: Global) -> RawBox<T, Global>
+        requires { IsSome self.held }
+        ensures { self.held ≡ Some result.value }
+    {
+        RawBox { at: self.at, alloc }
+    }
+}
+
+impl<T: Drop> Handle<T> {
+    /// Returns the handle of a value.
+    pub fn store(value: Box<T>) -> Handle<T>
+        ensures { result.held ≡ Some value.value }
+    {
+        Handle::of(RawBox::of(value))
+    }
+
+    /// Returns the value of the handle, if it has one.
+    pub fn into_box(self, alloc: Global) -> Option<Box<T>>
+        ensures none { IfNone result (self.held ≡ None) }
+        ensures some { IfSome result (λ value. self.held ≡ Some value.value) }
+    {
+        let mut handle = self;
+        if handle.is_full() {
+            Some(handle.into_loose(alloc).into_box())
+        } else {
+            None
+        }
+    }
+}
