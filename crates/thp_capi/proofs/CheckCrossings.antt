@@ -1,10 +1,11 @@
 -- A handle of a check may go to another thread, as what it leads to may: a check's reader of its text, and a node's replay.
+use denote.Plain.{Nothing}
 use denote.Param.Send.{IsSend, view_send, owning_send, struct_send, sendable}
 use denote.Param.SendFields.{declared_send, variants_send}
 use denote.RattleType.{RattleType}
 use denote.Struct.Struct.{exits_of}
 use denote.Struct.Owning.{shape, fields, to}
-use Rattle.std.proofs.Crossing.{Box-send, crosses, send}
+use Rattle.std.proofs.Crossing.{Box-send, Vec-send, crosses, send}
 use Rattle.std.proofs.option.Option.TheSendSync as option
 use Rattle.std.proofs.result.Result.TheSendSync as result
 use Rattle.std_alloc.proofs.SendSync.{quiet}
@@ -22,9 +23,8 @@ use Rattle.thp_check.specs.contracts.replay.Replay as Replay
 use Rattle.thp_check.specs.contracts.replay.Replay.TheInside as in_replay
 use Rattle.thp_journal_reader.specs.contracts.past_lines.LineTrace as LineTrace
 use Rattle.thp_journal_reader.specs.contracts.past_lines.LineTrace.TheInside as in_lines
-use Rattle.thp_journal_reader.specs.contracts.checked_nodes.NodeAtHand as NodeAtHand
-use Rattle.thp_journal_reader.specs.contracts.checked_nodes.Verdict as Verdict
-use Rattle.thp_journal_reader.specs.contracts.checked_nodes.CheckedNodes as CheckedNodes
+use Rattle.thp_journal_reader.specs.contracts.follower.Follower as Follower
+use Rattle.thp_journal_reader.specs.contracts.follower.FollowedNodes as FollowedNodes
 use Rattle.thp_journal_reader.proofs.illegal.Illegal.TheSendSync as illegal
 use Rattle.thp_journal_reader.proofs.illegal.TextFault.TheSendSync as fault
 use Rattle.thp_journal_reader.proofs.place.Place.TheSendSync as place
@@ -56,23 +56,20 @@ state_send = declared_send NodeState.the_type (search (sendable, crosses) depth 
 replay_send : IsSend Replay.the_row
 replay_send = view_send in_replay.the_row _ _ _ _ (declared_send in_replay.the_type (Box-send _ state_send, (free_send, (Box-send _ tally.the_send, (past_send, tt)))))
 
-hand_send : IsSend NodeAtHand.the_row
-hand_send = declared_send NodeAtHand.the_type (replay_send, (search sendable, tt))
-
-verdict_send : IsSend Verdict.the_row
-verdict_send = declared_send Verdict.the_type (option.the_send _ hand_send, (option.the_send _ illegal.the_send, tt))
+follower_send : IsSend (Follower.the_row Replay.the_row Nothing)
+follower_send = declared_send (Follower.the_type Replay.the_row Nothing) (send, (option.the_send _ replay_send, (search sendable, (option.the_send _ illegal.the_send, (Vec-send _ (search sendable), tt)))))
 
 lines_send : IsSend LineTrace.the_row
 lines_send = view_send in_lines.the_row _ _ _ _ (declared_send in_lines.the_type (search (sendable, crosses) depth 30, tt))
 
-nodes_send : IsSend CheckedNodes.the_row
-nodes_send = declared_send CheckedNodes.the_type (verdict_send, (lines_send, tt))
+nodes_send : IsSend (FollowedNodes.the_row Replay.the_row Nothing)
+nodes_send = declared_send (FollowedNodes.the_type Replay.the_row Nothing) (follower_send, (lines_send, tt))
 
 text_send : IsSend TextInParts.the_row
 text_send = view_send in_text.the_row _ _ _ _ (declared_send in_text.the_type (send, (search (sendable, crosses) depth 30, (search sendable, (search sendable, (search sendable, (search (sendable, crosses) depth 30, tt)))))))
 
-reader_send : IsSend (TextReader.the_row CheckedNodes.the_row)
-reader_send = declared_send (TextReader.the_type CheckedNodes.the_row) (send, (nodes_send, (place.the_send, (text_send, tt))))
+reader_send : IsSend (TextReader.the_row (FollowedNodes.the_row Replay.the_row Nothing))
+reader_send = declared_send (TextReader.the_type (FollowedNodes.the_row Replay.the_row Nothing)) (send, (nodes_send, (place.the_send, (text_send, tt))))
 
 check_send : IsSend LongCheck.the_row
 check_send = view_send in_check.the_row _ _ _ _ (declared_send in_check.the_type (reader_send, tt))

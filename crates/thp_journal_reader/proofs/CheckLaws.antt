@@ -1,9 +1,9 @@
--- What a check says of the nodes so far, as one more node begins and as one more event is read.
-use Rattle.std.proofs.Common.{◌≡◌, ℕ, ◌+◌, ◌<◌, ◌≤◌, List, [], ◌∷◌, ◌++◌, length, take, Option, Some, None, refl, sym, ap, subst, ◌∙◌, ◌⊎◌, arith, inl, inr, suc, zero, length-append}
-use Rattle.std.specs.Prelude.{All, IfSome, is_some, option_map, slice_get, true, false}
-use Rattle.std.proofs.lemmas.List.Elements.{All-nil, All-push}
+-- What is known of legal nodes and of the first illegal event, as one more node begins and as one more event is read.
+use Rattle.std.proofs.Common.{◌≡◌, ℕ, ◌+◌, ◌<◌, ◌≤◌, List, [], ◌∷◌, ◌++◌, length, take, Option, Some, None, refl, sym, ap, subst, ◌∙◌, ◌⊎◌, arith, inl, inr, suc, zero}
+use Rattle.std.specs.Prelude.{All, IfSome, option_map, slice_get}
 use Rattle.std.proofs.lemmas.List.{take-append-le, take_at}
 use Rattle.std.proofs.lemmas.List.Sums.{fold_push}
+use Rattle.std.proofs.lemmas.Option.{slice_get_within}
 use Rattle.thp_model.specs.declared.events.Event.{Event}
 use Rattle.thp_model.specs.declared.shape.Shape.{Shape}
 use Rattle.thp_model.specs.BlockLaws.{event_with, least_free}
@@ -13,21 +13,14 @@ use Rattle.thp_model.proofs.LegalSteps.{legal_none}
 use Rattle.thp_model.proofs.ListPlaces.{get_push, get-append_left, get_middle, get_below}
 use Rattle.thp_check.specs.declared.misfit.Misfit.{Misfit}
 use Rattle.thp_check.specs.Reasons.{Explains}
-use Rattle.thp_check.specs.Replays.{Replayed}
-use Rattle.thp_check.specs.Replays.{with_event as replayed}
 use Rattle.thp_journal_reader.specs.declared.journals.NodeJournal.{NodeJournal}
-use Rattle.thp_script.specs.Limits.{max_counted}
 use Rattle.thp_journal_reader.specs.Answers.{AreLegalBefore, IsFirstIllegalEvent, IsLegalNode, ReportsFirst, ReportsIllegal}
-use Rattle.thp_journal_reader.specs.Checking.{nodes_told, AreLegal, GoesWith, HasRoom, HasRoomIn, Says, SaysBy}
-use Rattle.thp_journal_reader.specs.LineRanges.{IsInRange}
+use Rattle.thp_journal_reader.specs.Following.{first_of, nodes_told, LastIsIllegal}
 use Rattle.thp_journal_reader.specs.Reading.{began, on_last, with_event, with_line, IsNodeBefore}
-use Rattle.thp_journal_reader.specs.declared.checked_nodes.CheckedNodes.{CheckedNodes}
-use Rattle.thp_journal_reader.specs.declared.checked_nodes.Verdict.{Verdict}
-use Rattle.thp_journal_reader.specs.declared.checked_nodes.NodeAtHand.{NodeAtHand}
 use Rattle.thp_journal_reader.specs.declared.illegal.Illegal.{Illegal}
 use Rattle.thp_journal_reader.specs.declared.line.Line.{Line}
-use Rattle.thp_journal_reader.proofs.AnswerLaws.{found_has, misfit_inside}
-use Rattle.thp_journal_reader.proofs.NodeLaws.{each_step, on_last-push}
+use Rattle.thp_journal_reader.proofs.AnswerLaws.{found_has, misfit_inside, misfit_is_illegal}
+use Rattle.thp_journal_reader.proofs.NodeLaws.{on_last-push}
 
 -- a node without events is legal
 pub no_events_legal : (shape : Shape) → IsLegal shape []
@@ -43,93 +36,6 @@ last_misfit shape h e legal wrong =
       legal_before = subst L (sym front) legal;
       misfit = (e, get_middle h e [], subst M (sym front) wrong);
     }
-
--- ---- nodes that are legal
-
--- one that was found is legal
-legal_found : (nodes : List NodeJournal) → All IsLegalNode nodes → (k : ℕ) (node : NodeJournal) → slice_get nodes k ≡ Some node → IsLegalNode node
-legal_found nodes all k node here = found_has (λ n. IsLegalNode n) nodes k node here all
-
-all_legal : (nodes : List NodeJournal) (r : Replayed) (next : ℕ) → AreLegal nodes r next → All IsLegalNode nodes
-all_legal nodes r next a =
-    let P : List NodeJournal → Type 0 = λ ns. All IsLegalNode ns in
-    subst P (sym a.nodes_are) (All-push IsLegalNode a.before a.last a.legal_before a.legal)
-
-none_legal : (nodes : List NodeJournal) → nodes ≡ [] → All IsLegalNode nodes
-none_legal nodes none = let P : List NodeJournal → Type 0 = λ ns. All IsLegalNode ns in subst P (sym none) (All-nil IsLegalNode)
-
--- one more node begins behind them
-begins : (nodes : List NodeJournal) (first_line : ℕ) (shape : Shape) (r : Replayed) → All IsLegalNode nodes → r.shape ≡ shape → r.history ≡ [] → AreLegal (nodes ++ began first_line shape ∷ []) r first_line
-begins nodes first_line shape r all same none = record {
-  before = nodes;
-  last = began first_line shape;
-  nodes_are = refl;
-  legal_before = all;
-  shape_is = same;
-  events_are = none;
-  legal = no_events_legal shape;
-  next_is = omega arith;
-}
-
-pub legal_begins : (nodes : List NodeJournal) (old : Replayed) (next first_line : ℕ) (shape : Shape) (r : Replayed) → AreLegal nodes old next → r.shape ≡ shape → r.history ≡ [] →
-    AreLegal (nodes ++ began first_line shape ∷ []) r first_line
-legal_begins nodes old next first_line shape r a same none = begins nodes first_line shape r (all_legal nodes old next a) same none
-
-pub first_begins : (nodes : List NodeJournal) (first_line : ℕ) (shape : Shape) (r : Replayed) → nodes ≡ [] → r.shape ≡ shape → r.history ≡ [] → AreLegal (nodes ++ began first_line shape ∷ []) r first_line
-first_begins nodes first_line shape r nothing same none = begins nodes first_line shape r (none_legal nodes nothing) same none
-
--- the last of them gets one more event that fits
-pub legal_grows : (nodes : List NodeJournal) (old new : Replayed) (next : ℕ) (event : Event) → AreLegal nodes old next → new ≡ replayed old (event_with (least_free old.shape old.history) event) → IsLegal new.shape new.history →
-    AreLegal (on_last (with_event event) nodes) new (next + 1)
-legal_grows nodes old new next event a is legal =
-    let last : NodeJournal = with_event event a.last in
-    let shapes : new.shape ≡ last.shape = ap (λ (r : Replayed). r.shape) is ∙ a.shape_is in
-    let L : Shape → History → Type 0 = λ s h. IsLegal s h in
-    let events : new.history ≡ last.events =
-    ap (λ (r : Replayed). r.history) is ∙ ap (λ h. h ++ event_with (least_free old.shape h) event ∷ []) a.events_are ∙ ap (λ s. a.last.events ++ event_with (least_free s a.last.events) event ∷ []) a.shape_is in
-    let longer : length last.events ≡ length a.last.events + 1 = length-append a.last.events (event_with (least_free a.last.shape a.last.events) event ∷ []) in
-    record {
-      before = a.before;
-      last = last;
-      nodes_are = ap (on_last (with_event event)) a.nodes_are ∙ on_last-push (with_event event) a.before a.last;
-      legal_before = a.legal_before;
-      shape_is = shapes;
-      events_are = events;
-      legal = subst (λ s. L s last.events) shapes (subst (λ h. L new.shape h) events legal);
-      next_is = omega (arith, longer, a.next_is);
-    }
-
--- the last of them gets one that doesn't fit
-pub turns_illegal : (nodes : List NodeJournal) (old : Replayed) (next : ℕ) (told event : Event) (m : Misfit) → AreLegal nodes old next → event ≡ event_with (least_free old.shape old.history) told → (Fits old.shape old.history event → ⊥) →
-    Explains old.shape old.history event m → IsFirstIllegalEvent (on_last (with_event told) nodes) (record { line = next; event = event; misfit = m })
-turns_illegal nodes old next told event m a is misfit why =
-    let last : NodeJournal = a.last in
-    let placed : Event = event_with (least_free last.shape last.events) told in
-    let same : event ≡ placed = is ∙ ap (λ h. event_with (least_free old.shape h) told) a.events_are ∙ ap (λ s. event_with (least_free s last.events) told) a.shape_is in
-    let P : List NodeJournal → Type 0 = λ ns. IsFirstIllegalEvent ns (record { line = next; event = event; misfit = m }) in
-    let M : Shape → History → Event → Type 0 = λ s h e. Fits s h e → ⊥ in
-    let W : Shape → History → Type 0 = λ s h. Explains s h event m in
-    let wrong : M last.shape last.events placed = subst (M last.shape last.events) same (subst (λ s. M s last.events event) a.shape_is (subst (λ h. M old.shape h event) a.events_are misfit)) in
-    let front : take (length last.events) (last.events ++ placed ∷ []) ≡ last.events = take_at last.events (placed ∷ []) (length last.events) refl in
-    subst P (sym (ap (on_last (with_event told)) a.nodes_are ∙ on_last-push (with_event told) a.before last)) (record {
-      line = record {
-        place = length a.before;
-        node = with_event told last;
-        here = get_middle a.before (with_event told last) [];
-        legal_before = λ k node lt here.
-            elim (get_push a.before (with_event told last) k node here) [
-              | inl w ↦ legal_found a.before a.legal_before k node w.1
-              | inr w ↦ absurd (omega (arith, w.0))
-            ];
-        first = record {
-          place = length last.events;
-          misfit = last_misfit last.shape last.events placed a.legal wrong;
-          line_is = a.next_is;
-        };
-      };
-      event = get_middle last.events placed [] ∙ ap (λ (e : Event). Some e) (sym same);
-      why = subst (W last.shape) (sym front) (subst (λ s. W s last.events) a.shape_is (subst (W old.shape) a.events_are why));
-    })
 
 -- ---- nodes one of which is illegal
 
@@ -212,24 +118,6 @@ illegal_before nodes illegal number i each =
     let inside : l.first.place < length l.node.events = misfit_inside l.node.shape l.node.events l.first.place l.first.misfit in
     omega (arith, lines, inside, l.first.line_is)
 
--- ---- what is answered
-
-tells_none : (nodes : List NodeJournal) → nodes ≡ [] → ReportsFirst nodes None
-tells_none nodes none = λ k node lt here. legal_found nodes (none_legal nodes none) k node here
-
-pub tells_legal : (nodes : List NodeJournal) (r : Replayed) (next : ℕ) → AreLegal nodes r next → ReportsFirst nodes None
-tells_legal nodes r next a = λ k node lt here. legal_found nodes (all_legal nodes r next a) k node here
-
--- what is answered is so
-tells_by : (nodes : List NodeJournal) (node : Option NodeAtHand) (illegal : Option Illegal) → SaysBy nodes node illegal → ReportsFirst nodes illegal
-tells_by nodes None None says = tells_none nodes says
-tells_by nodes (Some node) None says = tells_legal nodes node.replay node.next_line says
-tells_by nodes None (Some illegal) says = says
-tells_by nodes (Some node) (Some illegal) says = absurd says
-
-pub tells_first : (nodes : List NodeJournal) (verdict : Verdict) → Says nodes verdict → ReportsFirst nodes verdict.illegal
-tells_first nodes verdict says = tells_by nodes verdict.node verdict.illegal says
-
 -- its line stands before the next line
 pub first_before : (nodes : List NodeJournal) (illegal : Option Illegal) (number most : ℕ) → ReportsFirst nodes illegal → All (IsNodeBefore number) nodes → number ≤ most + 1 → IfSome illegal (λ i. i.line ≤ most + 1)
 first_before nodes None number most told each le = tt
@@ -240,24 +128,103 @@ pub line_of_first : (nodes : List NodeJournal) (illegal : Option Illegal) → Re
 line_of_first nodes None told = told
 line_of_first nodes (Some illegal) told = told.line
 
--- ---- room for one more event
+-- ---- the last node has an illegal event
 
-has_room : (nodes : List NodeJournal) (r : Replayed) (number next : ℕ) → AreLegal nodes r next → All (IsNodeBefore number) nodes → number ≤ max_counted → (length r.history ≤ next) × (next ≤ max_counted)
-has_room nodes r number next a each below =
-    let P : List NodeJournal → Type 0 = λ ns. All (IsNodeBefore number) ns in
-    let last : IsNodeBefore number a.last = found_has (λ n. IsNodeBefore number n) (a.before ++ a.last ∷ []) (length a.before) a.last (get_middle a.before a.last []) (subst P a.nodes_are each) in
-    let lines : a.last.first_line + length a.last.events ≤ number = last.lines in
-    let events : length r.history ≡ length a.last.events = ap length a.events_are in
-    (omega (arith, a.next_is, events), omega (arith, a.next_is, lines))
+-- one behind others
+pub illegal_push : (nodes : List NodeJournal) (node : NodeJournal) (place : ℕ) → IsFirstMisfit node.shape node.events place → LastIsIllegal (nodes ++ node ∷ [])
+illegal_push [] node place first = (place, first)
+illegal_push (n ∷ []) node place first = (place, first)
+illegal_push (n ∷ m ∷ nodes) node place first = illegal_push (m ∷ nodes) node place first
 
-room_by : (number : ℕ) (nodes : List NodeJournal) (node : Option NodeAtHand) (illegal : Option Illegal) → SaysBy nodes node illegal → All (IsNodeBefore number) nodes → number ≤ max_counted → IfSome node HasRoomIn
-room_by number nodes None illegal says each below = tt
-room_by number nodes (Some node) None says each below = has_room nodes node.replay number node.next_line says each below
-room_by number nodes (Some node) (Some illegal) says each below = absurd says
+-- one more event leaves it illegal
+pub illegal_stays : (event : Event) (nodes : List NodeJournal) → LastIsIllegal nodes → LastIsIllegal (on_last (with_event event) nodes)
+illegal_stays event [] last = tt
+illegal_stays event (n ∷ []) last = (last.0, misfit_stays event n last.0 last.1)
+illegal_stays event (n ∷ m ∷ []) last = illegal_stays event (m ∷ []) last
+illegal_stays event (n ∷ m ∷ k ∷ nodes) last = illegal_stays event (m ∷ k ∷ nodes) last
 
--- where the next line has a number that is counted
-pub room_for_one : (number : ℕ) (nodes : List NodeJournal) (verdict : Verdict) → Says nodes verdict → All (IsNodeBefore number) nodes → number ≤ max_counted → HasRoom verdict
-room_for_one number nodes verdict says each below = room_by number nodes verdict.node verdict.illegal says each below
+-- so not all nodes are legal
+last_found : (node : NodeJournal) (nodes : List NodeJournal) → LastIsIllegal (node ∷ nodes) → (k : ℕ) × (n : NodeJournal) × (slice_get (node ∷ nodes) k ≡ Some n) × (place : ℕ) × IsFirstMisfit n.shape n.events place
+last_found node [] last = (0, node, refl, last.0, last.1)
+last_found node (next ∷ nodes) last = let found = last_found next nodes last in (suc found.0, found.1, found.2, found.3, found.4)
+
+not_legal : (node : NodeJournal) (nodes : List NodeJournal) → LastIsIllegal (node ∷ nodes) → ReportsFirst (node ∷ nodes) None → ⊥
+not_legal node nodes last all =
+    let found = last_found node nodes last in
+    misfit_is_illegal found.1.shape found.1.events found.3 found.4 (all found.0 found.1 (slice_get_within (node ∷ nodes) found.0 found.1 found.2) found.2)
+
+-- ---- the first illegal event of all nodes
+
+pub first_none : ReportsFirst [] None
+first_none = λ k node lt here. absurd (omega arith)
+
+-- one more node begins
+pub first_begins : (nodes : List NodeJournal) (illegal : Option Illegal) (first_line : ℕ) (shape : Shape) → ReportsFirst nodes illegal → ReportsFirst (nodes ++ began first_line shape ∷ []) illegal
+first_begins nodes None first_line shape all = λ k node lt here.
+    elim (get_push nodes (began first_line shape) k node here) [
+      | inl w ↦ all k node w.0 w.1
+      | inr w ↦
+          let P : NodeJournal → Type 0 = λ n. IsLegalNode n in
+          subst P (sym w.1) (no_events_legal shape)
+    ]
+first_begins nodes (Some illegal) first_line shape first = illegal_begins nodes illegal first_line shape first
+
+-- one more event of a node that has an illegal one
+pub first_stays : (nodes : List NodeJournal) (illegal : Option Illegal) (event : Event) → LastIsIllegal nodes → ReportsFirst nodes illegal → ReportsFirst (on_last (with_event event) nodes) illegal
+first_stays nodes (Some i) event last one = illegal_grows nodes i event one
+first_stays [] None event last all = all
+first_stays (n ∷ nodes) None event last all = absurd (not_legal n nodes last all)
+
+-- the next event of a node that is legal so far
+module _ (nodes before : List NodeJournal) (last : NodeJournal) (are : nodes ≡ before ++ last ∷ []) (told : Event) where
+  -- the nodes after it
+  pub grown : on_last (with_event told) nodes ≡ before ++ with_event told last ∷ []
+  grown = ap (on_last (with_event told)) are ∙ on_last-push (with_event told) before last
+
+  -- the nodes before it are legal where all are
+  before_legal : ReportsFirst nodes None → (k : ℕ) (node : NodeJournal) → slice_get before k ≡ Some node → IsLegalNode node
+  before_legal all k node here =
+      let there : slice_get nodes k ≡ Some node = ap (λ (ns : List NodeJournal). slice_get ns k) are ∙ get-append_left before (last ∷ []) k node here in
+      all k node (slice_get_within nodes k node there) there
+
+  -- what stands behind it: one of the nodes before, or it
+  stands : (k : ℕ) (node : NodeJournal) → slice_get (on_last (with_event told) nodes) k ≡ Some node → ((k < length before) × (slice_get before k ≡ Some node)) ⊎ ((k ≡ length before) × (node ≡ with_event told last))
+  stands k node here = get_push before (with_event told last) k node (sym (ap (λ (ns : List NodeJournal). slice_get ns k) grown) ∙ here)
+
+  -- it fits
+  pub first_grows : (illegal : Option Illegal) → IsLegalNode (with_event told last) → ReportsFirst nodes illegal → ReportsFirst (on_last (with_event told) nodes) illegal
+  first_grows None legal all = λ k node lt here.
+      elim (stands k node here) [
+        | inl w ↦ before_legal all k node w.1
+        | inr w ↦
+            let P : NodeJournal → Type 0 = λ n. IsLegalNode n in
+            subst P (sym w.1) legal
+      ]
+  first_grows (Some i) legal one = illegal_grows nodes i told one
+
+  -- it doesn't fit
+  pub first_stops : (illegal : Option Illegal) (event : Event) (line : ℕ) (m : Misfit) → event ≡ event_with (least_free last.shape last.events) told → IsFirstMisfit last.shape (with_event told last).events (length last.events) →
+      Explains last.shape last.events event m → line ≡ last.first_line + length last.events → ReportsFirst nodes illegal → ReportsFirst (on_last (with_event told) nodes) (first_of illegal (record { line = line; event = event; misfit = m }))
+  first_stops None event line m placed misfit why at all =
+      let P : List NodeJournal → Type 0 = λ ns. IsFirstIllegalEvent ns (record { line = line; event = event; misfit = m }) in
+      let W : History → Type 0 = λ h. Explains last.shape h event m in
+      let x : Event = event_with (least_free last.shape last.events) told in
+      subst P (sym grown) (record {
+        line = record {
+          place = length before;
+          node = with_event told last;
+          here = get_middle before (with_event told last) [];
+          legal_before = λ k node lt here.
+              elim (get_push before (with_event told last) k node here) [
+                | inl w ↦ before_legal all k node w.1
+                | inr w ↦ absurd (omega (arith, lt, w.0))
+              ];
+          first = record { place = length last.events; misfit = misfit; line_is = at };
+        };
+        event = get_middle last.events x [] ∙ ap (λ (e : Event). Some e) (sym placed);
+        why = subst W (sym (take_at last.events (x ∷ []) (length last.events) refl)) why;
+      })
+  first_stops (Some i) event line m placed misfit why at one = illegal_grows nodes i told one
 
 -- ---- the nodes that lines tell
 
@@ -268,57 +235,3 @@ told_push lines number line = fold_push (λ nodes (l : ℕ × Line). with_line l
 pub told_none : nodes_told [] ≡ []
 unfolding nodes_told
 told_none = refl
-
--- before any line
-pub goes_first : (nodes : CheckedNodes) → nodes.lines ≡ [] → nodes.verdict ≡ record { node = None; illegal = None } → GoesWith 1 nodes
-goes_first nodes none nothing =
-    let told : nodes_told nodes.lines ≡ [] = ap nodes_told none ∙ told_none in
-    let P : List NodeJournal → Type 0 = λ ns. All (IsNodeBefore 1) ns in
-    let Q : Verdict → Type 0 = λ v. Says (nodes_told nodes.lines) v in
-    record { each = subst P (sym told) (All-nil (IsNodeBefore 1)); says = subst Q (sym nothing) told }
-
--- behind one more line
-pub goes_on : (number : ℕ) (old new : CheckedNodes) (line : Line) → GoesWith number old → IsInRange line → new.lines ≡ old.lines ++ (number, line) ∷ [] →
-    Says (with_line number (nodes_told old.lines) line) new.verdict → GoesWith (number + 1) new
-goes_on number old new line along in-range lines says =
-    let told : nodes_told new.lines ≡ with_line number (nodes_told old.lines) line = ap nodes_told lines ∙ told_push old.lines number line in
-    let P : List NodeJournal → Type 0 = λ ns. Says ns new.verdict in
-    record { each = each_step number (nodes_told old.lines) (nodes_told new.lines) line told in-range along.each; says = subst P (sym told) says }
-
--- ---- what is known, step by step
-
--- the event on the next line was admitted
-pub says_admitted : (nodes : List NodeJournal) (old new : Replayed) (next : ℕ) (told event : Event) → AreLegal nodes old next → event ≡ event_with (least_free old.shape old.history) told →
-    new ≡ replayed old event → IsLegal new.shape new.history → AreLegal (on_last (with_event told) nodes) new (next + 1)
-says_admitted nodes old new next told event a placed is legal = legal_grows nodes old new next told a (is ∙ ap (replayed old) placed) legal
-
--- where an event is illegal already, one more node changes nothing that is known
-still_by : (nodes : List NodeJournal) (node : Option NodeAtHand) (illegal : Option Illegal) (first_line : ℕ) (shape : Shape) → is_some illegal ≡ true → SaysBy nodes node illegal → SaysBy (nodes ++ began first_line shape ∷ []) node illegal
-still_by nodes other None first_line shape some says = absurd cc
-still_by nodes None (Some illegal) first_line shape some says = illegal_begins nodes illegal first_line shape says
-still_by nodes (Some node) (Some illegal) first_line shape some says = absurd says
-
-pub says_still : (nodes : List NodeJournal) (verdict : Verdict) (first_line : ℕ) (shape : Shape) → is_some verdict.illegal ≡ true → Says nodes verdict → Says (nodes ++ began first_line shape ∷ []) verdict
-says_still nodes verdict first_line shape some says = still_by nodes verdict.node verdict.illegal first_line shape some says
-
--- a node begins
-pub says_begun : (nodes : List NodeJournal) (node : Option NodeAtHand) (illegal : Option Illegal) (new : NodeAtHand) (first_line : ℕ) (shape : Shape) → is_some illegal ≡ false → new.replay.shape ≡ shape → new.replay.history ≡ [] → new.next_line ≡ first_line →
-    SaysBy nodes node illegal → SaysBy (nodes ++ began first_line shape ∷ []) (Some new) illegal
-says_begun nodes None None new first_line shape none same empty here says = rw here (first_begins nodes first_line shape new.replay says same empty)
-says_begun nodes (Some old) None new first_line shape none same empty here says = rw here (legal_begins nodes old.replay old.next_line first_line shape new.replay says same empty)
-says_begun nodes other (Some illegal) new first_line shape none same empty here says = absurd cc
-
--- while no node is at hand, an event leaves what is known
-pub says_nothing : (nodes : List NodeJournal) (node : Option NodeAtHand) (illegal : Option Illegal) (event : Event) → node ≡ None → SaysBy nodes node illegal → SaysBy (on_last (with_event event) nodes) node illegal
-says_nothing nodes None None event none says = ap (on_last (with_event event)) says
-says_nothing nodes None (Some illegal) event none says = illegal_grows nodes illegal event says
-says_nothing nodes (Some node) illegal event none says = absurd cc
-
--- a node is at hand, so no event is illegal
-pub none_illegal : (nodes : List NodeJournal) (node : Option NodeAtHand) (illegal : Option Illegal) (at_hand : NodeAtHand) → node ≡ Some at_hand → SaysBy nodes node illegal → (illegal ≡ None) × AreLegal nodes at_hand.replay at_hand.next_line
-none_illegal nodes None illegal at_hand some says = absurd cc
-none_illegal nodes (Some node) None at_hand some says =
-    let same : node ≡ at_hand = cc in
-    let P : NodeAtHand → Type 0 = λ n. AreLegal nodes n.replay n.next_line in
-    (refl, subst P same says)
-none_illegal nodes (Some node) (Some illegal) at_hand some says = absurd says

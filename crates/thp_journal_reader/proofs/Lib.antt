@@ -6,6 +6,7 @@ pub mod PlainWords
 pub mod PlainLines
 pub mod FastParsingLaws
 pub mod PartLaws
+pub mod ZipLaws
 pub mod CheckLaws
-pub mod SummaryLaws
-pub mod NumberLaws
+pub mod FollowLaws
+pub mod KeptLaws

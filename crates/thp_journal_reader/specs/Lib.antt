@@ -9,9 +9,8 @@ pub mod Answers
 pub mod Parts
 pub mod LineTrace
 pub mod FastParsing
-pub mod Checking
+pub mod Following
 pub mod Summaries
-pub mod Summing
 pub mod Numbered
-pub mod Numbering
+pub mod Keeping
 pub mod Later

@@ -1,5 +1,6 @@
 -- The results of a check that also stores the numbers of nodes over their events.
-use Rattle.std.specs.Prelude.{◌≡◌, ⊤, List, [], ◌∷◌}
+use Rattle.std.specs.Prelude.{◌≡◌, List, [], ◌∷◌}
+use Rattle.std.specs.List.{AllZip}
 use Rattle.thp_model.specs.History.{History}
 use Rattle.thp_metrics.specs.Series.{numbers_at, series}
 use Rattle.thp_metrics.specs.Stuck.{AreStuck}
@@ -20,7 +21,4 @@ pub record IsNumbered (node : NodeJournal) (kept : NumberedNode) : Type 0 where
 
 -- the same for each node, in order
 abbrev pub AreNumbered : List NodeJournal → List NumberedNode → Type 0
-AreNumbered [] [] = ⊤
-AreNumbered [] (kept ∷ more) = ⊥
-AreNumbered (node ∷ nodes) [] = ⊥
-AreNumbered (node ∷ nodes) (kept ∷ more) = IsNumbered node kept × AreNumbered nodes more
+AreNumbered = AllZip IsNumbered

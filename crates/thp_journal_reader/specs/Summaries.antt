@@ -1,5 +1,6 @@
 -- The results of a check that also sums nodes up.
-use Rattle.std.specs.Prelude.{◌≡◌, ◌⊎◌, ⊤, ℕ, List, [], ◌∷◌, take, Result, Err}
+use Rattle.std.specs.Prelude.{◌≡◌, ◌⊎◌, ⊤, ℕ, List, take, Result, Err}
+use Rattle.std.specs.List.{AllZip}
 use Rattle.thp_model.specs.History.{History}
 use Rattle.thp_model.specs.Legal.{IsFirstMisfit}
 use Rattle.thp_script.specs.Scripts.{Fault}
@@ -30,10 +31,7 @@ pub record IsSummary (node : NodeJournal) (totals : Totals) : Type 0 where
 
 -- the same for each node, in order
 abbrev pub AreSummaries : List NodeJournal → List Totals → Type 0
-AreSummaries [] [] = ⊤
-AreSummaries [] (totals ∷ more) = ⊥
-AreSummaries (node ∷ nodes) [] = ⊥
-AreSummaries (node ∷ nodes) (totals ∷ more) = IsSummary node totals × AreSummaries nodes more
+AreSummaries = AllZip IsSummary
 
 -- the first illegal event of all nodes, and the totals of each
 pub record AreSummed (nodes : List NodeJournal) (summed : Summed) : Type 0 where

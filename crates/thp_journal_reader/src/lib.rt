@@ -7,16 +7,19 @@
 //! - `parse_event_fast` (`FastParsing`): events read in one pass over the bytes; `event_reader`: one event from its line
 //!   (`event_told`). Proofs `PlainWords`, `PlainLines`: a line whose words parse needs no second look at its bytes.
 //! - Checks: `checking` (`ReportsIllegal`, `CanBeLegal` of `Answers`), `journal_check` (16 MiB), `long_check` (any length),
-//!   `illegal` (the event and why), `checked_nodes` (`Checking`, proof `CheckLaws`).
-//! - `summed_check`, `summed`, `summary` (`Summaries`): totals up to the first illegal event; `series_check`, `numbered`,
-//!   `numbering` (`Numbered`): the numbers after each event, in columns.
+//!   `illegal` (the event and why).
+//! - `summed_check`, `summed` (`Summaries`): totals up to the first illegal event; `series_check`, `numbered` (`Numbered`): the
+//!   numbers after each event, in columns.
+//! - Behind these three: `follower` (`Following`, proof `FollowLaws`), generic in `follows_node`: what follows a node, and what is
+//!   kept of it (`Keeping`): nothing, totals (`summed_node`), numbers (`series_node`).
 #![tactic(auto)]
 
-mod checked_nodes;
 mod checking;
 mod event_line;
 mod event_reader;
 mod event_word;
+mod follower;
+mod follows_node;
 mod illegal;
 mod journal_check;
 mod journal_reader;
@@ -25,16 +28,16 @@ mod keeps_nodes;
 mod line;
 mod long_check;
 mod numbered;
-mod numbering;
 mod parse_event_fast;
 mod past_lines;
 mod place;
 mod reading;
 mod series_check;
+mod series_node;
 mod set_text;
-mod summary;
 mod summed;
 mod summed_check;
+mod summed_node;
 mod text_reader;
 mod version;
 

@@ -8,11 +8,12 @@ ghost use Rattle.thp_script.specs.Limits.{max_counted};
 ghost use Rattle.thp_script.specs.TextInParts.{nothing_of};
 ghost use Rattle.thp_script.specs.Words.{Text};
 
-use crate::checked_nodes::CheckedNodes;
+use crate::follower::FollowedNodes;
 use crate::illegal::{Illegal, TextFault};
 use crate::text_reader::TextReader;
 use std::alloc::{AllocError, Global};
 use std::marker::Model;
+use thp_check::Replay;
 use thp_script::TextInParts;
 
 /// A check of journals of any length, whose text arrives in parts of any length. It stores the state of the current node and the
@@ -22,12 +23,13 @@ use thp_script::TextInParts;
 /// Journals contain no blocks: each allocation is replayed in the least block that holds no live page.
 #[derive(Drop)]
 pub struct LongCheck {
-    text: TextReader<CheckedNodes>,
+    text: TextReader<FollowedNodes<Replay, ()>>,
 }
 
 impl Model for LongCheck {
-    ghost use Rattle.std.specs.Prelude.{◌≤◌};
-    ghost use Rattle.thp_journal_reader.specs.Checking.{nodes_told, GoesWith};
+    ghost use Rattle.std.specs.Prelude.{◌≤◌, false};
+    ghost use Rattle.thp_journal_reader.specs.Following.{nodes_told, FollowsLines};
+    ghost use Rattle.thp_journal_reader.specs.Keeping.{KeepsNothing};
     ghost use Rattle.thp_journal_reader.specs.Parts.{so_far, ReadSoFar};
     ghost use Rattle.thp_script.specs.Limits.{max_counted};
 
@@ -35,7 +37,7 @@ impl Model for LongCheck {
 
     ghost view = { λ c. so_far (nodes_told c.text.nodes.lines) c.text.place c.text.text };
 
-    ghost invariant = { λ c. GoesWith c.text.text.line c.text.nodes × (c.text.text.most ≤ max_counted) };
+    ghost invariant = { λ c. FollowsLines (λ replay. replay) KeepsNothing false c.text.text.line c.text.nodes × (c.text.text.most ≤ max_counted) };
 }
 
 impl LongCheck {
@@ -54,7 +56,7 @@ impl LongCheck {
         ensures most { result.text.most ≡ text.most }
     {
         LongCheck {
-            text: TextReader::new(alloc, text, CheckedNodes::new()),
+            text: TextReader::new(alloc, text, FollowedNodes::new(alloc)),
         }
     }
 

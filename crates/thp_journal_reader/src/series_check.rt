@@ -8,9 +8,10 @@ ghost use Rattle.thp_journal_reader.specs.declared.journals.Journals.{Journals};
 ghost use Rattle.thp_script.specs.Limits.{max_counted};
 ghost use Rattle.thp_script.specs.Words.{Text};
 
+use crate::follower::FollowedNodes;
 use crate::illegal::TextFault;
 use crate::numbered::NumberedNode;
-use crate::numbering::NumberedNodes;
+use crate::series_node::SeriesNode;
 use crate::summed::SummaryFault;
 use crate::text_reader::TextReader;
 use std::alloc::{AllocError, Global};
@@ -21,13 +22,13 @@ use thp_script::TextInParts;
 /// [`SummedCheck`](crate::SummedCheck) in that it reports the first illegal event of each node.
 #[derive(Drop)]
 pub struct SeriesCheck {
-    text: TextReader<NumberedNodes>,
+    text: TextReader<FollowedNodes<SeriesNode, NumberedNode>>,
 }
 
 impl Model for SeriesCheck {
-    ghost use Rattle.std.specs.Prelude.{◌≤◌};
-    ghost use Rattle.thp_journal_reader.specs.Checking.{nodes_told};
-    ghost use Rattle.thp_journal_reader.specs.Numbering.{GoesNumbered};
+    ghost use Rattle.std.specs.Prelude.{◌≤◌, true};
+    ghost use Rattle.thp_journal_reader.specs.Following.{nodes_told, FollowsLines};
+    ghost use Rattle.thp_journal_reader.specs.Keeping.{KeepsNumbers};
     ghost use Rattle.thp_journal_reader.specs.Parts.{so_far, ReadSoFar};
     ghost use Rattle.thp_script.specs.Limits.{max_counted};
 
@@ -35,7 +36,7 @@ impl Model for SeriesCheck {
 
     ghost view = { λ c. so_far (nodes_told c.text.nodes.lines) c.text.place c.text.text };
 
-    ghost invariant = { λ c. GoesNumbered c.text.text.line c.text.nodes × (c.text.text.most ≤ max_counted) };
+    ghost invariant = { λ c. FollowsLines (λ node. node) KeepsNumbers true c.text.text.line c.text.nodes × (c.text.text.most ≤ max_counted) };
 }
 
 impl SeriesCheck {
@@ -47,7 +48,7 @@ impl SeriesCheck {
             text: TextReader::new(
                 alloc,
                 TextInParts::unlimited(alloc),
-                NumberedNodes::new(alloc),
+                FollowedNodes::new(alloc),
             ),
         }
     }
@@ -69,7 +70,10 @@ impl SeriesCheck {
     {
         match self.text.fault() {
             Some((line, kind)) => Err(SummaryFault::Text(TextFault { line, kind })),
-            None => Ok(self.text.into_nodes().finish()?),
+            None => {
+                let (_, numbered) = self.text.into_nodes().finish()?;
+                Ok(numbered)
+            }
         }
     }
 }

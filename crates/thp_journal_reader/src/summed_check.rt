@@ -7,33 +7,35 @@ ghost use Rattle.thp_journal_reader.specs.declared.journals.Journals.{Journals};
 ghost use Rattle.thp_script.specs.Limits.{max_counted};
 ghost use Rattle.thp_script.specs.Words.{Text};
 
+use crate::follower::FollowedNodes;
 use crate::illegal::TextFault;
-use crate::summary::SummedNodes;
 use crate::summed::{SummaryFault, Summed};
+use crate::summed_node::SummedNode;
 use crate::text_reader::TextReader;
 use std::alloc::{AllocError, Global};
 use std::marker::Model;
+use thp_journal_writer::Totals;
 use thp_script::TextInParts;
 
 /// A check of journals of any length that also stores the totals of each node. It differs from a [`LongCheck`](crate::LongCheck)
 /// in that it continues after the first illegal event: it replays each further node up to that node's first illegal event.
 #[derive(Drop)]
 pub struct SummedCheck {
-    text: TextReader<SummedNodes>,
+    text: TextReader<FollowedNodes<SummedNode, Totals>>,
 }
 
 impl Model for SummedCheck {
-    ghost use Rattle.std.specs.Prelude.{◌≤◌};
-    ghost use Rattle.thp_journal_reader.specs.Checking.{nodes_told};
+    ghost use Rattle.std.specs.Prelude.{◌≤◌, true};
+    ghost use Rattle.thp_journal_reader.specs.Following.{nodes_told, FollowsLines};
+    ghost use Rattle.thp_journal_reader.specs.Keeping.{KeepsTotals};
     ghost use Rattle.thp_journal_reader.specs.Parts.{so_far, ReadSoFar};
-    ghost use Rattle.thp_journal_reader.specs.Summing.{GoesSummed};
     ghost use Rattle.thp_script.specs.Limits.{max_counted};
 
     ghost Value = { ReadSoFar };
 
     ghost view = { λ c. so_far (nodes_told c.text.nodes.lines) c.text.place c.text.text };
 
-    ghost invariant = { λ c. GoesSummed c.text.text.line c.text.nodes × (c.text.text.most ≤ max_counted) };
+    ghost invariant = { λ c. FollowsLines (λ node. node) KeepsTotals true c.text.text.line c.text.nodes × (c.text.text.most ≤ max_counted) };
 }
 
 impl SummedCheck {
@@ -45,7 +47,7 @@ impl SummedCheck {
             text: TextReader::new(
                 alloc,
                 TextInParts::unlimited(alloc),
-                SummedNodes::new(alloc),
+                FollowedNodes::new(alloc),
             ),
         }
     }
@@ -67,7 +69,10 @@ impl SummedCheck {
     {
         match self.text.fault() {
             Some((line, kind)) => Err(SummaryFault::Text(TextFault { line, kind })),
-            None => Ok(self.text.into_nodes().finish()?),
+            None => {
+                let (illegal, totals) = self.text.into_nodes().finish()?;
+                Ok(Summed { illegal, totals })
+            }
         }
     }
 }

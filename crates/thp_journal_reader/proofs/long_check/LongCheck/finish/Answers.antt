@@ -1,21 +1,21 @@
 use Rattle.std.proofs.Common.{◌≤◌, ◌+◌, Option, subst, sym}
 use Rattle.std.specs.Prelude.{IfSome}
 use Rattle.thp_journal_reader.specs.Answers.{ReportsFirst}
-use Rattle.thp_journal_reader.specs.Checking.{nodes_told}
+use Rattle.thp_journal_reader.specs.Following.{nodes_told}
 use Rattle.thp_journal_reader.specs.Parts.{journals_in}
 use Rattle.thp_journal_reader.specs.declared.illegal.Illegal.{Illegal}
-use Rattle.thp_journal_reader.proofs.CheckLaws.{first_before, tells_first}
+use Rattle.thp_journal_reader.proofs.CheckLaws.{first_before}
 use Rattle.thp_journal_reader.proofs.long_check.LongCheck.finish.Goals as goal
 
 pub returns-clause-first : goal.returns-clause-first
 returns-clause-first c =
     let nodes = nodes_told c.self.inside.text.nodes.lines in
     let P : Option Illegal → Type 0 = λ illegal. ReportsFirst nodes illegal in
-    (journals_in nodes, rw (← c.self.view_is) c.in-None.ensures.sound, subst P (sym c.illegal.ensures) (tells_first nodes c.self.inside.text.nodes.verdict c.self.invariant.0.says))
+    (journals_in nodes, rw (← c.self.view_is) c.in-None.ensures.sound, subst P (sym c.illegal.ensures) c.self.invariant.0.follows.first)
 
 pub returns-clause-illegal_line : goal.returns-clause-illegal_line
 returns-clause-illegal_line c =
     let r = c.self.inside.text in
     let nodes = nodes_told r.nodes.lines in
     let P : Option Illegal → Type 0 = λ illegal. IfSome illegal (λ i. i.line ≤ c.args.self.text.most + 1) in
-    subst P (sym c.illegal.ensures) (rw (← c.self.view_is) (first_before nodes r.nodes.verdict.illegal r.text.line r.text.most (tells_first nodes r.nodes.verdict c.self.invariant.0.says) c.self.invariant.0.each c.in-None.ensures.lines))
+    subst P (sym c.illegal.ensures) (rw (← c.self.view_is) (first_before nodes r.nodes.follower.illegal r.text.line r.text.most c.self.invariant.0.follows.first c.self.invariant.0.each c.in-None.ensures.lines))

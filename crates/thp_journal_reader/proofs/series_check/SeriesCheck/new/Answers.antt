@@ -1,22 +1,15 @@
-use Rattle.std.proofs.Common.{◌≡◌, ◌≤◌, ◌∙◌, ℕ, ap, arith, subst, sym}
+use Rattle.std.proofs.Common.{◌≡◌, ◌≤◌, ◌∙◌, ap, arith, subst, sym}
 use Rattle.thp_script.specs.Limits.{max_counted}
 use Rattle.thp_script.specs.TextInParts.{TextSoFar}
-use Rattle.thp_journal_reader.specs.Numbering.{GoesNumbered}
-use Rattle.thp_journal_reader.specs.declared.numbering.NumberedNodes.{NumberedNodes}
 use Rattle.thp_journal_reader.proofs.CheckLaws.{told_none}
-use Rattle.thp_journal_reader.proofs.NumberLaws.{goes_first}
 use Rattle.thp_journal_reader.proofs.PartLaws.{tells_all}
 use Rattle.thp_journal_reader.proofs.series_check.SeriesCheck.new.Goals as goal
 
 pub invariant_of-result : goal.invariant_of-result
 invariant_of-result c =
-    let nodes = c.new.ensures in
-    let first = goes_first c.new.result nodes.lines nodes.at_hand nodes.nodes in
     let line : c.new-2.result.text.line ≡ 1 = ap (λ (t : TextSoFar). t.line) (c.new-2.ensures.text ∙ c.unlimited.ensures) in
-    let P : ℕ → Type 0 = λ n. GoesNumbered n c.new-2.result.nodes in
-    let Q : NumberedNodes → Type 0 = λ ns. GoesNumbered 1 ns in
     let R : TextSoFar → Type 0 = λ t. t.most ≤ max_counted in
-    (subst P (sym line) (subst Q (sym c.new-2.ensures.nodes) first), subst R (sym (c.new-2.ensures.text ∙ c.unlimited.ensures)) (omega arith))
+    (rw (line, c.new-2.ensures.nodes) c.new.ensures.follows, subst R (sym (c.new-2.ensures.text ∙ c.unlimited.ensures)) (omega arith))
 
 pub returns : goal.returns
 returns c = λ text. rw (c.new-2.ensures.nodes, c.new.ensures.lines, told_none, c.new-2.ensures.place, c.new-2.ensures.text, c.unlimited.ensures) (tells_all max_counted text)

@@ -1,0 +1,224 @@
+//! Follows the nodes of a journal as its lines are read: replays their events without storing them, and keeps data of each node.
+ghost use Rattle.std.specs.Prelude.{◌≡◌, ◌≤◌, ◌∷◌, ◌++◌, ℕ, [], List, None, IfOk, OnOk};
+ghost use Rattle.thp_check.specs.Replays.{Replayed};
+ghost use Rattle.thp_journal_reader.specs.Following.{first_of, has_stopped, nodes_told, Follows, FollowsLines, FollowsWith, HasEnded, HasRoom, HasRoomIn, StopsWith};
+ghost use Rattle.thp_journal_reader.specs.Later.{follows_later};
+ghost use Rattle.thp_journal_reader.specs.LineRanges.{IsInRange};
+ghost use Rattle.thp_journal_reader.specs.Reading.{began, on_last, with_event, with_line};
+ghost use Rattle.thp_journal_reader.specs.declared.journals.NodeJournal.{NodeJournal};
+ghost use Rattle.thp_model.specs.BlockLaws.{event_with, least_free};
+ghost use Rattle.thp_model.specs.Shapes.{IsShape};
+ghost use Rattle.thp_model.specs.declared.events.Event.{Event};
+ghost use Rattle.thp_model.specs.declared.events.What.TheVariants.{Alloc};
+ghost use Rattle.thp_script.specs.Limits.{max_counted};
+
+use crate::follows_node::{FollowsNode, Stopped};
+use crate::illegal::Illegal;
+use crate::keeps_nodes::KeepsNodes;
+use crate::line::Line;
+use crate::past_lines::LineTrace;
+use std::alloc::{AllocError, Global};
+use thp_model::{Event, PageId, Shape, What};
+
+/// What is known of the nodes so far. `F` follows the current node, and a `K` is kept of each other.
+#[derive(Drop)]
+pub(crate) struct Follower<F, K> {
+    alloc: Global,
+    // the last node, while its events are legal
+    at_hand: Option<F>,
+    // the line of that node's next event
+    next_line: u64,
+    // the first illegal event of all nodes
+    illegal: Option<Illegal>,
+    kept: Vec<K>,
+}
+
+impl<K: Drop, F: FollowsNode<Kept = K>> Follower<F, K> {
+    /// Returns whether no further node is followed.
+    fn has_stopped(&self) -> bool
+        ensures { result ≡ has_stopped F.follows_all self.now.illegal }
+    {
+        self.illegal.is_some() && !F::follows_all()
+    }
+
+    /// Adds the kept data of a node.
+    fn keep(&mut self, kept: K) -> Result<(), AllocError>
+        ensures kept { OnOk result (self.new.kept.items ≡ self.old.kept.items ++ kept ∷ []) }
+        ensures at_hand { self.new.at_hand ≡ self.old.at_hand }
+        ensures next_line { self.new.next_line ≡ self.old.next_line }
+        ensures illegal { self.new.illegal ≡ self.old.illegal }
+    {
+        self.kept.push(kept)?;
+        Ok(())
+    }
+
+    /// Ends the current node, if there is one.
+    fn end(&mut self) -> Result<(), AllocError>
+        ensures ended { OnOk result ((nodes : List NodeJournal) → Follows F.replayed F.keeps F.follows_all nodes self.old → HasEnded F.keeps F.follows_all nodes self.new.illegal self.new.kept.items) }
+        ensures none { self.new.at_hand ≡ None }
+    {
+        let Some(node) = self.at_hand.take() else {
+            return Ok(());
+        };
+        let kept = node.end(self.alloc)?;
+        self.keep(kept)
+    }
+
+    /// Begins a node whose first event is on this line.
+    fn begin(&mut self, first_line: u64, shape: Shape) -> Result<(), AllocError>
+        requires { IsShape shape }
+        ensures { OnOk result ((nodes : List NodeJournal) → Follows F.replayed F.keeps F.follows_all nodes self.old → Follows F.replayed F.keeps F.follows_all (nodes ++ began first_line shape ∷ []) self.new) }
+    {
+        self.end()?;
+        if self.has_stopped() {
+            return Ok(());
+        }
+        let node = F::begin(self.alloc, shape)?;
+        self.at_hand = Some(node);
+        self.next_line = first_line;
+        Ok(())
+    }
+
+    /// Records an illegal event, unless one was recorded before.
+    fn note(&mut self, illegal: &Illegal)
+        ensures { self.new ≡ record self.old { illegal = first_of self.old.illegal illegal.now } }
+    {
+        if self.illegal.is_none() {
+            self.illegal = Some(*illegal);
+        }
+    }
+
+    // Rare cases have functions of their own: otherwise each event would clear the stack for them.
+
+    /// Records that this event on the current node is illegal.
+    #[inline(never)]
+    fn stop(&mut self, event: &Event, stopped: Stopped<F::Rest>) -> Result<(), AllocError>
+        ensures stops { OnOk result (StopsWith F.keeps F.leaves stopped.rest (record { line = self.old.next_line; event = event.now; misfit = stopped.misfit }) self.old.illegal self.old.kept.items self.new.illegal self.new.kept.items) }
+        ensures at_hand { self.new.at_hand ≡ self.old.at_hand }
+    {
+        let Stopped { misfit, rest } = stopped;
+        let illegal = Illegal {
+            line: self.next_line,
+            event: *event,
+            misfit,
+        };
+        let kept = F::stop(rest, self.alloc, &illegal)?;
+        self.note(&illegal);
+        self.keep(kept)
+    }
+
+    /// Replays an event on the current node. The event has no block if it is an allocation, as no line contains blocks.
+    fn go_on(&mut self, node: F, event: &Event) -> Result<(), AllocError>
+        requires none { self.old.at_hand ≡ None }
+        requires room { HasRoomIn self.old.next_line (F.replayed node) }
+        ensures { OnOk result ((nodes : List NodeJournal) → (told : Event) → FollowsWith F.keeps nodes (F.replayed node) self.old → event.now ≡ event_with (least_free (F.replayed node).shape (F.replayed node).history) told → Follows F.replayed F.keeps F.follows_all (on_last (with_event told) nodes) self.new) }
+    {
+        match node.follow(event) {
+            Ok(node) => {
+                self.at_hand = Some(node);
+                self.next_line += 1;
+                Ok(())
+            }
+            Err(stopped) => self.stop(event, stopped),
+        }
+    }
+
+    /// Replays an allocation on the current node, in the least free block.
+    #[inline(never)]
+    fn place(&mut self, node: F, caller: u32, page: PageId) -> Result<(), AllocError>
+        requires none { self.old.at_hand ≡ None }
+        requires room { HasRoomIn self.old.next_line (F.replayed node) }
+        ensures { OnOk result ((nodes : List NodeJournal) → (told : Event) → (block : ℕ) → FollowsWith F.keeps nodes (F.replayed node) self.old → told ≡ record { caller = caller; what = Alloc page block } → Follows F.replayed F.keeps F.follows_all (on_last (with_event told) nodes) self.new) }
+    {
+        let block = node.free_block();
+        let what = What::Alloc { page, block };
+        self.go_on(node, &Event { caller, what })
+    }
+
+    /// Replays an event on the last node, if there is one; an allocation uses the least free block.
+    fn admit(&mut self, event: &Event) -> Result<(), AllocError>
+        requires { HasRoom F.replayed self.old }
+        ensures { OnOk result ((nodes : List NodeJournal) → Follows F.replayed F.keeps F.follows_all nodes self.old → Follows F.replayed F.keeps F.follows_all (on_last (with_event event.now) nodes) self.new) }
+    {
+        let Some(node) = self.at_hand.take() else {
+            return Ok(());
+        };
+        match event.what {
+            What::Alloc { page, .. } => self.place(node, event.caller, page),
+            _ => self.go_on(node, event),
+        }
+    }
+
+    /// Processes the line of this number.
+    fn follow(&mut self, number: u64, line: &Line) -> Result<(), AllocError>
+        requires room { HasRoom F.replayed self.old }
+        requires in_range { IsInRange line.now }
+        requires number { number ≤ max_counted }
+        ensures { OnOk result ((nodes : List NodeJournal) → Follows F.replayed F.keeps F.follows_all nodes self.old → Follows F.replayed F.keeps F.follows_all (with_line number nodes line.now) self.new) }
+    {
+        match line {
+            Line::Node { shape, .. } => self.begin(number + 1, *shape),
+            Line::Happened(event) => self.admit(event),
+            Line::Head(_) | Line::End => Ok(()),
+        }
+    }
+}
+
+/// What is known of the nodes in the lines so far.
+#[derive(Drop)]
+pub(crate) struct FollowedNodes<F, K> {
+    follower: Follower<F, K>,
+    // has no bytes
+    pub(crate) lines: LineTrace,
+}
+
+impl<K: Drop, F: FollowsNode<Kept = K>> FollowedNodes<F, K> {
+    /// Returns the state before the first line.
+    pub(crate) fn new(alloc: Global) -> FollowedNodes<F, K>
+        ensures lines { result.lines ≡ [] }
+        ensures follows { FollowsLines F.replayed F.keeps F.follows_all 1 result }
+    {
+        FollowedNodes {
+            follower: Follower {
+                alloc,
+                at_hand: None,
+                next_line: 0,
+                illegal: None,
+                kept: Vec::new(alloc),
+            },
+            lines: LineTrace::new(),
+        }
+    }
+
+    /// Returns the first illegal event, if there is one.
+    pub(crate) fn illegal(&self) -> Option<Illegal>
+        ensures { result ≡ self.now.follower.illegal }
+    {
+        self.follower.illegal
+    }
+
+    /// Returns the first illegal event, if there is one, and the kept data of each node, after the last line.
+    pub(crate) fn finish(self) -> Result<(Option<Illegal>, Vec<K>), AllocError>
+        ensures { IfOk result (λ found. (nodes : List NodeJournal) → Follows F.replayed F.keeps F.follows_all nodes self.follower → HasEnded F.keeps F.follows_all nodes found.0 found.1.items) }
+    {
+        let mut follower = self.follower;
+        follower.end()?;
+        Ok((follower.illegal, follower.kept))
+    }
+}
+
+impl<K: Drop, F: FollowsNode<Kept = K>> KeepsNodes for FollowedNodes<F, K> {
+    ghost told = { λ nodes. nodes_told nodes.lines };
+
+    ghost goes_along = { λ number nodes. FollowsLines F.replayed F.keeps F.follows_all number nodes };
+
+    ghost last_line = { max_counted };
+
+    fn add(&mut self, _alloc: Global, number: u64, line: &Line) -> Result<(), AllocError> {
+        self.follower.follow(number, line)?;
+        self.lines.push(number, line);
+        Ok(())
+    }
+
+    ghost later = { λ number nodes along. follows_later F.replayed F.keeps F.follows_all number nodes along };
+}
