@@ -14,7 +14,9 @@ pub struct Room<T> {
 
 impl<T: Drop> Room<T> {
     /// Allocates an empty room, or returns `None` if that is not possible.
-    pub fn new(alloc: Global) -> Option<Box<Room<T>>> {
+    pub fn new(alloc: Global) -> Option<Box<Room<T>>>
+        ensures { IfSome result (λ room. room.value.value ≡ None) }
+    {
         Box::new(alloc, Room { value: None }).ok()
     }
 
