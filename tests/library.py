@@ -46,6 +46,7 @@ BORROWED = re.compile(r"pub fn (thp_\w+)\((.*?)\) -> ([^;]+);", re.S)
 TYPES = {
     "thp_node *": "handle", "uint32_t *": "u32*", "uint64_t *": "u64*", "size_t *": "usize*", "thp_done *": "done",
     "thp_scan *": "scan", "thp_tried *": "tried", "thp_back *": "back", "thp_stats *": "stats", "const uint8_t *": "u8*",
+    "const void *": "u8*", "void *": "u8*",
     "uint8_t *": "u8*", "uint32_t": "u32", "uint64_t": "u64", "size_t": "usize", "thp_code": "u32", "const thp_allocator *": "allocator",
     "thp_pass *": "pass", "&mut ThpPass": "pass", "*mut PassHandle": "pass", "&mut ThpNode": "handle",
     "thp_check *": "check", "&mut ThpCheck": "check", "*mut CheckHandle": "check",
