@@ -180,7 +180,7 @@ typedef enum thp_try {
     THP_TRY_USED = 3    /**< the page is not worth a split and left the batch */
 } thp_try;
 
-/** @brief The result of a try. */
+/** @brief The result of a try. The frames of a page that it split are in the journal, and counted in thp_stats. */
 typedef struct thp_tried {
     uint32_t kind; /**< a thp_try */
     uint64_t page; /**< the page that was tried; 0 with THP_TRY_DONE */
