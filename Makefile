@@ -7,6 +7,8 @@
 # make deb:     Debian packages of these and of the library for C, in DEBS (default: out); needs dpkg-dev and debhelper
 # make dist:    proves and builds the release into DEBS: archives of programs, debug information and sources, and their hashes; each
 #               archive has a file PROOF. make reproduce: the same with the packages, twice, compared byte for byte
+#               ARCH=arm64 makes dist and deb for aarch64, without the tools for the running kernel (needs
+#               gcc-aarch64-linux-gnu); make cross-test tests what that built (needs qemu-user-static; CASES=n)
 # make dist-test: the archive, and packages, of DEBS in a clean Debian 12 by debootstrap (root, network; status 77 if one is missing)
 # make test:    every check: proofs from scratch, the must-fail edits in crates/NAME/must-fail, tests, stored runs, examples,
 #               documents; ends in 'N passed, M failed'. A check whose tool is missing is named and not counted; STRICT=1
@@ -39,7 +41,7 @@ DEBS ?= out
 CASES ?= 2000
 SEED ?= 1
 
-.PHONY: help try run checker drawer install put put-tools uninstall deb dist reproduce dist-test test outside toolchain fuzz memory c edits believe linux linux-vm root-tests bench
+.PHONY: help try run checker drawer install put put-tools uninstall deb dist reproduce dist-test cross-test test outside toolchain fuzz memory c edits believe linux linux-vm root-tests bench
 
 help:
 	@sed -n '/^[^#]/q; s/^# //p' Makefile
@@ -98,13 +100,29 @@ uninstall:
 	@for pair in $(INSTALLED); do rm -f "$(DESTDIR)$(PREFIX)/$${pair%%=*}"; done
 	@$(MAKE) --no-print-directory -s -C linux uninstall PREFIX="$(PREFIX)" DESTDIR="$(abspath $(DESTDIR))"
 
-deb: run checker drawer $(ARCHIVE)
-	@python3 debian/build.py $(PROGRAM) $(CHECKER) $(DRAWER) $(ARCHIVE) $(DEBS)
+# what a release has the programs and the library of, for Debian's architecture ARCH
+ARCH ?= amd64
+ifeq ($(ARCH),arm64)
+RELEASED = $(foreach name,thpsplit thpcheck thpdraw,crates/$(name)/out/aarch64/$(name)) crates/thp_c/out/aarch64/libthp_c.a
+released: toolchain
+	@python3 release/aarch64.py && python3 prove.py verdicts aarch64
+else
+RELEASED = $(PROGRAM) $(CHECKER) $(DRAWER) $(ARCHIVE)
+released: run checker drawer $(ARCHIVE)
+	@python3 prove.py verdicts
+endif
+.PHONY: released
 
-dist: run checker drawer $(ARCHIVE)
-	@python3 release/dist.py $(PROGRAM) $(CHECKER) $(DRAWER) $(ARCHIVE) $(DEBS)
+deb: released
+	@python3 debian/build.py --arch $(ARCH) $(RELEASED) $(DEBS)
 
-reproduce: run checker drawer $(ARCHIVE)
+dist: released
+	@python3 release/dist.py --arch $(ARCH) $(RELEASED) $(DEBS)
+
+cross-test:
+	@python3 tests/emulated.py --cases $(CASES) --seed $(SEED)
+
+reproduce: released
 	@python3 release/reproduce.py $(PROGRAM) $(CHECKER) $(DRAWER) $(ARCHIVE) $(DEBS)
 
 dist-test:
@@ -151,6 +169,7 @@ $(ARCHIVE):
 
 c: toolchain $(ARCHIVE)
 	@python3 tests/library.py $(ARCHIVE) $(if $(GIVEN),$(GIVEN) --cases $(CASES) --seed $(SEED))
+	@python3 tests/wrong_boundary.py $(ARCHIVE)
 
 edits:
 	@bash tests/edits/run $(CRATES)

@@ -2,6 +2,7 @@
 """Proves the libraries that a crate depends on, several at a time, each after those that it uses.
 
     prove.py CRATE [WORD..]
+    prove.py verdicts [PART]
 
 With words it then runs `rt WORD..` in the crate's folder: `run` proves, builds and runs a program, `lib` builds a library, `verdict`
 proves the crate again from scratch.
@@ -14,6 +15,8 @@ checks them at the end.
 
 The line in which `rt` reports that a crate is proved, its verdict line, is stored in the crate's out/, with the sum of the sources
 that it is for (`verdict`). Where `rt` takes a proof from another checkout, the line of that checkout comes with it, if there is one.
+With the word `verdicts` each crate of a release that has no line is proved from scratch, to get one; all that it uses must be built.
+PART is the folder in out/ of what was built for another platform.
 
 Writes a line for each library on standard error. The status is 1 if a library is not proved, and then the output of its `rt`
 is shown; with words it is otherwise that of `rt`.
@@ -119,29 +122,31 @@ def sources(name: str) -> str:
     return whole.hexdigest()
 
 
-def products(name: str) -> list[Path]:
-    """What was built from a crate: its program, or its static library."""
-    return [it for it in (CRATES / name / "out" / name, CRATES / name / "out" / f"lib{name}.a") if it.is_file()]
+def products(name: str, part: str = "") -> list[Path]:
+    """What was built from a crate: its program, or its static library; for another platform in that part of out/."""
+    out = CRATES / name / "out" / part
+    return [it for it in (out / name, out / f"lib{name}.a") if it.is_file()]
 
 
-def keep_verdict(name: str, before: str, said: str, folder: Path | None = None) -> bool:
+def keep_verdict(name: str, before: str, said: str, folder: Path | None = None, part: str = "") -> bool:
     """Stores the verdict line in the output of a crate's proof, with the sum that the crate's sources had before the proof, and the
     hashes of what was built. Returns whether there is such a line and the sources are still the same."""
     lines = [found[0] for found in VERDICT.finditer(said)]
     if not lines or sources(name) != before:
         return False
-    folder = folder or CRATES / name / "out"
+    folder = folder or CRATES / name / "out" / part
     folder.mkdir(parents=True, exist_ok=True)
-    built = "".join(f"built={it.name} {hashlib.sha256(it.read_bytes()).hexdigest()}\n" for it in products(name))
+    built = "".join(f"built={it.name} {hashlib.sha256(it.read_bytes()).hexdigest()}\n" for it in products(name, part))
     (folder / "verdict").write_text(f"sources={before}\n{built}{lines[-1]}\n")
     return True
 
 
-def verdict(name: str) -> tuple[str, dict[str, str]] | None:
+def verdict(name: str, part: str = "") -> tuple[str, dict[str, str]] | None:
     """The stored verdict line of a crate, and the hash of each file that was built with it, by name; or None if there is none for the
-    present sources."""
+    present sources. A library has the same line for all platforms."""
     now = sources(name)
-    for path in (CRATES / name / "out/verdict", CRATES / name / "out/rlib/verdict"):
+    for folder in [part] if part and name in RELEASED else ["", "rlib"]:
+        path = CRATES / name / "out" / folder / "verdict"
         lines = path.read_text(errors="replace").splitlines() if path.is_file() else []
         if len(lines) >= 2 and lines[0] == f"sources={now}" and VERDICT.fullmatch(lines[-1]):
             return lines[-1], dict(line.removeprefix("built=").split(" ", 1) for line in lines[1:-1])
@@ -208,6 +213,31 @@ def prove(name: str, is_first: bool, started: list[subprocess.Popen[str]]) -> st
     return None
 
 
+def prove_again(name: str) -> str | None:
+    """Proves a crate from scratch, in a folder of its own, and stores its verdict line. Returns the output of `rt` if that fails."""
+    began, before = time.monotonic(), sources(name)
+    with tempfile.TemporaryDirectory(prefix="thp-prove-") as top:
+        set_up(Path(top), name)
+        if (ROOT / "HANDLES").is_file():
+            shutil.copy(ROOT / "HANDLES", top)
+        done = subprocess.run(["rt", "verdict"], cwd=Path(top) / "crates" / name, text=True, errors="replace", stdin=subprocess.DEVNULL,
+                              stdout=subprocess.PIPE, stderr=subprocess.STDOUT, check=False)
+    if done.returncode or not keep_verdict(name, before, done.stdout):
+        return done.stdout
+    print(f"{name}: proved from scratch in {time.monotonic() - began:.0f} s", file=sys.stderr, flush=True)
+    return None
+
+
+def prove_lacking(part: str) -> bool:
+    """Proves from scratch each crate of a release that has no verdict line, several at a time, and returns whether all are proved."""
+    with ThreadPoolExecutor(lanes()) as pool:
+        lacking = [name for name in released() if verdict(name, part) is None]
+        wrong = {name: said for name, said in zip(lacking, pool.map(prove_again, lacking)) if said is not None}
+    for name, said in wrong.items():
+        print(f"{said}{name}: not proved", file=sys.stderr, flush=True)
+    return not wrong
+
+
 def lanes() -> int:
     """The number of libraries to prove concurrently on this machine."""
     found = re.search(r"MemAvailable:\s+(\d+)", Path("/proc/meminfo").read_text())
@@ -264,6 +294,8 @@ def end(started: list[subprocess.Popen[str]]) -> None:
 
 
 def main() -> None:
+    if sys.argv[1] == "verdicts":
+        sys.exit(0 if prove_lacking("".join(sys.argv[2:])) else 1)
     started: list[subprocess.Popen[str]] = []
     try:
         is_proved = prove_all(sys.argv[1], lanes(), started)

@@ -172,7 +172,7 @@ _Static_assert(sizeof(thp_code) == sizeof(uint32_t), "a code is a number of 32 b
 static uint8_t no_bytes;
 static uint64_t no_pages;
 
-thp_code thp_check_text(const uint8_t *text, size_t length, uint32_t *line) {
+thp_code thp_check_text(const void *text, size_t length, uint32_t *line) {
     if ((text == NULL && length != 0) || line == NULL) return THP_NULL;
     return (thp_code)thp_c_check_text(text != NULL ? text : &no_bytes, length, line);
 }
@@ -187,7 +187,7 @@ thp_code thp_check_destroy(thp_check *check) {
     return (thp_code)thp_c_check_destroy(check);
 }
 
-thp_code thp_check_read(thp_check *check, const uint8_t *part, size_t length) {
+thp_code thp_check_read(thp_check *check, const void *part, size_t length) {
     if (check == NULL || (part == NULL && length != 0)) return THP_NULL;
     return (thp_code)thp_c_check_read(check, part != NULL ? part : &no_bytes, length);
 }
@@ -197,7 +197,7 @@ thp_code thp_check_finish(thp_check *check, uint64_t *line) {
     return (thp_code)thp_c_check_finish(check, line);
 }
 
-thp_code thp_check_reason(thp_check *check, uint8_t *buffer, size_t capacity, size_t *size) {
+thp_code thp_check_reason(thp_check *check, void *buffer, size_t capacity, size_t *size) {
     if (check == NULL || (buffer == NULL && capacity != 0) || size == NULL) return THP_NULL;
     return (thp_code)thp_c_check_reason(check, buffer != NULL ? buffer : &no_bytes, capacity, size);
 }
@@ -330,7 +330,7 @@ thp_code thp_node_stats(const thp_node *node, thp_stats *stats) {
     return (thp_code)thp_c_node_stats(&copy, stats);
 }
 
-thp_code thp_node_journal(const thp_node *node, uint8_t *buffer, size_t capacity, size_t *size) {
+thp_code thp_node_journal(const thp_node *node, void *buffer, size_t capacity, size_t *size) {
     if (node == NULL || (buffer == NULL && capacity != 0) || size == NULL) return THP_NULL;
     thp_node copy = *node;
     return (thp_code)thp_c_node_journal(&copy, buffer != NULL ? buffer : &no_bytes, capacity, size);

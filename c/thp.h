@@ -7,7 +7,8 @@
  * crates/thp_model). docs/C.md lists for each call what is proved and what the program must guarantee. This header and thp.c are
  * not proved: they are written manually, and tests compare them with the proved functions.
  *
- * The library needs a processor of the level x86-64-v2 (POPCNT, SSE4.2); an older one ends the program with SIGILL.
+ * On x86-64 the library needs a processor of the level x86-64-v2 (POPCNT, SSE4.2); an older one ends the program with SIGILL. On
+ * aarch64 it runs on every processor.
  *
  * A new node takes about 100 KB, and 1.2 KB for each block. It stores every event of its journal until it is destroyed: 96 bytes
  * each, in memory that doubles when it is full. thp_node_reserve gets this memory in advance. A program that runs for long
@@ -179,7 +180,7 @@ typedef enum thp_try {
     THP_TRY_USED = 3    /**< the page is not worth a split and left the batch */
 } thp_try;
 
-/** @brief The result of a try. */
+/** @brief The result of a try. The frames of a page that it split are in the journal, and counted in thp_stats. */
 typedef struct thp_tried {
     uint32_t kind; /**< a thp_try */
     uint64_t page; /**< the page that was tried; 0 with THP_TRY_DONE */
@@ -255,7 +256,7 @@ thp_code thp_use_allocator(const thp_allocator *allocator);
  *        0
  * @return THP_OK, THP_ILLEGAL, THP_TEXT_.., THP_OUT_OF_MEMORY, THP_NULL
  */
-thp_code thp_check_text(const uint8_t *text, size_t length, uint32_t *line);
+thp_code thp_check_text(const void *text, size_t length, uint32_t *line);
 
 /**
  * @name The check of journals of any length
@@ -276,7 +277,7 @@ thp_code thp_check_destroy(thp_check *check);
  * @return THP_OK; THP_EMPTY; THP_FINISHED; THP_OUT_OF_MEMORY, and then the check is lost: its memory is freed, and the handle is
  *         empty
  */
-thp_code thp_check_read(thp_check *check, const uint8_t *part, size_t length);
+thp_code thp_check_read(thp_check *check, const void *part, size_t length);
 /**
  * @brief Returns the verdict on the text read, which is taken as the whole text. Finishes the check, unless it is finished
  * already. Allocates no memory, and returns the same verdict each time.
@@ -295,7 +296,7 @@ thp_code thp_check_finish(thp_check *check, uint64_t *line);
  * @param[out] size the length of the text in bytes, with THP_OK and THP_TOO_SMALL
  * @return THP_OK, THP_EMPTY, THP_NO_REASON, THP_TOO_SMALL, THP_OUT_OF_MEMORY
  */
-thp_code thp_check_reason(thp_check *check, uint8_t *buffer, size_t capacity, size_t *size);
+thp_code thp_check_reason(thp_check *check, void *buffer, size_t capacity, size_t *size);
 /** @} */
 
 /**
@@ -432,14 +433,15 @@ thp_code thp_node_mapcount(const thp_node *node, uint64_t page, uint32_t subpage
 /** @brief Stores the node's statistics. @return THP_OK, THP_EMPTY, THP_NULL */
 thp_code thp_node_stats(const thp_node *node, thp_stats *stats);
 /**
- * @brief Writes the journal as text (docs/FORMATS.md), which thp_check_text reads. The text has no terminating null byte.
+ * @brief Writes the journal as text (docs/FORMATS.md), which thp_check_text reads. The text has no terminating null byte. Each call
+ * builds the text, even if the buffer is too small for it: a large buffer makes one call suffice.
  * @param node the node
  * @param[out] buffer receives the text if it fits; may be null if capacity is 0
  * @param capacity the size of the buffer in bytes; 0 to find out the required size
  * @param[out] size the length of the text in bytes, with THP_OK and THP_TOO_SMALL
  * @return THP_OK, THP_EMPTY, THP_TOO_SMALL, THP_OUT_OF_MEMORY, THP_NULL
  */
-thp_code thp_node_journal(const thp_node *node, uint8_t *buffer, size_t capacity, size_t *size);
+thp_code thp_node_journal(const thp_node *node, void *buffer, size_t capacity, size_t *size);
 /** @} */
 
 /**

@@ -1,16 +1,19 @@
 #!/usr/bin/env python3
 """Builds the Debian packages `thpsplit`, `thp-linux-tools`, `libthp0` and `libthp-dev` from what was built before.
 
-    debian/build.py THPSPLIT THPCHECK THPDRAW ARCHIVE FOLDER
+    debian/build.py [--arch arm64] [--proof FILE] THPSPLIT THPCHECK THPDRAW ARCHIVE FOLDER
 
-ARCHIVE is that of the library for C, crates/thp_c/out/libthp_c.a. The packages go into FOLDER, and their paths are printed. They are
-built on a copy of what they are made from, so that nothing else of the tree changes. The same files and the same commit give the same
-bytes: dates are SOURCE_DATE_EPOCH, by default the date of the commit. Status 77 with one line if this machine lacks Debian's tools
-(packages dpkg-dev, debhelper).
+ARCHIVE is that of the library for C, crates/thp_c/out/libthp_c.a. --arch names what the files run on, amd64 by default; the tools
+for the running kernel have a package for that alone. The packages go into FOLDER, and their paths are printed. They are built on a
+copy of what they are made from, so that nothing else of the tree changes. The same files and the same commit give the same bytes:
+dates are SOURCE_DATE_EPOCH, by default the date of the commit. Each package has a file PROOF: FILE, or what release/proof.py prints,
+with the hashes of the package's binaries. Without FILE, if that prints nothing, a line on standard error says why there is none.
+Status 77 with one line if this machine lacks Debian's tools (packages dpkg-dev, debhelper).
 """
 
 from __future__ import annotations
 
+import argparse
 import os
 import re
 import shutil
@@ -31,6 +34,12 @@ BUILT = ("crates/thpsplit/out/thpsplit", "crates/thpcheck/out/thpcheck", "crates
 
 TOOLS = {"dpkg-buildpackage": "dpkg-dev", "dh": "debhelper", "cc": "gcc"}
 """Each program that is wanted, and the package that has it."""
+
+CROSS: dict[str, dict[str, str]] = {
+    "amd64": {},
+    "arm64": {"aarch64-linux-gnu-gcc": "gcc-aarch64-linux-gnu", "aarch64-linux-gnu-strip": "binutils-aarch64-linux-gnu"},
+}
+"""What is wanted beside them for each architecture. The packages are built on amd64."""
 
 LACKS = 77
 """The status where this machine lacks a tool."""
@@ -61,7 +70,16 @@ def changelog(number: str) -> str:
     return f"leversorrel ({number}) unstable; urgency=medium\n\n  * See CHANGELOG.md.\n\n -- {line}  {formatdate(date())}\n"
 
 
-def copy(tree: Path, built: list[Path]) -> None:
+def proof(built: list[Path], architecture: str) -> str:
+    """What release/proof.py states about the built files, or nothing, and then a line on standard error."""
+    command = [sys.executable, str(ROOT / "release/proof.py"), "--arch", architecture, *map(str, built)]
+    told = subprocess.run(command, capture_output=True, text=True, errors="replace")
+    if told.returncode != 0:
+        print(f"packages without PROOF: {told.stderr.strip()[-400:]}", file=sys.stderr)
+    return told.stdout if told.returncode == 0 else ""
+
+
+def copy(tree: Path, built: list[Path], stated: str) -> None:
     """Puts what the packages are made from into an empty folder, with the date of the packages."""
     for part in PARTS:
         source = ROOT / part
@@ -73,18 +91,21 @@ def copy(tree: Path, built: list[Path]) -> None:
         (tree / name).parent.mkdir(parents=True)
         shutil.copy2(file, tree / name)
     (tree / "debian/changelog").write_text(changelog(version()))
+    if stated:
+        (tree / "debian/PROOF").write_text(stated)
     when = date()
     for path in tree.rglob("*"):
         os.utime(path, (when, when), follow_symlinks=False)
 
 
-def build(built: list[Path], folder: Path) -> list[Path]:
-    """The packages, put into the folder."""
+def build(built: list[Path], folder: Path, stated: str, architecture: str) -> list[Path]:
+    """The packages, put into the folder, with a text as PROOF unless it is empty."""
+    words = ["dpkg-buildpackage", "-b", "-us", "-uc", *(["-a", architecture] if CROSS[architecture] else [])]
     with tempfile.TemporaryDirectory(prefix="thp-deb-") as name:
         tree = Path(name) / f"leversorrel-{version()}"
         tree.mkdir()
-        copy(tree, built)
-        told = subprocess.run(["dpkg-buildpackage", "-b", "-us", "-uc"], cwd=tree, text=True, errors="replace", umask=0o022,
+        copy(tree, built, stated)
+        told = subprocess.run(words, cwd=tree, text=True, errors="replace", umask=0o022,
                               env={**os.environ, "SOURCE_DATE_EPOCH": str(date())}, stdout=subprocess.PIPE, stderr=subprocess.STDOUT)
         if told.returncode != 0:
             sys.exit(f"{told.stdout}\ndpkg-buildpackage ended with status {told.returncode}")
@@ -94,20 +115,25 @@ def build(built: list[Path], folder: Path) -> list[Path]:
 
 def main() -> None:
     """Builds the packages from the files of the command line."""
-    if len(sys.argv) != len(BUILT) + 2:
-        sys.exit(__doc__)
-    built = [Path(word) for word in sys.argv[1:-1]]
+    words = argparse.ArgumentParser(description=__doc__, formatter_class=argparse.RawDescriptionHelpFormatter)
+    words.add_argument("--arch", choices=CROSS, default="amd64")
+    words.add_argument("--proof", type=Path)
+    words.add_argument("built", nargs=len(BUILT), type=Path)
+    words.add_argument("folder", type=Path)
+    asked = words.parse_args()
+    built: list[Path] = asked.built
     for file in built:
         if not file.is_file():
             sys.exit(f"{file} is no file")
     for program in built[:-1]:
         if not os.access(program, os.X_OK):
             sys.exit(f"{program} is no program")
-    lacks = [package for tool, package in TOOLS.items() if shutil.which(tool) is None]
+    lacks = [package for tool, package in {**TOOLS, **CROSS[asked.arch]}.items() if shutil.which(tool) is None]
     if lacks:
         print(f"no package: this machine lacks {', '.join(lacks)}")
         sys.exit(LACKS)
-    for package in build(built, Path(sys.argv[-1])):
+    stated = asked.proof.read_text() if asked.proof else proof(built, asked.arch)
+    for package in build(built, asked.folder, stated, asked.arch):
         print(package)
 
 

@@ -46,6 +46,7 @@ def make(tree: Path, makers: Sequence[str], built: list[Path], folder: Path, **m
             print(f"{maker}: {(done.stdout + done.stderr).strip()}", file=sys.stderr)
             sys.exit(done.returncode)
         else:
+            print(done.stderr, end="", file=sys.stderr)
             made += [folder / Path(line).name for line in done.stdout.splitlines()]
     return made
 

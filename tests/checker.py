@@ -236,10 +236,10 @@ def main() -> None:
         path = Path(name) / "thpcheck"
         path.symlink_to(program.resolve())
         for part in (verdicts, explanations, summaries, faults, long_journals, many_nodes, requests, failures, shown):
-            rows, failed = list(part()), tally.failed
+            rows, passed = list(part()), tally.passed
             for row in rows:
                 tally.run(f"{row.group}: {row.name}", partial(row.wrong, path))
-            print(f"{rows[0].group}: {len(rows) - tally.failed + failed} of {len(rows)} calls", flush=True)
+            print(f"{rows[0].group}: {tally.passed - passed} of {len(rows)} calls", flush=True)
     tally.end()
 
 

@@ -1,16 +1,18 @@
 """The release in a clean Debian: unpacked, run and linked in a root folder that has no Rattle toolchain.
 
-    python3 tests/clean_root.py FOLDER [--root EXISTING] [--suite NAME] [--mirror URL]
+    python3 tests/clean_root.py FOLDER [--root EXISTING] [--suite NAME ..] [--mirror URL]
 
-FOLDER has what `make dist` made, and the packages if `make deb` made them there. debootstrap makes the root, of Debian 12, in a
-temporary folder; with --root it is a copy of an existing one, which needs the packages that INCLUDED lists. Nothing is left behind. Needs
-root and the network. Status 77 with one line if something is missing.
+FOLDER has what `make dist` made, and the packages if `make deb` made them there. debootstrap makes the roots, of Debian 12 and of
+Debian 11, in a temporary folder; with --root it is a copy of an existing one, which needs the packages that INCLUDED lists. Where
+glibc is too old for the programs, these must name the version that they need, and the library and the tools in Python must work.
+Nothing is left behind. Needs root and the network. Status 77 with one line if something is missing.
 """
 
 from __future__ import annotations
 
 import argparse
 import os
+import re
 import shutil
 import signal
 import subprocess
@@ -22,7 +24,11 @@ from types import FrameType
 
 from tally import SKIPPED, Missing, Tally
 
-SUITE, MIRROR = "bookworm", "http://deb.debian.org/debian"
+sys.path.insert(0, str(Path(__file__).resolve().parent.parent / "release"))
+
+from protection import oldest_glibc  # noqa: E402
+
+SUITES, MIRROR = ("bookworm", "bullseye"), "http://deb.debian.org/debian"
 INCLUDED = "gcc,libc6-dev,pkg-config,cmake,make,python3,xz-utils"
 """The packages that the root has beside the essential ones."""
 
@@ -38,7 +44,12 @@ TOTALS = ("pages 1", "queue 0", "frames_held 256", "frames_given 256", "thp_spli
 LINKED = "page 0 is queued\ntaken 1, split 1\nframes: 256 given back, 256 held\n"
 """What examples/c/first.c prints, which does the same by the library."""
 
-PROGRAMS = ("thpsplit", "thpcheck", "thpdraw", "thpreplay", "thprecord", "thpvm", "thpwhatif")
+COMPILED = ("thpsplit", "thpcheck", "thpdraw")
+TOOLS = ("thpreplay", "thprecord", "thpvm", "thpwhatif")
+"""Those that are written in Python."""
+
+PROGRAMS = COMPILED + TOOLS
+ARCHIVE = "leversorrel-*-x86_64-linux.tar.xz"
 
 CMAKE = """cmake_minimum_required(VERSION 3.13)
 project(use C)
@@ -64,12 +75,12 @@ def called(words: list[str]) -> subprocess.CompletedProcess[str]:
 class Root:
     """A Debian root in a folder, with the unpacked archive in /opt."""
 
-    def __init__(self, folder: Path, asked: argparse.Namespace) -> None:
+    def __init__(self, folder: Path, asked: argparse.Namespace, suite: str) -> None:
         self.path = folder / "root"
         if asked.root:
             done = called(["cp", "-a", "--reflink=auto", asked.root, str(self.path)])
         else:
-            words = ["debootstrap", "--variant=minbase", f"--include={INCLUDED}", asked.suite, str(self.path), asked.mirror]
+            words = ["debootstrap", "--variant=minbase", f"--include={INCLUDED}", suite, str(self.path), asked.mirror]
             done = called(words)
         if done.returncode != 0:
             told = (done.stdout + done.stderr).strip().splitlines()
@@ -111,6 +122,27 @@ class Root:
             return f"status {done.returncode}, lacks {lacks}: {(done.stdout + done.stderr)[-400:]}"
         return None
 
+    def glibc(self) -> tuple[int, ...]:
+        """The version of the root's glibc."""
+        return tuple(map(int, re.findall(r"\d+", self.run("getconf GNU_LIBC_VERSION").stdout)[:2]))
+
+    def needed_glibc(self) -> tuple[int, ...]:
+        """The version that the programs need."""
+        return max(oldest_glibc(path) for name in COMPILED for path in self.path.glob(f"opt/leversorrel-*/bin/{name}"))
+
+    def programs_name_glibc(self) -> str | None:
+        """The programs end with a message that names the version of glibc that they need, and do nothing."""
+        needed = ".".join(map(str, self.needed_glibc()))
+        for name in COMPILED:
+            done = self.run(f"exec bin/{name} --version")
+            if done.returncode == 0 or done.stdout or f"version `GLIBC_{needed}' not found" not in done.stderr:
+                return f"{name}: status {done.returncode}: {(done.stdout + done.stderr).strip()[-300:]}"
+        return None
+
+    def tools_run(self) -> str | None:
+        """The tools in Python print version and help."""
+        return self.differs(f"for name in {' '.join(TOOLS)}; do bin/$name --version; bin/$name --help; done > /dev/null")
+
     def programs_run(self) -> str | None:
         """Each program prints its version, and has a manual page and completions."""
         script = """for name in NAMES; do
@@ -139,19 +171,28 @@ class Root:
                                errors="replace", check=True).stdout.splitlines()
         return {name for name in found if not name.startswith(("var/lib/dpkg/", "var/log/", "var/cache/", "opt/", "etc/ld.so.cache"))}
 
-    def packages_come_and_go(self, packages: list[Path]) -> str | None:
-        """The packages are installed, run and removed, and nothing of them is left."""
+    def packages_come_and_go(self, packages: list[Path], script: str) -> str | None:
+        """The packages are installed, a script runs, they are removed, and nothing of them is left."""
         before, room = self.files(), self.path / "tmp/packages"
         room.mkdir(mode=0o755)
         for path in packages:
             shutil.copy(path, room)
         names = " ".join(path.name.split("_")[0] for path in packages)
-        run = " && ".join(f"{name} --version > /dev/null" for name in PROGRAMS)
-        wrong = self.differs("dpkg --install /tmp/packages/*.deb", user="0:0") or self.differs(f"{run} && thpsplit < examples/first.script")
+        wrong = self.differs("dpkg --install /tmp/packages/*.deb", user="0:0") or self.differs(script)
         wrong = wrong or self.differs(f"dpkg --purge {names}", user="0:0")
         shutil.rmtree(room)
         left = sorted(self.files() - before)
         return wrong or (f"left: {', '.join(left[:5])}" if left else None)
+
+    def program_packages_are_refused(self, packages: list[Path]) -> str | None:
+        """dpkg refuses to configure the package of the programs, since glibc is too old."""
+        package = next(path for path in packages if path.name.startswith("thpsplit_"))
+        shutil.copy(package, self.path / "tmp")
+        done = self.run(f"dpkg --install /tmp/{package.name}", "0:0")
+        removed = self.differs("dpkg --purge thpsplit", user="0:0")
+        (self.path / "tmp" / package.name).unlink()
+        is_refused = done.returncode != 0 and "thpsplit depends on libc6 (>=" in done.stderr
+        return removed or (None if is_refused else f"status {done.returncode}: {(done.stdout + done.stderr).strip()[-300:]}")
 
 
 def missing(folder: Path, asked: argparse.Namespace) -> str | None:
@@ -162,7 +203,7 @@ def missing(folder: Path, asked: argparse.Namespace) -> str | None:
     lacks = [package for tool, package in tools.items() if shutil.which(tool, path="/usr/sbin:/usr/bin:/sbin:/bin") is None]
     if lacks:
         return f"this machine lacks {', '.join(lacks)}"
-    return None if len(list(folder.glob("leversorrel-*-linux.tar.xz"))) == 1 else f"{folder} has not one archive: `make dist` makes it"
+    return None if len(list(folder.glob(ARCHIVE))) == 1 else f"{folder} has not one archive: `make dist` makes it"
 
 
 def is_left(folder: Path) -> str | None:
@@ -171,29 +212,59 @@ def is_left(folder: Path) -> str | None:
     return f"{folder} is left" if folder.exists() else f"mounted: {mounts}" if mounts else None
 
 
-def try_all(tally: Tally, root: Root, folder: Path) -> None:
+RUN_ALL = " && ".join(f"{name} --version > /dev/null" for name in PROGRAMS) + " && thpsplit < examples/first.script"
+"""A script that runs each packaged program."""
+
+LINK = """room=$(mktemp -d); trap 'rm -rf "$room"' EXIT
+cc /usr/share/doc/libthp-dev/examples/first.c $(pkg-config --cflags --libs thp) -o "$room/first"; "$room/first\""""
+"""A script that builds a program with the packaged library and runs it."""
+
+
+def try_all(tally: Tally, root: Root, folder: Path, suite: str) -> None:
     """Runs the tests in the root: after the first two, only if the archive was unpacked."""
-    packages = [path for path in sorted(folder.glob("*.deb")) if "-dbgsym_" not in path.name]
-    tally.run("no toolchain", root.has_no_toolchain)
-    tally.run("the archive", partial(root.unpacks, next(folder.glob("leversorrel-*-linux.tar.xz"))))
-    if tally.failed:
+    packages = [path for path in sorted(folder.glob("*.deb")) if "-dbgsym_" not in path.name and "_arm64" not in path.name]
+    tally.run(f"{suite}: no toolchain", root.has_no_toolchain)
+    failed = tally.failed
+    tally.run(f"{suite}: the archive", partial(root.unpacks, next(folder.glob(ARCHIVE))))
+    if tally.failed > failed:
         return
-    tally.run("the first run", root.first_run)
-    tally.run("programs, manual pages, completions", root.programs_run)
-    tally.run("a program in C by pkg-config", root.links_by_pkg_config)
-    tally.run("a program in C by CMake", root.links_by_cmake)
-    if packages:
-        tally.run("packages", partial(root.packages_come_and_go, packages))
+    is_old = root.glibc() < root.needed_glibc()
+    if is_old:
+        tally.run(f"{suite}: the programs name the glibc that they need", root.programs_name_glibc)
+        tally.run(f"{suite}: the tools in Python", root.tools_run)
     else:
-        tally.skip("packages", f"none in {folder}: `make deb` makes them")
+        tally.run(f"{suite}: the first run", root.first_run)
+        tally.run(f"{suite}: programs, manual pages, completions", root.programs_run)
+    tally.run(f"{suite}: a program in C by pkg-config", root.links_by_pkg_config)
+    tally.run(f"{suite}: a program in C by CMake", root.links_by_cmake)
+    if not packages:
+        tally.skip(f"{suite}: packages", f"none in {folder}: `make deb` makes them")
+    elif is_old:
+        own = [path for path in packages if path.name.startswith("libthp")]
+        tally.run(f"{suite}: packages of the library", partial(root.packages_come_and_go, own, LINK))
+        tally.run(f"{suite}: the package of the programs is refused", partial(root.program_packages_are_refused, packages))
+    else:
+        tally.run(f"{suite}: packages", partial(root.packages_come_and_go, packages, f"{RUN_ALL}\n{LINK}"))
+
+
+def try_suite(tally: Tally, asked: argparse.Namespace, suite: str) -> None:
+    """Makes a root, tests the release in it, and removes it."""
+    with tempfile.TemporaryDirectory(prefix="thp-clean-root-", dir="/var/tmp") as name:
+        try:
+            root = Root(Path(name), asked, suite)
+        except Missing as why:
+            tally.skip(suite, str(why))
+        else:
+            try_all(tally, root, asked.folder, suite)
+    tally.run(f"{suite}: nothing is left", partial(is_left, Path(name)))
 
 
 def main() -> None:
-    """Makes the root, tests the release in it, and removes it."""
+    """Tests the release in each root."""
     words = argparse.ArgumentParser(description=__doc__, formatter_class=argparse.RawDescriptionHelpFormatter)
     words.add_argument("folder", type=Path)
     words.add_argument("--root", help="a Debian root to copy")
-    words.add_argument("--suite", default=SUITE)
+    words.add_argument("--suite", nargs="+", default=SUITES)
     words.add_argument("--mirror", default=os.environ.get("DEBIAN_MIRROR", MIRROR))
     asked = words.parse_args()
     lacks = missing(asked.folder, asked)
@@ -206,14 +277,8 @@ def main() -> None:
 
     signal.signal(signal.SIGTERM, end)
     tally = Tally()
-    with tempfile.TemporaryDirectory(prefix="thp-clean-root-", dir="/var/tmp") as name:
-        try:
-            root = Root(Path(name), asked)
-        except Missing as why:
-            print(f"clean root: skipped: {why}")
-            sys.exit(SKIPPED)
-        try_all(tally, root, asked.folder)
-    tally.run("nothing is left", partial(is_left, Path(name)))
+    for suite in [asked.root] if asked.root else asked.suite:
+        try_suite(tally, asked, suite)
     tally.end()
 
 

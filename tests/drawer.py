@@ -270,10 +270,10 @@ def main() -> None:
         parts: tuple[Callable[[], Iterator[Row | Picture | Shown]], ...] = (
             drawn, pictures, stored, faults, requests, failures, shown)
         for part in parts:
-            rows, failed = list(part()), tally.failed
+            rows, passed = list(part()), tally.passed
             for row in rows:
                 tally.run(f"{row.group}: {row.name}", partial(row.wrong, path))
-            print(f"{rows[0].group}: {len(rows) - tally.failed + failed} of {len(rows)} calls", flush=True)
+            print(f"{rows[0].group}: {tally.passed - passed} of {len(rows)} calls", flush=True)
     tally.end()
 
 

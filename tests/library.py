@@ -46,6 +46,7 @@ BORROWED = re.compile(r"pub fn (thp_\w+)\((.*?)\) -> ([^;]+);", re.S)
 TYPES = {
     "thp_node *": "handle", "uint32_t *": "u32*", "uint64_t *": "u64*", "size_t *": "usize*", "thp_done *": "done",
     "thp_scan *": "scan", "thp_tried *": "tried", "thp_back *": "back", "thp_stats *": "stats", "const uint8_t *": "u8*",
+    "const void *": "u8*", "void *": "u8*",
     "uint8_t *": "u8*", "uint32_t": "u32", "uint64_t": "u64", "size_t": "usize", "thp_code": "u32", "const thp_allocator *": "allocator",
     "thp_pass *": "pass", "&mut ThpPass": "pass", "*mut PassHandle": "pass", "&mut ThpNode": "handle",
     "thp_check *": "check", "&mut ThpCheck": "check", "*mut CheckHandle": "check",
@@ -564,8 +565,27 @@ TESTS = (
     "demos/cell.c",
 )
 
+DEMOS = ("demos/first.c", "demos/journal.c")
+"""The demos without threads; those with threads are among the tests."""
+
+HOST_WORDS = ("", "a", "two words", "\u00e9\t")
+"""Arguments for the test of what a program asks of C."""
+
 RACING = ["-std=gnu11", "-fsanitize=thread"]
 """How tests with threads are built, so that data races are found."""
+
+
+def host_differs() -> str | None:
+    """What is wrong with c/host.c, which the programs of other platforms are linked with: built plainly and with the sanitizers."""
+    with tempfile.TemporaryDirectory(prefix="thp-host-") as name:
+        program = Path(name) / "host"
+        flags = ["-std=gnu11", "-g", "-O1", "-Wall", "-Wextra", "-Werror"]
+        for words in (flags, [*flags, *SANITIZED]):
+            wrong = called(["gcc", *words, "tests/host.c", "host.c", "-o", program], C)
+            wrong = wrong or called([program, *HOST_WORDS], C, ASAN_OPTIONS="allocator_may_return_null=1")
+            if wrong:
+                return wrong
+    return None
 
 
 def texts(tally: Tally) -> None:
@@ -580,6 +600,7 @@ def texts(tally: Tally) -> None:
     tally.run("versions agree", versions_agree)
     tally.run("Debian's list of symbols names their versions", symbols_are_dated)
     tally.run("the level of processor is named", processor_is_named)
+    tally.run("what the programs of other platforms ask of C", host_differs)
 
 
 def builds(tally: Tally, built: Built) -> None:

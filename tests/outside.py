@@ -339,10 +339,10 @@ def test(tally: Tally, program: Path) -> None:
     tally.run("tests/texts.py reads the stored texts", own_texts_agree)
     all_rows = rows()
     for group in dict.fromkeys(row.group for row in all_rows):
-        failed, own = tally.failed, [row for row in all_rows if row.group == group]
+        passed, own = tally.passed, [row for row in all_rows if row.group == group]
         for row in own:
             tally.run(f"{group}: {row.name}", partial(row.wrong, program))
-        print(f"{group}: {len(own) - tally.failed + failed} of {len(own)} calls", flush=True)
+        print(f"{group}: {tally.passed - passed} of {len(own)} calls", flush=True)
 
 
 def self_test(tally: Tally, program: Path, folder: Path) -> None:

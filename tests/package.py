@@ -8,6 +8,7 @@ installed on the machine itself.
 
 from __future__ import annotations
 
+import hashlib
 import io
 import os
 import re
@@ -63,9 +64,16 @@ DEBUG = "-dbgsym"
 """The end of the name of a package with the debug information of another one."""
 
 
+STATED = "Verdicts of a test\n\nBinaries of this package:\n\n"
+"""A stand-in for what release/proof.py states about the built files."""
+
+
 def built(files: list[Path], folder: Path, tree: Path = ROOT, **more: str) -> list[Path]:
-    """The packages, built from a tree into the folder."""
-    command = [sys.executable, *map(str, (tree / "debian/build.py", *(file.resolve() for file in files), folder))]
+    """The packages, built from a tree into the folder, with a stand-in for what is stated of them."""
+    folder.mkdir(exist_ok=True)
+    proof = folder / "PROOF"
+    proof.write_text(STATED)
+    command = [sys.executable, *map(str, (tree / "debian/build.py", "--proof", proof, *(file.resolve() for file in files), folder))]
     done = subprocess.run(command, capture_output=True, text=True, cwd=tree, env={**os.environ, **more})
     if done.returncode == SKIPPED:
         raise Missing(done.stdout.strip())
@@ -212,6 +220,22 @@ def binaries_differ(packages: list[Path], folder: Path) -> Optional[str]:
     return "; ".join(wrong) or (None if len(built) == BINARIES else f"{len(built)} binaries, not {BINARIES}")
 
 
+def proofs_differ(packages: list[Path], folder: Path) -> Optional[str]:
+    """The packages whose PROOF is not what is stated, followed by the hashes of all binaries of the package."""
+    wrong = []
+    for path in (path for path in packages if DEBUG not in path.name):
+        name, root = path.name.partition("_")[0], folder / "proofs" / path.name
+        root.mkdir(parents=True)
+        subprocess.run(["dpkg-deb", "-x", path, root], check=True)
+        binaries = (it for it in root.rglob("*") if is_elf(it) or (it.suffix == ".a" and not it.is_symlink()))
+        hashes = {f"{hashlib.sha256(it.read_bytes()).hexdigest()}  {it.relative_to(root)}\n" for it in binaries}
+        proof = root / "usr/share/doc" / name / "PROOF"
+        text = proof.read_text() if proof.is_file() else ""
+        is_right = text.startswith(STATED) and {*text.removeprefix(STATED).splitlines(keepends=True)} == hashes and hashes
+        wrong += [] if is_right else [f"{name}: {text[-200:]!r}"]
+    return "; ".join(wrong) or None
+
+
 def lintian(packages: list[Path]) -> Optional[str]:
     """The errors that lintian finds, or None."""
     if shutil.which("lintian") is None:
@@ -315,6 +339,7 @@ def main() -> None:
         tally.run("dates are the commit's", lambda: dates_differ(packages))
         tally.run("the same bytes from a second build", lambda: differ(packages, files, folder))
         tally.run("protection of the binaries", lambda: binaries_differ(packages, folder))
+        tally.run("PROOF has their hashes", lambda: proofs_differ(packages, folder))
         tally.run("lintian", lambda: lintian(packages))
         tally.run("installed, tried and removed", lambda: comes_and_goes(packages, folder))
     tally.end()

@@ -11,6 +11,8 @@ from enum import Enum, auto
 from pathlib import Path
 from typing import Callable, Optional, Union
 
+from tally import Missing
+
 SECONDS = 120
 """A run that takes longer counts as one that never ends."""
 
@@ -81,7 +83,10 @@ class ReadTooEarly(Exception):
 
 
 def run(program: Path, call: Call) -> Ended:
-    """Executes a run. Returns its end; checks that the input is untouched if required."""
+    """Executes a run. Returns its end; checks that the input is untouched if required. Missing if the call bounds the memory of a
+    program that is emulated, since that bounds the emulator."""
+    if call.memory is not None and os.environ.get("EMULATED") == "1":
+        raise Missing("the program is emulated")
     with tempfile.TemporaryDirectory() as folder:
         path = Path(folder) / "input"
         path.write_bytes(call.given)

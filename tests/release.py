@@ -108,15 +108,15 @@ class Release:
         code = f"import prove\nfor name, line in {lines!r}.items():\n    prove.keep_verdict(name, prove.sources(name), line)\n"
         subprocess.run([sys.executable, "-c", code], cwd=self.tree, env=self.environment, check=True)
 
-    def make(self, script: str = "dist", *words: str) -> subprocess.CompletedProcess[str]:
+    def script(self, name: str, *words: str) -> subprocess.CompletedProcess[str]:
         """Runs a script of release/ on the stand-ins."""
-        command = [sys.executable, str(self.tree / f"release/{script}.py"), *map(str, self.out), *words]
+        command = [sys.executable, str(self.tree / f"release/{name}.py"), *map(str, self.out), *words]
         return subprocess.run(command, cwd="/", capture_output=True, text=True, env=self.environment, check=False)
 
     def refusal_differs(self, wanted: str) -> str | None:
         """What is wrong when no release may be made, for a reason that contains these words."""
         folder = self.folder / "refused"
-        done = self.make("dist", str(folder))
+        done = self.script("dist", str(folder))
         if done.returncode != 1 or not done.stderr.startswith("no release: ") or wanted not in done.stderr or done.stderr.count("\n") != 1:
             return f"status {done.returncode}: {done.stderr.strip()[-300:]}"
         return "it left a folder" if folder.exists() else None
@@ -177,9 +177,27 @@ def refuses(release: Release) -> str | None:
     return wrong
 
 
+def packages_state(release: Release) -> str | None:
+    """What is wrong with the text that the packages get as PROOF, or with the refusal where a crate has no verdict line."""
+    done = release.script("proof")
+    lines = done.stdout.splitlines()
+    lacks = [name for name in released() if not any(line.split(maxsplit=1) == [name, LINE] for line in lines)]
+    begun = {line[:64] for line in lines}
+    lacks += [path.name for path in release.out if hashlib.sha256(path.read_bytes()).hexdigest() not in begun]
+    stored = release.tree / "crates/thp_c/out/verdict"
+    kept = stored.read_bytes()
+    stored.unlink()
+    refused = release.script("proof")
+    stored.write_bytes(kept)
+    if done.returncode != 0 or lacks:
+        return f"status {done.returncode}, lacks {lacks}: {done.stderr.strip()[-300:]}"
+    is_refused = refused.returncode == 1 and not refused.stdout and "no verdict line for the present sources of thp_c" in refused.stderr
+    return None if is_refused else f"without a line: status {refused.returncode}: {refused.stderr.strip()[-300:]}"
+
+
 def is_reproducible(release: Release) -> str | None:
     """A second release, from a clone, has the same bytes. The first one is left in a folder."""
-    done = release.make("reproduce", str(release.folder / "made"), "release")
+    done = release.script("reproduce", str(release.folder / "made"), "release")
     same = [line for line in done.stdout.splitlines() if line.endswith(": the same bytes")]
     return None if done.returncode == 0 and len(same) == 4 else f"status {done.returncode}: {done.stdout[-600:]}{done.stderr[-300:]}"
 
@@ -267,6 +285,7 @@ def main() -> None:
             tally.skip("the release", str(missing))
             tally.end()
         tally.run("what a release refuses", partial(refuses, release))
+        tally.run("what the packages state", partial(packages_state, release))
         tally.run("the same bytes from a clone", partial(is_reproducible, release))
         tally.run("archives, PROOF and binaries", partial(archives_differ, release))
     tally.end()

@@ -112,7 +112,7 @@ static void null_pointers(void) {
     size_t size;
     thp_page_state state;
     ANSWERS(thp_check_text(NULL, 1, &line), THP_NULL);
-    ANSWERS(thp_check_text((const uint8_t *)"", 0, NULL), THP_NULL);
+    ANSWERS(thp_check_text("", 0, NULL), THP_NULL);
     ANSWERS(thp_use_allocator(NULL), THP_NULL);
     ANSWERS(thp_node_alloc(NULL, 0, NULL), THP_NULL);
     ANSWERS(thp_node_alloc(&node, 0, NULL), THP_NULL);
@@ -351,7 +351,14 @@ static void readers(void) {
     ANSWERS(thp_node_mapcount(seen, 1, 4, &own), THP_BAD_RANGE);
     ANSWERS(thp_node_mapcount(seen, 6, 4, &own), THP_NO_PAGE);
     ANSWERS(thp_node_mapcount(seen, UINT64_MAX, UINT32_MAX, &own), THP_NO_PAGE);
-    WANT(own == 2);
+    /* no bit of a number is lost: these differ from a page and its subpage by one high bit */
+    for (int bit = 8; bit < 64; bit++) {
+        const uint64_t high = UINT64_C(1) << bit;
+        ANSWERS(thp_node_page(seen, 1 + high, &state), THP_NO_PAGE);
+        ANSWERS(thp_node_mapcount(seen, 1 + high, 1, &own), THP_NO_PAGE);
+        if (bit < 32) ANSWERS(thp_node_mapcount(seen, 1, 1 + (uint32_t)high, &own), THP_BAD_RANGE);
+    }
+    WANT(own == 2 && state.whole_mapcount == 9 && state.caller == 9);
     /* page 0 is pinned and goes back behind the others, page 1 is split, page 3 is freed */
     ANSWERS(thp_node_pin(&node, 0, 0), THP_OK);
     ANSWERS(thp_node_take(&node, 63, 2, &count), THP_OK);
@@ -371,6 +378,45 @@ static void readers(void) {
         for (size_t k = 0; k < 6; k++) WANT(pages[k] == (k < room && k < 3 ? queue[k] : 9));
     }
     ANSWERS(thp_node_destroy(&node), THP_OK);
+}
+
+/* the whole queue of a full node, with more room than it needs, and with room whose low bits are zero */
+static void longest_queue(void) {
+    enum { PAGES = 4096, ROOM = 65536 };
+    static uint64_t pages[ROOM];
+    thp_node node = small_node(PAGES);
+    uint32_t count = 9;
+    for (uint64_t k = 0; k < PAGES; k++) WANT(queued_page(&node, 0) == k);
+    for (size_t room = PAGES; room <= ROOM; room *= 16) {
+        memset(pages, 9, sizeof pages);
+        ANSWERS(thp_node_queue(&node, pages, room, &count), THP_OK);
+        WANT(count == PAGES && pages[PAGES] == UINT64_C(0x0909090909090909));
+        for (uint64_t k = 0; k < PAGES; k++) WANT(pages[k] == k);
+    }
+    ANSWERS(thp_node_destroy(&node), THP_OK);
+}
+
+/* no call with a const handle writes to it */
+static void read_only(void) {
+    thp_node *const node = (thp_node *)page_for_handle();
+    uint32_t count, own;
+    uint64_t page;
+    size_t size;
+    thp_page_state state;
+    thp_stats stats;
+    *node = small_node(2);
+    queued_page(node, 0);
+    protect(node, PROT_READ);
+    ANSWERS(thp_node_queue_length(node, &count), THP_OK);
+    ANSWERS(thp_node_queue(node, &page, 1, &count), THP_OK);
+    ANSWERS(thp_node_page(node, 0, &state), THP_OK);
+    ANSWERS(thp_node_page(node, 1, &state), THP_NO_PAGE);
+    ANSWERS(thp_node_mapcount(node, 0, 3, &own), THP_OK);
+    ANSWERS(thp_node_stats(node, &stats), THP_OK);
+    ANSWERS(thp_node_journal(node, NULL, 0, &size), THP_TOO_SMALL);
+    WANT(page == 0 && count == 1 && own == 1 && state.list == THP_LIST_QUEUE && stats.queued == 1);
+    protect(node, PROT_READ | PROT_WRITE);
+    ANSWERS(thp_node_destroy(node), THP_OK);
 }
 
 /* a page that is queued since it was allocated, and is found in use */
@@ -500,6 +546,8 @@ int main(void) {
     batches();
     batches_of_callers();
     readers();
+    longest_queue();
+    read_only();
     underused();
     journals();
     texts();

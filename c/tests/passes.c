@@ -156,6 +156,13 @@ static void callers(void) {
     ANSWERS(thp_pass_destroy(&pass), THP_OK);
     callers_are(&last, 63, 64);
     ANSWERS(thp_pass_destroy(&last), THP_OK);
+    /* a const handle is not written */
+    thp_pass *const own = (thp_pass *)page_for_handle();
+    *own = small_cell(1, 3);
+    protect(own, PROT_READ);
+    callers_are(own, 0, 3);
+    protect(own, PROT_READ | PROT_WRITE);
+    ANSWERS(thp_pass_destroy(own), THP_OK);
 }
 
 static void faults(void) {

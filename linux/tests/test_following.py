@@ -27,7 +27,7 @@ def build_journal(records: RecordBuilder, threshold: Optional[int] = None) -> Jo
 
 def event_words(builder: JournalBuilder) -> List[str]:
     """The events without their callers."""
-    return [line.split(" ", 1)[1] for line in builder.text().splitlines()[2:-1]]
+    return [line.split(" ", 1)[1] for line in builder.text().split("\n")[2:-2]]
 
 
 class TwoTaskBuilder(RecordBuilder):

@@ -81,7 +81,7 @@ class WrittenRecordsTest(unittest.TestCase):
         records.drop(0, 0, 256, [page])
         records.scan([page], frames_of(0, 0, 256), [])
         text = records.journal()
-        self.assertEqual(text.splitlines()[2:-1], [
+        self.assertEqual(text.split("\n")[2:-2], [
             "0 alloc 0", "0 splitpmd 0", "0 unmapsub 0 0 256 queued -", "0 taken 0", "0 split 0 0-255"])
         self.assertEqual(verdict(text), "legal")
 
@@ -102,7 +102,7 @@ class WrittenRecordsTest(unittest.TestCase):
         page = records.page(0)
         records.drop(0, 0, 256, [page])
         records.scan([page], frames_of(0, 0, 255), [])
-        self.assertEqual(records.journal().splitlines()[2:], ["end"])
+        self.assertEqual(records.journal().split("\n")[2:-1], ["end"])
         self.assertEqual(records.tallies["pages left out: a frame was held beyond the split"], 1)
 
     def test_a_queue_that_is_not_the_journals_is_counted(self) -> None:
@@ -124,7 +124,7 @@ class WrittenRecordsTest(unittest.TestCase):
         records.add(Kind.FREE, [folio_of(1), 9])
         records.records[-1].task += 1
         records.drop(0, 0, 8, [page])
-        self.assertEqual(records.journal().splitlines()[2:-1], [
+        self.assertEqual(records.journal().split("\n")[2:-2], [
             "0 alloc 0", "0 splitpmd 0", "0 unmapsub 0 0 8 queued -"])
         self.assertEqual(records.tallies["huge pages given up: another thread's fault was first"], 1)
         self.assertEqual(records.tallies["queues that differ"], 0)
@@ -133,7 +133,7 @@ class WrittenRecordsTest(unittest.TestCase):
         records = RecordBuilder()
         records.add(Kind.FREE, [records.page(0), 9])
         records.add(Kind.EXIT_MMAP, [SPACE], [])
-        self.assertEqual(records.journal().splitlines()[2:-1], ["0 alloc 0", "0 unmapwhole 0 freed 0-511"])
+        self.assertEqual(records.journal().split("\n")[2:-2], ["0 alloc 0", "0 unmapwhole 0 freed 0-511"])
 
     def test_each_event_has_a_time(self) -> None:
         records = RecordBuilder()
@@ -178,7 +178,7 @@ class WrittenRecordsTest(unittest.TestCase):
         records.add(Kind.EXIT, [*call, 0], [])
         text = records.journal()
         # the page is freed while its mapping still exists: it is emitted at the call's end
-        self.assertEqual(text.splitlines()[2:-1], ["0 alloc 0", "0 unmapwhole 0 freed 0-511"])
+        self.assertEqual(text.split("\n")[2:-2], ["0 alloc 0", "0 unmapwhole 0 freed 0-511"])
         self.assertEqual(verdict(text), "legal")
 
 
@@ -235,7 +235,7 @@ class StoredTest(unittest.TestCase):
         text = self.stored("one_thread", False)
         line = Program(PLAIN).check(text).line
         assert line
-        self.assertIn(" back ", text.splitlines()[line - 1])
+        self.assertIn(" back ", text.split("\n")[line - 1])
 
     def test_altered_copies_are_illegal(self) -> None:
         text, chance, found = self.stored("one_thread", True), random.Random(3), set()
@@ -263,7 +263,7 @@ class ScanTest(unittest.TestCase):
         builder.add_records(records.records)
         self.assertEqual(builder.tallies["queues that differ"], 0)
         self.assertEqual(builder.tallies["pages that joined while a scan ran, moved after it"], 1)
-        event_words = [line.split(" ", 1)[1] for line in builder.text().splitlines()[2:-1]]
+        event_words = [line.split(" ", 1)[1] for line in builder.text().split("\n")[2:-2]]
         self.assertLess(event_words.index("back 0"), event_words.index("alloc 1"))
         self.assertEqual(verdict(builder.text()), "legal")
 
@@ -273,7 +273,7 @@ class ScanTest(unittest.TestCase):
         builder.add_records(records.records)
         self.assertEqual(verdict(builder.text()), "legal")
         self.assertEqual((builder.tallies[seen], builder.tallies["queues that differ"]), (1, 0))
-        return [line.split(" ", 1)[1] for line in builder.text().splitlines()[2:-1]]
+        return [line.split(" ", 1)[1] for line in builder.text().split("\n")[2:-2]]
 
     def by_another(self, records: RecordBuilder, kind: Kind, values: Sequence[int], queue: List[int]) -> None:
         """A record of the task that scans."""

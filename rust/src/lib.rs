@@ -42,7 +42,7 @@
 //! let copy = leversorrel::Check::new().unwrap().clone();
 //! ```
 //!
-//! The library needs a processor of the level x86-64-v2 (POPCNT, SSE4.2). A node stores every event of its journal until it is
+//! On x86-64 the library needs a processor of the level x86-64-v2 (POPCNT, SSE4.2). A node stores every event of its journal until it is
 //! dropped: 96 bytes each, in memory that doubles when it is full.
 #![deny(missing_docs)]
 

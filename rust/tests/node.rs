@@ -85,6 +85,12 @@ fn pages_and_the_queue_are_read() -> Result<(), Fault> {
         (seen.page(4).err(), seen.mapcount(4, 0), seen.mapcount(1, 4)),
         (Some(Fault::NoPage), Err(Fault::NoPage), Err(Fault::BadRange))
     );
+    // no bit of a number is lost
+    for bit in 8..64 {
+        let page = 1 + (1 << bit);
+        assert_eq!((seen.page(page).err(), seen.mapcount(page, 1)), (Some(Fault::NoPage), Err(Fault::NoPage)));
+    }
+    assert_eq!(seen.mapcount(1, 1 + (1 << 16)), Err(Fault::BadRange));
     assert_eq!(node.split_next(7)?, Tried::Split(0));
     assert_eq!(node.put_back(7)?, Back { back: 1, dropped: 0 });
     assert_eq!((node.page(0)?.split, node.queue()?), (true, vec![2, 1]));
