@@ -121,7 +121,7 @@ def main() -> None:
         for program, scripts in SCRIPTS.items():
             for script in scripts:
                 tally.run(f"{script} {program}", partial(it.script, script, program))
-        more = ["--cases", str(asked.cases), "--seed", str(asked.seed)]
+        more = ["--cases", str(asked.cases), "--seed", str(asked.seed), "--jobs", str(len(os.sched_getaffinity(0)))]
         tally.run(f"{asked.cases} random cases", partial(it.script, "fuzz.py", "thpsplit", *more))
     tally.end()
 

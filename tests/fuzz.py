@@ -35,8 +35,8 @@ from random_texts import Script, joined
 from script import Run, first_illegal, sections_of
 from texts import COMMANDS, EVENTS, FAULT_WORDS, BadText, journal_fault, number, script_fault
 
-SECONDS = 60
-"""A run that takes longer counts as different."""
+SECONDS = 600 if os.environ.get("EMULATED") == "1" else 60
+"""A run that takes longer counts as different. Under an emulator the start of 63 threads can take half a minute on a loaded machine."""
 
 MANY = 2000
 """The number of cases in which everything is covered."""

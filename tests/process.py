@@ -13,8 +13,8 @@ from typing import Callable, Optional, Union
 
 from tally import Missing
 
-SECONDS = 120
-"""A run that takes longer counts as one that never ends."""
+SECONDS = 1200 if os.environ.get("EMULATED") == "1" else 120
+"""A run that takes longer counts as one that never ends; an emulator is slower."""
 
 Word = Union[str, bytes]
 
