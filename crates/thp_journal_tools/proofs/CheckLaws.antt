@@ -9,6 +9,7 @@ use Rattle.thp_script.specs.Scripts.{Fault}
 use Rattle.thp_journal_writer.specs.Totals.{lines_from}
 use Rattle.thp_journal_reader.specs.declared.illegal.Illegal.{Illegal}
 use Rattle.thp_journal_reader.specs.declared.journals.NodeJournal.{NodeJournal}
+use Rattle.thp_journal_reader.specs.declared.summed.Summed.{Summed}
 use Rattle.thp_journal_reader.specs.declared.summed.SummaryFault.{SummaryFault}
 use Rattle.thp_journal_reader.specs.declared.summed.SummaryFault.TheVariants as summary
 use Rattle.thp_journal_reader.specs.Answers.{ReportsFirst, ReportsIllegal}
@@ -26,7 +27,6 @@ use Rattle.thp_cli.specs.RunFaults.{fault_of_summary, seen_fault, IsReadingFault
 use Rattle.thp_cli.specs.Verdicts.{verdict_text}
 use Rattle.thp_cli.proofs.PassageLaws.{ends_cut, ends_early, ends_written, fault_of_journal, keeps_same, same_journals}
 use Rattle.thp_journal_tools.specs.Checks.{line_of, IsCheckOf, IsFindFault, IsFound, LongEnds}
-use Rattle.thp_journal_tools.specs.declared.finding.CheckFindings.{CheckFindings}
 use Rattle.thp_journal_tools.specs.declared.options.CheckOptions.{CheckOptions}
 
 -- ---- what is found
@@ -68,7 +68,7 @@ line_told nodes None first = first
 line_told nodes (Some illegal) first = first.line
 
 -- the verdict is that of the journals that were found, and their totals stand behind it
-pub check_of : (options : CheckOptions) (bytes text : List ℕ) (found : CheckFindings) → IsFound options.summary bytes found → text ≡ verdict_text (line_of found.illegal) ++ lines_from 0 found.totals.items → IsCheckOf options bytes found.illegal text
+pub check_of : (options : CheckOptions) (bytes text : List ℕ) (found : Summed) → IsFound options.summary bytes found → text ≡ verdict_text (line_of found.illegal) ++ lines_from 0 found.totals.items → IsCheckOf options bytes found.illegal text
 check_of options bytes text found is written =
     let told = line_told is.journals.nodes found.illegal is.first in
     record {

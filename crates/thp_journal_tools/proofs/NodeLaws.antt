@@ -9,12 +9,12 @@ use Rattle.thp_journal_reader.specs.declared.illegal.Illegal.{Illegal}
 use Rattle.thp_journal_reader.specs.declared.journals.NodeJournal.{NodeJournal}
 use Rattle.thp_journal_reader.specs.declared.numbered.NumberedNode.{NumberedNode}
 use Rattle.thp_journal_reader.specs.Answers.{IsFirstIllegalEvent, ReportsFirst}
-use Rattle.thp_journal_reader.specs.Numbered.{AreNumbered, IsNumbered}
+use Rattle.thp_journal_reader.specs.Numbered.{IsNumbered}
 use Rattle.thp_metrics.specs.Stuck.{AreStuck}
 use Rattle.thp_metrics.specs.declared.stuck_page.StuckPage.{StuckPage}
 use Rattle.thp_metrics.specs.declared.numbers.Numbers.{Numbers}
 use Rattle.thp_journal_tools.specs.Making.{told_of, AreMadeOf, IsMadeOf}
-use Rattle.thp_journal_tools.specs.Nodes.{AreDrawnOf, IsDrawnOf, IsOwnIllegal, ReportsOwn}
+use Rattle.thp_journal_tools.specs.Nodes.{IsDrawnOf, IsOwnIllegal, ReportsOwn}
 
 -- ---- node by node
 
@@ -54,7 +54,7 @@ own_of node (Some illegal) first = own_illegal node illegal first
 
 -- ---- nodes
 
-drawn_of_one : (node : NodeJournal) (kept : NumberedNode) (drawn : DrawnNode) → IsNumbered node kept → IsMadeOf kept drawn → IsDrawnOf node drawn
+pub drawn_of_one : (node : NodeJournal) (kept : NumberedNode) (drawn : DrawnNode) → IsNumbered node kept → IsMadeOf kept drawn → IsDrawnOf node drawn
 drawn_of_one node kept drawn numbered made =
     let P : List Numbers → Type 0 = λ ns. AreColumnsOf ns drawn in
     let R : List StuckPage → Type 0 = λ pages. AreStuck node.shape numbered.front pages in
@@ -68,11 +68,3 @@ drawn_of_one node kept drawn numbered made =
       illegal_is = subst Q (sym made.illegal_is) (own_of node kept.illegal numbered.first);
       stuck_are = subst R (sym made.stuck_is) numbered.stuck_are;
     }
-
-pub drawn_of_all : (nodes : List NodeJournal) (kept : List NumberedNode) (drawn : List DrawnNode) → AreNumbered nodes kept → AreMadeOf kept drawn → AreDrawnOf nodes drawn
-drawn_of_all [] [] [] numbered made = tt
-drawn_of_all [] [] (one ∷ drawn) numbered made = absurd made
-drawn_of_all [] (k ∷ kept) drawn numbered made = absurd numbered
-drawn_of_all (node ∷ nodes) [] drawn numbered made = absurd numbered
-drawn_of_all (node ∷ nodes) (k ∷ kept) [] numbered made = absurd made
-drawn_of_all (node ∷ nodes) (k ∷ kept) (one ∷ drawn) numbered made = (drawn_of_one node k one numbered.0 made.0, drawn_of_all nodes kept drawn numbered.1 made.1)

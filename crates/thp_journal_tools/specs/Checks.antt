@@ -5,6 +5,7 @@ use Rattle.thp_check.specs.Explanations.{explanation}
 use Rattle.thp_journal_reader.specs.declared.illegal.Illegal.{Illegal}
 use Rattle.thp_journal_reader.specs.declared.journals.Journals.{Journals}
 use Rattle.thp_journal_reader.specs.declared.journals.NodeJournal.{NodeJournal}
+use Rattle.thp_journal_reader.specs.declared.summed.Summed.{Summed}
 use Rattle.thp_journal_reader.specs.Answers.{ReportsFirst}
 use Rattle.thp_journal_reader.specs.Journals.{journals_within}
 use Rattle.thp_journal_reader.specs.Summaries.{AreSummaries}
@@ -20,7 +21,6 @@ use Rattle.thp_cli.specs.Passages.{Ends, WritesAnswer}
 use Rattle.thp_cli.specs.RunFaults.{seen_fault}
 use Rattle.thp_cli.specs.Verdicts.{is_legal, IsVerdictWithin}
 use Rattle.thp_journal_tools.specs.declared.checking.CheckFinding.{CheckFinding}
-use Rattle.thp_journal_tools.specs.declared.finding.CheckFindings.{CheckFindings}
 use Rattle.thp_journal_tools.specs.declared.options.CheckOptions.{CheckOptions}
 
 -- the line of an illegal event
@@ -47,7 +47,7 @@ pub record IsCheckOf (options : CheckOptions) (input : List ℕ) (illegal : Opti
   pub text_is : text ≡ front ++ lines_from 0 totals
 
 -- the result for the text of a journal is right
-pub record IsFound (summary : Bool) (bytes : List ℕ) (found : CheckFindings) : Type 0 where
+pub record IsFound (summary : Bool) (bytes : List ℕ) (found : Summed) : Type 0 where
   pub journals : Journals
   pub spelled : journals_within max_counted bytes ≡ Ok journals
   pub first : ReportsFirst journals.nodes found.illegal

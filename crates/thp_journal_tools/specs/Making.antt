@@ -1,5 +1,6 @@
 -- The drawings of nodes with their numbers.
-use Rattle.std.specs.Prelude.{◌≡◌, ⊤, List, [], ◌∷◌, Option, None, Some}
+use Rattle.std.specs.Prelude.{◌≡◌, List, Option, None, Some}
+use Rattle.std.specs.List.{AllZip}
 use Rattle.thp_drawing.specs.Drawn.{AreColumnsOf}
 use Rattle.thp_drawing.specs.declared.illegal_event.IllegalEvent.{IllegalEvent}
 use Rattle.thp_drawing.specs.declared.node.DrawnNode.{DrawnNode}
@@ -21,7 +22,4 @@ pub record IsMadeOf (node : NumberedNode) (drawn : DrawnNode) : Type 0 where
 
 -- they are the drawings of these nodes, in order
 abbrev pub AreMadeOf : List NumberedNode → List DrawnNode → Type 0
-AreMadeOf [] [] = ⊤
-AreMadeOf [] (drawn ∷ more) = ⊥
-AreMadeOf (node ∷ nodes) [] = ⊥
-AreMadeOf (node ∷ nodes) (drawn ∷ more) = IsMadeOf node drawn × AreMadeOf nodes more
+AreMadeOf = AllZip IsMadeOf

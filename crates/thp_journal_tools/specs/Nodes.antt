@@ -1,5 +1,6 @@
 -- The drawings of the nodes in a journal.
-use Rattle.std.specs.Prelude.{◌≡◌, ⊤, List, [], ◌∷◌, Option, None, Some, slice_get}
+use Rattle.std.specs.Prelude.{◌≡◌, List, Option, None, Some, slice_get}
+use Rattle.std.specs.List.{AllZip}
 use Rattle.thp_drawing.specs.Drawn.{AreColumnsOf}
 use Rattle.thp_drawing.specs.declared.illegal_event.IllegalEvent.{IllegalEvent}
 use Rattle.thp_drawing.specs.declared.node.DrawnNode.{DrawnNode}
@@ -33,7 +34,4 @@ pub record IsDrawnOf (node : NodeJournal) (drawn : DrawnNode) : Type 0 where
 
 -- they are the drawings of these nodes, in order
 abbrev pub AreDrawnOf : List NodeJournal → List DrawnNode → Type 0
-AreDrawnOf [] [] = ⊤
-AreDrawnOf [] (drawn ∷ more) = ⊥
-AreDrawnOf (node ∷ nodes) [] = ⊥
-AreDrawnOf (node ∷ nodes) (drawn ∷ more) = IsDrawnOf node drawn × AreDrawnOf nodes more
+AreDrawnOf = AllZip IsDrawnOf

@@ -10,7 +10,7 @@ ghost use Rattle.thp_journal_writer.specs.Totals.{lines_from};
 ghost use Rattle.thp_journal_tools.specs.Checks.{explanation_of, found_in, line_of, CheckEnds};
 ghost use Rattle.thp_journal_tools.specs.Progress.{may_show, ShowsProgress};
 
-use crate::finding::{CheckFindings, find};
+use crate::finding::find;
 use crate::options::CheckOptions;
 use crate::screen::Screen;
 use std::alloc::{AllocError, Global};
@@ -18,7 +18,7 @@ use std::io::{Read, Write};
 use std::time::Clock;
 use thp_check::put_explanation;
 use thp_cli::{LongRunFault, Watched, verdict, write_text};
-use thp_journal_reader::Illegal;
+use thp_journal_reader::{Illegal, Summed};
 use thp_journal_writer::{put, put_totals_of_each};
 
 /// The result of the check of a journal.
@@ -60,7 +60,7 @@ fn explanation_of(
 }
 
 /// Returns the verdict, followed by the totals.
-fn text_of(alloc: Global, found: &CheckFindings) -> Result<Vec<u8>, AllocError>
+fn text_of(alloc: Global, found: &Summed) -> Result<Vec<u8>, AllocError>
     ensures { IfOk result (λ text. text.items ≡ verdict_text (line_of found.now.illegal) ++ lines_from 0 found.now.totals.items) }
 {
     let verdict = verdict(line_of(&found.illegal));

@@ -1,5 +1,5 @@
 //! Reads a journal for its first illegal event and the totals of its nodes.
-ghost use Rattle.std.specs.Prelude.{◌≡◌, ℕ, List, IfOk, IfErr, IfSome, true, false};
+ghost use Rattle.std.specs.Prelude.{◌≡◌, ℕ, List, IfOk, IfErr, IfSome, false};
 ghost use Rattle.thp_script.specs.Limits.{max_counted};
 ghost use Rattle.thp_cli.specs.Calls.{ReadsOn};
 ghost use Rattle.thp_cli.specs.declared.ending.Program.TheVariants.{Thpcheck};
@@ -17,29 +17,20 @@ use std::io::{Read, Write};
 use std::time::Clock;
 use thp_check::Misfit;
 use thp_cli::{LongRunFault, Program, Watched};
-use thp_journal_reader::{Illegal, LongCheck, SummedCheck};
-use thp_journal_writer::Totals;
+use thp_journal_reader::{LongCheck, Summed, SummedCheck};
 use thp_model::{Outcome, Refusal, What};
 
-/// The result of reading a journal.
-#[derive(Drop)]
-pub(crate) struct CheckFindings {
-    /// The first illegal event; `None` if the journal is legal.
-    pub(crate) illegal: Option<Illegal>,
-    /// The totals of each node, if they are requested.
-    pub(crate) totals: Vec<Totals>,
-}
-
-/// Returns the first illegal event of the journal from the reader, which is read in parts.
-fn find_first<R: Read, S: Write, C: Clock>(
+/// Returns the first illegal event of the journal from the reader, which is read in parts, and the totals of its nodes if the
+/// options request them.
+pub(crate) fn find<R: Read, S: Write, C: Clock>(
     alloc: Global,
     options: CheckOptions,
     reader: &mut Watched<R>,
     screen: &mut Screen<S, C>,
-) -> Result<CheckFindings, LongRunFault>
+) -> Result<Summed, LongRunFault>
     requires reader { reader.old.failed ≡ false }
     requires screen { screen.old.writer.failed ≡ false }
-    ensures found { IfOk result (λ found. (bytes : List ℕ) × IfSome (R.remaining reader.old.device) (IsFrontOf max_counted bytes) × IsFound false bytes found) }
+    ensures found { IfOk result (λ found. (bytes : List ℕ) × IfSome (R.remaining reader.old.device) (IsFrontOf max_counted bytes) × IsFound options.summary bytes found) }
     ensures flag { IfOk result (λ _. reader.new.failed ≡ false) }
     ensures fault { IfErr result (λ fault. IsFindFault (R.remaining reader.old.device) reader.new.failed (seen_fault fault)) }
     ensures calls { ReadsOn max_counted reader.new.failed reader.old.calls reader.new.calls }
@@ -52,78 +43,18 @@ fn find_first<R: Read, S: Write, C: Clock>(
         Refusal::NoPage,
         Misfit::BlockTaken,
     );
+    let asked = options.progress;
+    if options.summary {
+        let check = SummedCheck::new(alloc);
+        let check = read_journal(alloc, Program::Thpcheck, asked, check, reader, screen)?;
+        let summed = check.finish()?;
+        return Ok(summed);
+    }
     let check = LongCheck::new(alloc);
-    let check = read_journal(
-        alloc,
-        Program::Thpcheck,
-        options.progress,
-        check,
-        reader,
-        screen,
-    )?;
+    let check = read_journal(alloc, Program::Thpcheck, asked, check, reader, screen)?;
     let illegal = check.finish()?;
-    Ok(CheckFindings {
+    Ok(Summed {
         illegal,
         totals: Vec::new(alloc),
     })
-}
-
-/// Returns the same, and the totals of each node.
-fn sum_up<R: Read, S: Write, C: Clock>(
-    alloc: Global,
-    options: CheckOptions,
-    reader: &mut Watched<R>,
-    screen: &mut Screen<S, C>,
-) -> Result<CheckFindings, LongRunFault>
-    requires reader { reader.old.failed ≡ false }
-    requires screen { screen.old.writer.failed ≡ false }
-    ensures found { IfOk result (λ found. (bytes : List ℕ) × IfSome (R.remaining reader.old.device) (IsFrontOf max_counted bytes) × IsFound true bytes found) }
-    ensures flag { IfOk result (λ _. reader.new.failed ≡ false) }
-    ensures fault { IfErr result (λ fault. IsFindFault (R.remaining reader.old.device) reader.new.failed (seen_fault fault)) }
-    ensures calls { ReadsOn max_counted reader.new.failed reader.old.calls reader.new.calls }
-    ensures screen { ShowsProgress Thpcheck (may_show options.progress screen.old.is_terminal) (R.remaining reader.old.device) (device_of S.contents screen.old.writer screen.new.writer) }
-{
-    // as above
-    let _in_illegal = (
-        What::Close,
-        Outcome::Stays,
-        Refusal::NoPage,
-        Misfit::BlockTaken,
-    );
-    let check = SummedCheck::new(alloc);
-    let check = read_journal(
-        alloc,
-        Program::Thpcheck,
-        options.progress,
-        check,
-        reader,
-        screen,
-    )?;
-    let summed = check.finish()?;
-    Ok(CheckFindings {
-        illegal: summed.illegal,
-        totals: summed.totals,
-    })
-}
-
-/// Returns what the options request about the journal from the reader, which is read in parts.
-pub(crate) fn find<R: Read, S: Write, C: Clock>(
-    alloc: Global,
-    options: CheckOptions,
-    reader: &mut Watched<R>,
-    screen: &mut Screen<S, C>,
-) -> Result<CheckFindings, LongRunFault>
-    requires reader { reader.old.failed ≡ false }
-    requires screen { screen.old.writer.failed ≡ false }
-    ensures found { IfOk result (λ found. (bytes : List ℕ) × IfSome (R.remaining reader.old.device) (IsFrontOf max_counted bytes) × IsFound options.summary bytes found) }
-    ensures flag { IfOk result (λ _. reader.new.failed ≡ false) }
-    ensures fault { IfErr result (λ fault. IsFindFault (R.remaining reader.old.device) reader.new.failed (seen_fault fault)) }
-    ensures calls { ReadsOn max_counted reader.new.failed reader.old.calls reader.new.calls }
-    ensures screen { ShowsProgress Thpcheck (may_show options.progress screen.old.is_terminal) (R.remaining reader.old.device) (device_of S.contents screen.old.writer screen.new.writer) }
-{
-    if options.summary {
-        sum_up(alloc, options, reader, screen)
-    } else {
-        find_first(alloc, options, reader, screen)
-    }
 }

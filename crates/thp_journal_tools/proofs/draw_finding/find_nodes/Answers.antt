@@ -4,9 +4,13 @@ use Rattle.thp_script.specs.Limits.{max_counted}
 use Rattle.thp_script.specs.Scripts.{Fault}
 use Rattle.thp_journal_reader.specs.declared.journals.Journals.{Journals}
 use Rattle.thp_journal_reader.specs.Journals.{journals_within}
+use Rattle.thp_journal_reader.specs.Numbered.{IsNumbered}
 use Rattle.thp_journal_reader.specs.Summaries.{ReportsSummaryFault}
+use Rattle.thp_journal_reader.proofs.ZipLaws.{zip_through}
+use Rattle.thp_journal_tools.specs.Making.{IsMadeOf}
+use Rattle.thp_journal_tools.specs.Nodes.{IsDrawnOf}
 use Rattle.thp_journal_tools.proofs.CheckLaws.{err_at_reading, err_at_summary}
-use Rattle.thp_journal_tools.proofs.NodeLaws.{drawn_of_all}
+use Rattle.thp_journal_tools.proofs.NodeLaws.{drawn_of_one}
 use Rattle.thp_journal_tools.proofs.draw_finding.find_nodes.Goals as goal
 
 pub returns-in_err-check-clause-fault : goal.returns-in_err-check-clause-fault
@@ -31,6 +35,6 @@ returns-clause-found g c =
       record {
         journals = numbered.0;
         spelled = sym (read.2 [] ∙ c.new-check.ensures (read.0 ++ []) ∙ ap (journals_within max_counted) (append-nil read.0)) ∙ numbered.1;
-        drawn = drawn_of_all numbered.0.nodes c.in_ok-numbered.numbered.items c.in_ok-nodes.nodes.items numbered.2 c.in_ok-nodes.ensures;
+        drawn = zip_through IsNumbered IsMadeOf IsDrawnOf numbered.0.nodes c.in_ok-numbered.numbered.items c.in_ok-nodes.nodes.items drawn_of_one numbered.2 c.in_ok-nodes.ensures;
       },
     )
