@@ -10,6 +10,7 @@
 //!   `illegal` (the event and why), `checked_nodes` (`Checking`, proof `CheckLaws`).
 //! - `summed_check`, `summed`, `summary` (`Summaries`): totals up to the first illegal event; `series_check`, `numbered`,
 //!   `numbering` (`Numbered`): the numbers after each event, in columns.
+//! - `script_check`, `scripted_nodes`: the script that repeats the legal events (`thp_folding`).
 #![tactic(auto)]
 
 mod checked_nodes;
@@ -30,6 +31,8 @@ mod parse_event_fast;
 mod past_lines;
 mod place;
 mod reading;
+mod script_check;
+mod scripted_nodes;
 mod series_check;
 mod set_text;
 mod summary;
@@ -49,6 +52,7 @@ pub use line::Line;
 pub use long_check::LongCheck;
 pub use numbered::NumberedNode;
 pub use place::Place;
+pub use script_check::ScriptCheck;
 pub use series_check::SeriesCheck;
 pub use summed::{SummaryFault, Summed};
 pub use summed_check::SummedCheck;
