@@ -150,12 +150,14 @@ outside:
 	@$(if $(GIVEN),python3 tests/streams.py $(GIVEN) || test $$? = 77)
 	@$(if $(wildcard $(CHECKER)),python3 tests/checker.py $(CHECKER))
 	@$(if $(wildcard $(CHECKER)),python3 tests/streams.py $(CHECKER) || test $$? = 77)
+	@$(if $(and $(GIVEN),$(wildcard $(CHECKER))),python3 tests/repeats.py $(CHECKER) $(GIVEN))
 	@$(if $(wildcard $(DRAWER)),python3 tests/drawer.py $(DRAWER))
 	@$(if $(wildcard $(DRAWER)),python3 tests/tables.py $(DRAWER) --seed $(SEED))
 	@$(if $(and $(GIVEN),$(wildcard $(CHECKER)),$(wildcard $(DRAWER)),$(wildcard $(ARCHIVE))),python3 tests/package.py $(GIVEN) $(CHECKER) $(DRAWER) $(ARCHIVE) || test $$? = 77)
 
 fuzz: run
 	@python3 tests/fuzz.py $(PROGRAM) --cases $(CASES) --seed $(SEED)
+	@$(if $(wildcard $(CHECKER)),python3 tests/repeats.py $(CHECKER) $(PROGRAM) --cases 10000 --seed $(SEED))
 
 memory: run
 	@cd crates/tests_spoilt && rt test

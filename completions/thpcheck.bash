@@ -1,5 +1,5 @@
 # bash completion for thpcheck
 _thpcheck() {
-    COMPREPLY=($(compgen -W '--explain --summary --progress --help --version' -- "${COMP_WORDS[COMP_CWORD]}"))
+    COMPREPLY=($(compgen -W '--explain --summary --progress --script --help --version' -- "${COMP_WORDS[COMP_CWORD]}"))
 }
 complete -F _thpcheck thpcheck

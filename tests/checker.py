@@ -60,7 +60,8 @@ BEHIND = 3 + 2 * ROUNDS + 1
 
 EXPLAIN = ("--explain",)
 SUMMARY = ("--summary",)
-FLAGS = ("--explain", "--summary", "--progress")
+SCRIPT = ("--script",)
+FLAGS = ("--explain", "--summary", "--progress", "--script")
 
 
 def is_illegal(line: int, errors: bytes = b"") -> Ended:
@@ -120,6 +121,64 @@ def summaries() -> Iterator[Row]:
     yield Row("summary", "behind 16 MiB", Call(SUMMARY, LONG + b"end\n", memory=FEW_BYTES), Ended(0, b"legal\n" + ONE_PAGE))
     for sink in LOST:
         yield Row("summary", f"standard output {sink.name.lower()}", Call(SUMMARY, LEGAL, output=sink), WRITE_FAILED)
+
+
+SCRIPTS = (
+    ("a call in a batch", "0 alloc 0|0 splitpmd 0|0 unmapsub 0 0 256 queued -|0 taken 0|0 pin 0|0 pinned 0|0 back 0",
+     "alloc 0|splitpmd 0 0|unmap 0 0 0 256|take 0 1|pin 0 0|splitnext 0|putback 0", b""),
+    ("a put-back without a try", "0 alloc 0|0 splitpmd 0|0 unmapsub 0 0 256 queued -|0 taken 0|0 back 0|0 close",
+     "alloc 0|splitpmd 0 0|unmap 0 0 0 256|take 0 1|putback 0|close 0", b""),
+    ("a scan that finds a pin", "3 alloc 0|0 splitpmd 0|0 unmapsub 0 0 256 queued -|5 pin 0|7 taken 0|7 pinned 0|7 back 0",
+     "alloc 0|splitpmd 0 0|unmap 0 0 0 256|pin 0 0|scan 0 1", b""),
+    ("a batch left open", "0 alloc 0|0 splitpmd 0|0 unmapsub 0 0 256 queued -|0 taken 0",
+     "alloc 0|splitpmd 0 0|unmap 0 0 0 256|take 0 1|putback 0", b"thpcheck: 1 page put back at the end\n"),
+    ("two batches at once", "0 alloc 0|0 alloc 1|0 splitpmd 0|0 splitpmd 1|0 unmapsub 0 0 1 queued -|0 unmapsub 1 0 1 queued -|"
+     "1 taken 0|2 taken 1|0 pin 1|2 pinned 1|1 split 0 0|2 back 1|0 unpin 1 stays -",
+     "alloc 0|alloc 0|splitpmd 0 0|splitpmd 0 1|unmap 0 0 0 1|unmap 0 1 0 1|"
+     "take 0 1|pin 0 1|splitnext 0|putback 0|scan 0 1|unpin 0 1",
+     b"thpcheck: 1 batch moved after the one that was open\nthpcheck: 1 call moved before a scan that it interrupted\n"
+     b"thpcheck: 3 takes, tries and put-backs left to scans\n"),
+)
+"""Events and commands, each followed by `|` except the last, and what standard error gets."""
+
+OPTIONS_OF_ONE = b"# thpsplit --nodes 1 --blocks 16 --orders 9 --underused off\nsetup\n"
+"""The first lines of a script for a node."""
+
+
+def scripts() -> Iterator[Row]:
+    """The scripts that repeat journals."""
+    first = OPTIONS_OF_ONE + b"alloc 0\nsplitpmd 0 0\nunmap 0 0 0 256\nscan 0 1\n"
+    for source in (Source.FILE, Source.PIPE):
+        yield Row("script", f"the first journal, {source.name.lower()}", Call(SCRIPT, FIRST_JOURNAL, source), Ended(0, first))
+    for name, events, commands, errors in SCRIPTS:
+        text = b"".join(line.encode() + b"\n" for line in ("thp-journal 1|node 0 blocks 16|" + events + "|end").split("|"))
+        wanted = OPTIONS_OF_ONE + b"".join(line.encode() + b"\n" for line in commands.split("|"))
+        yield Row("script", name, Call(SCRIPT, text), Ended(0, wanted, errors))
+    nodes = b"thp-journal 3\nnode 0 blocks 2 order 2 underused off\nnode 1 blocks 3 order 9 underused 7\n0 alloc 0\nend\n"
+    wanted = (b"# thpsplit --nodes 1 --blocks 2 --orders 2 --underused off\nsetup\n"
+              b"# thpsplit --nodes 2 --blocks 3 --orders 2,9 --underused off,7\nalloc 1\n")
+    yield Row("script", "two nodes", Call(SCRIPT, nodes), Ended(0, wanted))
+    row = EXPLAINED[0]
+    text = row.text + b"end\n"
+    told = b"thpcheck: illegal line 3\n"
+    front = checked_front(row.text)
+    yield Row("script", "illegal", Call(SCRIPT, text), Ended(1, front, told))
+    yield Row("script", "illegal, explained", Call(SCRIPT + EXPLAIN, text), Ended(1, front, told + row.lines()))
+    late = replace(fault(4, "bad-word"), output=front)
+    yield Row("script", "a fault behind an illegal event", Call(SCRIPT, row.text + b"fly\n"), late)
+    yield Row("script", "a fault", Call(SCRIPT, b"fly\n"), fault(1, "bad-word"))
+    yield Row("script", "other flags", Call(SCRIPT + SUMMARY + ("--progress",), FIRST_JOURNAL), Ended(0, first))
+    rounds = OPTIONS_OF_ONE + b"alloc 0\n" + b"pin 0 0\nunpin 0 0\n" * ROUNDS
+    yield Row("script", "behind 16 MiB", Call(SCRIPT, LONG + b"end\n", memory=FEW_BYTES), Ended(0, rounds))
+    yield Row("script", "no input", Call(SCRIPT, source=Source.CLOSED), READ_FAILED)
+    for sink in LOST:
+        yield Row("script", f"standard output {sink.name.lower()}", Call(SCRIPT, LEGAL, output=sink), WRITE_FAILED)
+
+
+def checked_front(text: bytes) -> bytes:
+    """The first lines of the script of a journal whose first event is illegal."""
+    blocks = text.split(b"\n")[1].split()[3]
+    return OPTIONS_OF_ONE.replace(b"blocks 16", b"blocks " + blocks)
 
 
 def summed(text: bytes) -> Ended:
@@ -235,7 +294,7 @@ def main() -> None:
         # its name is what it is called by, whatever its file's is
         path = Path(name) / "thpcheck"
         path.symlink_to(program.resolve())
-        for part in (verdicts, explanations, summaries, faults, long_journals, many_nodes, requests, failures, shown):
+        for part in (verdicts, explanations, summaries, scripts, faults, long_journals, many_nodes, requests, failures, shown):
             rows, passed = list(part()), tally.passed
             for row in rows:
                 tally.run(f"{row.group}: {row.name}", partial(row.wrong, path))

@@ -188,6 +188,8 @@ def main() -> None:
     for program in checkers:
         gate.add(f"checker.py {Path(program).name}", [sys.executable, "tests/checker.py", program])
         gate.add(f"streams.py {Path(program).name}", [sys.executable, "tests/streams.py", program])
+    for program, player in zip(checkers, programs):
+        gate.add(f"repeats.py {Path(program).name}", [sys.executable, "tests/repeats.py", program, player])
     drawers = made_since(began, DRAWERS)
     for program in drawers:
         gate.add(f"drawer.py {Path(program).name}", [sys.executable, "tests/drawer.py", program])

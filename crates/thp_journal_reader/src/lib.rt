@@ -12,6 +12,7 @@
 //!   numbers after each event, in columns.
 //! - Behind these three: `follower` (`Following`, proof `FollowLaws`), generic in `follows_node`: what follows a node, and what is
 //!   kept of it (`Keeping`): nothing, totals (`summed_node`), numbers (`series_node`).
+//! - `script_check`, `scripted_nodes`: the script that repeats the legal events (`thp_folding`).
 #![tactic(auto)]
 
 mod checking;
@@ -32,6 +33,8 @@ mod parse_event_fast;
 mod past_lines;
 mod place;
 mod reading;
+mod script_check;
+mod scripted_nodes;
 mod series_check;
 mod series_node;
 mod set_text;
@@ -52,6 +55,7 @@ pub use line::Line;
 pub use long_check::LongCheck;
 pub use numbered::NumberedNode;
 pub use place::Place;
+pub use script_check::ScriptCheck;
 pub use series_check::SeriesCheck;
 pub use summed::{SummaryFault, Summed};
 pub use summed_check::SummedCheck;

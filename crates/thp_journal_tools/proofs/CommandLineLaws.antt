@@ -24,9 +24,9 @@ module _ (new start : Command) (version : _) (about after_help : _) (is : out-Co
   added : (old new : Command) (app : App) (option : Arg) (rule : Rule) → app_of old ≡ app → IsOption option rule → AddsArg old option new → app_of new ≡ with_rule app rule
   added old new app option rule was o adds = adds.shape o.local ∙ ap (with_rule (app_of old)) o.rules ∙ ap (λ (a : App). with_rule a rule) was
 
-  pub own : (first second command : Command) (explain summary progress : Arg) → IsOption explain (flag_rule (codes "explain")) → AddsArg start explain first → IsOption summary (flag_rule (codes "summary")) → AddsArg first summary second → IsOption progress (flag_rule (codes "progress")) → AddsArg second progress command → app_of command ≡ thpcheck
-  own first second command explain summary progress e adds-e s adds-s p adds-p =
-      added second command _ progress _ (added first second _ summary _ (added start first bare explain _ start_app e adds-e) s adds-s) p adds-p
+  pub own : (first second third command : Command) (explain summary progress script : Arg) → IsOption explain (flag_rule (codes "explain")) → AddsArg start explain first → IsOption summary (flag_rule (codes "summary")) → AddsArg first summary second → IsOption progress (flag_rule (codes "progress")) → AddsArg second progress third → IsOption script (flag_rule (codes "script")) → AddsArg third script command → app_of command ≡ thpcheck
+  own first second third command explain summary progress script e adds-e s adds-s p adds-p o adds-o =
+      added third command _ script _ (added second third _ progress _ (added first second _ summary _ (added start first bare explain _ start_app e adds-e) s adds-s) p adds-p) o adds-o
 
 simple : is_simple thpcheck ≡ true
 unfolding clap_on_literals
@@ -46,6 +46,7 @@ pub record HoldsFound (found : Found) (options : CheckOptions) : Type 0 where
   pub explain : ReportsFlag (one_text found (codes "explain")) options.explain
   pub summary : ReportsFlag (one_text found (codes "summary")) options.summary
   pub progress : ReportsFlag (one_text found (codes "progress")) options.progress
+  pub script : ReportsFlag (one_text found (codes "script")) options.script
 
 -- what `clap` answers to the words for the command
 module _ (command : Command) (is : app_of command ≡ thpcheck) (words : List (List ℕ)) (parse : Result ArgMatches Error) (kinds : is_simple_and_free (app_of command) ≡ true → FailsBy (fault_of (app_of command) words) parse) where
@@ -69,5 +70,6 @@ module _ (command : Command) (is : app_of command ≡ thpcheck) (words : List (L
           explain = subst (λ o. ReportsFlag o options.explain) (one (codes "explain")) held.explain;
           summary = subst (λ o. ReportsFlag o options.summary) (one (codes "summary")) held.summary;
           progress = subst (λ o. ReportsFlag o options.progress) (one (codes "progress")) held.progress;
+          script = subst (λ o. ReportsFlag o options.script) (one (codes "script")) held.script;
         };
       }

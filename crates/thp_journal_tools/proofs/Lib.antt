@@ -1,5 +1,6 @@
 pub mod CommandLineLaws
 pub mod CheckLaws
+mod ScriptLaws
 mod CountLaws
 mod ProgressLaws
 mod DrawCommandLineLaws

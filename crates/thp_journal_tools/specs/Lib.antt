@@ -2,6 +2,7 @@ pub mod Asking
 pub mod CommandLine
 pub mod Checks
 pub mod Counting
+pub mod Scripting
 pub mod Outcomes
 pub mod Progress
 pub mod Reaching

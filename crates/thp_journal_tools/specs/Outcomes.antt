@@ -1,5 +1,5 @@
 -- The effect of the program on its words, its input and its outputs, and its exit status (this project's profile).
-use Rattle.std.specs.Prelude.{◌≡◌, ◌⊎◌, ℕ, List, Option, Some, None, Result, Ok, Err, option_map}
+use Rattle.std.specs.Prelude.{◌≡◌, ◌⊎◌, ℕ, Bool, true, false, List, Option, Some, None, Result, Ok, Err, option_map}
 use Rattle.thp_journal_reader.specs.declared.illegal.Illegal.{Illegal}
 use Rattle.thp_cli.specs.declared.ending.Ending.{Ending}
 use Rattle.thp_cli.specs.declared.ending.Ending.TheVariants.{Written, Illegal as IsIllegal}
@@ -16,6 +16,8 @@ use Rattle.thp_journal_tools.specs.declared.options.CheckOptions.{CheckOptions}
 use Rattle.thp_journal_tools.specs.declared.program.CheckEnd.{CheckEnd}
 use Rattle.thp_journal_tools.specs.Checks.{explanation_of, Checks}
 use Rattle.thp_journal_tools.specs.CommandLine.{AnswersWords}
+use Rattle.thp_journal_tools.specs.declared.scripting.ScriptFinding.{ScriptFinding}
+use Rattle.thp_journal_tools.specs.Scripting.{notes_of, Scripts}
 
 -- why the program did not do what was requested, in the terms of both programs
 abbrev pub fault_at_end : EndFault → ProgramFault
@@ -52,11 +54,32 @@ Does options input output (Err NoText) explanation = ⊥
 Does options input output (Err Orders) explanation = ⊥
 Does options input output (Err Underused) explanation = ⊥
 
--- the words request the check, and that was done
+-- a script was written, and this is the text for standard error
+pub record DidScript (options : CheckOptions) (input : Source) (output : Device) (ending : Ending) (notes : Option (List ℕ)) : Type 0 where
+  pub found : ScriptFinding
+  pub scripts : Scripts input output (Ok found)
+  pub ending_is : ending ≡ ending_of found.illegal
+  pub notes_are : notes ≡ notes_of options found.illegal found.moved
+
+-- what was done with the journal if its script is requested, by how it ended
+abbrev pub DoesScript : CheckOptions → Source → Device → Result Ending ProgramFault → Option (List ℕ) → Type 0
+DoesScript options input output (Ok ending) notes = DidScript options input output ending notes
+DoesScript options input output (Err (Run fault)) notes = Scripts input output (Err fault) × (notes ≡ None)
+DoesScript options input output (Err (Usage text)) notes = ⊥
+DoesScript options input output (Err NoText) notes = ⊥
+DoesScript options input output (Err Orders) notes = ⊥
+DoesScript options input output (Err Underused) notes = ⊥
+
+-- what was done with the journal, by whether its script is requested
+abbrev pub DoesAsked : Bool → CheckOptions → Source → Device → Result Ending ProgramFault → Option (List ℕ) → Type 0
+DoesAsked false = Does
+DoesAsked true = DoesScript
+
+-- the words request the check or a script, and that was done
 pub record DidCheck (words : List (List ℕ)) (input : Source) (output : Device) (result : Result Ending ProgramFault) (explanation : Option (List ℕ)) : Type 0 where
   pub options : CheckOptions
   pub accepted : AnswersWords words (Ok options)
-  pub does : Does options input output result explanation
+  pub does : DoesAsked options.script options input output result explanation
 
 -- nothing was checked: the words were rejected or request a text, or memory could not be allocated
 abbrev pub DidNothing : List (List ℕ) → Source → Device → Result Ending ProgramFault → Option (List ℕ) → Type 0

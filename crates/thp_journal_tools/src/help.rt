@@ -19,6 +19,15 @@ legal there, and the reason. Standard output and the exit status are the same:
 With --summary, the totals of each node follow the verdict, in the form of 'thpsplit --report totals'. They cover all events of
 the node, or those before its first illegal one.
 
+With --script, standard output gets a script that repeats the journal, as 'thpsplit' reads it, up to the first illegal event. A
+verdict other than 'legal' goes to standard error, and --summary and --progress have no effect:
+
+    thpcheck --script < JOURNAL > SCRIPT
+
+The script is that of one caller. Its comments have the options of 'thpsplit', the last one those of all nodes. A journal of
+callers that had no batches at the same time is repeated exactly, except for the callers' numbers. Otherwise a batch that began
+while another one was open is a scan after it, and standard error reports what was moved.
+
 With --progress, standard error shows the progress once a second. The line is removed before the verdict is written. If standard
 error is a terminal, this happens without the option too, after the first second:
 

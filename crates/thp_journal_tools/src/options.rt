@@ -17,6 +17,8 @@ pub struct CheckOptions {
     pub summary: bool,
     /// Whether to show the progress of the check on standard error.
     pub progress: bool,
+    /// Whether to write the script that repeats the journal instead of the verdict.
+    pub script: bool,
 }
 
 /// Returns the command with its options.
@@ -41,6 +43,11 @@ fn command<'a>(alloc: Global) -> Result<Command<'a>, AllocError>
             alloc,
             "progress",
             "Show the progress of the check on standard error",
+        ))?
+        .arg(flag(
+            alloc,
+            "script",
+            "Write the script that repeats the journal instead of the verdict",
         ))
 }
 
@@ -54,5 +61,6 @@ pub fn read_words<'a>(alloc: Global, words: &'a [&'a str]) -> Result<CheckOption
         explain: matches.get_flag("explain"),
         summary: matches.get_flag("summary"),
         progress: matches.get_flag("progress"),
+        script: matches.get_flag("script"),
     })
 }

@@ -2,14 +2,16 @@
 ghost use Rattle.std.specs.Prelude.{◌≡◌, false, option_map};
 ghost use Rattle.thp_cli.specs.declared.ending.Program.TheVariants.{Thpcheck};
 ghost use Rattle.thp_cli.specs.Outcomes.{device_of, given_words, source_of};
-ghost use Rattle.thp_journal_tools.specs.Outcomes.{end_of, ending_of, explained_by, Does, Finishes, Served, TakesExplanation};
-ghost use Rattle.thp_journal_tools.specs.Asking.{ShowsAsAsked};
+ghost use Rattle.thp_journal_tools.specs.Outcomes.{end_of, ending_of, explained_by, Does, DoesAsked, DoesScript, Finishes, Served, TakesExplanation};
+ghost use Rattle.thp_journal_tools.specs.Asking.{shows_progress, ShowsAsAsked};
 ghost use Rattle.thp_journal_tools.specs.Progress.{may_show, ShowsProgress};
 
 use crate::checking::check_long;
 use crate::end_fault::EndFault;
+use crate::notes::notes_of;
 use crate::options::{CheckOptions, read_words};
 use crate::screen::Screen;
+use crate::scripting::write_script;
 use std::alloc::Global;
 use std::io::{Read, Write};
 use std::time::Clock;
@@ -23,7 +25,7 @@ use thp_journal_reader::Illegal;
 #[derive(Drop)]
 pub(crate) struct CheckEnd {
     pub(crate) ending: Ending,
-    // the text for standard error
+    // the text for standard error: an explanation, or what is reported about a script
     pub(crate) explanation: Option<Vec<u8>>,
 }
 
@@ -60,6 +62,51 @@ fn check<R: Read, W: Write, S: Write, C: Clock>(
     }
 }
 
+/// Writes the script of the journal.
+fn script<R: Read, W: Write>(
+    alloc: Global,
+    options: CheckOptions,
+    reader: &mut Watched<R>,
+    output: &mut Watched<W>,
+) -> Result<CheckEnd, EndFault>
+    requires reader { reader.old.failed ≡ false }
+    requires output { output.old.failed ≡ false }
+    ensures does { DoesScript options (source_of R.remaining reader.old reader.new) (device_of W.contents output.old output.new) (end_of result) (explained_by result) }
+{
+    let found = match write_script(alloc, reader, output) {
+        Ok(found) => found,
+        Err(fault) => return Err(EndFault::Journal(fault)),
+    };
+    match notes_of(alloc, options, &found) {
+        Ok(notes) => Ok(CheckEnd {
+            ending: ending_of(&found.illegal),
+            explanation: notes,
+        }),
+        Err(_) => Err(EndFault::Journal(LongRunFault::OutOfMemory)),
+    }
+}
+
+/// Checks the journal, or writes its script if that is requested.
+fn check_or_script<R: Read, W: Write, S: Write, C: Clock>(
+    alloc: Global,
+    options: CheckOptions,
+    reader: &mut Watched<R>,
+    output: &mut Watched<W>,
+    screen: &mut Screen<S, C>,
+) -> Result<CheckEnd, EndFault>
+    requires reader { reader.old.failed ≡ false }
+    requires output { output.old.failed ≡ false }
+    requires screen { screen.old.writer.failed ≡ false }
+    ensures does { DoesAsked options.script options (source_of R.remaining reader.old reader.new) (device_of W.contents output.old output.new) (end_of result) (explained_by result) }
+    ensures screen { ShowsProgress Thpcheck (shows_progress options screen.old.is_terminal) (R.remaining reader.old.device) (device_of S.contents screen.old.writer screen.new.writer) }
+{
+    if options.script {
+        script(alloc, options, reader, output)
+    } else {
+        check(alloc, options, reader, output, screen)
+    }
+}
+
 /// Executes what the words request.
 fn serve<R: Read, W: Write, S: Write, C: Clock>(
     alloc: Global,
@@ -83,7 +130,7 @@ fn serve<R: Read, W: Write, S: Write, C: Clock>(
         return Err(EndFault::Journal(LongRunFault::OutOfMemory));
     };
     match read_words(alloc, texts.as_slice()) {
-        Ok(options) => check(alloc, options, reader, output, screen),
+        Ok(options) => check_or_script(alloc, options, reader, output, screen),
         Err(error) => match answer(alloc, &error, output) {
             Ok(()) => Ok(CheckEnd {
                 ending: Ending::Written,
@@ -113,6 +160,9 @@ fn explain<E: Write>(explanation: Option<Vec<u8>>, errors: &mut Watched<E>)
 /// | 1 | the journal is illegal |
 /// | 2 | the journal or the command line has an error |
 /// | 3 | memory could not be allocated, or a read or a write failed |
+///
+/// If a script is requested, it is written instead of the verdict, and the verdict about an illegal journal goes to standard
+/// error, with what the script does in another order than the journal; no progress is shown.
 ///
 /// If standard error does not take an explanation, the status is the same. The screen shows the progress of the check, if the
 /// words request that or the screen is a terminal. The progress is removed before the verdict is written. A screen that fails or

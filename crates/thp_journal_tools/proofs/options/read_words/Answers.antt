@@ -16,4 +16,5 @@ returns c =
       explain = record { absent = c.get_flag.ensures.none; set = c.get_flag.ensures.value; unset = c.get_flag.ensures.other };
       summary = record { absent = c.get_flag-2.ensures.none; set = c.get_flag-2.ensures.value; unset = c.get_flag-2.ensures.other };
       progress = record { absent = c.get_flag-3.ensures.none; set = c.get_flag-3.ensures.value; unset = c.get_flag-3.ensures.other };
+      script = record { absent = c.get_flag-4.ensures.none; set = c.get_flag-4.ensures.value; unset = c.get_flag-4.ensures.other };
     })

@@ -1,0 +1,4 @@
+pub mod Repeating
+pub mod Batches
+pub mod Folds
+pub mod Texts

@@ -1,0 +1,24 @@
+use Rattle.std.proofs.Common.{◌≡◌, ◌+◌, ◌++◌, ℕ, List, length, false}
+use Rattle.std.specs.Io.KnownBytes.{Consumes}
+use Rattle.thp_script.specs.Limits.{max_counted}
+use Rattle.thp_cli.proofs.CallLaws.{Reading}
+use Rattle.thp_journal_reader.specs.Journals.{journals_within}
+use Rattle.thp_journal_reader.specs.Parts.{told_with}
+use Rattle.thp_journal_tools.specs.Scripting.{Grows}
+use Rattle.thp_journal_tools.proofs.scripting.write_parts.Given as goal
+
+abbrev pub decreases-loop-count : goal.decreases-loop-count
+decreases-loop-count g l = l.left
+
+-- the bytes that were read, and the text that was written
+abbrev pub invariant-loop-count : goal.invariant-loop-count
+invariant-loop-count g l =
+    let remaining = g.R.Read.remaining in
+    let contents = g.W.Write.contents in
+    record {
+      taken : (bytes : List ℕ) × Consumes (remaining l.fn.reader.device) (remaining l.reader.device) bytes × (length bytes + l.left ≡ max_counted) × ((more : List ℕ) → told_with l.check more ≡ journals_within max_counted (bytes ++ more));
+      flag : l.reader.failed ≡ false;
+      calls : Reading max_counted l.left l.fn.reader.calls l.reader.calls;
+      grows : Grows (contents l.fn.writer.device) (contents l.writer.device);
+      writes : l.writer.failed ≡ false;
+    }

@@ -1,0 +1,90 @@
+-- The input, the output and the result of writing a journal's script, and what standard error gets.
+use Rattle.std.specs.Prelude.{◌≡◌, ◌==◌, ◌++◌, ℕ, Bool, true, false, List, [], ◌∷◌, Option, None, Some, Result, Ok, Err, IfSome, codes, if◌then◌else◌}
+use Rattle.std.specs.Fmt.{decimal}
+use Rattle.std.specs.Io.KnownBytes.{Appends}
+use Rattle.thp_script.specs.Limits.{max_counted}
+use Rattle.thp_check.specs.Explanations.{explanation}
+use Rattle.thp_folding.specs.declared.moved.Moved.{Moved}
+use Rattle.thp_journal_reader.specs.declared.illegal.Illegal.{Illegal}
+use Rattle.thp_journal_reader.specs.declared.journals.Journals.{Journals}
+use Rattle.thp_journal_reader.specs.Answers.{ReportsFirst}
+use Rattle.thp_journal_reader.specs.Journals.{journals_within}
+use Rattle.thp_cli.specs.declared.fault.RunFault.{RunFault}
+use Rattle.thp_cli.specs.declared.fault.RunFault.TheVariants.{Text, OutOfMemory, Read, Write}
+use Rattle.thp_cli.specs.declared.long_fault.LongRunFault.{LongRunFault}
+use Rattle.thp_cli.specs.Calls.{ReadsOn}
+use Rattle.thp_cli.specs.Devices.{IsFrontOf}
+use Rattle.thp_cli.specs.Outcomes.{Device, Source}
+use Rattle.thp_cli.specs.RunFaults.{seen_fault}
+use Rattle.thp_cli.specs.Verdicts.{verdict_text}
+use Rattle.thp_journal_tools.specs.declared.options.CheckOptions.{CheckOptions}
+use Rattle.thp_journal_tools.specs.declared.scripting.ScriptFinding.{ScriptFinding}
+
+-- ---- the script
+
+-- the bytes are of journals with this first illegal event
+pub record IsScripted (bytes : List ℕ) (illegal : Option Illegal) : Type 0 where
+  pub journals : Journals
+  pub spelled : journals_within max_counted bytes ≡ Ok journals
+  pub first : ReportsFirst journals.nodes illegal
+
+-- the writer took a text
+abbrev pub Grows : Option (List ℕ) → Option (List ℕ) → Type 0
+Grows old new = (text : List ℕ) × Appends old new text
+
+-- a device failed, or memory could not be allocated
+abbrev pub IsDeviceFault : Bool → Bool → RunFault → Type 0
+IsDeviceFault reader_failed writer_failed (Text line kind) = ⊥
+IsDeviceFault reader_failed writer_failed OutOfMemory = (reader_failed ≡ false) × (writer_failed ≡ false)
+IsDeviceFault reader_failed writer_failed Read = (reader_failed ≡ true) × (writer_failed ≡ false)
+IsDeviceFault reader_failed writer_failed Write = (reader_failed ≡ false) × (writer_failed ≡ true)
+
+-- the view that contracts have of the result: line numbers of any size
+abbrev pub script_end : Result ScriptFinding LongRunFault → Result ScriptFinding RunFault
+script_end (Ok found) = Ok found
+script_end (Err fault) = Err (seen_fault fault)
+
+-- the result for the bytes that could be read
+abbrev pub IsScriptEnd : Option (List ℕ) → Bool → Bool → Result ScriptFinding RunFault → Type 0
+IsScriptEnd known reader_failed writer_failed (Ok found) =
+    ((bytes : List ℕ) × IfSome known (IsFrontOf max_counted bytes) × IsScripted bytes found.illegal) × (reader_failed ≡ false) × (writer_failed ≡ false)
+IsScriptEnd known reader_failed writer_failed (Err (Text line kind)) =
+    ((bytes : List ℕ) × IfSome known (IsFrontOf max_counted bytes) × (journals_within max_counted bytes ≡ Err (line, kind))) × (reader_failed ≡ false) × (writer_failed ≡ false)
+IsScriptEnd known reader_failed writer_failed (Err fault) = IsDeviceFault reader_failed writer_failed fault
+
+-- how it ends: the writer took a text, and the result is right
+abbrev pub ScriptEnds : Option (List ℕ) → Option (List ℕ) → Option (List ℕ) → Bool → Bool → Result ScriptFinding RunFault → Type 0
+ScriptEnds known old new reader_failed writer_failed result = Grows old new × IsScriptEnd known reader_failed writer_failed result
+
+-- the script was written like this: with the first illegal event, or none
+pub record Scripts (input : Source) (output : Device) (result : Result ScriptFinding RunFault) : Type 0 where
+  pub ends : ScriptEnds input.bytes output.before output.after input.failed output.failed result
+  pub reads : ReadsOn max_counted input.failed input.called input.calls
+
+-- ---- standard error
+
+-- the verdict about an illegal journal, and the explanation if that is requested
+abbrev pub illegal_text : CheckOptions → Option Illegal → List ℕ
+illegal_text options None = []
+illegal_text options (Some i) = codes "thpcheck: " ++ verdict_text (Some i.line) ++ (if options.explain then explanation i.line i.event i.misfit else [])
+
+-- a line with a count, unless that is 0
+abbrev pub note : ℕ → List ℕ → List ℕ → List ℕ
+note n one many = if n == 0 then [] else codes "thpcheck: " ++ decimal n ++ codes " " ++ (if n == 1 then one else many)
+
+-- the verdict, and what the script does in another order than the journal
+unfoldable pub notes_text : CheckOptions → Option Illegal → Moved → List ℕ
+notes_text options illegal moved =
+    illegal_text options illegal
+    ++ note moved.batches (codes "batch moved after the one that was open\n") (codes "batches moved after the one that was open\n")
+    ++ note moved.calls (codes "call moved before a scan that it interrupted\n") (codes "calls moved before a scan that they interrupted\n")
+    ++ note moved.events (codes "take, try or put-back left to a scan\n") (codes "takes, tries and put-backs left to scans\n")
+    ++ note moved.left (codes "page put back at the end\n") (codes "pages put back at the end\n")
+
+-- the text, if there is one
+abbrev pub some_text : List ℕ → Option (List ℕ)
+some_text [] = None
+some_text (b ∷ bytes) = Some (b ∷ bytes)
+
+abbrev pub notes_of : CheckOptions → Option Illegal → Moved → Option (List ℕ)
+notes_of options illegal moved = some_text (notes_text options illegal moved)

@@ -1,0 +1,106 @@
+//! From the bytes of a journal of any length to the script that repeats it.
+ghost use Rattle.std.specs.Prelude.{◌≡◌, ◌++◌, [], ℕ, List, IfErr, IfOk, IfSome, false};
+ghost use Rattle.thp_script.specs.Limits.{max_counted};
+ghost use Rattle.thp_cli.specs.Calls.{ReadsOn};
+ghost use Rattle.thp_cli.specs.Devices.{IsFrontOf};
+ghost use Rattle.thp_cli.specs.RunFaults.{seen_fault};
+ghost use Rattle.thp_journal_reader.specs.Journals.{journals_within};
+ghost use Rattle.thp_journal_reader.specs.Parts.{told_with};
+ghost use Rattle.thp_journal_tools.specs.Scripting.{script_end, Grows, IsDeviceFault, ScriptEnds};
+
+use std::alloc::Global;
+use std::io::{Read, Write};
+use thp_check::Misfit;
+use thp_cli::{LongRunFault, Watched, write_all};
+use thp_folding::Moved;
+use thp_journal_reader::{Illegal, ScriptCheck};
+use thp_model::{Outcome, Refusal, What};
+use thp_script::MAX_COUNTED;
+
+/// The greatest number of bytes of one read.
+const PART: usize = 65_536;
+
+/// The result of writing a journal's script.
+#[derive(Drop)]
+pub struct ScriptFinding {
+    /// The first illegal event; `None` if the journal is legal.
+    pub illegal: Option<Illegal>,
+    /// What the script does in another order than the journal.
+    pub moved: Moved,
+}
+
+/// Writes the script that repeats the journal from the reader, up to the first illegal event. The journal can have any length: it
+/// is read in parts, and the script of each is written after it. If the journal has an error, the script up to it was written.
+pub fn write_script<R: Read, W: Write>(
+    alloc: Global,
+    reader: &mut Watched<R>,
+    writer: &mut Watched<W>,
+) -> Result<ScriptFinding, LongRunFault>
+    requires reader { reader.old.failed ≡ false }
+    requires writer { writer.old.failed ≡ false }
+    ensures ends { ScriptEnds (R.remaining reader.old.device) (W.contents writer.old.device) (W.contents writer.new.device) reader.new.failed writer.new.failed (script_end result) }
+    ensures reads { ReadsOn max_counted reader.new.failed reader.old.calls reader.new.calls }
+{
+    // the toolchain finds these types, which illegal events contain, only in functions that name them
+    let _in_illegal = (
+        What::Close,
+        Outcome::Stays,
+        Refusal::NoPage,
+        Misfit::BlockTaken,
+    );
+    let check = write_parts(alloc, reader, writer)?;
+    let moved = check.moved();
+    let illegal = check.finish()?;
+    writer.flush().ok_or(LongRunFault::Write)?;
+    Ok(ScriptFinding { illegal, moved })
+}
+
+/// Reads all of a reader's bytes in parts, and writes the script of each.
+fn write_parts<R: Read, W: Write>(
+    alloc: Global,
+    reader: &mut Watched<R>,
+    writer: &mut Watched<W>,
+) -> Result<ScriptCheck, LongRunFault>
+    requires reader { reader.old.failed ≡ false }
+    requires writer { writer.old.failed ≡ false }
+    ensures parts { IfOk result (λ check. (bytes : List ℕ) × IfSome (R.remaining reader.old.device) (IsFrontOf max_counted bytes) × (told_with check [] ≡ journals_within max_counted bytes)) }
+    ensures grows { Grows (W.contents writer.old.device) (W.contents writer.new.device) }
+    ensures flags { IfOk result (λ _. (reader.new.failed ≡ false) × (writer.new.failed ≡ false)) }
+    ensures fault { IfErr result (λ fault. IsDeviceFault reader.new.failed writer.new.failed (seen_fault fault)) }
+    ensures reads { ReadsOn max_counted reader.new.failed reader.old.calls reader.new.calls }
+{
+    let mut check = ScriptCheck::new(alloc);
+    let mut part = [0u8; PART];
+    let mut left = MAX_COUNTED;
+    loop {
+        let Some(count) = reader.read(&mut part) else {
+            return Err(LongRunFault::Read);
+        };
+        if count == 0 {
+            return Ok(check);
+        }
+        check = write_part(check, &part[..count], writer)?;
+        if count > left {
+            return Ok(check);
+        }
+        left -= count;
+    }
+}
+
+/// Reads a part of a journal, and writes the script of what was read.
+fn write_part<W: Write>(
+    check: ScriptCheck,
+    part: &[u8],
+    writer: &mut Watched<W>,
+) -> Result<ScriptCheck, LongRunFault>
+    requires { writer.old.failed ≡ false }
+    ensures read { IfOk result (λ new. (more : List ℕ) → told_with new more ≡ told_with check (part.now ++ more)) }
+    ensures grows { Grows (W.contents writer.old.device) (W.contents writer.new.device) }
+    ensures flag { IfOk result (λ _. writer.new.failed ≡ false) }
+    ensures fault { IfErr result (λ fault. IsDeviceFault false writer.new.failed (seen_fault fault)) }
+{
+    let mut check = check.read_part(part)?;
+    write_all(writer, check.script()).ok_or(LongRunFault::Write)?;
+    check.clear_script();
+    Ok(check)
+}

@@ -1,0 +1,191 @@
+"""The built `thpcheck --script` on random journals: what `thpsplit` does for the script is compared with the journal.
+
+    tests/repeats.py CHECKER PROGRAM [--cases N] [--seed S]
+
+The journals are those of the model in model.py. For one caller, and for callers whose batches are not open at once, the script must
+repeat the journal byte for byte, except for the callers' numbers. For others it must make the same calls. For an illegal journal it
+must be the script of the events before the illegal one.
+"""
+
+from __future__ import annotations
+
+import argparse
+import subprocess
+import sys
+from multiprocessing import Pool
+from pathlib import Path
+from random import Random
+from typing import Callable, Optional
+
+from model import Refused
+from random_texts import (
+    Script, changed_journal, joined, likely_words, operands, random_commands, random_shapes, script_of_many, script_of_one,
+)
+from script import Run, first_illegal
+from tally import Tally
+from texts import journal_fault
+
+SECONDS = 60
+CALLS = {"mapsub": "map", "unmapsub": "unmap"}
+"""Events of calls whose command has another word."""
+
+BATCH_EVENTS = ("taken", "split", "pinned", "used", "back", "dropped")
+BATCH_COMMANDS = ("scan", "take", "splitnext", "putback")
+CALLERS = (0, 1, 2, 63)
+
+
+def checked(checker: Path, words: list[str], journal: bytes) -> tuple[int, bytes, bytes]:
+    """What `thpcheck` does for a journal: its status, and both streams."""
+    done = subprocess.run([str(checker), *words], input=journal, capture_output=True, timeout=SECONDS, check=False)
+    return done.returncode, done.stdout, done.stderr
+
+
+def options_in(script: bytes) -> list[str]:
+    """The options in the last comment of a script."""
+    comments = [line for line in script.decode().split("\n") if line.startswith("# thpsplit ")]
+    return comments[-1].split()[2:]
+
+
+def repeated(program: Path, script: bytes) -> bytes:
+    """The journal of a script."""
+    command = [str(program), *options_in(script), "--report", "journal"]
+    return subprocess.run(command, input=script, capture_output=True, timeout=SECONDS, check=True).stdout
+
+
+def by_caller_0(journal: list[str]) -> bytes:
+    """The journal as that of caller 0."""
+    return joined([" ".join(("0", *line.split()[1:])) if line[0].isdigit() else line for line in journal])
+
+
+def calls_of(journal: list[str]) -> list[str]:
+    """The commands of the calls in a journal, without numbers of pages that are allocated."""
+    commands, node = [], ""
+    for line in journal[1:-1]:
+        words = line.split()
+        if words[0] == "node":
+            node = words[1]
+        elif words[1] not in BATCH_EVENTS:
+            count = {"alloc": 0, "close": 0, "mapsub": 3, "unmapsub": 3, "write": 3, "zero": 3}.get(words[1], 1)
+            commands.append(" ".join((CALLS.get(words[1], words[1]), node, *words[2:2 + count])))
+    return commands
+
+
+def calls_in(script: bytes) -> list[str]:
+    """The calls among the commands of a script."""
+    lines = script.decode().split("\n")
+    return [line for line in lines if line and line != "setup" and line[0] != "#" and line.split()[0] not in BATCH_COMMANDS]
+
+
+def repeats(checker: Path, program: Path, journal: list[str]) -> Optional[str]:
+    """What is wrong with the script of a journal that it must repeat."""
+    status, script, errors = checked(checker, ["--script"], joined(journal))
+    if (status, errors) != (0, b""):
+        return f"status {status}, {errors!r}"
+    return None if repeated(program, script) == by_caller_0(journal) else "another journal"
+
+
+def one_caller(chance: Random, checker: Path, program: Path) -> Optional[str]:
+    """A journal of caller 0."""
+    shapes = random_shapes(chance, chance.choice((1, 1, 2, 3)))
+    script = Script(shapes)
+    script.section(0, random_commands(chance, script.run, list(range(len(shapes)))))
+    return repeats(checker, program, script.run.journal())
+
+
+def callers_apart(chance: Random, checker: Path, program: Path) -> Optional[str]:
+    """A journal of callers that have no batch open at the same time."""
+    script = chance.choice((script_of_one, script_of_many))(chance)
+    return repeats(checker, program, script.run.journal())
+
+
+def mixed_journal(chance: Random) -> list[str]:
+    """A journal of callers whose commands alternate, so that their batches are open at once."""
+    run = Run(random_shapes(chance, chance.choice((1, 1, 2))))
+    batches: dict[int, dict[int, list[int]]] = {caller: {} for caller in CALLERS}
+    for _ in range(chance.randrange(120)):
+        caller, number = chance.choice(CALLERS), chance.randrange(len(run.nodes))
+        run.batches = batches[caller]
+        word = chance.choice(likely_words(run, number))
+        try:
+            run.command(caller, word, number, [int(text) for text in operands(chance, word, run.nodes[number])])
+        except Refused:
+            pass
+    for caller in CALLERS if chance.random() < 0.8 else ():
+        run.batches = batches[caller]
+        run.end(caller)
+    return run.journal()
+
+
+def callers_mixed(chance: Random, checker: Path, program: Path) -> Optional[str]:
+    """A journal of callers whose batches are open at once."""
+    journal = mixed_journal(chance)
+    status, script, errors = checked(checker, ["--script"], joined(journal))
+    if status != 0:
+        return f"status {status}, {errors!r}"
+    if calls_in(script) != calls_of(journal):
+        return "other calls"
+    again = repeated(program, script)
+    if not errors and again != by_caller_0(journal):
+        return "another journal, without a word about it"
+    if checked(checker, [], again) != (0, b"legal\n", b""):
+        return "an illegal journal"
+    return None
+
+
+def illegal(chance: Random, checker: Path, program: Path) -> Optional[str]:
+    """A journal with a change, which is mostly illegal."""
+    journal = changed_journal(chance, mixed_journal(chance))
+    if journal_fault(joined(journal)) is not None:
+        return None
+    line = first_illegal(journal)
+    status, script, errors = checked(checker, ["--script"], joined(journal))
+    if line is None:
+        return None if status == 0 else f"status {status}, {errors!r}"
+    if status != 1 or not errors.startswith(f"thpcheck: illegal line {line}\n".encode()):
+        return f"status {status}, {errors!r}"
+    if script != checked(checker, ["--script"], joined([*journal[:line - 1], "end"]))[1]:
+        return "not the script of the events before it"
+    explained = checked(checker, ["--script", "--explain"], joined(journal))[2]
+    told = checked(checker, ["--explain"], joined(journal))[2]
+    return None if told in explained else "not explained"
+
+
+KINDS: dict[str, Callable[[Random, Path, Path], Optional[str]]] = {
+    "one caller": one_caller,
+    "callers apart": callers_apart,
+    "callers mixed": callers_mixed,
+    "illegal": illegal,
+}
+
+
+def tried(case: tuple[int, int, Path, Path]) -> tuple[str, Optional[str]]:
+    """The kind of a case, and what is wrong in it."""
+    seed, place, checker, program = case
+    kind = list(KINDS)[place % len(KINDS)]
+    try:
+        return kind, KINDS[kind](Random(f"repeats {seed} {place}"), checker, program)
+    except subprocess.SubprocessError as error:
+        return kind, str(error)
+
+
+def main() -> None:
+    """Tests the programs of the command line."""
+    parser = argparse.ArgumentParser(description=__doc__, formatter_class=argparse.RawDescriptionHelpFormatter)
+    parser.add_argument("checker", type=Path)
+    parser.add_argument("program", type=Path)
+    parser.add_argument("--cases", type=int, default=400)
+    parser.add_argument("--seed", type=int, default=1)
+    words = parser.parse_args()
+    for path in (words.checker, words.program):
+        if not path.is_file():
+            sys.exit(f"{path} is no program")
+    tally = Tally(is_brief=True)
+    cases = [(words.seed, place, words.checker.resolve(), words.program.resolve()) for place in range(words.cases)]
+    with Pool() as pool:
+        for place, (kind, wrong) in enumerate(pool.imap(tried, cases, 20)):
+            tally.report(f"{kind}, case {place} of seed {words.seed}", wrong)
+    tally.end()
+
+
+if __name__ == "__main__":
+    main()
