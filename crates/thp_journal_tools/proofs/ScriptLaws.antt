@@ -1,5 +1,5 @@
 -- How the writing of a script ends, from what its parts did.
-use Rattle.std.proofs.Common.{◌≡◌, ◌∙◌, ◌++◌, ℕ, Bool, true, false, List, [], Option, Some, None, Ok, Err, append_assoc, ap, refl, subst, sym}
+use Rattle.std.proofs.Common.{◌≡◌, ◌∙◌, ◌++◌, ℕ, Bool, true, false, List, [], Option, Some, None, Ok, Err, append_assoc, refl, subst, sym}
 use Rattle.std.specs.Prelude.{IfErr, IfNone, IfSome, IsErrAnd, Result, ok_or}
 use Rattle.std.specs.Io.KnownBytes.{Appends, Keeps}
 use Rattle.std.proofs.lemmas.List.{append-nil}
@@ -9,7 +9,7 @@ use Rattle.thp_cli.specs.declared.long_fault.LongRunFault.{LongRunFault}
 use Rattle.thp_cli.specs.declared.long_fault.LongRunFault.TheVariants as long
 use Rattle.thp_cli.specs.Devices.{IsFrontOf, WritesFront}
 use Rattle.thp_cli.specs.RunFaults.{seen_fault}
-use Rattle.thp_journal_tools.specs.Scripting.{script_end, Grows, IsDeviceFault, IsScriptEnd, IsScripted}
+use Rattle.thp_journal_tools.specs.Scripting.{script_end, Grows, IsDeviceFault, IsScriptEnd}
 use Rattle.thp_journal_tools.specs.declared.scripting.ScriptFinding.{ScriptFinding}
 use Rattle.thp_script.specs.Limits.{max_counted}
 use Rattle.thp_script.specs.declared.fault.TextKind.{TextKind}

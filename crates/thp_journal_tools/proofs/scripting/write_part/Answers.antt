@@ -1,4 +1,4 @@
-use Rattle.std.proofs.Common.{◌≡◌, ◌∙◌, ◌++◌, ℕ, List, refl, subst, sym, false}
+use Rattle.std.proofs.Common.{◌≡◌, ◌∙◌, ◌++◌, refl, subst, sym, false}
 use Rattle.thp_cli.specs.declared.long_fault.LongRunFault.TheVariants.{OutOfMemory}
 use Rattle.thp_journal_reader.specs.Parts.{told_with, ReadSoFar}
 use Rattle.thp_journal_tools.proofs.ScriptLaws.{cut_end, err_is, grows_by, grows_none, told_from}

@@ -1,6 +1,4 @@
-use Rattle.std.proofs.Common.{◌≡◌, ◌∙◌, refl, rules, subst, sym, false}
-use Rattle.thp_cli.specs.RunFaults.{seen_fault}
-use Rattle.thp_journal_tools.specs.Scripting.{IsDeviceFault}
+use Rattle.std.proofs.Common.{◌≡◌, ◌∙◌, rules, sym, false}
 use Rattle.thp_journal_tools.proofs.ScriptLaws.{cut_end, end_at_fault, end_at_text, err_is, grows_kept, grows_more, is_err, told_from}
 use Rattle.thp_journal_tools.proofs.scripting.write_script.Goals as goal
 
