@@ -102,6 +102,7 @@ impl FollowsNode for Replay {
         self.least_free_block()
     }
 
+    #[inline(always)]
     fn follow(self, event: &Event) -> Result<Replay, Stopped<()>> {
         match self.admit(event) {
             Ok(replay) => Ok(replay),
