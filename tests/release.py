@@ -32,9 +32,6 @@ NEEDED = ("git", "cc", "make", "ar", "objcopy", "readelf", "tar")
 LINE = "logic=proved functions=7 sum=00 native=nat,char,string logic-built=trusted libraries-built=trusted statements=trusted"
 """A verdict line."""
 
-APART = ("0.1.0", "0.3.0")
-"""The only numbers of programs and library that may differ: a change of the first needs proofs."""
-
 PROTECTED = ["-fPIE", "-pie", "-Wl,-z,relro", "-Wl,-z,now", "-Wl,-z,noexecstack"]
 HELD = (
     "bin/thpsplit", "bin/thpcheck", "bin/thpdraw", "bin/thpreplay", "bin/thprecord", "bin/thpvm", "bin/thpwhatif", "lib/libthp.a",
@@ -146,8 +143,6 @@ def versions_differ() -> str | None:
     """Sources, manual pages, library and cargo crate have one number. tests/package.py compares it with the packages."""
     wrong = version.differing(version.PROGRAMS) + version.differing(version.LIBRARY)
     programs, library = (next(iter(version.numbers(it).values())) for it in (version.PROGRAMS, version.LIBRARY))
-    if (programs, library) == APART and not wrong:
-        raise Missing(f"the programs have {programs}, the library {library}: release/version.py NUMBER makes them one")
     wrong += [f"the programs have {programs}, the library {library}"] if programs != library else []
     return "; ".join(wrong) or None
 

@@ -4,7 +4,7 @@ from __future__ import annotations
 
 import argparse
 
-VERSION = "0.1.0"
+VERSION = "0.3.0"
 
 
 def add_version(words: argparse.ArgumentParser, name: str) -> None:

@@ -1,4 +1,4 @@
 //! The version of the programs.
 
 /// The version in the output of `--version`, after a program's name.
-pub const VERSION: &str = "0.1.0";
+pub const VERSION: &str = "0.3.0";
