@@ -31,7 +31,7 @@ TOOLS = {"thpreplay": "linux/thpreplay", "thprecord": "linux/thprecord", "thpvm"
          "thpwhatif": "linux/whatif/thpwhatif"}
 """The tools for the running kernel, and their files in a checkout."""
 
-COMMANDS = ("now", "snapshot", "what-if", "target", "watch", "verify")
+COMMANDS = ("now", "snapshot", "what-if", "target", "watch", "verify", "policies")
 """The commands of `thpwhatif`."""
 
 HELPERS = ("btf.so", "known", "mapper", "pages.so", "workload")
