@@ -29,8 +29,6 @@ class ContentLooks:
         except Unavailable:
             pass  # contents are read through the processes
         self._due = time.monotonic() + every
-        self.count = 0
-        self.seconds = 0.0
 
     def is_due(self) -> bool:
         """Returns whether it is time for the next look."""
@@ -38,10 +36,7 @@ class ContentLooks:
 
     def look(self) -> List[List[bytes]]:
         """Returns for each group the records of what its pages contain."""
-        began = time.monotonic()
         out = [[pack_record(record) for record in self._look_at(path)] for path in self._paths]
-        self.count += 1
-        self.seconds += time.monotonic() - began
         self._due = time.monotonic() + self._every
         return out
 

@@ -30,7 +30,7 @@ PLAIN = str(HERE / "plain_program.py")
 
 def load(name: str) -> Tuple[Script, List[Observation]]:
     script = read_script(str(HERE / f"stored/{name}.script"))
-    return script, [parse_observation(line) for line in (HERE / f"stored/{name}.looks").read_text().splitlines()]
+    return script, [parse_observation(line) for line in (HERE / f"stored/{name}.looks").read_text().split("\n")[:-1]]
 
 
 def replay(script: Script, looks: List[Observation], program: str = PLAIN) -> str:
@@ -269,7 +269,7 @@ class GeneratorTest(unittest.TestCase):
         self.assertGreater(done, 5 * refused)
 
     def test_every_command_is_drawn(self) -> None:
-        drawn = {line.split()[0] for script in scripts(60, 1, Shape()) for line in script.text.splitlines()[2:]}
+        drawn = {line.split()[0] for script in scripts(60, 1, Shape()) for line in script.text.split("\n")[2:-1]}
         self.assertEqual(drawn, {"alloc", "mapwhole", "unmapwhole", "map", "unmap", "splitpmd", "pin", "unpin", "write",
                                  "zero", "scan", "count", "take", "splitnext", "putback"})
 

@@ -13,7 +13,7 @@
  * don't fit the journal.
  *
  * Pages can differ from the recorded ones in one way: they are split earlier, later or never. A page that is split here alone takes PTE
- * calls in place of PMD calls, and no pins and contents. One that was split there alone gets its PMD mappings split where the journal
+ * calls instead of PMD calls, and no pins and contents. One that was split there alone gets its PMD mappings split where the journal
  * unmaps parts of it. A range that is refused is done subpage by subpage, where each can be. `changed` counts such calls.
  */
 #define _POSIX_C_SOURCE 200809L
@@ -25,7 +25,7 @@
 #include <string.h>
 #include <thp.h>
 
-enum { LINE = 8192, WORDS = 5, COLUMNS = 512 };
+enum { LINE = 8192, COLUMNS = 512 };
 
 /* The numbers of a node. Frames are base pages. */
 struct sums {

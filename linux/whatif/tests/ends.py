@@ -71,7 +71,7 @@ def look_at(start: int) -> List[object]:
 
 def counters() -> Dict[str, int]:
     """Splits and migrations of the whole machine."""
-    lines = dict(line.split() for line in read("/proc/vmstat").splitlines())
+    lines = dict(line.split() for line in read("/proc/vmstat").split("\n")[:-1])
     return {name: int(lines.get(name, 0)) for name in COUNTERS}
 
 
