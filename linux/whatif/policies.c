@@ -83,6 +83,7 @@ struct run {
     struct columns columns;
 };
 
+static const double LATEST = 1e10; /* seconds */
 static uint64_t line_number;
 
 static void fail(int status, const char *what) {
@@ -232,14 +233,21 @@ static bool is_due(struct run *run) {
     return !strcmp(policy->when, "held") && (double)stats_of(run).frames_held >= policy->amount;
 }
 
-/* Lets time pass until an event, with the scans that come meanwhile. */
+/* Lets time pass until an event, with the scans that come meanwhile. With an empty queue they do nothing. */
 static void pass_time(struct run *run, double until) {
-    if (!strcmp(run->policy->when, "seconds"))
-        for (; run->last_scan + run->policy->amount <= until; run->last_scan += run->policy->amount) {
-            weigh(run, run->last_scan + run->policy->amount - run->now);
-            run->now = run->last_scan + run->policy->amount;
-            scan_by_policy(run);
+    double every = run->policy->amount;
+    while (!strcmp(run->policy->when, "seconds") && run->last_scan + every <= until) {
+        uint32_t queued;
+        demand(thp_node_queue_length(&run->node, &queued));
+        if (!queued) {
+            run->last_scan += every * (double)(uint64_t)((until - run->last_scan) / every);
+            break;
         }
+        run->last_scan += every;
+        weigh(run, run->last_scan - run->now);
+        run->now = run->last_scan;
+        scan_by_policy(run);
+    }
     weigh(run, until - run->now);
     run->now = until;
 }
@@ -411,6 +419,7 @@ static struct event event_of(const char *text) {
 static double time_of(struct run *run, FILE *times) {
     double at = run->is_timed ? run->now + 1 : 0;
     if (times && fscanf(times, "%lf", &at) != 1) fail(2, "there is no time of this event");
+    if (!(at >= 0 && at <= LATEST)) fail(2, "its time is no number of seconds from 0 to 10^10");
     if (!run->is_timed) run->now = run->last_scan = at;
     run->is_timed = true;
     if (at < run->now) fail(2, "its time is before that of the event before");

@@ -148,9 +148,18 @@ class Runs(unittest.TestCase):
         self.assertEqual((row["scans_done"], row["split"]), (2, 2))
         self.assertGreater(row["mebibyte_hours"], 0)
 
+    def test_a_long_pause(self) -> None:
+        times = "".join(f"{at}\n" for at in (0, 1, 2, 3, 4, 5, 6, 7, 8, 10 ** 10))
+        row = self.rows(TWO, "--scan", "seconds:0.001", "--take", "all", "--times", self.write(times, "times"))[0]
+        self.assertEqual((row["scans_done"], row["split"]), (2, 2))
+
     def test_times_that_do_not_fit(self) -> None:
         ten = [str(number) for number in range(10)]
-        for times, told in ((ten[:9], "no time of this event"), (ten + ["10"], "more times"), (["5", *ten[:9]], "before that")):
+        cases = (
+            (ten[:9], "no time of this event"), (ten + ["10"], "more times"), (["5", *ten[:9]], "before that"),
+            (["inf", *ten[1:]], "no number of seconds"), (["nan", *ten[1:]], "no number of seconds"), (["-1", *ten[1:]], "no number"),
+        )
+        for times, told in cases:
             done = run("policies", self.write(TWO), "--times", self.write("\n".join(times) + "\n", "times"))
             self.assertEqual((done.returncode, done.stdout), (2, ""))
             self.assertIn(told, done.stderr)
