@@ -25,8 +25,8 @@
 # make believe: counts the definitions and lines below the contracts that docs/PROVED.md names
 # make linux:   random scripts on the running kernel and on the program: CASES=n SEED=s PROGRAM=path (needs root; status 77
 #               if this machine can compare nothing)
-# make linux-vm: the same on Debian's kernels in virtual machines, with the plain reading of the model: KERNELS="SUITE:PACKAGE .."
-#               CASES=n SEED=s (needs qemu-system-x86; hours without KVM)
+# make linux-vm: the same on Debian's kernels in virtual machines, recordings and known differences: KERNELS="SUITE:PACKAGE .."
+#               CASES=n SEED=s (needs qemu-system-x86; without KVM an hour, or hours with the plain reading of the model)
 # make root-tests: attacks on the tools that run as root, and what these leave after any end (needs root; about 10 minutes)
 # make bench:   times on large scripts, beside plain Rust, and of single calls (docs/PERFORMANCE.md has the figures)
 # make help:    these lines

@@ -11,8 +11,9 @@
  * aarch64 it runs on every processor.
  *
  * A new node takes about 100 KB, and 1.2 KB for each block. It stores every event of its journal until it is destroyed: 96 bytes
- * each, in memory that doubles when it is full. thp_node_reserve gets this memory in advance. A program that runs for long
- * destroys its node from time to time and creates a new one.
+ * each, in memory that doubles when it is full. thp_node_reserve gets this memory in advance. A program that runs for long and
+ * does not need the journal creates its node by thp_node_create_counting or thp_cell_create_counting: such a node only counts its
+ * events, and its memory does not grow.
  *
  * The library checks
  *  - null pointers (THP_NULL);
@@ -110,6 +111,8 @@ typedef enum thp_code {
     /* why the library does not call a check */
     THP_FINISHED = 32,  /**< the check is finished and reads no more text */
     THP_NO_REASON = 33, /**< the check found no illegal event, or is not finished */
+    /* why there is no journal */
+    THP_NO_JOURNAL = 34, /**< the node only counts its events */
     THP_NO_CODE = 0x7fffffff /**< never returned: makes the type hold every 31-bit number, including later codes */
 } thp_code;
 
@@ -304,11 +307,17 @@ thp_code thp_check_reason(thp_check *check, void *buffer, size_t capacity, size_
  * @param[out] node an empty handle, which the call fills
  * @param blocks the greatest number of live pages, 1 to 4,096
  * @param order the order of the pages, 2 to 9: each page has 2^order subpages
- * @param underused the threshold, below 2^order: a page with more zero-filled subpages is worth a split; or THP_UNDERUSED_OFF.
- *        Any number of 512 or more means THP_UNDERUSED_OFF
+ * @param underused the threshold, below 2^order: a page with more zero-filled subpages is worth a split; or THP_UNDERUSED_OFF
  * @return THP_OK, THP_IN_USE, THP_BAD_SIZE, THP_OUT_OF_MEMORY, THP_NULL
  */
 thp_code thp_node_create(thp_node *node, uint32_t blocks, uint32_t order, uint32_t underused);
+
+/**
+ * @brief Creates a node that only counts its events, as thp_node_create creates one that stores them. Its memory does not grow.
+ * It has no journal, from which the order of the queue is read too: thp_node_journal and thp_node_queue return THP_NO_JOURNAL. All
+ * other calls are the same.
+ */
+thp_code thp_node_create_counting(thp_node *node, uint32_t blocks, uint32_t order, uint32_t underused);
 
 /** @brief Frees the node and all its memory, and empties the handle. @return THP_OK, THP_EMPTY, THP_NULL */
 thp_code thp_node_destroy(thp_node *node);
@@ -416,7 +425,7 @@ thp_code thp_node_queue_length(const thp_node *node, uint32_t *pages);
  * @param[out] pages receives the pages; may be null if room is 0
  * @param room the number of pages that the array holds
  * @param[out] count the number of queued pages, which can be greater than room
- * @return THP_OK, THP_EMPTY, THP_NULL
+ * @return THP_OK, THP_EMPTY, THP_NO_JOURNAL, THP_NULL
  */
 thp_code thp_node_queue(const thp_node *node, uint64_t *pages, size_t room, uint32_t *count);
 /**
@@ -439,7 +448,7 @@ thp_code thp_node_stats(const thp_node *node, thp_stats *stats);
  * @param[out] buffer receives the text if it fits; may be null if capacity is 0
  * @param capacity the size of the buffer in bytes; 0 to find out the required size
  * @param[out] size the length of the text in bytes, with THP_OK and THP_TOO_SMALL
- * @return THP_OK, THP_EMPTY, THP_TOO_SMALL, THP_OUT_OF_MEMORY, THP_NULL
+ * @return THP_OK, THP_EMPTY, THP_NO_JOURNAL, THP_TOO_SMALL, THP_OUT_OF_MEMORY, THP_NULL
  */
 thp_code thp_node_journal(const thp_node *node, void *buffer, size_t capacity, size_t *size);
 /** @} */
@@ -464,6 +473,8 @@ thp_code thp_node_journal(const thp_node *node, void *buffer, size_t capacity, s
  * @return THP_OK, THP_IN_USE, THP_BAD_SIZE, THP_OUT_OF_MEMORY, THP_NULL
  */
 thp_code thp_cell_create(thp_pass *pass, uint32_t blocks, uint32_t order, uint32_t underused, uint32_t callers);
+/** @brief Creates a cell of a new node that only counts its events, as thp_cell_create creates one of a node that stores them. */
+thp_code thp_cell_create_counting(thp_pass *pass, uint32_t blocks, uint32_t order, uint32_t underused, uint32_t callers);
 /**
  * @brief Dismantles the cell and fills a node's handle with its node. The node's journal is the one legal history of everything
  * the passes did, and no caller has an open batch on it. The pass must have all callers, that is, all passes must be joined and

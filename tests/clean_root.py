@@ -61,6 +61,13 @@ endforeach()
 """
 """A project that links the first demo with either library."""
 
+RUST = """room=$(mktemp -d); trap 'rm -rf "$room"' EXIT; mkdir "$room/src"
+sed -n '/^```rust$/,/^```$/{/^```/d;p}' rust/README.md > "$room/src/main.rs"
+printf '%s\\n' '[package]' 'name = "use"' 'version = "0.0.0"' 'edition = "2021"' '[dependencies]' \\
+    "leversorrel = { path = \\"$PWD/rust\\" }" > "$room/Cargo.toml"
+PATH=/mnt/bin:$PATH CARGO_HOME=$room/home cargo run --offline --quiet --manifest-path "$room/Cargo.toml\""""
+"""A script that builds the program of the crate's README with the crate and the library of the archive, and runs it."""
+
 NOBODY = "65534:65534"
 
 
@@ -87,14 +94,16 @@ class Root:
             raise Missing(f"no Debian root: {told[-1] if told else f'status {done.returncode}'}")
         self.path.chmod(0o755)
 
-    def run(self, script: str, user: str = NOBODY) -> subprocess.CompletedProcess[str]:
-        """Runs a shell script in the unpacked archive, as a user without rights."""
+    def run(self, script: str, user: str = NOBODY, lent: str | None = None) -> subprocess.CompletedProcess[str]:
+        """Runs a shell script in the unpacked archive, as a user without rights; meanwhile a lent folder is at /mnt."""
         words = ["chroot", f"--userspec={user}", str(self.path), "/bin/sh", "-ec", f"cd /opt/leversorrel-*/ 2> /dev/null || cd /\n{script}"]
-        return called(words)
+        mounts = 'mount --bind "$0" "$1/mnt"; mount -t proc proc "$1/proc"; shift; exec "$@"'
+        mounted = ["sh", "-ec", mounts, lent, str(self.path)] if lent else []
+        return called([*mounted, *words])
 
-    def differs(self, script: str, wanted: str | None = None, user: str = NOBODY) -> str | None:
+    def differs(self, script: str, wanted: str | None = None, user: str = NOBODY, lent: str | None = None) -> str | None:
         """What is wrong when such a script must end well, with this output if one is given, or None."""
-        done = self.run(script, user)
+        done = self.run(script, user, lent)
         if done.returncode == 0 and wanted in (None, done.stdout):
             return None
         return f"status {done.returncode}: {(done.stdout + done.stderr).strip()[-400:]}"
@@ -164,6 +173,21 @@ class Root:
             cmake -S "$room" -B "$room/out" -DCMAKE_PREFIX_PATH=$PWD > "$room/log" || {{ cat "$room/log"; exit 1; }}
             cmake --build "$room/out" >> "$room/log" || {{ cat "$room/log"; exit 1; }}
             "$room/out/by_thp"; "$room/out/by_static\"""", 2 * LINKED)
+
+    def builds_by_cargo(self) -> str | None:
+        """A program in Rust is built by the cargo of this machine, and its assertions hold."""
+        if shutil.which("rustc") is None:
+            raise Missing("no cargo here")
+        done = subprocess.run(["rustc", "--print", "sysroot"], capture_output=True, text=True, check=True)
+        return self.differs(RUST, lent=done.stdout.strip())
+
+    def whatif_looks(self) -> str | None:
+        """As root, thpwhatif prints its table about the running system."""
+        done = self.run("mount -t proc proc /proc; mount -t sysfs sysfs /sys; bin/thpwhatif now --all", "0:0")
+        if done.returncode == SKIPPED:
+            raise Missing(done.stderr.strip()[-200:])
+        is_table = done.returncode == 0 and "threshold  pages split" in done.stdout
+        return None if is_table else f"status {done.returncode}: {(done.stdout + done.stderr).strip()[-400:]}"
 
     def files(self) -> set[str]:
         """The files of the root, except those that dpkg writes for itself."""
@@ -235,8 +259,10 @@ def try_all(tally: Tally, root: Root, folder: Path, suite: str) -> None:
     else:
         tally.run(f"{suite}: the first run", root.first_run)
         tally.run(f"{suite}: programs, manual pages, completions", root.programs_run)
+        tally.run(f"{suite}: thpwhatif now --all", root.whatif_looks)
     tally.run(f"{suite}: a program in C by pkg-config", root.links_by_pkg_config)
     tally.run(f"{suite}: a program in C by CMake", root.links_by_cmake)
+    tally.run(f"{suite}: a program in Rust by cargo", root.builds_by_cargo)
     if not packages:
         tally.skip(f"{suite}: packages", f"none in {folder}: `make deb` makes them")
     elif is_old:

@@ -8,13 +8,14 @@ elements and letters, and name each illegal event; those in docs/pictures are co
 
 from __future__ import annotations
 
+import math
 import os
 import re
 import sys
 import tempfile
 from dataclasses import dataclass
 from functools import partial
-from itertools import groupby
+from itertools import combinations, groupby
 from pathlib import Path
 from typing import Callable, Iterator, Optional
 from xml.etree import ElementTree
@@ -67,11 +68,47 @@ def long_table() -> Ended:
 
 
 SVG = "{http://www.w3.org/2000/svg}"
-ELEMENTS = {f"{SVG}{name}" for name in ("svg", "style", "g", "rect", "path", "text", "title")}
+ELEMENTS = {f"{SVG}{name}" for name in ("svg", "style", "g", "rect", "path", "text", "title", "desc")}
 """The elements of pictures: nothing that runs, loads or links."""
 
 WIDE = 7200
 """The width of a picture, in its own units."""
+
+
+LEAST_CONTRAST, LEAST_STEP = 3.0, 1.3
+"""The least contrast of a state's colour with the ground, and with that of each other state, which is a difference in lightness."""
+
+
+def luminance(colour: str) -> float:
+    """The relative luminance of a colour, as WCAG 2 defines it."""
+    parts = [int(colour[at : at + 2], 16) / 255 for at in (1, 3, 5)]
+    red, green, blue = (part / 12.92 if part <= 0.04045 else math.pow((part + 0.055) / 1.055, 2.4) for part in parts)
+    return 0.2126 * red + 0.7152 * green + 0.0722 * blue
+
+
+def contrast(one: str, other: str) -> float:
+    """The contrast of two colours, from 1 to 21."""
+    low, high = sorted((luminance(one), luminance(other)))
+    return (high + 0.05) / (low + 0.05)
+
+
+def indistinct(style: str) -> list[str]:
+    """The colours of states that differ too little in lightness from each other, or from the ground, on a light and a dark one."""
+    wrong = []
+    for rules in style.split("@media"):
+        states, ground = re.findall(r"\.(s\d)\{color:(#\w{6})\}", rules), re.findall(r"\.bg\{fill:(#\w{6})\}", rules)[0]
+        wrong += [] if len(states) == 5 else [f"{len(states)} states"]
+        wrong += [f"{name} on {ground}" for name, colour in states if contrast(colour, ground) < LEAST_CONTRAST]
+        pairs = [(one[0], other[0]) for one, other in combinations(states, 2) if contrast(one[1], other[1]) < LEAST_STEP]
+        wrong += [f"{one} and {other} on {ground}" for one, other in pairs]
+    return wrong
+
+
+def described(root: ElementTree.Element) -> bool:
+    """Whether a picture is an image whose name and description are its first elements."""
+    first = [(it.tag.removeprefix(SVG), it.get("id"), bool(it.text)) for it in root[:2]]
+    own = (root.get("role"), root.get("aria-labelledby"))
+    return first == [("title", "title", True), ("desc", "desc", True)] and own == ("img", "title desc")
 
 
 def shortened(event: str) -> str:
@@ -133,6 +170,9 @@ class Picture:
         left, top, wide, _ = map(int, root.get("viewBox", "0 0 0 0").split())
         if (root.tag, left, top, wide) != (f"{SVG}svg", 0, 0, WIDE):
             return f"it begins with {root.tag} and {root.get('viewBox')}"
+        unclear = indistinct(root.findtext(f"{SVG}style", "")) + ([] if described(root) else ["it has no name or description"])
+        if unclear:
+            return f"it isn't clear: {', '.join(unclear)}"
         texts = " ".join(it.text or "" for it in root.iter(f"{SVG}text"))
         nodes = drawn_nodes(self.text.decode().split("\n")[:-1])
         found = [it.get("d") for it in root.iter(f"{SVG}path") if it.get("class", "").startswith("bar ") and it.get("d")]

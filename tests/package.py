@@ -236,11 +236,16 @@ def proofs_differ(packages: list[Path], folder: Path) -> Optional[str]:
     return "; ".join(wrong) or None
 
 
+UNAVOIDED = "debug-file-with-no-debug-symbols"
+"""What lintian may report: the toolchain gives the programs symbols, and no other debug information."""
+
+
 def lintian(packages: list[Path]) -> Optional[str]:
-    """The errors that lintian finds, or None."""
+    """The errors and warnings of lintian, or None."""
     if shutil.which("lintian") is None:
         raise Missing("no lintian")
-    done = subprocess.run(["lintian", "--fail-on", "error", *packages], capture_output=True, text=True)
+    command: list[str | Path] = ["lintian", "--fail-on", "error,warning", "--suppress-tags", UNAVOIDED, *packages]
+    done = subprocess.run(command, capture_output=True, text=True)
     return None if done.returncode == 0 else done.stdout.strip()
 
 

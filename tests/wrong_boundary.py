@@ -3,7 +3,8 @@
     python3 tests/wrong_boundary.py ARCHIVE
 
 ARCHIVE is the result of `rt lib` for crates/thp_c. No proof sees these bodies. They concern the readers, whose results no later call
-shows. In C the tests are c/tests/calls.c and passes.c; in Rust those of the crate, if there is cargo.
+shows, and which create makes which kind of node. In C the tests are c/tests/calls.c and passes.c; in Rust those of the crate, if there
+is cargo.
 """
 
 from __future__ import annotations
@@ -58,7 +59,17 @@ PAGE, MAPCOUNT = "return (thp_code)thp_c_node_page(&copy, page, state);", "retur
 QUEUE = "return (thp_code)thp_c_node_queue(&copy, pages != NULL ? pages : &no_pages, room, count);"
 CALLERS = "return (thp_code)thp_c_pass_callers(&copy, first, end);"
 
+COUNTING_NODE, COUNTING_CELL = "thp_c_node_create_counting", "thp_c_cell_create_counting"
+
 WRONG = (
+    # a node that should only count its events stores them, or the other way about
+    Wrong(C, "thp_node_create_counting", COUNTING_NODE, "thp_c_node_create"),
+    Wrong(C, "thp_cell_create_counting", COUNTING_CELL, "thp_c_cell_create"),
+    Wrong(C, "thp_node_create", "thp_c_node_create", COUNTING_NODE),
+    Wrong(C, "thp_cell_create", "thp_c_cell_create", COUNTING_CELL),
+    Wrong(C, "thp_node_create_counting", "blocks, order, underused);", "blocks, order, THP_UNDERUSED_OFF);"),
+    Wrong(NODE, "counting", "thp_node_create_counting", "thp_node_create"),
+    Wrong(PASS, "of_new_counting_cell", "thp_cell_create_counting", "thp_cell_create"),
     # the call is made for something else
     Wrong(C, "thp_node_page", "page, state", "page + 1, state"),
     Wrong(C, "thp_node_page", "page, state", "(uint32_t)page, state"),

@@ -26,7 +26,7 @@ static uint64_t queued_page(thp_node *node, uint32_t caller) {
 
 static void words(void) {
     WANT(strcmp(thp_version(), THP_VERSION) == 0);
-    for (int code = THP_OK; code <= THP_NO_REASON; code++) {
+    for (int code = THP_OK; code <= THP_NO_JOURNAL; code++) {
         WANT(strcmp(thp_strerror((thp_code)code), thp_strerror((thp_code)99)) != 0);
         for (int other = THP_OK; other < code; other++) {
             WANT(strcmp(thp_strerror((thp_code)code), thp_strerror((thp_code)other)) != 0);
@@ -41,7 +41,7 @@ static void numbers(void) {
         THP_NO_BLOCK, THP_HAS_BATCH, THP_OUT_OF_MEMORY, THP_EMPTY, THP_IN_USE, THP_BAD_CALLER, THP_BAD_SIZE, THP_BAD_COUNT,
         THP_NO_BATCH, THP_BATCH_OPEN, THP_TOO_SMALL, THP_NULL, THP_ILLEGAL, THP_TEXT_TOO_LONG, THP_TEXT_BAD_BYTE, THP_TEXT_CUT,
         THP_TEXT_BAD_WORD, THP_TEXT_BAD_COUNT, THP_TEXT_BAD_NUMBER, THP_TEXT_BAD_SET, THP_TEXT_BAD_ORDER, THP_BUSY, THP_BAD_PASS,
-        THP_FINISHED, THP_NO_REASON};
+        THP_FINISHED, THP_NO_REASON, THP_NO_JOURNAL};
     for (int at = 0; at < (int)(sizeof codes / sizeof *codes); at++) WANT((int)codes[at] == at);
 }
 
@@ -53,6 +53,8 @@ static void made_and_given_back(void) {
     ANSWERS(thp_node_create(&node, 1, 1, THP_UNDERUSED_OFF), THP_BAD_SIZE);
     ANSWERS(thp_node_create(&node, 1, 10, THP_UNDERUSED_OFF), THP_BAD_SIZE);
     ANSWERS(thp_node_create(&node, 1, 2, 4), THP_BAD_SIZE);
+    ANSWERS(thp_node_create(&node, 1, 9, 512), THP_BAD_SIZE);
+    ANSWERS(thp_node_create(&node, 1, 9, THP_UNDERUSED_OFF - 1), THP_BAD_SIZE);
     WANT(node.at == NULL && node.live == 0);
     ANSWERS(thp_node_create(&node, 4096, 9, 511), THP_OK);
     ANSWERS(thp_node_create(&node, 1, 2, 3), THP_IN_USE);
@@ -468,6 +470,59 @@ static void journals(void) {
     ANSWERS(thp_node_destroy(&node), THP_OK);
 }
 
+/* one random call on a node: its code, and in `told` all that it stores */
+static thp_code some_call(thp_node *node, uint32_t kind, uint32_t page, uint32_t at, void *told, size_t room) {
+    uint64_t *number = (uint64_t *)told;
+    memset(told, 0, room);
+    switch (kind) {
+    case 0: return thp_node_alloc(node, at, number);
+    case 1: case 2: return thp_node_split_pmd(node, at, page);
+    case 3: return thp_node_map_sub(node, at, page, at, 1);
+    case 4: case 5: case 6: return thp_node_unmap_sub(node, at, page, at, 1, (thp_done *)told);
+    case 7: return thp_node_pin(node, at, page);
+    case 8: return thp_node_unpin(node, at, page, (thp_done *)told);
+    case 9: return thp_node_zero(node, at, page, at, 1);
+    case 10: return thp_node_scan(node, at, 2, (thp_scan *)told);
+    case 11: return thp_node_take(node, at, 2, (uint32_t *)told);
+    case 12: return thp_node_split_next(node, at, (thp_tried *)told);
+    default: return thp_node_put_back(node, at, (thp_back *)told);
+    }
+}
+
+/* a node that only counts its events answers as one that keeps them does, and has no journal */
+static void counting(void) {
+    thp_node kept = EMPTY, counted = EMPTY;
+    uint64_t told[16], other[16];
+    thp_stats stats, others;
+    uint32_t random = 1;
+    size_t size = 7;
+    uint8_t byte = '#';
+    ANSWERS(thp_node_create_counting(NULL, 6, 2, 1), THP_NULL);
+    ANSWERS(thp_node_create_counting(&counted, 6, 2, 4), THP_BAD_SIZE);
+    ANSWERS(thp_node_create(&kept, 6, 2, 1), THP_OK);
+    ANSWERS(thp_node_create_counting(&counted, 6, 2, 1), THP_OK);
+    ANSWERS(thp_node_create_counting(&counted, 6, 2, 1), THP_IN_USE);
+    for (int k = 0; k < 20000; k++) {
+        random = random * 1664525 + 1013904223;
+        const uint32_t kind = (random >> 24) % 14, at = (random >> 20) % 4;
+        ANSWERS(thp_node_stats(&kept, &stats), THP_OK);
+        const uint32_t page = (uint32_t)stats.allocations - 1 - (random >> 12) % 8;
+        ANSWERS(some_call(&counted, kind, page, at, told, sizeof told), some_call(&kept, kind, page, at, other, sizeof other));
+        WANT(memcmp(told, other, sizeof told) == 0);
+        ANSWERS(thp_node_stats(&kept, &stats), THP_OK);
+        ANSWERS(thp_node_stats(&counted, &others), THP_OK);
+        WANT(memcmp(&stats, &others, sizeof stats) == 0);
+    }
+    WANT(stats.events > 4000 && stats.split_page > 100);
+    ANSWERS(thp_node_journal(&counted, &byte, 1, &size), THP_NO_JOURNAL);
+    WANT(size == 7 && byte == '#');
+    ANSWERS(thp_node_queue(&counted, told, 16, &random), THP_NO_JOURNAL);
+    ANSWERS(thp_node_queue(&kept, told, 16, &random), THP_OK);
+    ANSWERS(thp_node_journal(&kept, &byte, 1, &size), THP_TOO_SMALL);
+    ANSWERS(thp_node_destroy(&counted), THP_OK);
+    ANSWERS(thp_node_destroy(&kept), THP_OK);
+}
+
 static void answers_text(const char *text, thp_code code, uint32_t at) {
     uint32_t line = 7;
     ANSWERS(thp_check_text((const uint8_t *)text, strlen(text), &line), code);
@@ -550,6 +605,7 @@ int main(void) {
     read_only();
     underused();
     journals();
+    counting();
     texts();
     forked();
     apart();

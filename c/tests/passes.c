@@ -135,6 +135,34 @@ static void refused(void) {
 }
 
 /* the callers of a pass, before and after it is divided and joined, and when that is refused */
+/* a cell whose node only counts its events, beside one whose node stores them: passes of both aren't joined */
+static void counting(void) {
+    thp_pass counted = NO_PASS, other = NO_PASS, kept = small_cell(2, 2), kept_other = NO_PASS;
+    thp_node node = NO_NODE;
+    thp_stats stats;
+    uint64_t page;
+    size_t size = 7;
+    ANSWERS(thp_cell_create_counting(NULL, 2, 2, 1, 2), THP_NULL);
+    ANSWERS(thp_cell_create_counting(&counted, 2, 2, 1, 65), THP_BAD_SIZE);
+    ANSWERS(thp_cell_create_counting(&counted, 2, 2, 1, 2), THP_OK);
+    ANSWERS(thp_pass_split(&counted, 1, &other), THP_OK);
+    ANSWERS(thp_pass_split(&kept, 1, &kept_other), THP_OK);
+    ANSWERS(thp_pass_join(&counted, &kept_other), THP_BAD_PASS);
+    ANSWERS(thp_pass_join(&kept, &other), THP_BAD_PASS);
+    ANSWERS(thp_pass_alloc(&other, 1, &page), THP_OK);
+    ANSWERS(thp_pass_alloc(&kept, 0, &page), THP_OK);
+    ANSWERS(thp_pass_join(&counted, &other), THP_OK);
+    ANSWERS(thp_pass_join(&kept, &kept_other), THP_OK);
+    ANSWERS(thp_cell_finish(&counted, &node), THP_OK);
+    ANSWERS(thp_node_stats(&node, &stats), THP_OK);
+    WANT(stats.events == 1 && stats.queued == 1);
+    ANSWERS(thp_node_journal(&node, NULL, 0, &size), THP_NO_JOURNAL);
+    ANSWERS(thp_node_destroy(&node), THP_OK);
+    ANSWERS(thp_cell_finish(&kept, &node), THP_OK);
+    ANSWERS(thp_node_journal(&node, NULL, 0, &size), THP_TOO_SMALL);
+    ANSWERS(thp_node_destroy(&node), THP_OK);
+}
+
 static void callers_are(const thp_pass *pass, uint32_t from, uint32_t to) {
     uint32_t first = 99, end = 99;
     ANSWERS(thp_pass_callers(pass, &first, &end), THP_OK);
@@ -332,6 +360,7 @@ int main(void) {
     nulls();
     empty_handles();
     refused();
+    counting();
     callers();
     faults();
     batches();

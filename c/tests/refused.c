@@ -101,6 +101,41 @@ static void reserved(void) {
     WANT(blocks == 0);
 }
 
+/* a node that only counts its events takes no memory after its create, whatever is called, and a cell none after its division */
+static void counting(void) {
+    thp_node node = THP_NODE_INIT;
+    thp_pass one = THP_PASS_INIT, two = THP_PASS_INIT;
+    thp_stats stats;
+    thp_done done;
+    uint64_t page;
+    size_t before;
+    refused_request = 0;
+    ANSWERS(thp_node_create_counting(&node, 1, 9, THP_UNDERUSED_OFF), THP_OK);
+    before = requests;
+    ANSWERS(thp_node_alloc(&node, 0, &page), THP_OK);
+    for (int k = 0; k < 1000000; k++) {
+        if (thp_node_pin(&node, 0, page) != THP_OK || thp_node_unpin(&node, 0, page, &done) != THP_OK) failures++;
+    }
+    ANSWERS(thp_node_stats(&node, &stats), THP_OK);
+    WANT(stats.events == 2000001 && requests == before);
+    ANSWERS(thp_node_reserve(&node, UINT32_MAX), THP_OK);
+    ANSWERS(thp_node_destroy(&node), THP_OK);
+    ANSWERS(thp_cell_create_counting(&one, 1, 9, THP_UNDERUSED_OFF, 2), THP_OK);
+    ANSWERS(thp_pass_split(&one, 1, &two), THP_OK);
+    before = requests;
+    ANSWERS(thp_pass_alloc(&two, 1, &page), THP_OK);
+    for (int k = 0; k < 1000000; k++) {
+        if (thp_pass_pin(&one, 0, page) != THP_OK || thp_pass_unpin(&two, 1, page, &done) != THP_OK) failures++;
+    }
+    WANT(requests == before);
+    ANSWERS(thp_pass_join(&one, &two), THP_OK);
+    ANSWERS(thp_cell_finish(&one, &node), THP_OK);
+    ANSWERS(thp_node_stats(&node, &stats), THP_OK);
+    WANT(stats.events == 2000001);
+    ANSWERS(thp_node_destroy(&node), THP_OK);
+    WANT(blocks == 0);
+}
+
 /* the memory that creates a node of so many blocks, and then that of so many events */
 static size_t memory_of(uint32_t count_of_blocks, uint32_t events, size_t *of_events) {
     thp_node node = THP_NODE_INIT;
@@ -144,6 +179,7 @@ int main(void) {
     }
     reserved();
     figures();
+    counting();
     if (failures == 0) printf("refused: done, each of %lu requests\n", (unsigned long)all);
     return failures != 0;
 }

@@ -17,6 +17,7 @@
     bpf             the bpf system call, an assembler of BPF programs, maps
     btf             the running kernel's types: offsets and sizes of fields, values of enumerators
     list_lru        ListLru: queues that the kernel has as a list for each control group and NUMA node
+    numa            the frames of each NUMA node
     kernel_memory   KernelMemory: kernel memory read by a BPF program; control groups, queues, struct page
     machine         Part: what this machine can run and why not, as a table
     helpers         the C helpers: installed, or compiled at need

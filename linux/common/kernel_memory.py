@@ -87,8 +87,15 @@ class QueueFields:
         return QueueFields(
             types.offset("mem_cgroup", "deferred_split_queue.split_queue", link),
             types.offset("mem_cgroup", "deferred_split_queue.split_queue_len", size=8),
-            types.offset("folio", "_deferred_list", link),
+            find_link(types),
         )
+
+
+def find_link(types: Types) -> int:
+    """Returns where a folio's link in a queue is: in struct folio, or (before Linux 6.6) in the second tail page."""
+    if not types.has_field("folio", "_deferred_list") and types.has_field("page", "deferred_list"):
+        return 2 * types.struct_size("page") + types.offset("page", "deferred_list", "struct list_head")
+    return types.offset("folio", "_deferred_list", "struct list_head")
 
 
 class KernelMemory:
@@ -179,13 +186,16 @@ class KernelMemory:
             self._is_list_lru = not self.types.has_field("mem_cgroup", "deferred_split_queue")
         return self._is_list_lru
 
+    def queue_count(self) -> int:
+        """Returns how many queues a control group has: one, or one for each NUMA node."""
+        return len(self.list_lru().nodes) if self.has_list_lru() else 1
+
     def locate_queues(self) -> str:
         """Returns where this kernel has the queues, in words. Unavailable where they are in no known form."""
         if self.has_list_lru():
-            self.types.offset("folio", "_deferred_list", "struct list_head")
+            find_link(self.types)
             return f"{SYMBOL}, a list_lru; NUMA nodes: {', '.join(map(str, self.list_lru().nodes))}"
-        self.queue_fields()
-        return "mem_cgroup.deferred_split_queue, folio._deferred_list"
+        return f"mem_cgroup.deferred_split_queue, links {self.queue_fields().link} bytes into a folio"
 
     def _root_group(self) -> int:
         """Returns the address of the root control group's struct mem_cgroup."""
@@ -218,7 +228,7 @@ class KernelMemory:
             at = self.queue_fields()
             links = self.links(group + at.head)
             return [Queue([link - at.link for link in links], self.word(group + at.length))]
-        link_at = self.types.offset("folio", "_deferred_list", "struct list_head")
+        link_at = find_link(self.types)
         found, out = self.list_lru(), []
         for node, address in zip(found.nodes, found.lists(group)):
             folios = [link - link_at for link in self.links(address + found.fields.head)]

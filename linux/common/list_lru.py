@@ -72,21 +72,25 @@ class ListLru:
     """The list_lru at an address. `nodes`: the NUMA nodes that have memory; `root`: the root control group's struct."""
 
     def __init__(self, memory: Memory, fields: ListLruFields, address: int, nodes: Sequence[int], root: int) -> None:
-        self._memory, self._address, self._root = memory, address, root
-        self.fields, self.nodes = fields, nodes
+        self._memory, self._root = memory, root
+        self.address, self.fields, self.nodes = address, fields, nodes
 
     def lists(self, group: int) -> List[int]:
         """Returns the address of a group's struct list_lru_one for each NUMA node; none where the group never had a page
         that may be queued. Unavailable where groups have no lists of their own."""
-        at, memory = self.fields, self._memory
-        number = struct.unpack("<i", memory.read(group + at.group, 4))[0]
+        at = self.fields
         if group == self._root:
-            first = memory.word(self._address + at.nodes) + at.node_list
+            first = self._memory.word(self.address + at.nodes) + at.node_list
             return [first + at.node_size * node for node in self.nodes]
-        if number < 0 or not memory.read(self._address + at.is_aware, 1)[0]:
-            raise Unavailable("control groups have no queues of their own (cgroup.memory=nokmem)")
-        found = self._find_stable(number)
+        found = self._find_stable(self.number_of(group))
         return [found + at.group_lists + at.list_size * node for node in self.nodes] if found else []
+
+    def number_of(self, group: int) -> int:
+        """Returns the number by which a group's lists are found. Unavailable where groups have no lists of their own."""
+        number = int(struct.unpack("<i", self._memory.read(group + self.fields.group, 4))[0])
+        if number < 0 or not self._memory.read(self.address + self.fields.is_aware, 1)[0]:
+            raise Unavailable("control groups have no queues of their own (cgroup.memory=nokmem)")
+        return number
 
     def _find_stable(self, index: int) -> int:
         """Returns an entry of the xarray that two looks find alike: it may change between two reads."""
@@ -103,7 +107,7 @@ class ListLru:
     def _find(self, index: int) -> int:
         """Returns an entry of the xarray, or 0 (lib/xarray.c: xa_load)."""
         at, memory = self.fields, self._memory
-        entry, most = memory.word(self._address + at.array), MOST_SHIFT
+        entry, most = memory.word(self.address + at.array), MOST_SHIFT
         if not is_node(entry):
             return entry if index == 0 else 0
         shift = memory.read(entry - 2 + at.shift, 1)[0]

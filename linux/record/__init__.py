@@ -6,6 +6,7 @@
     trace_programs   BPF programs on raw tracepoints, and the ring of their records
         program_builder  a program for each tracepoint
         program_parts    parts that programs share; which records are sent
+        queue_places     where programs find the queue
         ring             reads records from the ring in bulk
     store            records on disk, read back in passes
     records          the kinds and fields of records

@@ -7,8 +7,8 @@
 
 The command runs as the caller of `sudo`; in a root shell it runs as root unless `--user` names another user.
 
-A node of the journal is a control group and an order. Prints the verdict, for an illegal journal its line and the
-explanation, and what was observed, inferred and left out. SIGINT ends the recording; the records until then are checked.
+A node of the journal is a control group, an order and (Linux 7) a NUMA node. Prints the verdict, for an illegal journal its
+line and the explanation, and what was observed, inferred and left out. SIGINT ends the recording; the records until then are checked.
 The command's own status is printed and changes nothing. Needs root.
 Status 0: legal; 1: illegal, or records were lost; 2: an error in the options; 3: a system error; 75: another tool is
 running; 77: nothing could be recorded, or nothing was.
@@ -48,12 +48,12 @@ def commands_for(options: RecordOptions, seed: int) -> List[List[str]]:
 
 
 def build_journals(options: RecordOptions, recording: Recording, page_size: int) -> List[JournalBuilder]:
-    """Returns a journal of each group and order, built from the records."""
+    """Returns a journal of each queue and order, built from the records."""
     out = []
-    for store in recording.stores:
+    for store, folios in zip(recording.stores, recording.folios):
         store.link()
         for order in options.orders:
-            builder = JournalBuilder(settings_for(recording, options, order, page_size))
+            builder = JournalBuilder(settings_for(recording, options, order, page_size, folios))
             builder.add_linked_records(store.records())
             out.append(builder)
     return out
@@ -150,8 +150,9 @@ def record(options: RecordOptions) -> int:
         raise Unavailable(parts[0].text)
     machine.demand(parts, [part.name for part in parts])
     by = find_checker(options.checker, options.program)
+    options.check_nodes(memory.queue_count())
     options.check_command()
-    outputs = Outputs(options)
+    outputs = Outputs(options, options.groups * memory.queue_count())
     run = Run(options, by, memory, outputs)
     try:
         run.all()

@@ -191,6 +191,8 @@ class JournalBuilder:
         if order != self._state.settings.order:
             self._state.tallies[f"pages of order {order}, not followed"] += 1
             return
+        if not self._state.settings.has_in_queue(folio):
+            return
         if not fault:
             call = self._state.pending.get((record.task, Kind.ENTER))
             fails = call and call.values[0] == MADVISE and call.values[3] == MADV_COLLAPSE

@@ -143,6 +143,8 @@ class MappingEvents:
         if self._state.settings.order != PMD_ORDER:
             self._state.tallies["pages made by collapses, of an order that isn't followed"] += 1
             return
+        if not self._state.settings.has_in_queue(folio):
+            return
         page = self._state.new_page(record.task, record.space, folio, start)
         self._state.tallies["pages made by collapses"] += 1
         if page in self._state.queue:

@@ -88,11 +88,18 @@ class RecordOptions:
         self.events: Optional[int] = parsed.events
         self.wait: bool = parsed.wait
         self.command: List[str] = parsed.command
-        if self.groups * len(self.orders) > NODES or (self.command and self.groups > 1):
-            raise InputFault(f"--groups times --order are at most {NODES} nodes, and a command runs in one group")
+        self.check_nodes(1)
+        if self.command and self.groups > 1:
+            raise InputFault("a command runs in one group")
         if parsed.user is not None and not self.command:
             raise InputFault("--user needs a command")
         self.user: Optional[User] = user_for(parsed.user) if self.command else None
+
+    def check_nodes(self, queues: int) -> None:
+        """InputFault where a journal with so many queues of each group has too many nodes."""
+        if self.groups * len(self.orders) * queues > NODES:
+            numa_nodes = f" times {queues} NUMA nodes" if queues > 1 else ""
+            raise InputFault(f"--groups times --order{numa_nodes} are at most {NODES} nodes")
 
     def check_command(self) -> None:
         """InputFault where there is no such command."""
@@ -119,7 +126,7 @@ def _parser(text: str, name: str) -> argparse.ArgumentParser:
     add("--out", metavar="FILE", help="write the journal into this new file")
     add("--times", metavar="FILE", help="write the time of each event into this new file")
     add("--contents", type=seconds(0.01, LONG), metavar="SECONDS", help="look at the pages' contents so often")
-    add("--records", metavar="FILE", help="write the records into this new file; further groups' to FILE.2 ..")
+    add("--records", metavar="FILE", help="write the records into this new file; further queues' to FILE.2 ..")
     add("--tamper", type=whole(0, 10 ** 6), default=0, metavar="N", help="check N altered copies of a legal journal")
     add("--least", type=whole(0, MANY), default=0, metavar="EVENTS", help="more seeds until so many events")
     add("--seconds", type=seconds(0.001, LONG), metavar="N", help="end the recording, and the command, after N seconds")

@@ -40,9 +40,9 @@ class Output:
 
 
 class Outputs:
-    """The files of --out, --times and --records."""
+    """The files of --out, --times and --records, of the last one for each of a number of queues."""
 
-    def __init__(self, options: RecordOptions) -> None:
+    def __init__(self, options: RecordOptions, queues: int) -> None:
         self._journal: Optional[Output] = None
         self._times: Optional[Output] = None
         self._records: List[Output] = []
@@ -50,7 +50,7 @@ class Outputs:
             self._journal = Output(options.out) if options.out is not None else None
             self._times = Output(options.times) if options.times is not None else None
             if options.records is not None:
-                for number in range(1, options.groups + 1):
+                for number in range(1, queues + 1):
                     self._records.append(Output(options.records + (f".{number}" if number > 1 else "")))
         except InputFault:
             self.close()
@@ -69,7 +69,7 @@ class Outputs:
             file.flush()
 
     def write_records(self, stores: List[Store]) -> None:
-        """Writes the records of each group, a line of JSON for each, and replaces earlier ones."""
+        """Writes the records of each queue, a line of JSON for each, and replaces earlier ones."""
         for output, store in zip(self._records, stores):
             file = output.begin()
             for record in store.records():

@@ -14,26 +14,29 @@ from .program_parts import (
     ADDRESS_AT, BASE_BITS, CODE_AT, ENTERED_AT, FAULT_ADDRESS, FAULT_CODE, HOW, NEXT_AT, SEEN_FREED, UNFILTERED_AT,
     Maps, ProgramParts,
 )
+from .queue_places import QueuePlace
 from .records import IN_FAULT, IN_NONE, VALUES_AT, Kind
 
 FRAME_END = 52  # the bits BASE_BITS to FRAME_END of an entry are the frame (arch/x86/include/asm/pgtable_types.h)
 FLAGS = 7  # low bits of memcg_data (include/linux/memcontrol.h)
 WRITTEN = 3  # bits of a fault's error code: present, written
 SCAN_FUNCTION = "deferred_split_scan"
+ORDER_AT = 3  # of the arguments of a collapse, in kernels that collapse to several orders (Linux 7)
 
 Make = Callable[[], Assembler]
 
 
 class ProgramBuilder(ProgramParts):
-    """The programs for one control group. `lacking` names what this kernel doesn't report."""
+    """The programs for one queue of a control group. `lacking` names what this kernel doesn't report."""
 
-    def __init__(self, memory: KernelMemory, group: int, orders: Sequence[int], maps: Maps) -> None:
-        super().__init__(memory, group, orders, maps)
+    def __init__(self, memory: KernelMemory, group: int, orders: Sequence[int], maps: Maps, place: QueuePlace) -> None:
+        super().__init__(memory, group, orders, maps, place)
         field = memory.types.offset
         self._break = field("mm_struct", "brk", size=8)
         self._tgid = field("task_struct", "tgid", size=4)
         self._scan_objects = field("shrinker", "scan_objects", "pointer")
         self._scanned_group = field("shrink_control", "memcg", "pointer")
+        self._scanned_node = field("shrink_control", "nid", size=4)
         self._registers = [field("pt_regs", name, size=8) for name in ("orig_ax", "di", "si", "dx")]
         self._flags = field("pt_regs", "r10", size=8)  # of mmap
         self._no_memalloc = 1 << memory.types.enumerator("___GFP_NOMEMALLOC_BIT")
@@ -237,6 +240,8 @@ class ProgramBuilder(ProgramParts):
         types = self._memory.types
         owner, index = types.offset("mm_struct", "owner", "pointer"), types.offset("folio", "index", size=8)
         code = self._start().load(1, 6, 16).jump("out", "!=", 1, types.enumerator("SCAN_SUCCEED"))
+        if len(types.tracepoint("mm_collapse_huge_page")) > ORDER_AT:
+            code.load(1, 6, 8 * ORDER_AT).jump("out", "!=", 1, PMD_ORDER)
         code.load(3, 6, 0).read_kernel(-8, 8, owner).load(3, 10, -8)
         self._look_up(self._task_key(self._in_group(code)), self._maps.fresh, -40).jump("out", "==", 0, 0)
         code.load(8, 0, 0).store(10, -72, 8).load(1, 6, 0).store(10, -64, 1)
@@ -260,10 +265,13 @@ class ProgramBuilder(ProgramParts):
         known by its frame."""
         start, size = self._memory.vmemmap()
         charged = self._memory.types.offset("folio", "memcg_data", size=8)
+        owner = self._memory.types.offset("obj_cgroup", "memcg", "pointer")
         code.load(8, 6, 8).shift_left(8, 64 - FRAME_END).shift_right(8, 64 - FRAME_END + BASE_BITS)
         code.shift_left(8, size.bit_length() - 1).set_wide(1, start).add_register(8, 1)
-        code.move(3, 8).read_kernel(-8, 8, charged).load(1, 10, -8).bit_and(1, ~FLAGS)
-        code.set_wide(2, self._group).jump("out", "!=", 1, right=2)
+        code.move(3, 8).read_kernel(-8, 8, charged).load(3, 10, -8).bit_and(3, ~FLAGS)
+        code.set_wide(2, self._group).jump("charged", "==", 3, right=2)
+        code.store_number(10, -8, 0).read_kernel(-8, 8, owner).load(1, 10, -8)  # Linux 7: charged to an obj_cgroup of the group
+        code.set_wide(2, self._group).jump("out", "!=", 1, right=2).label("charged")
         self._track(code.move(1, 8)).store(10, -72, 8).store(10, -48, 9)
         values = [(0, self._argument(0)), (1, self._stack_value(-72)), (2, self._stack_value(-48))]
         return self._short(self._record(code, Kind.MOVED, values))
@@ -300,7 +308,11 @@ class ProgramBuilder(ProgramParts):
     def _scan_start(self) -> Assembler:
         code = self._of_queue()
         self._through(1, self._scanned_group)(code)
-        code.set_wide(2, self._group).jump("out", "!=", 1, right=2).store_number(10, -48, 1)
+        code.set_wide(2, self._group).jump("out", "!=", 1, right=2)
+        if self._place.numa_node is not None:
+            self._through(1, self._scanned_node, 4)(code)
+            code.jump("out", "!=", 1, self._place.numa_node)
+        code.store_number(10, -48, 1)
         self._keep(self._task_key(code), self._maps.scanning, -40, -48)
         return self._with_queue(self._record(code, Kind.SCAN, [(0, self._argument(5)), (1, self._argument(3))]))
 

@@ -12,8 +12,9 @@ from typing import Callable, List, Sequence, Tuple
 
 from ..common.bpf import MMAPABLE, Assembler, Helper, MapType, Value, create_map
 from ..common.files import PMD_ORDER
-from ..common.kernel_memory import KernelMemory
+from ..common.kernel_memory import KernelMemory, find_link
 from .calls import BRK, MREMAP
+from .queue_places import HEAD, QueuePlace
 from .records import COUNT_AT, FOLIOS_AT, QUEUE_MOST, SIZE, VALUES_AT, Kind
 
 TRIES = 3  # of sending a record, of copying a queue
@@ -68,13 +69,14 @@ class Maps:
 
 class ProgramParts:
     """In programs r6 is the tracepoint's arguments, r7 the record once there is one; r8 and r9 are free. The stack's
-    places: -4 to -16 scratch; -24 a block; -40 the task; -64 and -56 a home; -48, -72 kept values."""
+    places: -4 to -16 scratch; -24 a block, at last the queue's head; -40 the task; -64 and -56 a home; -48, -72 kept values."""
 
-    def __init__(self, memory: KernelMemory, group: int, orders: Sequence[int], maps: Maps) -> None:
-        self._memory, self._group, self._orders, self._maps = memory, group, orders, maps
+    def __init__(self, memory: KernelMemory, group: int, orders: Sequence[int], maps: Maps, place: QueuePlace) -> None:
+        self._memory, self._group, self._orders, self._maps, self._place = memory, group, orders, maps, place
         self.lacking: List[str] = []
         self._page_size = memory.types.struct_size("page")
         self._mm = memory.types.offset("task_struct", "mm", "pointer")
+        self._link = find_link(memory.types)
 
     def _start(self) -> Assembler:
         return Assembler().move(6, 1)
@@ -236,13 +238,12 @@ class ProgramParts:
 
     def _with_queue(self, code: Assembler) -> Assembler:
         """Sends the record with a copy of the queue, made again where the walk didn't end where it began."""
-        at = self._memory.queue_fields()
-        head = self._group + at.head
+        self._place.find(code.set(9, 0), "whole")
         for i in range(TRIES):
-            code.set_wide(3, head).read_kernel(-8, 8).load(8, 10, -8).set(9, 0)
-            code.label(f"walk{i}").set_wide(1, head).jump("whole", "==", 8, right=1)
+            code.load(3, 10, HEAD).read_kernel(-8, 8).load(8, 10, -8).set(9, 0)
+            code.label(f"walk{i}").load(1, 10, HEAD).jump("whole", "==", 8, right=1)
             code.jump(f"again{i}", ">=", 9, QUEUE_MOST)
-            code.move(2, 8).add(2, -at.link).move(1, 9).shift_left(1, 3).add_register(1, 7).store(1, FOLIOS_AT, 2)
+            code.move(2, 8).add(2, -self._link).move(1, 9).shift_left(1, 3).add_register(1, 7).store(1, FOLIOS_AT, 2)
             code.add(9, 1).move(3, 8).store_number(10, -8, 0).read_kernel(-8, 8).load(8, 10, -8).jump(f"walk{i}")
             code.label(f"again{i}")
         code.set(9, 0).store_number(7, COUNT_AT, QUEUE_MOST + 1).jump("send")

@@ -6,15 +6,17 @@ import os
 import threading
 import time
 from dataclasses import dataclass
-from typing import Callable, List, Optional
+from typing import Callable, List, Optional, Tuple
 
 from ..common.files import COLLAPSE_SLEEP, COMPACT, PMD_ORDER, PTES_NONE, SWITCH, read, size_folder, write
 from ..common.groups import Groups
 from ..common.keeper import Keeper
 from ..common.kernel_memory import KernelMemory
+from ..common.numa import numa_frames
 from .commands import PAUSE, Commands, Interrupts
 from .contents import ContentLooks
 from .options import RecordOptions
+from .queue_places import find_places
 from .ring import SIZE
 from .state import Settings
 from .store import FOLDER, Store
@@ -26,9 +28,10 @@ AFTER = 0.05  # seconds for what comes after the commands' end
 
 @dataclass(frozen=True)
 class Recording:
-    """The records of each group, and what else is known of them."""
+    """The records of each queue, and what else is known of them."""
 
     stores: List[Store]
+    folios: List[Tuple[range, ...]]  # where the folios of each queue's NUMA node are; none: those of all nodes
     lost: int  # records that found no room
     statuses: List[str]  # how the commands ended
     ended: str  # why they were ended; "" where they ended by themselves
@@ -63,12 +66,15 @@ class Recorder:
     def record(self, commands: List[List[str]]) -> Recording:
         """Records these commands in each group until all have ended, or have to end."""
         folder = os.path.dirname(os.path.abspath(self._options.records)) if self._options.records else FOLDER
-        room = 1 << (SIZE // len(self._paths)).bit_length() - 1
-        stores = [Store(folder) for _ in self._paths]
+        groups = {path: self._memory.group(path) for path in self._paths}
+        places = [(path, place) for path in self._paths for place in find_places(self._memory, groups[path])]
+        folios = [self._folios_on(place.numa_node) for _, place in places]
+        room = 1 << (SIZE // len(places)).bit_length() - 1
+        stores = [Store(folder) for _ in places]
         traces: List[TracePrograms] = []
         try:
-            for path in self._paths:
-                traces.append(TracePrograms(self._memory, self._memory.group(path), self._options.orders, room))
+            for path, place in places:
+                traces.append(TracePrograms(self._memory, groups[path], place, self._options.orders, room))
             looks: Optional[ContentLooks] = None
             if self._options.contents is not None:
                 looks = ContentLooks(self._memory, self._paths, self._options.orders, self._options.contents)
@@ -78,10 +84,10 @@ class Recorder:
                 for trace, store in zip(traces, stores):
                     trace.read(store)
                 if looks and looks.is_due():
-                    found = looks.look()
-                    for trace, store, records in zip(traces, stores, found):
+                    found = dict(zip(self._paths, looks.look()))
+                    for (path, _), trace, store in zip(places, traces, stores):
                         trace.read(store)
-                        for record in records:
+                        for record in found[path]:
                             store.append(record)
 
             running = Commands(self._keeper, take)
@@ -89,11 +95,18 @@ class Recorder:
             lacking = traces[0].lacking
             if any(trace.is_unfiltered() for trace in traces):
                 lacking.append("more address spaces than can be known: all records were kept from then on")
-            return Recording(stores, sum(trace.lost() for trace in traces), running.statuses(), ended, lacking,
-                             self._threshold)
+            lost = sum(trace.lost() for trace in traces)
+            return Recording(stores, folios, lost, running.statuses(), ended, lacking, self._threshold)
         finally:
             for trace in traces:
                 trace.close()
+
+    def _folios_on(self, numa_node: Optional[int]) -> Tuple[range, ...]:
+        """Returns where the folios of a NUMA node are; none: those of all nodes are wanted."""
+        if numa_node is None or self._memory.queue_count() == 1:
+            return ()
+        folio = self._memory.folio
+        return tuple(range(folio(each.start), folio(each.stop)) for each in numa_frames()[numa_node])
 
     def _run(self, running: Commands, commands: List[List[str]], stores: List[Store], take: Callable[[], None]) -> str:
         """Runs the commands to their end; returns why they were ended."""
@@ -143,7 +156,9 @@ class Recorder:
                     pass  # the next round tries it again
 
 
-def settings_for(recording: Recording, options: RecordOptions, order: int, page_size: int) -> Settings:
+def settings_for(
+    recording: Recording, options: RecordOptions, order: int, page_size: int, folios: Tuple[range, ...]
+) -> Settings:
     """Returns the settings of a journal of this order: only pages of PMD size can be underused."""
     threshold = recording.threshold if order == PMD_ORDER else None
-    return Settings(order, threshold, options.straighten, page_size)
+    return Settings(order, threshold, options.straighten, page_size, folios)

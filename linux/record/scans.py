@@ -116,7 +116,8 @@ class ScanEvents:
 
     def _omit_requeued(self, start: Record, stay: List[Page], found: List[Optional[Page]]) -> None:
         """Omits a page that a call has queued again. A scan puts its pages back in one step: if another page is between
-        them, one was not put back. The scan found it in use and dropped it; a call then unmapped a part of it."""
+        them, one was not put back. The scan found it in use and dropped it; a call then unmapped a part of it. Linux 7 puts
+        them back one by one: a page that became partly mapped during the scan may then be left out needlessly."""
         places = [found.index(page) for page in stay]
         if places and places[-1] - places[0] >= len(places):
             for page in stay:

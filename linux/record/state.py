@@ -23,12 +23,18 @@ TOO_OLD = "joined the queue too long ago for its place to be changed"
 @dataclass(frozen=True)
 class Settings:
     """What was recorded: the pages' order, the threshold (None: the switch is off). `straighten`: emit put-backs in the
-    order of taking (E), and splits without mapped frames while the switch is off (B)."""
+    order of taking (E), and splits without mapped frames while the switch is off (B). `folios`: where the folios of the
+    queue's NUMA node are (none: pages of all nodes are in the queue)."""
 
     order: int
     threshold: Optional[int]
     straighten: bool
     page_size: int = 64  # bytes of struct page
+    folios: Tuple[range, ...] = ()
+
+    def has_in_queue(self, folio: int) -> bool:
+        """Returns whether the queue is the one of a page's NUMA node."""
+        return not self.folios or any(folio in each for each in self.folios)
 
 
 @dataclass(eq=False)

@@ -1,5 +1,5 @@
-"""BPF programs on raw tracepoints for one memory control group, and the ring into which they send records of what the
-group's tasks do to huge pages, with copies of the group's deferred split queue. tracefs isn't needed."""
+"""BPF programs on raw tracepoints for one queue of a memory control group, and the ring into which they send records of what the
+group's tasks do to huge pages, with copies of the queue. tracefs isn't needed."""
 
 from __future__ import annotations
 
@@ -13,6 +13,7 @@ from ..common.files import PMD_ORDER
 from ..common.kernel_memory import KernelMemory
 from .program_builder import ProgramBuilder
 from .program_parts import LOST_AT, UNFILTERED_AT, Maps
+from .queue_places import QueuePlace
 from .ring import SIZE, Ring
 from .store import Store
 
@@ -23,13 +24,13 @@ class TracePrograms:
     """Records from its creation to `close`. `lacking` names what this kernel doesn't report."""
 
     def __init__(
-        self, memory: KernelMemory, group: int, orders: Sequence[int] = (PMD_ORDER,), room: int = SIZE
+        self, memory: KernelMemory, group: int, place: QueuePlace, orders: Sequence[int] = (PMD_ORDER,), room: int = SIZE
     ) -> None:
         self._open: List[int] = []
         self._ring = Ring(room)
         self._maps = Maps.create(self._ring.descriptor)
         self._counters = mmap.mmap(self._maps.counters, mmap.PAGESIZE, mmap.MAP_SHARED, mmap.PROT_READ)
-        builder = ProgramBuilder(memory, group, orders, self._maps)
+        builder = ProgramBuilder(memory, group, orders, self._maps, place)
         for name, make in builder.build_all().items():
             program = load_program(ProgramType.RAW_TRACEPOINT, make())
             self._open += [program, open_tracepoint(name, program)]

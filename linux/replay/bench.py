@@ -71,9 +71,10 @@ class Bench:
         if threshold is not None:
             self._keeper.set(PTES_NONE, threshold)
         for order in sorted(set(options.orders)):
-            if not os.path.isdir(size_folder(order)):
+            if os.path.isdir(size_folder(order)):
+                self._keeper.set(f"{size_folder(order)}/enabled", "madvise")
+            elif order < PMD_ORDER:  # before Linux 6.8, PMD size has no settings of its own
                 raise Unsupported(f"this kernel has no pages of order {order}")
-            self._keeper.set(f"{size_folder(order)}/enabled", "madvise")
         self._serve(options.nodes)
 
     def _serve(self, nodes: int) -> None:

@@ -6,11 +6,13 @@ difference shows. What is looked at is one of
     thp_split_page                  a counter of /proc/vmstat
     split of order 4                a statistic of a page size
     frames NODE PAGE                the subpages of a split page that still have its frames
-    queue NODE after odd passes     the queue; each pass turns it around (E), so an even number of them shows nothing
+    queue NODE after odd passes     the queue; each pass turns it around (E), so an even number of them shows nothing, and the
+                                    script is run with its last command once more
 """
 
 from __future__ import annotations
 
+import dataclasses
 import enum
 import re
 from dataclasses import dataclass
@@ -38,6 +40,10 @@ _COMMENT = re.compile(r"# (look|model|letter): (.*)")
 _SIZE = re.compile(r"(split|split_failed|split_deferred) of order ([2-9])")
 _FRAMES = re.compile(r"frames ([0-7]) ([0-9]{1,2})")
 _QUEUE = re.compile(r"queue ([0-7]) after odd passes")
+
+
+class EvenPasses(Unavailable):
+    """Scans made an even number of passes, which leave a queue as it was."""
 
 
 class Match(enum.Enum):
@@ -134,7 +140,7 @@ def _read_queue(queue: Optional[List[int]], observed: Observation) -> str:
     if failed is None:
         raise Unavailable("failed splits aren't counted")
     if queue and failed % len(queue) == 0 and failed // len(queue) % 2 == 0:
-        raise Unavailable(f"the scan made {failed // len(queue)} passes, an even number")
+        raise EvenPasses(f"scans made {failed // len(queue)} passes, an even number")
     return " ".join(map(str, queue))
 
 
@@ -176,14 +182,24 @@ def look_on(session: Session) -> Look:
 def find_letter(letter: LetterScript, look: Look) -> Finding:
     """Returns how a kernel does a letter: what two runs in a row show."""
     seen: List[str] = []
+    script, reason = letter.script, f"{letter.look} is another at each run: other programs move it"
     try:
-        while len(seen) < MOST_RUNS:
-            seen.append(read_look(letter.look, look(letter.script)))
+        for _ in range(MOST_RUNS):
+            try:
+                seen.append(read_look(letter.look, look(script)))
+            except EvenPasses as error:
+                script, reason = with_last_again(script), str(error)
+                continue
             if seen[-2:-1] == seen[-1:]:
                 return letter.match(seen[-1])
     except (Unavailable, RunFailed) as lacking:
-        return Finding(letter.letter, Match.UNSEEN, machine.first_line(lacking))
-    return Finding(letter.letter, Match.UNSEEN, f"{letter.look} is another at each run: other programs move it")
+        reason = machine.first_line(lacking)
+    return Finding(letter.letter, Match.UNSEEN, reason)
+
+
+def with_last_again(script: Script) -> Script:
+    """Returns a script with its last command once more."""
+    return dataclasses.replace(script, text=script.text + text_lines(script.text)[-1] + "\n")
 
 
 def find_all(look: Look, folder: Path = FOLDER) -> List[Finding]:

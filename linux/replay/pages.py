@@ -12,12 +12,13 @@
 
 from __future__ import annotations
 
+import os
 from dataclasses import dataclass
 from typing import Dict, List, Optional, Sequence, Tuple
 
 from ..common.counters import Counter, Counts, counts
 from ..common.errors import RunFailed
-from ..common.files import PMD_ORDER
+from ..common.files import PMD_ORDER, SWITCH
 from ..common.page_files import PageFlag
 from ..common.script import Options
 from ..common.subpages import bits_of, runs
@@ -84,6 +85,7 @@ class KernelPages:
 
     def __init__(self, bench: Bench, options: Options, fill: int) -> None:
         self._bench, self._options, self._fill = bench, options, fill
+        self.drops_zeros = os.path.exists(SWITCH)  # both came with Linux 6.12
         self._pages: List[List[KernelPage]] = [[] for _ in range(options.nodes)]
         self._orders = sorted(set(options.orders))
         self._own_splits = 0

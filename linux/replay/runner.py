@@ -25,7 +25,10 @@ LAST_WINDOWS = 1.0  # seconds in which the counters are watched before a differe
 
 
 class Kernel(Protocol):
-    """A kernel that runs commands and can be looked at: the running one (pages.py), or a stored one."""
+    """A kernel that runs commands and can be looked at: the running one (pages.py), or a stored one. `drops_zeros`: it gives
+    mapped zero-filled subpages back at any split (B)."""
+
+    drops_zeros: bool
 
     def run_command(self, expected: ExpectedAnswer, state: NodeState) -> None:
         """Runs a command; the node's state is that before it."""
@@ -39,6 +42,8 @@ class Kernel(Protocol):
 
 class StoredKernel:
     """Looks that were stored, one for the beginning and one for each command."""
+
+    drops_zeros = True
 
     def __init__(self, looks: List[Observation]) -> None:
         self._looks = iter(looks)
@@ -106,7 +111,8 @@ class RunComparer:
         """Returns the letters of the known differences that were met. Difference names the command after which the own
         state is another; CounterDifference, raised at the end, that of a counter where nothing else differs."""
         options = expected_run.options
-        states = [NodeState(order, switch, zero_filled) for order, switch in zip(options.orders, options.underused)]
+        nodes = zip(options.orders, options.underused)
+        states = [NodeState(order, switch, zero_filled, kernel.drops_zeros) for order, switch in nodes]
         comparison = Comparison(states, expected_run.known, expected_run.small)
         where, word, place = "before all", "", 0
         try:

@@ -12,7 +12,7 @@ from ..common.kernel_memory import KernelMemory
 from ..common.program import Program
 from .bench import Bench
 
-NEEDED = ["root", "huge pages", "page sizes", "memory control groups", "frames", "counters"]
+NEEDED = ["root", "huge pages", "memory control groups", "frames", "counters"]
 
 
 @dataclass(frozen=True)

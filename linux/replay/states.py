@@ -71,6 +71,7 @@ class NodeState:
     order: int
     threshold: Optional[int]
     zero_filled: bool  # what a new page holds
+    drops_zeros: bool = True  # the kernel gives mapped zero-filled subpages back at any split (B)
     pages: List[PageState] = field(default_factory=list)
     queue: List[int] = field(default_factory=list)
     flight: List[int] = field(default_factory=list)
@@ -160,5 +161,5 @@ class NodeState:
             event_counts.perhaps_partly += bool(page.whole)
             event_counts.partly_by_split += not page.whole
         event_counts.split_pmd += page.whole
-        page.dropped_zero = 0 if self.splits_underused else page.zero & page.used_subpages()
+        page.dropped_zero = page.zero & page.used_subpages() if self.drops_zeros and not self.splits_underused else 0
         page.own, page.whole, page.split = list(page.totals()), 0, True

@@ -34,6 +34,7 @@ from linux.common.text import lines  # noqa: E402
 from linux.common.user import nobody  # noqa: E402
 from linux.tests.cases import Cases  # noqa: E402
 from linux.tests.git_repository import Git  # noqa: E402
+from linux.tests.matrix import DOCUMENT, find_wrong  # noqa: E402
 from linux.tests.plain_program import inject_bug  # noqa: E402
 
 HERE = Path(__file__).resolve().parent
@@ -296,14 +297,12 @@ def makes_small(tool: Tool, bug: str) -> Optional[str]:
 
 
 def has_one_fingerprint(tool: Tool) -> Optional[str]:
-    """Two fingerprints have the same lines, and the document's column of this kernel is the table of the tool."""
+    """Two fingerprints have the same lines, and the document's column of this kernel is the tool's."""
     prints = [tool.call("--fingerprint") for _ in range(2)]
     if prints[0] != prints[1] or prints[0][0] != DONE or prints[0][1].count(b"\n") < 14:
         return f"{prints}"
     table = tool.call("--fingerprint", "--markdown")[1].decode("ascii")
-    document = read(ROOT / "docs/LINUX.md")
-    head = table.split("\n", 1)[0]
-    return None if table in document or head not in document else f"docs/LINUX.md has another table: {table}"
+    return find_wrong(table, read(DOCUMENT))
 
 
 def prints_ktap(tool: Tool) -> Optional[str]:

@@ -75,6 +75,19 @@ def queue_types(link_at: int = 144, link_name: str = "_deferred_list", length_si
     return made.text()
 
 
+def tail_page_types() -> bytes:
+    """The types that the deferred split queue needs where a page's link is in its second tail page (Linux 6.1)."""
+    made = SampleTypes()
+    long = made.integer("long unsigned int", 8)
+    pointer = made.pointer(0)
+    link = made.struct("list_head", 16, [("next", pointer, 0), ("prev", pointer, 8)])
+    queue = made.struct("deferred_split", 32, [("split_queue", link, 8), ("split_queue_len", long, 24)])
+    made.struct("mem_cgroup", 2000, [("id", long, 0), ("deferred_split_queue", queue, 1528)])
+    made.struct("folio", 128, [("flags", long, 0)])
+    made.struct("page", 64, [("flags", long, 0), ("deferred_list", link, 24)])
+    return made.text()
+
+
 def list_lru_types(group_name: str = "kmemcg_id") -> bytes:
     """The types that queues need which are a list_lru, with the field of a group's number renamed."""
     made = SampleTypes()

@@ -26,7 +26,7 @@ from ..common.keeper import Keeper
 from ..common.kernel_memory import QueueFields
 from ..common.script import options_of, read_script, script_of
 from ..common.subpages import bits_of, runs, set_of, set_text
-from .sample_types import queue_types
+from .sample_types import queue_types, tail_page_types
 
 ROOT = Path(__file__).resolve().parent.parent.parent
 
@@ -59,6 +59,9 @@ class TypesTest(unittest.TestCase):
 
     def test_a_field_that_moved_is_found_where_it_is(self) -> None:
         self.assertEqual(QueueFields.from_types(Types(queue_types(link_at=160))).link, 160)
+
+    def test_a_link_in_a_tail_page_is_found_from_the_folio(self) -> None:
+        self.assertEqual(QueueFields.from_types(Types(tail_page_types())).link, 2 * 64 + 24)
 
     def test_a_field_taken_away_is_named(self) -> None:
         with self.assertRaisesRegex(MissingType, r"no field folio\._deferred_list"):

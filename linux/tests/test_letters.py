@@ -11,7 +11,7 @@ import subprocess
 import tempfile
 import unittest
 from pathlib import Path
-from typing import Callable, List
+from typing import Callable, List, Sequence
 from unittest import mock
 
 from ..common.counters import Counter, Counts, SizeCounter
@@ -21,13 +21,15 @@ from ..replay import bisection
 from ..replay.expected_answers import Step, read_expected_answers
 from ..replay.known_differences import KnownDifference
 from ..replay.letters import (
-    MOST_RUNS, ONLY_RECORDINGS, Finding, LetterScript, Look, Match, find_all, find_letter, letters, markdown, read_letter, read_look,
+    MOST_RUNS, ONLY_RECORDINGS, Finding, LetterScript, Look, Match, find_all, find_letter, letters, markdown, read_letter,
+    read_look,
 )
 from ..replay.observation import Observation, PageObservation
 from ..replay.runner import Outcome, Result
 from ..replay.shrinking import Draft, drop
 from ..replay.states import NodeState
 from .git_repository import Git
+from .matrix import columns_of, find_wrong
 from .model_kernel import InProcessProgram, ModelKernel
 
 ROOT = Path(__file__).resolve().parent.parent.parent
@@ -140,6 +142,20 @@ class FindingTest(unittest.TestCase):
         with self.assertRaisesRegex(Unavailable, "can't be read"):
             read_look("queue 0 after odd passes", dataclasses.replace(observed, queues=[None]))
 
+    def test_a_script_that_shows_no_order_is_run_with_its_last_command_again(self) -> None:
+        observed = look_at_letters(read_letter("E").script)
+
+        def look_after(passes: Sequence[int]) -> Look:
+            def look(script: Script) -> Observation:
+                failed = 3 * sum(passes[: script.text.count("scan")])
+                return dataclasses.replace(observed, counts=Counts({Counter.SPLIT_FAILED: failed}, {}))
+
+            return look
+
+        self.assertIs(find_letter(read_letter("E"), look_after([56, 57])).match, Match.LETTER)
+        line = find_letter(read_letter("E"), look_after([2] * MOST_RUNS)).line()
+        self.assertEqual(line, f"E: cannot be seen here: scans made {2 * MOST_RUNS} passes, an even number")
+
     def test_the_fingerprint_has_a_line_for_each_letter(self) -> None:
         lines = [finding.line() for finding in find_all(look_at_letters)]
         self.assertEqual(len(lines), len(letters()) + len(ONLY_RECORDINGS))
@@ -153,12 +169,20 @@ class MatrixTest(unittest.TestCase):
     def test_the_tool_prints_the_form_of_the_document(self) -> None:
         self.check_form(markdown(find_all(look_at_letters), "6.18.44"))
 
+    def test_another_column_of_a_kernel_is_found(self) -> None:
+        document = "text\n\n|Letter|6.1|7.3+deb|\n|-|-|-|\n|A|letter|model|\n|B|unseen|frames 1|\n\n|Letter|6.1|\n"
+        self.assertEqual(columns_of(document), {"6.1": ["A letter", "B unseen"], "7.3+deb": ["A model", "B frames 1"]})
+        self.assertIsNone(find_wrong("|Letter|7.3+deb|\n|-|-|\n|A|model|\n|B|frames 1|\n", document))
+        self.assertIsNone(find_wrong("|Letter|8|\n|-|-|\n|A|letter|\n|B|frames 1|\n", document))
+        self.assertRegex(str(find_wrong("|Letter|6.1|\n|-|-|\n|A|letter|\n|B|letter|\n", document)), "another column of 6.1")
+        self.assertEqual(columns_of("no matrix"), {})
+
     def test_the_document_has_a_matrix_of_that_form(self) -> None:
         text = (ROOT / "docs/LINUX.md").read_text(encoding="utf-8")
         self.check_form([line for line in text.split("\n") if re.match(r"\|(Letter|-|[A-Z])\|", line)])
 
     def check_form(self, lines: List[str]) -> None:
-        self.assertRegex(lines[0], r"^\|Letter(\|[0-9][\w.-]*)+\|$")
+        self.assertRegex(lines[0], r"^\|Letter(\|[0-9][\w.+~-]*)+\|$")
         columns = lines[0].count("|") - 2
         self.assertEqual(lines[1], "|-" * (columns + 1) + "|")
         for line in lines[2:]:

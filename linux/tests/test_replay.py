@@ -13,6 +13,7 @@ from unittest import mock
 
 from ..common.counters import Counter, CounterWatch, Counts, SizeCounter
 from ..common.errors import InputFault
+from ..common.journal import Event
 from ..common.program import Program, TextError
 from ..common.script import Script, read_script, script_of
 from ..replay.options import parse_shape, parse_words
@@ -22,6 +23,7 @@ from ..replay.generator import Generator, Shape, scripts
 from ..replay.known_differences import KnownDifference
 from ..replay.observation import Observation, PageObservation, parse_observation
 from ..replay.runner import Result, RunComparer, Runner, StoredKernel, judge_tries
+from ..replay.states import NodeState
 from .plain_program import inject_bug
 
 HERE = Path(__file__).resolve().parent
@@ -110,6 +112,14 @@ class StoredTest(unittest.TestCase):
 
         self.differs_if("first", 4, fewer, "frames of page 0 of node 0, kernel 256-299,301-511, thpsplit 256-511")
         self.differs_if("first", 2, broken, "frames of page 0 of node 0, kernel 511, thpsplit 512")
+
+    def test_zeros_are_given_back_where_the_kernel_does_so(self) -> None:
+        for drops_zeros, dropped in ((True, 0b10), (False, 0)):
+            state = NodeState(9, None, False, drops_zeros)
+            for event in (Event(0, "alloc", 0), Event(0, "zero", 0, 1, 1), Event(0, "splitpmd", 0),
+                          Event(0, "unmapsub", 0, 0, 1, "queued"), Event(0, "taken", 0), Event(0, "split", 0, given=1)):
+                state.apply(event)
+            self.assertEqual(state.pages[0].dropped_zero, dropped)
 
     def test_the_order_of_a_queue_is_reported(self) -> None:
         script, looks = load("pins")

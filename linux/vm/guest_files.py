@@ -37,7 +37,7 @@ SEARCHED = "/usr/local/sbin:/usr/local/bin:/usr/sbin:/usr/bin:/sbin:/bin"
 MERGED = re.compile("/(bin|sbin|lib|lib64)/")
 PASSWD = "root:x:0:0:root:/root:/bin/sh\nnobody:x:65534:65534:nobody:/nonexistent:/usr/sbin/nologin\n"
 GROUP = "root:x:0:\nnogroup:x:65534:\n"
-HELPERS = (("replay/mapper.c", ()), ("record/workload.c", ()), ("whatif/known.c", ()),
+HELPERS = (("replay/mapper.c", ()), ("record/workload.c", ()), ("whatif/known.c", ()), ("common/btf.c", ("-shared", "-fPIC")),
            ("whatif/pages.c", ("-shared", "-fPIC")))
 
 

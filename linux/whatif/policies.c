@@ -377,7 +377,7 @@ static void begin(struct run *run, const struct policy *policy, const char *text
     if (strcmp(chosen, "off")) threshold = (uint32_t)strtoul(chosen, NULL, 10);
     if (threshold >= 1U << order) threshold = THP_UNDERUSED_OFF;
     *run = (struct run){.policy = policy, .node = THP_NODE_INIT, .subpages = 1U << order, .columns = {.width = 1}};
-    demand(thp_node_create(&run->node, blocks, order, threshold));
+    demand(thp_node_create_counting(&run->node, blocks, order, threshold));
 }
 
 /* Ends a node, and prints its numbers. */

@@ -32,6 +32,11 @@ impl Cell {
         Ok(Cell { pass: Pass::of_new_cell(blocks, order, underused, callers)? })
     }
 
+    /// Creates a shared node as [`Cell::new`] does, which only counts its events: see [`Node::counting`].
+    pub fn counting(blocks: u32, order: u32, underused: Option<u32>, callers: u32) -> Result<Cell, Fault> {
+        Ok(Cell { pass: Pass::of_new_counting_cell(blocks, order, underused, callers)? })
+    }
+
     /// Divides the cell into one pass for each caller, in the callers' order. Fails with [`Fault::OutOfMemory`], and then returns
     /// the cell.
     pub fn passes(self) -> Result<Vec<Pass>, (Cell, Fault)> {

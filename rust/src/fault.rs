@@ -65,17 +65,19 @@ pub enum Fault {
     Finished = 32,
     /// The check found no illegal event, or is not finished.
     NoReason = 33,
+    /// The node only counts its events.
+    NoJournal = 34,
     /// The linked library returned a code that this crate does not have: their versions differ.
     Unknown = 0x7fff_ffff,
 }
 
 impl Fault {
-    const ALL: [Fault; 28] = [
+    const ALL: [Fault; 29] = [
         Fault::NoPage, Fault::BadRange, Fault::IsSplit, Fault::NotMapped, Fault::Gone, Fault::NotPinned,
         Fault::TooMany, Fault::Closed, Fault::NoBlock, Fault::HasBatch, Fault::OutOfMemory, Fault::BadCaller,
         Fault::BadSize, Fault::BadCount, Fault::NoBatch, Fault::BatchOpen, Fault::TextTooLong, Fault::TextBadByte,
         Fault::TextCut, Fault::TextBadWord, Fault::TextBadCount, Fault::TextBadNumber, Fault::TextBadSet, Fault::TextBadOrder,
-        Fault::Busy, Fault::BadPass, Fault::Finished, Fault::NoReason,
+        Fault::Busy, Fault::BadPass, Fault::Finished, Fault::NoReason, Fault::NoJournal,
     ];
 
     /// Converts a code other than 0 to its fault. The types of this crate rule all other codes of this version out.
@@ -138,7 +140,7 @@ mod tests {
             assert_eq!(done(fault as u32), Err(fault));
             assert_ne!(fault.to_string(), Fault::Unknown.to_string());
         }
-        for code in [12, 13, 34, 1000, u32::MAX] {
+        for code in [12, 13, 35, 1000, u32::MAX] {
             assert_eq!(done(code), Err(Fault::Unknown));
         }
         assert_eq!(Fault::Unknown.to_string(), "no code of this library");

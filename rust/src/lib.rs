@@ -66,6 +66,7 @@ use std::ffi::CStr;
 
 /// The result of the check of a text of journals.
 #[derive(Clone, Copy, PartialEq, Eq, Hash, Debug)]
+#[non_exhaustive]
 pub enum Verdict {
     /// Each event fits those before it.
     Legal,

@@ -194,6 +194,15 @@ impl PageState {
     }
 }
 
+// The library's number for a threshold: without one, a number that no page can exceed.
+pub(crate) fn threshold_of(underused: Option<u32>) -> Result<u32, Fault> {
+    match underused {
+        Some(threshold) if threshold >= 512 => Err(Fault::BadSize),
+        Some(threshold) => Ok(threshold),
+        None => Ok(u32::MAX),
+    }
+}
+
 /// A memory node: its huge pages, their deferred split queue, and the journal of every call that changed them.
 ///
 /// Callers are numbered from 0 to 63; a greater number fails with [`Fault::BadCaller`]. A call that records events can also fail
@@ -217,13 +226,30 @@ impl Node {
     /// With a threshold `underused`, below `2^order`, a page with more zero-filled subpages is worth a split. Fails with
     /// [`Fault::BadSize`] or [`Fault::OutOfMemory`].
     pub fn new(blocks: u32, order: u32, underused: Option<u32>) -> Result<Node, Fault> {
-        const OFF: u32 = u32::MAX;
-        if underused.is_some_and(|threshold| threshold >= 512) {
-            return Err(Fault::BadSize);
-        }
+        let threshold = threshold_of(underused)?;
         let mut handle = sys::Handle::EMPTY;
         // SAFETY: the handle is empty, and local until the node owns it.
-        done(unsafe { sys::thp_node_create(&mut handle, blocks, order, underused.unwrap_or(OFF)) })?;
+        done(unsafe { sys::thp_node_create(&mut handle, blocks, order, threshold) })?;
+        Ok(Node { handle })
+    }
+
+    /// Creates a node as [`Node::new`] does, which only counts its events: its memory doesn't grow. It has no journal, from which
+    /// the order of the queue is read too, so [`Node::journal`] and [`Node::queue`] fail with [`Fault::NoJournal`].
+    ///
+    /// ```
+    /// use leversorrel::{Fault, Node};
+    ///
+    /// let mut node = Node::counting(16, 9, None)?;
+    /// node.alloc(0)?;
+    /// assert_eq!(node.stats().events, 1);
+    /// assert_eq!(node.journal(), Err(Fault::NoJournal));
+    /// # Ok::<(), Fault>(())
+    /// ```
+    pub fn counting(blocks: u32, order: u32, underused: Option<u32>) -> Result<Node, Fault> {
+        let threshold = threshold_of(underused)?;
+        let mut handle = sys::Handle::EMPTY;
+        // SAFETY: the handle is empty, and local until the node owns it.
+        done(unsafe { sys::thp_node_create_counting(&mut handle, blocks, order, threshold) })?;
         Ok(Node { handle })
     }
 
@@ -368,7 +394,7 @@ impl Node {
     }
 
     /// Returns the queued pages, oldest first. Reads the journal back to the event that queued the oldest page. Fails with
-    /// [`Fault::OutOfMemory`].
+    /// [`Fault::NoJournal`] if the node only counts its events, and with [`Fault::OutOfMemory`].
     pub fn queue(&self) -> Result<Vec<u64>, Fault> {
         let length = self.queue_length() as usize;
         let mut pages = Vec::new();
@@ -416,7 +442,8 @@ impl Node {
         }
     }
 
-    /// Returns the journal as text, which [`check`](crate::check) reads. Fails with [`Fault::OutOfMemory`].
+    /// Returns the journal as text, which [`check`](crate::check) reads. Fails with [`Fault::NoJournal`] if the node only counts
+    /// its events, and with [`Fault::OutOfMemory`].
     pub fn journal(&self) -> Result<Vec<u8>, Fault> {
         const TOO_SMALL: u32 = 19;
         let mut text = Vec::new();

@@ -4,7 +4,7 @@ use std::ops::Range;
 
 use crate::batch::Batch;
 use crate::fault::{done, Fault};
-use crate::node::{Back, Done, Node, Scan, Tried};
+use crate::node::{threshold_of, Back, Done, Node, Scan, Tried};
 use crate::sys;
 
 /// A pass to a shared node: the right to call it as some of its callers.
@@ -40,13 +40,19 @@ unsafe impl Send for Pass {}
 impl Pass {
     /// Creates a shared node of this shape, as [`Node::new`] does, and returns the pass of all its `callers` callers (1 to 64).
     pub fn of_new_cell(blocks: u32, order: u32, underused: Option<u32>, callers: u32) -> Result<Pass, Fault> {
-        const OFF: u32 = u32::MAX;
-        if underused.is_some_and(|threshold| threshold >= 512) {
-            return Err(Fault::BadSize);
-        }
+        let threshold = threshold_of(underused)?;
         let mut handle = sys::PassHandle::EMPTY;
         // SAFETY: the handle is local and empty.
-        done(unsafe { sys::thp_cell_create(&mut handle, blocks, order, underused.unwrap_or(OFF), callers) })?;
+        done(unsafe { sys::thp_cell_create(&mut handle, blocks, order, threshold, callers) })?;
+        Ok(Pass { handle, all: callers })
+    }
+
+    /// Creates a shared node as [`Pass::of_new_cell`] does, which only counts its events: see [`Node::counting`].
+    pub fn of_new_counting_cell(blocks: u32, order: u32, underused: Option<u32>, callers: u32) -> Result<Pass, Fault> {
+        let threshold = threshold_of(underused)?;
+        let mut handle = sys::PassHandle::EMPTY;
+        // SAFETY: the handle is local and empty.
+        done(unsafe { sys::thp_cell_create_counting(&mut handle, blocks, order, threshold, callers) })?;
         Ok(Pass { handle, all: callers })
     }
 

@@ -115,6 +115,7 @@ extern "C" {
     pub fn thp_check_finish(check: *mut CheckHandle, line: *mut u64) -> u32;
     pub fn thp_check_reason(check: *mut CheckHandle, buffer: *mut u8, capacity: usize, size: *mut usize) -> u32;
     pub fn thp_node_create(node: *mut Handle, blocks: u32, order: u32, underused: u32) -> u32;
+    pub fn thp_node_create_counting(node: *mut Handle, blocks: u32, order: u32, underused: u32) -> u32;
     pub fn thp_node_destroy(node: *mut Handle) -> u32;
     pub fn thp_node_alloc(node: *mut Handle, caller: u32, page: *mut u64) -> u32;
     pub fn thp_node_map_whole(node: *mut Handle, caller: u32, page: u64) -> u32;
@@ -140,6 +141,7 @@ extern "C" {
     pub fn thp_node_stats(node: *const Handle, stats: *mut Stats) -> u32;
     pub fn thp_node_journal(node: *const Handle, buffer: *mut u8, capacity: usize, size: *mut usize) -> u32;
     pub fn thp_cell_create(pass: *mut PassHandle, blocks: u32, order: u32, underused: u32, callers: u32) -> u32;
+    pub fn thp_cell_create_counting(pass: *mut PassHandle, blocks: u32, order: u32, underused: u32, callers: u32) -> u32;
     pub fn thp_cell_finish(pass: *mut PassHandle, node: *mut Handle) -> u32;
     pub fn thp_pass_destroy(pass: *mut PassHandle) -> u32;
     pub fn thp_pass_split(pass: *mut PassHandle, at: u32, other: *mut PassHandle) -> u32;

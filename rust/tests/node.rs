@@ -21,6 +21,18 @@ fn a_page_is_queued_and_split() -> Result<(), Fault> {
 }
 
 #[test]
+fn a_node_that_counts_has_no_journal() -> Result<(), Fault> {
+    let mut node = Node::counting(16, 9, Some(511))?;
+    let page = node.alloc(0)?;
+    node.split_pmd(0, page)?;
+    node.unmap_sub(0, page, 0, 256)?;
+    assert_eq!((node.scan(0, 8)?.split, node.stats().events), (1, 5));
+    assert_eq!((node.journal(), node.queue()), (Err(Fault::NoJournal), Err(Fault::NoJournal)));
+    assert_eq!(Node::counting(16, 9, Some(512)).err(), Some(Fault::BadSize));
+    Ok(())
+}
+
+#[test]
 fn a_batch_is_tried_and_put_back() -> Result<(), Fault> {
     let mut node = Node::new(4, 2, None)?;
     let page = node.alloc(0)?;

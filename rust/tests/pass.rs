@@ -110,6 +110,21 @@ fn batches_go_with_their_callers() -> Result<(), Fault> {
 }
 
 #[test]
+fn a_cell_that_counts_has_no_journal() -> Result<(), Fault> {
+    let mut passes = Cell::counting(4, 2, None, 2)?.passes().map_err(|(_, fault)| fault)?;
+    let page = passes[0].alloc(0)?;
+    passes[1].split_pmd(1, page)?;
+    passes[1].unmap_sub(1, page, 0, 2)?;
+    assert_eq!(passes[0].scan(0, 8)?.split, 1);
+    let node = Cell::of(passes).map_err(|(_, fault)| fault)?.finish().map_err(|(_, fault)| fault)?;
+    assert_eq!((node.stats().frames_given, node.stats().events), (2, 5));
+    assert_eq!(node.journal(), Err(Fault::NoJournal));
+    assert_eq!(node.queue(), Err(Fault::NoJournal));
+    assert_eq!(Cell::counting(4, 2, Some(512), 2).err(), Some(Fault::BadSize));
+    Ok(())
+}
+
+#[test]
 fn a_batch_that_is_dropped_is_put_back() -> Result<(), Fault> {
     let mut pass = Cell::new(4, 2, None, 2)?.into_pass();
     let page = pass.alloc(0)?;

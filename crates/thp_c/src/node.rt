@@ -1,18 +1,20 @@
 //! The calls of a node, exported.
-ghost use Rattle.std.specs.Prelude.{◌≡◌, ◌∷◌, ◌<◌, ◌≤◌, [], Ok, OnOk, OnErr, length};
+ghost use Rattle.std.specs.Prelude.{◌≡◌, ◌∷◌, ◌≤◌, [], Ok, Err, OnOk, OnErr, length};
 ghost use Rattle.thp_model.specs.Places.{queue};
 ghost use Rattle.thp_model.specs.Refusals as call;
 ghost use Rattle.thp_capi.specs.Calls.{OneCall, AllocCall, ScanCall, TakeCall, NextCall, BackCall, AbandonCall, ReserveCall, Written};
-ghost use Rattle.thp_capi.specs.Codes.{answer_of, answers, answer_with};
-ghost use Rattle.thp_capi.specs.Engines.{Does, Made, Emptied, shape_of};
+ghost use Rattle.thp_capi.specs.Codes.{answer_of, answer_with, IsCode};
+ghost use Rattle.thp_capi.specs.Engines.{shape_of};
+ghost use Rattle.thp_capi.specs.Held.{Does, DoesIfKept, Made, Emptied};
 ghost use Rattle.thp_capi.specs.Replies.{stats_of, scan_of, tried_of, back_of};
 ghost use Rattle.thp_journal_writer.specs.Journals.{journal_text};
 
 use std::alloc::Global;
-use thp_capi::{ThpBack, ThpNode, ThpScan, ThpStats, ThpTried};
+use thp_capi::{Events, Fault, ThpBack, ThpNode, ThpScan, ThpStats, ThpTried};
 use thp_model::What;
 
-/// Creates a node and fills the handle with it. A threshold of 512 or more turns the search for underused pages off.
+/// Creates a node and fills the handle with it. The greatest number as the threshold turns the search for
+/// underused pages off.
 #[unsafe(no_mangle)]
 pub extern "C" fn thp_c_node_create(
     handle: &mut ThpNode,
@@ -21,17 +23,32 @@ pub extern "C" fn thp_c_node_create(
     order: u32,
     underused: u32,
 ) -> u32
-    ensures does { Made handle.old.held handle.new.held (shape_of blocks order underused) (answer_of result) }
-    ensures known { result < length answers }
+    ensures does { Made handle.old.held handle.new.held (shape_of blocks order underused) Events.Kept (answer_of result) }
+    ensures known { IsCode result }
 {
-    thp_capi::node_create(handle, alloc, blocks, order, underused)
+    thp_capi::node_create(handle, alloc, blocks, order, underused, Events::Kept)
+}
+
+/// Creates a node that only counts its events, as `thp_c_node_create` creates one that keeps them.
+#[unsafe(no_mangle)]
+pub extern "C" fn thp_c_node_create_counting(
+    handle: &mut ThpNode,
+    alloc: Global,
+    blocks: u32,
+    order: u32,
+    underused: u32,
+) -> u32
+    ensures does { Made handle.old.held handle.new.held (shape_of blocks order underused) Events.Counted (answer_of result) }
+    ensures known { IsCode result }
+{
+    thp_capi::node_create(handle, alloc, blocks, order, underused, Events::Counted)
 }
 
 /// Frees the node that the handle refers to, and empties the handle.
 #[unsafe(no_mangle)]
 pub extern "C" fn thp_c_node_destroy(handle: &mut ThpNode, alloc: Global) -> u32
     ensures does { Emptied handle.old.held handle.new.held (answer_of result) }
-    ensures known { result < length answers }
+    ensures known { IsCode result }
 {
     thp_capi::node_destroy(handle, alloc)
 }
@@ -45,7 +62,7 @@ pub extern "C" fn thp_c_node_alloc(
     page: &mut u64,
 ) -> u32
     ensures does { Does handle.old.held handle.new.held (answer_of result) (λ old new answer. AllocCall caller old new (answer_with answer page.new)) }
-    ensures known { result < length answers }
+    ensures known { IsCode result }
     ensures kept { OnErr (answer_of result) (page.new ≡ page.old) }
 {
     thp_capi::node_alloc(handle, alloc, caller, page)
@@ -55,7 +72,7 @@ pub extern "C" fn thp_c_node_alloc(
 #[unsafe(no_mangle)]
 pub extern "C" fn thp_c_node_close(handle: &mut ThpNode, alloc: Global, caller: u32) -> u32
     ensures does { Does handle.old.held handle.new.held (answer_of result) (OneCall caller call.close What.Close) }
-    ensures known { result < length answers }
+    ensures known { IsCode result }
 {
     thp_capi::node_close(handle, alloc, caller)
 }
@@ -70,7 +87,7 @@ pub extern "C" fn thp_c_node_scan(
     scan: &mut ThpScan,
 ) -> u32
     ensures does { Does handle.old.held handle.new.held (answer_of result) (λ old new answer. ScanCall caller n old new (answer_with answer (scan_of scan.new))) }
-    ensures known { result < length answers }
+    ensures known { IsCode result }
     ensures kept { OnErr (answer_of result) (scan.new ≡ scan.old) }
 {
     thp_capi::node_scan(handle, alloc, caller, n, scan)
@@ -87,7 +104,7 @@ pub extern "C" fn thp_c_node_take(
     count: &mut u32,
 ) -> u32
     ensures does { Does handle.old.held handle.new.held (answer_of result) (λ old new answer. TakeCall caller n old new (answer_with answer count.new)) }
-    ensures known { result < length answers }
+    ensures known { IsCode result }
     ensures kept { OnErr (answer_of result) (count.new ≡ count.old) }
 {
     thp_capi::node_take(handle, alloc, caller, n, count)
@@ -102,7 +119,7 @@ pub extern "C" fn thp_c_node_split_next(
     tried: &mut ThpTried,
 ) -> u32
     ensures does { Does handle.old.held handle.new.held (answer_of result) (λ old new answer. NextCall caller old new (answer_with answer (tried_of tried.new))) }
-    ensures known { result < length answers }
+    ensures known { IsCode result }
     ensures kept { OnErr (answer_of result) (tried.new ≡ tried.old) }
     ensures kind { OnOk (answer_of result) (tried.new.kind ≤ 3) }
 {
@@ -118,7 +135,7 @@ pub extern "C" fn thp_c_node_put_back(
     back: &mut ThpBack,
 ) -> u32
     ensures does { Does handle.old.held handle.new.held (answer_of result) (λ old new answer. BackCall caller old new (answer_with answer (back_of back.new))) }
-    ensures known { result < length answers }
+    ensures known { IsCode result }
     ensures kept { OnErr (answer_of result) (back.new ≡ back.old) }
 {
     thp_capi::node_put_back(handle, alloc, caller, back)
@@ -128,7 +145,7 @@ pub extern "C" fn thp_c_node_put_back(
 #[unsafe(no_mangle)]
 pub extern "C" fn thp_c_node_abandon(handle: &mut ThpNode, alloc: Global, caller: u32) -> u32
     ensures does { Does handle.old.held handle.new.held (answer_of result) (AbandonCall caller) }
-    ensures known { result < length answers }
+    ensures known { IsCode result }
 {
     thp_capi::node_abandon(handle, alloc, caller)
 }
@@ -138,7 +155,7 @@ pub extern "C" fn thp_c_node_abandon(handle: &mut ThpNode, alloc: Global, caller
 #[unsafe(no_mangle)]
 pub extern "C" fn thp_c_node_reserve(handle: &mut ThpNode, alloc: Global, events: u32) -> u32
     ensures does { Does handle.old.held handle.new.held (answer_of result) (ReserveCall events) }
-    ensures known { result < length answers }
+    ensures known { IsCode result }
 {
     thp_capi::node_reserve(handle, alloc, events)
 }
@@ -151,7 +168,7 @@ pub extern "C" fn thp_c_node_queue_length(
     pages: &mut u32,
 ) -> u32
     ensures does { Does handle.old.held handle.new.held (answer_of result) (λ old new answer. (new ≡ old) × (answer ≡ Ok tt) × (pages.new ≡ length (queue old.node.shape old.node.journal))) }
-    ensures known { result < length answers }
+    ensures known { IsCode result }
     ensures kept { OnErr (answer_of result) (pages.new ≡ pages.old) }
 {
     thp_capi::node_queue_length(handle, alloc, pages)
@@ -161,7 +178,7 @@ pub extern "C" fn thp_c_node_queue_length(
 #[unsafe(no_mangle)]
 pub extern "C" fn thp_c_node_stats(handle: &mut ThpNode, alloc: Global, stats: &mut ThpStats) -> u32
     ensures does { Does handle.old.held handle.new.held (answer_of result) (λ old new answer. (new ≡ old) × (answer ≡ Ok tt) × (stats.new ≡ stats_of old.node)) }
-    ensures known { result < length answers }
+    ensures known { IsCode result }
     ensures kept { OnErr (answer_of result) (stats.new ≡ stats.old) }
 {
     thp_capi::node_stats(handle, alloc, stats)
@@ -175,8 +192,8 @@ pub extern "C" fn thp_c_node_journal(
     buffer: &mut [u8],
     size: &mut usize,
 ) -> u32
-    ensures does { Does handle.old.held handle.new.held (answer_of result) (λ old new answer. (new ≡ old) × Written (journal_text ((old.node.shape, old.node.journal) ∷ [])) buffer.old buffer.new size.old size.new answer) }
-    ensures known { result < length answers }
+    ensures does { DoesIfKept handle.old.held handle.new.held (answer_of result) (λ old new answer. (new ≡ old) × Written (journal_text ((old.node.shape, old.node.journal) ∷ [])) buffer.old buffer.new size.old size.new answer) (λ old new answer. (new ≡ old) × (answer ≡ Err Fault.NoJournal) × (buffer.new ≡ buffer.old) × (size.new ≡ size.old)) }
+    ensures known { IsCode result }
 {
     thp_capi::node_journal(handle, alloc, buffer, size)
 }

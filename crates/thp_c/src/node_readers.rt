@@ -1,11 +1,11 @@
 //! The calls that read a node's pages and queue, exported.
-ghost use Rattle.std.specs.Prelude.{◌≡◌, ◌<◌, OnErr, length};
-ghost use Rattle.thp_capi.specs.Codes.{answer_of, answers, answer_with};
-ghost use Rattle.thp_capi.specs.Engines.{Does};
+ghost use Rattle.std.specs.Prelude.{◌≡◌, Err, OnErr};
+ghost use Rattle.thp_capi.specs.Codes.{answer_of, answer_with, IsCode};
+ghost use Rattle.thp_capi.specs.Held.{Does, DoesIfKept};
 ghost use Rattle.thp_capi.specs.Reading.{MapcountCall, PageCall, QueueCall};
 
 use std::alloc::Global;
-use thp_capi::{ThpNode, ThpPageState};
+use thp_capi::{Fault, ThpNode, ThpPageState};
 
 /// Stores the state of a live page in `state`.
 #[unsafe(no_mangle)]
@@ -16,7 +16,7 @@ pub extern "C" fn thp_c_node_page(
     state: &mut ThpPageState,
 ) -> u32
     ensures does { Does handle.old.held handle.new.held (answer_of result) (λ old new answer. PageCall page old new (answer_with answer state.new)) }
-    ensures known { result < length answers }
+    ensures known { IsCode result }
     ensures kept { OnErr (answer_of result) (state.new ≡ state.old) }
 {
     thp_capi::node_page(handle, alloc, page, state)
@@ -32,7 +32,7 @@ pub extern "C" fn thp_c_node_mapcount(
     own: &mut u32,
 ) -> u32
     ensures does { Does handle.old.held handle.new.held (answer_of result) (λ old new answer. MapcountCall page subpage old new (answer_with answer own.new)) }
-    ensures known { result < length answers }
+    ensures known { IsCode result }
     ensures kept { OnErr (answer_of result) (own.new ≡ own.old) }
 {
     thp_capi::node_mapcount(handle, alloc, page, subpage, own)
@@ -46,8 +46,8 @@ pub extern "C" fn thp_c_node_queue(
     pages: &mut [u64],
     count: &mut u32,
 ) -> u32
-    ensures does { Does handle.old.held handle.new.held (answer_of result) (QueueCall pages.old pages.new count.new) }
-    ensures known { result < length answers }
+    ensures does { DoesIfKept handle.old.held handle.new.held (answer_of result) (QueueCall pages.old pages.new count.new) (λ old new answer. (new ≡ old) × (answer ≡ Err Fault.NoJournal)) }
+    ensures known { IsCode result }
     ensures kept_pages { OnErr (answer_of result) (pages.new ≡ pages.old) }
     ensures kept_count { OnErr (answer_of result) (count.new ≡ count.old) }
 {

@@ -1,9 +1,9 @@
 //! The calls about one page, exported: of a node, and of a pass of a shared node.
-ghost use Rattle.std.specs.Prelude.{◌≡◌, ◌<◌, OnErr, length};
+ghost use Rattle.std.specs.Prelude.{◌≡◌, OnErr};
 ghost use Rattle.thp_model.specs.Refusals as call;
 ghost use Rattle.thp_capi.specs.Calls.{OneCall};
-ghost use Rattle.thp_capi.specs.Codes.{answer_of, answers, answer_with};
-ghost use Rattle.thp_capi.specs.Engines.{Does};
+ghost use Rattle.thp_capi.specs.Codes.{answer_of, answer_with, IsCode};
+ghost use Rattle.thp_capi.specs.Held.{Does};
 ghost use Rattle.thp_capi.specs.PassCodes.{pass_answer_of, pass_answer_with, IsPassCode};
 ghost use Rattle.thp_capi.specs.Rooms.{value_of};
 ghost use Rattle.thp_capi.specs.Passes.{PassDoes, PassOne, PassLost};
@@ -22,7 +22,7 @@ pub extern "C" fn thp_c_node_map_whole(
     page: u64,
 ) -> u32
     ensures does { Does handle.old.held handle.new.held (answer_of result) (OneCall caller (call.map_whole page) (What.MapWhole page)) }
-    ensures known { result < length answers }
+    ensures known { IsCode result }
 {
     thp_capi::node_gain(handle, alloc, caller, page, Gain::MapWhole)
 }
@@ -38,7 +38,7 @@ pub extern "C" fn thp_c_node_map_sub(
     count: u32,
 ) -> u32
     ensures does { Does handle.old.held handle.new.held (answer_of result) (OneCall caller (call.map_sub page first count) (What.MapSub page first count)) }
-    ensures known { result < length answers }
+    ensures known { IsCode result }
 {
     let first = narrowed(first);
     let count = narrowed(count);
@@ -55,7 +55,7 @@ pub extern "C" fn thp_c_node_split_pmd(
     page: u64,
 ) -> u32
     ensures does { Does handle.old.held handle.new.held (answer_of result) (OneCall caller (call.split_pmd page) (What.SplitPmd page)) }
-    ensures known { result < length answers }
+    ensures known { IsCode result }
 {
     thp_capi::node_gain(handle, alloc, caller, page, Gain::SplitPmd)
 }
@@ -64,7 +64,7 @@ pub extern "C" fn thp_c_node_split_pmd(
 #[unsafe(no_mangle)]
 pub extern "C" fn thp_c_node_pin(handle: &mut ThpNode, alloc: Global, caller: u32, page: u64) -> u32
     ensures does { Does handle.old.held handle.new.held (answer_of result) (OneCall caller (call.pin page) (What.Pin page)) }
-    ensures known { result < length answers }
+    ensures known { IsCode result }
 {
     thp_capi::node_gain(handle, alloc, caller, page, Gain::Pin)
 }
@@ -80,7 +80,7 @@ pub extern "C" fn thp_c_node_write(
     count: u32,
 ) -> u32
     ensures does { Does handle.old.held handle.new.held (answer_of result) (OneCall caller (call.write page first count) (What.Write page first count)) }
-    ensures known { result < length answers }
+    ensures known { IsCode result }
 {
     let first = narrowed(first);
     let count = narrowed(count);
@@ -99,7 +99,7 @@ pub extern "C" fn thp_c_node_zero(
     count: u32,
 ) -> u32
     ensures does { Does handle.old.held handle.new.held (answer_of result) (OneCall caller (call.zero_fill page first count) (What.Zero page first count)) }
-    ensures known { result < length answers }
+    ensures known { IsCode result }
 {
     let first = narrowed(first);
     let count = narrowed(count);
@@ -117,7 +117,7 @@ pub extern "C" fn thp_c_node_unmap_whole(
     done: &mut ThpDone,
 ) -> u32
     ensures does { Does handle.old.held handle.new.held (answer_of result) (λ old new answer. LoseCall caller (call.unmap_whole page) page (λ o released. What.UnmapWhole o page released) old new (answer_with answer done.new)) }
-    ensures known { result < length answers }
+    ensures known { IsCode result }
     ensures kept { OnErr (answer_of result) (done.new ≡ done.old) }
 {
     thp_capi::node_lose(handle, alloc, caller, page, Loss::UnmapWhole, done)
@@ -135,7 +135,7 @@ pub extern "C" fn thp_c_node_unmap_sub(
     done: &mut ThpDone,
 ) -> u32
     ensures does { Does handle.old.held handle.new.held (answer_of result) (λ old new answer. LoseCall caller (call.unmap_sub page first count) page (λ o released. What.UnmapSub o page first count released) old new (answer_with answer done.new)) }
-    ensures known { result < length answers }
+    ensures known { IsCode result }
     ensures kept { OnErr (answer_of result) (done.new ≡ done.old) }
 {
     let first = narrowed(first);
@@ -154,7 +154,7 @@ pub extern "C" fn thp_c_node_unpin(
     done: &mut ThpDone,
 ) -> u32
     ensures does { Does handle.old.held handle.new.held (answer_of result) (λ old new answer. LoseCall caller (call.unpin page) page (λ o released. What.Unpin o page released) old new (answer_with answer done.new)) }
-    ensures known { result < length answers }
+    ensures known { IsCode result }
     ensures kept { OnErr (answer_of result) (done.new ≡ done.old) }
 {
     thp_capi::node_lose(handle, alloc, caller, page, Loss::Unpin, done)

@@ -8,7 +8,7 @@ ghost use Rattle.thp_capi.specs.Passes.{PassDoes, PassOne, PassAlloc, PassScan, 
 ghost use Rattle.thp_capi.specs.Replies.{scan_of};
 
 use std::alloc::Global;
-use thp_capi::{ThpNode, ThpPass, ThpScan};
+use thp_capi::{Events, ThpNode, ThpPass, ThpScan};
 use thp_model::What;
 
 /// Creates a shared node for `callers` callers, and fills the handle with the pass of all of them. `mark` distinguishes passes of
@@ -23,10 +23,45 @@ pub extern "C" fn thp_c_cell_create(
     callers: u32,
     mark: u64,
 ) -> u32
-    ensures does { CellMade (value_of handle.old.held) (value_of handle.new.held) (shape_of blocks order underused) callers mark (pass_answer_of result) }
+    ensures does { CellMade (value_of handle.old.held) (value_of handle.new.held) (shape_of blocks order underused) Events.Kept callers mark (pass_answer_of result) }
     ensures known { IsPassCode result }
 {
-    thp_capi::cell_create(handle, alloc, blocks, order, underused, callers, mark)
+    thp_capi::cell_create(
+        handle,
+        alloc,
+        blocks,
+        order,
+        underused,
+        Events::Kept,
+        callers,
+        mark,
+    )
+}
+
+/// Creates a shared node that only counts its events, as `thp_c_cell_create` creates one that keeps them.
+#[unsafe(no_mangle)]
+pub extern "C" fn thp_c_cell_create_counting(
+    handle: &mut ThpPass,
+    alloc: Global,
+    blocks: u32,
+    order: u32,
+    underused: u32,
+    callers: u32,
+    mark: u64,
+) -> u32
+    ensures does { CellMade (value_of handle.old.held) (value_of handle.new.held) (shape_of blocks order underused) Events.Counted callers mark (pass_answer_of result) }
+    ensures known { IsPassCode result }
+{
+    thp_capi::cell_create(
+        handle,
+        alloc,
+        blocks,
+        order,
+        underused,
+        Events::Counted,
+        callers,
+        mark,
+    )
 }
 
 /// Frees the pass that the handle refers to, and empties the handle. The last pass frees the cell too.

@@ -11,8 +11,6 @@ use Rattle.std.proofs.result.Result.TheSendSync as result
 use Rattle.std_alloc.proofs.SendSync.{quiet}
 use Rattle.thp_live_pages.specs.contracts.free_blocks.FreeBlocks as FreeBlocks
 use Rattle.thp_live_pages.specs.contracts.free_blocks.FreeBlocks.TheInside as in_free
-use Rattle.thp_live_pages.specs.contracts.past.EventTrace as EventTrace
-use Rattle.thp_live_pages.specs.contracts.past.EventTrace.TheInside as in_past
 use Rattle.thp_check.specs.contracts.flights.Flights as Flights
 use Rattle.thp_check.specs.contracts.flights.Flights.TheInside as in_flights
 use Rattle.thp_links.specs.contracts.link_vec.LinkVec as LinkVec
@@ -36,13 +34,10 @@ use Rattle.thp_script.specs.contracts.text_in_parts.TextInParts.TheInside as in_
 use Rattle.thp_capi.specs.contracts.room.Room as Room
 use Rattle.thp_capi.specs.contracts.check_handle.ThpCheck.{the_row, the_type}
 use Rattle.thp_capi.specs.contracts.check_stage.CheckStage as CheckStage
-use Rattle.thp_capi.proofs.Crossings.{boxed_send, places_send, words_send}
+use Rattle.thp_capi.proofs.Crossings.{boxed_send, past_send, places_send, words_send}
 
 free_send : IsSend FreeBlocks.the_row
 free_send = view_send in_free.the_row _ _ _ _ (declared_send in_free.the_type (search (sendable, crosses) depth 30, tt))
-
-past_send : IsSend EventTrace.the_row
-past_send = view_send in_past.the_row _ _ _ _ (declared_send in_past.the_type (search (sendable, crosses) depth 30, tt))
 
 links_send : IsSend LinkVec.the_row
 links_send = view_send in_links.the_row _ _ _ _ (declared_send in_links.the_type (search (sendable, crosses) depth 30, (search (sendable, crosses) depth 30, tt)))

@@ -3,7 +3,6 @@ mod Handles
 mod Exchanges
 mod TextSoFar
 mod Masks
-mod Losses
 mod QueueOrder
 mod QueueBuffer
 mod QueueSteps

@@ -17,11 +17,16 @@ use Rattle.thp_node.specs.Calls.{Did}
 use Rattle.thp_cell.proofs.Narrowed.{one_as, lose_as}
 use Rattle.thp_capi.specs.Calls.{OneCall, Fails}
 use Rattle.thp_capi.specs.Codes.{Answer, answer_with}
-use Rattle.thp_capi.specs.Engines.{EngineState, Does, IsLow}
+use Rattle.thp_capi.specs.Engines.{EngineState, IsLow}
+use Rattle.thp_capi.specs.Held.{Does, IsLowHeld}
 use Rattle.thp_capi.specs.PassCodes.{PassAnswer, pass_answer_with}
-use Rattle.thp_capi.specs.Passes.{PassDoes, PassOne, PassLost, PassFails, IsLowPass}
+use Rattle.thp_capi.specs.Passes.{PassDoes, PassOne, PassLost, PassFails, IsLowPass, IsLowShared}
 use Rattle.thp_capi.specs.Replies.{LoseCall}
 use Rattle.thp_capi.specs.Sharing.{SharedState}
+use Rattle.thp_capi.specs.declared.held.HeldEngine.{HeldEngine}
+use Rattle.thp_capi.specs.declared.held.HeldEngine.TheVariants as engine
+use Rattle.thp_capi.specs.declared.held.HeldPass.{HeldPass}
+use Rattle.thp_capi.specs.declared.held.HeldPass.TheVariants as pass
 use Rattle.thp_capi.specs.declared.replies.ThpDone.{ThpDone}
 
 -- two calls are refused alike, and where they aren't refused what happens is the same
@@ -38,11 +43,19 @@ one_of caller a b v w k old new (Ok u) low d =
 one_of caller a b v w k old new (Err f) low d =
     (d.0, tt, subst (λ (r : Option Refusal). Fails caller r 1 old new f) (k.same _ _ low) d.2)
 
-one : (caller : ℕ) (a b : Call) (v w : What) → Alike a b v w → (old new : Option EngineState) (answer : Answer) → IfSome old IsLow → Does old new answer (OneCall caller a v) → Does old new answer (OneCall caller b w)
-one caller a b v w k None None answer low d = d
-one caller a b v w k None (Some new) answer low d = d
-one caller a b v w k (Some old) None answer low d = d
-one caller a b v w k (Some old) (Some new) answer low d = one_of caller a b v w k old new answer low d
+-- whatever a handle holds, what a call does to it implies what another call would do
+does_as : (P Q : EngineState → EngineState → Answer → Type 0) (answer : Answer) → ((old new : EngineState) → IsLow old → P old new answer → Q old new answer) → (old new : Option HeldEngine) → IfSome old IsLowHeld → Does old new answer P → Does old new answer Q
+does_as P Q answer f None None low d = d
+does_as P Q answer f None (Some new) low d = d
+does_as P Q answer f (Some (engine.Kept old)) None low d = d
+does_as P Q answer f (Some (engine.Counted old)) None low d = d
+does_as P Q answer f (Some (engine.Kept old)) (Some (engine.Kept new)) low d = f old new low d
+does_as P Q answer f (Some (engine.Kept old)) (Some (engine.Counted new)) low d = d
+does_as P Q answer f (Some (engine.Counted old)) (Some (engine.Kept new)) low d = d
+does_as P Q answer f (Some (engine.Counted old)) (Some (engine.Counted new)) low d = f old new low d
+
+one : (caller : ℕ) (a b : Call) (v w : What) → Alike a b v w → (old new : Option HeldEngine) (answer : Answer) → IfSome old IsLowHeld → Does old new answer (OneCall caller a v) → Does old new answer (OneCall caller b w)
+one caller a b v w k old new answer low d = does_as (OneCall caller a v) (OneCall caller b w) answer (λ x y l e. one_of caller a b v w k x y answer l e) old new low d
 
 lose_of : (caller p : ℕ) (a b : Call) (v w : Outcome → List Bool → What) → ((o : Outcome) (r : List Bool) → Alike a b (v o r) (w o r)) → (t : ThpDone) (old new : EngineState) (answer : Answer) → IsLow old →
     LoseCall caller a p v old new (answer_with answer t) → LoseCall caller b p w old new (answer_with answer t)
@@ -54,29 +67,35 @@ lose_of caller p a b v w k t old new (Err f) low d =
     let no : List Bool = [] in
     (d.0, tt, tt, tt, tt, subst (λ (r : Option Refusal). Fails caller r 1 old new f) ((k Stays no).same _ _ low) d.5)
 
-lose : (caller p : ℕ) (a b : Call) (v w : Outcome → List Bool → What) → ((o : Outcome) (r : List Bool) → Alike a b (v o r) (w o r)) → (t : ThpDone) (old new : Option EngineState) (answer : Answer) → IfSome old IsLow →
+lose : (caller p : ℕ) (a b : Call) (v w : Outcome → List Bool → What) → ((o : Outcome) (r : List Bool) → Alike a b (v o r) (w o r)) → (t : ThpDone) (old new : Option HeldEngine) (answer : Answer) → IfSome old IsLowHeld →
     Does old new answer (λ o n x. LoseCall caller a p v o n (answer_with x t)) → Does old new answer (λ o n x. LoseCall caller b p w o n (answer_with x t))
-lose caller p a b v w k t None None answer low d = d
-lose caller p a b v w k t None (Some new) answer low d = d
-lose caller p a b v w k t (Some old) None answer low d = d
-lose caller p a b v w k t (Some old) (Some new) answer low d = lose_of caller p a b v w k t old new answer low d
+lose caller p a b v w k t old new answer low d =
+    does_as (λ o n x. LoseCall caller a p v o n (answer_with x t)) (λ o n x. LoseCall caller b p w o n (answer_with x t)) answer (λ x y l e. lose_of caller p a b v w k t x y answer l e) old new low d
 
 -- ---- a pass
 
-pass_of_one : (caller : ℕ) (a b : Call) (v w : What) → Alike a b v w → (old new : SharedState) (answer : PassAnswer) → IsLowPass old → PassOne caller a v old new answer → PassOne caller b w old new answer
+pass_of_one : (caller : ℕ) (a b : Call) (v w : What) → Alike a b v w → (old new : SharedState) (answer : PassAnswer) → IsLowShared old → PassOne caller a v old new answer → PassOne caller b w old new answer
 pass_of_one caller a b v w k old new (Ok u) low d =
     (d.0, one_as old.pass new.pass caller a b v w (λ h. k.same _ h low) (λ h ok. k.whole _ h low ok) d.1, tt)
 pass_of_one caller a b v w k old new (Err f) low d =
     let low : new.pass.shape.order ≤ max_order = subst (λ (s : SharedState). s.pass.shape.order ≤ max_order) (sym d.0) low in
     (d.0, tt, subst (λ (r : Option Refusal). PassFails caller r 1 old.pass new.pass f) (k.same _ _ low) d.2)
 
-pass_one : (caller : ℕ) (a b : Call) (v w : What) → Alike a b v w → (old new : Option SharedState) (answer : PassAnswer) → IfSome old IsLowPass → PassDoes old new answer (PassOne caller a v) → PassDoes old new answer (PassOne caller b w)
-pass_one caller a b v w k None None answer low d = d
-pass_one caller a b v w k None (Some new) answer low d = d
-pass_one caller a b v w k (Some old) None answer low d = d
-pass_one caller a b v w k (Some old) (Some new) answer low d = pass_of_one caller a b v w k old new answer low d
+-- whatever a handle holds, what a call does to it implies what another call would do
+pass_does_as : (P Q : SharedState → SharedState → PassAnswer → Type 0) (answer : PassAnswer) → ((old new : SharedState) → IsLowShared old → P old new answer → Q old new answer) → (old new : Option HeldPass) → IfSome old IsLowPass → PassDoes old new answer P → PassDoes old new answer Q
+pass_does_as P Q answer f None None low d = d
+pass_does_as P Q answer f None (Some new) low d = d
+pass_does_as P Q answer f (Some (pass.Kept old)) None low d = d
+pass_does_as P Q answer f (Some (pass.Counted old)) None low d = d
+pass_does_as P Q answer f (Some (pass.Kept old)) (Some (pass.Kept new)) low d = f old new low d
+pass_does_as P Q answer f (Some (pass.Kept old)) (Some (pass.Counted new)) low d = d
+pass_does_as P Q answer f (Some (pass.Counted old)) (Some (pass.Kept new)) low d = d
+pass_does_as P Q answer f (Some (pass.Counted old)) (Some (pass.Counted new)) low d = f old new low d
 
-pass_of_lost : (caller p : ℕ) (a b : Call) (v w : Outcome → List Bool → What) → ((o : Outcome) (r : List Bool) → Alike a b (v o r) (w o r)) → (t : ThpDone) (old new : SharedState) (answer : PassAnswer) → IsLowPass old →
+pass_one : (caller : ℕ) (a b : Call) (v w : What) → Alike a b v w → (old new : Option HeldPass) (answer : PassAnswer) → IfSome old IsLowPass → PassDoes old new answer (PassOne caller a v) → PassDoes old new answer (PassOne caller b w)
+pass_one caller a b v w k old new answer low d = pass_does_as (PassOne caller a v) (PassOne caller b w) answer (λ x y l e. pass_of_one caller a b v w k x y answer l e) old new low d
+
+pass_of_lost : (caller p : ℕ) (a b : Call) (v w : Outcome → List Bool → What) → ((o : Outcome) (r : List Bool) → Alike a b (v o r) (w o r)) → (t : ThpDone) (old new : SharedState) (answer : PassAnswer) → IsLowShared old →
     PassLost caller a p v old new (pass_answer_with answer t) → PassLost caller b p w old new (pass_answer_with answer t)
 pass_of_lost caller p a b v w k t old new (Ok u) low d =
     let x = d.1 in
@@ -87,12 +106,10 @@ pass_of_lost caller p a b v w k t old new (Err f) low d =
     let low : new.pass.shape.order ≤ max_order = subst (λ (s : SharedState). s.pass.shape.order ≤ max_order) (sym d.0) low in
     (d.0, tt, subst (λ (r : Option Refusal). PassFails caller r 1 old.pass new.pass f) ((k Stays no).same _ _ low) d.2)
 
-pass_lost : (caller p : ℕ) (a b : Call) (v w : Outcome → List Bool → What) → ((o : Outcome) (r : List Bool) → Alike a b (v o r) (w o r)) → (t : ThpDone) (old new : Option SharedState) (answer : PassAnswer) → IfSome old IsLowPass →
+pass_lost : (caller p : ℕ) (a b : Call) (v w : Outcome → List Bool → What) → ((o : Outcome) (r : List Bool) → Alike a b (v o r) (w o r)) → (t : ThpDone) (old new : Option HeldPass) (answer : PassAnswer) → IfSome old IsLowPass →
     PassDoes old new answer (λ o n x. PassLost caller a p v o n (pass_answer_with x t)) → PassDoes old new answer (λ o n x. PassLost caller b p w o n (pass_answer_with x t))
-pass_lost caller p a b v w k t None None answer low d = d
-pass_lost caller p a b v w k t None (Some new) answer low d = d
-pass_lost caller p a b v w k t (Some old) None answer low d = d
-pass_lost caller p a b v w k t (Some old) (Some new) answer low d = pass_of_lost caller p a b v w k t old new answer low d
+pass_lost caller p a b v w k t old new answer low d =
+    pass_does_as (λ o n x. PassLost caller a p v o n (pass_answer_with x t)) (λ o n x. PassLost caller b p w o n (pass_answer_with x t)) answer (λ x y l e. pass_of_lost caller p a b v w k t x y answer l e) old new low d
 
 -- ---- the four calls of a range
 
@@ -123,28 +140,28 @@ unmap_alike p first count f n ef en o r = rw (ef, en) (record {
 -- by name, of a node and of a pass
 
 module _ (caller p first count f n : ℕ) (ef : f ≡ kept first) (en : n ≡ kept count) where
-  pub node_map : (old new : Option EngineState) (answer : Answer) → IfSome old IsLow → Does old new answer (OneCall caller (call.map_sub p f n) (what.MapSub p f n)) → Does old new answer (OneCall caller (call.map_sub p first count) (what.MapSub p first count))
+  pub node_map : (old new : Option HeldEngine) (answer : Answer) → IfSome old IsLowHeld → Does old new answer (OneCall caller (call.map_sub p f n) (what.MapSub p f n)) → Does old new answer (OneCall caller (call.map_sub p first count) (what.MapSub p first count))
   node_map = one caller _ _ _ _ (map_alike p first count f n ef en)
 
-  pub node_write : (old new : Option EngineState) (answer : Answer) → IfSome old IsLow → Does old new answer (OneCall caller (call.write p f n) (what.Write p f n)) → Does old new answer (OneCall caller (call.write p first count) (what.Write p first count))
+  pub node_write : (old new : Option HeldEngine) (answer : Answer) → IfSome old IsLowHeld → Does old new answer (OneCall caller (call.write p f n) (what.Write p f n)) → Does old new answer (OneCall caller (call.write p first count) (what.Write p first count))
   node_write = one caller _ _ _ _ (write_alike p first count f n ef en)
 
-  pub node_zero : (old new : Option EngineState) (answer : Answer) → IfSome old IsLow → Does old new answer (OneCall caller (call.zero_fill p f n) (what.Zero p f n)) → Does old new answer (OneCall caller (call.zero_fill p first count) (what.Zero p first count))
+  pub node_zero : (old new : Option HeldEngine) (answer : Answer) → IfSome old IsLowHeld → Does old new answer (OneCall caller (call.zero_fill p f n) (what.Zero p f n)) → Does old new answer (OneCall caller (call.zero_fill p first count) (what.Zero p first count))
   node_zero = one caller _ _ _ _ (zero_alike p first count f n ef en)
 
-  pub node_unmap : (t : ThpDone) (old new : Option EngineState) (answer : Answer) → IfSome old IsLow → Does old new answer (λ x y a. LoseCall caller (call.unmap_sub p f n) p (λ o r. what.UnmapSub o p f n r) x y (answer_with a t)) →
+  pub node_unmap : (t : ThpDone) (old new : Option HeldEngine) (answer : Answer) → IfSome old IsLowHeld → Does old new answer (λ x y a. LoseCall caller (call.unmap_sub p f n) p (λ o r. what.UnmapSub o p f n r) x y (answer_with a t)) →
       Does old new answer (λ x y a. LoseCall caller (call.unmap_sub p first count) p (λ o r. what.UnmapSub o p first count r) x y (answer_with a t))
   node_unmap = lose caller p _ _ _ _ (unmap_alike p first count f n ef en)
 
-  pub pass_map : (old new : Option SharedState) (answer : PassAnswer) → IfSome old IsLowPass → PassDoes old new answer (PassOne caller (call.map_sub p f n) (what.MapSub p f n)) → PassDoes old new answer (PassOne caller (call.map_sub p first count) (what.MapSub p first count))
+  pub pass_map : (old new : Option HeldPass) (answer : PassAnswer) → IfSome old IsLowPass → PassDoes old new answer (PassOne caller (call.map_sub p f n) (what.MapSub p f n)) → PassDoes old new answer (PassOne caller (call.map_sub p first count) (what.MapSub p first count))
   pass_map = pass_one caller _ _ _ _ (map_alike p first count f n ef en)
 
-  pub pass_write : (old new : Option SharedState) (answer : PassAnswer) → IfSome old IsLowPass → PassDoes old new answer (PassOne caller (call.write p f n) (what.Write p f n)) → PassDoes old new answer (PassOne caller (call.write p first count) (what.Write p first count))
+  pub pass_write : (old new : Option HeldPass) (answer : PassAnswer) → IfSome old IsLowPass → PassDoes old new answer (PassOne caller (call.write p f n) (what.Write p f n)) → PassDoes old new answer (PassOne caller (call.write p first count) (what.Write p first count))
   pass_write = pass_one caller _ _ _ _ (write_alike p first count f n ef en)
 
-  pub pass_zero : (old new : Option SharedState) (answer : PassAnswer) → IfSome old IsLowPass → PassDoes old new answer (PassOne caller (call.zero_fill p f n) (what.Zero p f n)) → PassDoes old new answer (PassOne caller (call.zero_fill p first count) (what.Zero p first count))
+  pub pass_zero : (old new : Option HeldPass) (answer : PassAnswer) → IfSome old IsLowPass → PassDoes old new answer (PassOne caller (call.zero_fill p f n) (what.Zero p f n)) → PassDoes old new answer (PassOne caller (call.zero_fill p first count) (what.Zero p first count))
   pass_zero = pass_one caller _ _ _ _ (zero_alike p first count f n ef en)
 
-  pub pass_unmap : (t : ThpDone) (old new : Option SharedState) (answer : PassAnswer) → IfSome old IsLowPass → PassDoes old new answer (λ x y a. PassLost caller (call.unmap_sub p f n) p (λ o r. what.UnmapSub o p f n r) x y (pass_answer_with a t)) →
+  pub pass_unmap : (t : ThpDone) (old new : Option HeldPass) (answer : PassAnswer) → IfSome old IsLowPass → PassDoes old new answer (λ x y a. PassLost caller (call.unmap_sub p f n) p (λ o r. what.UnmapSub o p f n r) x y (pass_answer_with a t)) →
       PassDoes old new answer (λ x y a. PassLost caller (call.unmap_sub p first count) p (λ o r. what.UnmapSub o p first count r) x y (pass_answer_with a t))
   pass_unmap = pass_lost caller p _ _ _ _ (unmap_alike p first count f n ef en)

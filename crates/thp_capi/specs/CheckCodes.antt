@@ -1,6 +1,6 @@
 -- The meaning of the number that a call on a check returns.
-use Rattle.std.specs.Prelude.{◌≡◌, ℕ, ◌<◌, ◌⊎◌, length, Result, Ok, Err, ⊤, if◌then◌else◌, nat_eq}
-use Rattle.thp_capi.specs.Codes.{Answer, answers, answer_of}
+use Rattle.std.specs.Prelude.{◌≡◌, ℕ, ◌⊎◌, Result, Ok, Err, ⊤, if◌then◌else◌, nat_eq}
+use Rattle.thp_capi.specs.Codes.{Answer, IsCode, answer_of}
 use Rattle.thp_capi.specs.declared.check_codes.CheckCallFault.{CheckCallFault}
 use Rattle.thp_capi.specs.declared.check_codes.CheckCallFault.TheVariants.{Plain, Finished, NoReason}
 
@@ -19,4 +19,4 @@ check_answer_of code = if nat_eq code 32 then Err Finished else if nat_eq code 3
 
 -- the number is that of a result
 abbrev pub IsCheckCode : ℕ → Type 0
-IsCheckCode code = (code < length answers) ⊎ (code ≡ 32) ⊎ (code ≡ 33)
+IsCheckCode code = IsCode code ⊎ (code ≡ 32) ⊎ (code ≡ 33)

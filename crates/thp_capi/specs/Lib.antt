@@ -2,6 +2,7 @@ pub mod Codes
 pub mod Checks
 pub mod OpenBatches
 pub mod Engines
+pub mod Held
 pub mod Calls
 pub mod Replies
 pub mod Reading

@@ -1,6 +1,6 @@
 -- The meaning of the number that a call on passes returns.
-use Rattle.std.specs.Prelude.{◌≡◌, ℕ, ◌<◌, ◌⊎◌, length, Result, Ok, Err, ⊤, if◌then◌else◌, nat_eq}
-use Rattle.thp_capi.specs.Codes.{Answer, answers, answer_of}
+use Rattle.std.specs.Prelude.{◌≡◌, ℕ, ◌⊎◌, Result, Ok, Err, ⊤, if◌then◌else◌, nat_eq}
+use Rattle.thp_capi.specs.Codes.{Answer, IsCode, answer_of}
 use Rattle.thp_capi.specs.declared.pass_codes.PassFault.{PassFault}
 use Rattle.thp_capi.specs.declared.pass_codes.PassFault.TheVariants.{Plain, Busy, BadPass}
 
@@ -19,7 +19,7 @@ pass_answer_of code = if nat_eq code 30 then Err Busy else if nat_eq code 31 the
 
 -- the number is that of a result
 abbrev pub IsPassCode : ℕ → Type 0
-IsPassCode code = (code < length answers) ⊎ (code ≡ 30) ⊎ (code ≡ 31)
+IsPassCode code = IsCode code ⊎ (code ≡ 30) ⊎ (code ≡ 31)
 
 -- the result together with the call's value
 abbrev pub pass_answer_with : {A : Type 0} → PassAnswer → A → Result A PassFault

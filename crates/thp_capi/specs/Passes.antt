@@ -19,6 +19,12 @@ use Rattle.thp_capi.specs.PassCodes.{PassAnswer}
 use Rattle.thp_capi.specs.Engines.{EngineState, NoneOpen}
 use Rattle.thp_capi.specs.Replies.{MasksSet, outcome_number}
 use Rattle.thp_capi.specs.Sharing.{SharedState, OnlyFront, IsPart, IsShut, HasOpen, OpenStay}
+use Rattle.thp_capi.specs.declared.held.Events.{Events}
+use Rattle.thp_capi.specs.declared.held.Events.TheVariants as events
+use Rattle.thp_capi.specs.declared.held.HeldEngine.{HeldEngine}
+use Rattle.thp_capi.specs.declared.held.HeldEngine.TheVariants as engine
+use Rattle.thp_capi.specs.declared.held.HeldPass.{HeldPass}
+use Rattle.thp_capi.specs.declared.held.HeldPass.TheVariants.{Kept, Counted}
 use Rattle.thp_capi.specs.declared.codes.Fault.TheVariants.{Refused as RefusedWith, BadCaller, BadCount, BadSize, BatchOpen, Empty, InUse}
 use Rattle.thp_capi.specs.declared.pass_codes.PassFault.{PassFault}
 use Rattle.thp_capi.specs.declared.replies.ThpDone.{ThpDone}
@@ -74,9 +80,24 @@ PassCount pages old new =
     × Follows old.pass new.pass
     × (pages ≡ length (queue new.pass.shape new.pass.front))
 
+-- ---- what a handle holds
+
+-- the pass, whatever becomes of the events of its cell's node
+abbrev pub pass_in : HeldPass → SharedState
+pass_in (Kept s) = s
+pass_in (Counted s) = s
+
+-- what becomes of the events of its cell's node
+abbrev pub pass_events : HeldPass → Events
+pass_events (Kept s) = events.Kept
+pass_events (Counted s) = events.Counted
+
 -- the node's pages have an order within the limits
-abbrev pub IsLowPass : SharedState → Type 0
-IsLowPass s = s.pass.shape.order ≤ max_order
+abbrev pub IsLowShared : SharedState → Type 0
+IsLowShared s = s.pass.shape.order ≤ max_order
+
+abbrev pub IsLowPass : HeldPass → Type 0
+IsLowPass held = IsLowShared (pass_in held)
 
 -- ---- passes that are divided and joined, and the end of a cell
 
@@ -97,78 +118,100 @@ abbrev pub Divides : ℕ → PassState → Type 0
 Divides at p = (p.first < at) × (at < p.end)
 
 -- equal marks are of one cell. The program that passes two passes must guarantee that
-abbrev pub OneCell : SharedState → SharedState → Type 0
-OneCell left right = left.mark ≡ right.mark → left.pass.cell ≡ right.pass.cell
+abbrev pub OneCell : HeldPass → HeldPass → Type 0
+OneCell (Kept left) (Kept right) = left.mark ≡ right.mark → left.pass.cell ≡ right.pass.cell
+OneCell (Counted left) (Counted right) = left.mark ≡ right.mark → left.pass.cell ≡ right.pass.cell
+OneCell _ _ = ⊤
 
 -- two passes are of one cell by their marks, and the callers of the second directly follow those of the first
 abbrev pub Adjoin : SharedState → SharedState → Type 0
 Adjoin left right = (left.mark ≡ right.mark) × (left.pass.end ≡ right.pass.first)
 
+-- the same of what two handles hold: passes of one cell have the same kind of node
+abbrev pub AdjoinHeld : HeldPass → HeldPass → Type 0
+AdjoinHeld (Kept left) (Kept right) = Adjoin left right
+AdjoinHeld (Counted left) (Counted right) = Adjoin left right
+AdjoinHeld _ _ = ⊥
+
 -- ---- the contents of the handles, before and after a call
 
 -- a call on a handle that is not empty has the effect P; on an empty handle it reports that
-abbrev pub PassDoes : Option SharedState → Option SharedState → PassAnswer → (SharedState → SharedState → PassAnswer → Type 0) → Type 0
+abbrev pub PassDoes : Option HeldPass → Option HeldPass → PassAnswer → (SharedState → SharedState → PassAnswer → Type 0) → Type 0
 PassDoes None None answer P = answer ≡ Err (Plain Empty)
-PassDoes (Some old) (Some new) answer P = P old new answer
+PassDoes (Some (Kept old)) (Some (Kept new)) answer P = P old new answer
+PassDoes (Some (Counted old)) (Some (Counted new)) answer P = P old new answer
 PassDoes _ _ answer P = ⊥
 
 -- the pass of all callers of a new cell, with this mark and no open batch; or the reason why the handle stays empty; or the
 -- handle was not empty
-abbrev pub CellMade : Option SharedState → Option SharedState → Shape → ℕ → ℕ → PassAnswer → Type 0
-CellMade None (Some new) s callers mark answer = (answer ≡ Ok tt) × IsNewPass s callers new.pass × IsShut new × (new.mark ≡ mark) × IsCellSize s callers
-CellMade None None s callers mark answer = ((answer ≡ Err (Plain BadSize)) × (IsCellSize s callers → ⊥)) ⊎ (answer ≡ Err (Plain (RefusedWith OutOfMemory)))
-CellMade (Some old) (Some new) s callers mark answer = (new ≡ old) × (answer ≡ Err (Plain InUse))
-CellMade (Some old) None s callers mark answer = ⊥
+abbrev pub CellMade : Option HeldPass → Option HeldPass → Shape → Events → ℕ → ℕ → PassAnswer → Type 0
+CellMade None (Some new) s are callers mark answer = (answer ≡ Ok tt) × (pass_events new ≡ are) × IsNewPass s callers (pass_in new).pass × IsShut (pass_in new) × ((pass_in new).mark ≡ mark) × IsCellSize s callers
+CellMade None None s are callers mark answer = ((answer ≡ Err (Plain BadSize)) × (IsCellSize s callers → ⊥)) ⊎ (answer ≡ Err (Plain (RefusedWith OutOfMemory)))
+CellMade (Some old) (Some new) s are callers mark answer = (new ≡ old) × (answer ≡ Err (Plain InUse))
+CellMade (Some old) None s are callers mark answer = ⊥
 
 -- the handle is empty, whatever it had before
-abbrev pub PassEmptied : Option SharedState → Option SharedState → PassAnswer → Type 0
+abbrev pub PassEmptied : Option HeldPass → Option HeldPass → PassAnswer → Type 0
 PassEmptied None None answer = answer ≡ Err (Plain Empty)
 PassEmptied (Some old) None answer = answer ≡ Ok tt
 PassEmptied _ (Some new) answer = ⊥
 
--- the callers below `at` stay, and those from `at` on are the other handle's, each with its open batch
-abbrev pub Divided : ℕ → Option SharedState → Option SharedState → Option SharedState → Type 0
-Divided at (Some s) (Some left) (Some right) = Divides at s.pass × IsPart (below s.pass at) s left × IsPart (from s.pass at) s right
+-- the callers below `at` stay, and those from `at` on are another pass's, each with its open batch
+abbrev pub Parts : ℕ → SharedState → SharedState → SharedState → Type 0
+Parts at s left right = Divides at s.pass × IsPart (below s.pass at) s left × IsPart (from s.pass at) s right
+
+abbrev pub Divided : ℕ → Option HeldPass → Option HeldPass → Option HeldPass → Type 0
+Divided at (Some (Kept s)) (Some (Kept left)) (Some (Kept right)) = Parts at s left right
+Divided at (Some (Counted s)) (Some (Counted left)) (Some (Counted right)) = Parts at s left right
 Divided at _ _ _ = ⊥
 
 -- why a pass was not divided
-abbrev pub WhyUndivided : ℕ → Option SharedState → Option SharedState → PassFault → Type 0
+abbrev pub WhyUndivided : ℕ → Option HeldPass → Option HeldPass → PassFault → Type 0
 WhyUndivided at pass other (Plain Empty) = pass ≡ None
 WhyUndivided at pass other (Plain InUse) = IsSome other
-WhyUndivided at pass other (Plain BadCaller) = IfSome pass (λ s. Divides at s.pass → ⊥)
+WhyUndivided at pass other (Plain BadCaller) = IfSome pass (λ held. Divides at (pass_in held).pass → ⊥)
 WhyUndivided at pass other (Plain (RefusedWith OutOfMemory)) = ⊤
 WhyUndivided at pass other _ = ⊥
 
--- the first handle has the callers of both, each with its open batch
-abbrev pub Joined : Option SharedState → Option SharedState → Option SharedState → Type 0
-Joined (Some left) (Some right) (Some both) =
+-- a pass has the callers of two that adjoin, each with its open batch
+abbrev pub Whole : SharedState → SharedState → SharedState → Type 0
+Whole left right both =
     Adjoin left right
     × IsJoined left.pass right.pass both.pass
     × (both.mark ≡ left.mark)
     × OpenStay left both
     × OpenStay right both
+
+-- the first handle has the callers of both
+abbrev pub Joined : Option HeldPass → Option HeldPass → Option HeldPass → Type 0
+Joined (Some (Kept left)) (Some (Kept right)) (Some (Kept both)) = Whole left right both
+Joined (Some (Counted left)) (Some (Counted right)) (Some (Counted both)) = Whole left right both
 Joined _ _ _ = ⊥
 
 -- why two passes were not joined
-abbrev pub WhyApart : Option SharedState → Option SharedState → PassFault → Type 0
+abbrev pub WhyApart : Option HeldPass → Option HeldPass → PassFault → Type 0
 WhyApart left right (Plain Empty) = (left ≡ None) ⊎ (right ≡ None)
-WhyApart left right BadPass = IfSome left (λ l. IfSome right (λ r. Adjoin l r → ⊥))
+WhyApart left right BadPass = IfSome left (λ l. IfSome right (λ r. AdjoinHeld l r → ⊥))
 WhyApart left right _ = ⊥
 
 -- the guarantee that the program gives with two passes
-abbrev pub OneCellHeld : Option SharedState → Option SharedState → Type 0
+abbrev pub OneCellHeld : Option HeldPass → Option HeldPass → Type 0
 OneCellHeld left right = IfSome left (λ l. IfSome right (OneCell l))
 
 -- the cell's node, with the history that the pass of all callers knows; none of them had an open batch
-abbrev pub Finished : Option SharedState → Option EngineState → Type 0
-Finished (Some s) (Some e) = HasAll s.pass × IsShut s × (e.node.shape ≡ s.pass.shape) × (e.node.journal ≡ s.pass.front) × NoneOpen e
+abbrev pub Dismantled : SharedState → EngineState → Type 0
+Dismantled s e = HasAll s.pass × IsShut s × (e.node.shape ≡ s.pass.shape) × (e.node.journal ≡ s.pass.front) × NoneOpen e
+
+abbrev pub Finished : Option HeldPass → Option HeldEngine → Type 0
+Finished (Some (Kept s)) (Some (engine.Kept e)) = Dismantled s e
+Finished (Some (Counted s)) (Some (engine.Counted e)) = Dismantled s e
 Finished _ _ = ⊥
 
 -- why a cell was not dismantled
-abbrev pub WhyUnfinished : Option SharedState → Option EngineState → PassFault → Type 0
+abbrev pub WhyUnfinished : Option HeldPass → Option HeldEngine → PassFault → Type 0
 WhyUnfinished pass into (Plain Empty) = pass ≡ None
 WhyUnfinished pass into (Plain InUse) = IsSome into
-WhyUnfinished pass into (Plain BatchOpen) = IfSome pass HasOpen
+WhyUnfinished pass into (Plain BatchOpen) = IfSome pass (λ held. HasOpen (pass_in held))
 WhyUnfinished pass into (Plain (RefusedWith OutOfMemory)) = ⊤
 WhyUnfinished pass into BadPass = ⊤
 WhyUnfinished pass into _ = ⊥

@@ -1,6 +1,6 @@
 //! The results of a node's calls, as numbers.
-ghost use Rattle.std.specs.Prelude.{◌≡◌, ◌<◌, Err, length};
-ghost use Rattle.thp_capi.specs.Codes.{answer_of, answers};
+ghost use Rattle.std.specs.Prelude.{◌≡◌, Err};
+ghost use Rattle.thp_capi.specs.Codes.{answer_of, IsCode};
 
 use thp_model::Refusal;
 
@@ -25,12 +25,14 @@ pub enum Fault {
     BatchOpen,
     /// The buffer is too small.
     TooSmall,
+    /// The node only counts its events.
+    NoJournal,
 }
 
 /// Converts a result to its number in `thp_code`.
 pub fn code(answer: Result<(), Fault>) -> u32
     ensures value { answer_of result ≡ answer }
-    ensures known { result < length answers }
+    ensures known { IsCode result }
 {
     match answer {
         Ok(()) => 0,
@@ -43,12 +45,13 @@ pub fn code(answer: Result<(), Fault>) -> u32
         Err(Fault::NoBatch) => 17,
         Err(Fault::BatchOpen) => 18,
         Err(Fault::TooSmall) => 19,
+        Err(Fault::NoJournal) => 34,
     }
 }
 
 fn code_of_refusal(refusal: Refusal) -> u32
     ensures value { answer_of result ≡ Err (Fault.Refused refusal) }
-    ensures known { result < length answers }
+    ensures known { IsCode result }
 {
     match refusal {
         Refusal::NoPage => 1,

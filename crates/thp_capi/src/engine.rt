@@ -18,17 +18,17 @@ use std::alloc::{AllocError, Global};
 use std::marker::Model;
 use thp_journal_writer::{NodeHistory, journal_text};
 use thp_model::{Done, Gain, Loss, MAX_BATCH, MAX_CALLERS, PageId, Shape, What};
-use thp_node::{BackReply, Batch, NewFault, Node, ScanReply, Tried};
+use thp_node::{BackReply, Batch, FullLog, NewFault, Node, Recorder, ScanReply, Tried};
 
 /// A node and the open batches of its callers. The remaining pages of each batch are a prefix of its caller's flight.
 #[derive(Drop)]
-pub struct Engine {
-    node: Node,
+pub struct Engine<R: Recorder> {
+    node: Node<R>,
     // the open batches by caller
     batches: Vec<Option<Batch>>,
 }
 
-impl Model for Engine {
+impl<R: Recorder> Model for Engine<R> {
     ghost use Rattle.thp_capi.specs.Engines.{EngineState, IsEngine};
 
     ghost Value = { EngineState };
@@ -38,19 +38,18 @@ impl Model for Engine {
     ghost invariant = { λ e. IsEngine (record { node = e.node; batches = e.batches.items }) };
 }
 
-impl Engine {
+impl<R: Recorder> Engine<R> {
     ghost use Rattle.std.specs.Prelude.{[], ◌∷◌, ◌↔◌, Err};
     ghost use Rattle.thp_model.specs.Shapes.{IsShape};
-    ghost use Rattle.thp_journal_writer.specs.Journals.{journal_text as text_of};
 
     /// Creates an engine of a node with no page.
-    pub fn new(alloc: Global, shape: Shape) -> Result<Engine, NewFault>
+    pub fn new(alloc: Global, shape: Shape) -> Result<Engine<R>, NewFault>
         ensures bad_size { (result ≡ Err NewFault.BadSize) ↔ ¬ IsShape shape }
         ensures shape { IfOk result (λ e. e.node.shape ≡ shape) }
         ensures journal { IfOk result (λ e. e.node.journal ≡ []) }
         ensures none_open { IfOk result NoneOpen }
     {
-        let node = match Node::new(alloc, shape) {
+        let node = match Node::with_recorder(alloc, shape) {
             Ok(node) => node,
             Err(fault) => return Err(fault),
         };
@@ -61,7 +60,7 @@ impl Engine {
     }
 
     /// Replaces its node by another one.
-    pub fn replace(&mut self, node: Node)
+    pub fn replace(&mut self, node: Node<R>)
         requires none_open { NoneOpen self.old }
         ensures node { self.new.node ≡ node }
         ensures none_open { NoneOpen self.new }
@@ -277,6 +276,11 @@ impl Engine {
             split_pmd: narrow(counters.split_pmd),
         }
     }
+}
+
+impl Engine<FullLog> {
+    ghost use Rattle.std.specs.Prelude.{[], ◌∷◌};
+    ghost use Rattle.thp_journal_writer.specs.Journals.{journal_text as text_of};
 
     /// Returns the node's journal as text.
     pub fn text(&self, alloc: Global) -> Result<Vec<u8>, AllocError>

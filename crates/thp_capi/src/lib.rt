@@ -6,7 +6,8 @@
 //! - Handles: `handle` (one for all; `Handles`), `raw_box` (a box as its pointer), `room` (`Rooms`), and what C sees of them:
 //!   `node_handle`, `pass_handle`, `check_handle`.
 //! - Nodes: `node_calls`, `node_readers`, `engine` (a node and its open batches), `replies`, `page_state`, `stats`; `Calls`,
-//!   `Reading`, `Replies`, `Engines`.
+//!   `Reading`, `Replies`, `Engines`. `held`, `held_passes`: what handles hold, of nodes that store their events or only count
+//!   them (`Held`).
 //! - Shared nodes: `pass_calls`, `pass_batch_calls`, `shared_pass`, `open_batches`; `Passes`, `Sharing`, `PassBatches`,
 //!   `OpenBatches` (of nodes, too).
 //! - Checks: `checks` (a whole text; `Checks`), `check_calls`, `check_stage` (in parts; `LongChecks`).
@@ -23,6 +24,8 @@ mod checks;
 mod codes;
 mod engine;
 mod handle;
+mod held;
+mod held_passes;
 mod node_calls;
 mod node_handle;
 mod node_readers;
@@ -44,6 +47,7 @@ pub use check_handle::ThpCheck;
 pub use checks::check_text;
 pub use codes::Fault;
 pub use engine::Engine;
+pub use held::{Events, HeldEngine, HeldPass};
 pub use node_calls::{
     node_abandon, node_alloc, node_close, node_create, node_destroy, node_gain, node_journal,
     node_lose, node_put_back, node_queue_length, node_reserve, node_scan, node_split_next,

@@ -1,9 +1,9 @@
 //! The handle of a node, as a C program holds it.
 ghost use Rattle.std.specs.Prelude.{◌≡◌, Option, None, Some, IfSome, IfNone};
-ghost use Rattle.thp_capi.specs.declared.engine.Engine.{Engine};
+ghost use Rattle.thp_capi.specs.declared.held.HeldEngine.{HeldEngine};
 
-use crate::engine::Engine;
 use crate::handle::Handle;
+use crate::held::HeldEngine;
 use std::alloc::Global;
 use std::marker::Model;
 
@@ -14,25 +14,25 @@ pub struct ThpNode {
     at: *mut u8,
     live: u32,
     // The engine that the handle owns, for contracts.
-    pub ghost held: { Option Engine },
+    pub ghost held: { Option HeldEngine },
 }
 
 impl Model for ThpNode {
     ghost use Rattle.thp_capi.specs.Handles.{handle_owns};
-    ghost use Rattle.thp_capi.specs.contracts.engine.Engine.{the_row};
+    ghost use Rattle.thp_capi.specs.contracts.held.HeldEngine.{the_row};
 
     ghost also_owns = { λ h. handle_owns the_row h.at h.live h.held };
 }
 
 impl ThpNode {
     // Replaces what the handle owns, and returns what it owned.
-    fn exchange(&mut self, new: Handle<Engine>) -> Handle<Engine>
+    fn exchange(&mut self, new: Handle<HeldEngine>) -> Handle<HeldEngine>
         ensures old { result.held ≡ self.old.held }
         ensures new { self.new.held ≡ new.held }
     {
         let Handle { at, live } = new;
         let old = Handle {
-            at: self.at as *mut Engine,
+            at: self.at as *mut HeldEngine,
             live: self.live,
         };
         self.at = at as *mut u8;
@@ -41,14 +41,14 @@ impl ThpNode {
     }
 
     /// Stores the engine in the handle.
-    pub fn store(&mut self, engine: Box<Engine>)
+    pub fn store(&mut self, engine: Box<HeldEngine>)
         ensures { self.new.held ≡ Some engine.value }
     {
         let _old = self.exchange(Handle::store(engine));
     }
 
     /// Removes the engine from the handle, if it has one.
-    pub fn take(&mut self, alloc: Global) -> Option<Box<Engine>>
+    pub fn take(&mut self, alloc: Global) -> Option<Box<HeldEngine>>
         ensures none { IfNone result (self.old.held ≡ None) }
         ensures some { IfSome result (λ engine. self.old.held ≡ Some engine.value) }
         ensures empty { self.new.held ≡ None }

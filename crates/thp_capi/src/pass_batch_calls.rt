@@ -7,6 +7,7 @@ ghost use Rattle.thp_capi.specs.Passes.{PassDoes};
 ghost use Rattle.thp_capi.specs.Replies.{tried_of, back_of};
 
 use crate::codes::Fault;
+use crate::held::{HeldPass, with_pass};
 use crate::pass_codes::{PassFault, pass_code};
 use crate::pass_handle::ThpPass;
 use crate::replies::{ThpBack, ThpTried};
@@ -23,7 +24,7 @@ pub fn pass_take(handle: &mut ThpPass, alloc: Global, caller: u32, n: u32, count
         return pass_code(Err(PassFault::Plain(Fault::Empty)));
     };
     let answer = match &mut room.value {
-        Some(shared) => shared.take(caller, n),
+        Some(held) => with_pass!(held, pass => pass.take(caller, n)),
         None => Err(PassFault::Plain(Fault::Empty)),
     };
     handle.restore(room);
@@ -52,7 +53,7 @@ pub fn pass_split_next(
         return pass_code(Err(PassFault::Plain(Fault::Empty)));
     };
     let answer = match &mut room.value {
-        Some(shared) => shared.split_next(caller),
+        Some(held) => with_pass!(held, pass => pass.split_next(caller)),
         None => Err(PassFault::Plain(Fault::Empty)),
     };
     handle.restore(room);
@@ -75,7 +76,7 @@ pub fn pass_put_back(handle: &mut ThpPass, alloc: Global, caller: u32, back: &mu
         return pass_code(Err(PassFault::Plain(Fault::Empty)));
     };
     let answer = match &mut room.value {
-        Some(shared) => shared.put_back(caller),
+        Some(held) => with_pass!(held, pass => pass.put_back(caller)),
         None => Err(PassFault::Plain(Fault::Empty)),
     };
     handle.restore(room);
@@ -97,7 +98,7 @@ pub fn pass_abandon(handle: &mut ThpPass, alloc: Global, caller: u32) -> u32
         return pass_code(Err(PassFault::Plain(Fault::Empty)));
     };
     let answer = match &mut room.value {
-        Some(shared) => shared.abandon(caller),
+        Some(held) => with_pass!(held, pass => pass.abandon(caller)),
         None => Err(PassFault::Plain(Fault::Empty)),
     };
     handle.restore(room);

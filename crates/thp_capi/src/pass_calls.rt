@@ -3,20 +3,20 @@ ghost use Rattle.std.specs.Prelude.{◌≡◌, None, OnOk, OnErr, IfErr, IfSome,
 ghost use Rattle.thp_model.specs.PageCalls.{gain_call, gain_what, loss_call, loss_what};
 ghost use Rattle.thp_model.specs.Refusals as call;
 ghost use Rattle.thp_capi.specs.Engines.{NoneOpen, shape_of};
+ghost use Rattle.thp_capi.specs.Held.{engine_in, events_in};
 ghost use Rattle.thp_capi.specs.PassCodes.{pass_answer_of, pass_answer_with, IsPassCode};
 ghost use Rattle.thp_capi.specs.Rooms.{value_of};
 ghost use Rattle.thp_capi.specs.Passes.{IsLowPass, PassDoes, PassOne, PassAlloc, PassLost, PassScan, PassCount, CellMade, PassEmptied, Divided, WhyUndivided, Joined, WhyApart, OneCellHeld, Finished, WhyUnfinished};
 ghost use Rattle.thp_capi.specs.Replies.{scan_of};
 
 use crate::codes::Fault;
-use crate::engine::Engine;
+use crate::held::{Events, HeldEngine, HeldPass, with_pass};
 use crate::node_calls::shape;
 use crate::node_handle::ThpNode;
 use crate::pass_codes::{PassFault, pass_code};
 use crate::pass_handle::ThpPass;
 use crate::replies::{ThpDone, ThpScan};
 use crate::room::Room;
-use crate::shared_pass::SharedPass;
 use std::alloc::Global;
 use thp_model::{Gain, Loss, PageId, Refusal, Shape, What};
 use thp_node::NewFault;
@@ -29,22 +29,23 @@ pub fn cell_create(
     blocks: u32,
     order: u32,
     underused: u32,
+    are: Events,
     callers: u32,
     mark: u64,
 ) -> u32
-    ensures does { CellMade (value_of handle.old.held) (value_of handle.new.held) (shape_of blocks order underused) callers mark (pass_answer_of result) }
+    ensures does { CellMade (value_of handle.old.held) (value_of handle.new.held) (shape_of blocks order underused) are callers mark (pass_answer_of result) }
     ensures known { IsPassCode result }
 {
-    if let Some((room, shared)) = handle.take(alloc) {
-        handle.put(room, shared);
+    if let Some((room, pass)) = handle.take(alloc) {
+        handle.put(room, pass);
         return pass_code(Err(PassFault::Plain(Fault::InUse)));
     }
     let Some(room) = Room::new(alloc) else {
         return pass_code(Err(PassFault::Plain(Fault::Refused(Refusal::OutOfMemory))));
     };
-    match SharedPass::new(alloc, shape(blocks, order, underused), callers, mark) {
-        Ok(shared) => {
-            handle.put(room, shared);
+    match HeldPass::new(alloc, shape(blocks, order, underused), are, callers, mark) {
+        Ok(pass) => {
+            handle.put(room, pass);
             pass_code(Ok(()))
         }
         Err(NewFault::BadSize) => pass_code(Err(PassFault::Plain(Fault::BadSize))),
@@ -73,25 +74,25 @@ pub fn pass_split(handle: &mut ThpPass, alloc: Global, at: u32, other: &mut ThpP
     ensures why { IfErr (pass_answer_of result) (WhyUndivided at (value_of handle.old.held) (value_of other.old.held)) }
     ensures known { IsPassCode result }
 {
-    if let Some((room, shared)) = other.take(alloc) {
-        other.put(room, shared);
+    if let Some((room, pass)) = other.take(alloc) {
+        other.put(room, pass);
         return pass_code(Err(PassFault::Plain(Fault::InUse)));
     }
-    let Some((room, shared)) = handle.take(alloc) else {
+    let Some((room, pass)) = handle.take(alloc) else {
         return pass_code(Err(PassFault::Plain(Fault::Empty)));
     };
     let Some(other_room) = Room::new(alloc) else {
-        handle.put(room, shared);
+        handle.put(room, pass);
         return pass_code(Err(PassFault::Plain(Fault::Refused(Refusal::OutOfMemory))));
     };
-    match shared.split(alloc, at) {
+    match pass.split(alloc, at) {
         Ok((left, right)) => {
             handle.put(room, left);
             other.put(other_room, right);
             pass_code(Ok(()))
         }
-        Err((shared, fault)) => {
-            handle.put(room, shared);
+        Err((pass, fault)) => {
+            handle.put(room, pass);
             pass_code(Err(PassFault::Plain(fault)))
         }
     }
@@ -115,13 +116,16 @@ pub fn pass_join(handle: &mut ThpPass, alloc: Global, other: &mut ThpPass) -> u3
         handle.put(room, left);
         return pass_code(Err(PassFault::Plain(Fault::Empty)));
     };
-    if left.adjoins(&right) {
-        handle.put(room, left.join(right));
-        pass_code(Ok(()))
-    } else {
-        handle.put(room, left);
-        other.put(other_room, right);
-        pass_code(Err(PassFault::BadPass))
+    match left.join(right) {
+        Ok(both) => {
+            handle.put(room, both);
+            pass_code(Ok(()))
+        }
+        Err((left, right)) => {
+            handle.put(room, left);
+            other.put(other_room, right);
+            pass_code(Err(PassFault::BadPass))
+        }
     }
 }
 
@@ -139,41 +143,40 @@ pub fn cell_finish(handle: &mut ThpPass, alloc: Global, node: &mut ThpNode) -> u
         node.store(engine);
         return pass_code(Err(PassFault::Plain(Fault::InUse)));
     }
-    let Some((room, shared)) = handle.take(alloc) else {
+    let Some((room, pass)) = handle.take(alloc) else {
         return pass_code(Err(PassFault::Plain(Fault::Empty)));
     };
-    let Some(mut engine) = spare(alloc) else {
-        handle.put(room, shared);
+    let Some(mut engine) = spare(alloc, pass.events()) else {
+        handle.put(room, pass);
         return pass_code(Err(PassFault::Plain(Fault::Refused(Refusal::OutOfMemory))));
     };
-    match shared.finish() {
-        Ok(found) => {
-            engine.replace(found);
+    match pass.finish(&mut *engine) {
+        Ok(()) => {
             node.store(engine);
             pass_code(Ok(()))
         }
-        Err((shared, fault)) => {
-            handle.put(room, shared);
+        Err((pass, fault)) => {
+            handle.put(room, pass);
             pass_code(Err(fault))
         }
     }
 }
 
 // An engine of the smallest node, allocated first to hold the other node: so nothing is lost if memory can't be allocated.
-fn spare(alloc: Global) -> Option<Box<Engine>>
-    ensures { IfSome result (λ engine. NoneOpen engine.value) }
+fn spare(alloc: Global, are: Events) -> Option<Box<HeldEngine>>
+    ensures none_open { IfSome result (λ engine. NoneOpen (engine_in engine.value)) }
+    ensures are { IfSome result (λ engine. events_in engine.value ≡ are) }
 {
     let shape = Shape {
         blocks: 1,
         order: 2,
         underused: None,
     };
-    let engine = match Engine::new(alloc, shape) {
-        Ok(engine) => engine,
-        Err(_) => return None,
-    };
-    match Box::new(alloc, engine) {
-        Ok(engine) => Some(engine),
+    match HeldEngine::new(alloc, shape, are) {
+        Ok(engine) => match Box::new(alloc, engine) {
+            Ok(engine) => Some(engine),
+            Err(_) => None,
+        },
         Err(_) => None,
     }
 }
@@ -188,7 +191,7 @@ pub fn pass_alloc(handle: &mut ThpPass, alloc: Global, caller: u32, page: &mut u
         return pass_code(Err(PassFault::Plain(Fault::Empty)));
     };
     let answer = match &mut room.value {
-        Some(shared) => shared.alloc_page(caller),
+        Some(held) => with_pass!(held, pass => pass.alloc_page(caller)),
         None => Err(PassFault::Plain(Fault::Empty)),
     };
     handle.restore(room);
@@ -212,7 +215,7 @@ pub fn pass_gain(handle: &mut ThpPass, alloc: Global, caller: u32, page: u64, ga
         return pass_code(Err(PassFault::Plain(Fault::Empty)));
     };
     let answer = match &mut room.value {
-        Some(shared) => shared.gain(caller, PageId(page), gain),
+        Some(held) => with_pass!(held, pass => pass.gain(caller, PageId(page), gain)),
         None => Err(PassFault::Plain(Fault::Empty)),
     };
     handle.restore(room);
@@ -238,7 +241,7 @@ pub fn pass_lose(
         return pass_code(Err(PassFault::Plain(Fault::Empty)));
     };
     let answer = match &mut room.value {
-        Some(shared) => shared.lose(caller, PageId(page), loss),
+        Some(held) => with_pass!(held, pass => pass.lose(caller, PageId(page), loss)),
         None => Err(PassFault::Plain(Fault::Empty)),
     };
     handle.restore(room);
@@ -260,7 +263,7 @@ pub fn pass_close(handle: &mut ThpPass, alloc: Global, caller: u32) -> u32
         return pass_code(Err(PassFault::Plain(Fault::Empty)));
     };
     let answer = match &mut room.value {
-        Some(shared) => shared.close(caller),
+        Some(held) => with_pass!(held, pass => pass.close(caller)),
         None => Err(PassFault::Plain(Fault::Empty)),
     };
     handle.restore(room);
@@ -283,7 +286,7 @@ pub fn pass_scan(
         return pass_code(Err(PassFault::Plain(Fault::Empty)));
     };
     let answer = match &mut room.value {
-        Some(shared) => shared.scan(caller, n),
+        Some(held) => with_pass!(held, pass => pass.scan(caller, n)),
         None => Err(PassFault::Plain(Fault::Empty)),
     };
     handle.restore(room);
@@ -306,7 +309,7 @@ pub fn pass_count(handle: &mut ThpPass, alloc: Global, pages: &mut u32) -> u32
         return pass_code(Err(PassFault::Plain(Fault::Empty)));
     };
     let answer = match &mut room.value {
-        Some(shared) => Ok(shared.count()),
+        Some(held) => Ok(with_pass!(held, pass => pass.count())),
         None => Err(PassFault::Plain(Fault::Empty)),
     };
     handle.restore(room);
@@ -330,7 +333,7 @@ pub fn pass_callers(handle: &mut ThpPass, alloc: Global, first: &mut u32, end: &
         return pass_code(Err(PassFault::Plain(Fault::Empty)));
     };
     let answer = match &room.value {
-        Some(shared) => Ok(shared.callers()),
+        Some(held) => Ok(with_pass!(held, pass => pass.callers())),
         None => Err(PassFault::Plain(Fault::Empty)),
     };
     handle.restore(room);

@@ -1,12 +1,12 @@
 //! The handle of a pass, as a C program holds it.
 ghost use Rattle.std.specs.Prelude.{◌≡◌, Option, None, Some, IfSome, IfNone, IsSome};
 ghost use Rattle.thp_capi.specs.Rooms.{value_of};
-ghost use Rattle.thp_capi.specs.Sharing.{SharedState};
+ghost use Rattle.thp_capi.specs.declared.held.HeldPass.{HeldPass};
 ghost use Rattle.thp_capi.specs.declared.room.Room.{Room};
 
 use crate::handle::Handle;
+use crate::held::HeldPass;
 use crate::room::Room;
-use crate::shared_pass::SharedPass;
 use std::alloc::Global;
 use std::marker::Model;
 
@@ -17,26 +17,26 @@ pub struct ThpPass {
     at: *mut u8,
     live: u32,
     // The room that the handle owns, for contracts.
-    pub ghost held: { Option (Room SharedState) },
+    pub ghost held: { Option (Room HeldPass) },
 }
 
 impl Model for ThpPass {
     ghost use Rattle.thp_capi.specs.Handles.{handle_owns};
     ghost use Rattle.thp_capi.specs.contracts.room.Room as room;
-    ghost use Rattle.thp_capi.specs.contracts.shared_pass.SharedPass as shared;
+    ghost use Rattle.thp_capi.specs.contracts.held.HeldPass as pass;
 
-    ghost also_owns = { λ h. handle_owns (room.the_row shared.the_row) h.at h.live h.held };
+    ghost also_owns = { λ h. handle_owns (room.the_row pass.the_row) h.at h.live h.held };
 }
 
 impl ThpPass {
     // Replaces what the handle owns, and returns what it owned.
-    fn exchange(&mut self, new: Handle<Room<SharedPass>>) -> Handle<Room<SharedPass>>
+    fn exchange(&mut self, new: Handle<Room<HeldPass>>) -> Handle<Room<HeldPass>>
         ensures old { result.held ≡ self.old.held }
         ensures new { self.new.held ≡ new.held }
     {
         let Handle { at, live } = new;
         let old = Handle {
-            at: self.at as *mut Room<SharedPass>,
+            at: self.at as *mut Room<HeldPass>,
             live: self.live,
         };
         self.at = at as *mut u8;
@@ -45,7 +45,7 @@ impl ThpPass {
     }
 
     /// Removes the pass and its room from the handle, if it has one.
-    pub fn take(&mut self, alloc: Global) -> Option<(Box<Room<SharedPass>>, SharedPass)>
+    pub fn take(&mut self, alloc: Global) -> Option<(Box<Room<HeldPass>>, HeldPass)>
         ensures none { IfNone result (value_of self.old.held ≡ None) }
         ensures some { IfSome result (λ taken. value_of self.old.held ≡ Some taken.1) }
         ensures empty { value_of self.new.held ≡ None }
@@ -54,14 +54,14 @@ impl ThpPass {
     }
 
     /// Puts a pass in its room, and stores both in the handle.
-    pub fn put(&mut self, room: Box<Room<SharedPass>>, shared: SharedPass)
-        ensures { value_of self.new.held ≡ Some shared }
+    pub fn put(&mut self, room: Box<Room<HeldPass>>, pass: HeldPass)
+        ensures { value_of self.new.held ≡ Some pass }
     {
-        let _old = self.exchange(Room::put(room, shared));
+        let _old = self.exchange(Room::put(room, pass));
     }
 
     /// Removes the room with the pass from the handle, if it has one.
-    pub fn lend(&mut self, alloc: Global) -> Option<Box<Room<SharedPass>>>
+    pub fn lend(&mut self, alloc: Global) -> Option<Box<Room<HeldPass>>>
         ensures none { IfNone result (value_of self.old.held ≡ None) }
         ensures some { IfSome result (λ room. room.value.value ≡ value_of self.old.held) }
         ensures full { IfSome result (λ room. IsSome room.value.value) }
@@ -71,7 +71,7 @@ impl ThpPass {
     }
 
     /// Stores a room and the pass in it in the handle.
-    pub fn restore(&mut self, room: Box<Room<SharedPass>>)
+    pub fn restore(&mut self, room: Box<Room<HeldPass>>)
         ensures { value_of self.new.held ≡ room.value.value }
     {
         let _old = self.exchange(Handle::store(room));

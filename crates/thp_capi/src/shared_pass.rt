@@ -20,13 +20,13 @@ use std::marker::Model;
 use std::sync::Arc;
 use thp_cell::{CellFault, NodeCell, Pass};
 use thp_model::{Done, Gain, Loss, MAX_BATCH, PageId, Refusal, Shape, What};
-use thp_node::{Batch, NewFault, Node, ScanReply};
+use thp_node::{Batch, NewFault, Node, Recorder, ScanReply};
 
 /// A pass, its share of the cell, and the mark that distinguishes it from passes of other cells.
 #[derive(Drop)]
-pub struct SharedPass {
-    cell: Arc<NodeCell, Global>,
-    pass: Pass,
+pub struct SharedPass<R: Recorder> {
+    cell: Arc<NodeCell<R>, Global>,
+    pass: Pass<R>,
     // the open batches by caller, from the pass's first on, in memory with room for those of all following callers
     batches: Vec<Option<Batch>>,
     // the number of the cell's callers
@@ -34,7 +34,7 @@ pub struct SharedPass {
     mark: u64,
 }
 
-impl Model for SharedPass {
+impl<R: Recorder> Model for SharedPass<R> {
     ghost use Rattle.std.specs.Prelude.{vec_capacity};
     ghost use Rattle.std.specs.Arc.{arc_value};
     ghost use Rattle.thp_capi.specs.Sharing.{SharedState, IsShared};
@@ -46,16 +46,21 @@ impl Model for SharedPass {
     ghost invariant = { λ s. IsShared (arc_value s.cell) s.callers (vec_capacity s.batches) s.pass s.batches.items };
 }
 
-impl SharedPass {
+impl<R: Recorder> SharedPass<R> {
     /// Creates a cell of a new node, and returns the pass of all its callers.
-    pub fn new(alloc: Global, shape: Shape, callers: u32, mark: u64) -> Result<SharedPass, NewFault>
+    pub fn new(
+        alloc: Global,
+        shape: Shape,
+        callers: u32,
+        mark: u64,
+    ) -> Result<SharedPass<R>, NewFault>
         ensures made { IfOk result (λ s. IsNewPass shape callers s.pass) }
         ensures mark { IfOk result (λ s. s.mark ≡ mark) }
         ensures shut { IfOk result IsShut }
         ensures size { IfOk result (λ s. IsCellSize shape callers) }
         ensures bad_size { result ≡ Err NewFault.BadSize → IsCellSize shape callers → ⊥ }
     {
-        let node = match Node::new(alloc, shape) {
+        let node = match Node::with_recorder(alloc, shape) {
             Ok(node) => node,
             Err(fault) => return Err(fault),
         };
@@ -190,7 +195,7 @@ impl SharedPass {
         self,
         alloc: Global,
         at: u32,
-    ) -> Result<(SharedPass, SharedPass), (SharedPass, Fault)>
+    ) -> Result<(SharedPass<R>, SharedPass<R>), (SharedPass<R>, Fault)>
         ensures divides { IfOk result (λ r. Divides at self.pass) }
         ensures left { IfOk result (λ r. IsPart (below self.pass at) self r.0) }
         ensures right { IfOk result (λ r. IsPart (from self.pass at) self r.1) }
@@ -242,7 +247,7 @@ impl SharedPass {
     }
 
     /// Returns whether the other pass can be joined to this one.
-    pub fn adjoins(&self, other: &SharedPass) -> bool
+    pub fn adjoins(&self, other: &SharedPass<R>) -> bool
         ensures yes { result ≡ true → Adjoin self.now other.now }
         ensures no { result ≡ false → Adjoin self.now other.now → ⊥ }
     {
@@ -252,7 +257,7 @@ impl SharedPass {
     }
 
     /// Joins two adjacent passes, with the open batches of their callers.
-    pub fn join(self, other: SharedPass) -> SharedPass
+    pub fn join(self, other: SharedPass<R>) -> SharedPass<R>
         requires cell { self.pass.cell ≡ other.pass.cell }
         requires adjacent { self.pass.end ≡ other.pass.first }
         ensures joined { IsJoined self.pass other.pass result.pass }
@@ -287,7 +292,7 @@ impl SharedPass {
 
     /// Dismantles the cell and returns its node, if the pass has all callers, none of them has an open batch, and no other handle
     /// has a share of the cell. Otherwise returns the pass and the reason.
-    pub fn finish(self) -> Result<Node, (SharedPass, PassFault)>
+    pub fn finish(self) -> Result<Node<R>, (SharedPass<R>, PassFault)>
         ensures all { IfOk result (λ node. HasAll self.pass) }
         ensures shut { IfOk result (λ node. IsShut self) }
         ensures shape { IfOk result (λ node. node.shape ≡ self.pass.shape) }

@@ -2,7 +2,7 @@
 use Rattle.std.specs.Prelude.{ℕ, zero, suc, ◌-◌, List, [], ◌++◌, length, codes}
 use Rattle.std.specs.Fmt.{decimal}
 use Rattle.thp_drawing.specs.Elements.{group_end, group_start, text_at}
-use Rattle.thp_drawing.specs.Escapes.{escaped}
+use Rattle.thp_drawing.specs.Grouped.{grouped}
 use Rattle.thp_drawing.specs.Scales.{round_steps, scaled, step_among, steps_in, times}
 use Rattle.thp_drawing.specs.declared.node.DrawnNode.{DrawnNode}
 
@@ -10,7 +10,7 @@ use Rattle.thp_drawing.specs.declared.node.DrawnNode.{DrawnNode}
 unfoldable pub tick : List ℕ → ℕ → ℕ → List ℕ
 tick sign n high =
     codes "<path class=\"rule\" d=\"M0 " ++ sign ++ decimal high ++ codes "h6000\"/>\n<text class=\"soft e\" x=\"-60\" y=\""
-    ++ sign ++ decimal high ++ codes "\" dy=\"40\">" ++ escaped (decimal n) ++ codes "</text>\n"
+    ++ sign ++ decimal high ++ codes "\" dy=\"40\">" ++ grouped n ++ codes "</text>\n"
 
 -- the first k of them, one for each step
 abbrev pub ticks : List ℕ → ℕ → ℕ → ℕ → List ℕ
@@ -53,7 +53,7 @@ event_rules high d =
 
 -- the number of an event, below its line
 abbrev pub event_number : ℕ → ℕ → List ℕ
-event_number room event = text_at (codes "soft c") (event_at room event) 0 (decimal event)
+event_number room event = text_at (codes "soft c") (event_at room event) 0 (grouped event)
 
 -- the first k of them
 abbrev pub event_numbers : ℕ → ℕ → ℕ → List ℕ

@@ -65,7 +65,7 @@ all_lanes columns = lanes columns shown_callers
 unfoldable pub lanes_title : List ℕ
 lanes_title =
     codes "<text class=\"soft e\" x=\"-60\" y=\"150\">caller</text>\n" ++ square_at (codes "s3") 0 72
-    ++ text_at (codes "ink") 130 150 (codes "pages in its batch")
+    ++ text_at (codes "ink") 130 150 (codes "pages in its batch at least once in a column")
 
 unfoldable pub lanes_graph : ℕ → DrawnNode → List ℕ
 lanes_graph high d = event_rules high d ++ all_lanes d.columns.items

@@ -3,6 +3,7 @@ use Rattle.std.specs.Prelude.{ℕ, ◌+◌, List, [], ◌∷◌, ◌++◌, lengt
 use Rattle.std.specs.Fmt.{decimal}
 use Rattle.thp_metrics.specs.declared.pages.Pages.{Pages}
 use Rattle.thp_drawing.specs.Elements.{group_end, group_start, text_at}
+use Rattle.thp_drawing.specs.Grouped.{grouped}
 use Rattle.thp_drawing.specs.Quantities.{most_of}
 use Rattle.thp_drawing.specs.Scales.{plus, times}
 use Rattle.thp_drawing.specs.declared.illegal_event.IllegalEvent.{IllegalEvent}
@@ -20,7 +21,7 @@ number_words n (Some illegal) = decimal n ++ codes " (illegal)"
 
 -- a right-aligned number that ends at this position
 abbrev pub number_cell : ℕ → ℕ → List ℕ
-number_cell x n = text_at (codes "ink e") x 0 (decimal n)
+number_cell x n = text_at (codes "ink e") x 0 (grouped n)
 
 unfoldable pub overview_numbers : DrawnNode → List ℕ
 overview_numbers d =

@@ -1,14 +1,14 @@
 -- Panels: one for each unit of the quantities. A panel whose numbers are all 0 is left out.
 use Rattle.std.specs.Prelude.{ℕ, ◌+◌, List, [], ◌++◌, codes, if◌then◌else◌, nat_eq}
-use Rattle.std.specs.Fmt.{decimal}
 use Rattle.thp_metrics.specs.declared.stage.Stage.{Stage}
 use Rattle.thp_metrics.specs.declared.stage.Stage.TheVariants.{Allocated, PartlyMapped, Queued, InBatch, Split}
 use Rattle.thp_drawing.specs.Areas.{quantity_areas, stage_area}
 use Rattle.thp_drawing.specs.Axes.{base_line, event_rules, ticks}
 use Rattle.thp_drawing.specs.Elements.{group_end, group_start, square_at, text_at}
+use Rattle.thp_drawing.specs.Grouped.{grouped}
 use Rattle.thp_drawing.specs.Quantities.{last_of, most_in, most_of, pages_most, quantity_class, quantity_name}
 use Rattle.thp_drawing.specs.Quantities.{stage_class, stage_name}
-use Rattle.thp_drawing.specs.Scales.{doubled_steps, plus, round_steps, scaled, step_among, steps_in}
+use Rattle.thp_drawing.specs.Scales.{doubled_steps, plus, round_steps, scaled, step_among, steps_in, times}
 use Rattle.thp_drawing.specs.declared.node.DrawnNode.{DrawnNode}
 use Rattle.thp_drawing.specs.declared.quantity.Quantity.{Quantity}
 use Rattle.thp_drawing.specs.declared.quantity.Quantity.TheVariants.{Queue, InBatches, Held, Given, Splits, PinnedTries, UnderusedSplits, Wait, Nothing}
@@ -46,14 +46,14 @@ panel_step Frames n = step_among doubled_steps n
 panel_step Tries n = step_among round_steps n
 panel_step Underused n = step_among round_steps n
 
--- the greatest sum of both quantities, which is 1,000 high
+-- the sum of the greatest numbers of both quantities: a panel is left out if it is 0
 abbrev pub panel_most : Panel → DrawnNode → ℕ
 panel_most p d = plus (most_of (up_of p) d.columns.items) (most_of (down_of p) d.columns.items)
 
 -- a quantity's name, its greatest number, and its number after the last event
 unfoldable pub quantity_words : Quantity → DrawnNode → List ℕ
 quantity_words q d =
-    quantity_name q ++ codes ": most " ++ decimal (most_of q d.columns.items) ++ codes ", last " ++ decimal (last_of q d.last)
+    quantity_name q ++ codes ": most " ++ grouped (most_of q d.columns.items) ++ codes ", last " ++ grouped (last_of q d.last)
 
 -- its colour and its words
 unfoldable pub quantity_label : Quantity → ℕ → DrawnNode → List ℕ
@@ -75,16 +75,28 @@ quantity_half sign q step most d = if nat_eq (most_of q d.columns.items) 0 then 
 unfoldable pub panel_title : Panel → DrawnNode → List ℕ
 panel_title p d = unit_text p ++ quantity_item (up_of p) 0 d ++ quantity_item (down_of p) 3000 d
 
--- the content above and below the base line, for numbers up to `most`
-unfoldable pub panel_halves : Panel → ℕ → DrawnNode → List ℕ
-panel_halves p most d =
-    group_start 0 (scaled 1000 (most_of (up_of p) d.columns.items) most)
-    ++ quantity_half (codes "-") (up_of p) (panel_step p most) most d ++ quantity_half [] (down_of p) (panel_step p most) most d
+-- the number that is 1,000 high on the scale of a quantity, by its own greatest number and that of the panel's other quantity: each
+-- of two has a half
+abbrev pub half_most : ℕ → ℕ → ℕ
+half_most own other = if nat_eq other 0 then own else times 2 own
+
+-- the content above and below the base line, on scales where these numbers are 1,000 high
+unfoldable pub scaled_halves : Panel → ℕ → ℕ → DrawnNode → List ℕ
+scaled_halves p above below d =
+    group_start 0 (scaled 1000 (most_of (up_of p) d.columns.items) above)
+    ++ quantity_half (codes "-") (up_of p) (panel_step p above) above d
+    ++ quantity_half [] (down_of p) (panel_step p below) below d
     ++ base_line ++ group_end
+
+-- the same, each quantity on its own scale
+abbrev pub panel_halves : Panel → DrawnNode → List ℕ
+panel_halves p d =
+    scaled_halves p (half_most (most_of (up_of p) d.columns.items) (most_of (down_of p) d.columns.items))
+    (half_most (most_of (down_of p) d.columns.items) (most_of (up_of p) d.columns.items)) d
 
 unfoldable pub panel_drawn : Panel → ℕ → DrawnNode → List ℕ
 panel_drawn p y d =
-    group_start 900 y ++ panel_title p d ++ group_start 0 260 ++ event_rules 1000 d ++ panel_halves p (panel_most p d) d
+    group_start 900 y ++ panel_title p d ++ group_start 0 260 ++ event_rules 1000 d ++ panel_halves p d
     ++ group_end ++ group_end
 
 -- a panel, from this height on

@@ -3,6 +3,7 @@ use Rattle.std.specs.Prelude.{ℕ, ◌+◌, ◌-◌, min, List, [], ◌∷◌, �
 use Rattle.std.specs.Fmt.{decimal}
 use Rattle.thp_metrics.specs.declared.stuck_page.StuckPage.{StuckPage}
 use Rattle.thp_drawing.specs.Elements.{text_at}
+use Rattle.thp_drawing.specs.Grouped.{grouped}
 use Rattle.thp_drawing.specs.Scales.{plus, times}
 use Rattle.thp_drawing.specs.Titles.{many}
 use Rattle.thp_drawing.specs.declared.node.DrawnNode.{DrawnNode}
@@ -11,7 +12,7 @@ use Rattle.thp_drawing.specs.declared.node.DrawnNode.{DrawnNode}
 unfoldable pub words_of : ℕ → ℕ → ℕ → List ℕ
 words_of p finds since =
     codes "stuck by pins: page " ++ decimal p ++ codes ", found pinned " ++ many finds (codes "time")
-    ++ codes ", waits since event " ++ decimal since
+    ++ codes ", waits since event " ++ grouped since
 
 abbrev pub stuck_words : StuckPage → List ℕ
 stuck_words x = words_of x.page x.finds x.since

@@ -23,7 +23,7 @@ light_inks =
 -- the stages of pages; queue and batches have the colours of theirs
 unfoldable pub light_stages : List ℕ
 light_stages =
-    codes ".s0{color:#b6bfc9}.s1{color:#e79700}.s2{color:#3652b8}.s3{color:#bd61ab}.s4{color:#428452}\n"
+    codes ".s0{color:#8292a3}.s1{color:#a86b00}.s2{color:#2c46a4}.s3{color:#a03a8b}.s4{color:#10422a}\n"
 
 -- on a dark background
 unfoldable pub dark_inks : List ℕ
@@ -34,7 +34,7 @@ dark_inks =
 -- the stages
 unfoldable pub dark_stages : List ℕ
 dark_stages =
-    codes ".s0{color:#4d5663}.s1{color:#f9a726}.s2{color:#4280ff}.s3{color:#d764a1}.s4{color:#45a670}\n"
+    codes ".s0{color:#5d6878}.s1{color:#ffcc80}.s2{color:#397aff}.s3{color:#e07ab2}.s4{color:#6cca98}\n"
 
 unfoldable pub light_rules : List ℕ
 light_rules = light_inks ++ light_stages

@@ -4,12 +4,13 @@ use Rattle.std.specs.Fmt.{decimal}
 use Rattle.thp_model.specs.declared.events.Event.{Event}
 use Rattle.thp_journal_writer.specs.EventLines.{event_line}
 use Rattle.thp_drawing.specs.Elements.{text_at}
+use Rattle.thp_drawing.specs.Grouped.{grouped}
 use Rattle.thp_drawing.specs.declared.illegal_event.IllegalEvent.{IllegalEvent}
 use Rattle.thp_drawing.specs.declared.node.DrawnNode.{DrawnNode}
 
 -- a number and a word, with an `s` unless the number is 1
 unfoldable pub many : ℕ → List ℕ → List ℕ
-many n word = decimal n ++ codes " " ++ word ++ (if nat_eq n 1 then [] else codes "s")
+many n word = grouped n ++ codes " " ++ word ++ (if nat_eq n 1 then [] else codes "s")
 
 abbrev pub threshold_words : Option ℕ → List ℕ
 threshold_words None = codes "off"

@@ -17,13 +17,12 @@ ghost use Rattle.thp_drawing.specs.Axes.{
   uprights,
 };
 ghost use Rattle.thp_drawing.specs.Elements.{group_end};
-ghost use Rattle.thp_drawing.specs.Escapes.{escaped};
+ghost use Rattle.thp_drawing.specs.Grouped.{grouped};
 
 use crate::element::{put_decimal, put_group, put_text};
-use crate::escaping::put_escaped;
+use crate::grouped::put_grouped;
 use crate::node::DrawnNode;
 use crate::scale::{round_step, scaled, steps_in, times};
-use itoa::Buffer;
 use std::alloc::AllocError;
 use thp_journal_writer::put;
 
@@ -61,7 +60,7 @@ pub(crate) fn put_tick(
     put(text, sign)?;
     put_decimal(text, high)?;
     put(text, b"\" dy=\"40\">")?;
-    put_escaped(text, Buffer::new().format(number).as_bytes())?;
+    put_grouped(text, number)?;
     put(text, b"</text>\n")
 }
 
@@ -186,11 +185,13 @@ fn put_event_numbers(
 fn put_event_number(text: &mut Vec<u8>, room: u128, event: u128) -> Result<(), AllocError>
     ensures { OnOk result (text.new.items ≡ text.old.items ++ event_number room event) }
 {
+    let mut words = Vec::new(*text.allocator());
+    put_grouped(&mut words, event)?;
     put_text(
         text,
         b"soft c",
         scaled(6000, event, room),
         0,
-        Buffer::new().format(event).as_bytes(),
+        words.as_slice(),
     )
 }

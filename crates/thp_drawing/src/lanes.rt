@@ -128,7 +128,13 @@ fn put_lanes_title(text: &mut Vec<u8>) -> Result<(), AllocError>
         b"<text class=\"soft e\" x=\"-60\" y=\"150\">caller</text>\n",
     )?;
     put_square(text, b"s3", 0, 72)?;
-    put_text(text, b"ink", 130, 150, b"pages in its batch")
+    put_text(
+        text,
+        b"ink",
+        130,
+        150,
+        b"pages in its batch at least once in a column",
+    )
 }
 
 #[tactic(auto, using(crate::proofs::Pieces::two), unfolding(crate::specs::Lanes::lanes_graph))]

@@ -1,12 +1,13 @@
 //! The numbers of nodes as a table and as an SVG picture.
 //!
 //! The texts are exactly those of the definitions: `table_text` (`Tables`) and `picture_text` (`Pictures`, and `Titles`,
-//! `Overviews`, `Panels`, `Quantities`, `Rows`, `Lanes`, `Stucks`, `Bars`, `Axes`, `Areas`, `Scales`, `Elements`, `Styles`).
+//! `Overviews`, `Panels`, `Quantities`, `Rows`, `Lanes`, `Stucks`, `Bars`, `Axes`, `Areas`, `Scales`, `Elements`, `Grouped`,
+//! `Styles`).
 //!
 //! - `node`: what is drawn of a node (`Drawn`): its numbers, its columns, the event at which it ends (`illegal_event`).
 //! - `table`; `picture`, `title`, `overview`, `panel`, `quantity`, `rows_panel`, `rows` (one for each page), `lanes` (one for
-//!   each caller's batches), `stages_panel`, `stages`, `stuck`, `bar`, `axis`, `area`, `scale`, `element`, `style`: by the same
-//!   names.
+//!   each caller's batches), `stages_panel`, `stages`, `stuck`, `bar`, `axis`, `area`, `scale`, `element`, `grouped`, `style`: by
+//!   the same names.
 //! - `escaping` (`Escapes`): words as XML has them. `laws` (`Laws`).
 //!
 //! docs/FORMATS.md has both formats; the stored pictures are compared by `tests/drawer.py`.
@@ -17,6 +18,7 @@ mod axis;
 mod bar;
 mod element;
 mod escaping;
+mod grouped;
 mod illegal_event;
 mod lanes;
 mod laws;

@@ -14,11 +14,11 @@ ghost use Rattle.thp_drawing.specs.Overviews.{
 
 use crate::axis::put_group_end;
 use crate::element::{put_decimal, put_group, put_text};
+use crate::grouped::put_grouped;
 use crate::illegal_event::IllegalEvent;
 use crate::node::DrawnNode;
 use crate::quantity::Quantity;
 use crate::scale::{plus, times};
-use itoa::Buffer;
 use std::alloc::AllocError;
 use thp_journal_writer::put;
 use thp_metrics::Pages;
@@ -117,13 +117,9 @@ fn put_overview_numbers(text: &mut Vec<u8>, node: &DrawnNode) -> Result<(), Allo
 fn put_number(text: &mut Vec<u8>, x: u128, number: u128) -> Result<(), AllocError>
     ensures { OnOk result (text.new.items ≡ text.old.items ++ number_cell x number) }
 {
-    put_text(
-        text,
-        b"ink e",
-        x,
-        0,
-        Buffer::new().format(number).as_bytes(),
-    )
+    let mut words = Vec::new(*text.allocator());
+    put_grouped(&mut words, number)?;
+    put_text(text, b"ink e", x, 0, words.as_slice())
 }
 
 // The number of live pages in all stages.

@@ -1,8 +1,9 @@
 //! Panels: one for each unit of what is drawn.
 ghost use Rattle.std.specs.Prelude.{◌≡◌, ◌++◌, [], codes, OnOk};
-ghost use Rattle.std.specs.Fmt.{decimal};
+ghost use Rattle.thp_drawing.specs.Grouped.{grouped};
 ghost use Rattle.thp_drawing.specs.Panels.{
   down_of,
+  half_most,
   panel_at,
   panel_drawn,
   panel_halves,
@@ -14,20 +15,22 @@ ghost use Rattle.thp_drawing.specs.Panels.{
   quantity_item,
   quantity_label,
   quantity_words,
+  scaled_halves,
   unit_text,
   up_of,
 };
 
 use crate::area::put_quantity_areas;
 use crate::axis::{put_base_line, put_event_rules, put_group_end, put_ticks};
-use crate::element::{put_decimal, put_group, put_square, put_text};
+use crate::element::{put_group, put_square, put_text};
+use crate::grouped::put_grouped;
 use crate::node::DrawnNode;
 use crate::quantity::Quantity;
-use crate::scale::{doubled_step, plus, round_step, scaled, steps_in};
+use crate::scale::{doubled_step, plus, round_step, scaled, steps_in, times};
 use std::alloc::AllocError;
 use thp_journal_writer::put;
 
-/// A panel of two quantities, one drawn upwards and the other downwards.
+/// A panel of two quantities, one drawn upwards and the other downwards, each on its own scale.
 #[derive(Clone, Copy, Debug, PartialEq, Eq)]
 pub(crate) enum Panel {
     /// Pages in the queue, and in batches.
@@ -76,7 +79,7 @@ impl Panel {
         }
     }
 
-    /// Returns the greatest sum of both quantities, which is 1,000 high.
+    /// Returns the sum of the greatest numbers of both quantities.
     pub(crate) fn most(self, node: &DrawnNode) -> u128
         ensures { result ≡ panel_most self node.now }
     {
@@ -110,12 +113,11 @@ fn put_panel_drawn(
 ) -> Result<(), AllocError>
     ensures { OnOk result (text.new.items ≡ text.old.items ++ panel_drawn panel y node.now) }
 {
-    let most = panel.most(node);
     put_group(text, 900, y)?;
     put_panel_title(text, panel, node)?;
     put_group(text, 0, 260)?;
     put_event_rules(text, 1000, node)?;
-    put_panel_halves(text, panel, most, node)?;
+    put_panel_halves(text, panel, node)?;
     put_group_end(text)?;
     put_group_end(text)
 }
@@ -192,26 +194,42 @@ fn put_quantity_words(
 {
     put(text, quantity.name())?;
     put(text, b": most ")?;
-    put_decimal(text, quantity.most(node.columns.as_slice()))?;
+    put_grouped(text, quantity.most(node.columns.as_slice()))?;
     put(text, b", last ")?;
-    put_decimal(text, quantity.last(&node.last))
+    put_grouped(text, quantity.last(&node.last))
+}
+
+// The number that is 1,000 high on the scale of a quantity, given its greatest number and that of the panel's other quantity.
+fn half_most(own: u128, other: u128) -> u128
+    ensures { result ≡ half_most own other }
+{
+    if other == 0 { own } else { times(2, own) }
 }
 
 // The content above and below the base line.
-#[tactic(auto, using(crate::proofs::Pieces::five), unfolding(crate::specs::Panels::panel_halves))]
-fn put_panel_halves(
+fn put_panel_halves(text: &mut Vec<u8>, panel: Panel, node: &DrawnNode) -> Result<(), AllocError>
+    ensures { OnOk result (text.new.items ≡ text.old.items ++ panel_halves panel node.now) }
+{
+    let up = panel.up().most(node.columns.as_slice());
+    let down = panel.down().most(node.columns.as_slice());
+    put_scaled_halves(text, panel, half_most(up, down), half_most(down, up), node)
+}
+
+// The same, on scales where these numbers are 1,000 high.
+#[tactic(auto, using(crate::proofs::Pieces::five), unfolding(crate::specs::Panels::scaled_halves))]
+fn put_scaled_halves(
     text: &mut Vec<u8>,
     panel: Panel,
-    most: u128,
+    above: u128,
+    below: u128,
     node: &DrawnNode,
 ) -> Result<(), AllocError>
-    ensures { OnOk result (text.new.items ≡ text.old.items ++ panel_halves panel most node.now) }
+    ensures { OnOk result (text.new.items ≡ text.old.items ++ scaled_halves panel above below node.now) }
 {
-    let base = scaled(1000, panel.up().most(node.columns.as_slice()), most);
-    let step = panel.step(most);
+    let base = scaled(1000, panel.up().most(node.columns.as_slice()), above);
     put_group(text, 0, base)?;
-    put_quantity_half(text, b"-", panel.up(), step, most, node)?;
-    put_quantity_half(text, b"", panel.down(), step, most, node)?;
+    put_quantity_half(text, b"-", panel.up(), panel.step(above), above, node)?;
+    put_quantity_half(text, b"", panel.down(), panel.step(below), below, node)?;
     put_base_line(text)?;
     put_group_end(text)
 }

@@ -4,6 +4,7 @@ ghost use Rattle.std.specs.Fmt.{decimal};
 ghost use Rattle.thp_drawing.specs.Pictures.{
   axis_top,
   column_words,
+  described,
   foot_of,
   frames_top,
   ground,
@@ -47,6 +48,11 @@ use crate::title::{put_illegal_text, put_node_words};
 use std::alloc::AllocError;
 use thp_journal_writer::put;
 
+const NAME: &[u8] = b"<title id=\"title\">Deferred split queues</title>\n";
+
+const DESCRIPTION: &[u8] =
+    b"<desc id=\"desc\">Queue, batches, frames and pages of each node over its events; thpdraw --table lists them.</desc>\n";
+
 /// Appends the picture of nodes, which are numbered from 0, to a text. If memory can't be allocated, the text can contain a
 /// prefix of it.
 #[tactic(auto, using(crate::proofs::Pieces::five), unfolding(crate::specs::Pictures::picture_text))]
@@ -61,11 +67,12 @@ pub fn put_picture(text: &mut Vec<u8>, nodes: &[DrawnNode]) -> Result<(), AllocE
     put(text, b"</svg>\n")
 }
 
-#[tactic(auto, using(crate::proofs::Pieces::three), unfolding(crate::specs::Pictures::head))]
+#[tactic(auto, using(crate::proofs::Pieces::four), unfolding(crate::specs::Pictures::head))]
 fn put_head(text: &mut Vec<u8>, high: u128) -> Result<(), AllocError>
     ensures { OnOk result (text.new.items ≡ text.old.items ++ head high) }
 {
     put_svg_start(text, high)?;
+    put_described(text)?;
     put_style(text)?;
     put_ground(text, high)
 }
@@ -78,7 +85,14 @@ fn put_svg_start(text: &mut Vec<u8>, high: u128) -> Result<(), AllocError>
         b"<svg xmlns=\"http://www.w3.org/2000/svg\" viewBox=\"0 0 7200 ",
     )?;
     put_decimal(text, high)?;
-    put(text, b"\">\n")
+    put(text, b"\" role=\"img\" aria-labelledby=\"title desc\">\n")
+}
+
+fn put_described(text: &mut Vec<u8>) -> Result<(), AllocError>
+    ensures { OnOk result (text.new.items ≡ text.old.items ++ described) }
+{
+    put(text, NAME)?;
+    put(text, DESCRIPTION)
 }
 
 #[tactic(auto, using(crate::proofs::Pieces::three), unfolding(crate::specs::Pictures::ground))]
@@ -113,7 +127,7 @@ fn order_words() -> &'static [u8]
 fn column_words() -> &'static [u8]
     ensures { result.now ≡ column_words }
 {
-    b"Full colour reaches a column's least number, pale its greatest; stacks show its mean, bars its last stage."
+    b"Full colour: a column's least number; pale: its greatest; stacks: its mean; bars of pages: its last stage."
 }
 
 #[tactic(auto, using(crate::proofs::Pieces::three), unfolding(crate::specs::Pictures::title))]

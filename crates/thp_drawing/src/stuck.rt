@@ -5,6 +5,7 @@ ghost use Rattle.thp_drawing.specs.Elements.{text_at};
 ghost use Rattle.thp_drawing.specs.Stucks.{more_line, more_words, stuck_height, stuck_lines, stuck_text, stuck_words, told_stuck, words_of};
 
 use crate::element::{put_decimal, put_text};
+use crate::grouped::put_grouped;
 use crate::node::DrawnNode;
 use crate::scale::{plus, times};
 use crate::title::put_many;
@@ -70,7 +71,7 @@ fn put_words_of(text: &mut Vec<u8>, page: u128, finds: u128, since: u128) -> Res
     put(text, b", found pinned ")?;
     put_many(text, finds, b"time")?;
     put(text, b", waits since event ")?;
-    put_decimal(text, since)
+    put_grouped(text, since)
 }
 
 // The number of pages without a line.

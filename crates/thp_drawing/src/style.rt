@@ -27,7 +27,7 @@ const LIGHT_LINES: &[u8] =
     b".rule{stroke:#e4e7ec}.zero{stroke:#1c2128}.held{fill:#64748b}.given{fill:#a4582a}.pin,.wait{fill:#868d97}\n";
 
 const LIGHT_STAGES: &[u8] =
-    b".s0{color:#b6bfc9}.s1{color:#e79700}.s2{color:#3652b8}.s3{color:#bd61ab}.s4{color:#428452}\n";
+    b".s0{color:#8292a3}.s1{color:#a86b00}.s2{color:#2c46a4}.s3{color:#a03a8b}.s4{color:#10422a}\n";
 
 const DARK_INKS: &[u8] =
     b"svg{background:#14171c}.bg{fill:#14171c}.ink{fill:#e8ebf0}.soft{fill:#a3acb9}.bad{fill:#ff6b78}\n";
@@ -36,7 +36,7 @@ const DARK_LINES: &[u8] =
     b".rule{stroke:#2a3038}.zero{stroke:#e8ebf0}.held{fill:#8b9ab0}.given{fill:#d28a55}.pin,.wait{fill:#7f8793}\n";
 
 const DARK_STAGES: &[u8] =
-    b".s0{color:#4d5663}.s1{color:#f9a726}.s2{color:#4280ff}.s3{color:#d764a1}.s4{color:#45a670}\n";
+    b".s0{color:#5d6878}.s1{color:#ffcc80}.s2{color:#397aff}.s3{color:#e07ab2}.s4{color:#6cca98}\n";
 
 /// Appends the rules of the classes.
 #[tactic(auto, using(crate::proofs::Pieces::six), unfolding(crate::specs::Styles::style))]

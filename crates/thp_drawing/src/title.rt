@@ -5,6 +5,7 @@ ghost use Rattle.thp_drawing.specs.Titles.{events_words, illegal_text, illegal_w
 ghost use Rattle.thp_drawing.specs.Titles.{shape_words, shortened, threshold_words};
 
 use crate::element::{put_decimal, put_text};
+use crate::grouped::put_grouped;
 use crate::illegal_event::IllegalEvent;
 use crate::node::DrawnNode;
 use crate::table::put_event_line;
@@ -67,7 +68,7 @@ fn put_shape_words(
 pub(crate) fn put_many(text: &mut Vec<u8>, number: u128, word: &[u8]) -> Result<(), AllocError>
     ensures { OnOk result (text.new.items ≡ text.old.items ++ many number word.now) }
 {
-    put_decimal(text, number)?;
+    put_grouped(text, number)?;
     put(text, b" ")?;
     put(text, word)?;
     if number == 1 { Ok(()) } else { put(text, b"s") }

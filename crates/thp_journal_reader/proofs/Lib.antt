@@ -10,3 +10,7 @@ pub mod ZipLaws
 pub mod CheckLaws
 pub mod FollowLaws
 pub mod KeptLaws
+pub mod RepeatLaws
+pub mod ScriptBatchLaws
+pub mod WholeScanLaws
+pub mod FoldingLaws

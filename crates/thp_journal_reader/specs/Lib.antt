@@ -14,3 +14,9 @@ pub mod Summaries
 pub mod Numbered
 pub mod Keeping
 pub mod Later
+pub mod Repeating
+pub mod ScriptBatches
+pub mod Moving
+pub mod WholeScans
+pub mod Folds
+pub mod ScriptTexts

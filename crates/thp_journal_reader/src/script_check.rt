@@ -8,11 +8,11 @@ ghost use Rattle.thp_script.specs.Limits.{max_counted};
 ghost use Rattle.thp_script.specs.Words.{Text};
 
 use crate::illegal::{Illegal, TextFault};
+use crate::moved::Moved;
 use crate::scripted_nodes::ScriptedNodes;
 use crate::text_reader::TextReader;
 use std::alloc::{AllocError, Global};
 use std::marker::Model;
-use thp_folding::Moved;
 use thp_script::TextInParts;
 
 /// A check of journals of any length that also writes the script that repeats them, up to the first illegal event. It differs

@@ -6,11 +6,11 @@ ghost use Rattle.thp_journal_reader.specs.Later.{follows_later};
 ghost use Rattle.thp_script.specs.Limits.{max_counted};
 
 use crate::follower::FollowedNodes;
+use crate::journal_script::JournalScript;
 use crate::keeps_nodes::KeepsNodes;
 use crate::line::Line;
 use std::alloc::{AllocError, Global};
 use thp_check::Replay;
-use thp_folding::JournalScript;
 
 /// The verdict on the nodes in the lines so far, and the script of their events up to the first illegal one.
 #[derive(Drop)]

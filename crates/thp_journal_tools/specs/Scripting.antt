@@ -4,7 +4,7 @@ use Rattle.std.specs.Fmt.{decimal}
 use Rattle.std.specs.Io.KnownBytes.{Appends}
 use Rattle.thp_script.specs.Limits.{max_counted}
 use Rattle.thp_check.specs.Explanations.{explanation}
-use Rattle.thp_folding.specs.declared.moved.Moved.{Moved}
+use Rattle.thp_journal_reader.specs.declared.moved.Moved.{Moved}
 use Rattle.thp_journal_reader.specs.declared.illegal.Illegal.{Illegal}
 use Rattle.thp_journal_reader.specs.declared.journals.Journals.{Journals}
 use Rattle.thp_journal_reader.specs.Answers.{ReportsFirst}

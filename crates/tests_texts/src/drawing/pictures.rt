@@ -3,7 +3,10 @@ use crate::drawing::nodes::{LARGE, first_run, followed};
 use thp_drawing::{DrawnNode, put_escaped, put_picture};
 
 // Written out manually, and looked at in a browser, on a light and on a dark background.
-const PICTURE: &[u8] = b"<svg xmlns=\"http://www.w3.org/2000/svg\" viewBox=\"0 0 7200 7680\">\n\
+const PICTURE: &[u8] = b"<svg xmlns=\"http://www.w3.org/2000/svg\" viewBox=\"0 0 7200 7680\" \
+role=\"img\" aria-labelledby=\"title desc\">\n\
+<title id=\"title\">Deferred split queues</title>\n\
+<desc id=\"desc\">Queue, batches, frames and pages of each node over its events; thpdraw --table lists them.</desc>\n\
 <style>\n\
 svg{display:block;width:100%;max-width:1080px;height:auto;margin:0 auto;color-scheme:light dark}\n\
 text{font:120px system-ui,sans-serif;font-variant-numeric:tabular-nums}\n\
@@ -12,18 +15,18 @@ path{shape-rendering:crispEdges}.pale{fill-opacity:.35}.rule,.zero{fill:none;sha
 .s0,.s1,.s2,.s3,.s4{fill:currentColor}.bar,.lane{fill:none;stroke:currentColor;stroke-width:90}.thin{stroke-width:60}\n\
 svg{background:#ffffff}.bg{fill:#ffffff}.ink{fill:#1c2128}.soft{fill:#5d6673}.bad{fill:#c8102e}\n\
 .rule{stroke:#e4e7ec}.zero{stroke:#1c2128}.held{fill:#64748b}.given{fill:#a4582a}.pin,.wait{fill:#868d97}\n\
-.s0{color:#b6bfc9}.s1{color:#e79700}.s2{color:#3652b8}.s3{color:#bd61ab}.s4{color:#428452}\n\
+.s0{color:#8292a3}.s1{color:#a86b00}.s2{color:#2c46a4}.s3{color:#a03a8b}.s4{color:#10422a}\n\
 @media(prefers-color-scheme:dark){\n\
 svg{background:#14171c}.bg{fill:#14171c}.ink{fill:#e8ebf0}.soft{fill:#a3acb9}.bad{fill:#ff6b78}\n\
 .rule{stroke:#2a3038}.zero{stroke:#e8ebf0}.held{fill:#8b9ab0}.given{fill:#d28a55}.pin,.wait{fill:#7f8793}\n\
-.s0{color:#4d5663}.s1{color:#f9a726}.s2{color:#4280ff}.s3{color:#d764a1}.s4{color:#45a670}\n\
+.s0{color:#5d6878}.s1{color:#ffcc80}.s2{color:#397aff}.s3{color:#e07ab2}.s4{color:#6cca98}\n\
 }</style>\n\
 <rect class=\"bg\" x=\"0\" y=\"0\" width=\"7200\" height=\"7680\"/>\n\
 <text class=\"ink hh\" x=\"150\" y=\"300\">Deferred split queues</text>\n\
 <text class=\"soft\" x=\"150\" y=\"480\">The events of a node follow each other from left to right; those of two node\
 s have no common time.</text>\n\
-<text class=\"soft\" x=\"150\" y=\"640\">Full colour reaches a column's least number, pale its greatest; stacks show \
-its mean, bars its last stage.</text>\n\
+<text class=\"soft\" x=\"150\" y=\"640\">Full colour: a column's least number; pale: its greatest; stacks: its mean; \
+bars of pages: its last stage.</text>\n\
 <g transform=\"translate(0 660)\">\n\
 <text class=\"ink h\" x=\"150\" y=\"240\">node 0: 16 blocks of 2^9 frames, underused off, 5 legal events</text>\n\
 <g transform=\"translate(900 280)\">\n\
@@ -49,7 +52,7 @@ its mean, bars its last stage.</text>\n\
 <g transform=\"translate(900 1640)\">\n\
 <text class=\"soft e\" x=\"-60\" y=\"150\">caller</text>\n\
 <rect class=\"s3\" x=\"0\" y=\"72\" width=\"80\" height=\"80\"/>\n\
-<text class=\"ink\" x=\"130\" y=\"150\">pages in its batch</text>\n\
+<text class=\"ink\" x=\"130\" y=\"150\">pages in its batch at least once in a column</text>\n\
 <g transform=\"translate(0 260)\">\n\
 <path class=\"rule\" d=\"M0 0v140M1000 0v140M2000 0v140M3000 0v140M4000 0v140M5000 0v140\"/>\n\
 <path class=\"rule\" d=\"M0 70h6000\"/>\n\
@@ -82,21 +85,17 @@ its mean, bars its last stage.</text>\n\
 <text class=\"ink\" x=\"3130\" y=\"150\">given back: most 256, last 256</text>\n\
 <g transform=\"translate(0 260)\">\n\
 <path class=\"rule\" d=\"M0 0v1000M1000 0v1000M2000 0v1000M3000 0v1000M4000 0v1000M5000 0v1000\"/>\n\
-<g transform=\"translate(0 666)\">\n\
-<path class=\"rule\" d=\"M0 -166h6000\"/>\n\
-<text class=\"soft e\" x=\"-60\" y=\"-166\" dy=\"40\">128</text>\n\
-<path class=\"rule\" d=\"M0 -333h6000\"/>\n\
-<text class=\"soft e\" x=\"-60\" y=\"-333\" dy=\"40\">256</text>\n\
+<g transform=\"translate(0 500)\">\n\
+<path class=\"rule\" d=\"M0 -250h6000\"/>\n\
+<text class=\"soft e\" x=\"-60\" y=\"-250\" dy=\"40\">256</text>\n\
 <path class=\"rule\" d=\"M0 -500h6000\"/>\n\
-<text class=\"soft e\" x=\"-60\" y=\"-500\" dy=\"40\">384</text>\n\
-<path class=\"rule\" d=\"M0 -666h6000\"/>\n\
-<text class=\"soft e\" x=\"-60\" y=\"-666\" dy=\"40\">512</text>\n\
-<path class=\"held\" d=\"M0 0V-0h1000V-666h1000V-666h1000V-666h1000V-666h1000V-333h1000V0z\"/>\n\
-<path class=\"rule\" d=\"M0 166h6000\"/>\n\
-<text class=\"soft e\" x=\"-60\" y=\"166\" dy=\"40\">128</text>\n\
-<path class=\"rule\" d=\"M0 333h6000\"/>\n\
-<text class=\"soft e\" x=\"-60\" y=\"333\" dy=\"40\">256</text>\n\
-<path class=\"given\" d=\"M0 0V0h1000V0h1000V0h1000V0h1000V0h1000V333h1000V0z\"/>\n\
+<text class=\"soft e\" x=\"-60\" y=\"-500\" dy=\"40\">512</text>\n\
+<path class=\"held\" d=\"M0 0V-0h1000V-500h1000V-500h1000V-500h1000V-500h1000V-250h1000V0z\"/>\n\
+<path class=\"rule\" d=\"M0 250h6000\"/>\n\
+<text class=\"soft e\" x=\"-60\" y=\"250\" dy=\"40\">128</text>\n\
+<path class=\"rule\" d=\"M0 500h6000\"/>\n\
+<text class=\"soft e\" x=\"-60\" y=\"500\" dy=\"40\">256</text>\n\
+<path class=\"given\" d=\"M0 0V0h1000V0h1000V0h1000V0h1000V0h1000V500h1000V0z\"/>\n\
 <path class=\"zero\" d=\"M0 0h6000\"/>\n\
 <text class=\"soft e\" x=\"-60\" y=\"0\" dy=\"40\">0</text>\n\
 </g>\n\

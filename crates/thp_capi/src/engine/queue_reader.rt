@@ -10,9 +10,10 @@ ghost use Rattle.thp_capi.specs.Reading.{filled_with};
 
 use crate::engine::Engine;
 use thp_model::{Outcome, PageId, Shape, What};
+use thp_node::FullLog;
 use thp_page::Standing;
 
-impl Engine {
+impl Engine<FullLog> {
     /// Stores the queued pages, oldest first, as many as there is room for, and returns the number of queued pages. Reads the
     /// journal back to the event that queued the oldest page.
     pub fn queue(&self, pages: &mut [u64]) -> u32

@@ -8,8 +8,9 @@ use crate::codes::Fault;
 use crate::engine::Engine;
 use crate::page_state::ThpPageState;
 use thp_model::{PageId, Refusal};
+use thp_node::Recorder;
 
-impl Engine {
+impl<R: Recorder> Engine<R> {
     /// Returns the state of a live page.
     pub fn page(&self, page: PageId) -> Result<ThpPageState, Fault>
         ensures live { OnOk result (is_live self.now.node.journal page ≡ true) }

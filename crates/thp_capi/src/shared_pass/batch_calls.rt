@@ -9,9 +9,9 @@ use crate::pass_codes::PassFault;
 use crate::shared_pass::SharedPass;
 use thp_cell::CellFault;
 use thp_model::MAX_BATCH;
-use thp_node::{BackReply, Tried};
+use thp_node::{BackReply, Recorder, Tried};
 
-impl SharedPass {
+impl<R: Recorder> SharedPass<R> {
     // The caller's index, if it is one of the pass's.
     fn place(&self, caller: u32) -> Option<usize>
         ensures own { IfSome result (λ place. HasCaller self.now.pass caller) }

@@ -6,7 +6,7 @@ use Rattle.thp_drawing.proofs.stuck.put_words_of.Goals as goal
 pub returns : goal.returns
 unfolding words_of
 returns c =
-    let P : List ℕ → Type 0 = λ t. OnOk c.put_decimal-2.result (c.put_decimal-2.new.text.items ≡ t) in
+    let P : List ℕ → Type 0 = λ t. OnOk c.put_grouped.result (c.put_grouped.new.text.items ≡ t) in
     subst P
     (six_after _ _ _ _ _ _ _ c.in_ok-put.ensures.text c.in_ok-put_decimal.ensures c.in_ok-put-2.ensures.text c.in_ok-put_many.ensures c.in_ok-put-3.ensures.text)
-    c.put_decimal-2.ensures
+    c.put_grouped.ensures

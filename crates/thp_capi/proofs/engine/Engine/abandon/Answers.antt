@@ -4,6 +4,6 @@ use Rattle.thp_capi.proofs.Places.{engine_closed}
 use Rattle.thp_capi.proofs.engine.Engine.abandon.Goals as goal
 
 pub invariant_of-self-2 : goal.invariant_of-self-2
-invariant_of-self-2 c =
+invariant_of-self-2 g c =
     let lt : c.in-Some.place < length c.self.inside.batches.items = subst (λ x. c.in-Some.place < length x.batches) (sym c.self.view_is) c.in-Some.ensures.inside in
     engine_closed _ c.self.inside.node _ c.self.invariant _ c.in-Some.place (λ b front. front) lt c.take_at.ensures.now

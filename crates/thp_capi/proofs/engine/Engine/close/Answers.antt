@@ -3,4 +3,4 @@ use Rattle.thp_capi.proofs.Places.{engine_stays}
 use Rattle.thp_capi.proofs.engine.Engine.close.Goals as goal
 
 pub invariant_of-self : goal.invariant_of-self
-invariant_of-self c = engine_stays _ c.close.new.self _ c.self.invariant c.close.ensures.fronts
+invariant_of-self g c = engine_stays _ c.close.new.self _ c.self.invariant c.close.ensures.fronts

@@ -9,7 +9,7 @@ use Rattle.thp_capi.proofs.Reading.{at_block, page_is, unseen}
 use Rattle.thp_capi.proofs.engine.Engine.mapcount.Goals as goal
 
 pub returns-in_default-clause-failed : goal.returns-in_default-clause-failed
-returns-in_default-clause-failed c =
+returns-in_default-clause-failed g c =
     let t = c.table-table.ensures in
     ap (λ (e : EngineState). is_live e.node.journal c.args.page) (sym c.self.view_is) ∙ unseen c.self.inside.node _ t.value t.live c.args.page c.in_default.ensures.absent
 
@@ -23,20 +23,20 @@ is_below : (i n : ℕ) → i < n → nat_lt i n ≡ true
 is_below i n e = grind arith
 
 pub returns-then-subpage-subpages-clause-failed : goal.returns-then-subpage-subpages-clause-failed
-returns-then-subpage-subpages-clause-failed c =
+returns-then-subpage-subpages-clause-failed g c =
     let t = c.table-table.ensures in
     let w = at_block c.self.inside.node _ t.value t.slots t.homes c.args.page c.in-Some.block c.in-Some.ensures.found in
     let size = c.subpages.ensures ∙ ap subpages c.shape.ensures.value ∙ ap (λ (e : EngineState). subpages e.node.shape) c.self.view_is in
     (ap (λ (e : EngineState). is_live e.node.journal c.args.page) (sym c.self.view_is) ∙ w.live, not_below c.args.subpage c.subpages.result _ size c.if-subpage-subpages.true)
 
 pub returns-clause-live : goal.returns-clause-live
-returns-clause-live c =
+returns-clause-live g c =
     let t = c.table-table.ensures in
     let w = at_block c.self.inside.node _ t.value t.slots t.homes c.args.page c.in-Some.block c.in-Some.ensures.found in
     ap (λ (e : EngineState). is_live e.node.journal c.args.page) (sym c.self.view_is) ∙ w.live
 
 pub returns-clause-own : goal.returns-clause-own
-returns-clause-own c =
+returns-clause-own g c =
     let n = c.self.inside.node in
     let t = c.table-table.ensures in
     let w = at_block n _ t.value t.slots t.homes c.args.page c.in-Some.block c.in-Some.ensures.found in

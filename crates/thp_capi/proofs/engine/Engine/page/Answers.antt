@@ -7,18 +7,18 @@ use Rattle.thp_capi.proofs.Reading.{at_block, page_is, standing_is, state_is, un
 use Rattle.thp_capi.proofs.engine.Engine.page.Goals as goal
 
 pub returns-in_default-clause-gone : goal.returns-in_default-clause-gone
-returns-in_default-clause-gone c =
+returns-in_default-clause-gone g c =
     let t = c.table-table.ensures in
     ap (λ (e : EngineState). is_live e.node.journal c.args.page) (sym c.self.view_is) ∙ unseen c.self.inside.node _ t.value t.live c.args.page c.in_default.ensures.absent
 
 pub returns-clause-live : goal.returns-clause-live
-returns-clause-live c =
+returns-clause-live g c =
     let t = c.table-table.ensures in
     let w = at_block c.self.inside.node _ t.value t.slots t.homes c.args.page c.in-Some.block c.in-Some.ensures.found in
     ap (λ (e : EngineState). is_live e.node.journal c.args.page) (sym c.self.view_is) ∙ w.live
 
 pub returns-clause-state : goal.returns-clause-state
-returns-clause-state c =
+returns-clause-state g c =
     let n = c.self.inside.node in
     let t = c.table-table.ensures in
     let w = at_block n _ t.value t.slots t.homes c.args.page c.in-Some.block c.in-Some.ensures.found in

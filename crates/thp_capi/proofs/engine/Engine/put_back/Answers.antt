@@ -8,12 +8,12 @@ use Rattle.thp_capi.proofs.Places.{engine_took, engine_closed, own_front, back_r
 use Rattle.thp_capi.proofs.engine.Engine.put_back.Goals as goal
 
 pub invariant_of-self-in-Ok : goal.invariant_of-self-in-Ok
-invariant_of-self-in-Ok c =
+invariant_of-self-in-Ok g c =
     let lt : c.in-Some.place < length c.self.inside.batches.items = subst (λ x. c.in-Some.place < length x.batches) (sym c.self.view_is) c.in-Some.ensures.inside in
     engine_closed _ c.put_back.new.self _ c.self.invariant _ c.in-Some.place c.put_back.ensures.fronts lt c.take_at.ensures.now
 
 pub invariant_of-self-in-Err : goal.invariant_of-self-in-Err
-invariant_of-self-in-Err c =
+invariant_of-self-in-Err g c =
     let lt : c.in-Some.place < length c.self.inside.batches.items = subst (λ x. c.in-Some.place < length x.batches) (sym c.self.view_is) c.in-Some.ensures.inside in
     let is : get_or c.self.inside.batches.items c.in-Some.place None ≡ Some c.in-Some-take_at.batch = sym c.take_at.ensures.was ∙ c.in-Some-take_at.is in
     let own = own_front _ c.self.inside.node _ c.self.invariant c.in-Some.place c.in-Some-take_at.batch lt is in
@@ -23,7 +23,7 @@ invariant_of-self-in-Err c =
     (ap (λ (x : BatchState). x.caller) back ∙ own.0) (subst (IsInFront c.put_back.new.self.journal) (sym back) (c.put_back.ensures.fronts c.in-Some-take_at.batch own.1)) now
 
 pub returns-in-Err-clause-failed : goal.returns-in-Err-clause-failed
-returns-in-Err-clause-failed c =
+returns-in-Err-clause-failed g c =
     let lt : c.in-Some.place < length c.self.inside.batches.items = subst (λ x. c.in-Some.place < length x.batches) (sym c.self.view_is) c.in-Some.ensures.inside in
     let is : get_or c.self.inside.batches.items c.in-Some.place None ≡ Some c.in-Some-take_at.batch = sym c.take_at.ensures.was ∙ c.in-Some-take_at.is in
     let own = own_front _ c.self.inside.node _ c.self.invariant c.in-Some.place c.in-Some-take_at.batch lt is in

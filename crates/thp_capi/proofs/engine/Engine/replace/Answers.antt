@@ -10,4 +10,4 @@ shut_engine : (m : NodeState) (bs : Batches) → length bs ≡ max_callers → (
 shut_engine m bs places none = record { places = places; each = λ k b within is. for_none m.journal (0 + k) b (sym (none k) ∙ is) }
 
 pub invariant_of-self : goal.invariant_of-self
-invariant_of-self c = shut_engine c.args.node c.self.inside.batches.items c.self.invariant.places (subst (λ x. NoneOpen x) (sym c.self.view_is) c.requires.none_open)
+invariant_of-self g c = shut_engine c.args.node c.self.inside.batches.items c.self.invariant.places (subst (λ x. NoneOpen x) (sym c.self.view_is) c.requires.none_open)

@@ -5,7 +5,7 @@ use Rattle.thp_capi.proofs.Places.{engine_took, own_front}
 use Rattle.thp_capi.proofs.engine.Engine.split_next.Goals as goal
 
 pub invariant_of-self-2 : goal.invariant_of-self-2
-invariant_of-self-2 c =
+invariant_of-self-2 g c =
     let bs = c.self.inside.batches.items in
     let lt : c.in-Some.place < length c.self.inside.batches.items = subst (λ x. c.in-Some.place < length x.batches) (sym c.self.view_is) c.in-Some.ensures.inside in
     let is : get_or bs c.in-Some.place None ≡ Some c.in-Some-index_mut.batch = get_or_default bs c.in-Some.place None c.index_mut.result.now lt ∙ sym c.index_mut.ensures.value ∙ c.in-Some-index_mut.is in

@@ -1,6 +1,6 @@
 -- `exchange` is the walk that all handles share.
 use Rattle.std.proofs.Common.{refl}
-use Rattle.thp_capi.specs.contracts.engine.Engine as content
+use Rattle.thp_capi.specs.contracts.held.HeldEngine as content
 use Rattle.thp_capi.specs.declared.node_handle.ThpNode.{ThpNode}
 use Rattle.thp_capi.specs.contracts.node_handle.ThpNode.{the_type}
 use Rattle.thp_capi.specs.contracts.node_handle.ThpNode.exchange.Key.{name as #self}

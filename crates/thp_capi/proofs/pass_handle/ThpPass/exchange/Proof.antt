@@ -1,6 +1,6 @@
 -- `exchange` is the walk that all handles share.
 use Rattle.std.proofs.Common.{refl}
-use Rattle.thp_capi.specs.contracts.shared_pass.SharedPass as content
+use Rattle.thp_capi.specs.contracts.held.HeldPass as content
 use Rattle.thp_capi.specs.contracts.room.Room as room
 use Rattle.thp_capi.specs.declared.pass_handle.ThpPass.{ThpPass}
 use Rattle.thp_capi.specs.contracts.pass_handle.ThpPass.{the_type}

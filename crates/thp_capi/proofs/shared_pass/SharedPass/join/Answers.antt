@@ -6,7 +6,7 @@ use Rattle.thp_capi.proofs.Opened.{shared_joined}
 use Rattle.thp_capi.proofs.shared_pass.SharedPass.join.Goals as goal
 
 pub joined-batches-requires : goal.joined-batches-requires
-joined-batches-requires c =
+joined-batches-requires g c =
     let p = c.self.inside.pass in
     let q = c.other.inside.pass in
     let r = c.join-pass.result in
@@ -16,7 +16,7 @@ joined-batches-requires c =
     record { enough = omega (arith, adjacent, end, all, c.self.invariant.callers, c.self.invariant.places, c.self.invariant.room_is, c.other.invariant.places, c.join-pass.ensures.inside) }
 
 pub invariant_of-result : goal.invariant_of-result
-invariant_of-result c =
+invariant_of-result g c =
     let p = c.self.inside.pass in
     let q = c.other.inside.pass in
     let adjacent : p.end ≡ q.first = subst (λ (y : SharedState). p.end ≡ y.pass.first) (sym c.other.view_is) (subst (λ (x : SharedState). x.pass.end ≡ c.args.other.pass.first) (sym c.self.view_is) c.requires.adjacent) in

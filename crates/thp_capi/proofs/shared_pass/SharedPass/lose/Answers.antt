@@ -4,7 +4,7 @@ use Rattle.thp_capi.proofs.shared_pass.SharedPass.lose.Goals as goal
 use Rattle.thp_capi.proofs.shared_pass.SharedPass.lose.Goals.{in-Ok, in-Err-Busy, in-Err-Refused}
 
 pub returns-clause-recorded : goal.returns-clause-recorded
-returns-clause-recorded c =
+returns-clause-recorded g c =
     elim c.match-lose.branch [
       | in-Ok w ↦ rw (w.result-is, ← c.self.view_is) w.in-Ok.ensures.recorded
       | in-Err-Busy w ↦ rw w.result-is tt
@@ -12,4 +12,4 @@ returns-clause-recorded c =
     ]
 
 pub invariant_of-self : goal.invariant_of-self
-invariant_of-self c = shared_stays _ _ _ c.self.inside.pass c.lose.new.pass _ c.self.invariant c.lose.ensures.same c.lose.ensures.batches
+invariant_of-self g c = shared_stays _ _ _ c.self.inside.pass c.lose.new.pass _ c.self.invariant c.lose.ensures.same c.lose.ensures.batches

@@ -7,14 +7,14 @@ use Rattle.thp_capi.proofs.Opened.{shared_closed, shared_again, back_done, back_
 use Rattle.thp_capi.proofs.shared_pass.SharedPass.put_back.Goals as goal
 
 pub invariant_of-self-in-Ok : goal.invariant_of-self-in-Ok
-invariant_of-self-in-Ok c =
+invariant_of-self-in-Ok g c =
     let p = c.self.inside.pass in
     let at : c.in-Some.place + p.first ≡ c.args.caller = subst (λ x. c.in-Some.place + x.pass.first ≡ c.args.caller) (sym c.self.view_is) c.in-Some.ensures.at in
     let lt : c.in-Some.place < length c.self.inside.batches.items = subst (λ x. c.in-Some.place < length x.batches) (sym c.self.view_is) c.in-Some.ensures.inside in
     shared_closed _ _ _ _ p c.put_back.new.pass _ _ c.args.caller c.in-Some.place c.self.invariant c.put_back.ensures.same at lt c.take_at.ensures.room c.put_back.ensures.batches c.take_at.ensures.now
 
 pub invariant_of-self-in-Err : goal.invariant_of-self-in-Err
-invariant_of-self-in-Err c =
+invariant_of-self-in-Err g c =
     let p = c.self.inside.pass in
     let at : c.in-Some.place + p.first ≡ c.args.caller = subst (λ x. c.in-Some.place + x.pass.first ≡ c.args.caller) (sym c.self.view_is) c.in-Some.ensures.at in
     let lt : c.in-Some.place < length c.self.inside.batches.items = subst (λ x. c.in-Some.place < length x.batches) (sym c.self.view_is) c.in-Some.ensures.inside in
@@ -27,7 +27,7 @@ invariant_of-self-in-Err c =
     _ b c.put_back.ensures.batches own (c.put_back.ensures.batches b has was.1) c.take_at.ensures.now (c.put_at.ensures.now ∙ ap (λ x. set c.take_at.new.places.items c.in-Some.place (Some x)) c.in-Err.ensures.handed_back)
 
 pub returns-in-Ok : goal.returns-in-Ok
-returns-in-Ok c =
+returns-in-Ok g c =
     let p = c.self.inside.pass in
     let at : c.in-Some.place + p.first ≡ c.args.caller = subst (λ x. c.in-Some.place + x.pass.first ≡ c.args.caller) (sym c.self.view_is) c.in-Some.ensures.at in
     let lt : c.in-Some.place < length c.self.inside.batches.items = subst (λ x. c.in-Some.place < length x.batches) (sym c.self.view_is) c.in-Some.ensures.inside in
@@ -38,7 +38,7 @@ returns-in-Ok c =
     (back_done c.self.inside.mark p c.put_back.new.pass _ _ c.args.caller c.in-Some.place c.put_back.ensures.same at lt b c.in-Ok.back is own c.take_at.ensures.now c.in-Ok.ensures.recorded)
 
 pub returns-in-Err : goal.returns-in-Err
-returns-in-Err c =
+returns-in-Err g c =
     let p = c.self.inside.pass in
     let at : c.in-Some.place + p.first ≡ c.args.caller = subst (λ x. c.in-Some.place + x.pass.first ≡ c.args.caller) (sym c.self.view_is) c.in-Some.ensures.at in
     let lt : c.in-Some.place < length c.self.inside.batches.items = subst (λ x. c.in-Some.place < length x.batches) (sym c.self.view_is) c.in-Some.ensures.inside in

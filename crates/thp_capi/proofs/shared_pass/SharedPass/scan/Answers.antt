@@ -3,4 +3,4 @@ use Rattle.thp_capi.proofs.Opened.{shared_stays}
 use Rattle.thp_capi.proofs.shared_pass.SharedPass.scan.Goals as goal
 
 pub invariant_of-self : goal.invariant_of-self
-invariant_of-self c = shared_stays _ _ _ c.self.inside.pass c.scan.new.pass _ c.self.invariant c.scan.ensures.same c.scan.ensures.batches
+invariant_of-self g c = shared_stays _ _ _ c.self.inside.pass c.scan.new.pass _ c.self.invariant c.scan.ensures.same c.scan.ensures.batches

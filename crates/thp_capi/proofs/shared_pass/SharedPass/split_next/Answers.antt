@@ -7,7 +7,7 @@ use Rattle.thp_capi.proofs.shared_pass.SharedPass.split_next.Goals.{in-Ok, in-Er
 use Rattle.thp_capi.proofs.shared_pass.SharedPass.split_next.Goals as goal
 
 pub split_next-requires-clause-caller : goal.split_next-requires-clause-caller
-split_next-requires-clause-caller c =
+split_next-requires-clause-caller g c =
     let p = c.self.inside.pass in
     let bs = c.self.inside.batches.items in
     let place = c.in-Some.place in
@@ -17,7 +17,7 @@ split_next-requires-clause-caller c =
     own_at _ _ _ p bs c.self.invariant place b lt (c.self.invariant.each place b lt is).0
 
 pub invariant_of-self-2 : goal.invariant_of-self-2
-invariant_of-self-2 c =
+invariant_of-self-2 g c =
     let p = c.self.inside.pass in
     let bs = c.self.inside.batches.items in
     let place = c.in-Some.place in
@@ -32,7 +32,7 @@ invariant_of-self-2 c =
     shared_took _ _ _ _ p q bs _ c.args.caller place c.self.invariant e.same at lt refl c.split_next.new.batch (others_stay p q c.args.caller e.batches) (e.same_caller ∙ own) (e.front was.1) refl
 
 pub returns : goal.returns
-returns c =
+returns g c =
     let p = c.self.inside.pass in
     let bs = c.self.inside.batches.items in
     let place = c.in-Some.place in

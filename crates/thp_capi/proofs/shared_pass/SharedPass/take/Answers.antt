@@ -5,7 +5,7 @@ use Rattle.thp_capi.proofs.Opened.{shared_took}
 use Rattle.thp_capi.proofs.shared_pass.SharedPass.take.Goals as goal
 
 pub invariant_of-self : goal.invariant_of-self
-invariant_of-self c =
+invariant_of-self g c =
     let p = c.self.inside.pass in
     let at : c.in-Some.place + p.first ≡ c.args.caller = subst (λ x. c.in-Some.place + x.pass.first ≡ c.args.caller) (sym c.self.view_is) c.in-Some.ensures.at in
     let lt : c.in-Some.place < length c.self.inside.batches.items = subst (λ x. c.in-Some.place < length x.batches) (sym c.self.view_is) c.in-Some.ensures.inside in

@@ -1,4 +1,0 @@
-pub mod Repeating
-pub mod Batches
-pub mod Folds
-pub mod Texts

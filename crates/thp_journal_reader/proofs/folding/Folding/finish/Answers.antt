@@ -1,0 +1,13 @@
+use Rattle.std.proofs.Common.{◌∙◌, refl}
+use Rattle.thp_journal_reader.proofs.FoldingLaws.{commands_then, finishes}
+use Rattle.thp_journal_reader.proofs.WholeScanLaws.{nothing_moves}
+use Rattle.thp_journal_reader.proofs.folding.Folding.finish.Goals as goal
+
+pub returns : goal.returns
+returns c =
+    let o = c.args.ops.now.items in
+    let m = c.close.new.self in
+    let d = c.write_scans.new.self in
+    finishes o c.write_scans.new.ops.items c.args.self d _ (commands_then o c.close.new.ops.items c.write_scans.new.ops.items c.args.self m m d c.in_ok-close.ensures.adds refl refl c.in_ok-write_scans.ensures.adds)
+    (c.in_ok-write_scans.ensures.batch ∙ c.in_ok-close.ensures.idle) refl
+    (λ at. nothing_moves c.args.self m d c.len-left.result at c.in_ok-close.ensures.was_idle c.in_ok-write_scans.ensures.none c.len-left.ensures)

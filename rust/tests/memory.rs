@@ -1,0 +1,106 @@
+//! Memory: what is created is freed, and want of memory is an error: neither a verdict nor a panic.
+//!
+//! There is one test, since a program has one allocator.
+use std::ffi::c_void;
+use std::sync::atomic::{AtomicIsize, Ordering::SeqCst};
+
+use leversorrel::{check, Cell, Check, Fault, Node, Pass, Verdict};
+
+#[repr(C)]
+struct Allocator {
+    allocate: extern "C" fn(usize) -> *mut c_void,
+    resize: extern "C" fn(*mut c_void, usize) -> *mut c_void,
+    give_back: extern "C" fn(*mut c_void),
+}
+
+extern "C" {
+    fn thp_use_allocator(allocator: *const Allocator) -> u32;
+    fn malloc(size: usize) -> *mut c_void;
+    fn realloc(memory: *mut c_void, size: usize) -> *mut c_void;
+    fn free(memory: *mut c_void);
+}
+
+/// The number of blocks that the library holds, and the number of requests that succeed before all others are refused.
+static HELD: AtomicIsize = AtomicIsize::new(0);
+static LEFT: AtomicIsize = AtomicIsize::new(isize::MAX);
+
+fn is_refused() -> bool {
+    LEFT.fetch_sub(1, SeqCst) <= 0
+}
+
+extern "C" fn allocate(size: usize) -> *mut c_void {
+    if is_refused() {
+        return std::ptr::null_mut();
+    }
+    HELD.fetch_add(1, SeqCst);
+    // SAFETY: any size is allowed.
+    unsafe { malloc(size) }
+}
+
+extern "C" fn resize(memory: *mut c_void, size: usize) -> *mut c_void {
+    if is_refused() {
+        return std::ptr::null_mut();
+    }
+    // SAFETY: the library resizes what it was given.
+    unsafe { realloc(memory, size) }
+}
+
+extern "C" fn give_back(memory: *mut c_void) {
+    HELD.fetch_sub(1, SeqCst);
+    // SAFETY: the library gives back what it was given.
+    unsafe { free(memory) }
+}
+
+const LEGAL: &[u8] = b"thp-journal 1\nnode 0 blocks 2\n0 alloc 0\n0 splitpmd 0\n0 unmapsub 0 0 256 queued -\nend\n";
+
+// Every kind of handle, and every way in which one ends without a call.
+fn use_all() -> Result<(), Fault> {
+    let mut node = Node::new(4, 2, None)?;
+    let page = node.alloc(0)?;
+    node.split_pmd(0, page)?;
+    node.unmap_sub(0, page, 0, 2)?;
+    drop(node.batch(0, 8)?);
+    let mut one = Pass::of_new_cell(4, 2, None, 3)?;
+    let two = one.split(1)?;
+    drop(two);
+    let cell = Cell::new(4, 2, None, 2)?;
+    drop(cell.passes().map_err(Fault::from)?);
+    let mut lost = Check::new()?;
+    lost.read(LEGAL)?;
+    assert_eq!(lost.finish()?, Verdict::Legal);
+    let mut part = Check::new()?;
+    part.read(&LEGAL[..40])?;
+    assert_eq!(check(LEGAL)?, Verdict::Legal);
+    Ok(())
+}
+
+// A check that lost its text returns the same error from every call.
+fn lose_a_check() -> Result<(), Fault> {
+    let mut check = Check::new()?;
+    if check.read(LEGAL).is_err() {
+        assert_eq!(check.read(LEGAL), Err(Fault::OutOfMemory));
+        assert_eq!(check.finish(), Err(Fault::OutOfMemory));
+        assert_eq!(check.reason(), Err(Fault::OutOfMemory));
+    }
+    Ok(())
+}
+
+#[test]
+fn memory_comes_back_and_its_want_is_an_error() {
+    // SAFETY: the functions are static, and this is the first call of the library.
+    assert_eq!(unsafe { thp_use_allocator(&Allocator { allocate, resize, give_back }) }, 0);
+    assert_eq!((use_all(), HELD.load(SeqCst)), (Ok(()), 0));
+    for calls in [use_all, lose_a_check] {
+        for granted in 0.. {
+            LEFT.store(granted, SeqCst);
+            let ended = calls();
+            let was_refused = LEFT.load(SeqCst) < 0;
+            LEFT.store(isize::MAX, SeqCst);
+            assert_eq!(HELD.load(SeqCst), 0, "after {granted} requests");
+            assert!(matches!(ended, Ok(()) | Err(Fault::OutOfMemory)), "after {granted} requests: {ended:?}");
+            if !was_refused {
+                break;
+            }
+        }
+    }
+}
