@@ -1,7 +1,11 @@
 -- What each step of a script adds.
 use Rattle.std.proofs.Common.{◌≡◌, ◌∙◌, ◌+◌, ℕ, List, [], ◌∷◌, ◌++◌, append_assoc, ap, refl, subst, sym}
+use Rattle.std.specs.Prelude.{All}
 use Rattle.std.proofs.lemmas.List.{append-nil}
+use Rattle.std.proofs.lemmas.List.Elements.{All-append, All-cons, All-nil}
 use Rattle.thp_model.specs.declared.events.Event.{Event}
+use Rattle.thp_model.specs.declared.events.What.{What}
+use Rattle.thp_model.specs.declared.events.What.TheVariants as what
 use Rattle.thp_model.specs.History.{History}
 use Rattle.thp_script.specs.declared.script.Op.{Op}
 use Rattle.thp_script.specs.declared.script.Op.TheVariants as op
@@ -11,17 +15,61 @@ use Rattle.thp_journal_reader.specs.declared.folding.Folding.{Folding}
 use Rattle.thp_journal_reader.specs.declared.script_batch.ScriptBatch.{ScriptBatch}
 use Rattle.thp_journal_reader.specs.declared.script_batch.ScriptBatch.TheVariants.{Idle, Taking, Open, Closing}
 use Rattle.thp_journal_reader.specs.ScriptBatches.{pending_ops, settled, Completes, PutsMore, TakesMore, TriesMore}
-use Rattle.thp_journal_reader.specs.Folds.{nothing_moved, AddsCommands, AddsEvent, AddsTo, Ends, HasAdded, IsAtPlace, IsFoldedTo}
+use Rattle.thp_journal_reader.specs.Folds.{nothing_moved, AddsCommands, AddsEvent, AddsPlain, AddsTo, Ends, HasAdded, IsAtPlace, IsFoldedTo}
 use Rattle.thp_journal_reader.specs.declared.moved.Moved.{Moved}
 use Rattle.thp_journal_reader.specs.Repeating.{call_in, kind_of, IsBy}
 use Rattle.thp_journal_reader.specs.Moving.{counted}
-use Rattle.thp_journal_reader.specs.WholeScans.{scan_place, scan_place_after, Between, ScanPlace}
-use Rattle.thp_journal_reader.proofs.WholeScanLaws.{scans_more}
+use Rattle.thp_journal_reader.specs.WholeScans.{scan_place, scan_place_after, Between, Elsewhere, InPuts, InTakes, InTries, IsCallOrScan, ScanPlace}
+use Rattle.thp_journal_reader.proofs.WholeScanLaws.{place_more, scans_more, stays_elsewhere}
 use Rattle.thp_journal_reader.proofs.ScriptBatchLaws.{completes, first_take, is_script, one_more_call, one_more_put, one_more_take, one_more_try, open_put, open_try, puts_nothing, scans, settles, waits}
+
+-- a command of a call is a call
+abbrev pub IsPlainCall : EventKind → Type 0
+IsPlainCall (Call o) = IsCallOrScan o
+IsPlainCall _ = Unit {0}
 
 -- the same script, said of equal parts
 as_said : (h : History) (ops more : List Op) (b after : ScriptBatch) (n m : ℕ) → ops ≡ more → after ≡ b → m ≡ n → IsFoldedTo h ops b n → IsFoldedTo h more after m
 as_said h ops more b after n m o e k f = subst (λ os. IsFoldedTo h os after m) o (subst (λ a. IsFoldedTo h ops a m) (sym e) (subst (λ j. IsFoldedTo h ops b j) (sym k) f))
+
+-- ---- calls and scans
+
+pub no_command : (o p : List Op) → p ≡ o → HasAdded o p (All IsCallOrScan)
+no_command o p same = ([], same ∙ sym (append-nil o), All-nil IsCallOrScan)
+
+pub one_command : (o p : List Op) (x : Op) → p ≡ o ++ x ∷ [] → IsCallOrScan x → HasAdded o p (All IsCallOrScan)
+one_command o p x more plain = (x ∷ [], more, All-cons IsCallOrScan x [] plain (All-nil IsCallOrScan))
+
+pub more_commands : (o p q : List Op) → HasAdded o p (All IsCallOrScan) → HasAdded p q (All IsCallOrScan) → HasAdded o q (All IsCallOrScan)
+more_commands o p q first then = (first.0 ++ then.0, then.1 ∙ ap (λ os. os ++ then.0) first.1 ∙ append_assoc o first.0 then.0, All-append IsCallOrScan first.0 then.0 first.2 then.2)
+
+-- the command of a call is one
+plain_call : (w : What) → IsPlainCall (kind_of w)
+plain_call (what.Alloc p b) = tt
+plain_call (what.MapWhole p) = tt
+plain_call (what.UnmapWhole o p set) = tt
+plain_call (what.MapSub p first count) = tt
+plain_call (what.UnmapSub o p first count set) = tt
+plain_call (what.SplitPmd p) = tt
+plain_call (what.Pin p) = tt
+plain_call (what.Unpin o p set) = tt
+plain_call (what.Write p first count) = tt
+plain_call (what.Zero p first count) = tt
+plain_call (what.Taken p) = tt
+plain_call (what.Split p set) = tt
+plain_call (what.Pinned p) = tt
+plain_call (what.Used p) = tt
+plain_call (what.Back p) = tt
+plain_call (what.Dropped p) = tt
+plain_call what.Close = tt
+
+pub call_is_plain : (w : What) (o : Op) → kind_of w ≡ Call o → IsCallOrScan o
+call_is_plain w o kind = subst IsPlainCall kind (plain_call w)
+
+-- what was added is determined
+added_once : (o xs ys : List Op) → o ++ xs ≡ o ++ ys → xs ≡ ys
+added_once [] xs ys same = same
+added_once (x ∷ o) xs ys same = let rest : o ++ xs ≡ o ++ ys = cc in added_once o xs ys rest
 
 -- ---- one after the other
 
@@ -149,21 +197,42 @@ module _ (o : List Op) (a b : Folding) (e : Event) where
             (one_more_call h (past ++ so_far.0) a.batch m.moved.events e x is (subst (λ y. IsFoldedTo h (past ++ so_far.0) y m.moved.events) quiet (so_far.2 h past f))),
       )
 
+-- where no flight waits
+pub still_plain : (f : Folding) (o p : List Op) → (f.waiting.flights.items ≡ [] → p ≡ o) → (s : ScanPlace) → IsAtPlace s f → (s ≡ Elsewhere → ⊥) → HasAdded o p (All IsCallOrScan)
+still_plain f o p same Between at ne = no_command o p (same at.quiet.none_waits)
+still_plain f o p same (InTakes c ps) at ne = no_command o p (same at.quiet.none_waits)
+still_plain f o p same (InTries c n k ps) at ne = no_command o p (same at.quiet.none_waits)
+still_plain f o p same (InPuts c ps) at ne = no_command o p (same at.quiet.none_waits)
+still_plain f o p same Elsewhere at ne = absurd (ne refl)
+
 -- ---- the whole
 
 -- with its whole scans, the script of one more event
-pub folded_more : (o p : List Op) (e : Event) (a b : Folding) → HasAdded o p (AddsEvent e a b) → ((s : ScanPlace) → IsAtPlace s a → IsAtPlace (scan_place_after s e) b) → HasAdded o p (AddsTo e a b)
-folded_more o p e a b adds goes = (
+pub folded_more : (o p : List Op) (e : Event) (a b : Folding) → HasAdded o p (AddsEvent e a b) → ((s : ScanPlace) → IsAtPlace s a → IsAtPlace (scan_place_after s e) b) → AddsPlain (λ s. scan_place_after s e) a o p → HasAdded o p (AddsTo e a b)
+folded_more o p e a b adds goes plain = (
   adds.0,
   adds.1,
-  λ h past f. record { commands = adds.2 h past f.commands; scans = scans_more h e b (goes (scan_place h) f.scans) },
+  λ h past f.
+      record {
+        commands = adds.2 h past f.commands;
+        scans = scans_more h e b (goes (scan_place h) f.scans);
+        plain = λ whole.
+            let ne : scan_place_after (scan_place h) e ≡ Elsewhere → ⊥ = λ away. whole (place_more h e ∙ away) in
+            let more = plain (scan_place h) f.scans ne in
+            let here : scan_place h ≡ Elsewhere → ⊥ = λ away. ne (ap (λ s. scan_place_after s e) away ∙ stays_elsewhere e) in
+            All-append IsCallOrScan past adds.0 (f.plain here) (subst (All IsCallOrScan) (added_once o more.0 adds.0 (sym more.1 ∙ adds.1)) more.2);
+      },
 )
 
-pub finishes : (o p : List Op) (a b : Folding) (moved : Moved) → HasAdded o p (AddsCommands a b) → b.batch ≡ Idle → moved.events ≡ b.moved.events → (IsAtPlace Between a → moved ≡ nothing_moved) → HasAdded o p (Ends a moved)
-finishes o p a b moved adds idle same none = (
+pub finishes : (o p : List Op) (a b : Folding) (moved : Moved) → HasAdded o p (AddsCommands a b) → b.batch ≡ Idle → moved.events ≡ b.moved.events → (IsAtPlace Between a → moved ≡ nothing_moved) → (IsAtPlace Between a → p ≡ o) → HasAdded o p (Ends a moved)
+finishes o p a b moved adds idle same none still = (
   adds.0,
   adds.1,
   λ h past f.
       is_script h (past ++ adds.0) moved b.moved.events same (subst (λ x. IsFoldedTo h (past ++ adds.0) x b.moved.events) idle (adds.2 h past f.commands))
-      (λ whole. none (subst (λ s. IsAtPlace s a) whole f.scans)),
+      (λ whole. none (subst (λ s. IsAtPlace s a) whole f.scans))
+      (λ whole.
+      let nothing : adds.0 ≡ [] = added_once o adds.0 [] (sym adds.1 ∙ still (subst (λ s. IsAtPlace s a) whole f.scans) ∙ sym (append-nil o)) in
+      let here : scan_place h ≡ Elsewhere → ⊥ = λ away. let both : Between ≡ Elsewhere = sym whole ∙ away in absurd (cc) in
+      subst (All IsCallOrScan) (sym (append-nil past) ∙ ap (λ os. past ++ os) (sym nothing)) (f.plain here)),
 )

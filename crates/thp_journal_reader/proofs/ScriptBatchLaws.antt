@@ -14,7 +14,7 @@ use Rattle.thp_journal_reader.specs.declared.script_batch.ScriptBatch.TheVariant
 use Rattle.thp_journal_reader.specs.ScriptBatches.{open_by, pending_ops, settled, Completes, IsPending, IsShut, PutsMore, RepeatsUpTo, TakesMore, TriesMore}
 use Rattle.thp_journal_reader.specs.Folds.{nothing_moved, IsFoldedTo, IsScript}
 use Rattle.thp_journal_reader.specs.declared.moved.Moved.{Moved}
-use Rattle.thp_journal_reader.specs.WholeScans.{IsWholeScans}
+use Rattle.thp_journal_reader.specs.WholeScans.{IsCallOrScan, IsWholeScans}
 use Rattle.thp_journal_reader.specs.Moving.{counted, Interleaves, IsOfBatch, IsScan, neither, first, second}
 use Rattle.thp_journal_reader.specs.Repeating.{call_in, calls_in, calls_of, kind_of, AreBy, IsBy, IsScanBy, Repeats, RepeatsBy}
 use Rattle.thp_journal_reader.proofs.RepeatLaws.{calls_in_both, calls_of_more, is_plain, no_calls_in_tries, repeats_more, repeats_tries, IsPlain}
@@ -374,8 +374,8 @@ none_away : (away : History) → 0 ≡ counted (length away) → away ≡ []
 none_away [] zero = refl
 none_away (e ∷ es) zero = absurd (omega arith)
 
-pub is_script : (h : History) (past : List Op) (moved : Moved) (n : ℕ) → moved.events ≡ n → IsFoldedTo h past Idle n → (IsWholeScans h → moved ≡ nothing_moved) → IsScript h past moved
-is_script h past moved n same f none = record {
+pub is_script : (h : History) (past : List Op) (moved : Moved) (n : ℕ) → moved.events ≡ n → IsFoldedTo h past Idle n → (IsWholeScans h → moved ≡ nothing_moved) → (IsWholeScans h → All IsCallOrScan past) → IsScript h past moved
+is_script h past moved n same f none plain = record {
   calls = f.calls;
   repeats = λ ok.
       let zero : n ≡ 0 = sym same ∙ ok in
@@ -396,4 +396,5 @@ is_script h past moved n same f none = record {
     count = same ∙ f.count;
   };
   whole = none;
+  plain = plain;
 }

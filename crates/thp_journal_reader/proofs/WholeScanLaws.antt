@@ -18,10 +18,10 @@ use Rattle.thp_journal_reader.specs.declared.moved.Moved.{Moved}
 use Rattle.thp_journal_reader.specs.declared.open_flights.FlyingPage.{FlyingPage}
 use Rattle.thp_journal_reader.specs.declared.script_batch.ScriptBatch.{ScriptBatch}
 use Rattle.thp_journal_reader.specs.declared.script_batch.ScriptBatch.TheVariants as batch
-use Rattle.thp_journal_reader.specs.ScriptBatches.{settled, Completes, EndsPuts, EndsTakes, EndsTries, IsIncomplete, PutsMore, TakesMore, TriesMore}
-use Rattle.thp_journal_reader.specs.Folds.{flying, flying_after, leave, leave_if_freed, nothing_moved, pages_at, IsAt, IsAtPlace, IsInScan, IsQuiet, KeepsFlights}
+use Rattle.thp_journal_reader.specs.ScriptBatches.{settled, Completes, EndsPuts, EndsTakes, EndsTries, IsIncomplete, PutsMore, TakesMore, TakesSome, TriesMore}
+use Rattle.thp_journal_reader.specs.Folds.{AddsPlain, flying, flying_after, leave, leave_if_freed, nothing_moved, pages_at, IsAt, IsAtPlace, IsInScan, IsQuiet, KeepsFlights}
 use Rattle.thp_journal_reader.specs.Repeating.{kind_of}
-use Rattle.thp_journal_reader.specs.WholeScans.{once_ended, pages_after, place_of_call, place_of_put, place_of_take, place_of_try, scan_place, scan_place_after, scan_place_of, without_first, ScanPlace, Between, InTakes, InTries, InPuts, Elsewhere}
+use Rattle.thp_journal_reader.specs.WholeScans.{once_ended, pages_after, IsCallOrScan, place_of_call, place_of_put, place_of_take, place_of_try, scan_place, scan_place_after, scan_place_of, without_first, ScanPlace, Between, InTakes, InTries, InPuts, Elsewhere}
 
 -- an equal script is at the same place
 pub same_at : (s : ScanPlace) (ps : List ℕ) (a b : Folding) → b ≡ a → IsAt s ps a → IsAt s ps b
@@ -33,6 +33,80 @@ at_if b s ps f at = (elim b as (λ v. (v ≡ true → IsAt s ps f) → IsAt (con
 -- another batch
 quiet_with : (ps : List ℕ) (f : Folding) (after : ScriptBatch) → IsQuiet ps f → IsQuiet ps (record f { batch = after })
 quiet_with ps f after quiet = record { pages_are = quiet.pages_are; none_waits = quiet.none_waits; none_moved = quiet.none_moved; last_flight = quiet.last_flight }
+
+-- ---- pages of a batch
+
+takes_some : (b : ScriptBatch) (by : ℕ) (after : ScriptBatch) → TakesMore b by after → TakesSome after
+takes_some (batch.Taking c n) by after more = subst TakesSome (sym more.1) (omega arith)
+takes_some b by after more = absurd more
+
+tries_some : (b : ScriptBatch) (by : ℕ) (after : ScriptBatch) → TriesMore b by after → TakesSome b → TakesSome after
+tries_some (batch.Taking c n) by after more some = subst TakesSome (sym more.1) some
+tries_some (batch.Trying c n k) by after more some = subst TakesSome (sym more.1) some
+tries_some b by after more some = absurd more
+
+puts_some : (b : ScriptBatch) (by : ℕ) (after : ScriptBatch) → PutsMore b by after → TakesSome b → TakesSome after
+puts_some (batch.Trying c n k) by after more some = subst TakesSome (sym more.2) some
+puts_some (batch.Scanned c n) by after more some = subst TakesSome (sym more.1) some
+puts_some (batch.Closing c) by after more some = subst TakesSome (sym more.1) some
+puts_some b by after more some = absurd more
+
+-- ---- events that end whole scans
+
+-- the place is not among whole scans
+not_place : (b : Bool) (s : ScanPlace) → (b ≡ true → ⊥) → cond b s Elsewhere ≡ Elsewhere
+not_place true s never = absurd (never refl)
+not_place false s never = refl
+
+pub calls_shut : (s : ScanPlace) → (place_of_call s ≡ Elsewhere → ⊥) → s ≡ Between
+calls_shut Between ne = refl
+calls_shut (InTakes c ps) ne = absurd (ne refl)
+calls_shut (InTries c n k ps) ne = absurd (ne refl)
+calls_shut (InPuts c ps) ne = absurd (ne refl)
+calls_shut Elsewhere ne = absurd (ne refl)
+
+module _ (old : Folding) (by : ℕ) where
+  pub takes_shut : (p : ℕ) → EndsTakes old.batch by → (s : ScanPlace) → IsAtPlace s old → (place_of_take s by (what.Taken p) ≡ Elsewhere → ⊥) → s ≡ Between
+  takes_shut p ends Between at ne = refl
+  takes_shut p ends (InTakes c ps) at ne =
+      let full : c ≡ by → max_batch ≤ length ps = subst (λ b. EndsTakes b by) at.batch_is ends in
+      absurd (ne (not_place (nat_eq c by && nat_lt (length ps) max_batch) (InTakes c (ps ++ p ∷ [])) (λ yes.
+      let same : c ≡ by = grind (arith, nat_tests) in
+      let less : length ps < max_batch = grind (arith, nat_tests) in
+      let most : max_batch ≤ length ps = full same in
+      omega arith)))
+  takes_shut p ends (InTries c n k ps) at ne = absurd (ne refl)
+  takes_shut p ends (InPuts c ps) at ne = absurd (ne refl)
+  takes_shut p ends Elsewhere at ne = absurd (ne refl)
+
+  pub tries_shut : (w : What) → EndsTries old.batch by → (s : ScanPlace) → IsAtPlace s old → place_of_try s by w ≡ Elsewhere
+  tries_shut w ends Between at = refl
+  tries_shut w ends (InTakes c ps) at =
+      let never : c ≡ by → ⊥ = subst (λ b. EndsTries b by) at.batch_is ends in
+      not_place (nat_eq c by) (InTries c (length ps) 1 (pages_after w ps)) (λ yes. let same : c ≡ by = grind (arith, nat_tests) in never same)
+  tries_shut w ends (InTries c n k ps) at =
+      let all : c ≡ by → n ≤ k = subst (λ b. EndsTries b by) at.batch_is ends in
+      not_place (nat_eq c by && nat_lt k n) (InTries c n (k + 1) (pages_after w ps)) (λ yes.
+      let same : c ≡ by = grind (arith, nat_tests) in
+      let less : k < n = grind (arith, nat_tests) in
+      let most : n ≤ k = all same in
+      omega arith)
+  tries_shut w ends (InPuts c ps) at = refl
+  tries_shut w ends Elsewhere at = refl
+
+  pub puts_shut : (w : What) → EndsPuts old.batch by → (s : ScanPlace) → IsAtPlace s old → place_of_put s by w ≡ Elsewhere
+  puts_shut w ends Between at = refl
+  puts_shut w ends (InTakes c ps) at = refl
+  puts_shut w ends (InTries c n k ps) at =
+      let never : c ≡ by → k ≡ n → ⊥ = subst (λ b. EndsPuts b by) at.batch_is ends in
+      not_place (nat_eq c by && nat_eq k n) (InPuts c (pages_after w ps)) (λ yes.
+      let same : c ≡ by = grind (arith, nat_tests) in
+      let tried : k ≡ n = grind (arith, nat_tests) in
+      never same tried)
+  puts_shut w ends (InPuts c ps) at =
+      let never : c ≡ by → ⊥ = subst (λ b. EndsPuts b by) at.batch_is.1 ends in
+      not_place (nat_eq c by) (InPuts c (pages_after w ps)) (λ yes. let same : c ≡ by = grind (arith, nat_tests) in never same)
+  puts_shut w ends Elsewhere at = refl
 
 -- ---- calls
 
@@ -56,6 +130,7 @@ module _ (old : Folding) (by : ℕ) where
   takes_more after p more (InTakes c ps) at =
       at_if (nat_eq c by && nat_lt (length ps) max_batch) (InTakes c (ps ++ p ∷ [])) ps (record old { batch = after }) (λ yes. record {
         batch_is = (subst (λ b. TakesMore b by after) at.batch_is more).1 ∙ ap (λ n. batch.Taking c n) (sym (length-append ps (p ∷ [])));
+        some = takes_some old.batch by after more;
         quiet = quiet_with ps old after at.quiet;
       })
   takes_more after p more (InTries c n k ps) at = tt
@@ -82,7 +157,7 @@ module _ (old : Folding) (by : ℕ) where
       begins : old.batch ≡ batch.Idle → IsAtPlace Between old → IsAt (InTakes by (p ∷ [])) [] (record m { flight = x; flights = x; batch = batch.Taking by 1 })
       begins idle at =
           let here : IsInScan Between [] m = same_at Between [] old m (same idle) at in
-          record { batch_is = refl; quiet = record { pages_are = here.quiet.pages_are; none_waits = here.quiet.none_waits; none_moved = here.quiet.none_moved; last_flight = refl } }
+          record { batch_is = refl; some = omega arith; quiet = record { pages_are = here.quiet.pages_are; none_waits = here.quiet.none_waits; none_moved = here.quiet.none_moved; last_flight = refl } }
 
   pub takes_not : (m new : Folding) (p : ℕ) → EndsTakes old.batch by → (old.batch ≡ batch.Idle → m ≡ old) → (m.batch ≡ batch.Idle → m.waiting.flights.items ≡ [] → ⊥) → (s : ScanPlace) → IsAtPlace s old → IsAt (place_of_take s by (what.Taken p)) (pages_at s) new
   takes_not m new p ends same busy = takes_end new p ends (λ idle at.
@@ -96,11 +171,13 @@ module _ (old : Folding) (by : ℕ) where
   tries_more after w more (InTakes c ps) at =
       at_if (nat_eq c by) (InTries c (length ps) 1 (pages_after w ps)) ps (record old { batch = after }) (λ yes. record {
         batch_is = (subst (λ b. TriesMore b by after) at.batch_is more).1;
+        some = tries_some old.batch by after more at.some;
         quiet = quiet_with ps old after at.quiet;
       })
   tries_more after w more (InTries c n k ps) at =
       at_if (nat_eq c by && nat_lt k n) (InTries c n (k + 1) (pages_after w ps)) ps (record old { batch = after }) (λ yes. record {
         batch_is = (subst (λ b. TriesMore b by after) at.batch_is more).1;
+        some = tries_some old.batch by after more at.some;
         quiet = quiet_with ps old after at.quiet;
       })
   tries_more after w more (InPuts c ps) at = tt
@@ -108,21 +185,7 @@ module _ (old : Folding) (by : ℕ) where
 
   -- the batch has no more tries
   pub tries_end : (new : Folding) (w : What) → EndsTries old.batch by → (s : ScanPlace) → IsAtPlace s old → IsAt (place_of_try s by w) (pages_at s) new
-  tries_end new w ends Between at = tt
-  tries_end new w ends (InTakes c ps) at =
-      let never : c ≡ by → ⊥ = subst (λ b. EndsTries b by) at.batch_is ends in
-      at_if (nat_eq c by) (InTries c (length ps) 1 (pages_after w ps)) ps new (λ yes.
-      let same : c ≡ by = grind (arith, nat_tests) in
-      absurd (never same))
-  tries_end new w ends (InTries c n k ps) at =
-      let all : c ≡ by → n ≤ k = subst (λ b. EndsTries b by) at.batch_is ends in
-      at_if (nat_eq c by && nat_lt k n) (InTries c n (k + 1) (pages_after w ps)) ps new (λ yes.
-      let same : c ≡ by = grind (arith, nat_tests) in
-      let less : k < n = grind (arith, nat_tests) in
-      let most : n ≤ k = all same in
-      absurd (omega arith))
-  tries_end new w ends (InPuts c ps) at = tt
-  tries_end new w ends Elsewhere at = tt
+  tries_end new w ends s at = subst (λ t. IsAt t (pages_at s) new) (sym (tries_shut old by w ends s at)) tt
 
   -- ---- pages put back
 
@@ -132,30 +195,19 @@ module _ (old : Folding) (by : ℕ) where
   puts_more after w more (InTries c n k ps) at =
       at_if (nat_eq c by && nat_eq k n) (InPuts c (pages_after w ps)) ps (record old { batch = after }) (λ yes. record {
         batch_is = (n, (subst (λ b. PutsMore b by after) at.batch_is more).2);
+        some = puts_some old.batch by after more at.some;
         quiet = quiet_with ps old after at.quiet;
       })
   puts_more after w more (InPuts c ps) at =
       at_if (nat_eq c by) (InPuts c (pages_after w ps)) ps (record old { batch = after }) (λ yes. record {
         batch_is = (at.batch_is.0, (subst (λ b. PutsMore b by after) at.batch_is.1 more).1);
+        some = puts_some old.batch by after more at.some;
         quiet = quiet_with ps old after at.quiet;
       })
   puts_more after w more Elsewhere at = tt
 
   pub puts_end : (new : Folding) (w : What) → EndsPuts old.batch by → (s : ScanPlace) → IsAtPlace s old → IsAt (place_of_put s by w) (pages_at s) new
-  puts_end new w ends Between at = tt
-  puts_end new w ends (InTakes c ps) at = tt
-  puts_end new w ends (InTries c n k ps) at =
-      let never : c ≡ by → k ≡ n → ⊥ = subst (λ b. EndsPuts b by) at.batch_is ends in
-      at_if (nat_eq c by && nat_eq k n) (InPuts c (pages_after w ps)) ps new (λ yes.
-      let same : c ≡ by = grind (arith, nat_tests) in
-      let tried : k ≡ n = grind (arith, nat_tests) in
-      absurd (never same tried))
-  puts_end new w ends (InPuts c ps) at =
-      let never : c ≡ by → ⊥ = subst (λ b. EndsPuts b by) at.batch_is.1 ends in
-      at_if (nat_eq c by) (InPuts c (pages_after w ps)) ps new (λ yes.
-      let same : c ≡ by = grind (arith, nat_tests) in
-      absurd (never same))
-  puts_end new w ends Elsewhere at = tt
+  puts_end new w ends s at = subst (λ t. IsAt t (pages_at s) new) (sym (puts_shut old by w ends s at)) tt
 
 -- ---- any event
 
@@ -178,6 +230,14 @@ goes_take old new by (what.Used p) is goes s at = absurd (cc)
 goes_take old new by (what.Back p) is goes s at = absurd (cc)
 goes_take old new by (what.Dropped p) is goes s at = absurd (cc)
 goes_take old new by what.Close is goes s at = absurd (cc)
+
+-- the same of commands
+pub plain_take : (old : Folding) (o p : List Op) (by : ℕ) (w : What) → kind_of w ≡ kind.Take → ((q : ℕ) → AddsPlain (λ s. place_of_take s by (what.Taken q)) old o p) → AddsPlain (λ s. scan_place_of s (kind_of w) by w) old o p
+plain_take old o p by (what.Taken q) is plain = plain q
+plain_take old o p by w is plain = absurd (cc)
+
+pub plain_by : (old : Folding) (o p : List Op) (by : ℕ) (w : What) (k : EventKind) → kind_of w ≡ k → AddsPlain (λ s. scan_place_of s k by w) old o p → AddsPlain (λ s. scan_place_of s (kind_of w) by w) old o p
+plain_by old o p by w k is plain = subst (λ j. AddsPlain (λ s. scan_place_of s j by w) old o p) (sym is) plain
 
 pub goes_by : (old new : Folding) (by : ℕ) (w : What) (k : EventKind) → kind_of w ≡ k → ((s : ScanPlace) → IsAtPlace s old → IsAt (scan_place_of s k by w) (pages_at s) new) → (s : ScanPlace) → IsAtPlace s old → IsAt (scan_place_of s (kind_of w) by w) (pages_at s) new
 goes_by old new by w k is goes s at = subst (λ j. IsAt (scan_place_of s j by w) (pages_at s) new) (sym is) (goes s at)
@@ -217,10 +277,10 @@ module _ (w : What) (old new : Folding) (same : new.batch ≡ old.batch) (moved 
   }
 
   at_after : (ps qs : List ℕ) → ((n : ℕ) → flying_after w n (map (flying n) ps) ≡ map (flying n) qs) → (s : ScanPlace) → IsAt s ps old → IsAt s qs new
-  at_after ps qs flies Between at = record { batch_is = same ∙ at.batch_is; quiet = quiet_after ps qs flies at.quiet }
-  at_after ps qs flies (InTakes c rs) at = record { batch_is = same ∙ at.batch_is; quiet = quiet_after ps qs flies at.quiet }
-  at_after ps qs flies (InTries c n k rs) at = record { batch_is = same ∙ at.batch_is; quiet = quiet_after ps qs flies at.quiet }
-  at_after ps qs flies (InPuts c rs) at = record { batch_is = (at.batch_is.0, same ∙ at.batch_is.1); quiet = quiet_after ps qs flies at.quiet }
+  at_after ps qs flies Between at = record { batch_is = same ∙ at.batch_is; some = subst TakesSome (sym same) at.some; quiet = quiet_after ps qs flies at.quiet }
+  at_after ps qs flies (InTakes c rs) at = record { batch_is = same ∙ at.batch_is; some = subst TakesSome (sym same) at.some; quiet = quiet_after ps qs flies at.quiet }
+  at_after ps qs flies (InTries c n k rs) at = record { batch_is = same ∙ at.batch_is; some = subst TakesSome (sym same) at.some; quiet = quiet_after ps qs flies at.quiet }
+  at_after ps qs flies (InPuts c rs) at = record { batch_is = (at.batch_is.0, same ∙ at.batch_is.1); some = subst TakesSome (sym same) at.some; quiet = quiet_after ps qs flies at.quiet }
   at_after ps qs flies Elsewhere at = tt
 
   if_after : (b : Bool) (s : ScanPlace) (ps : List ℕ) → ((n : ℕ) → flying_after w n (map (flying n) ps) ≡ map (flying n) (pages_at s)) → IsAt (cond b s Elsewhere) ps old → IsAtPlace (cond b s Elsewhere) new
@@ -292,9 +352,9 @@ module _ (f : Folding) where
   scan_ends o done none (InTakes c ps) at = absurd (subst (λ b. Completes b o) at.batch_is done)
   scan_ends o done none (InTries c n k []) at =
       let all : k ≡ n = (subst (λ b. Completes b o) at.batch_is done).0 in
-      ended_if (nat_eq k n) (InTries c n k []) (record f { batch = batch.Idle }) (λ yes. record { batch_is = refl; quiet = quiet_with [] f batch.Idle at.quiet }) (λ no. absurd (let yes : nat_eq k n ≡ true = eq-eqb k n all in cc))
+      ended_if (nat_eq k n) (InTries c n k []) (record f { batch = batch.Idle }) (λ yes. record { batch_is = refl; some = tt; quiet = quiet_with [] f batch.Idle at.quiet }) (λ no. absurd (let yes : nat_eq k n ≡ true = eq-eqb k n all in cc))
   scan_ends o done none (InTries c n k (q ∷ ps)) at = absurd (no_pages_left f q ps at.quiet none)
-  scan_ends o done none (InPuts c []) at = record { batch_is = refl; quiet = quiet_with [] f batch.Idle at.quiet }
+  scan_ends o done none (InPuts c []) at = record { batch_is = refl; some = tt; quiet = quiet_with [] f batch.Idle at.quiet }
   scan_ends o done none (InPuts c (q ∷ ps)) at = absurd (no_pages_left f q ps at.quiet none)
   scan_ends o done none Elsewhere at = tt
 
@@ -319,11 +379,32 @@ module _ (f : Folding) where
   scan_incomplete part (InPuts c ps) at = absurd (subst IsIncomplete at.batch_is.1 part)
   scan_incomplete part Elsewhere at = tt
 
+-- what completes a batch at a place of whole scans is a scan of some pages
+pub scan_is_plain : (f : Folding) (o : Op) → Completes f.batch o → (s : ScanPlace) → IsAtPlace s f → (once_ended s ≡ Elsewhere → ⊥) → IsCallOrScan o
+scan_is_plain f o done Between at ne = absurd (subst (λ b. Completes b o) at.batch_is done)
+scan_is_plain f o done (InTakes c ps) at ne = absurd (subst (λ b. Completes b o) at.batch_is done)
+scan_is_plain f o done (InTries c n k ps) at ne = subst IsCallOrScan (sym (subst (λ b. Completes b o) at.batch_is done).1) (subst TakesSome at.batch_is at.some)
+scan_is_plain f o done (InPuts c ps) at ne = subst IsCallOrScan (sym (subst (λ b. Completes b o) at.batch_is.1 done)) (subst TakesSome at.batch_is.1 at.some)
+scan_is_plain f o done Elsewhere at ne = absurd (ne refl)
+
 -- ---- the whole
+
+pub place_more : (h : History) (e : Event) → scan_place (h ++ e ∷ []) ≡ scan_place_after (scan_place h) e
+place_more h e = fold_push scan_place_after Between h e
+
+-- no event leads back to whole scans
+stays_by : (k : EventKind) (c : ℕ) (w : What) → once_ended (scan_place_of Elsewhere k c w) ≡ Elsewhere
+stays_by (kind.Call o) c w = refl
+stays_by kind.Take c w = refl
+stays_by kind.Try c w = refl
+stays_by kind.Put c w = refl
+
+pub stays_elsewhere : (e : Event) → scan_place_after Elsewhere e ≡ Elsewhere
+stays_elsewhere e = stays_by (kind_of e.what) e.caller e.what
 
 -- where a script is after an event
 pub scans_more : (h : History) (e : Event) (f : Folding) → IsAtPlace (scan_place_after (scan_place h) e) f → IsAtPlace (scan_place (h ++ e ∷ [])) f
-scans_more h e f at = subst (λ s. IsAtPlace s f) (sym (fold_push scan_place_after Between h e)) at
+scans_more h e f at = subst (λ s. IsAtPlace s f) (sym (place_more h e)) at
 
 -- where no flight waits
 pub still_at : (old new : Folding) → (old.waiting.flights.items ≡ [] → new ≡ old) → (s : ScanPlace) → IsAtPlace s old → IsAtPlace s new

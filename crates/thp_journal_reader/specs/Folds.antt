@@ -12,10 +12,10 @@ use Rattle.thp_journal_reader.specs.declared.moved.Moved.{Moved}
 use Rattle.thp_journal_reader.specs.declared.open_flights.FlyingPage.{FlyingPage}
 use Rattle.thp_journal_reader.specs.declared.script_batch.ScriptBatch.{ScriptBatch}
 use Rattle.thp_journal_reader.specs.declared.script_batch.ScriptBatch.TheVariants as batch
-use Rattle.thp_journal_reader.specs.ScriptBatches.{RepeatsUpTo}
+use Rattle.thp_journal_reader.specs.ScriptBatches.{RepeatsUpTo, TakesSome}
 use Rattle.thp_journal_reader.specs.Moving.{counted, Interleaves, IsOfBatch, IsScan, RepeatsExcept}
 use Rattle.thp_journal_reader.specs.Repeating.{calls_in, calls_of, Repeats}
-use Rattle.thp_journal_reader.specs.WholeScans.{scan_place, IsWholeScans, ScanPlace, Between, InTakes, InTries, InPuts, Elsewhere}
+use Rattle.thp_journal_reader.specs.WholeScans.{scan_place, IsCallOrScan, IsWholeScans, ScanPlace, Between, InTakes, InTries, InPuts, Elsewhere}
 
 -- a list got more elements, with this property
 abbrev pub HasAdded : {X : Type 0} → List X → List X → (List X → Type 0) → Type 0
@@ -25,12 +25,13 @@ abbrev pub nothing_moved : Moved
 nothing_moved = record { batches = 0; calls = 0; events = 0; left = 0 }
 
 -- The commands make the calls of the history, in order. They repeat the history except the moved events. If its batches are whole
--- scans, nothing moved.
+-- scans, nothing moved, and the commands are calls and scans.
 pub record IsScript (h : History) (ops : List Op) (moved : Moved) : Type 0 where
   pub calls : calls_in ops ≡ calls_of h
   pub repeats : moved.events ≡ 0 → Repeats None ops h None
   pub except : RepeatsExcept h ops moved.events
   pub whole : IsWholeScans h → moved ≡ nothing_moved
+  pub plain : IsWholeScans h → All IsCallOrScan ops
 
 -- the same for the commands so far, except that the last events can have no command yet
 pub record IsFoldedTo (h : History) (ops : List Op) (batch : ScriptBatch) (events : ℕ) : Type 0 where
@@ -87,9 +88,10 @@ pub record IsQuiet (ps : List ℕ) (f : Folding) : Type 0 where
   pub none_moved : f.moved ≡ nothing_moved
   pub last_flight : f.flights ≡ f.flight
 
--- the same, and the script's batch is that of this place
+-- the same, and the script's batch is that of this place, with some pages
 pub record IsInScan (s : ScanPlace) (ps : List ℕ) (f : Folding) : Type 0 where
   pub batch_is : HasBatch s f.batch
+  pub some : TakesSome f.batch
   pub quiet : IsQuiet ps f
 
 -- the same, unless the history is at no place of whole scans
@@ -103,6 +105,14 @@ IsAtPlace s f = IsAt s (pages_at s) f
 -- a step to another place, before the pages in flight change
 abbrev pub GoesOn : (ScanPlace → ScanPlace) → Folding → Folding → Type 0
 GoesOn step old new = (s : ScanPlace) → IsAtPlace s old → IsAt (step s) (pages_at s) new
+
+-- the commands are calls and scans, unless the history is at no place of whole scans
+abbrev pub ArePlain : ScanPlace → List Op → Type 0
+ArePlain s ops = (s ≡ Elsewhere → ⊥) → All IsCallOrScan ops
+
+-- a step to another place adds only such commands
+abbrev pub AddsPlain : (ScanPlace → ScanPlace) → Folding → List Op → List Op → Type 0
+AddsPlain step f old new = (s : ScanPlace) → IsAtPlace s f → (step s ≡ Elsewhere → ⊥) → HasAdded old new (All IsCallOrScan)
 
 -- the pages in flight without the first page p
 abbrev pub leave : ℕ → List FlyingPage → List FlyingPage
@@ -137,6 +147,7 @@ pub record KeepsFlights (old new : Folding) : Type 0 where
 pub record IsFolded (h : History) (ops : List Op) (f : Folding) : Type 0 where
   pub commands : HasCommands h ops f
   pub scans : IsAtPlace (scan_place h) f
+  pub plain : ArePlain (scan_place h) ops
 
 -- with these commands, it is the script of one more event
 abbrev pub AddsTo : Event → Folding → Folding → List Op → Type 0

@@ -45,6 +45,13 @@ EndsPuts (Scanned c n) by = c ≡ by → ⊥
 EndsPuts (Closing c) by = c ≡ by → ⊥
 EndsPuts b by = Unit {0}
 
+-- the batch took some pages
+abbrev pub TakesSome : ScriptBatch → Type 0
+TakesSome (Taking c n) = 1 ≤ n
+TakesSome (Trying c n k) = 1 ≤ n
+TakesSome (Scanned c n) = 1 ≤ n
+TakesSome b = Unit {0}
+
 -- no batch is open, or some of its events have no command yet
 abbrev pub IsShut : ScriptBatch → Type 0
 IsShut (Open c) = ⊥

@@ -1,12 +1,14 @@
 -- Histories of whole scans: a caller takes pages, tries each once, and puts back or drops those that are still in flight, and no
 -- other event comes between these (this project's profile).
-use Rattle.std.specs.Prelude.{◌≡◌, ◌+◌, ◌++◌, ◌&&◌, ℕ, nat_eq, nat_lt, List, [], ◌∷◌, length, if◌then◌else◌}
+use Rattle.std.specs.Prelude.{◌≡◌, ◌≤◌, ◌+◌, ◌++◌, ◌&&◌, ℕ, nat_eq, nat_lt, List, [], ◌∷◌, length, if◌then◌else◌}
 use Rattle.std.specs.List.{fold}
 use Rattle.thp_model.specs.declared.events.Event.{Event}
 use Rattle.thp_model.specs.declared.events.What.{What}
 use Rattle.thp_model.specs.declared.events.What.TheVariants.{Taken, Split, Used, Back, Dropped}
 use Rattle.thp_model.specs.History.{History}
 use Rattle.thp_model.specs.Limits.{max_batch}
+use Rattle.thp_script.specs.declared.script.Op.{Op}
+use Rattle.thp_script.specs.declared.script.Op.TheVariants as op
 use Rattle.thp_journal_reader.specs.declared.event_kind.EventKind.{EventKind}
 use Rattle.thp_journal_reader.specs.declared.event_kind.EventKind.TheVariants.{Call, Take, Try, Put}
 use Rattle.thp_journal_reader.specs.Repeating.{kind_of}
@@ -74,6 +76,14 @@ scan_place_after s e = once_ended (scan_place_of s (kind_of e.what) e.caller e.w
 -- how far the last scan of a history has come
 abbrev pub scan_place : History → ScanPlace
 scan_place h = fold scan_place_after Between h
+
+-- a call, or a scan of some pages
+abbrev pub IsCallOrScan : Op → Type 0
+IsCallOrScan (op.Scan n) = 1 ≤ n
+IsCallOrScan (op.Take n) = ⊥
+IsCallOrScan op.SplitNext = ⊥
+IsCallOrScan op.PutBack = ⊥
+IsCallOrScan o = Unit {0}
 
 -- the batches of a history are whole scans
 abbrev pub IsWholeScans : History → Type 0

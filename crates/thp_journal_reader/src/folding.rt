@@ -3,8 +3,8 @@ ghost use Rattle.std.specs.Prelude.{◌≡◌, ◌++◌, ◌+◌, [], ◌∷◌,
 ghost use Rattle.thp_model.specs.declared.events.Event.{Event};
 ghost use Rattle.thp_model.specs.declared.events.What.{What};
 ghost use Rattle.thp_model.specs.declared.events.What.TheVariants.{Taken};
-ghost use Rattle.thp_journal_reader.specs.ScriptBatches.{settled};
-ghost use Rattle.thp_journal_reader.specs.Folds.{flying_after, leave_if_freed, AddsCommands, AddsEvent, AddsTo, Ends, GoesOn, HasAdded, IsAtPlace, IsFolded, KeepsFlights};
+ghost use Rattle.thp_journal_reader.specs.ScriptBatches.{pending_ops, settled};
+ghost use Rattle.thp_journal_reader.specs.Folds.{flying_after, leave_if_freed, AddsCommands, AddsEvent, AddsPlain, AddsTo, Ends, GoesOn, HasAdded, IsAtPlace, IsFolded, KeepsFlights};
 ghost use Rattle.thp_journal_reader.specs.Moving.{counted};
 ghost use Rattle.thp_journal_reader.specs.Repeating.{kind_of, IsBy};
 ghost use Rattle.thp_journal_reader.specs.WholeScans.{once_ended, place_of_call, place_of_put, place_of_take, place_of_try, scan_place_of, ScanPlace};
@@ -69,6 +69,7 @@ impl Folding {
     fn add_kind(&mut self, event: &Event, ops: &mut Vec<Op>) -> Result<(), AllocError>
         ensures adds { OnOk result (HasAdded ops.old.items ops.new.items (AddsEvent event.now self.old self.new)) }
         ensures goes_on { OnOk result (GoesOn (λ s. scan_place_of s (kind_of event.now.what) event.now.caller event.now.what) self.old self.new) }
+        ensures plain { OnOk result (AddsPlain (λ s. scan_place_of s (kind_of event.now.what) event.now.caller event.now.what) self.old ops.old.items ops.new.items) }
     {
         match kind_of(&event.what) {
             EventKind::Call(op) => {
@@ -108,6 +109,7 @@ impl Folding {
     fn settle(&mut self, ops: &mut Vec<Op>) -> Result<(), AllocError>
         ensures batch { OnOk result (self.new.batch ≡ settled self.old.batch) }
         ensures rest { OnOk result (self.new ≡ record self.old { batch = settled self.old.batch }) }
+        ensures ops { OnOk result (ops.new.items ≡ ops.old.items ++ pending_ops self.old.batch) }
         ensures adds { OnOk result (HasAdded ops.old.items ops.new.items (AddsCommands self.old self.new)) }
     {
         let batch = self.batch.settle(ops)?;
@@ -138,6 +140,7 @@ impl Folding {
     fn call(&mut self, op: Op, ops: &mut Vec<Op>) -> Result<(), AllocError>
         ensures adds { OnOk result ((e : Event) → kind_of e.what ≡ Call op → HasAdded ops.old.items ops.new.items (AddsEvent e self.old self.new)) }
         ensures goes_on { OnOk result (GoesOn place_of_call self.old self.new) }
+        ensures plain { OnOk result ((e : Event) → kind_of e.what ≡ Call op → AddsPlain place_of_call self.old ops.old.items ops.new.items) }
     {
         self.settle(ops)?;
         self.count_call();
@@ -149,6 +152,7 @@ impl Folding {
     fn take(&mut self, caller: u32, ops: &mut Vec<Op>) -> Result<(), AllocError>
         ensures adds { OnOk result ((e : Event) → IsBy caller Take e → HasAdded ops.old.items ops.new.items (AddsEvent e self.old self.new)) }
         ensures goes_on { OnOk result ((p : ℕ) → GoesOn (λ s. place_of_take s caller (Taken p)) self.old self.new) }
+        ensures plain { OnOk result ((p : ℕ) → AddsPlain (λ s. place_of_take s caller (Taken p)) self.old ops.old.items ops.new.items) }
     {
         if let Some(batch) = self.batch.with_take(caller) {
             self.batch = batch;
@@ -191,6 +195,7 @@ impl Folding {
     fn try_page(&mut self, caller: u32, ops: &mut Vec<Op>) -> Result<(), AllocError>
         ensures adds { OnOk result ((e : Event) → IsBy caller Try e → HasAdded ops.old.items ops.new.items (AddsEvent e self.old self.new)) }
         ensures goes_on { OnOk result ((w : What) → GoesOn (λ s. place_of_try s caller w) self.old self.new) }
+        ensures plain { OnOk result ((w : What) → AddsPlain (λ s. place_of_try s caller w) self.old ops.old.items ops.new.items) }
     {
         if let Some(batch) = self.batch.with_try(caller) {
             self.batch = batch;
@@ -209,6 +214,7 @@ impl Folding {
     fn put_page(&mut self, caller: u32, ops: &mut Vec<Op>) -> Result<(), AllocError>
         ensures adds { OnOk result ((e : Event) → IsBy caller Put e → HasAdded ops.old.items ops.new.items (AddsEvent e self.old self.new)) }
         ensures goes_on { OnOk result ((w : What) → GoesOn (λ s. place_of_put s caller w) self.old self.new) }
+        ensures plain { OnOk result ((w : What) → AddsPlain (λ s. place_of_put s caller w) self.old ops.old.items ops.new.items) }
     {
         if let Some(batch) = self.batch.with_put(caller) {
             self.batch = batch;
@@ -277,6 +283,7 @@ impl Folding {
     /// Completes the batch if no page is left in it.
     fn end(&mut self, ops: &mut Vec<Op>) -> Result<(), AllocError>
         ensures goes_on { OnOk result ((s : ScanPlace) → IsAtPlace s self.old → IsAtPlace (once_ended s) self.new) }
+        ensures plain { OnOk result (AddsPlain once_ended self.old ops.old.items ops.new.items) }
         ensures adds { OnOk result (HasAdded ops.old.items ops.new.items (AddsCommands self.old self.new)) }
     {
         let Some(op) = self.batch.completion() else {
@@ -293,6 +300,7 @@ impl Folding {
     /// Puts back the open batch if no page is left in it.
     fn put_back_nothing(&mut self, ops: &mut Vec<Op>) -> Result<(), AllocError>
         ensures idle { OnOk result (self.old.batch ≡ Idle → self.new ≡ self.old) }
+        ensures idle_ops { OnOk result (self.old.batch ≡ Idle → ops.new.items ≡ ops.old.items) }
         ensures adds { OnOk result (HasAdded ops.old.items ops.new.items (AddsCommands self.old self.new)) }
     {
         if self.pages.has(self.flight) {
@@ -310,6 +318,7 @@ impl Folding {
     fn close(&mut self, ops: &mut Vec<Op>) -> Result<(), AllocError>
         ensures idle { OnOk result (self.new.batch ≡ Idle) }
         ensures was_idle { OnOk result (self.old.batch ≡ Idle → self.new ≡ self.old) }
+        ensures idle_ops { OnOk result (self.old.batch ≡ Idle → ops.new.items ≡ ops.old.items) }
         ensures adds { OnOk result (HasAdded ops.old.items ops.new.items (AddsCommands self.old self.new)) }
     {
         self.settle(ops)?;
@@ -324,6 +333,7 @@ impl Folding {
     /// Appends a scan for each flight that has ended and waits for no other one.
     fn release(&mut self, ops: &mut Vec<Op>) -> Result<(), AllocError>
         ensures none_waits { OnOk result (self.old.waiting.flights.items ≡ [] → self.new ≡ self.old) }
+        ensures none_written { OnOk result (self.old.waiting.flights.items ≡ [] → ops.new.items ≡ ops.old.items) }
         ensures adds { OnOk result (HasAdded ops.old.items ops.new.items (AddsCommands self.old self.new)) }
     {
         if self.waiting.len() == 0 {
@@ -349,6 +359,7 @@ impl Folding {
     /// Appends a scan for each flight that waits, up to the first that has not ended unless `all` flights are meant.
     fn write_scans(&mut self, all: bool, ops: &mut Vec<Op>) -> Result<(), AllocError>
         ensures none { OnOk result (self.old.moved.events ≡ 0 → self.new ≡ self.old) }
+        ensures none_written { OnOk result (self.old.moved.events ≡ 0 → ops.new.items ≡ ops.old.items) }
         ensures batch { OnOk result (self.new.batch ≡ self.old.batch) }
         ensures adds { OnOk result (HasAdded ops.old.items ops.new.items (AddsCommands self.old self.new)) }
     {

@@ -1,6 +1,7 @@
 use Rattle.std.proofs.Common.{[], ap, refl}
 use Rattle.std.proofs.lemmas.List.Elements.{All-nil}
 use Rattle.thp_journal_reader.specs.declared.moved.Moved.{Moved}
+use Rattle.thp_journal_reader.specs.WholeScans.{IsCallOrScan}
 use Rattle.thp_journal_reader.specs.Moving.{neither, IsOfBatch, IsScan}
 use Rattle.thp_journal_reader.proofs.folding.Folding.new.Goals as goal
 
@@ -20,5 +21,6 @@ returns c = record {
     count = ap (λ (moved : Moved). moved.events) c.nothing.ensures;
     none_late = λ zero. refl;
   };
-  scans = record { batch_is = refl; quiet = record { pages_are = c.new.ensures; none_waits = c.new-2.ensures; none_moved = c.nothing.ensures; last_flight = refl } };
+  scans = record { batch_is = refl; some = tt; quiet = record { pages_are = c.new.ensures; none_waits = c.new-2.ensures; none_moved = c.nothing.ensures; last_flight = refl } };
+  plain = λ ne. All-nil IsCallOrScan;
 }
