@@ -7,7 +7,7 @@ use thp_script::Op;
 
 /// The kind of an event, by the command that repeats it.
 #[derive(Clone, Copy)]
-pub(crate) enum EventKind {
+pub enum EventKind {
     /// A call, which this command repeats.
     Call(Op),
     /// A page was taken into a batch.

@@ -61,6 +61,7 @@ mod waiting_flights;
 
 pub use checking::{check_journals, check_text};
 pub use command_text::put_command;
+pub use event_kind::EventKind;
 pub use event_reader::read_event;
 pub use event_word::{EventWord, LossWord, PageWord, RangeWord};
 pub use folding::Folding;
