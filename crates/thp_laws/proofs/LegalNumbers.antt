@@ -34,7 +34,7 @@ fewer_before : (h : History) (k : ℕ) → allocations (take k h) ≤ length h
 fewer_before h k = let few = few_pages (take k h) in let short : length (take k h) ≤ length h = omega (arith, length-take k h) in omega arith
 
 -- a range of a page isn't beyond 512
-small_range : (s : Shape) (first count : ℕ) → IsShape s → (nat_eq count 0 || nat_lt (subpages s) (first + count)) ≡ false → (first < 2 ^ 16) × (count < 2 ^ 16)
+pub small_range : (s : Shape) (first count : ℕ) → IsShape s → (nat_eq count 0 || nat_lt (subpages s) (first + count)) ≡ false → (first < 2 ^ 16) × (count < 2 ^ 16)
 small_range s first count is fits =
     let within : first + count ≤ subpages s = ltb-false (subpages s) (first + count) (or_parts (nat_eq count 0) (nat_lt (subpages s) (first + count)) fits).1 in
     let few : subpages s ≤ 512 = few_subpages s is.most_order in

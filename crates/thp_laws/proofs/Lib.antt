@@ -8,6 +8,11 @@ pub mod NodesBack
 pub mod OneTotals
 pub mod PlainWords
 pub mod ReadingBack
+pub mod RepeatedCalls
+pub mod RepeatedPlaces
+pub mod RepeatedRuns
+pub mod RepeatedScans
+pub mod RepeatedTurns
 pub mod SameRefusals
 pub mod SameReports
 pub mod SameSections

@@ -21,11 +21,11 @@ use Rattle.thp_worker.proofs.StepLaws.{batches_after-append}
 use Rattle.thp_laws.proofs.SideBySide.{Pair, next_alike, pair_on}
 
 -- a step on node n
-abbrev IsOn : ℕ → Made → Type 0
+abbrev pub IsOn : ℕ → Made → Type 0
 IsOn n m = m.node ≡ n
 
 -- what the steps of a scan behind its take are
-abbrev tries_told : List Tried → BackReply → List StepAnswer
+abbrev pub tries_told : List Tried → BackReply → List StepAnswer
 tries_told tries back = map answered_try tries ++ answered_try tried.Done ∷ [] ++ answered_put_back back ∷ []
 
 -- what a scan answers
@@ -47,15 +47,15 @@ same_back : (b d : BackReply) → (answered_put_back b).answer ≡ (answered_put
 same_back b d e = cc
 
 -- the first of some steps
-first_told : (m : Made) (xs : List Made) (x : StepAnswer) (ts : List StepAnswer) → told_by (m ∷ xs) ≡ x ∷ ts → (m.told ≡ x) × (told_by xs ≡ ts)
+pub first_told : (m : Made) (xs : List Made) (x : StepAnswer) (ts : List StepAnswer) → told_by (m ∷ xs) ≡ x ∷ ts → (m.told ≡ x) × (told_by xs ≡ ts)
 first_told m xs x ts e = (cc, cc)
 
 -- some steps aren't none
-none_told : (x : StepAnswer) (ts : List StepAnswer) → told_by [] ≡ x ∷ ts → ⊥
+pub none_told : (x : StepAnswer) (ts : List StepAnswer) → told_by [] ≡ x ∷ ts → ⊥
 none_told x ts e = cc
 
 -- and more than one aren't one
-more_told : (m l : Made) (xs : List Made) (x : StepAnswer) → told_by (m ∷ l ∷ xs) ≡ x ∷ [] → ⊥
+pub more_told : (m l : Made) (xs : List Made) (x : StepAnswer) → told_by (m ∷ l ∷ xs) ≡ x ∷ [] → ⊥
 more_told m l xs x e = cc
 
 module _ (shape : ℕ → Shape) (h k : ℕ → History) (c : ℕ) (limit bound : ℕ → ℕ) where

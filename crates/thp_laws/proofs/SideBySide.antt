@@ -18,7 +18,7 @@ unfolding without_blocks
 bare_append a b = map-append (event_with 0) a b
 
 -- what is the same but for blocks, and then events that are
-same_append : (a b c d : History) → SameButBlocks a b → SameButBlocks c d → SameButBlocks (a ++ c) (b ++ d)
+pub same_append : (a b c d : History) → SameButBlocks a b → SameButBlocks c d → SameButBlocks (a ++ c) (b ++ d)
 same_append a b c d e f = bare_append a c ∙ ap₂ (λ (x y : History). x ++ y) e f ∙ sym (bare_append b d)
 
 -- both runs stand at nodes that are the same but for blocks, with these open batches, which are the same, and these steps

@@ -36,7 +36,7 @@ place_of (y ∷ xs) (suc k) x e = let lt = place_of xs k x e in omega arith
 -- ---- who did the events of a history
 
 -- nobody beyond this caller did anything
-beyond : (most c : ℕ) (h : History) → most < c → AllByRecursion (λ (e : Event). e.caller ≤ most) h → events_of c h ≡ []
+pub beyond : (most c : ℕ) (h : History) → most < c → AllByRecursion (λ (e : Event). e.caller ≤ most) h → events_of c h ≡ []
 unfolding events_of
 beyond most c [] lt all = refl
 beyond most c (e ∷ es) lt all = let low = all.0 in rw (ne_eqb e.caller c (λ same. absurd (omega (arith, same, low, lt)))) (beyond most c es lt all.1)
@@ -77,7 +77,7 @@ sole_events c (e ∷ es) some idle =
 
 module _ (nodes : ℕ) (shape : ℕ → Shape) (script : Script) (h : ℕ → History) (sections : List SectionLog) (r : IsRun nodes shape script h sections) where
   -- each section of the script was done
-  answered : (k : ℕ) (commands : List Command) → slice_get (sections_of script) k ≡ Some commands → (section : SectionLog) × IsAnswered nodes shape h k commands section
+  pub answered : (k : ℕ) (commands : List Command) → slice_get (sections_of script) k ≡ Some commands → (section : SectionLog) × IsAnswered nodes shape h k commands section
   answered k commands at =
       let place = place_of (sections_of script) k commands at in
       let count = r.count in
@@ -85,7 +85,7 @@ module _ (nodes : ℕ) (shape : ℕ → Shape) (script : Script) (h : ℕ → Hi
       (there.0, r.each k commands there.0 at there.1)
 
   -- the events of setup come first
-  setup_front : (n : ℕ) → take (length (events_of 0 (h n))) (h n) ≡ events_of 0 (h n)
+  pub setup_front : (n : ℕ) → take (length (events_of 0 (h n))) (h n) ≡ events_of 0 (h n)
   setup_front n = ap (take (length (events_of 0 (h n)))) (r.setup_first n).1 ∙ take-append_seam (events_of 0 (h n)) (r.setup_first n).0
 
   -- on a node nobody but its owner does anything after setup
@@ -103,7 +103,7 @@ module _ (nodes : ℕ) (shape : ℕ → Shape) (script : Script) (h : ℕ → Hi
     go (inr le) = beyond (length script.workers) (suc k) (h n) (omega (arith, le)) (recursion_from_All _ (h n) (r.nobody_else n))
 
   -- so all events of a node are those of setup and of its owner
-  sole : (owner : ℕ → ℕ) → ((k : ℕ) (commands : List Command) → slice_get script.workers k ≡ Some commands → All (λ (command : Command). owner command.node ≡ k) commands) →
+  pub sole : (owner : ℕ → ℕ) → ((k : ℕ) (commands : List Command) → slice_get script.workers k ≡ Some commands → All (λ (command : Command). owner command.node ≡ k) commands) →
       (w n : ℕ) → owner n ≡ w → length (events_of 0 (h n)) + length (events_of (suc w) (h n)) ≡ length (h n)
   sole owner apart w n own = sole_events (suc w) (h n) (omega arith) (λ k positive other. idle owner apart n k positive (λ same. other (same ∙ ap suc own)))
 

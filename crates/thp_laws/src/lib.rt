@@ -5,7 +5,9 @@
 //! - `journals`: what is written of legal histories is read back (`ReadBack`, `Tellable`); a journal's text determines the
 //!   totals (`SameTotals`). Proofs: `SetsBack`, `EventsBack`, `LinesBack`, `JournalsBack`.
 //! - `runs`: the answer of a step follows from the history (`OneStep`; `SameSteps`, `SameRefusals`); workers on nodes of their
-//!   own, or one worker, have one run (`OneRun`; `Walks`, `SideBySide`, `SameTurns`, `SameSections`, `WorkersApart`).
+//!   own, or one worker, have one run (`OneRun`; `Walks`, `SideBySide`, `SameTurns`, `SameSections`, `WorkersApart`). A script that
+//!   repeats histories records them again (`Repeated`; `RepeatedCalls`, `RepeatedScans`, `RepeatedPlaces`, `RepeatedTurns`,
+//!   `RepeatedRuns`).
 //! - `reports`: so they have one report (`OneReport`), and one text one totals report (`OneText`; `OneTotals`).
 #![tactic(auto)]
 
@@ -17,4 +19,7 @@ pub use journals::{journals_are_read_back, no_block_shows, one_text_is_of_one_ru
 pub use reports::{
     one_journal_has_one_totals, one_worker_has_one_report, workers_apart_have_one_report,
 };
-pub use runs::{one_worker_has_one_run, steps_have_one_answer, workers_apart_have_one_run};
+pub use runs::{
+    one_worker_has_one_run, scripts_repeat_histories, steps_have_one_answer,
+    workers_apart_have_one_run,
+};

@@ -1,6 +1,7 @@
 //! Laws of runs. The functions do nothing: each contract is the law.
 ghost use Rattle.thp_laws.specs.OneRun.{OneWorkerHasOneRun, WorkersApartHaveOneRun};
 ghost use Rattle.thp_laws.specs.OneStep.{StepsHaveOneAnswer};
+ghost use Rattle.thp_laws.specs.Repeated.{ScriptsRepeatHistories};
 
 /// States that a step of a caller, at legal histories that are equal except for blocks and with the same open batch, has one
 /// result, leaves one open batch, and records events that are equal except for blocks.
@@ -18,4 +19,10 @@ pub fn workers_apart_have_one_run()
 /// States the same if at most one worker has commands, on any nodes.
 pub fn one_worker_has_one_run()
     ensures { OneWorkerHasOneRun }
+{}
+
+/// States that a run of scripts that repeat histories has these histories, except for blocks: each is a legal history of caller 0
+/// alone whose batches are whole scans, each trying its pages in the order in which they were taken.
+pub fn scripts_repeat_histories()
+    ensures { ScriptsRepeatHistories }
 {}

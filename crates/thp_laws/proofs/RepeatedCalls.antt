@@ -1,0 +1,101 @@
+-- What the command of a call does where the call's event fits.
+use Rattle.std.proofs.Common.{◌≡◌, ◌<◌, ℕ, cond, List, [], ◌∷◌, Option, None, Ok, refl, ap, ap₂, sym, subst}
+use Rattle.std.specs.Prelude.{⊤}
+use Rattle.std.proofs.lemmas.Bool.{lt-ltb}
+use Rattle.thp_model.specs.declared.events.Event.{Event}
+use Rattle.thp_model.specs.declared.events.What.{What}
+use Rattle.thp_model.specs.declared.events.What.TheVariants as what
+use Rattle.thp_model.specs.declared.refusal.Refusal.{Refusal}
+use Rattle.thp_model.specs.declared.shape.Shape.{Shape}
+use Rattle.thp_model.specs.History.{History, by}
+use Rattle.thp_model.specs.Legal.{Fits}
+use Rattle.thp_model.specs.Shapes.{IsShape}
+use Rattle.thp_model.proofs.Allowed.{allowed_map_sub, allowed_unmap_sub, allowed_write, allowed_zero}
+use Rattle.thp_script.specs.declared.script.Op.{Op}
+use Rattle.thp_script.specs.declared.script.Op.TheVariants as op
+use Rattle.thp_journal_reader.specs.declared.event_kind.EventKind.{EventKind}
+use Rattle.thp_journal_reader.specs.declared.event_kind.EventKind.TheVariants.{Call}
+use Rattle.thp_journal_reader.specs.Repeating.{kind_of, operand_of}
+use Rattle.thp_worker.specs.declared.reply.Reply.TheVariants as reply
+use Rattle.thp_worker.specs.declared.steps.Step.TheVariants.{One}
+use Rattle.thp_worker.specs.Does.{Does, Open, Reaction, Unless}
+use Rattle.thp_worker.specs.Turns.{StepAnswer, TurnsOut}
+use Rattle.thp_laws.proofs.LegalNumbers.{small_range}
+
+-- what is done where nothing refuses it
+pub not_refused : (r : Option Refusal) (own : List Event) (answer : Reaction) (batch after : Option Open) (P : Type 0) → r ≡ None → P → Unless r own answer batch after P
+not_refused r own answer batch after P none done = subst (λ x. Unless x own answer batch after P) (sym none) done
+
+-- the fact holds of the command, if the kind is a call
+abbrev pub OfCall : (Op → Type 0) → EventKind → Type 0
+OfCall P (Call o) = P o
+OfCall P _ = ⊤
+
+-- an operand of 16 bits
+as_operand : (n : ℕ) → n < 65536 → operand_of n ≡ n
+as_operand n low = ap (λ b. cond b n 65535) (lt-ltb n 65536 low)
+
+-- the command was done with some answer, and there is no batch before or after it
+abbrev pub DoesAlone : Shape → History → ℕ → List Event → Op → Type 0
+DoesAlone s h c own o = (answer : Reaction) × Does s h c None (One o) own answer None
+
+-- the operands of a command about a range are the numbers of its event
+same_range : (s : Shape) (h : History) (c : ℕ) (own : List Event) (w : ℕ → ℕ → Op) (first count : ℕ) → (first < 65536) × (count < 65536) → DoesAlone s h c own (w first count) → DoesAlone s h c own (w (operand_of first) (operand_of count))
+same_range s h c own w first count low done = subst (DoesAlone s h c own) (ap₂ w (sym (as_operand first low.0)) (sym (as_operand count low.1))) done
+
+-- the command of a call does its event, if that fits
+does_event : (s : Shape) (h : History) (c : ℕ) (w : What) → IsShape s → Fits s h (by c w) → OfCall (DoesAlone s h c (by c w ∷ [])) (kind_of w)
+unfolding Does
+does_event s h c (what.Alloc p b) is fits = (Ok (reply.Page p), not_refused _ _ _ None None _ fits.allowed ((b, ap (λ n. by c (what.Alloc n b) ∷ []) fits.number, ap (λ n. Ok (reply.Page n)) fits.number), refl))
+does_event s h c (what.MapWhole p) is fits = (Ok reply.Unit, not_refused _ _ _ None None _ fits ((refl, refl), refl))
+does_event s h c (what.UnmapWhole o p set) is fits = (Ok (reply.Done (record { outcome = o; released = set })), not_refused _ _ _ None None _ fits.0 ((record { outcome = o; released = set }, refl, refl), refl))
+does_event s h c (what.MapSub p first count) is fits =
+    same_range s h c _ (λ a b. op.Map a b p) first count (small_range s first count is (allowed_map_sub s h p first count fits).1) (Ok reply.Unit, not_refused _ _ _ None None _ fits ((refl, refl), refl))
+does_event s h c (what.UnmapSub o p first count set) is fits =
+    same_range s h c _ (λ a b. op.Unmap a b p) first count (small_range s first count is (allowed_unmap_sub s h p first count fits.0).1)
+    (Ok (reply.Done (record { outcome = o; released = set })), not_refused _ _ _ None None _ fits.0 ((record { outcome = o; released = set }, refl, refl), refl))
+does_event s h c (what.SplitPmd p) is fits = (Ok reply.Unit, not_refused _ _ _ None None _ fits ((refl, refl), refl))
+does_event s h c (what.Pin p) is fits = (Ok reply.Unit, not_refused _ _ _ None None _ fits ((refl, refl), refl))
+does_event s h c (what.Unpin o p set) is fits = (Ok (reply.Done (record { outcome = o; released = set })), not_refused _ _ _ None None _ fits.0 ((record { outcome = o; released = set }, refl, refl), refl))
+does_event s h c (what.Write p first count) is fits =
+    same_range s h c _ (λ a b. op.Write a b p) first count (small_range s first count is (allowed_write s h p first count fits).1) (Ok reply.Unit, not_refused _ _ _ None None _ fits ((refl, refl), refl))
+does_event s h c (what.Zero p first count) is fits =
+    same_range s h c _ (λ a b. op.Zero a b p) first count (small_range s first count is (allowed_zero s h p first count fits).1) (Ok reply.Unit, not_refused _ _ _ None None _ fits ((refl, refl), refl))
+does_event s h c (what.Taken p) is fits = tt
+does_event s h c (what.Split p set) is fits = tt
+does_event s h c (what.Pinned p) is fits = tt
+does_event s h c (what.Used p) is fits = tt
+does_event s h c (what.Back p) is fits = tt
+does_event s h c (what.Dropped p) is fits = tt
+does_event s h c what.Close is fits = (Ok reply.Unit, not_refused _ _ _ None None _ fits ((refl, refl), refl))
+
+-- a command has one step
+abbrev pub HasOneStep : Op → Type 0
+HasOneStep o = (told : List StepAnswer) (answer : Reaction) → TurnsOut o told answer → told ≡ record { step = One o; answer = answer } ∷ []
+
+-- the command of a call has one step
+call_step : (w : What) → OfCall HasOneStep (kind_of w)
+call_step (what.Alloc p b) = λ told answer t. t
+call_step (what.MapWhole p) = λ told answer t. t
+call_step (what.UnmapWhole o p set) = λ told answer t. t
+call_step (what.MapSub p first count) = λ told answer t. t
+call_step (what.UnmapSub o p first count set) = λ told answer t. t
+call_step (what.SplitPmd p) = λ told answer t. t
+call_step (what.Pin p) = λ told answer t. t
+call_step (what.Unpin o p set) = λ told answer t. t
+call_step (what.Write p first count) = λ told answer t. t
+call_step (what.Zero p first count) = λ told answer t. t
+call_step (what.Taken p) = tt
+call_step (what.Split p set) = tt
+call_step (what.Pinned p) = tt
+call_step (what.Used p) = tt
+call_step (what.Back p) = tt
+call_step (what.Dropped p) = tt
+call_step what.Close = λ told answer t. t
+
+module _ (w : What) (o : Op) (kind : kind_of w ≡ Call o) where
+  pub does_call : (s : Shape) (h : History) (c : ℕ) → IsShape s → Fits s h (by c w) → DoesAlone s h c (by c w ∷ []) o
+  does_call s h c is fits = subst (OfCall (DoesAlone s h c (by c w ∷ []))) kind (does_event s h c w is fits)
+
+  pub one_step_of : HasOneStep o
+  one_step_of = subst (OfCall HasOneStep) kind (call_step w)
