@@ -29,19 +29,20 @@ PROGRAMS = {
 LIBRARY = {
     "c/thp.h": r'^#define THP_VERSION "([\d.]+)"',
     "docs/libthp.3": r'^\.TH LIBTHP 3 "" "libthp ([\d.]+)"',
-    "rust/Cargo.toml": r'^version = "([\d.]+)"',
-    "rust/Cargo.lock": r'^name = "leversorrel"\nversion = "([\d.]+)"',
+    "rust/Cargo.toml": r'^(?:version|leversorrel-sys) = .*"([\d.]+)"',
+    "rust/leversorrel-sys/Cargo.toml": r'^version = "([\d.]+)"',
+    "rust/Cargo.lock": r'^name = "leversorrel(?:-sys)?"\nversion = "([\d.]+)"',
 }
-"""The same of the library for C and Rust."""
+"""The same of the library for C and Rust. A file has the number wherever its pattern matches."""
 
 PARTS = ("MAJOR", "MINOR", "PATCH")
 """The header also has the parts of its version."""
 
 
 def numbers(places: dict[str, str]) -> dict[str, str]:
-    """The number in each place, or nothing where there is none."""
-    found = {name: re.search(pattern, (ROOT / name).read_text(), re.M) for name, pattern in places.items()}
-    return {name: it[1] if it else "" for name, it in found.items()}
+    """The number in each place, or nothing where there is none; all of them where a place has several."""
+    found = {name: re.findall(pattern, (ROOT / name).read_text(), re.M) for name, pattern in places.items()}
+    return {name: " and ".join(dict.fromkeys(it)) for name, it in found.items()}
 
 
 def of_parts() -> str:
@@ -61,10 +62,12 @@ def write(number: str) -> None:
     """Writes a number into all places."""
     for name, pattern in {**PROGRAMS, **LIBRARY}.items():
         text = (ROOT / name).read_text()
-        found = re.search(pattern, text, re.M)
-        if found is None:
+        found = [*re.finditer(pattern, text, re.M)]
+        if not found:
             sys.exit(f"{name} has no version")
-        (ROOT / name).write_text(text[: found.start(1)] + number + text[found.end(1):])
+        for it in reversed(found):
+            text = text[: it.start(1)] + number + text[it.end(1):]
+        (ROOT / name).write_text(text)
     header = (ROOT / "c/thp.h").read_text()
     for part, value in zip(PARTS, number.split(".")):
         header = re.sub(rf"(#define THP_VERSION_{part}) \d+", rf"\1 {value}", header)

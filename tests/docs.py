@@ -136,7 +136,8 @@ def words_of_tree() -> set[str]:
     folders = ("tests", "tests/edits/*", "bench", "bench/*", "examples", "debian")
     scripts = [path for folder in folders for path in ROOT.glob(f"{folder}/*")]
     kernel = [path for path in ROOT.glob("linux/*/*") if path.suffix in (".py", ".c")]
-    library = [path for top in ("c", "c/tests", "c/demos", "rust/src", "rust/tests") for path in ROOT.glob(f"{top}/*.*")]
+    rust = ("rust/src", "rust/tests", "rust/leversorrel-sys", "rust/leversorrel-sys/src")
+    library = [path for top in ("c", "c/tests", "c/demos", *rust) for path in ROOT.glob(f"{top}/*.*")]
     tops = [ROOT / name for name in ("Makefile", "crates.txt", "prove.py", "c/Makefile", "docs/thpsplit.5")]
     words.update(path.stem for path in ROOT.glob("docs/**/*"))
     for path in [*code, *scripts, *kernel, *library, *tops]:

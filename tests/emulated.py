@@ -20,7 +20,8 @@ from pathlib import Path
 ROOT = Path(__file__).resolve().parent.parent
 sys.path[:0] = [str(ROOT), str(ROOT / "release")]
 
-from library import ASKED, C, DEMOS, HOST_WORDS, TESTS, called, header, symbol_versions  # noqa: E402
+from command import called  # noqa: E402
+from library import ASKED, C, DEMOS, HOST_WORDS, TESTS, header, symbol_versions  # noqa: E402
 from platforms import ARM64  # noqa: E402
 from protection import weaknesses  # noqa: E402
 from tally import SKIPPED, Tally  # noqa: E402

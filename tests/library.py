@@ -9,14 +9,11 @@ execute N random scripts (default 200). What a machine lacks (a compiler, cargo,
 from __future__ import annotations
 
 import argparse
-import os
 import re
 import shutil
 import subprocess
 import sys
-import tarfile
 import tempfile
-from collections.abc import Sequence
 from functools import cache
 from pathlib import Path
 from random import Random
@@ -25,14 +22,15 @@ ROOT = Path(__file__).resolve().parent.parent
 sys.path.insert(0, str(ROOT / "release"))
 
 import version as places  # noqa: E402
+from command import called  # noqa: E402
 from model import Node  # noqa: E402
 from protection import weaknesses  # noqa: E402
 from random_texts import Script, joined, likely_words, operands, random_shapes, script_of_one  # noqa: E402
 from script import Run  # noqa: E402
+from rust_crates import Crates  # noqa: E402
 from tally import Missing, Tally  # noqa: E402
 
 C = ROOT / "c"
-SECONDS = 300
 
 DECLARED = re.compile(r"^([\w ]+?[ *])(thp_\w+)\(([^;{}]*)\);", re.M)
 """A function's declaration in C: its result, its name, its parameters."""
@@ -41,34 +39,36 @@ EXPORT = re.compile(r'pub extern "C" fn thp_c_(\w+)\((.*?)\) -> u32', re.S)
 """An export of the proved crate."""
 
 BORROWED = re.compile(r"pub fn (thp_\w+)\((.*?)\) -> ([^;]+);", re.S)
-"""A declaration of the cargo crate."""
+"""A declaration of the crate leversorrel-sys."""
 
 TYPES = {
     "thp_node *": "handle", "uint32_t *": "u32*", "uint64_t *": "u64*", "size_t *": "usize*", "thp_done *": "done",
     "thp_scan *": "scan", "thp_tried *": "tried", "thp_back *": "back", "thp_stats *": "stats", "const uint8_t *": "u8*",
     "const void *": "u8*", "void *": "u8*",
     "uint8_t *": "u8*", "uint32_t": "u32", "uint64_t": "u64", "size_t": "usize", "thp_code": "u32", "const thp_allocator *": "allocator",
-    "thp_pass *": "pass", "&mut ThpPass": "pass", "*mut PassHandle": "pass", "&mut ThpNode": "handle",
-    "thp_check *": "check", "&mut ThpCheck": "check", "*mut CheckHandle": "check",
+    "thp_pass *": "pass", "&mut ThpPass": "pass", "*mut thp_pass": "pass", "&mut ThpNode": "handle",
+    "thp_check *": "check", "&mut ThpCheck": "check", "*mut thp_check": "check", "*const thp_allocator": "allocator",
     "&mut u32": "u32*", "&mut u64": "u64*", "&mut usize": "usize*", "&mut ThpDone": "done",
     "&mut ThpScan": "scan", "&mut ThpTried": "tried", "&mut ThpBack": "back", "&mut ThpStats": "stats", "u32": "u32", "u64": "u64",
-    "usize": "usize", "*mut Handle": "handle", "*mut u32": "u32*", "*mut u64": "u64*", "*mut usize": "usize*",
-    "*mut Done": "done", "*mut Scan": "scan", "*mut Tried": "tried", "*mut Back": "back", "*mut Stats": "stats",
-    "*const u8": "u8*", "*mut u8": "u8*", "const thp_node *": "const handle", "*const Handle": "const handle",
-    "const thp_pass *": "const pass", "*const PassHandle": "const pass", "thp_page_state *": "page state",
-    "&mut ThpPageState": "page state", "*mut PageState": "page state",
+    "usize": "usize", "*mut thp_node": "handle", "*mut u32": "u32*", "*mut u64": "u64*", "*mut usize": "usize*",
+    "*mut thp_done": "done", "*mut thp_scan": "scan", "*mut thp_tried": "tried", "*mut thp_back": "back", "*mut thp_stats": "stats",
+    "*const c_void": "u8*", "*mut c_void": "u8*", "const thp_node *": "const handle", "*const thp_node": "const handle",
+    "const thp_pass *": "const pass", "*const thp_pass": "const pass", "thp_page_state *": "page state",
+    "&mut ThpPageState": "page state", "*mut thp_page_state": "page state",
 }
 """A type in C, in Rattle or in Rust, and one word for it."""
 
 FIELD_TYPES = {
     "uint32_t": "u32", "uint64_t": "u64", "uint64_t[8]": "u64[8]", "void *": "pointer", "u32": "u32", "u64": "u64",
-    "[u64; 8]": "u64[8]", "*mut u8": "pointer",
+    "[u64; 8]": "u64[8]", "*mut u8": "pointer", "*mut c_void": "pointer",
 }
 """The type of a field in C, in Rattle or in Rust, and one word for it."""
 
-STRUCTS = {"done": "Done", "scan": "Scan", "tried": "Tried", "back": "Back", "stats": "Stats", "page_state": "PageState", "node": "Handle",
-           "pass": "PassHandle", "check": "CheckHandle"}
-"""Each struct of the header without its prefix, and its name in the cargo crate."""
+STRUCTS = ("done", "scan", "tried", "back", "stats", "page_state", "node", "pass", "check")
+"""Each struct of the header without its prefix, except that of functions."""
+
+SYS = ROOT / "rust/leversorrel-sys/src/lib.rs"
+"""The declarations in Rust."""
 
 HANDLES = {"&mut ThpNode": "node", "&mut ThpPass": "pass", "&mut ThpCheck": "check"}
 """The header's name for the handle of a proved function."""
@@ -156,18 +156,26 @@ def names_are_listed() -> str | None:
 
 
 def crate_is_declared() -> str | None:
-    """The cargo crate declares the header's functions except that for allocators, parameter for parameter."""
-    text = (ROOT / "rust/src/sys.rs").read_text()
+    """leversorrel-sys declares the header's functions, parameter for parameter, and has its constants, except those of the version."""
+    text = SYS.read_text()
     declared = {name: of_rust(parameters) for name, parameters, _ in BORROWED.findall(text)}
-    wanted = {name: it for name, it in header().items() if name != "thp_use_allocator"}
-    wanted["thp_strerror"] = [("code", "u32")]
-    return differing(declared, wanted)
+    numbers = dict(re.findall(r"^pub const (THP_\w+): \w+ = ([\w:]+);", text, re.M))
+    here = {name: int({"u32::MAX": "4294967295"}.get(number, number).replace("_", "")) for name, number in numbers.items()}
+    return differing(declared, header()) or ", ".join(name for name, _ in {*here.items()} ^ {*constants().items()}) or None
+
+
+def constants() -> dict[str, int]:
+    """The header's constants, except those of the version and the largest code."""
+    text = without_comments((C / "thp.h").read_text())
+    found = re.findall(r"\b(THP_\w+) = (\d+)\b", text) + re.findall(r"#define (THP_M\w+_\w+) (\d+)", text)
+    off = [("THP_UNDERUSED_OFF", 2**32 - 1)] if "#define THP_UNDERUSED_OFF UINT32_MAX\n" in text else []
+    return {name: int(number) for name, number in [*found, *off] if name != "THP_NO_CODE"}
 
 
 def codes_agree() -> str | None:
-    """A code has the same number in the header and in the cargo crate."""
+    """A code has the same number in the header and in the proved crate, and each fault of `leversorrel` the code of its name."""
     in_c = {name.replace("_", "").lower(): int(number) for name, number in re.findall(r"THP_(\w+) = (\d+)\b", (C / "thp.h").read_text())}
-    in_rust = re.findall(r"^    (\w+) = (\d+),", (ROOT / "rust/src/fault.rs").read_text(), re.M)
+    in_rust = re.findall(r"^    (\w+) = sys::THP_(\w+),", (ROOT / "rust/src/fault.rs").read_text(), re.M)
     proved = "".join(path.read_text() for path in (ROOT / "crates/thp_capi/src").glob("*codes.rt"))
     in_proved = re.findall(r"(?:Fault|Refusal)::(\w+)\)? => (\d+),", proved)
     replies = (ROOT / "crates/thp_capi/src/replies.rt").read_text()
@@ -175,7 +183,8 @@ def codes_agree() -> str | None:
     effects += [(f"Try{name}", kind) for name, kind in re.findall(r"Tried::(\w+)[^=]* => ThpTried \{\s*kind: (\d)", replies)]
     lists = re.findall(r"Standing::(\w+)[^=]* => \((\d)", (ROOT / "crates/thp_capi/src/page_state.rt").read_text())
     effects += [({"Nowhere": "ListNone", "Queued": "ListQueue", "Batch": "ListFlight"}[name], number) for name, number in lists]
-    wrong = [name for name, number in [*in_rust, *in_proved, *effects] if in_c.get(name.lower()) != int(number)]
+    wrong = [name for name, number in [*in_proved, *effects] if in_c.get(name.lower()) != int(number)]
+    wrong += [name for name, code in in_rust if name.lower() != code.replace("_", "").lower()]
     found = (len(in_rust), len(in_proved), len(effects))
     return ", ".join(wrong) or (None if found == (29, 24, 10) else f"found are {found}")
 
@@ -188,17 +197,17 @@ def named_fields(text: str, start: str, pattern: str) -> list[tuple[str, str]]:
 
 
 def structs_agree() -> str | None:
-    """Each struct has the same fields, of the same types and in the same order, in the header, the manual page, the cargo crate and
-    the proved crate."""
+    """Each struct has the same fields, of the same types and in the same order, in the header, the manual page, leversorrel-sys and the
+    proved crate."""
     in_c, in_rust = r"^    (?P<type>\w+ ?\*?) ?\b(?P<name>\w+)(?P<length>\[8\])?;", r"^    (?:pub )?(?P<name>\w+): (?P<type>[^,]+),"
     proved = "".join(path.read_text() for path in sorted((ROOT / "crates/thp_capi/src").glob("*.rt")))
-    page, sys = (ROOT / "docs/libthp.3").read_text(), (ROOT / "rust/src/sys.rs").read_text()
+    page, sys = (ROOT / "docs/libthp.3").read_text(), SYS.read_text()
     wrong = []
-    for name, rust in STRUCTS.items():
+    for name in STRUCTS:
         wanted = named_fields((C / "thp.h").read_text(), f"struct thp_{name} {{", in_c)
-        places = {"rust/src/sys.rs": named_fields(sys, f"pub struct {rust} {{", in_rust),
+        places = {"leversorrel-sys": named_fields(sys, f"pub struct thp_{name} {{", in_rust),
                   "thp_capi": named_fields(proved, f"pub struct Thp{name.title().replace('_', '')} {{", in_rust)}
-        if "Handle" not in rust:
+        if name not in ("node", "pass", "check"):
             places["docs/libthp.3"] = named_fields(page, f"struct thp_{name} {{", in_c)
         wrong += [f"thp_{name}: {place}" for place, fields in places.items() if not wanted or fields != wanted]
     return ", ".join(wrong) or None
@@ -250,7 +259,7 @@ def symbols_are_dated() -> str | None:
 
 
 def versions_agree() -> str | None:
-    """Header, cargo crate and manual page have one version, and Debian's files the soname."""
+    """Header, cargo crates and manual page have one version, and Debian's files the soname."""
     wanted = {
         "debian/libthp0.symbols": f"{soname()} libthp{soname().rpartition('.')[2]} #MINVER#",
         "debian/control": f"\nPackage: libthp{soname().rpartition('.')[2]}\n",
@@ -261,21 +270,9 @@ def versions_agree() -> str | None:
 
 def processor_is_named() -> str | None:
     """Everything that describes the library names the level of processor that it needs."""
-    named = ("c/thp.h", "docs/libthp.3", "docs/C.md", "debian/control", "rust/README.md", "rust/src/lib.rs")
+    named = ("c/thp.h", "docs/libthp.3", "docs/C.md", "debian/control", "rust/README.md", "rust/src/lib.rs",
+             "rust/leversorrel-sys/README.md")
     return ", ".join(name for name in named if "x86-64-v2" not in (ROOT / name).read_text().replace("\\-", "-")) or None
-
-
-def called(command: Sequence[str | Path], where: Path, **more: str) -> str | None:
-    """Runs a command, and returns its output if it fails."""
-    if shutil.which(str(command[0])) is None and not Path(command[0]).exists():
-        raise Missing(f"no {command[0]} here")
-    try:
-        ended = subprocess.run([str(word) for word in command], cwd=where, env={**os.environ, **more}, check=False,
-                               capture_output=True, text=True, errors="replace", timeout=SECONDS)
-    except subprocess.TimeoutExpired:
-        return f"{command[0]} took more than {SECONDS} s"
-    said = (ended.stdout + ended.stderr)[-600:].strip()
-    return None if ended.returncode == 0 else f"{command[0]} ended with status {ended.returncode}: {said}"
 
 
 def elf_differs(library: Path) -> str | None:
@@ -397,45 +394,10 @@ class Built:
         newer = called([*configure, f"-DWANTED={major}.999"], source)
         return wrong or (None if newer else "CMake took a library that is too old")
 
-    def cargo(self, *words: str, **more: str) -> str | None:
-        """Runs cargo in the crate, with no network."""
-        command = ["cargo", words[0], "--offline", "--quiet", "--target-dir", str(self.folder / "cargo"), *words[1:]]
-        return called(command, ROOT / "rust", **{"THP_LIB": str(self.folder), **more})
-
-    def crate(self) -> str | None:
-        """The cargo crate's tests and the examples of its documents run."""
-        return self.cargo("test")
-
-    def crate_is_clean(self) -> str | None:
-        """clippy has no warning about the cargo crate."""
-        if subprocess.run(["cargo", "clippy", "--version"], cwd=ROOT, capture_output=True, check=False).returncode != 0:
-            raise Missing("no cargo clippy here")
-        return self.cargo("clippy", "--all-targets", "--", "-D", "warnings")
-
-    def crate_is_packed(self) -> str | None:
-        """cargo packs the crate, with its licences."""
-        wrong = self.cargo("package", "--allow-dirty", "--no-verify")
-        packed = self.folder / f"cargo/package/leversorrel-{version()}.crate"
-        if wrong or not packed.is_file():
-            return wrong or f"no {packed.name}"
-        with tarfile.open(packed) as tar:
-            names = {Path(it.name).name for it in tar.getmembers() if it.isfile() and it.size}
-        lacks = {"LICENSE-APACHE", "LICENSE-MIT", "README.md", "build.rs"} - names
-        return f"lacks {', '.join(sorted(lacks))}" if lacks else None
-
-    def crate_names_library(self) -> str | None:
-        """Without a library, and with a relative folder, the build script ends with a line that says what to do."""
-        empty = self.folder / "empty"
-        empty.mkdir()
-        for folder, wanted in ((str(empty), "libthp.a isn't in"), ("c/out", "THP_LIB must be an absolute path")):
-            told = self.cargo("check", THP_LIB=folder)
-            if told is None or wanted not in told or "panicked" in told:
-                return f"THP_LIB={folder}: {told}"
-        return None
-
     def random_sequences(self, program: Path, cases: int, seed: int) -> str | None:
-        """The cargo crate has the program's results for random sequences of calls, and the same journals and numbers."""
-        return self.cargo("test", "--test", "random", THP_PROGRAM=str(program), THP_CASES=str(cases), THP_SEED=str(seed))
+        """The cargo crates have the program's results for random sequences of calls, and the same journals and numbers."""
+        more = {"THP_PROGRAM": str(program), "THP_CASES": str(cases), "THP_SEED": str(seed)}
+        return Crates(self.folder).cargo("test", "--test", "random", more=more)
 
     def many_batches(self, cases: int, seed: int) -> str | None:
         """Batches of several callers on one node, through nodes and through passes, agree with a plain reading of the model."""
@@ -593,7 +555,7 @@ def texts(tally: Tally) -> None:
     tally.run("what the proved crate exports is declared", exports_are_declared)
     tally.run("the header's functions are the proved ones", header_is_proved)
     tally.run("the names that are shown are the header's", names_are_listed)
-    tally.run("the cargo crate declares the header's functions", crate_is_declared)
+    tally.run("leversorrel-sys declares what the header does", crate_is_declared)
     tally.run("codes have one number", codes_agree)
     tally.run("structs have the same fields", structs_agree)
     tally.run("the manual page has each code and limit", descriptions_agree)
@@ -622,10 +584,13 @@ def builds(tally: Tally, built: Built) -> None:
         tally.run(f"{name}: under valgrind", lambda: built.test(name, "gcc", ["-std=gnu11"], under))
     tally.run("the header's documents", built.documents)
     tally.run("what is installed is found", built.installed)
-    tally.run("the cargo crate", built.crate)
-    tally.run("clippy on the cargo crate", built.crate_is_clean)
-    tally.run("the cargo crate is packed", built.crate_is_packed)
-    tally.run("the cargo crate names a library that isn't there", built.crate_names_library)
+    crates = Crates(built.folder)
+    tally.run("the cargo crates", crates.tests)
+    tally.run("clippy on the cargo crates", crates.are_clean)
+    tally.run("the documents of the cargo crates", crates.documents)
+    tally.run("the cargo crates are packed", crates.are_packed)
+    tally.run("the folder that THP_LIB names", crates.named_folder)
+    tally.run("the cargo crates find the library", crates.find_library)
 
 
 def main() -> None:

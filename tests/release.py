@@ -38,6 +38,7 @@ HELD = (
     "lib/libthp.so", "lib/pkgconfig/thp.pc", "lib/cmake/thp/thp-config.cmake", "include/thp.h", "share/man/man1/thpsplit.1",
     "share/man/man3/libthp.3", "share/man/man3/thp_node_create.3", "share/bash-completion/completions/thpwhatif",
     "lib/thpsplit/linux/out/pages.so", "examples/first.script", "examples/c/first.c", "docs/C.md", "rust/Cargo.toml",
+    "rust/leversorrel-sys/build.rs",
     "LICENSE-MIT", "LICENSE-APACHE", "CHANGELOG.md", "README.md", "PROOF",
 )
 """Files of the archive of the programs, among others."""
@@ -140,7 +141,7 @@ rt: thp_page is kept: an earlier run proved it
 
 
 def versions_differ() -> str | None:
-    """Sources, manual pages, library and cargo crate have one number. tests/package.py compares it with the packages."""
+    """Sources, manual pages, library and cargo crates have one number. tests/package.py compares it with the packages."""
     wrong = version.differing(version.PROGRAMS) + version.differing(version.LIBRARY)
     programs, library = (next(iter(version.numbers(it).values())) for it in (version.PROGRAMS, version.LIBRARY))
     wrong += [f"the programs have {programs}, the library {library}"] if programs != library else []

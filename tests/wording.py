@@ -80,7 +80,8 @@ def between(lines: list[tuple[int, str]], mark: str, is_wanted_inside: bool) -> 
 def files() -> list[Path]:
     """All files that are read."""
     globs = ["README.md", "CONTRIBUTING.md", "Makefile", "docs/*.md", "docs/*.[1-9]", "c/thp.h", "crates/thp*/src/**/*.rt",
-             "rust/src/*.rs", "rust/README.md", "linux/*/*.py", "linux/README*", "prove.py", "linux/*/README*"]
+             "rust/src/*.rs", "rust/README.md", "rust/leversorrel-sys/*.*",
+             "rust/leversorrel-sys/src/*.rs", "linux/*/*.py", "linux/README*", "prove.py", "linux/*/README*"]
     return sorted({path for it in globs for path in ROOT.glob(it)})
 
 

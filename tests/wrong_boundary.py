@@ -1,4 +1,4 @@
-"""Wrong bodies at the boundary of C: each is planted in c/thp.c or in the cargo crate, and a test must refuse it.
+"""Wrong bodies at the boundary of C: each is planted in c/thp.c or in the cargo crates, and a test must refuse it.
 
     python3 tests/wrong_boundary.py ARCHIVE
 
@@ -48,12 +48,12 @@ class Wrong:
         return text[:head.end()] + body.replace(self.old, self.new, 1) + text[end:]
 
     def is_rust(self) -> bool:
-        """Whether it is in the cargo crate."""
+        """Whether it is in the cargo crates."""
         return self.file.endswith(".rs")
 
 
 C = "c/thp.c"
-NODE, PASS = "rust/src/node.rs", "rust/src/pass.rs"
+NODE, PASS, CELL = "rust/src/node.rs", "rust/src/pass.rs", "rust/src/cell.rs"
 
 PAGE, MAPCOUNT = "return (thp_code)thp_c_node_page(&copy, page, state);", "return (thp_code)thp_c_node_mapcount(&copy, page, subpage, own);"
 QUEUE = "return (thp_code)thp_c_node_queue(&copy, pages != NULL ? pages : &no_pages, room, count);"
@@ -69,7 +69,7 @@ WRONG = (
     Wrong(C, "thp_cell_create", "thp_c_cell_create", COUNTING_CELL),
     Wrong(C, "thp_node_create_counting", "blocks, order, underused);", "blocks, order, THP_UNDERUSED_OFF);"),
     Wrong(NODE, "counting", "thp_node_create_counting", "thp_node_create"),
-    Wrong(PASS, "of_new_counting_cell", "thp_cell_create_counting", "thp_cell_create"),
+    Wrong(CELL, "counting", "thp_cell_create_counting", "thp_cell_create"),
     # the call is made for something else
     Wrong(C, "thp_node_page", "page, state", "page + 1, state"),
     Wrong(C, "thp_node_page", "page, state", "(uint32_t)page, state"),
@@ -118,8 +118,8 @@ WRONG = (
     # the same in Rust
     Wrong(NODE, "page", "page, &mut told", "page + 1, &mut told"),
     Wrong(NODE, "page", "page, &mut told", "page as u32 as u64, &mut told"),
-    Wrong(NODE, "page", "Ok(PageState::of(told))", "Ok(PageState::of(sys::PageState { split: 0, ..told }))"),
-    Wrong(NODE, "page", "Ok(PageState::of(told))", "Ok(PageState::of(sys::PageState { caller: 0, ..told }))"),
+    Wrong(NODE, "page", "Ok(PageState::of(told))", "Ok(PageState::of(sys::thp_page_state { split: 0, ..told }))"),
+    Wrong(NODE, "page", "Ok(PageState::of(told))", "Ok(PageState::of(sys::thp_page_state { caller: 0, ..told }))"),
     Wrong(NODE, "mapcount", "page, subpage, &mut own", "subpage as u64, page as u32, &mut own"),
     Wrong(NODE, "mapcount", "page, subpage, &mut own", "page, subpage & 0xffff, &mut own"),
     Wrong(NODE, "mapcount", "Ok(own)", "Ok(own.max(1))"),
@@ -143,7 +143,7 @@ def ended(command: list[str | Path], where: Path, **more: str) -> int:
 
 
 class Boundary:
-    """A copy of the library's C half and of the cargo crate, in a folder."""
+    """A copy of the library's C half and of the cargo crates, in a folder."""
 
     def __init__(self, archive: Path, folder: Path) -> None:
         self.archive, self.folder = archive, folder

@@ -64,7 +64,7 @@ mod sealed {
 /// node.unmap_sub(0, page, 0, 256)?;
 /// let mut batch = node.batch(1, 8)?;
 /// assert_eq!(batch.taken(), 1);
-/// assert_eq!(batch.split_next()?, Tried::Split(page));
+/// assert_eq!(batch.tries().collect::<Result<Vec<_>, _>>()?, [Tried::Split(page)]);
 /// drop(batch);
 /// assert_eq!(node.put_back(1), Err(Fault::NoBatch));
 /// # Ok::<(), Fault>(())
@@ -80,7 +80,7 @@ mod sealed {
 /// ```
 ///
 /// ```compile_fail,E0505
-/// let mut pass = leversorrel::Pass::of_new_cell(16, 9, None, 2).unwrap();
+/// let mut pass = leversorrel::NodeCell::new(16, 9, None, 2).unwrap().into_pass();
 /// let batch = pass.batch(0, 8).unwrap();
 /// drop(pass);
 /// batch.taken();
@@ -115,6 +115,12 @@ impl<'a, H: HasBatches> Batch<'a, H> {
         self.of.split_next(self.caller)
     }
 
+    /// Tries the remaining pages, one for each item, and ends when none is left. An error leaves the batch open, and the next item
+    /// tries the same page again.
+    pub fn tries(&mut self) -> Tries<'_, 'a, H> {
+        Tries { batch: self }
+    }
+
     /// Returns the remaining pages to the node. An error returns the batch unchanged.
     pub fn put_back(mut self) -> Result<Back, (Self, Fault)> {
         match self.of.put_back(self.caller) {
@@ -130,6 +136,23 @@ impl<'a, H: HasBatches> Batch<'a, H> {
     pub fn abandon(mut self) -> Result<(), Fault> {
         self.is_open = false;
         self.of.abandon(self.caller)
+    }
+}
+
+/// The tries of a [`Batch`]'s remaining pages: see [`Batch::tries`].
+#[derive(Debug)]
+pub struct Tries<'b, 'a, H: HasBatches> {
+    batch: &'b mut Batch<'a, H>,
+}
+
+impl<H: HasBatches> Iterator for Tries<'_, '_, H> {
+    type Item = Result<Tried, Fault>;
+
+    fn next(&mut self) -> Option<Self::Item> {
+        match self.batch.split_next() {
+            Ok(Tried::Done) => None,
+            tried => Some(tried),
+        }
     }
 }
 

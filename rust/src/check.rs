@@ -1,8 +1,9 @@
 //! The check of journals of any length.
 use std::fmt;
 
+use leversorrel_sys as sys;
+
 use crate::fault::{done, Fault};
-use crate::sys;
 use crate::Verdict;
 
 /// A check of journals of any length, whose text arrives in parts. It stores only the state of the current node and the line in
@@ -21,7 +22,7 @@ use crate::Verdict;
 /// # Ok::<(), Fault>(())
 /// ```
 pub struct Check {
-    handle: sys::CheckHandle,
+    handle: sys::thp_check,
 }
 
 // SAFETY: a handle refers to plain data and memory of its own: proved, `check_handle_send` in
@@ -32,7 +33,7 @@ unsafe impl Send for Check {}
 impl Check {
     /// Creates a check that has read nothing. Fails with [`Fault::OutOfMemory`].
     pub fn new() -> Result<Check, Fault> {
-        let mut handle = sys::CheckHandle::EMPTY;
+        let mut handle = sys::THP_CHECK_INIT;
         // SAFETY: the handle is local and empty.
         done(unsafe { sys::thp_check_create(&mut handle) })?;
         Ok(Check { handle })
@@ -42,7 +43,7 @@ impl Check {
     /// memory can't be allocated; the check is then lost, and every later call fails with that error too.
     pub fn read(&mut self, part: &[u8]) -> Result<(), Fault> {
         // SAFETY: the handle is this check's own, and the pointer and the length are those of one slice.
-        match unsafe { sys::thp_check_read(&mut self.handle, part.as_ptr(), part.len()) } {
+        match unsafe { sys::thp_check_read(&mut self.handle, part.as_ptr().cast(), part.len()) } {
             LOST => Err(Fault::OutOfMemory),
             code => done(code),
         }
@@ -61,15 +62,14 @@ impl Check {
     /// Returns why the illegal event does not fit, after a finish that found one: the text of `thpcheck --explain`. Otherwise
     /// fails with [`Fault::NoReason`].
     pub fn reason(&mut self) -> Result<String, Fault> {
-        const TOO_SMALL: u32 = 19;
-        let mut text = Vec::new();
+        let mut text: Vec<u8> = Vec::new();
         let mut size = 0;
         loop {
             // SAFETY: the handle is this check's own, the buffer is the vector's, and the size is a local.
-            match unsafe { sys::thp_check_reason(&mut self.handle, text.as_mut_ptr(), text.len(), &mut size) } {
-                0 => return Ok(String::from_utf8(text).expect("a reason is ASCII")),
+            match unsafe { sys::thp_check_reason(&mut self.handle, text.as_mut_ptr().cast(), text.len(), &mut size) } {
+                sys::THP_OK => return Ok(String::from_utf8(text).expect("a reason is ASCII")),
                 LOST => return Err(Fault::OutOfMemory),
-                TOO_SMALL => {
+                sys::THP_TOO_SMALL => {
                     text.try_reserve_exact(size).map_err(|_| Fault::OutOfMemory)?;
                     text.resize(size, 0);
                 }
@@ -79,8 +79,8 @@ impl Check {
     }
 }
 
-// THP_EMPTY: a read could not allocate memory and freed the check
-const LOST: u32 = 12;
+// A read could not allocate memory and freed the check.
+const LOST: u32 = sys::THP_EMPTY;
 
 impl Drop for Check {
     fn drop(&mut self) {

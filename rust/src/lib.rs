@@ -27,7 +27,12 @@
 //!
 //! ```compile_fail,E0277
 //! fn share<T: Sync>(_: T) {}
-//! share(leversorrel::Pass::of_new_cell(16, 9, None, 2).unwrap());
+//! share(leversorrel::NodeCell::new(16, 9, None, 2).unwrap().into_pass());
+//! ```
+//!
+//! ```compile_fail,E0277
+//! fn share<T: Sync>(_: T) {}
+//! share(leversorrel::Check::new().unwrap());
 //! ```
 //!
 //! ```compile_fail,E0599
@@ -35,7 +40,7 @@
 //! ```
 //!
 //! ```compile_fail,E0599
-//! let copy = leversorrel::Pass::of_new_cell(16, 9, None, 2).unwrap().clone();
+//! let copy = leversorrel::NodeCell::new(16, 9, None, 2).unwrap().into_pass().clone();
 //! ```
 //!
 //! ```compile_fail,E0599
@@ -52,17 +57,19 @@ mod check;
 mod fault;
 mod node;
 mod pass;
-#[allow(missing_docs)]
-mod sys;
+mod sub_set;
 
-pub use batch::{Batch, HasBatches};
-pub use cell::Cell;
+pub use batch::{Batch, HasBatches, Tries};
+pub use cell::NodeCell;
 pub use check::Check;
 pub use fault::Fault;
-pub use node::{Back, Done, List, Node, Outcome, PageState, Scan, Stats, SubSet, Tried};
+pub use node::{Back, Done, List, Node, Outcome, PageState, Scan, Stats, Tried};
 pub use pass::Pass;
+pub use sub_set::{SubSet, Subpages};
 
 use std::ffi::CStr;
+
+use leversorrel_sys as sys;
 
 /// The result of the check of a text of journals.
 #[derive(Clone, Copy, PartialEq, Eq, Hash, Debug)]
@@ -87,10 +94,9 @@ pub enum Verdict {
 impl Verdict {
     // Converts a code and its line to a verdict. Fails with `OutOfMemory`.
     pub(crate) fn of(code: u32, line: u64) -> Result<Verdict, Fault> {
-        const ILLEGAL: u32 = 21;
         match code {
-            0 => Ok(Verdict::Legal),
-            ILLEGAL => Ok(Verdict::Illegal { line }),
+            sys::THP_OK => Ok(Verdict::Legal),
+            sys::THP_ILLEGAL => Ok(Verdict::Illegal { line }),
             code => match Fault::of(code) {
                 Fault::OutOfMemory => Err(Fault::OutOfMemory),
                 fault => Ok(Verdict::Faulty { line, fault }),
@@ -112,7 +118,7 @@ impl Verdict {
 pub fn check(text: &[u8]) -> Result<Verdict, Fault> {
     let mut line = 0;
     // SAFETY: the pointer and the length are those of one slice, and the line is a local.
-    let code = unsafe { sys::thp_check_text(text.as_ptr(), text.len(), &mut line) };
+    let code = unsafe { sys::thp_check_text(text.as_ptr().cast(), text.len(), &mut line) };
     Verdict::of(code, u64::from(line))
 }
 

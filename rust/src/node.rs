@@ -1,9 +1,11 @@
 //! A node.
 use std::fmt;
 
+use leversorrel_sys as sys;
+
 use crate::batch::Batch;
 use crate::fault::{done, Fault};
-use crate::sys;
+use crate::sub_set::SubSet;
 
 /// The effect of an unmap or an unpin on its page.
 #[derive(Clone, Copy, PartialEq, Eq, Hash, Debug)]
@@ -17,34 +19,6 @@ pub enum Outcome {
     Freed,
 }
 
-/// A set of subpages of one page, which are numbered below 512.
-#[derive(Clone, Copy, PartialEq, Eq, Hash, Debug, Default)]
-pub struct SubSet {
-    words: [u64; 8],
-}
-
-impl SubSet {
-    /// Returns whether subpage `i` is in the set.
-    pub fn contains(&self, i: usize) -> bool {
-        self.words.get(i / 64).is_some_and(|word| word >> (i % 64) & 1 == 1)
-    }
-
-    /// Returns the number of subpages in the set.
-    pub fn len(&self) -> usize {
-        self.words.iter().map(|word| word.count_ones() as usize).sum()
-    }
-
-    /// Returns whether the set is empty.
-    pub fn is_empty(&self) -> bool {
-        self.words == [0; 8]
-    }
-
-    /// Returns the subpages in ascending order.
-    pub fn iter(&self) -> impl Iterator<Item = usize> + '_ {
-        (0..512).filter(|&i| self.contains(i))
-    }
-}
-
 /// The result of an unmap or an unpin.
 #[derive(Clone, Copy, PartialEq, Eq, Hash, Debug)]
 pub struct Done {
@@ -55,13 +29,13 @@ pub struct Done {
 }
 
 impl Done {
-    pub(crate) fn of(told: sys::Done) -> Done {
+    pub(crate) fn of(told: sys::thp_done) -> Done {
         let outcome = match told.outcome {
-            0 => Outcome::Stays,
-            1 => Outcome::Queued,
+            sys::THP_STAYS => Outcome::Stays,
+            sys::THP_QUEUED => Outcome::Queued,
             _ => Outcome::Freed,
         };
-        Done { outcome, released: SubSet { words: told.released } }
+        Done { outcome, released: SubSet::of(told.released) }
     }
 }
 
@@ -80,11 +54,11 @@ pub enum Tried {
 }
 
 impl Tried {
-    pub(crate) fn of(told: sys::Tried) -> Tried {
+    pub(crate) fn of(told: sys::thp_tried) -> Tried {
         match told.kind {
-            0 => Tried::Done,
-            1 => Tried::Split(told.page),
-            2 => Tried::Pinned(told.page),
+            sys::THP_TRY_DONE => Tried::Done,
+            sys::THP_TRY_SPLIT => Tried::Split(told.page),
+            sys::THP_TRY_PINNED => Tried::Pinned(told.page),
             _ => Tried::Used(told.page),
         }
     }
@@ -108,8 +82,8 @@ pub struct Scan {
 }
 
 impl Scan {
-    pub(crate) fn of(told: sys::Scan) -> Scan {
-        let sys::Scan { taken, split, pinned, back, dropped, used } = told;
+    pub(crate) fn of(told: sys::thp_scan) -> Scan {
+        let sys::thp_scan { taken, split, pinned, back, dropped, used } = told;
         Scan { taken, split, pinned, back, dropped, used }
     }
 }
@@ -124,7 +98,7 @@ pub struct Back {
 }
 
 impl Back {
-    pub(crate) fn of(told: sys::Back) -> Back {
+    pub(crate) fn of(told: sys::thp_back) -> Back {
         Back { back: told.back, dropped: told.dropped }
     }
 }
@@ -183,11 +157,11 @@ pub struct PageState {
 }
 
 impl PageState {
-    fn of(told: sys::PageState) -> PageState {
-        let sys::PageState { whole_mapcount, pins, partly_mapped, split, list, caller } = told;
+    fn of(told: sys::thp_page_state) -> PageState {
+        let sys::thp_page_state { whole_mapcount, pins, partly_mapped, split, list, caller } = told;
         let list = match list {
-            0 => List::Nowhere,
-            1 => List::Queue,
+            sys::THP_LIST_NONE => List::Nowhere,
+            sys::THP_LIST_QUEUE => List::Queue,
             _ => List::Flight(caller),
         };
         PageState { whole_mapcount, pins, partly_mapped: partly_mapped != 0, split: split != 0, list }
@@ -199,7 +173,7 @@ pub(crate) fn threshold_of(underused: Option<u32>) -> Result<u32, Fault> {
     match underused {
         Some(threshold) if threshold >= 512 => Err(Fault::BadSize),
         Some(threshold) => Ok(threshold),
-        None => Ok(u32::MAX),
+        None => Ok(sys::THP_UNDERUSED_OFF),
     }
 }
 
@@ -208,7 +182,7 @@ pub(crate) fn threshold_of(underused: Option<u32>) -> Result<u32, Fault> {
 /// Callers are numbered from 0 to 63; a greater number fails with [`Fault::BadCaller`]. A call that records events can also fail
 /// with [`Fault::OutOfMemory`]. A call that fails leaves the node unchanged.
 pub struct Node {
-    handle: sys::Handle,
+    handle: sys::thp_node,
 }
 
 // SAFETY: a handle refers to plain data and memory of its own: proved, `handle_send` in crates/thp_capi/proofs/Crossings.antt.
@@ -217,7 +191,7 @@ unsafe impl Send for Node {}
 
 impl Node {
     // The node of a handle that is not empty and that nothing else uses.
-    pub(crate) fn of(handle: sys::Handle) -> Node {
+    pub(crate) fn of(handle: sys::thp_node) -> Node {
         Node { handle }
     }
 
@@ -227,7 +201,7 @@ impl Node {
     /// [`Fault::BadSize`] or [`Fault::OutOfMemory`].
     pub fn new(blocks: u32, order: u32, underused: Option<u32>) -> Result<Node, Fault> {
         let threshold = threshold_of(underused)?;
-        let mut handle = sys::Handle::EMPTY;
+        let mut handle = sys::THP_NODE_INIT;
         // SAFETY: the handle is empty, and local until the node owns it.
         done(unsafe { sys::thp_node_create(&mut handle, blocks, order, threshold) })?;
         Ok(Node { handle })
@@ -247,7 +221,7 @@ impl Node {
     /// ```
     pub fn counting(blocks: u32, order: u32, underused: Option<u32>) -> Result<Node, Fault> {
         let threshold = threshold_of(underused)?;
-        let mut handle = sys::Handle::EMPTY;
+        let mut handle = sys::THP_NODE_INIT;
         // SAFETY: the handle is empty, and local until the node owns it.
         done(unsafe { sys::thp_node_create_counting(&mut handle, blocks, order, threshold) })?;
         Ok(Node { handle })
@@ -269,7 +243,7 @@ impl Node {
 
     /// Removes one mapping of the whole page. Fails with `NoPage`, `IsSplit` or `NotMapped`.
     pub fn unmap_whole(&mut self, caller: u32, page: u64) -> Result<Done, Fault> {
-        let mut told = sys::Done::default();
+        let mut told = sys::thp_done::default();
         // SAFETY: the handle is this node's own, and the result goes to a local.
         done(unsafe { sys::thp_node_unmap_whole(&mut self.handle, caller, page, &mut told) })?;
         Ok(Done::of(told))
@@ -285,7 +259,7 @@ impl Node {
     /// Removes one mapping of each of the `count` subpages from `first` on, which can queue or free the page. Fails with
     /// `NoPage`, `BadRange` or `NotMapped`.
     pub fn unmap_sub(&mut self, caller: u32, page: u64, first: u32, count: u32) -> Result<Done, Fault> {
-        let mut told = sys::Done::default();
+        let mut told = sys::thp_done::default();
         // SAFETY: the handle is this node's own, and the result goes to a local.
         done(unsafe { sys::thp_node_unmap_sub(&mut self.handle, caller, page, first, count, &mut told) })?;
         Ok(Done::of(told))
@@ -305,7 +279,7 @@ impl Node {
 
     /// Removes a pin, which can free the page. Fails with `NoPage`, `IsSplit` or `NotPinned`.
     pub fn unpin(&mut self, caller: u32, page: u64) -> Result<Done, Fault> {
-        let mut told = sys::Done::default();
+        let mut told = sys::thp_done::default();
         // SAFETY: the handle is this node's own, and the result goes to a local.
         done(unsafe { sys::thp_node_unpin(&mut self.handle, caller, page, &mut told) })?;
         Ok(Done::of(told))
@@ -334,7 +308,7 @@ impl Node {
     /// Takes up to `n` of the oldest queued pages (at most 128), in order, tries each, and returns the pinned ones. Fails with
     /// `BadCount` or `HasBatch`.
     pub fn scan(&mut self, caller: u32, n: u32) -> Result<Scan, Fault> {
-        let mut told = sys::Scan::default();
+        let mut told = sys::thp_scan::default();
         // SAFETY: the handle is this node's own, and the result goes to a local.
         done(unsafe { sys::thp_node_scan(&mut self.handle, caller, n, &mut told) })?;
         Ok(Scan::of(told))
@@ -357,7 +331,7 @@ impl Node {
 
     /// Tries the next page of the caller's open batch that is still in flight. Fails with `NoBatch`.
     pub fn split_next(&mut self, caller: u32) -> Result<Tried, Fault> {
-        let mut told = sys::Tried::default();
+        let mut told = sys::thp_tried::default();
         // SAFETY: the handle is this node's own, and the result goes to a local.
         done(unsafe { sys::thp_node_split_next(&mut self.handle, caller, &mut told) })?;
         Ok(Tried::of(told))
@@ -366,7 +340,7 @@ impl Node {
     /// Returns the remaining pages of the caller's open batch, and closes the batch. Fails with `NoBatch`; with `OutOfMemory` the
     /// batch stays open.
     pub fn put_back(&mut self, caller: u32) -> Result<Back, Fault> {
-        let mut told = sys::Back::default();
+        let mut told = sys::thp_back::default();
         // SAFETY: the handle is this node's own, and the result goes to a local.
         done(unsafe { sys::thp_node_put_back(&mut self.handle, caller, &mut told) })?;
         Ok(Back::of(told))
@@ -408,7 +382,7 @@ impl Node {
 
     /// Returns the state of a live page. Fails with `NoPage`.
     pub fn page(&self, page: u64) -> Result<PageState, Fault> {
-        let mut told = sys::PageState::default();
+        let mut told = sys::thp_page_state::default();
         // SAFETY: the handle is this node's own, and the result goes to a local.
         done(unsafe { sys::thp_node_page(&self.handle, page, &mut told) })?;
         Ok(PageState::of(told))
@@ -425,7 +399,7 @@ impl Node {
 
     /// Returns the node's statistics.
     pub fn stats(&self) -> Stats {
-        let mut told = sys::Stats::default();
+        let mut told = sys::thp_stats::default();
         // SAFETY: the handle is this node's own and is not empty, and the result goes to a local.
         unsafe { sys::thp_node_stats(&self.handle, &mut told) };
         Stats {
@@ -445,14 +419,13 @@ impl Node {
     /// Returns the journal as text, which [`check`](crate::check) reads. Fails with [`Fault::NoJournal`] if the node only counts
     /// its events, and with [`Fault::OutOfMemory`].
     pub fn journal(&self) -> Result<Vec<u8>, Fault> {
-        const TOO_SMALL: u32 = 19;
-        let mut text = Vec::new();
+        let mut text: Vec<u8> = Vec::new();
         let mut size = 0;
         loop {
             // SAFETY: the handle is this node's own, the buffer is the vector's, and the size is a local.
-            match unsafe { sys::thp_node_journal(&self.handle, text.as_mut_ptr(), text.len(), &mut size) } {
-                0 => return Ok(text),
-                TOO_SMALL => {
+            match unsafe { sys::thp_node_journal(&self.handle, text.as_mut_ptr().cast(), text.len(), &mut size) } {
+                sys::THP_OK => return Ok(text),
+                sys::THP_TOO_SMALL => {
                     text.try_reserve_exact(size).map_err(|_| Fault::OutOfMemory)?;
                     text.resize(size, 0);
                 }

@@ -2,10 +2,11 @@
 use std::fmt;
 use std::ops::Range;
 
+use leversorrel_sys as sys;
+
 use crate::batch::Batch;
 use crate::fault::{done, Fault};
-use crate::node::{threshold_of, Back, Done, Node, Scan, Tried};
-use crate::sys;
+use crate::node::{Back, Done, Node, Scan, Tried};
 
 /// A pass to a shared node: the right to call it as some of its callers.
 ///
@@ -14,9 +15,9 @@ use crate::sys;
 /// [`Fault::OutOfMemory`]. The last pass frees the node, unless [`Pass::finish`] returns it.
 ///
 /// ```
-/// use leversorrel::{Fault, Pass};
+/// use leversorrel::{Fault, NodeCell};
 ///
-/// let mut one = Pass::of_new_cell(16, 9, None, 2)?;
+/// let mut one = NodeCell::new(16, 9, None, 2)?.into_pass();
 /// let mut two = one.split(1)?;
 /// let page = one.alloc(0)?;
 /// two.split_pmd(1, page)?;
@@ -28,7 +29,7 @@ use crate::sys;
 /// # Ok::<(), Fault>(())
 /// ```
 pub struct Pass {
-    handle: sys::PassHandle,
+    handle: sys::thp_pass,
     // the number of the node's callers
     all: u32,
 }
@@ -38,22 +39,9 @@ pub struct Pass {
 unsafe impl Send for Pass {}
 
 impl Pass {
-    /// Creates a shared node of this shape, as [`Node::new`] does, and returns the pass of all its `callers` callers (1 to 64).
-    pub fn of_new_cell(blocks: u32, order: u32, underused: Option<u32>, callers: u32) -> Result<Pass, Fault> {
-        let threshold = threshold_of(underused)?;
-        let mut handle = sys::PassHandle::EMPTY;
-        // SAFETY: the handle is local and empty.
-        done(unsafe { sys::thp_cell_create(&mut handle, blocks, order, threshold, callers) })?;
-        Ok(Pass { handle, all: callers })
-    }
-
-    /// Creates a shared node as [`Pass::of_new_cell`] does, which only counts its events: see [`Node::counting`].
-    pub fn of_new_counting_cell(blocks: u32, order: u32, underused: Option<u32>, callers: u32) -> Result<Pass, Fault> {
-        let threshold = threshold_of(underused)?;
-        let mut handle = sys::PassHandle::EMPTY;
-        // SAFETY: the handle is local and empty.
-        done(unsafe { sys::thp_cell_create_counting(&mut handle, blocks, order, threshold, callers) })?;
-        Ok(Pass { handle, all: callers })
+    // The pass of all callers of a new cell, whose handle is filled and used by nothing else.
+    pub(crate) fn of(handle: sys::thp_pass, callers: u32) -> Pass {
+        Pass { handle, all: callers }
     }
 
     /// Returns the callers of the pass.
@@ -72,7 +60,7 @@ impl Pass {
     /// Divides the callers: those below `at` stay, and the result has those from `at` on. Fails with [`Fault::BadCaller`] if
     /// either part would be empty, and with [`Fault::OutOfMemory`].
     pub fn split(&mut self, at: u32) -> Result<Pass, Fault> {
-        let mut other = sys::PassHandle::EMPTY;
+        let mut other = sys::THP_PASS_INIT;
         // SAFETY: the handle is this pass's own, and the other is local and empty.
         done(unsafe { sys::thp_pass_split(&mut self.handle, at, &mut other) })?;
         Ok(Pass { handle: other, all: self.all })
@@ -91,7 +79,7 @@ impl Pass {
     /// Returns the node, if the pass has all callers, none of them has an open batch, and no other pass exists. Otherwise returns
     /// the pass and the reason.
     pub fn finish(mut self) -> Result<Node, (Pass, Fault)> {
-        let mut handle = sys::Handle::EMPTY;
+        let mut handle = sys::THP_NODE_INIT;
         // SAFETY: the handle is this pass's own, and the node's is local and empty.
         match done(unsafe { sys::thp_cell_finish(&mut self.handle, &mut handle) }) {
             Ok(()) => Ok(Node::of(handle)),
@@ -116,7 +104,7 @@ impl Pass {
     /// Removes one mapping of each of the `count` subpages from `first` on, which can queue or free the page. Fails with
     /// `NoPage`, `BadRange` or `NotMapped`.
     pub fn unmap_sub(&mut self, caller: u32, page: u64, first: u32, count: u32) -> Result<Done, Fault> {
-        let mut told = sys::Done::default();
+        let mut told = sys::thp_done::default();
         // SAFETY: the handle is this pass's own, and the result goes to a local.
         done(unsafe { sys::thp_pass_unmap_sub(&mut self.handle, caller, page, first, count, &mut told) })?;
         Ok(Done::of(told))
@@ -163,7 +151,7 @@ impl Pass {
 
     /// Removes one mapping of the whole page. Fails with `NoPage`, `IsSplit` or `NotMapped`.
     pub fn unmap_whole(&mut self, caller: u32, page: u64) -> Result<Done, Fault> {
-        let mut told = sys::Done::default();
+        let mut told = sys::thp_done::default();
         // SAFETY: the handle is this pass's own, and the result goes to a local.
         done(unsafe { sys::thp_pass_unmap_whole(&mut self.handle, caller, page, &mut told) })?;
         Ok(Done::of(told))
@@ -171,7 +159,7 @@ impl Pass {
 
     /// Removes a pin, which can free the page. Fails with `NoPage`, `IsSplit` or `NotPinned`.
     pub fn unpin(&mut self, caller: u32, page: u64) -> Result<Done, Fault> {
-        let mut told = sys::Done::default();
+        let mut told = sys::thp_done::default();
         // SAFETY: the handle is this pass's own, and the result goes to a local.
         done(unsafe { sys::thp_pass_unpin(&mut self.handle, caller, page, &mut told) })?;
         Ok(Done::of(told))
@@ -180,7 +168,7 @@ impl Pass {
     /// Takes up to `n` of the oldest queued pages (at most 128), in order, tries each, and returns the pinned ones. Fails with
     /// `BadCount` or `HasBatch`.
     pub fn scan(&mut self, caller: u32, n: u32) -> Result<Scan, Fault> {
-        let mut told = sys::Scan::default();
+        let mut told = sys::thp_scan::default();
         // SAFETY: the handle is this pass's own, and the result goes to a local.
         done(unsafe { sys::thp_pass_scan(&mut self.handle, caller, n, &mut told) })?;
         Ok(Scan::of(told))
@@ -203,7 +191,7 @@ impl Pass {
 
     /// Tries the next page of the caller's open batch that is still in flight. Fails with `NoBatch`.
     pub fn split_next(&mut self, caller: u32) -> Result<Tried, Fault> {
-        let mut told = sys::Tried::default();
+        let mut told = sys::thp_tried::default();
         // SAFETY: the handle is this pass's own, and the result goes to a local.
         done(unsafe { sys::thp_pass_split_next(&mut self.handle, caller, &mut told) })?;
         Ok(Tried::of(told))
@@ -212,7 +200,7 @@ impl Pass {
     /// Returns the remaining pages of the caller's open batch, and closes the batch. Fails with `NoBatch`; with any other error
     /// the batch stays open.
     pub fn put_back(&mut self, caller: u32) -> Result<Back, Fault> {
-        let mut told = sys::Back::default();
+        let mut told = sys::thp_back::default();
         // SAFETY: the handle is this pass's own, and the result goes to a local.
         done(unsafe { sys::thp_pass_put_back(&mut self.handle, caller, &mut told) })?;
         Ok(Back::of(told))
@@ -227,7 +215,7 @@ impl Pass {
     /// Returns the number of queued pages, even while another pass has the node.
     pub fn count(&mut self) -> u32 {
         let mut pages = 0;
-        // SAFETY: the handle is this pass's own and leads to a pass, and the number is a local.
+        // SAFETY: the handle is this pass's own and is not empty, and the number is a local.
         unsafe { sys::thp_pass_count(&mut self.handle, &mut pages) };
         pages
     }
@@ -235,7 +223,7 @@ impl Pass {
 
 impl Drop for Pass {
     fn drop(&mut self) {
-        // SAFETY: the handle is this pass's own. It leads to nothing where the pass was joined or finished, which is told alone.
+        // SAFETY: the handle is this pass's own. It is empty if the pass was joined or finished; the call then has no effect.
         unsafe { sys::thp_pass_destroy(&mut self.handle) };
     }
 }

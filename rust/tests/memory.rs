@@ -4,17 +4,10 @@
 use std::ffi::c_void;
 use std::sync::atomic::{AtomicIsize, Ordering::SeqCst};
 
-use leversorrel::{check, Cell, Check, Fault, Node, Pass, Verdict};
-
-#[repr(C)]
-struct Allocator {
-    allocate: extern "C" fn(usize) -> *mut c_void,
-    resize: extern "C" fn(*mut c_void, usize) -> *mut c_void,
-    give_back: extern "C" fn(*mut c_void),
-}
+use leversorrel::{check, Check, Fault, Node, NodeCell, Verdict};
+use leversorrel_sys::{thp_allocator, thp_use_allocator, THP_OK};
 
 extern "C" {
-    fn thp_use_allocator(allocator: *const Allocator) -> u32;
     fn malloc(size: usize) -> *mut c_void;
     fn realloc(memory: *mut c_void, size: usize) -> *mut c_void;
     fn free(memory: *mut c_void);
@@ -28,7 +21,7 @@ fn is_refused() -> bool {
     LEFT.fetch_sub(1, SeqCst) <= 0
 }
 
-extern "C" fn allocate(size: usize) -> *mut c_void {
+unsafe extern "C" fn allocate(size: usize) -> *mut c_void {
     if is_refused() {
         return std::ptr::null_mut();
     }
@@ -37,7 +30,7 @@ extern "C" fn allocate(size: usize) -> *mut c_void {
     unsafe { malloc(size) }
 }
 
-extern "C" fn resize(memory: *mut c_void, size: usize) -> *mut c_void {
+unsafe extern "C" fn resize(memory: *mut c_void, size: usize) -> *mut c_void {
     if is_refused() {
         return std::ptr::null_mut();
     }
@@ -45,7 +38,7 @@ extern "C" fn resize(memory: *mut c_void, size: usize) -> *mut c_void {
     unsafe { realloc(memory, size) }
 }
 
-extern "C" fn give_back(memory: *mut c_void) {
+unsafe extern "C" fn give_back(memory: *mut c_void) {
     HELD.fetch_sub(1, SeqCst);
     // SAFETY: the library gives back what it was given.
     unsafe { free(memory) }
@@ -60,11 +53,11 @@ fn use_all() -> Result<(), Fault> {
     node.split_pmd(0, page)?;
     node.unmap_sub(0, page, 0, 2)?;
     drop(node.batch(0, 8)?);
-    let mut one = Pass::of_new_cell(4, 2, None, 3)?;
+    let mut one = NodeCell::new(4, 2, None, 3)?.into_pass();
     let two = one.split(1)?;
     drop(two);
-    let cell = Cell::new(4, 2, None, 2)?;
-    drop(cell.passes().map_err(Fault::from)?);
+    let cell = NodeCell::new(4, 2, None, 2)?;
+    drop(cell.into_passes().map_err(Fault::from)?);
     let mut lost = Check::new()?;
     lost.read(LEGAL)?;
     assert_eq!(lost.finish()?, Verdict::Legal);
@@ -87,8 +80,9 @@ fn lose_a_check() -> Result<(), Fault> {
 
 #[test]
 fn memory_comes_back_and_its_want_is_an_error() {
+    let own = thp_allocator { allocate: Some(allocate), resize: Some(resize), give_back: Some(give_back) };
     // SAFETY: the functions are static, and this is the first call of the library.
-    assert_eq!(unsafe { thp_use_allocator(&Allocator { allocate, resize, give_back }) }, 0);
+    assert_eq!(unsafe { thp_use_allocator(&own) }, THP_OK);
     assert_eq!((use_all(), HELD.load(SeqCst)), (Ok(()), 0));
     for calls in [use_all, lose_a_check] {
         for granted in 0.. {

@@ -1,9 +1,9 @@
 //! Each call of a pass, and what it answers.
-use leversorrel::{check, Back, Cell, Fault, Outcome, Pass, Tried, Verdict};
+use leversorrel::{check, Back, Fault, NodeCell, Outcome, Pass, Tried, Verdict};
 
 #[test]
 fn two_passes_have_one_journal() -> Result<(), Fault> {
-    let mut one = Pass::of_new_cell(16, 2, None, 3)?;
+    let mut one = NodeCell::new(16, 2, None, 3)?.into_pass();
     let mut two = one.split(2)?;
     assert_eq!((one.callers(), two.callers()), (0..2, 2..3));
     for caller in [0, 1] {
@@ -26,7 +26,7 @@ fn two_passes_have_one_journal() -> Result<(), Fault> {
 
 #[test]
 fn four_threads_share_a_node() -> Result<(), Fault> {
-    let mut first = Pass::of_new_cell(16, 2, None, 4)?;
+    let mut first = NodeCell::new(16, 2, None, 4)?.into_pass();
     let others = [first.split(3)?, first.split(2)?, first.split(1)?];
     let threads = others.into_iter().zip([3, 2, 1]).map(|(pass, caller)| std::thread::spawn(move || lives(pass, caller)));
     let threads: Vec<_> = threads.collect();
@@ -62,14 +62,14 @@ fn free<T>(mut call: impl FnMut() -> Result<T, Fault>) -> Result<T, Fault> {
 
 #[test]
 fn what_does_not_fit_is_handed_back() -> Result<(), Fault> {
-    assert_eq!(Pass::of_new_cell(1, 2, None, 65).err(), Some(Fault::BadSize));
-    assert_eq!(Pass::of_new_cell(1, 2, Some(512), 1).err(), Some(Fault::BadSize));
-    let mut one = Pass::of_new_cell(1, 2, None, 2)?;
+    assert_eq!(NodeCell::new(1, 2, None, 65).err(), Some(Fault::BadSize));
+    assert_eq!(NodeCell::new(1, 2, Some(512), 1).err(), Some(Fault::BadSize));
+    let mut one = NodeCell::new(1, 2, None, 2)?.into_pass();
     assert_eq!(one.split(0).err(), Some(Fault::BadCaller));
     assert_eq!(one.alloc(2), Err(Fault::BadCaller));
     let mut two = one.split(1)?;
     assert_eq!(two.scan(1, 129), Err(Fault::BadCount));
-    let stranger = Pass::of_new_cell(1, 2, None, 2)?;
+    let stranger = NodeCell::new(1, 2, None, 2)?.into_pass();
     let Err((stranger, Fault::BadPass)) = one.join(stranger) else {
         panic!("a pass of another node was joined");
     };
@@ -84,7 +84,7 @@ fn what_does_not_fit_is_handed_back() -> Result<(), Fault> {
 
 #[test]
 fn batches_go_with_their_callers() -> Result<(), Fault> {
-    let mut one = Pass::of_new_cell(16, 2, None, 3)?;
+    let mut one = NodeCell::new(16, 2, None, 3)?.into_pass();
     for caller in 0..3 {
         let page = one.alloc(caller)?;
         one.split_pmd(caller, page)?;
@@ -111,22 +111,22 @@ fn batches_go_with_their_callers() -> Result<(), Fault> {
 
 #[test]
 fn a_cell_that_counts_has_no_journal() -> Result<(), Fault> {
-    let mut passes = Cell::counting(4, 2, None, 2)?.passes().map_err(|(_, fault)| fault)?;
+    let mut passes = NodeCell::counting(4, 2, None, 2)?.into_passes().map_err(|(_, fault)| fault)?;
     let page = passes[0].alloc(0)?;
     passes[1].split_pmd(1, page)?;
     passes[1].unmap_sub(1, page, 0, 2)?;
     assert_eq!(passes[0].scan(0, 8)?.split, 1);
-    let node = Cell::of(passes).map_err(|(_, fault)| fault)?.finish().map_err(|(_, fault)| fault)?;
+    let node = NodeCell::from_passes(passes).map_err(|(_, fault)| fault)?.finish().map_err(|(_, fault)| fault)?;
     assert_eq!((node.stats().frames_given, node.stats().events), (2, 5));
     assert_eq!(node.journal(), Err(Fault::NoJournal));
     assert_eq!(node.queue(), Err(Fault::NoJournal));
-    assert_eq!(Cell::counting(4, 2, Some(512), 2).err(), Some(Fault::BadSize));
+    assert_eq!(NodeCell::counting(4, 2, Some(512), 2).err(), Some(Fault::BadSize));
     Ok(())
 }
 
 #[test]
 fn a_batch_that_is_dropped_is_put_back() -> Result<(), Fault> {
-    let mut pass = Cell::new(4, 2, None, 2)?.into_pass();
+    let mut pass = NodeCell::new(4, 2, None, 2)?.into_pass();
     let page = pass.alloc(0)?;
     pass.split_pmd(0, page)?;
     pass.unmap_sub(0, page, 0, 2)?;
@@ -142,18 +142,18 @@ fn a_batch_that_is_dropped_is_put_back() -> Result<(), Fault> {
 
 #[test]
 fn a_cell_is_made_of_its_passes_alone() -> Result<(), Fault> {
-    let mut passes = Cell::new(4, 2, None, 3)?.passes().map_err(|(_, fault)| fault)?;
+    let mut passes = NodeCell::new(4, 2, None, 3)?.into_passes().map_err(|(_, fault)| fault)?;
     assert_eq!(passes.len(), 3);
     let last = passes.remove(1);
-    let Err((passes, Fault::BadPass)) = Cell::of(passes) else {
+    let Err((passes, Fault::BadPass)) = NodeCell::from_passes(passes) else {
         panic!("a cell was made of some of its passes");
     };
-    let stranger = Pass::of_new_cell(4, 2, None, 1)?;
-    assert!(matches!(Cell::of(vec![stranger, last]), Err((_, Fault::BadPass))));
-    assert!(matches!(Cell::of(passes), Err((_, Fault::BadPass))));
-    assert!(matches!(Cell::of(Vec::new()), Err((_, Fault::BadPass))));
-    let passes = Cell::new(4, 2, None, 3)?.passes().map_err(|(_, fault)| fault)?;
-    let cell = Cell::of(passes.into_iter().rev().collect()).map_err(|(_, fault)| fault)?;
+    let stranger = NodeCell::new(4, 2, None, 1)?.into_pass();
+    assert!(matches!(NodeCell::from_passes(vec![stranger, last]), Err((_, Fault::BadPass))));
+    assert!(matches!(NodeCell::from_passes(passes), Err((_, Fault::BadPass))));
+    assert!(matches!(NodeCell::from_passes(Vec::new()), Err((_, Fault::BadPass))));
+    let passes = NodeCell::new(4, 2, None, 3)?.into_passes().map_err(|(_, fault)| fault)?;
+    let cell = NodeCell::from_passes(passes.into_iter().rev().collect()).map_err(|(_, fault)| fault)?;
     assert!(cell.finish().is_ok());
     Ok(())
 }

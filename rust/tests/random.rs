@@ -8,7 +8,7 @@ use std::env;
 use std::io::{self, Write};
 use std::process::{Command, Stdio};
 
-use leversorrel::{check, Check, Done, Fault, Node, Outcome, Pass, SubSet, Tried, Verdict};
+use leversorrel::{check, Check, Done, Fault, Node, NodeCell, Outcome, Pass, SubSet, Tried, Verdict};
 
 /// Numbers that look random, the same ones for the same seed: SplitMix64.
 struct Chance(u64);
@@ -120,7 +120,7 @@ impl Way {
     fn new(shape: Shape, is_shared: bool) -> Way {
         let Shape { blocks, order, underused } = shape;
         if is_shared {
-            Way::Shared { lower: Pass::of_new_cell(blocks, order, underused, CALLERS).unwrap(), upper: None }
+            Way::Shared { lower: NodeCell::new(blocks, order, underused, CALLERS).unwrap().into_pass(), upper: None }
         } else {
             Way::Own(Node::new(blocks, order, underused).unwrap())
         }
@@ -153,7 +153,7 @@ impl Way {
     /// The node, which is shared no more.
     fn node(&mut self) -> &mut Node {
         if let Way::Shared { lower, upper } = self {
-            let mut whole = std::mem::replace(lower, Pass::of_new_cell(1, 2, None, 1).unwrap());
+            let mut whole = std::mem::replace(lower, NodeCell::new(1, 2, None, 1).unwrap().into_pass());
             if let Some(upper) = upper.take() {
                 whole.join(upper).unwrap();
             }
@@ -489,7 +489,8 @@ fn differing_in_parts(chance: &mut Chance, journal: &[u8]) -> Option<String> {
         Ok(Verdict::Illegal { line }) => reason.as_ref().is_ok_and(|text| text.starts_with(&format!("line {line}: "))),
         _ => reason == Err(Fault::NoReason),
     };
-    (one != other || !is_told).then(|| format!("{one:?} in place of {other:?}, and {reason:?}, of {:?}", String::from_utf8_lossy(text)))
+    (one != other || !is_told)
+        .then(|| format!("{one:?} in place of {other:?}, and {reason:?}, of {:?}", String::from_utf8_lossy(text)))
 }
 
 /// The first line that two texts have otherwise.
