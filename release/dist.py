@@ -19,6 +19,8 @@ import shutil
 import sys
 import tarfile
 import tempfile
+from concurrent.futures import ThreadPoolExecutor
+from itertools import repeat
 from pathlib import Path
 
 from platforms import AMD64, Platform
@@ -140,11 +142,12 @@ def make(built: list[Path], folder: Path, platform: Platform) -> list[Path]:
         strip(stage, debug, platform)
         check_protection(stage)
         text = proof(of, lines, built, stage, platform)
-        made = []
-        for place, end in zip((stage, debug, source), ends):
+        places = [stage, debug, source][: len(ends)]
+        for place in places:
             (place / "PROOF").write_text(text)
-            made.append(Path(room) / f"{name}{end}.tar.xz")
-            pack(place, made[-1], of.date)
+        made = [Path(room) / f"{name}{end}.tar.xz" for end in ends]
+        with ThreadPoolExecutor() as pool:
+            list(pool.map(pack, places, made, repeat(of.date)))
         made.append(Path(room) / sums(platform))
         made[-1].write_text("".join(f"{hash_of(path)}  {path.name}\n" for path in made[:-1]))
         folder.mkdir(parents=True, exist_ok=True)

@@ -98,8 +98,8 @@ def axioms(lines: dict[str, str]) -> str:
 def unproved(platform: Platform) -> str:
     """What is built of code that is not proved."""
     if platform.has_tools:
-        return "the C half of libthp (c/thp.c), thpreplay, thprecord, thpvm and thpwhatif with their helpers, and the crate for Rust"
-    return "the C half of libthp (c/thp.c), what the programs ask of C (c/host.c), and the crate for Rust"
+        return "the C half of libthp (c/thp.c), thpreplay, thprecord, thpvm and thpwhatif with their helpers, and the crates for Rust"
+    return "the C half of libthp (c/thp.c), what the programs ask of C (c/host.c), and the crates for Rust"
 
 
 def statement(of: Commit, lines: dict[str, str], platform: Platform, library: str, glibc: str = "") -> str:
