@@ -172,6 +172,7 @@ $(ARCHIVE):
 c: toolchain $(ARCHIVE)
 	@python3 tests/library.py $(ARCHIVE) $(if $(GIVEN),$(GIVEN) --cases $(CASES) --seed $(SEED))
 	@python3 tests/wrong_boundary.py $(ARCHIVE)
+	@python3 tests/injected_bugs.py $(ARCHIVE)
 
 edits:
 	@bash tests/edits/run $(CRATES)

@@ -62,11 +62,15 @@ endforeach()
 """A project that links the first demo with either library."""
 
 RUST = """room=$(mktemp -d); trap 'rm -rf "$room"' EXIT; mkdir "$room/src"
+crates=$PWD/rust
 sed -n '/^```rust$/,/^```$/{/^```/d;p}' rust/README.md > "$room/src/main.rs"
 printf '%s\\n' '[package]' 'name = "use"' 'version = "0.0.0"' 'edition = "2021"' '[dependencies]' \\
-    "leversorrel = { path = \\"$PWD/rust\\" }" > "$room/Cargo.toml"
+    "leversorrel = { path = \\"$crates\\" }" > "$room/Cargo.toml"
 PATH=/mnt/bin:$PATH CARGO_HOME=$room/home cargo run --offline --quiet --manifest-path "$room/Cargo.toml\""""
-"""A script that builds the program of the crate's README with the crate and the library of the archive, and runs it."""
+"""A script that builds the program of the crate's README with the crates and the library of the archive, and runs it."""
+
+RUST_PACKAGED = RUST.replace("crates=$PWD/rust", 'crates=$room/crates; cp -R rust "$crates"')
+"""The same where the crates are alone, so that they look for a packaged library."""
 
 NOBODY = "65534:65534"
 
@@ -77,6 +81,13 @@ def called(words: list[str]) -> subprocess.CompletedProcess[str]:
     plain = {"PATH": "/usr/sbin:/usr/bin:/sbin:/bin", "LC_ALL": "C.UTF-8", "HOME": "/tmp", "DEBIAN_FRONTEND": "noninteractive"}
     return subprocess.run(whole, stdin=subprocess.DEVNULL, capture_output=True, text=True, errors="replace", timeout=SECONDS, env=plain,
                           check=False)
+
+
+def cargo_of_machine() -> str | None:
+    """The folder that has cargo and the compiler of this machine, if it has them."""
+    if shutil.which("rustc") is None:
+        return None
+    return subprocess.run(["rustc", "--print", "sysroot"], capture_output=True, text=True, check=True).stdout.strip()
 
 
 class Root:
@@ -176,10 +187,10 @@ class Root:
 
     def builds_by_cargo(self) -> str | None:
         """A program in Rust is built by the cargo of this machine, and its assertions hold."""
-        if shutil.which("rustc") is None:
+        cargo = cargo_of_machine()
+        if cargo is None:
             raise Missing("no cargo here")
-        done = subprocess.run(["rustc", "--print", "sysroot"], capture_output=True, text=True, check=True)
-        return self.differs(RUST, lent=done.stdout.strip())
+        return self.differs(RUST, lent=cargo)
 
     def whatif_looks(self) -> str | None:
         """As root, thpwhatif prints its table about the running system."""
@@ -196,13 +207,15 @@ class Root:
         return {name for name in found if not name.startswith(("var/lib/dpkg/", "var/log/", "var/cache/", "opt/", "etc/ld.so.cache"))}
 
     def packages_come_and_go(self, packages: list[Path], script: str) -> str | None:
-        """The packages are installed, a script runs, they are removed, and nothing of them is left."""
+        """The packages are installed, a script runs, a program in Rust is built, they are removed, and nothing of them is left."""
         before, room = self.files(), self.path / "tmp/packages"
         room.mkdir(mode=0o755)
         for path in packages:
             shutil.copy(path, room)
         names = " ".join(path.name.split("_")[0] for path in packages)
+        cargo = cargo_of_machine()
         wrong = self.differs("dpkg --install /tmp/packages/*.deb", user="0:0") or self.differs(script)
+        wrong = wrong or (self.differs(RUST_PACKAGED, lent=cargo) if cargo else None)
         wrong = wrong or self.differs(f"dpkg --purge {names}", user="0:0")
         shutil.rmtree(room)
         left = sorted(self.files() - before)

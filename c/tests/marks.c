@@ -1,13 +1,18 @@
-/* Passes of two cells are never joined: cells are told apart where as many lie between them as numbers of 8 or 16 bits can count,
-   and where several threads create them at once (the thread sanitizer sees whether they are counted in one step). */
+/* Passes of two cells are never joined: not where as many cells were created between them as numbers of 8 or 16 bits can count, and
+   not where several threads create cells at once (the thread sanitizer sees whether they are counted in one step). Both kinds of
+   cells are counted together. */
 #include "wanted.h"
 
 #include <pthread.h>
 
+/* creates a cell, of either kind */
+typedef thp_code create(thp_pass *pass, uint32_t blocks, uint32_t order, uint32_t underused, uint32_t callers);
+static create *const KINDS[] = {thp_cell_create, thp_cell_create_counting};
+
 /* the pass of the first caller of a new cell, or of the second one; its other pass is destroyed */
-static thp_pass pass_of_new_cell(int is_second) {
+static thp_pass pass_of_new_cell(create *kind, int is_second) {
     thp_pass first = THP_PASS_INIT, second = THP_PASS_INIT;
-    ANSWERS(thp_cell_create(&first, 1, 2, THP_UNDERUSED_OFF, 2), THP_OK);
+    ANSWERS(kind(&first, 1, 2, THP_UNDERUSED_OFF, 2), THP_OK);
     ANSWERS(thp_pass_split(&first, 1, &second), THP_OK);
     ANSWERS(thp_pass_destroy(is_second ? &first : &second), THP_OK);
     return is_second ? second : first;
@@ -18,7 +23,7 @@ static void *create_cells(void *unused) {
     (void)unused;
     for (int cell = 0; cell < 100; cell++) {
         thp_pass pass = THP_PASS_INIT;
-        if (thp_cell_create(&pass, 1, 2, THP_UNDERUSED_OFF, 1) != THP_OK || thp_pass_destroy(&pass) != THP_OK) return failed;
+        if (KINDS[cell % 2](&pass, 1, 2, THP_UNDERUSED_OFF, 1) != THP_OK || thp_pass_destroy(&pass) != THP_OK) return failed;
     }
     return NULL;
 }
@@ -31,17 +36,18 @@ int main(void) {
         void *failed = NULL;
         WANT(pthread_join(threads[i], &failed) == 0 && failed == NULL);
     }
-    thp_pass first = pass_of_new_cell(0);
-    for (uint32_t after = 1; after <= 65536; after++) {
-        if (after == 256 || after == 65536) {
-            thp_pass other = pass_of_new_cell(1);
-            ANSWERS(thp_pass_join(&first, &other), THP_BAD_PASS);
+    thp_pass firsts[2];
+    for (int kind = 0; kind < 2; kind++) firsts[kind] = pass_of_new_cell(KINDS[kind], 0);
+    for (uint32_t after = 2; after <= 65537; after++) {
+        if (after / 2 == 128 || after / 2 == 32768) {
+            thp_pass other = pass_of_new_cell(KINDS[after % 2], 1);
+            ANSWERS(thp_pass_join(&firsts[after % 2], &other), THP_BAD_PASS);
             ANSWERS(thp_pass_destroy(&other), THP_OK);
         } else {
             thp_pass pass = THP_PASS_INIT;
-            if (thp_cell_create(&pass, 1, 2, THP_UNDERUSED_OFF, 1) != THP_OK || thp_pass_destroy(&pass) != THP_OK) failures++;
+            if (KINDS[after % 2](&pass, 1, 2, THP_UNDERUSED_OFF, 1) != THP_OK || thp_pass_destroy(&pass) != THP_OK) failures++;
         }
     }
-    ANSWERS(thp_pass_destroy(&first), THP_OK);
+    for (int kind = 0; kind < 2; kind++) ANSWERS(thp_pass_destroy(&firsts[kind]), THP_OK);
     return failures != 0;
 }
