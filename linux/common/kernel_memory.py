@@ -145,7 +145,7 @@ class KernelMemory:
 
     def links(self, head: int, limit: int = 1 << 20) -> List[int]:
         """Returns the addresses of a list's links, without its head (struct list_head)."""
-        self._walker = self._walker or self.load(_walker)
+        self._walker = self._walker or self._load_walker()
         for _ in range(TRIES):
             out: List[int] = []
             at = head
@@ -157,6 +157,12 @@ class KernelMemory:
                 if at == head:
                     return out
         raise ListChanged(f"the list at {head:#x} changes all the time")
+
+    def _load_walker(self) -> int:
+        try:
+            return self.load(_limited_walker)
+        except Unavailable:  # before Linux 6.10 the verifier follows each round of the loop, which takes 20 ms
+            return self.load(_walker)
 
     # control groups and queues
 
@@ -325,13 +331,20 @@ def build_copier(words: int) -> Assembler:
     return code.set(0, 0).label("out").exit()
 
 
-def _walker(window: int) -> Assembler:
+def _walker(window: int, is_limited: bool = False) -> Assembler:
     """Follows links from r6 on until r7 or LINKS of them: into the window the count, the last link's next, the
-    links."""
-    code = begin(window).set(8, 0)
+    links. `is_limited`: the kernel limits the rounds of the loop, and the verifier knows nothing of their count, r8."""
+    code = begin(window).set(8, 0).store(9, 0, 8)
     code.move(3, 6).read_kernel(-16, 8).load(6, 10, -16).jump("out", "!=", 0, 0)
-    code.label("next").jump("end", "==", 6, right=7).jump("full", ">=", 8, LINKS)
-    code.move(1, 8).shift_left(1, 3).add_register(1, 9).store(1, 16, 6).add(8, 1)
+    code.label("next").jump("end", "==", 6, right=7)
+    if is_limited:
+        code.set(0, 1).loop_end("out").load(8, 9, 0)
+    code.jump("full", ">=", 8, LINKS).move(1, 8).shift_left(1, 3).add_register(1, 9).store(1, 16, 6)
+    code.add(8, 1).store(9, 0, 8)
     code.move(3, 6).read_kernel(-16, 8).jump("out", "!=", 0, 0).load(6, 10, -16).jump("next")
     code.label("full").load(6, 9, 16 + 8 * (LINKS - 1))  # the last link stored: the next run goes on from it
-    return code.label("end").store(9, 0, 8).store(9, 8, 6).set(0, 0).label("out").exit()
+    return code.label("end").store(9, 8, 6).set(0, 0).label("out").exit()
+
+
+def _limited_walker(window: int) -> Assembler:
+    return _walker(window, True)

@@ -70,9 +70,10 @@ class KindPredictor:
         self._counts: Counter[Tuple[int, int, By]] = Counter()  # pages by kind, control group and processes
         self._queues: Dict[Group, List[Tuple[bool, int, int, int]]] = {}  # of each page: what orders a queue, the kind
         self._sums: Dict[Group, Counter[int]] = {}  # pages by kind
+        locked_are_tried = snapshot.locked_are_tried
         for folio in snapshot.folios:
             try:
-                self._add(plan_page(folio, snapshot.locked_are_tried))
+                self._add(plan_page(folio, locked_are_tried))
             except NotExpressible as why:
                 snapshot.left_out[why.reason.value] += 1
         self._partly = [kind.is_partly for kind in self._kinds]

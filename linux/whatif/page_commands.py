@@ -20,7 +20,7 @@ from typing import Dict, List, Sequence
 
 from ..common.files import PMD_ORDER
 from ..common.subpages import size
-from .folios import Folio, full_set, runs
+from .folios import Folio, even_counts, full_set, runs
 
 BYTE = 255
 LEVELS = 32  # map counts and pins beyond this are written as this many: more change no answer
@@ -84,7 +84,7 @@ def plan_page(folio: Folio, locked_are_tried: bool = False) -> PagePlan:
 
 def is_even(totals: Sequence[int]) -> bool:
     """Returns whether all subpages are mapped as often as the first: true of most pages."""
-    return totals.count(totals[0]) == len(totals)
+    return totals is even_counts(totals[0], len(totals)) or totals.count(totals[0]) == len(totals)
 
 
 def count_runs(subset: int) -> int:

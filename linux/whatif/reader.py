@@ -4,7 +4,8 @@ Nothing is changed by it: page tables by PAGEMAP_SCAN and /proc/PID/pagemap, fra
 kpagecgroup, content by the kernel's own map of memory. Where that can't be read, and a second time of a sample, content is
 read by /proc/PID/mem, which may count as an access to a page, as any read does.
 
-All steps up to `read_sample` read; they run while processes are held. `finish` computes, and reads nothing.
+All steps up to `read_sample` read; they run while processes are held. `finish` computes, and reads nothing. Content is
+read in threads while the main thread reads what else there is of the pages: `begin_zeros` begins, `read_zeros` ends it.
 """
 
 from __future__ import annotations
@@ -21,8 +22,8 @@ from bisect import bisect_right
 from collections import Counter, defaultdict, deque
 from concurrent.futures import Future, ThreadPoolExecutor
 from dataclasses import dataclass, replace
-from functools import lru_cache
-from typing import Callable, Deque, Dict, Iterator, List, Optional, Sequence, Set, Tuple
+from functools import lru_cache, partial
+from typing import Callable, Deque, Dict, Iterator, List, Optional, Sequence, Set, Tuple, TypeVar
 
 from ..common.direct_map import DirectMap
 from ..common.errors import Unavailable
@@ -34,6 +35,7 @@ from .folios import Folio, Mapping, compact_counts
 from .proc import Unreadable, locked_bytes, path_of
 
 Progress = Callable[[str, int, int], None]  # what is done, how many of how many
+Result = TypeVar("Result")
 MOVED = "huge pages that changed while they were read"
 PARTS_MOVED = "parts of huge pages that changed while they were read"
 SMALL = "huge pages below PMD size (--orders has them)"
@@ -149,7 +151,8 @@ class Reader:
         self._progress = progress or (lambda what, done, descriptor_of: None)
         self._most = (memory << 20) // (PIECE_COST + FOLIO_COST)
         self._own, self._span_room = threading.local(), Room(MOST_LOCKED * 16)
-        self._known = Room(KNOWN)
+        self._known, self._scanner = Room(KNOWN), ThreadPoolExecutor(1)
+        self._scans: List[Tuple[List[Folio], Future[bytes]]] = []  # content that is being read
         self._files = [open_numbers(f"/proc/kpage{name}") for name in ("flags", "count")]
         try:
             self._files.append(open_numbers("/proc/kpagecgroup"))
@@ -167,7 +170,8 @@ class Reader:
         self.spent: Dict[str, float] = defaultdict(float)  # seconds by step
 
     def close(self) -> None:
-        """Closes the kernel's files."""
+        """Ends what is still being read, and closes the kernel's files."""
+        self._scanner.shutdown(cancel_futures=True)
         for file in self._files:
             os.close(file)
         self._files = []
@@ -183,17 +187,9 @@ class Reader:
         with ThreadPoolExecutor(self._threads) as pool:
             for index, process in enumerate(processes):
                 begun = index + len(waiting)
-                waiting.extend(self._begin(pool, each) for each in processes[begun : index + 2 * self._threads])
+                for each in processes[begun : index + 2 * self._threads]:
+                    waiting.append(begin(pool, partial(self.walk, each, MOST_WALKED)))
                 yield process, waiting.popleft().result()
-
-    def _begin(self, pool: ThreadPoolExecutor, process: int) -> Future[Walk]:
-        """Begins to walk in a thread, or walks at once where there can be no further thread."""
-        try:
-            return pool.submit(self.walk, process, MOST_WALKED)
-        except RuntimeError:
-            walked: Future[Walk] = Future()
-            walked.set_result(self.walk(process, MOST_WALKED))
-            return walked
 
     def walk(self, process: int, most: int) -> Walk:
         """Walks the page tables of a process, up to so many pieces."""
@@ -274,23 +270,43 @@ class Reader:
         raw = os.pread(self._files[1], 8 * folio.size, 8 * folio.frame).ljust(8 * folio.size, b"\0")
         folio.totals = compact_counts(array("Q", raw))
 
+    def begin_zeros(self) -> None:
+        """Begins to read content by the kernel's map of memory, where that is found."""
+        folios = list(self.folios.values()) if self._direct else []
+        for first in range(0, len(folios), BATCH):
+            batch = folios[first : first + BATCH]
+            self._scans.append((batch, begin(self._scanner, partial(self._scan, batch))))
+
     def read_zeros(self) -> None:
         """Finds which subpages are zero-filled. What can't be read isn't `known`."""
         began = time.monotonic()
-        folios = list(self.folios.values())
-        for first in range(0, len(folios), BATCH):
-            batch = folios[first : first + BATCH]
-            self._read_content(self._scan(batch, self._direct) if self._direct else batch)
-            self._progress("reading content", first + len(batch), len(folios))
+        if not self._scans:
+            self.begin_zeros()
+        rest = [] if self._scans else list(self.folios.values())
+        done, of = 0, sum(len(batch) for batch, _ in self._scans)
+        for batch, scan in self._scans:
+            rest += self._take_zeros(batch, scan.result())
+            done += len(batch)
+            self._progress("reading content", done, of)
+        self._scans = []
+        for first in range(0, len(rest), BATCH):
+            self._read_content(rest[first : first + BATCH])
+            self._progress("reading content", min(first + BATCH, len(rest)), len(rest))
         self.spent["content"] += time.monotonic() - began
 
-    def _scan(self, folios: List[Folio], direct: DirectMap) -> List[Folio]:
-        """Reads pages by the kernel's map of memory; returns those that can't be read so."""
-        raw = bytearray().join(CONTENT.pack(direct.address_of(folio.frame), folio.size, 0, b"") for folio in folios)
+    def _scan(self, folios: List[Folio]) -> bytes:
+        """Reads pages by the kernel's map of memory; returns the answers of pages.c."""
+        assert self._direct
+        addresses = [self._direct.address_of(folio.frame) for folio in folios]
+        raw = bytearray().join(CONTENT.pack(at, folio.size, 0, b"") for at, folio in zip(addresses, folios))
         room = (ctypes.c_char * len(raw)).from_buffer(raw)
-        self._library.scan_frames(direct.program, ctypes.addressof(room), len(folios), self._threads)
+        self._library.scan_frames(self._direct.program, ctypes.addressof(room), len(folios), self._threads)
+        return raw
+
+    def _take_zeros(self, folios: List[Folio], answers: bytes) -> List[Folio]:
+        """Takes the answers of `_scan`; returns the pages that it couldn't read."""
         rest = []
-        for folio, (_, _, failed, zero) in zip(folios, CONTENT.iter_unpack(raw)):
+        for folio, (_, _, failed, zero) in zip(folios, CONTENT.iter_unpack(answers)):
             if failed:
                 rest.append(folio)
                 continue
@@ -300,7 +316,7 @@ class Reader:
                     known |= mapping.subset
             folio.known = folio.full if known == folio.full else known  # one object for all pages
             folio.zero = int.from_bytes(zero, "little") & known
-        return rest
+        return [folio for folio in rest if folio.frame in self.folios]
 
     def _may_read(self, process: int) -> bool:
         """Returns whether the content of a process may be read."""
@@ -388,6 +404,16 @@ class Reader:
         changed = sum((a.zeros, a.totals) != (b.zeros, b.totals) for a, b in self._sample)
         self.spent["locked"] += time.monotonic() - began
         return len(self._sample), changed
+
+
+def begin(pool: ThreadPoolExecutor, work: Callable[[], Result]) -> Future[Result]:
+    """Begins work in a thread, or does it at once where there can be no further thread."""
+    try:
+        return pool.submit(work)
+    except RuntimeError:
+        done: Future[Result] = Future()
+        done.set_result(work())
+        return done
 
 
 def is_mapped(file: int, frame: int, mapping: Mapping) -> bool:

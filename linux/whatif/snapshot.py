@@ -268,6 +268,7 @@ class SnapshotTaker:
     def _read(self, reader: Reader, wanted: List[int]) -> Tuple[Sums, Dict[int, int]]:
         """Reads all that is read; returns sums, and the places of pages in their queues."""
         sums = self._walk(reader, wanted)
+        reader.begin_zeros()
         reader.read_groups()
         places = self._look(reader)
         reader.read_counts()
