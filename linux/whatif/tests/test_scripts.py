@@ -19,7 +19,7 @@ def pages(count: int, groups: int = 1, zero: int = 0) -> List[PagePlan]:
 class Scripts(unittest.TestCase):
     def test_first_line_tells_the_options(self) -> None:
         made, _ = next(write_scripts(pages(5, 2) + [plan_page(folio(9, order=4))], ["a head"], {1: "one"}))
-        lines = made.text.splitlines()
+        lines = made.text.split("\n")
         self.assertEqual(lines[0], "# thpsplit --nodes 3 --blocks 3 --orders 4,9,9")
         self.assertEqual(lines[1:5], [
             "# a head",
@@ -27,7 +27,7 @@ class Scripts(unittest.TestCase):
             "# node 1 order 9 pages 3 cgroup none",
             "# node 2 order 9 pages 2 cgroup one",
         ])
-        self.assertEqual(lines[-4:], [MARK, "scan 0 128", "scan 1 128", "scan 2 128"])
+        self.assertEqual(lines[-5:], [MARK, "scan 0 128", "scan 1 128", "scan 2 128", ""])
 
     def test_nine_groups_are_two_scripts(self) -> None:
         made = list(write_scripts(pages(18, 9), [], {}))
@@ -37,7 +37,7 @@ class Scripts(unittest.TestCase):
     def test_more_pages_than_blocks_are_two_nodes(self) -> None:
         made = list(write_scripts(pages(BLOCKS + 1), [], {}))
         self.assertEqual([node.pages for node in made[0][0].nodes], [BLOCKS, 1])
-        self.assertEqual(made[0][0].text.splitlines().count("scan 0 128"), 32)
+        self.assertEqual(made[0][0].text.split("\n").count("scan 0 128"), 32)
 
     def test_long_texts_are_halved(self) -> None:
         scattered = sum(1 << i for i in range(0, 512, 2))

@@ -18,7 +18,7 @@ ROWS = [Row(OFF, 10, 2, 0, 1, 512), Row(0, 10, 8, 6, 1, 2816)]
 
 class Tables(unittest.TestCase):
     def test_table_marks_today(self) -> None:
-        lines = table(ROWS, 0).splitlines()
+        lines = table(ROWS, 0).split("\n")
         self.assertEqual(lines[1].split(), ["off", "2", "2", "0", "1", "512", "2.0", "8"])
         self.assertEqual(lines[2].split(), ["0", "8", "2", "6", "1", "2816", "11.0", "2", "<-", "today"])
         self.assertEqual(len({line.index(cell) + len(cell) for line, cell in zip(lines, ("threshold", "off", "0"))}), 1)
@@ -30,7 +30,7 @@ class Tables(unittest.TestCase):
 
     def test_costs_leave_out_those_that_lose_nothing(self) -> None:
         text = cost_table({1: Share(5, 0, 0, 0), 2: Share(5, 3, 256, 4), 3: Share(0, 0, 0, 9)}, {2: "two"})
-        rows = [line.split() for line in text.splitlines()[1:]]
+        rows = [line.split() for line in text.split("\n")[1:]]
         self.assertEqual(rows, [["3", "?", "9", "0", "0.0"], ["2", "two", "4", "3", "1.0"]])
 
     def test_left_out(self) -> None:
@@ -55,7 +55,7 @@ class Watching(unittest.TestCase):
         seen = Watch()
         for frames in (512, 256, 1024):
             seen.add([Row(0, 4, 1, 1, 0, frames)])
-        row = seen.table(0).splitlines()[2].split()
+        row = seen.table(0).split("\n")[2].split()
         self.assertEqual(row, ["0", "4.0", "+2.0", "1.0", "4.0", "2.3", "<-", "today"])
 
     def test_rounds_and_lines(self) -> None:
@@ -65,7 +65,7 @@ class Watching(unittest.TestCase):
             return Look([Row(0, 4, 1, 1, 0, next(looks))], None, ["a note"])
 
         watch(look, 0.01, 2, out)
-        lines: List[str] = out.getvalue().splitlines()
+        lines: List[str] = out.getvalue().split("\n")
         wanted = [f"4 pages; MiB back: 0 {mebibytes}; a note" for mebibytes in ("2.0", "1.0")]
         self.assertEqual([line[9:] for line in lines[:2]], wanted)
         self.assertEqual(lines[2], "look 2")
