@@ -9,8 +9,8 @@ from __future__ import annotations
 
 import ctypes
 import struct
-from dataclasses import dataclass
-from typing import Dict, List, Set
+from dataclasses import dataclass, replace
+from typing import Callable, Dict, Iterable, List, Set
 
 from ..common.bpf import SLEEPABLE, ProgramType, load_program
 from ..common.btf import Types
@@ -22,6 +22,16 @@ from .reader import load_library
 HEADS = 4  # struct pages that a struct folio lies over
 BATCH = 1024  # pages that are read at a time
 NUMBER, COUNT = struct.Struct("<Q"), struct.Struct("<i")
+
+
+def keep_lasting_pins(folios: Iterable[Folio], look: Callable[[List[Folio]], object]) -> None:
+    """Reads pinned pages again by `look`, and keeps the pins that are still there: DAMON and compaction hold a reference to a
+    page for a moment."""
+    pinned = [folio for folio in folios if folio.pins]
+    later = [replace(folio) for folio in pinned]
+    look(later)
+    for folio, again in zip(pinned, later):
+        folio.pins = min(folio.pins or 0, again.pins or 0)
 
 
 @dataclass(frozen=True)

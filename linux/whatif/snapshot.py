@@ -25,7 +25,7 @@ from .folios import Folio
 from .page_commands import NotExpressible, PagePlan, plan_page
 from .proc import Unreadable, anonymous_huge, group_names, machine_huge, name_of
 from .processes import ProcessChoice
-from .queues import Queues
+from .queues import Queues, keep_lasting_pins
 from .reader import MEMORY, MOVED, Progress, Reader
 from .rights import demand_frames, demand_reading, demand_signals
 from .scripts import Script, write_scripts
@@ -278,6 +278,8 @@ class SnapshotTaker:
             reader.left_out[f"content of process {process} ({name_of(process)}): it may not be read"] += 1
         reader.check_again()
         reader.read_sample()
+        if self._queues:
+            keep_lasting_pins(reader.folios.values(), self._queues.look)
         return sums, places
 
     def _walk(self, reader: Reader, wanted: List[int]) -> Sums:
