@@ -330,7 +330,9 @@ class Reader:
         """Reads pages by /proc/PID/mem, in threads."""
         each = -(-len(folios) // self._threads) or 1
         with ThreadPoolExecutor(self._threads) as pool:
-            list(pool.map(self._read_batch, [folios[i : i + each] for i in range(0, len(folios), each)]))
+            parts = [folios[i : i + each] for i in range(0, len(folios), each)]
+            for done in [begin(pool, partial(self._read_batch, part)) for part in parts]:
+                done.result()
 
     def _read_batch(self, folios: List[Folio]) -> None:
         with OpenFiles("mem") as memory:

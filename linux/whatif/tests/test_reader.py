@@ -1,4 +1,4 @@
-"""The C helper on memory of our own: what is zero-filled, what is skipped, what can't be read."""
+"""The C helper on memory of our own: what is zero-filled, what is skipped, what can't be read. Work without threads."""
 
 from __future__ import annotations
 
@@ -7,10 +7,12 @@ import mmap
 import os
 import shutil
 import unittest
-from typing import Tuple
+from concurrent.futures import ThreadPoolExecutor
+from typing import Any, Tuple
+from unittest import mock
 
 from ...common.files import BASE
-from ..reader import load_library
+from ..reader import begin, load_library
 
 
 @unittest.skipUnless(shutil.which(os.environ.get("CC", "cc")) or shutil.which("gcc"), "no C compiler")
@@ -41,3 +43,12 @@ class Zeros(unittest.TestCase):
     def test_what_is_not_mapped_is_not_known(self) -> None:
         self.at = 0
         self.assertEqual(self.found(3), (0, 7))
+
+
+class Work(unittest.TestCase):
+    def test_work_is_done_where_no_thread_can_begin(self) -> None:
+        def refuse(*_: Any) -> None:
+            raise RuntimeError("can't start new thread")
+
+        with mock.patch("threading.Thread.start", refuse), ThreadPoolExecutor(1) as pool:
+            self.assertEqual(begin(pool, lambda: 5).result(), 5)
