@@ -90,6 +90,8 @@ class Page:
     first: Optional[JournalLine] = None  # its allocation
     is_seen: bool = False  # its contents were looked at
     is_tried: bool = False  # a scan tried it
+    has_joined: bool = False  # a copy of the queue showed it before its task's next record
+    is_perhaps_taken: bool = False  # it joined at its fault while a scan ran, which took it then or not
     last_change: int = 0  # when the last call that reached it was recorded
     join: Optional[JournalLine] = None  # the event by which it joined the queue
     events: int = 0  # how many were emitted

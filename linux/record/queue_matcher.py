@@ -23,6 +23,8 @@ class QueueMatcher:
         if self._is_journal_queue(queue):
             self._count(False)
             return
+        for page in self._state.joining.values():
+            page.has_joined = page.has_joined or page.folio in queue
         self.emit_early_joins(queue)
         if self._state.scans:
             return
@@ -91,6 +93,9 @@ class QueueMatcher:
         elif not running and not page.freed_frames and state.is_ending(page):
             page.is_freed = True
             self._mappings.end_early(page, queue)
+        elif page.is_perhaps_taken:
+            state.omit(page, "joined at its fault while a scan ran, which perhaps took it")
+            state.dequeue(page)
         elif not running:
             state.omit(page, f"left the queue unseen: {self._reason_gone(page)}")
             state.dequeue(page)

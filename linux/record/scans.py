@@ -2,7 +2,7 @@
 
 from __future__ import annotations
 
-from typing import Iterator, List, Optional, Tuple
+from typing import Iterator, List, Optional, Set, Tuple
 
 from ..common.subpages import runs, size
 from .mappings import MappingEvents
@@ -39,7 +39,8 @@ class ScanEvents:
             state.tallies["scans whose start no copy showed"] += 1
         else:
             self._matcher.match(record.queue)
-        state.scans[record.task] = Scan(record, [state.at.get(folio) for folio in record.queue])
+        joining = [page for page in state.joining.values() if page.folio not in record.queue]
+        state.scans[record.task] = Scan(record, [state.at.get(folio) for folio in record.queue], joining)
 
     def end(self, record: Record, observed: Optional[List[int]] = None) -> None:
         """Emits a scan that has ended; `observed`: the queue that shows it, if its end isn't recorded yet."""
@@ -58,17 +59,23 @@ class ScanEvents:
             state.is_missing = True
             return
         state.tallies["scans" if own is not None else "scans whose end the next copy showed"] += 1
+        self._add_faulted(scan, queue)
         self._emit_frees(scan.pages, queue)
         self._emit_joins(scan.pages[:total], queue)
+        self._put_first(scan.pages[:total])
         found = [state.at.get(folio) for folio in queue]
         back: List[Page] = []
+        stays: List[Page] = []
         for first, count in batches_of(total, freeable):
             batch = [page for page in scan.pages[first : first + count] if page and page in state.queue]
             stay = [page for page in found if page and page in batch]
             self._omit_requeued(scan.start, stay, found)
             self._emit_batch(record, batch, scan, stay, queue)
             back += [page for page in stay if not page.omission]
-        self._postpone_joins([page for page in found if page], back)
+            stays += stay
+        kernels = [page for page in found if page]
+        self._postpone_joins(kernels, back)
+        self._put_between(stays, kernels)
         self._matcher.match(own)
 
     def end_early(self, queue: Optional[List[int]]) -> None:
@@ -86,6 +93,8 @@ class ScanEvents:
             back = [folio for folio in end if folio in start.queue and folio not in made]
             new = [folio for folio in queue if folio not in own_queue and folio not in start.queue
                    and made.get(folio, 0) <= self._state.now]
+            if not {*back} <= {*queue}:
+                continue  # it still puts pages back, one by one (Linux 7)
             if any(folio in end and back and end.index(back[0]) < end.index(folio) for folio in new):
                 start.end.is_applied = True
                 self.end(start.end, queue)
@@ -124,6 +133,21 @@ class ScanEvents:
                 if page.partly_since >= start.time:
                     self._state.omit(page, "found in use by a scan, and queued again while it ran (U)")
 
+    def _add_faulted(self, scan: Scan, queue: List[int]) -> None:
+        """Adds pages that joined at their faults after the scan's start was recorded and before it took its pages: it takes
+        more than were in the queue then, and these aren't in the queue at its end."""
+        state = self._state
+        for page in state.queue:
+            is_new = page in scan.joining or page.born >= scan.start.time
+            is_gone = page.folio not in queue and not page.is_freed
+            if not is_new or not is_gone or page in scan.pages or len(scan.pages) >= scan.start.values[0]:
+                continue
+            if page in state.joining.values() and not page.has_joined:
+                page.is_perhaps_taken = True
+            else:
+                scan.pages.append(page)
+                state.tallies["pages that joined between a scan's start and its taking"] += 1
+
     def _emit_frees(self, pages: List[Optional[Page]], queue: List[int]) -> None:
         """Emits the frees of pages during a scan that no event shows yet: a running call freed the page, or a process
         that is ending."""
@@ -135,9 +159,28 @@ class ScanEvents:
                 self._mappings.end_early(page, queue)
 
     def _emit_joins(self, pages: List[Optional[Page]], queue: List[int]) -> None:
-        """Emits joins of pages that precede those put back: running calls queued them before the put back."""
+        """Emits joins of pages that precede one that was put back: running calls queued them before that."""
         places = [queue.index(page.folio) for page in pages if page and page.is_live and page.folio in queue]
-        self._matcher.emit_early_joins(queue[: min(places, default=0)])
+        self._matcher.emit_early_joins(queue[: max(places, default=0)])
+
+    def _put_first(self, pages: List[Optional[Page]]) -> None:
+        """Moves events of pages that the scan didn't take, and that precede one that it took, after that page's join: it took
+        the oldest pages, so these joined later, though the record of their join came first."""
+        state = self._state
+        taken = [i for i, page in enumerate(state.journal_queue) if page in pages]
+        early = {page for page in state.journal_queue[: max(taken, default=0)] if page not in pages and page.join}
+        self._move_to_end(early, "pages that joined after a scan's taking, moved after it")
+
+    def _put_between(self, back: List[Page], kernels: List[Page]) -> None:
+        """Gives the pages put back their places among those that joined while the scan ran: Linux 7 puts pages back one by
+        one, so that another can join between them."""
+        state, places = self._state, {page: i for i, page in enumerate(kernels)}
+        rest, queue = list(back), []
+        for page in [page for page in state.queue if page not in back]:
+            while rest and places[rest[0]] < places.get(page, -1):
+                queue.append(rest.pop(0))
+            queue.append(page)
+        state.queue = queue + rest
 
     def _emit_partial_unmaps(self, page: Page, queue: List[int]) -> None:
         """Emits the partial unmap of a page that is put back, or split with too few zeros, if a running call made it and
@@ -158,6 +201,11 @@ class ScanEvents:
         state = self._state
         edge, mine = max(map(kernels.index, stay)), state.queue.index(stay[0])
         later = {page for page in kernels[edge + 1 :] if page in state.queue[:mine]}
+        self._move_to_end(later, "pages that joined while a scan ran, moved after it")
+
+    def _move_to_end(self, later: Set[Page], what: str) -> None:
+        """Moves the events of pages, from their joins on, to the journal's end, unless one is final."""
+        state = self._state
         places = {page: state.place_of_join(page) for page in later}
         if not later or min(places.values()) < 0:
             return
@@ -168,7 +216,7 @@ class ScanEvents:
         state.lines.latest = sooner + [lines[i] for i in sorted(late)]
         for queue in (state.queue, state.journal_queue):
             queue.sort(key=lambda page: page in later)  # stable: the later ones go to the end
-        state.tallies["pages that joined while a scan ran, moved after it"] += len(later)
+        state.tallies[what] += len(later)
 
     def _straighten(self, pages: List[Page], scan: Scan, stay: List[Page]) -> Tuple[List[Page], List[Page]]:
         """Returns the pages of a batch in the journal's order: those taken, those put back."""

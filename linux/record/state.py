@@ -39,11 +39,12 @@ class Settings:
 
 @dataclass(eq=False)
 class Scan:
-    """A scan that runs: the record of its start, and the pages in the queue then, oldest first (None: one of which
-    nothing is known)."""
+    """A scan that runs: the record of its start, the pages in the queue then, oldest first (None: one of which nothing is
+    known), and those that joined at that time."""
 
     start: Record
     pages: List[Optional[Page]]
+    joining: List[Page] = field(default_factory=list)
 
 
 @dataclass(eq=False)

@@ -1,0 +1,220 @@
+"""A kernel's queue and a few threads, played step by step in a random order, with the records that the trace programs send.
+
+Rules: mm/huge_memory.c of the kernel (deferred_split_folio, deferred_split_scan). Linux 7 puts pages back one by one as it
+tries them, older kernels all at a scan's end.
+"""
+
+from __future__ import annotations
+
+import random
+from dataclasses import dataclass
+from typing import Dict, Iterator, List, Optional, Tuple
+
+from ..common.subpages import bits_of, runs, size
+from ..record.records import IN_FAULT, Kind, Record
+
+BASE, PMD = 4096, 1 << 21
+SUBPAGES, EVERY = 512, (1 << 512) - 1
+FIRST_FOLIO, PAGE_SIZE = 0xFFFFEA0000008000 & -(64 * SUBPAGES), 64
+SPACE, SCANNER = 0xA000, 90
+MADVISE, DONTNEED, MUNMAP, WRITE_FAULT = 28, 4, 11, 6
+STEP = 10  # ns between two records
+
+Steps = Iterator[None]
+
+
+@dataclass(eq=False)
+class PlayedPage:
+    """A huge page: the subpages that are mapped and those with data. `is_listed`: it is in the queue or in a scan's list."""
+
+    folio: int
+    address: int
+    data: int
+    mapped: int = EVERY
+    pins: int = 0
+    is_partly_mapped: bool = False
+    is_listed: bool = False
+    is_split: bool = False
+    is_held: bool = False  # by a scan
+    is_free: bool = False
+
+
+class PlayedKernel:
+    """Threads of one process, and scans. `records` are those that a recording of them has."""
+
+    def __init__(self, seed: int, one_by_one: bool, threshold: Optional[int], threads: int = 3) -> None:
+        self.chance = random.Random(seed)
+        self.records: List[Record] = []
+        self.queue: List[PlayedPage] = []
+        self._one_by_one, self._threshold = one_by_one, threshold
+        self._free = list(range(4 * threads))  # frames of huge pages, which are used again
+        self._places: Dict[int, Optional[PlayedPage]] = {}  # by address
+        self._tasks = [self._work(number) for number in range(1, threads + 1)] + [self._scan_again()]
+
+    def play(self, steps: int) -> List[Record]:
+        """Takes steps of tasks picked at random; returns the records."""
+        for _ in range(steps):
+            next(self.chance.choice(self._tasks))
+        return self.records
+
+    def _record(self, kind: Kind, task: int, values: List[int], with_queue: bool = False) -> None:
+        queue = [page.folio for page in self.queue] if with_queue else None
+        padded = (*values, *[0] * (9 - len(values)))
+        self.records.append(Record(kind, STEP * (1 + len(self.records)), task, SPACE, padded, queue))
+
+    # the threads
+
+    def _work(self, task: int) -> Steps:
+        """A thread with two places for pages."""
+        addresses = [PMD * (10 * task + i) for i in range(2)]
+        while True:
+            address = self.chance.choice(addresses)
+            page, deed = self._places.get(address), self.chance.randrange(8)
+            if not page:
+                yield from self._make(task, address)
+            elif deed < 4:
+                yield from self._call(task, page, self._range(page), DONTNEED)
+            elif deed == 4:
+                yield from self._call(task, page, EVERY, MUNMAP)
+                self._places[address] = None
+            elif not page.is_split:
+                yield from self._pin(task, page)
+            yield
+
+    def _range(self, page: PlayedPage) -> int:
+        first = self.chance.randrange(SUBPAGES)
+        return bits_of(first, 1 + self.chance.randrange(SUBPAGES - first))
+
+    def _make(self, task: int, address: int) -> Steps:
+        if not self._free:
+            return
+        folio = FIRST_FOLIO + PAGE_SIZE * SUBPAGES * self._free.pop(self.chance.randrange(len(self._free)))
+        page = PlayedPage(folio, address, EVERY if self.chance.randrange(2) else bits_of(0, self.chance.randrange(SUBPAGES)))
+        self._record(Kind.ALLOC, task, [folio, 9, IN_FAULT, address, WRITE_FAULT])
+        yield
+        if self._threshold is not None:
+            self._join(page)
+            yield
+        self._places[address] = page
+
+    def _call(self, task: int, page: PlayedPage, bits: int, number: int) -> Steps:
+        (first, count), *_ = runs(bits)
+        call = [MUNMAP if number == MUNMAP else MADVISE, page.address + BASE * first, BASE * count, DONTNEED]
+        self._record(Kind.ENTER, task, call)
+        yield
+        yield from self._unmap(task, page, bits)
+        yield
+        self._record(Kind.EXIT, task, [*call, 0], True)
+
+    def _unmap(self, task: int, page: PlayedPage, bits: int) -> Steps:
+        gone = page.mapped & bits
+        page.mapped &= ~bits
+        if page.is_split:
+            self._free_frames(task, page, gone)
+            if not page.mapped:
+                self._release(page)
+            return
+        if page.mapped and gone:
+            page.is_partly_mapped = True
+            self._join(page)
+        yield
+        self._put(task, page)
+
+    def _pin(self, task: int, page: PlayedPage) -> Steps:
+        page.pins = 1
+        for _ in range(self.chance.randrange(20)):
+            yield
+        page.pins = 0
+        self._put(task, page)
+
+    # pages
+
+    def _join(self, page: PlayedPage) -> None:
+        if not page.is_listed:
+            page.is_listed = True
+            self.queue.append(page)
+
+    def _put(self, task: int, page: PlayedPage) -> None:
+        """Frees a page that nothing holds any more."""
+        if page.mapped or page.pins or page.is_held or page.is_split or page.is_free:
+            return
+        if page in self.queue:
+            self.queue.remove(page)
+        self._record(Kind.FREE, task, [page.folio, 9])
+        self._release(page)
+
+    def _release(self, page: PlayedPage) -> None:
+        if page.is_free:
+            return
+        page.is_free = True
+        self._free.append((page.folio - FIRST_FOLIO) // (PAGE_SIZE * SUBPAGES))
+
+    def _free_frames(self, task: int, page: PlayedPage, bits: int) -> None:
+        for first, count in runs(bits):
+            for number in range(first, first + count):
+                self._record(Kind.FREE, task, [page.folio + PAGE_SIZE * number, 0])
+
+    # scans
+
+    def _scan_again(self) -> Steps:
+        while True:
+            for _ in range(self.chance.randrange(30)):
+                yield
+            yield from self._scan()
+
+    def _scan(self) -> Steps:
+        freeable = len(self.queue)
+        yield
+        total = freeable + self.chance.randrange(freeable + 1)
+        self._record(Kind.SCAN, SCANNER, [total, freeable], True)
+        if not total:
+            self._record(Kind.SCANNED, SCANNER, [0, 0], True)
+            return
+        yield
+        taken, self.queue = self.queue[:total], self.queue[total:]
+        for page in taken:
+            page.is_held = True
+        back: List[PlayedPage] = []
+        split = 0
+        for page in reversed(taken):  # the newest first
+            yield
+            if self._one_by_one:
+                page.is_listed = False
+            is_split, stays = self._try(page)
+            split += is_split
+            yield
+            if stays and self._one_by_one:
+                self._join(page)
+            elif stays:
+                back.append(page)
+                continue
+            page.is_listed = page.is_listed and self._one_by_one
+            yield
+            self._let_go(page)
+        self.queue += back
+        yield
+        for page in back:
+            self._let_go(page)
+        self._record(Kind.SCANNED, SCANNER, [0, split], True)
+
+    def _let_go(self, page: PlayedPage) -> None:
+        page.is_held = False
+        self._put(SCANNER, page)
+
+    def _try(self, page: PlayedPage) -> Tuple[bool, bool]:
+        """Returns whether a page was split, and whether it is put back."""
+        zeros = size(EVERY & ~page.data)
+        underused = self._threshold is not None and not page.is_partly_mapped and zeros > self._threshold
+        if not page.is_partly_mapped and not underused:
+            return False, False
+        if page.pins or not page.mapped:
+            return False, page.is_partly_mapped
+        page.is_split, page.is_listed = True, False
+        if page in self.queue:  # a call has queued it meanwhile
+            self.queue.remove(page)
+        gone = ~page.mapped | ~page.data
+        self._free_frames(SCANNER, page, EVERY & gone)
+        page.mapped &= page.data
+        if not page.mapped:
+            self._release(page)
+        return True, False
