@@ -18,6 +18,7 @@
         mappings         effects of calls, forks and ends of address spaces on pages
         queue_matcher    compares the kernel's queue with the journal's
         scans            pages that the shrinker took, split and put back
+    queue_order      the order of a queue's pages, whatever their sizes
     journal_file     the journal as a file, and its check
     outputs          the output files
     tampering        altered copies of a journal

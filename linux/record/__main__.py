@@ -10,8 +10,8 @@ The command runs as the caller of `sudo`; in a root shell it runs as root unless
 A node of the journal is a control group, an order and (Linux 7) a NUMA node. Prints the verdict, for an illegal journal its
 line and the explanation, and what was observed, inferred and left out. SIGINT ends the recording; the records until then are checked.
 The command's own status is printed and changes nothing. Needs root.
-Status 0: legal; 1: illegal, or records were lost; 2: an error in the options; 3: a system error; 75: another tool is
-running; 77: nothing could be recorded, or nothing was.
+Status 0: legal; 1: illegal, records were lost, or a queue didn't keep the order of all its pages (O); 2: an error in the
+options; 3: a system error; 75: another tool is running; 77: nothing could be recorded, or nothing was.
 """
 
 from __future__ import annotations
@@ -31,6 +31,7 @@ from .journal_builder import JournalBuilder
 from .journal_file import JournalFile, check_journal
 from .options import RecordOptions
 from .outputs import Outputs
+from .queue_order import QueueOrder
 from .recorder import Recorder, Recording, settings_for
 from .tampering import try_copies
 
@@ -47,16 +48,20 @@ def commands_for(options: RecordOptions, seed: int) -> List[List[str]]:
     return [[path, str(own.threads), str(own.steps), str(seed), str(order), *own.extra] for order in options.orders]
 
 
-def build_journals(options: RecordOptions, recording: Recording, page_size: int) -> List[JournalBuilder]:
-    """Returns a journal of each queue and order, built from the records."""
-    out = []
+def build_journals(
+    options: RecordOptions, recording: Recording, page_size: int
+) -> Tuple[List[JournalBuilder], List[QueueOrder]]:
+    """Returns a journal of each queue and order, built from the records, and the order of each queue's pages."""
+    out, queues = [], []
     for store, folios in zip(recording.stores, recording.folios):
         store.link()
-        for order in options.orders:
+        queues.append(QueueOrder(page_size))
+        for number, order in enumerate(options.orders):
             builder = JournalBuilder(settings_for(recording, options, order, page_size, folios))
-            builder.add_linked_records(store.records())
+            records = store.records()
+            builder.add_linked_records(records if number else queues[-1].follow(records))
             out.append(builder)
-    return out
+    return out, queues
 
 
 def report_ends(options: RecordOptions, recording: Recording) -> None:
@@ -97,12 +102,15 @@ class Run:
     def _check(self, recording: Recording) -> None:
         self._outputs.write_records(recording.stores)
         page_size = self._memory.types.struct_size("page")
-        builders = build_journals(self._options, recording, page_size)
+        builders, queues = build_journals(self._options, recording, page_size)
         journal = JournalFile(builders)
         try:
             self._outputs.write_journal(journal)
             self._outputs.write_times(time for builder in builders for time in builder.times())
             self._report(recording, builders, journal)
+            for queue in queues:
+                self._count(queue.tallies)
+                self.good = self.good and queue.is_kept
         finally:
             journal.close()
             for builder in builders:
@@ -118,16 +126,18 @@ class Run:
             print(f"    {why}")
         sys.stdout.flush()
         for builder in builders:
-            for what, many in builder.tallies.items():
-                self.sums[what] += many
+            self._count(builder.tallies)
         more = {"recordings": 1, "recordings that are legal": int(verdict.legal), "events in journals": events}
-        for what, many in {**more, "pages": pages}.items():
-            self.sums[what] += many
+        self._count({**more, "pages": pages})
         self.lacking = recording.lacking
         self.good = self.good and verdict.legal and not recording.lost
         self.events += events
         if self._options.tamper and verdict.legal:
             self._tamper(journal)
+
+    def _count(self, tallies: Dict[str, int]) -> None:
+        for what, many in tallies.items():
+            self.sums[what] += many
 
     def _tamper(self, journal: JournalFile) -> None:
         if journal.size > MOST_TAMPERED:
