@@ -11,6 +11,7 @@
     hold            hold_processes: stops or freezes processes and control groups for a limited time
     user            the users as whom other programs are run
     groups          Groups: memory control groups of version 1 or 2, and a reclaim in one
+    shrinker_debug  ShrinkerFile: scans of exactly so many pages of a queue, by debugfs
     page_files      pagemap of a process, kpageflags, kpagecount, kpagecgroup; the flags by name
     direct_map      content of page frames, read by the kernel's map of all memory
     counters        the statistics of /proc/vmstat and of each page size; CounterWatch: whether others move them

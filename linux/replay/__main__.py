@@ -97,7 +97,7 @@ def run_all(options: argparse.Namespace, found: FoundScripts, report: Report) ->
     zeros = None if options.fill is None else options.fill == "zeros"
     command = report.print_command if options.verbose else ignore_line
     comparer = RunComparer(report=command, looks=[] if options.store else None)
-    with open_session(NAME, options.program, not options.no_memory, options.wait) as session:
+    with open_session(NAME, options.program, not options.no_memory, options.wait, options.exact_scans) as session:
         sums = Sums(options)
         report.begin(RunHead(session.parts, session.program.path, session.reads_queues, found.count))
         runner = Runner(session.bench, session.program, comparer)

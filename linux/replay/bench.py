@@ -13,6 +13,7 @@ from ..common.keeper import Keeper
 from ..common.kernel_memory import KernelMemory
 from ..common.page_files import Frames
 from ..common.script import Options
+from ..common.shrinker_debug import ShrinkerFile, find_shrinker
 from .expected_answers import Unsupported
 from .mappers import Mapper, Mappers
 
@@ -36,15 +37,16 @@ def allow_descriptors() -> None:
 
 
 class Bench:
-    """Made once; prepared for each script."""
+    """Made once; prepared for each script. `shrinker`: the file by which exactly so many pages are scanned, if that is asked."""
 
-    def __init__(self, keeper: Keeper, memory: Optional[KernelMemory]) -> None:
+    def __init__(self, keeper: Keeper, memory: Optional[KernelMemory], scans_exactly: bool = False) -> None:
         allow_descriptors()
         self._keeper = keeper
         self.memory = memory
         keeper.set(COLLAPSE_SLEEP, QUIET)
         self.frames = Frames()
         self.groups = Groups(keeper, "thpreplay")
+        self.shrinker: Optional[ShrinkerFile] = find_shrinker(self.groups.version) if scans_exactly else None
         self.mappers = Mappers(keeper)
         self.servers: List[Server] = []
         self._groups_made = 0

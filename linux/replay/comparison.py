@@ -56,10 +56,13 @@ def require_equal(what: str, kernel: object, model: object) -> None:
 class Comparison:
     """Follows a script on all nodes. `known` gathers the known differences that it met, beginning with the run's;
     `counters` holds the first difference of a counter. `small`: nodes whose pages aren't queued at their fault (C); at
-    their splits zero-filled subpages go back, as in the script."""
+    their splits zero-filled subpages go back, as in the script. `scans_exactly`: a scan makes one pass over the pages that it
+    takes, the oldest."""
 
-    def __init__(self, states: Sequence[NodeState], known: Set[KnownDifference], small: Set[int]) -> None:
-        self._states, self._small = states, small
+    def __init__(
+        self, states: Sequence[NodeState], known: Set[KnownDifference], small: Set[int], scans_exactly: bool = False
+    ) -> None:
+        self._states, self._small, self._scans_exactly = states, small, scans_exactly
         self._queues: List[List[int]] = [[] for _ in states]  # the kernel's, as they should be
         self._numa_nodes: List[Dict[int, int]] = [{} for _ in states]  # NUMA nodes of queued pages, where a node has several lists
         self._failed: Dict[int, int] = Tallies()  # failed splits by order, as they should be
@@ -87,6 +90,9 @@ class Comparison:
         if stay != in_order:  # E: the kernel's order is the other way round, the program's is that of taking
             require_equal(f"order of putting back {in_order}, which the kernel turns around at each pass (E)", "so", stay)
         queue = [page for page in self._queues[expected.node] if page in stay]
+        rest = [page for page in self._queues[expected.node] if page not in taken]
+        if rest:
+            self.sums["scans of a part of a queue"] += 1
         once = pinned - len(stay)  # pinned underused pages leave the queue after one try
         if state.threshold == NEVER and once:
             self.known.add(KnownDifference.D)
@@ -94,14 +100,15 @@ class Comparison:
         if len(lists_of(queue, self._numa_nodes[expected.node])) > 1:
             self._queues[expected.node] = self._scan_lists(expected.node, state.order, once, queue, observed)
             return
-        turned = self._is_turned(queue, observed.queues[expected.node])
+        shown = observed.queues[expected.node]
+        turned = self._is_turned(queue, None if shown is None else shown[len(rest):])
         passes = self._passes(state.order, once, queue, turned, observed)
         self._failed[state.order] += once + passes * len(queue)
         if queue:
             self.sums[f"scans of {passes} passes with pinned pages"] += 1
         if passes > 1 and queue:
             self.known.add(KnownDifference.F)
-        self._queues[expected.node] = queue[::-1] if passes % 2 else queue
+        self._queues[expected.node] = rest + (queue[::-1] if passes % 2 else queue)
 
     def _scan_lists(self, node: int, order: int, once: int, queue: List[int], observed: Observation) -> List[int]:
         """Returns the queue after a scan whose pages that stayed are on lists of several NUMA nodes, each with passes of its
@@ -144,6 +151,9 @@ class Comparison:
             return by_queue
         failed = total - self._failed[order]
         passes = (failed - once) // len(queue) if queue else 1
+        if self._scans_exactly and failed != once + len(queue):
+            self._counter_differs("split_failed of a scan", failed, once + len(queue))
+            return 1
         if failed != once + passes * len(queue) or passes < 1:
             self._counter_differs("split_failed of a scan", failed, f"{once} + {len(queue)} for each pass")
             return by_queue

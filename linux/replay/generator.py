@@ -22,6 +22,7 @@ class Shape:
     orders: Sequence[int] = (9, 9, 9, 2, 3, 4, 5, 6, 7, 8)
     thresholds: Sequence[str] = (OFF,)
     length: int = 40  # commands at most, a few more where one step is several
+    scans_parts: bool = False  # of a queue
 
 
 @dataclass
@@ -57,6 +58,7 @@ class Generator:
         self._threshold: Optional[int] = None if switch == OFF else int(switch)
         self._pages: List[List[Optional[Sketch]]] = [[] for _ in range(self._nodes)]
         self._lines: List[str] = []
+        self._scans = [MOST_PAGES, 64, 128] + ([1, 2, 3] if shape.scans_parts else [])
         self._length = chance.randint(8, shape.length)
         self._node = self._number = 0
         self._kinds: Dict[str, Tuple[float, Callable[[Sketch], None]]] = {
@@ -179,7 +181,7 @@ class Generator:
                 page.split = page.split or union != page.every
 
     def _scan(self, _page: Sketch) -> None:
-        self._add("scan", self._chance.choice([MOST_PAGES, 64, 128]), page=False)
+        self._add("scan", self._chance.choice(self._scans), page=False)
         self._note_splits()
 
     def _batch(self, _page: Sketch) -> None:

@@ -63,6 +63,8 @@ def parse_words(given: Optional[Sequence[str]] = None) -> argparse.Namespace:
     parser.add_argument("--shrink", type=seconds(0, MOST_SHRINKING), default=SECONDS, metavar="SECONDS",
                         help="time to make a script that differs small (60; 0: none)")
     parser.add_argument("--store", metavar="FOLDER", help="write what the kernel showed there, a line for each look")
+    parser.add_argument("--exact-scans", action="store_true",
+                        help="scan exactly so many pages as a script says (SHRINKER_DEBUG); random scripts scan parts, too")
     parser.add_argument("--no-memory", action="store_true", help="leave kernel memory, and so the queues, unread")
     parser.add_argument("--show", action="store_true", help="print the random scripts; nothing is run")
     parser.add_argument("--wait", action="store_true", help="wait until another tool has ended")
@@ -97,7 +99,7 @@ def parse_shape(options: argparse.Namespace) -> Shape:
             parse_numbers(threshold, "thresholds", 0, (1 << PMD_ORDER) - 1)
     return Shape(parse_numbers(options.node_counts, "node-counts", 1, MOST_NODES),
                  parse_numbers(options.page_orders, "page-orders", LEAST_ORDER, PMD_ORDER), thresholds,
-                 max(options.length, LEAST_LENGTH))
+                 max(options.length, LEAST_LENGTH), getattr(options, "exact_scans", False))
 
 
 @dataclass(frozen=True)

@@ -7,7 +7,7 @@
     splitpmd          a border of two areas inside the page (MADV_DONTDUMP of half), taken away again
     pin, unpin        vmsplice into a pipe, read of its byte
     write, zero       memset
-    scan              reclaim in the node's control group
+    scan              reclaim in the node's control group; exactly so many pages by the shrinker's file
 """
 
 from __future__ import annotations
@@ -21,6 +21,7 @@ from ..common.errors import RunFailed
 from ..common.files import PMD_ORDER, SWITCH
 from ..common.page_files import PageFlag
 from ..common.script import Options
+from ..common.shrinker_debug import ShrinkerFile
 from ..common.subpages import bits_of, runs
 from .bench import Bench
 from .expected_answers import ExpectedAnswer, Unsupported
@@ -86,6 +87,7 @@ class KernelPages:
     def __init__(self, bench: Bench, options: Options, fill: int) -> None:
         self._bench, self._options, self._fill = bench, options, fill
         self.drops_zeros = os.path.exists(SWITCH)  # both came with Linux 6.12
+        self.scans_exactly = bench.shrinker is not None
         self._pages: List[List[KernelPage]] = [[] for _ in range(options.nodes)]
         self._orders = sorted(set(options.orders))
         self._own_splits = 0
@@ -257,9 +259,25 @@ class KernelPages:
         self._write(node, state, number, first, count, 0)
 
     def _scan(self, node: int, state: NodeState, most: int) -> None:
+        if self._bench.shrinker:
+            self._scan_exactly(self._bench.shrinker, node, state, most)
+            return
         if most < len(state.queue):
             raise Unsupported("a scan of less than the whole queue: a reclaim takes all")
         self._bench.groups.reclaim(self._bench.servers[node].path)
+
+    def _scan_exactly(self, shrinker: ShrinkerFile, node: int, state: NodeState, most: int) -> None:
+        """Scans so many pages; not where the kernel's oldest pages are others than the model's."""
+        queues = {numa_node: frames for numa_node, frames in (self._bench.queues(node) or {}).items() if frames}
+        if most < len(state.queue):
+            if len(queues) > 1:
+                raise Unsupported("a scan of a part of a queue on several NUMA nodes")
+            oldest = {self._pages[node][number].frame for number in state.queue[:most]}
+            if any({*frames[:most]} != oldest for frames in queues.values()):
+                raise Unsupported("a scan of a part of a queue whose order E has turned around: it takes other pages")
+        for numa_node, frames in queues.items():
+            if most:
+                shrinker.scan(self._bench.servers[node].path, numa_node, min(most, len(frames)))
 
     def note_split(self, node: int, number: int) -> None:
         """Notes that a page was split: all its mappings are by PTEs."""

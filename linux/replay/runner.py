@@ -26,9 +26,10 @@ LAST_WINDOWS = 1.0  # seconds in which the counters are watched before a differe
 
 class Kernel(Protocol):
     """A kernel that runs commands and can be looked at: the running one (pages.py), or a stored one. `drops_zeros`: it gives
-    mapped zero-filled subpages back at any split (B)."""
+    mapped zero-filled subpages back at any split (B). `scans_exactly`: a scan takes so many pages as it says, in one pass."""
 
     drops_zeros: bool
+    scans_exactly: bool
 
     def run_command(self, expected: ExpectedAnswer, state: NodeState) -> None:
         """Runs a command; the node's state is that before it."""
@@ -45,8 +46,8 @@ class StoredKernel:
 
     drops_zeros = True
 
-    def __init__(self, looks: List[Observation]) -> None:
-        self._looks = iter(looks)
+    def __init__(self, looks: List[Observation], scans_exactly: bool = False) -> None:
+        self._looks, self.scans_exactly = iter(looks), scans_exactly
 
     def run_command(self, expected: ExpectedAnswer, state: NodeState) -> None:
         pass
@@ -113,7 +114,7 @@ class RunComparer:
         options = expected_run.options
         nodes = zip(options.orders, options.underused)
         states = [NodeState(order, switch, zero_filled, kernel.drops_zeros) for order, switch in nodes]
-        comparison = Comparison(states, expected_run.known, expected_run.small)
+        comparison = Comparison(states, expected_run.known, expected_run.small, kernel.scans_exactly)
         where, word, place = "before all", "", 0
         try:
             comparison.set_place(where)

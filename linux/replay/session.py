@@ -7,9 +7,12 @@ from dataclasses import dataclass
 from typing import Iterator, List, Optional, Tuple
 
 from ..common import machine
+from ..common.errors import Unavailable
+from ..common.groups import find_hierarchy
 from ..common.keeper import Keeper
 from ..common.kernel_memory import KernelMemory
 from ..common.program import Program
+from ..common.shrinker_debug import find_shrinker
 from .bench import Bench
 
 NEEDED = ["root", "huge pages", "memory control groups", "frames", "counters"]
@@ -38,13 +41,19 @@ def find_comparable_parts(memory_wanted: bool) -> Tuple[List[machine.Part], Opti
 
 
 @contextmanager
-def open_session(name: str, program: Optional[str], memory_wanted: bool, wait: bool) -> Iterator[Session]:
+def open_session(
+    name: str, program: Optional[str], memory_wanted: bool, wait: bool, scans_exactly: bool = False
+) -> Iterator[Session]:
     """Opens a session of a tool. Unavailable where the machine lacks what it needs; Busy where another tool runs."""
     parts, memory = find_comparable_parts(memory_wanted)
     machine.demand(parts, NEEDED)
+    if scans_exactly:
+        find_shrinker(find_hierarchy().version)
+        if memory is None:
+            raise Unavailable("exact scans need queues, which are in kernel memory")
     found = Program(program)
     with Keeper(name, wait) as keeper:
-        bench = Bench(keeper, memory)
+        bench = Bench(keeper, memory, scans_exactly)
         try:
             yield Session(parts, found, bench)
         finally:

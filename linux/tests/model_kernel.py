@@ -60,8 +60,12 @@ class ModelKernel:
             self._queues[expected.node] = stays + [page for page in state.queue if page not in stays]
             return
         back = {event.page for event in expected.events if event.word == "back"}
+        taken = {event.page for event in expected.events if event.word == "taken"}
+        if taken != {*queue[: len(taken)]}:
+            raise Unsupported("other pages are the oldest in the kernel's queue (E)")
+        rest = [page for page in queue if page not in taken]
         queue = [page for page in queue if page in back]
-        self._queues[expected.node] = queue[::-1]
+        self._queues[expected.node] = rest + queue[::-1]
         pinned = sum(event.word == "pinned" for event in expected.events)
         self._failed[state.order] += len(queue) if state.threshold == NEVER else pinned
 

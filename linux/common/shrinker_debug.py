@@ -1,0 +1,42 @@
+"""The shrinker of deferred split queues by its files in debugfs (SHRINKER_DEBUG): it scans so many pages as it is asked for.
+
+Rules: Documentation/admin-guide/mm/shrinker_debugfs.rst and mm/shrinker_debug.c of the kernel: `GROUP NODE COUNT` in the file
+`scan`, where GROUP is the inode of a control group of version 2. One pass, no reclaim.
+"""
+
+from __future__ import annotations
+
+import os
+from typing import List
+
+from .errors import RunFailed, Unavailable
+from .files import write
+
+FOLDER, PREFIX = "/sys/kernel/debug/shrinker", "thp-deferred_split-"
+
+
+class ShrinkerFile:
+    """The file `scan` of the shrinker. Unavailable where the kernel has none."""
+
+    def __init__(self, folder: str = FOLDER) -> None:
+        try:
+            found: List[str] = sorted(name for name in os.listdir(folder) if name.startswith(PREFIX))
+        except OSError:
+            found = []
+        if not found:
+            raise Unavailable(f"no {folder}/{PREFIX}*: the kernel lacks SHRINKER_DEBUG, or debugfs isn't mounted")
+        self._path = f"{folder}/{found[0]}/scan"
+
+    def scan(self, group: str, numa_node: int, count: int) -> None:
+        """Scans so many pages of the queue of a control group, by its folder, and of a NUMA node."""
+        try:
+            write(self._path, f"{os.stat(group).st_ino} {numa_node} {count}")
+        except OSError as error:
+            raise RunFailed(f"{self._path} doesn't scan: {error.strerror}") from error
+
+
+def find_shrinker(version: int, folder: str = FOLDER) -> ShrinkerFile:
+    """Returns the shrinker's file. Unavailable where the kernel has none, or groups are of version 1, which it doesn't find."""
+    if version != 2:
+        raise Unavailable("exact scans need control groups of version 2")
+    return ShrinkerFile(folder)
