@@ -4,7 +4,8 @@ The tool starts this file as a process of its own session, with a socket (SOCK_S
 an order, one JSON object, which the guardian answers by `ok` or by what is wrong:
 
     {"file": PATH, "text": TEXT, "set": TEXT}   at the end, write the first TEXT into PATH; the tool writes the second one now
-    {"group": PATH, "inode": N}                 at the end, kill the processes in this control group and remove it
+    {"group": PATH, "inode": N}                 at the end, kill the processes in this control group and remove it, with all
+                                                groups that they have made in it
     {"keep": NUMBER}                            at the end, kill the process whose pidfd comes with this order
     {"forget": NUMBER}                          the process of that order has ended
     {"hold": SECONDS}                           what follows holds processes, at most for so long; the answer has the numbers
@@ -229,18 +230,24 @@ def release(entries: List[Entry]) -> List[str]:
     return problems
 
 
+def groups_in(path: str) -> List[str]:
+    """Returns a control group and those below it, the lowest first; none where it has gone."""
+    return [folder for folder, _, _ in os.walk(path, topdown=False)]
+
+
 def empty_groups(groups: List[Entry]) -> None:
-    """Kills the processes of the tool's own control groups."""
+    """Kills the processes of the tool's own control groups, and of those that these have made."""
     until = time.monotonic() + PATIENCE
-    for entry in groups:
+    for entry in filter(is_same_group, groups):
         path = str(entry["group"])
-        if not is_same_group(entry):
-            continue
-        while members(path) and time.monotonic() < until:
+        full = list(filter(members, groups_in(path)))
+        while full and time.monotonic() < until:
             if write(f"{path}/cgroup.kill", "1"):
-                for number in members(path):
-                    kill_member(path, number)
+                for group in full:
+                    for number in members(group):
+                        kill_member(group, number)
             time.sleep(0.01)
+            full = list(filter(members, groups_in(path)))
 
 
 def is_same_group(entry: Entry) -> bool:
@@ -252,13 +259,13 @@ def is_same_group(entry: Entry) -> bool:
 
 
 def remove_group(path: str) -> str:
-    """Removes a control group, which may take a moment after its last process has ended; returns what is wrong."""
+    """Removes a control group and those in it, which may take a moment after the last process has ended; returns what is
+    wrong."""
     until = time.monotonic() + PATIENCE
     while True:
         try:
-            os.rmdir(path)
-            return ""
-        except FileNotFoundError:
+            for group in groups_in(path):
+                os.rmdir(group)
             return ""
         except OSError as error:
             if time.monotonic() > until:
@@ -282,7 +289,7 @@ def put_back(entries: List[Entry], is_later: bool = False) -> List[str]:
     groups), then settings, the newest change first, then control groups. A setting that a group of ours holds
     (cgroup.subtree_control of version 2) is tried again after the groups. `is_later`: some time has gone by since; a
     setting that no longer has the tool's value was changed by somebody else, and is left as it is."""
-    groups = [entry for entry in entries if "group" in entry]
+    groups = [entry for entry in entries if "group" in entry and is_same_group(entry)]
     empty_groups(groups)
     problems, again = [], []
     for path, (former, latest) in reversed(list(settings_of(entries).items())):

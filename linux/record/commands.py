@@ -16,6 +16,7 @@ from ..common.text import escape
 from ..common.user import User
 
 PATIENCE = 2.0  # seconds from SIGTERM to SIGKILL
+LINKS = 2  # of the folder of a control group without others in it
 PAUSE = 0.002  # seconds between two looks
 
 
@@ -50,6 +51,7 @@ class Commands:
         self._keeper, self._take = keeper, take
         self._children: List[subprocess.Popen[bytes]] = []
         self._groups: List[str] = []
+        self.has_inner_groups = False  # their queues aren't recorded
 
     def start(self, words: Sequence[str], group: str, user: Optional[User]) -> None:
         """Starts a command in a group, as a user; None: as the tool."""
@@ -102,14 +104,23 @@ class Commands:
                 out.append(f"ended with status {status}" if status >= 0 else f"was killed by {_signal_name(-status)}")
         return out
 
-    def _members(self) -> List[int]:
-        """Returns the processes of the groups."""
-        out = []
+    def look_for_groups(self) -> None:
+        """Notes in `has_inner_groups` whether a command has made control groups in its own."""
         for group in set(self._groups):
             try:
-                out += [int(number) for number in read(f"{group}/cgroup.procs").split() if int(number) > 0]
+                self.has_inner_groups = self.has_inner_groups or os.stat(group).st_nlink > LINKS
             except OSError:
                 continue
+
+    def _members(self) -> List[int]:
+        """Returns the processes of the groups, and of those that the commands have made in them."""
+        out = []
+        for top in set(self._groups):
+            for group, _, _ in os.walk(top):
+                try:
+                    out += [int(number) for number in read(f"{group}/cgroup.procs").split() if int(number) > 0]
+                except OSError:
+                    continue
         return out
 
     def _send(self, number: signal.Signals) -> None:

@@ -15,6 +15,7 @@ from .scans import batches_of
 
 WRONG_SCANS = "scans that took a page before an older one (O)"
 WRONG_JOINS = "pages that joined before an older one (O)"
+UNKNOWN = "pages in the queue whose allocation wasn't recorded, as of a group in it that ended"
 COMPARED = "scans of a part of the queue, whose order was compared"
 MIXED = "of these, scans of pages of several orders"
 
@@ -78,8 +79,13 @@ class QueueOrder:
         for first, second in self._suspects:
             wrong = not self._changed & {first, second} and places.get(first, len(queue)) < places.get(second, 0)
             self.tallies[WRONG_SCANS] += wrong
-        old = [places[folio] for folio in self._known if folio in places and folio not in self._changed]
-        self.tallies[WRONG_JOINS] += old != list(range(len(old)))
+        known = [folio for folio in queue if folio in self._sizes]
+        unknown = {*queue} - {*known} - {*self._known} - self._changed
+        if unknown:  # Linux 7 puts the queue of a group that ends before that of the group above it
+            self.tallies[UNKNOWN] += len(unknown)
+        old = [folio for folio in self._known if folio in places and folio in self._sizes and folio not in self._changed]
+        if old != known[: len(old)]:
+            self.tallies[WRONG_JOINS] += 1
         self._keep(time, queue)
 
     def _keep(self, time: int, queue: Sequence[int]) -> None:
@@ -111,7 +117,8 @@ class QueueOrder:
         taken = [folio for folio in scan.queue[: scan.count] if folio not in changed]
         rest = left[scan.count :]  # if one of the oldest was freed before the taking, it took a younger one instead
         self.tallies[COMPARED] += 1
-        self.tallies[MIXED] += len({*scan.sizes.values()}) > 1
+        if len({*scan.sizes.values()}) > 1:
+            self.tallies[MIXED] += 1
         places = {folio: place for place, folio in enumerate(record.queue)}
         stay = [folio for folio in rest if folio in places]
         split = any(self._is_split(folio, scan) for folio in rest if folio not in places)

@@ -93,6 +93,8 @@ class Recorder:
             running = Commands(self._keeper, take)
             ended = self._run(running, commands, stores, take)
             lacking = traces[0].lacking
+            if running.has_inner_groups:
+                lacking.append("control groups were made in a recorded one: pages of their tasks aren't followed")
             if any(trace.is_unfiltered() for trace in traces):
                 lacking.append("more address spaces than can be known: all records were kept from then on")
             lost = sum(trace.lost() for trace in traces)
@@ -122,6 +124,7 @@ class Recorder:
                 while not why and running.is_running():
                     time.sleep(PAUSE)
                     take()
+                    running.look_for_groups()
                     why = self._end_reason(begun, stores, interrupts)
                 if why:
                     running.end()

@@ -278,13 +278,24 @@ class KeeperTest(unittest.TestCase):
             self.assertEqual(put_back(entries), [])
         self.assertEqual((self.folder / "setting").read_text(), "former")
 
+    def test_groups_that_processes_made_in_ours_go_with_it(self) -> None:
+        (self.folder / "group" / "inner" / "innermost").mkdir(parents=True)
+        entry: Entry = {"group": str(self.folder / "group"), "inode": (self.folder / "group").stat().st_ino}
+        other: Entry = {"group": str(self.folder / "group"), "inode": 1}
+        self.assertEqual(put_back([other]), [])
+        self.assertTrue((self.folder / "group" / "inner").exists(), "a group of that name that isn't the tool's stays")
+        self.assertEqual(put_back([entry]), [])
+        self.assertFalse((self.folder / "group").exists())
+
     def test_what_was_killed_with_its_guardians_is_put_back_by_the_next_tool(self) -> None:
         tool = subprocess.Popen([sys.executable, "-c", KILLED_TOOL, str(self.folder), "19"], cwd=ROOT,
                                 stdout=subprocess.PIPE, text=True)
         assert tool.stdout
         child = int(tool.stdout.readline())
-        for number in [tool.pid, *descendants(tool.pid, child)]:
-            os.kill(number, signal.SIGKILL)
+        numbers = [tool.pid, *descendants(tool.pid, child)]
+        for sent in (signal.SIGSTOP, signal.SIGKILL):  # stopped first, so that none acts on the end of another
+            for number in numbers:
+                os.kill(number, sent)
         tool.wait()
         tool.stdout.close()
         os.kill(child, signal.SIGKILL)

@@ -5,7 +5,7 @@ from __future__ import annotations
 import unittest
 from typing import List, Optional
 
-from ..record.queue_order import COMPARED, MIXED, WRONG_JOINS, WRONG_SCANS, QueueOrder
+from ..record.queue_order import COMPARED, MIXED, UNKNOWN, WRONG_JOINS, WRONG_SCANS, QueueOrder
 from ..record.records import IN_FAULT, Kind, Record, link_records
 from ..record.scans import BATCH
 from .played_kernel import PlayedKernel
@@ -20,6 +20,7 @@ def folio_of(number: int) -> int:
 
 
 def follow(records: List[Record]) -> QueueOrder:
+    """Follows records, all of which come out again."""
     order = QueueOrder(PAGE)
     link_records(records)
     assert list(order.follow(records)) == records
@@ -103,6 +104,13 @@ class QueueOrderTest(unittest.TestCase):
         self.assertEqual(follow(queue.records).tallies[WRONG_JOINS], 1)
         queue.records[-1].queue = [*queue.queue, folio_of(9)]
         self.assertTrue(follow(queue.records).is_kept)
+
+    def test_pages_of_a_group_that_ended_in_ours_are_counted(self) -> None:
+        queue = QueueRecords(4)
+        for _ in range(2):
+            queue.look([folio_of(8), folio_of(9), *queue.queue])
+        order = follow(queue.records)
+        self.assertEqual((order.is_kept, order.tallies[UNKNOWN]), (True, 2))
 
     def test_what_no_copy_shows_is_not_compared(self) -> None:
         queue = QueueRecords()
