@@ -39,6 +39,16 @@ CHECKER = program.find("thpcheck", checker.BUILT) or str(ROOT / "linux/tests/pla
 PYTHON = "/usr/bin/python3"
 USER = "nobody"
 FOLDER = Path("/")  # of this run; set at its start
+INNER_GROUP = """
+import os, sys, time
+sys.path.insert(0, sys.argv[1])
+from linux.common.guardian import groups_of
+group = next(path for path in groups_of(os.getpid()) if "/thprecord-" in path)
+os.mkdir(group + "/inner")
+with open(group + "/inner/cgroup.procs", "w") as file:
+    file.write(str(os.getpid()))
+time.sleep(0.5 if os.fork() else 60)
+"""
 
 
 @dataclass(frozen=True)
@@ -225,6 +235,18 @@ def status_of_the_command() -> Optional[str]:
     return None
 
 
+def groups_of_its_own_are_removed() -> Optional[str]:
+    done = run(["--", PYTHON, "-I", "-c", INNER_GROUP, str(ROOT)])
+    left = [line for line in settings() if "/thprecord" in line]
+    return done.wrong(SKIPPED, "control groups were made in a recorded one") or (str(left) if left else None)
+
+
+def pages_of_two_sizes() -> Optional[str]:
+    words = ["--order", "9,4", "--every", "1", "--user", USER]
+    return run([*words, "--", PYTHON, reachable(str(EXAMPLES / "two_sizes.py")), "150", "2"]).wrong(
+        DONE, "legal (", "1 scans of a part of the queue, whose order was compared", "1 of these, scans of pages of several orders")
+
+
 def runs_as_the_user() -> Optional[str]:
     found = pwd.getpwnam(USER)
     script = "import os; print(os.getresuid(), os.getresgid(), os.getgroups(), sorted(os.listdir('/proc/self/fd')))"
@@ -256,7 +278,7 @@ def main() -> int:
     cases, before, files = Cases("root_record"), settings(), sorted(os.listdir("/var/tmp"))
     each: List[Callable[[], Optional[str]]] = [
         no_such_command, bad_numbers, outputs_refused, outputs_are_the_callers, one_that_cannot_be_run,
-        status_of_the_command, runs_as_the_user, several_threads, bounded_without_events, bounded_with_events,
+        status_of_the_command, groups_of_its_own_are_removed, pages_of_two_sizes, runs_as_the_user, several_threads, bounded_without_events, bounded_with_events,
         copies_on_write, ended_by_seconds, ended_by_events, ended_though_it_ignores_that,
     ]
     for case in each:
