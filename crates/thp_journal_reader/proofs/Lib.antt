@@ -1,5 +1,6 @@
 pub mod SetLaws
 pub mod JournalLaws
+pub mod NodeScriptLaws
 pub mod NodeLaws
 pub mod AnswerLaws
 pub mod PlainWords

@@ -20,3 +20,4 @@ pub mod Moving
 pub mod WholeScans
 pub mod Folds
 pub mod ScriptTexts
+pub mod NodeScripts

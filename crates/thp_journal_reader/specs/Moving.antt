@@ -1,10 +1,11 @@
 -- What a script moves: events that no command repeats at their place, and scans besides the commands that repeat the others (this
 -- project's profile).
-use Rattle.std.specs.Prelude.{◌≡◌, ◌-◌, ◌^◌, ℕ, All, List, [], ◌∷◌, None, length, min}
+use Rattle.std.specs.Prelude.{◌≡◌, ◌+◌, ◌-◌, ◌^◌, ℕ, All, List, [], ◌∷◌, None, length, min}
 use Rattle.thp_model.specs.declared.events.Event.{Event}
 use Rattle.thp_model.specs.History.{History}
 use Rattle.thp_script.specs.declared.script.Op.{Op}
 use Rattle.thp_script.specs.declared.script.Op.TheVariants as op
+use Rattle.thp_journal_reader.specs.declared.moved.Moved.{Moved}
 use Rattle.thp_journal_reader.specs.Repeating.{call_in, kind_of, Repeats}
 
 -- the third list has the elements of the first and of the second, each in its order
@@ -24,6 +25,10 @@ IsScan o = ⊥
 -- a count that stops at the greatest number of 64 bits
 abbrev pub counted : ℕ → ℕ
 counted n = min n (2 ^ 64 - 1)
+
+-- what the scripts of two nodes move
+abbrev pub both_moved : Moved → Moved → Moved
+both_moved a b = record { batches = counted (a.batches + b.batches); calls = counted (a.calls + b.calls); events = counted (a.events + b.events); left = counted (a.left + b.left) }
 
 -- The commands repeat the history at their places, except so many events of batches that are not at their place; the commands
 -- besides are scans.

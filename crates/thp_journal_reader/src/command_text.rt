@@ -2,7 +2,7 @@
 ghost use Rattle.std.specs.Prelude.{◌≡◌, ◌++◌, [], ◌∷◌, OnOk};
 ghost use Rattle.std.specs.Fmt.{decimal};
 ghost use Rattle.thp_journal_writer.specs.EventLines.{line_of};
-ghost use Rattle.thp_journal_reader.specs.ScriptTexts.{command_line, op_words};
+ghost use Rattle.thp_journal_reader.specs.ScriptTexts.{command_line, commands_text, op_words};
 
 use std::alloc::AllocError;
 use thp_journal_writer::{put, put_number};
@@ -31,6 +31,16 @@ pub fn put_command(text: &mut Vec<u8>, command: Command) -> Result<(), AllocErro
         Op::SplitNext => put_node(text, b"splitnext ", node),
         Op::PutBack => put_node(text, b"putback ", node),
     }
+}
+
+/// Appends the lines of commands on a node. On error the text can contain a prefix of them.
+pub(crate) fn put_commands(text: &mut Vec<u8>, node: u32, ops: &[Op]) -> Result<(), AllocError>
+    ensures { OnOk result (text.new.items ≡ text.old.items ++ commands_text node ops.now) }
+{
+    for op in ops {
+        put_command(text, Command { node, op: *op })?;
+    }
+    Ok(())
 }
 
 // a name, a node, and a line feed

@@ -1,12 +1,17 @@
 //! The script of the nodes in a journal.
-use crate::command_text::put_command;
+ghost use Rattle.std.specs.Prelude.{◌≡◌, ◌++◌, ◌-◌, [], None, OnOk};
+ghost use Rattle.thp_journal_reader.specs.Folds.{HasAdded};
+ghost use Rattle.thp_journal_reader.specs.NodeScripts.{head_text, moved_by, untaken, BeginsNode, EndsNode, GoesOnWith, IsWriting, StaysWritten};
+ghost use Rattle.thp_journal_reader.specs.ScriptTexts.{commands_text};
+
+use crate::command_text::put_commands;
 use crate::folding::Folding;
 use crate::moved::Moved;
 use crate::options_text::put_options;
 use std::alloc::{AllocError, Global};
 use thp_journal_writer::put;
 use thp_model::{Event, Shape};
-use thp_script::{Command, Op};
+use thp_script::Op;
 
 /// The script of the nodes in a journal, in one section `setup`: the commands of one node after those of another. Before each
 /// node's commands, a comment has the options of `thpsplit` for the nodes so far.
@@ -28,7 +33,9 @@ pub struct JournalScript {
 
 impl JournalScript {
     /// Creates the script of no node.
-    pub fn new(alloc: Global) -> JournalScript {
+    pub fn new(alloc: Global) -> JournalScript
+        ensures { IsWriting [] None [] result }
+    {
         JournalScript {
             alloc,
             shapes: Vec::new(alloc),
@@ -41,28 +48,33 @@ impl JournalScript {
     }
 
     /// Begins a node, after the end of the one before it.
-    pub fn begin_node(&mut self, shape: Shape) -> Result<(), AllocError> {
+    pub fn begin_node(&mut self, shape: Shape) -> Result<(), AllocError>
+        ensures { OnOk result (HasAdded (untaken self.old) (untaken self.new) (BeginsNode shape self.old self.new)) }
+    {
         self.end_node()?;
         self.shapes.push(shape)?;
         self.nodes = self.nodes.saturating_add(1);
-        put_options(&mut self.text, self.shapes.as_slice())?;
-        if self.nodes == 1 {
-            put(&mut self.text, b"setup\n")?;
-        }
+        put_head(&mut self.text, self.shapes.as_slice())?;
         self.node = Some(Folding::new(self.alloc));
         Ok(())
     }
 
     /// Adds an event of the last node; it is ignored if there is none.
-    pub fn add(&mut self, event: &Event) -> Result<(), AllocError> {
-        if let Some(node) = &mut self.node {
-            node.add(event, &mut self.ops)?;
-        }
-        self.write()
+    pub fn add(&mut self, event: &Event) -> Result<(), AllocError>
+        ensures { OnOk result (HasAdded (untaken self.old) (untaken self.new) (GoesOnWith event.now self.old self.new)) }
+    {
+        let Some(node) = &mut self.node else {
+            return Ok(());
+        };
+        node.add(event, &mut self.ops)?;
+        self.write()?;
+        Ok(())
     }
 
     /// Ends the last node, if there is one.
-    pub fn end_node(&mut self) -> Result<(), AllocError> {
+    pub fn end_node(&mut self) -> Result<(), AllocError>
+        ensures { OnOk result (HasAdded (untaken self.old) (untaken self.new) (EndsNode self.old self.new)) }
+    {
         if let Some(node) = self.node.take() {
             let moved = node.finish(&mut self.ops)?;
             self.moved = self.moved.and(moved);
@@ -72,27 +84,50 @@ impl JournalScript {
     }
 
     /// Appends the lines of the commands that are not in the text yet.
-    fn write(&mut self) -> Result<(), AllocError> {
+    fn write(&mut self) -> Result<(), AllocError>
+        ensures text { OnOk result (self.new.text.items ≡ self.old.text.items ++ commands_text (self.old.nodes - 1) self.old.ops.items) }
+        ensures ops { OnOk result (self.new.ops.items ≡ []) }
+        ensures node { self.new.node ≡ self.old.node }
+        ensures nodes { self.new.nodes ≡ self.old.nodes }
+        ensures shapes { self.new.shapes ≡ self.old.shapes }
+        ensures moved { self.new.moved ≡ self.old.moved }
+    {
         let node = self.nodes.saturating_sub(1);
-        for op in &self.ops {
-            put_command(&mut self.text, Command { node, op: *op })?;
-        }
+        put_commands(&mut self.text, node, self.ops.as_slice())?;
         self.ops.clear();
         Ok(())
     }
 
     /// Returns the text that was not taken out.
-    pub fn text(&self) -> &[u8] {
+    pub fn text(&self) -> &[u8]
+        ensures { result.now ≡ untaken self.now }
+    {
         self.text.as_slice()
     }
 
     /// Takes the text out.
-    pub fn clear_text(&mut self) {
+    pub fn clear_text(&mut self)
+        ensures none { untaken self.new ≡ [] }
+        ensures stays { StaysWritten self.old self.new }
+    {
         self.text.clear();
     }
 
     /// Returns what the script does in another order than the journal, for the nodes that have ended.
-    pub fn moved(&self) -> Moved {
+    pub fn moved(&self) -> Moved
+        ensures { result ≡ moved_by self.now }
+    {
         self.moved
+    }
+}
+
+/// Appends the options of `thpsplit` for nodes of these shapes, and `setup` if there is one.
+fn put_head(text: &mut Vec<u8>, shapes: &[Shape]) -> Result<(), AllocError>
+    ensures { OnOk result (text.new.items ≡ text.old.items ++ head_text shapes.now) }
+{
+    put_options(text, shapes)?;
+    match shapes {
+        [_one] => put(text, b"setup\n"),
+        _ => Ok(()),
     }
 }

@@ -13,12 +13,12 @@
 //! - Used by `long_check`, `summed_check`, `series_check` and `script_check`: `follower` (`Following`, proof `FollowLaws`), generic
 //!   in `follows_node`: what follows a node, and what is kept of it (`Keeping`): nothing, totals (`summed_node`), numbers
 //!   (`series_node`).
-//! - `script_check`, `scripted_nodes`: the script that repeats the legal events. `journal_script`: the script of all nodes.
-//!   `folding`: the commands that repeat a node's events, given one event at a time (`Folds`, `WholeScans`). `event_kind`
-//!   (`Repeating`): the kinds of events, and what each command repeats. `script_batch` (`ScriptBatches`): the batch that the script
-//!   has open, or whose commands are not written yet. `open_flights`, `waiting_flights`: pages in flight, and flights that wait for
-//!   the batch before them. `moved` (`Moving`): what a script does in another order than the history. `command_text`,
-//!   `options_text` (`ScriptTexts`): a command's line, and the options of `thpsplit` for a script.
+//! - `script_check`, `scripted_nodes`: the script that repeats the legal events. `journal_script` (`NodeScripts`): the script of
+//!   all nodes, as text. `folding`: the commands that repeat a node's events, given one event at a time (`Folds`, `WholeScans`).
+//!   `event_kind` (`Repeating`): the kinds of events, and what each command repeats. `script_batch` (`ScriptBatches`): the batch
+//!   that the script has open, or whose commands are not written yet. `open_flights`, `waiting_flights`: pages in flight, and
+//!   flights that wait for the batch before them. `moved` (`Moving`): what a script does in another order than the history.
+//!   `command_text`, `options_text` (`ScriptTexts`): a command's line, and the options of `thpsplit` for a script.
 #![tactic(auto)]
 
 mod checking;

@@ -1,6 +1,7 @@
 //! What a script does in another order than the history that it repeats.
 
 ghost use Rattle.std.specs.Prelude.{◌≡◌};
+ghost use Rattle.thp_journal_reader.specs.Moving.{both_moved};
 
 /// What a script does in another order than the history, or cannot repeat. All are 0 if each batch of the history is a whole scan.
 /// Counts stop at 2^64 - 1.
@@ -31,7 +32,9 @@ impl Moved {
     }
 
     /// Returns the sums with those of another node.
-    pub(crate) fn and(self, other: Moved) -> Moved {
+    pub(crate) fn and(self, other: Moved) -> Moved
+        ensures { result ≡ both_moved self other }
+    {
         Moved {
             batches: self.batches.saturating_add(other.batches),
             calls: self.calls.saturating_add(other.calls),
