@@ -247,6 +247,12 @@ def pages_of_two_sizes() -> Optional[str]:
         DONE, "legal (", "1 scans of a part of the queue, whose order was compared", "1 of these, scans of pages of several orders")
 
 
+def workers_that_share_a_node() -> Optional[str]:
+    words = ["--every", "0.01", "--user", USER, "--", PYTHON]
+    done = run([*words, *(reachable(str(EXAMPLES / name)) for name in ("workers.py", "shared_node.script"))])
+    return done.wrong(DONE, "legal (", " 0 queues that differ")
+
+
 def runs_as_the_user() -> Optional[str]:
     found = pwd.getpwnam(USER)
     script = "import os; print(os.getresuid(), os.getresgid(), os.getgroups(), sorted(os.listdir('/proc/self/fd')))"
@@ -278,7 +284,8 @@ def main() -> int:
     cases, before, files = Cases("root_record"), settings(), sorted(os.listdir("/var/tmp"))
     each: List[Callable[[], Optional[str]]] = [
         no_such_command, bad_numbers, outputs_refused, outputs_are_the_callers, one_that_cannot_be_run,
-        status_of_the_command, groups_of_its_own_are_removed, pages_of_two_sizes, runs_as_the_user, several_threads, bounded_without_events, bounded_with_events,
+        status_of_the_command, groups_of_its_own_are_removed, pages_of_two_sizes, workers_that_share_a_node,
+        runs_as_the_user, several_threads, bounded_without_events, bounded_with_events,
         copies_on_write, ended_by_seconds, ended_by_events, ended_though_it_ignores_that,
     ]
     for case in each:

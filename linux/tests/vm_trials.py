@@ -31,6 +31,7 @@ KERNELS = ("bookworm:linux-image-amd64", "trixie:linux-image-amd64", "trixie-bac
 PROGRAM = [] if program.find("thpsplit", program.BUILT) else ["--program", "linux/tests/plain_program.py"]
 CHECKER = [] if program.find("thpcheck", checker.BUILT) else ["--checker", "linux/tests/plain_checker.py"]
 SECONDS, SKIPPED, DIFFERS = 6 * 3600, 77, 1
+NO_SIZES = "skipped: this kernel has no pages of order"
 EVENTS = 5000  # of recordings, at least
 MOST_FOR_BUG = 20  # scripts in which an injected bug is found
 TWO_FINGERPRINTS = "thpreplay {0} --fingerprint; echo ==; thpreplay {0} --fingerprint; thpreplay {0} --fingerprint --markdown"
@@ -47,8 +48,12 @@ def run_in_guest(kernel: str, options: List[str], command: List[str]) -> subproc
 
 
 def compare(kernel: str, nodes: int, words: List[str]) -> Optional[str]:
-    """Returns what is wrong with random scripts on a kernel, or nothing. All of them agree, and queues are compared."""
-    done = run_in_guest(kernel, ["--numa", str(nodes)], ["thpreplay", *PROGRAM, "--quiet", *words])
+    """Returns what is wrong with random scripts on a kernel, or nothing. All of them agree, and queues are compared. On a kernel
+    without sizes they have pages of order 9."""
+    options, command = ["--numa", str(nodes)], ["thpreplay", *PROGRAM, "--quiet", *words]
+    done = run_in_guest(kernel, options, command)
+    if NO_SIZES in done.stdout:
+        done = run_in_guest(kernel, options, [*command, "--page-orders", "9"])
     queues = re.search(r"^ *([0-9]+) queues compared$", done.stdout, re.MULTILINE)
     if done.returncode or not queues:
         return f"status {done.returncode}: " + "; ".join((done.stdout + done.stderr).strip().split("\n")[-30:])
