@@ -30,6 +30,7 @@ from linux.common.keeper import Keeper  # noqa: E402
 
 SIGNALS = (signal.SIGINT, signal.SIGTERM, signal.SIGKILL)
 MOMENTS = [0.15 + 0.25 * number for number in range(10)]  # seconds after the tool's start
+PATIENCE = 5.0  # seconds
 NAMES = ("mapper", "workload", "guardian.py")
 
 
@@ -69,11 +70,15 @@ def heed_interrupts() -> None:
 
 
 def read_settled_state() -> MachineState:
-    """What is there once no tool holds the lock, and ended processes have had a moment to go."""
+    """What is there once no tool holds the lock, and its processes have gone, for which they have some seconds."""
     with Keeper("ends", wait=True):
         pass
-    time.sleep(0.1)
-    return read_state()
+    until = time.monotonic() + PATIENCE
+    state = read_state()
+    while state.processes and time.monotonic() < until:
+        time.sleep(0.1)
+        state = read_state()
+    return state
 
 
 def end_at(command: List[str], sent: signal.Signals, moment: float) -> Tuple[bool, List[str]]:
