@@ -47,9 +47,10 @@ fn a_batch_is_tried_and_put_back() -> Result<(), Fault> {
     assert_eq!(node.split_next(1)?, Tried::Done);
     assert_eq!(node.put_back(1)?.back, 1);
     assert_eq!(node.unpin(0, page)?.outcome, Outcome::Stays);
-    assert_eq!(node.take(1, 1)?, 1);
-    node.abandon(1)?;
-    assert_eq!(node.scan(1, 1), Err(Fault::HasBatch));
+    let batch = node.batch(1, 1)?;
+    assert_eq!(batch.taken(), 1);
+    batch.abandon()?;
+    assert_eq!((node.page(page)?.list, node.scan(1, 1)), (List::Flight(1), Err(Fault::HasBatch)));
     Ok(())
 }
 
