@@ -1,5 +1,9 @@
 # bash completion for thpdraw
 _thpdraw() {
-    COMPREPLY=($(compgen -W '--table --progress --help --version' -- "${COMP_WORDS[COMP_CWORD]}"))
+    local word=${COMP_WORDS[COMP_CWORD]} before=${COMP_WORDS[COMP_CWORD - 1]}
+    case $before in
+    --node) COMPREPLY=($(compgen -W '0 1 2 3 4 5 6 7' -- "$word")) ;;
+    *) COMPREPLY=($(compgen -W '--table --node --progress --help --version' -- "$word")) ;;
+    esac
 }
 complete -F _thpdraw thpdraw

@@ -226,6 +226,71 @@ def wide(pages: int = 240) -> bytes:
     return "\n".join([*lines, "end", ""]).encode()
 
 
+def of_node(text: bytes, number: int) -> Ended:
+    """The table of one node of a journal without errors: the lines with its number, and its own status."""
+    whole = table(text).output.decode().splitlines()
+    lines = [line for line in whole if line.startswith("#") or line.split("\t")[1] == str(number)]
+    is_illegal = any(line.startswith("node\t") and not line.endswith("\t-") for line in lines)
+    return Ended(int(is_illegal), "".join(f"{line}\n" for line in lines).encode())
+
+
+def alone() -> Iterator[Row]:
+    """Tables of one node: each node of journals whose nodes have illegal events or not; nodes that a journal lacks."""
+    for name, text in {"one node": FIRST_JOURNAL, "several nodes": SEVERAL, "an illegal journal": ILLEGAL}.items():
+        count = len(drawn_nodes(text.decode().split("\n")[:-1]))
+        for number in range(count):
+            for words in (("--node", str(number), *TABLE), (*TABLE, f"--node=+{number}")):
+                yield Row("one node", f"{name}, {' '.join(words)}", Call(words, text), of_node(text, number))
+        for number in (count, 7):
+            for more in ((), TABLE):
+                yield Row("one node", f"{name}, none {number}", Call(("--node", str(number), *more), text), no_node(number))
+    yield Row("one node", "of a text with an error", Call(("--node", "7"), SEVERAL + b"fly\n"), fault(SEVERAL.count(b"\n") + 1, "bad-word"))
+    yield Row("one node", "a full device", Call(("--node", "7"), SEVERAL, output=Sink.FULL), no_node(7))
+
+
+def no_node(number: int) -> Ended:
+    """A journal that lacks a node."""
+    return Ended(2, b"", f"thpdraw: no node {number}\n".encode())
+
+
+HEIGHT = re.compile(r'(viewBox="0 0 7200 |<rect class="bg" x="0" y="0" width="7200" height=")\d+')
+ORIGIN = re.compile(r'<g transform="translate\(0 (\d+)\)">\n<text class="ink h" ')
+"""Where a node's group begins in a picture."""
+
+
+@dataclass(frozen=True)
+class Alone:
+    """A journal, of whose nodes each is drawn alone: as in the picture of all, below the title."""
+
+    name: str
+    text: bytes
+    group: str = "one node"
+
+    def wrong(self, program: Path) -> Optional[str]:
+        """What is wrong with a picture of one node, or None."""
+        whole = run(program, Call((), self.text)).output.decode()
+        head, *groups = ORIGIN.split(whole)
+        tops, nodes = groups[::2], [node.removesuffix("</svg>\n") for node in groups[1::2]]
+        head = head[: head.index("<text ")] + "".join(re.findall(r'<text class="(?:ink hh|soft)" x="150" y="[346].*\n', head))
+        for number, (node, top) in enumerate(zip(nodes, tops)):
+            ended = run(program, Call(("--node", str(number)), self.text))
+            start = '<g transform="translate(0 660)">\n<text class="ink h" '
+            told = Ended(ended.status, b"", ended.errors).differs_from(Ended(of_node(self.text, number).status))
+            if told:
+                return told
+            if HEIGHT.sub(r"\1", ended.output.decode()) != HEIGHT.sub(r"\1", f"{head}{start}{node}</svg>\n"):
+                return f"node {number}, at {top} in the whole picture, differs"
+        return None if len(nodes) == len(drawn_nodes(self.text.decode().split("\n")[:-1])) else f"{len(nodes)} nodes are drawn"
+
+
+def alone_drawn() -> Iterator[Alone]:
+    """Pictures of one node."""
+    texts = {"the first script's": FIRST_JOURNAL, "several nodes": SEVERAL, "illegal": ILLEGAL, "more than 1,200 events": wide()}
+    yield from (Alone(name, text) for name, text in texts.items())
+    for text, _ in faulty_texts.ILLEGAL:
+        yield Alone(repr(text[-60:]), text + b"end\n")
+
+
 def stored() -> Iterator[Row]:
     """The pictures in docs/, byte for byte, with the journals that they show."""
     of = {"first": FIRST_JOURNAL, "wide": wide()}
@@ -256,6 +321,7 @@ def requests() -> Iterator[Row]:
         yield Row("words", f"{word}, /dev/full", Call((word,), output=Sink.FULL), WRITE_FAILED)
     for word in ("zzz", "--zzz", "-z", "--summary", "--nodes", "my.journal", "\u00e9", ""):
         yield at_fault((word,), f"unexpected argument '{word}' found")
+    yield from numbers_at_fault()
     for flag in FLAGS:
         yield at_fault((flag, flag), f"the argument '{flag}' cannot be used multiple times")
         yield at_fault((f"{flag}=1",), f"unexpected value '1' for '{flag}' found; no more were expected", flag)
@@ -263,9 +329,23 @@ def requests() -> Iterator[Row]:
     yield Row("words", "a word that isn't UTF-8", Call((b"\xff",), b"fly\n", untouched=True), told(usage.NOT_TEXT))
 
 
+def numbers_at_fault() -> Iterator[Row]:
+    """Values of `--node` that are no number of a node, none, and two."""
+    option = "--node <NODE>"
+    for value in ("8", "4294967296", "-1"):
+        yield at_fault((f"--node={value}",), f"invalid value '{value}' for '{option}': {value} is not in 0..=7", "")
+    for value in ("x", "0x1", " 1", "1,2"):
+        yield at_fault((f"--node={value}",), f"invalid value '{value}' for '{option}': invalid digit found in string", "")
+    yield at_fault(("--node", ""), f"invalid value '' for '{option}': cannot parse integer from empty string", "")
+    yield at_fault(("--node",), f"a value is required for '{option}' but none was supplied", "")
+    for second in ("1", "2"):
+        yield at_fault(("--node", "1", "--node", second), f"the argument '{option}' cannot be used multiple times")
+
+
 def at_fault(words: tuple[str, ...], what: str, named: str = "[OPTIONS]") -> Row:
     """Words that the command does not accept, and the messages of `clap` about them."""
-    text = f"error: {what}\n\nUsage: thpdraw {named}{usage.TRY}".encode()
+    usage_line = f"\n\nUsage: thpdraw {named}" if named else ""
+    text = f"error: {what}{usage_line}{usage.TRY}".encode()
     return Row("words", " ".join(words) or repr(""), Call(words, b"fly\n", untouched=True), told(text))
 
 
@@ -307,8 +387,8 @@ def main() -> None:
         # its name is what it is called by, whatever its file's is
         path = Path(name) / "thpdraw"
         path.symlink_to(program.resolve())
-        parts: tuple[Callable[[], Iterator[Row | Picture | Shown]], ...] = (
-            drawn, pictures, stored, faults, requests, failures, shown)
+        parts: tuple[Callable[[], Iterator[Row | Picture | Alone | Shown]], ...] = (
+            drawn, pictures, alone, alone_drawn, stored, faults, requests, failures, shown)
         for part in parts:
             rows, passed = list(part()), tally.passed
             for row in rows:

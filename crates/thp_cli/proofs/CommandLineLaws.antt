@@ -17,10 +17,10 @@ use Rattle.clap.specs.declared.parser.matches.Found.{Found}
 use Rattle.clap.proofs.OnLiterals.{clap_on_literals}
 use Rattle.clap.proofs.WalkLemmas.{first_value-rows, one_text-rows}
 use Rattle.std.proofs.lemmas.List.Elements.{All-nil}
-use Rattle.thp_cli.specs.Flags.{ReportsFlag}
+use Rattle.thp_cli.specs.Flags.{ReportsFlag, WritesNumber}
 use Rattle.thp_model.specs.Limits.{max_blocks}
 use Rattle.thp_script.specs.Limits.{max_nodes, max_workers}
-use Rattle.thp_cli.specs.CommandLine.{FailsAsWords, HoldsWords, WritesNumber, bare, blocks_rule, nodes_rule, own_rules, report_name, report_names, report_rule, with_rules, workers_rule}
+use Rattle.thp_cli.specs.CommandLine.{FailsAsWords, HoldsWords, bare, blocks_rule, nodes_rule, own_rules, report_name, report_names, report_rule, with_rules, workers_rule}
 use Rattle.thp_cli.specs.OwnCommand.{IsOwnCommand}
 use Rattle.thp_cli.specs.declared.line.Line.{Line}
 use Rattle.thp_cli.proofs.ChainLaws.{AreOptions, IsDefaultRule, chained, chained_app, option_value}

@@ -13,7 +13,7 @@ use Rattle.clap.specs.declared.builder.value_parser.ValueParser.TheVariants.{Nam
 use Rattle.clap.specs.declared.parser.matches.Found.{Found}
 use Rattle.clap.proofs.CallerReads.{signed_reads}
 use Rattle.clap.proofs.WalkLemmas.{list_any-map}
-use Rattle.thp_cli.specs.CommandLine.{WritesNumber}
+use Rattle.thp_cli.specs.Flags.{WritesNumber}
 use Rattle.thp_cli.specs.Options.{HasValue}
 
 head_of_map : {A B : Type 0} (f : A → B) (xs : List A) (y : B) (ys : List B) → map f xs ≡ y ∷ ys → option_map f (slice_get xs 0) ≡ Some y
@@ -35,10 +35,11 @@ one_text-value found id q h =
     read-first (Some s) e = ap (option_map (read_as (reading_of q))) e
 
 -- what a getter of whole numbers reads of a value in a range above zero: a number of the range, which the text writes
-pub number_read : (E : Type 0) (G : List ℕ → Result ℕ E → Type 0) (low high : ℕ) (found : Found) (id : List ℕ) (h : HasValue found id (Signed (pos low) (pos high))) (r : Option ℕ)
-    → ReadsOne G (without_minus h.value) r → ((u : List ℕ) (x : Result ℕ E) → G u x → ParsesUnsigned 32 10 u x) → high < 2 ^ 32
-    → (n : ℕ) × (r ≡ Some n) × (low ≤ n) × (n ≤ high) × WritesNumber (one_text found id) n
-number_read E G low high found id h r reads only fits =
+pub number_read : (E : Type 0) (G : List ℕ → Result ℕ E → Type 0) (low high : ℕ) (found : Found) (id : List ℕ) (r : Option ℕ)
+    → ((text : List ℕ) → one_text found id ≡ Some text → ReadsOne G text r) → ((u : List ℕ) (x : Result ℕ E) → G u x → ParsesUnsigned 32 10 u x)
+    → high < 2 ^ 32 → HasValue found id (Signed (pos low) (pos high)) → (n : ℕ) × (r ≡ Some n) × (low ≤ n) × (n ≤ high) × WritesNumber (one_text found id) n
+number_read E G low high found id r gets only fits h =
+    let reads = gets (without_minus h.value) (one_text-value found id (Signed (pos low) (pos high)) h) in
     let got = signed_reads E G 32 low high h.value r reads only fits h.passed in
     let parsed : ParsesUnsigned {E = E} 32 10 (without_minus h.value) (Ok got.0) = only (without_minus h.value) (Ok got.0) (rw got.1 at reads) in
     (got.0, got.1, got.2, got.3, (without_minus h.value, one_text-value found id (Signed (pos low) (pos high)) h, parsed.0.0, sym parsed.1))

@@ -1,22 +1,16 @@
 -- The program's command line, as `clap` reads it.
 use Rattle.std.specs.Prelude.{◌≡◌, ℕ, true, pos, List, [], ◌∷◌, Option, Some, None, Result, map, option_map, codes}
 use Rattle.std.specs.Borrow.{Bor}
-use Rattle.std.specs.Str.Parse.{IsNumeral, digits_value, without_leading_plus}
-use Rattle.clap.specs.Words.{App, FailsBy, Row, Rule, fault_of, first_of, matches_of, new_app, new_rule, one_of, with_rule}
-use Rattle.clap.specs.declared.builder.action.ArgAction.TheVariants.{Set}
+use Rattle.clap.specs.Words.{App, FailsBy, Row, Rule, fault_of, first_of, matches_of, one_of, with_rule}
 use Rattle.clap.specs.declared.builder.value_parser.ValueParser.TheVariants.{Names, Signed}
 use Rattle.clap.specs.declared.error.Error.{Error}
-use Rattle.thp_cli.specs.Flags.{flag_rule, ReportsFlag}
+use Rattle.thp_cli.specs.Flags.{bare_app, flag_rule, valued_rule, ReportsFlag, WritesNumber}
 use Rattle.thp_model.specs.Limits.{max_blocks}
 use Rattle.thp_cli.specs.declared.line.Line.{Line}
 use Rattle.thp_script.specs.declared.settings.Report.{Report}
 use Rattle.thp_script.specs.declared.settings.Report.TheVariants.{Totals, Journal, Answers}
 use Rattle.thp_script.specs.Limits.{max_nodes, max_workers}
 use Rattle.thp_script.specs.Settings.{IsWithinLimits}
-
--- `--NAME VALUE`
-abbrev pub valued_rule : List ℕ → Rule
-valued_rule name = record (new_rule name) { long = Some name; action = Some Set; value_names = 1 }
 
 -- `--NAME NUMBER`: a whole number from 1 to the highest; the default if the option is not given
 abbrev pub number_rule : List ℕ → ℕ → List ℕ → Rule
@@ -62,9 +56,7 @@ check_rule = flag_rule (codes "check")
 
 -- the command `thpsplit` without options; it has a version
 abbrev pub bare : App
-bare =
-    let new = new_app (codes "thpsplit") in
-    record new { top = record new.top { has_version = true } }
+bare = bare_app (codes "thpsplit")
 
 -- the command with options of these rules added in turn
 abbrev pub with_rules : App → List Rule → App
@@ -80,10 +72,6 @@ pub record IsThpsplit (command : App) : Type 0 where
   pub names : Bor (List (Bor (List ℕ)))
   pub reports : map (λ name. name.now) names.now ≡ report_names
   pub options : command ≡ with_rules bare (own_rules names)
-
--- a text exists and represents this number
-abbrev pub WritesNumber : Option (List ℕ) → ℕ → Type 0
-WritesNumber o n = (text : List ℕ) × (o ≡ Some text) × IsNumeral 10 (without_leading_plus text) × (digits_value 10 (without_leading_plus text) ≡ n)
 
 -- the line has the values of the matches
 pub record HoldsLine (matches : List Row) (line : Line) : Type 0 where

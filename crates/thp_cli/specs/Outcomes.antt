@@ -1,5 +1,6 @@
 -- The messages of programs, their exit statuses, and their effect on their streams (this project's profile).
 use Rattle.std.specs.Prelude.{◌≡◌, ◌≢◌, ◌⊎◌, ◌++◌, ◌∷◌, [], ℕ, Bool, true, false, List, Option, None, Some, IfSome, MatchBool, Result, Ok, Err, Vec, String, codes, map, string_bytes}
+use Rattle.std.specs.Fmt.{decimal}
 use Rattle.std.specs.declared.alloc.Global.{Global}
 use Rattle.std.specs.Io.KnownBytes.{Keeps, Appends}
 use Rattle.clap.specs.Words.{kind_of}
@@ -9,7 +10,7 @@ use Rattle.clap.specs.declared.error.kind.ErrorKind.TheVariants.{DisplayHelp, Di
 use Rattle.thp_cli.specs.declared.ending.Ending.{Ending}
 use Rattle.thp_cli.specs.declared.ending.Ending.TheVariants.{Written, Illegal}
 use Rattle.thp_cli.specs.declared.ending.ProgramFault.{ProgramFault}
-use Rattle.thp_cli.specs.declared.ending.ProgramFault.TheVariants.{Run, Usage, NoText, Orders, Underused}
+use Rattle.thp_cli.specs.declared.ending.ProgramFault.TheVariants.{Run, Usage, NoNode, NoText, Orders, Underused}
 use Rattle.thp_cli.specs.declared.ending.WordsFault.{WordsFault}
 use Rattle.thp_cli.specs.declared.ending.WordsFault.TheVariants as words
 use Rattle.thp_cli.specs.declared.ending.Program.{Program}
@@ -38,12 +39,17 @@ name_front Thpdraw = codes "thpdraw: "
 unfoldable pub fault_line : Program → RunFault → List ℕ
 fault_line program fault = name_front program ++ fault_text fault ++ (10 ∷ [])
 
+-- the line for a node that the journal does not have
+unfoldable pub no_node_line : Program → ℕ → List ℕ
+no_node_line program number = name_front program ++ codes "no node " ++ decimal number ++ (10 ∷ [])
+
 -- the message on standard error: for a fault of a run its line; for an error in the words `clap`'s text
 abbrev pub message_text : Program → ProgramFault → List ℕ
 message_text program (Run fault) = fault_line program fault
 message_text program (Usage text) = string_bytes text
 message_text program Orders = line_of (codes "thpsplit: bad orders")
 message_text program Underused = line_of (codes "thpsplit: bad underused")
+message_text program (NoNode number) = no_node_line program number
 message_text program NoText = line_of (codes "error: invalid UTF-8 was detected in one or more arguments")
 
 -- 2 if the script has an error, 3 if memory could not be allocated or a device failed
@@ -53,12 +59,13 @@ status_of OutOfMemory = 3
 status_of Read = 3
 status_of Write = 3
 
--- 2 also if the words have an error
+-- 2 also if the words have an error, or the journal lacks the requested node
 abbrev pub exit_status : ProgramFault → ℕ
 exit_status (Run fault) = status_of fault
 exit_status (Usage text) = 2
 exit_status Orders = 2
 exit_status Underused = 2
+exit_status (NoNode number) = 2
 exit_status NoText = 2
 
 -- 1 if a journal is illegal
@@ -133,9 +140,7 @@ abbrev pub Answers : Option (List ℕ) → ErrorKind → Device → Result (Unit
 Answers shown kind output (Ok u) = (is_request kind ≡ true) × IsShown shown output (Ok u)
 Answers shown kind output (Err (Run fault)) = ((is_request kind ≡ true) × IsShown shown output (Err fault)) ⊎ (IsUntouched output × (fault ≡ OutOfMemory))
 Answers shown kind output (Err (Usage text)) = (is_request kind ≡ false) × (kind ≢ NoMemory) × IsTextOf shown (string_bytes text) × IsUntouched output
-Answers shown kind output (Err Orders) = ⊥
-Answers shown kind output (Err Underused) = ⊥
-Answers shown kind output (Err NoText) = ⊥
+Answers shown kind output (Err _) = ⊥
 
 -- the text that `clap`'s errors display: `clap` does not specify it
 abbrev pub clap_text : Error → Option (List ℕ)

@@ -53,6 +53,9 @@ pub enum ProgramFault {
     /// The value of the option `--underused` is not a list of thresholds for the nodes.
     #[error("bad underused")]
     Underused,
+    /// The journal does not have the node of the option `--node`.
+    #[error("no node {0}")]
+    NoNode(u32),
     /// A word of the command line is not text.
     #[error("a word isn't text")]
     NoText,

@@ -2,7 +2,7 @@
 ghost use Rattle.std.specs.Prelude.{◌≡◌, ◌≤◌, ◌++◌, Err, false, length};
 ghost use Rattle.arrayvec.specs.ArrayString.{array_string_len};
 ghost use Rattle.thp_script.specs.TextKinds.{kind_word};
-ghost use Rattle.thp_cli.specs.Outcomes.{device_of, end_status, fault_line, name_front, status_of, Takes, WritesMessage};
+ghost use Rattle.thp_cli.specs.Outcomes.{device_of, end_status, fault_line, name_front, no_node_line, status_of, Takes, WritesMessage};
 ghost use Rattle.thp_cli.specs.declared.fault.RunFault.TheVariants as run;
 ghost use Rattle.thp_cli.specs.RunFaults.{fault_text, seen_fault};
 
@@ -83,14 +83,35 @@ fn put_fault(text: &mut ArrayString<LINE>, fault: &LongRunFault)
     }
 }
 
+/// Returns a line that has only the program's name.
+fn named_line(program: Program) -> ArrayString<LINE>
+    ensures bytes { result.bytes ≡ name_front program }
+    ensures short { array_string_len result ≤ 10 }
+{
+    let mut text = ArrayString::new();
+    text.push_str(name_front(program));
+    text
+}
+
 /// Returns the line that states an error of a run, with the program's name. It needs no memory, so it states every error as it is.
 #[tactic(auto, unfolding(crate::specs::Outcomes::fault_line))]
 fn fault_line(program: Program, fault: &LongRunFault) -> ArrayString<LINE>
     ensures { result.bytes ≡ fault_line program (seen_fault fault.now) }
 {
-    let mut text = ArrayString::new();
-    text.push_str(name_front(program));
+    let mut text = named_line(program);
     put_fault(&mut text, fault);
+    text.push_str("\n");
+    text
+}
+
+/// Returns the line about a node that the journal does not have, with the program's name.
+#[tactic(auto, unfolding(crate::specs::Outcomes::no_node_line))]
+fn no_node_line(program: Program, number: u32) -> ArrayString<LINE>
+    ensures { result.bytes ≡ no_node_line program number }
+{
+    let mut text = named_line(program);
+    text.push_str("no node ");
+    text.push_str(Buffer::new().format(number));
     text.push_str("\n");
     text
 }
@@ -141,6 +162,10 @@ pub fn tell<E: Write>(program: Program, fault: ProgramFault, errors: &mut Watche
         }
         ProgramFault::Underused => {
             tell_text(errors, b"thpsplit: bad underused\n");
+            FAULTY
+        }
+        ProgramFault::NoNode(number) => {
+            tell_text(errors, no_node_line(program, number).as_str().as_bytes());
             FAULTY
         }
         ProgramFault::NoText => {

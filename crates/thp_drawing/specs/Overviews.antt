@@ -48,6 +48,10 @@ overview_heads =
 unfoldable pub overview : List DrawnNode → List ℕ
 overview nodes = if nat_le (length nodes) 1 then [] else overview_heads ++ overview_lines 1060 0 nodes
 
+-- the lower end of the picture's title
+abbrev pub title_foot : ℕ
+title_foot = 660
+
 -- the lower end of the overview
 abbrev pub overview_foot : List DrawnNode → ℕ
-overview_foot nodes = if nat_le (length nodes) 1 then 660 else plus 950 (times 165 (length nodes))
+overview_foot nodes = if nat_le (length nodes) 1 then title_foot else plus 950 (times 165 (length nodes))

@@ -4,7 +4,7 @@ use Rattle.std.specs.Fmt.{decimal}
 use Rattle.thp_drawing.specs.Axes.{event_axis}
 use Rattle.thp_drawing.specs.Elements.{group_end, group_start, text_at}
 use Rattle.thp_drawing.specs.Lanes.{lanes_height, lanes_panel}
-use Rattle.thp_drawing.specs.Overviews.{overview, overview_foot}
+use Rattle.thp_drawing.specs.Overviews.{overview, overview_foot, title_foot}
 use Rattle.thp_drawing.specs.Panels.{panel_at, panel_most, stages_panel}
 use Rattle.thp_drawing.specs.Quantities.{pages_most}
 use Rattle.thp_drawing.specs.Rows.{allocated_pages, has_rows, rows_height, rows_panel}
@@ -120,3 +120,7 @@ unfoldable pub picture_text : List DrawnNode → List ℕ
 picture_text nodes =
     head (foot_of (overview_foot nodes) nodes) ++ title ++ overview nodes
     ++ nodes_drawn (overview_foot nodes) 0 nodes ++ codes "</svg>\n"
+
+-- the picture of node n alone, with its number
+unfoldable pub node_picture : ℕ → DrawnNode → List ℕ
+node_picture n d = head (plus title_foot (node_height d)) ++ title ++ node_drawn title_foot n d ++ codes "</svg>\n"

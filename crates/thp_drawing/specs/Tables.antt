@@ -119,3 +119,7 @@ heads =
 -- the table of nodes
 abbrev pub table_text : List DrawnNode → List ℕ
 table_text nodes = heads ++ lines_from 0 nodes
+
+-- the table of node n alone, with its number
+abbrev pub node_table : ℕ → DrawnNode → List ℕ
+node_table n d = heads ++ node_lines n d

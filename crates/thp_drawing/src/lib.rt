@@ -1,8 +1,8 @@
 //! The numbers of nodes as a table and as an SVG picture.
 //!
-//! The texts are exactly those of the definitions: `table_text` (`Tables`) and `picture_text` (`Pictures`, and `Titles`,
-//! `Overviews`, `Panels`, `Quantities`, `Rows`, `Lanes`, `Stucks`, `Bars`, `Axes`, `Areas`, `Scales`, `Elements`, `Grouped`,
-//! `Styles`).
+//! The texts are exactly those of the definitions: `table_text` and `node_table` (`Tables`), `picture_text` and `node_picture`
+//! (`Pictures`, and `Titles`, `Overviews`, `Panels`, `Quantities`, `Rows`, `Lanes`, `Stucks`, `Bars`, `Axes`, `Areas`, `Scales`,
+//! `Elements`, `Grouped`, `Styles`).
 //!
 //! - `node`: what is drawn of a node (`Drawn`): its numbers, its columns, the event at which it ends (`illegal_event`).
 //! - `table`; `picture`, `title`, `overview`, `panel`, `quantity`, `rows_panel`, `rows` (one for each page), `lanes` (one for
@@ -41,5 +41,5 @@ pub use escaping::{escaped_stays_within, put_escaped};
 pub use illegal_event::IllegalEvent;
 pub use laws::each_page_has_its_row;
 pub use node::DrawnNode;
-pub use picture::put_picture;
-pub use table::put_table;
+pub use picture::{put_node_picture, put_picture};
+pub use table::{put_node_table, put_table};

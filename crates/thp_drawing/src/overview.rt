@@ -23,12 +23,15 @@ use std::alloc::AllocError;
 use thp_journal_writer::put;
 use thp_metrics::Pages;
 
+/// The lower end of the picture's title.
+pub(crate) const TITLE_FOOT: u128 = 660;
+
 /// Returns the lower end of the overview.
 pub(crate) fn overview_foot(nodes: &[DrawnNode]) -> u128
     ensures { result ≡ overview_foot nodes.now }
 {
     if nodes.len() <= 1 {
-        660
+        TITLE_FOOT
     } else {
         plus(950, times(165, nodes.len() as u128))
     }

@@ -16,6 +16,7 @@ ghost use Rattle.thp_drawing.specs.Pictures.{
   lives_top,
   node_drawn,
   node_height,
+  node_picture,
   nodes_drawn,
   order_words,
   pages_top,
@@ -35,7 +36,7 @@ use crate::element::{put_decimal, put_group, put_text};
 use crate::illegal_event::IllegalEvent;
 use crate::lanes::{lanes_height, put_lanes_panel};
 use crate::node::DrawnNode;
-use crate::overview::{overview_foot, put_overview};
+use crate::overview::{TITLE_FOOT, overview_foot, put_overview};
 use crate::panel::{Panel, put_panel};
 use crate::rows::{allocated_pages, has_rows, rows_height};
 use crate::rows_panel::put_rows_panel;
@@ -64,6 +65,22 @@ pub fn put_picture(text: &mut Vec<u8>, nodes: &[DrawnNode]) -> Result<(), AllocE
     put_title(text)?;
     put_overview(text, nodes)?;
     put_nodes(text, top, nodes)?;
+    put(text, b"</svg>\n")
+}
+
+/// Appends the picture of one node alone, with its number, to a text. If memory can't be allocated, the text can contain a prefix
+/// of it.
+#[tactic(auto, using(crate::proofs::Pieces::four), unfolding(crate::specs::Pictures::node_picture))]
+pub fn put_node_picture(
+    text: &mut Vec<u8>,
+    number: usize,
+    node: &DrawnNode,
+) -> Result<(), AllocError>
+    ensures { OnOk result (text.new.items ≡ text.old.items ++ node_picture number node.now) }
+{
+    put_head(text, plus(TITLE_FOOT, node_height(node)))?;
+    put_title(text)?;
+    put_node(text, TITLE_FOOT, number, node)?;
     put(text, b"</svg>\n")
 }
 

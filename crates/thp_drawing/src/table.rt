@@ -3,7 +3,7 @@ ghost use Rattle.std.specs.Prelude.{◌≡◌, ◌≤◌, ◌++◌, ◌+◌, ◌
 ghost use Rattle.std.specs.Fmt.{decimal};
 ghost use Rattle.thp_journal_writer.specs.EventLines.{event_line};
 ghost use Rattle.thp_journal_writer.specs.Journals.{ended};
-ghost use Rattle.thp_drawing.specs.Tables.{caller_item, caller_words, callers_joined, column_line, column_lines, column_numbers, fields, heads, illegal_fields, lines_from, node_line, node_lines, node_numbers, stage_letter, stage_letters, stuck_line, stuck_lines, table_text, threshold_field};
+ghost use Rattle.thp_drawing.specs.Tables.{caller_item, caller_words, callers_joined, column_line, column_lines, column_numbers, fields, heads, illegal_fields, lines_from, node_line, node_lines, node_numbers, node_table, stage_letter, stage_letters, stuck_line, stuck_lines, table_text, threshold_field};
 
 use crate::bar::is_among;
 use crate::illegal_event::IllegalEvent;
@@ -32,6 +32,15 @@ pub fn put_table(text: &mut Vec<u8>, nodes: &[DrawnNode]) -> Result<(), AllocErr
 {
     put_heads(text)?;
     put_nodes(text, nodes)
+}
+
+/// Appends the table of one node alone, with its number, to a text. If memory can't be allocated, the text can contain a prefix of
+/// it.
+pub fn put_node_table(text: &mut Vec<u8>, number: usize, node: &DrawnNode) -> Result<(), AllocError>
+    ensures { OnOk result (text.new.items ≡ text.old.items ++ node_table number node.now) }
+{
+    put_heads(text)?;
+    put_node(text, number, node)
 }
 
 #[tactic(auto, using(crate::proofs::Pieces::three), unfolding(crate::specs::Tables::heads))]

@@ -3,6 +3,5 @@ pub mod CheckLaws
 mod ScriptLaws
 mod CountLaws
 mod ProgressLaws
-mod DrawCommandLineLaws
 mod NodeLaws
 mod DrawLaws

@@ -1,39 +1,38 @@
 -- The effect of the program on its words, its input and its outputs, and its exit status (this project's profile).
-use Rattle.std.specs.Prelude.{◌≡◌, ◌⊎◌, ℕ, List, Result, Ok, Err}
+use Rattle.std.specs.Prelude.{◌≡◌, ◌≤◌, ◌⊎◌, ℕ, length, List, Option, Some, Result, Ok, Err}
 use Rattle.thp_journal_tools.specs.Outcomes.{fault_at_end}
+use Rattle.thp_drawing.specs.declared.node.DrawnNode.{DrawnNode}
 use Rattle.thp_journal_tools.specs.declared.end_fault.EndFault.{EndFault}
+use Rattle.thp_journal_tools.specs.declared.end_fault.EndFault.TheVariants as ended
 use Rattle.thp_cli.specs.declared.ending.Ending.{Ending}
 use Rattle.thp_cli.specs.declared.ending.Program.TheVariants.{Thpdraw}
 use Rattle.thp_cli.specs.declared.ending.ProgramFault.{ProgramFault}
-use Rattle.thp_cli.specs.declared.ending.ProgramFault.TheVariants.{Run, Usage, NoText, Orders, Underused}
+use Rattle.thp_cli.specs.declared.ending.ProgramFault.TheVariants.{Run, NoNode, NoText}
 use Rattle.thp_cli.specs.declared.ending.WordsFault.{WordsFault}
 use Rattle.thp_cli.specs.declared.ending.WordsFault.TheVariants as words
-use Rattle.thp_cli.specs.declared.fault.RunFault.{RunFault}
-use Rattle.thp_cli.specs.declared.long_fault.LongRunFault.{LongRunFault}
+use Rattle.thp_cli.specs.declared.long_fault.LongRunFault.TheVariants.{OutOfMemory}
 use Rattle.thp_cli.specs.Outcomes.{Device, IsShort, IsUnread, IsUntouched, Source, WritesMessage, WasAnsweredBy}
-use Rattle.thp_cli.specs.RunFaults.{seen_fault}
 use Rattle.thp_journal_tools.specs.declared.draw_options.DrawOptions.{DrawOptions}
 use Rattle.thp_journal_tools.specs.DrawCommandLine.{AnswersWords}
-use Rattle.thp_journal_tools.specs.Drawings.{Draws}
-
--- the view that contracts have of the result: line numbers of any size
-abbrev pub seen_end : Result Ending LongRunFault → Result Ending RunFault
-seen_end (Ok ending) = Ok ending
-seen_end (Err fault) = Err (seen_fault fault)
+use Rattle.thp_journal_tools.specs.Drawings.{Draws, FindsNoNode}
 
 -- how the program ended
 abbrev pub end_of : Result Ending EndFault → Result Ending ProgramFault
 end_of (Ok ending) = Ok ending
 end_of (Err fault) = Err (fault_at_end fault)
 
+-- why there is no output for nodes: memory could not be allocated, or the requested one is not among them
+abbrev pub IsOutputFault : Option ℕ → List DrawnNode → EndFault → Type 0
+IsOutputFault asked nodes (ended.Journal fault) = fault ≡ OutOfMemory
+IsOutputFault asked nodes (ended.Words (NoNode number)) = (asked ≡ Some number) × (length nodes ≤ number)
+IsOutputFault asked nodes (ended.Words _) = ⊥
+
 -- what was done with the journal, by how it ended
 abbrev pub Does : DrawOptions → Source → Device → Result Ending ProgramFault → Type 0
-Does options input output (Ok ending) = Draws options.drawing input output (Ok ending)
-Does options input output (Err (Run fault)) = Draws options.drawing input output (Err fault)
-Does options input output (Err (Usage text)) = ⊥
-Does options input output (Err NoText) = ⊥
-Does options input output (Err Orders) = ⊥
-Does options input output (Err Underused) = ⊥
+Does options input output (Ok ending) = Draws options input output (Ok ending)
+Does options input output (Err (Run fault)) = Draws options input output (Err fault)
+Does options input output (Err (NoNode number)) = FindsNoNode options input output number
+Does options input output (Err _) = ⊥
 
 -- the words request a drawing, and that was done
 pub record DidDraw (words : List (List ℕ)) (input : Source) (output : Device) (result : Result Ending ProgramFault) : Type 0 where

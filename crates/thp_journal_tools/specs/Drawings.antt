@@ -1,8 +1,8 @@
 -- The output for a journal of any length.
-use Rattle.std.specs.Prelude.{◌≡◌, ℕ, Bool, ◌||◌, false, is_some, List, [], ◌∷◌, Option, Result, Ok, if◌then◌else◌}
+use Rattle.std.specs.Prelude.{◌≡◌, ◌≤◌, ℕ, Bool, ◌||◌, false, is_some, length, List, [], ◌∷◌, Option, None, Some, IfSome, Result, Ok, if◌then◌else◌, slice_get}
 use Rattle.thp_journal_tools.specs.Checks.{LongEnds}
-use Rattle.thp_drawing.specs.Pictures.{picture_text}
-use Rattle.thp_drawing.specs.Tables.{table_text}
+use Rattle.thp_drawing.specs.Pictures.{node_picture, picture_text}
+use Rattle.thp_drawing.specs.Tables.{node_table, table_text}
 use Rattle.thp_drawing.specs.declared.node.DrawnNode.{DrawnNode}
 use Rattle.thp_journal_reader.specs.declared.journals.Journals.{Journals}
 use Rattle.thp_journal_reader.specs.Journals.{journals_within}
@@ -10,35 +10,46 @@ use Rattle.thp_cli.specs.declared.ending.Ending.{Ending}
 use Rattle.thp_cli.specs.declared.ending.Ending.TheVariants.{Illegal, Written}
 use Rattle.thp_cli.specs.declared.fault.RunFault.{RunFault}
 use Rattle.thp_cli.specs.Calls.{ReadsOn}
-use Rattle.thp_cli.specs.Outcomes.{Device, Source}
+use Rattle.thp_cli.specs.Outcomes.{Device, IsUntouched, Source}
 use Rattle.thp_cli.specs.Passages.{WritesAnswer}
 use Rattle.thp_script.specs.Limits.{max_counted}
 use Rattle.thp_journal_tools.specs.declared.draw_options.Drawing.{Drawing}
 use Rattle.thp_journal_tools.specs.declared.draw_options.Drawing.TheVariants.{Picture, Table}
+use Rattle.thp_journal_tools.specs.declared.draw_options.DrawOptions.{DrawOptions}
 use Rattle.thp_journal_tools.specs.Nodes.{AreDrawnOf}
 
--- the output for nodes
+-- the output for all nodes
 abbrev pub drawing_text : Drawing → List DrawnNode → List ℕ
 drawing_text Picture nodes = picture_text nodes
 drawing_text Table nodes = table_text nodes
+
+-- the output for node n alone, with its number
+abbrev pub node_text : Drawing → ℕ → DrawnNode → List ℕ
+node_text Picture n node = node_picture n node
+node_text Table n node = node_table n node
 
 -- some node has an illegal event
 abbrev pub some_illegal : List DrawnNode → Bool
 some_illegal [] = false
 some_illegal (node ∷ nodes) = is_some node.illegal || some_illegal nodes
 
--- how the program ends after they were written
-abbrev pub ending_of : List DrawnNode → Ending
-ending_of nodes = if some_illegal nodes then Illegal else Written
+-- how the program ends after the output was written, by whether an event in it is illegal
+abbrev pub ending_if : Bool → Ending
+ending_if illegal = if illegal then Illegal else Written
+
+-- the output shows all nodes, or exactly the requested one, with its number; and the program ends like this
+abbrev pub Shows : Drawing → Option ℕ → List DrawnNode → Ending → List ℕ → Type 0
+Shows drawing None nodes ending text = (text ≡ drawing_text drawing nodes) × (ending ≡ ending_if (some_illegal nodes))
+Shows drawing (Some n) nodes ending text =
+    (node : DrawnNode) × (slice_get nodes n ≡ Some node) × (text ≡ node_text drawing n node) × (ending ≡ ending_if (is_some node.illegal))
 
 -- the text is that of the nodes in the input, each drawn up to its first illegal event; and the program ends like this
-pub record IsDrawingOf (drawing : Drawing) (input : List ℕ) (ending : Ending) (text : List ℕ) : Type 0 where
+pub record IsDrawingOf (options : DrawOptions) (input : List ℕ) (ending : Ending) (text : List ℕ) : Type 0 where
   pub journals : Journals
   pub spelled : journals_within max_counted input ≡ Ok journals
   pub nodes : List DrawnNode
   pub drawn : AreDrawnOf journals.nodes nodes
-  pub ending_is : ending ≡ ending_of nodes
-  pub text_is : text ≡ drawing_text drawing nodes
+  pub shown : Shows options.drawing options.node nodes ending text
 
 -- the drawings of the nodes in these bytes
 pub record IsFound (bytes : List ℕ) (nodes : List DrawnNode) : Type 0 where
@@ -47,11 +58,25 @@ pub record IsFound (bytes : List ℕ) (nodes : List DrawnNode) : Type 0 where
   pub drawn : AreDrawnOf journals.nodes nodes
 
 -- how a drawing ends: with the text of the nodes, or with the first error of the journal
-abbrev pub DrawEnds : Drawing → Option (List ℕ) → Option (List ℕ) → Option (List ℕ) → Bool → Bool → Result Ending RunFault → Type 0
-DrawEnds drawing = LongEnds (IsDrawingOf drawing)
+abbrev pub DrawEnds : DrawOptions → Option (List ℕ) → Option (List ℕ) → Option (List ℕ) → Bool → Bool → Result Ending RunFault → Type 0
+DrawEnds options = LongEnds (IsDrawingOf options)
 
 -- the drawing ended like this
-pub record Draws (drawing : Drawing) (input : Source) (output : Device) (result : Result Ending RunFault) : Type 0 where
-  pub ends : DrawEnds drawing input.bytes output.before output.after input.failed output.failed result
+pub record Draws (options : DrawOptions) (input : Source) (output : Device) (result : Result Ending RunFault) : Type 0 where
+  pub ends : DrawEnds options input.bytes output.before output.after input.failed output.failed result
   pub reads : ReadsOn max_counted input.failed input.called input.calls
   pub writes : WritesAnswer result output.failed output.called output.calls
+
+-- the journals in the input lack this node
+pub record LacksNode (input : List ℕ) (number : ℕ) : Type 0 where
+  pub journals : Journals
+  pub spelled : journals_within max_counted input ≡ Ok journals
+  pub lacks : length journals.nodes ≤ number
+
+-- all of the input was read, and lacks the requested node; nothing was written
+pub record FindsNoNode (options : DrawOptions) (input : Source) (output : Device) (number : ℕ) : Type 0 where
+  pub asked : options.node ≡ Some number
+  pub lacks : IfSome input.bytes (λ bytes. LacksNode bytes number)
+  pub flag : input.failed ≡ false
+  pub reads : ReadsOn max_counted input.failed input.called input.calls
+  pub untouched : IsUntouched output

@@ -8,6 +8,7 @@ pub mod Progress
 pub mod Reaching
 pub mod DrawCommandLine
 pub mod Making
+pub mod Words
 pub mod Nodes
 pub mod Drawings
 pub mod DrawAsking

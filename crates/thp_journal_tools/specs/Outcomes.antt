@@ -5,7 +5,7 @@ use Rattle.thp_cli.specs.declared.ending.Ending.{Ending}
 use Rattle.thp_cli.specs.declared.ending.Ending.TheVariants.{Written, Illegal as IsIllegal}
 use Rattle.thp_cli.specs.declared.ending.Program.TheVariants.{Thpcheck}
 use Rattle.thp_cli.specs.declared.ending.ProgramFault.{ProgramFault}
-use Rattle.thp_cli.specs.declared.ending.ProgramFault.TheVariants.{Run, Usage, NoText, Orders, Underused}
+use Rattle.thp_cli.specs.declared.ending.ProgramFault.TheVariants.{Run, NoText}
 use Rattle.thp_cli.specs.declared.ending.WordsFault.{WordsFault}
 use Rattle.thp_cli.specs.declared.ending.WordsFault.TheVariants as words
 use Rattle.thp_cli.specs.Outcomes.{Device, IsShort, IsUnread, IsUntouched, Source, Takes, WritesMessage, WasAnsweredBy, end_status}
@@ -49,10 +49,7 @@ pub record DidEnd (options : CheckOptions) (input : Source) (output : Device) (e
 abbrev pub Does : CheckOptions → Source → Device → Result Ending ProgramFault → Option (List ℕ) → Type 0
 Does options input output (Ok ending) explanation = DidEnd options input output ending explanation
 Does options input output (Err (Run fault)) explanation = Checks options input output (Err fault) × (explanation ≡ None)
-Does options input output (Err (Usage text)) explanation = ⊥
-Does options input output (Err NoText) explanation = ⊥
-Does options input output (Err Orders) explanation = ⊥
-Does options input output (Err Underused) explanation = ⊥
+Does options input output (Err _) explanation = ⊥
 
 -- a script was written, and this is the text for standard error
 pub record DidScript (options : CheckOptions) (input : Source) (output : Device) (ending : Ending) (notes : Option (List ℕ)) : Type 0 where
@@ -65,10 +62,7 @@ pub record DidScript (options : CheckOptions) (input : Source) (output : Device)
 abbrev pub DoesScript : CheckOptions → Source → Device → Result Ending ProgramFault → Option (List ℕ) → Type 0
 DoesScript options input output (Ok ending) notes = DidScript options input output ending notes
 DoesScript options input output (Err (Run fault)) notes = Scripts input output (Err fault) × (notes ≡ None)
-DoesScript options input output (Err (Usage text)) notes = ⊥
-DoesScript options input output (Err NoText) notes = ⊥
-DoesScript options input output (Err Orders) notes = ⊥
-DoesScript options input output (Err Underused) notes = ⊥
+DoesScript options input output (Err _) notes = ⊥
 
 -- what was done with the journal, by whether its script is requested
 abbrev pub DoesAsked : Bool → CheckOptions → Source → Device → Result Ending ProgramFault → Option (List ℕ) → Type 0

@@ -17,7 +17,9 @@ Each node is drawn over its events, from left to right:
   - the life of each page as a bar; with more than 60 pages, the number of pages in each stage
   - above, the pages whose split is prevented by pins
 
-A node with an illegal event is drawn up to the first one.
+A node with an illegal event is drawn up to the first one. With --node, only this node is drawn, with its number:
+
+    thpdraw --node 3 < JOURNAL > node3.svg
 
 With --progress, standard error shows the progress once a second. The line is removed before anything is written. If standard
 error is a terminal, this happens without the option too, after the first second:
@@ -26,13 +28,14 @@ error is a terminal, this happens without the option too, after the first second
 
 Exit status:
   0  the nodes were drawn, or this help or the version was written
-  1  the nodes were drawn, and some node has an illegal event
-  2  the journal or the command line has an error; nothing was drawn
+  1  the nodes were drawn, and one of them has an illegal event
+  2  the journal or the command line has an error, or the journal has no such node; nothing was drawn
   3  memory could not be allocated, or a read or a write failed
 
 Messages on standard error:
   2  'thpdraw: line L: ERROR', for the first line of the journal with an error: bad-byte, cut, bad-word, bad-count, bad-number,
      bad-set, bad-order. Lines end with a line feed only; a tab or carriage return is reported as bad-byte. An error is
      reported even if it comes after an illegal event.
+  2  'thpdraw: no node N', if the journal does not have the node of --node
   2  what is wrong with the command line
   3  'thpdraw: out of memory', 'thpdraw: read failed', 'thpdraw: write failed'";

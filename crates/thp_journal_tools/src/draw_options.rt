@@ -1,12 +1,14 @@
 //! The command line of `thpdraw`.
 ghost use Rattle.std.specs.Prelude.{◌≡◌, IfOk, map};
 ghost use Rattle.clap.specs.Words.{app_of};
-ghost use Rattle.thp_journal_tools.specs.DrawCommandLine.{is_table, thpdraw, AnswersWords};
+ghost use Rattle.thp_cli.specs.Flags.{IsOption};
+ghost use Rattle.thp_journal_tools.specs.DrawCommandLine.{is_table, node_rule, thpdraw, AnswersWords};
 
 use crate::draw_help::AFTER_HELP;
-use clap::{Command, Error};
+use clap::{Arg, ArgAction, Command, Error, value_parser};
 use std::alloc::{AllocError, Global};
 use thp_cli::{VERSION, flag};
+use thp_script::MAX_NODES;
 
 /// The output for a journal's nodes.
 #[derive(Clone, Copy, Debug, PartialEq, Eq)]
@@ -22,8 +24,21 @@ pub enum Drawing {
 pub struct DrawOptions {
     /// The output on standard output.
     pub drawing: Drawing,
+    /// The number of the only node to draw, if not all are drawn.
+    pub node: Option<u32>,
     /// Whether to show the progress of the reading on standard error.
     pub progress: bool,
+}
+
+fn node_option<'a>(alloc: Global) -> Arg<'a>
+    ensures { IsOption result node_rule }
+{
+    Arg::new(alloc, "node")
+        .long("node")
+        .value_name("NODE")
+        .help("Draw this node only, 0 to 7")
+        .action(ArgAction::Set)
+        .value_parser(value_parser!(u32).range(0..=MAX_NODES as i64 - 1))
 }
 
 /// Returns the command with its options.
@@ -39,6 +54,7 @@ fn command<'a>(alloc: Global) -> Result<Command<'a>, AllocError>
             "table",
             "Write the numbers as a table instead of the picture",
         ))?
+        .arg(node_option(alloc))?
         .arg(flag(
             alloc,
             "progress",
@@ -65,6 +81,7 @@ pub fn read_words<'a>(alloc: Global, words: &'a [&'a str]) -> Result<DrawOptions
     let matches = command(alloc)?.try_get_matches_from(words)?;
     Ok(DrawOptions {
         drawing: asked_for(matches.get_flag("table")),
+        node: matches.get_one::<u32>("node"),
         progress: matches.get_flag("progress"),
     })
 }

@@ -1,12 +1,10 @@
 //! The program `thpdraw`: from the words of its command line to its exit status.
 ghost use Rattle.std.specs.Prelude.{◌≡◌, false};
-ghost use Rattle.thp_journal_tools.specs.Progress.{may_show, ShowsProgress};
-ghost use Rattle.thp_cli.specs.declared.ending.Program.TheVariants.{Thpdraw};
 ghost use Rattle.thp_cli.specs.Outcomes.{device_of, given_words, source_of};
 ghost use Rattle.thp_journal_tools.specs.DrawAsking.{ShowsAsAsked};
-ghost use Rattle.thp_journal_tools.specs.DrawOutcomes.{end_of, Does, Finishes, Served};
+ghost use Rattle.thp_journal_tools.specs.DrawOutcomes.{end_of, Finishes, Served};
 
-use crate::draw_options::{DrawOptions, read_words};
+use crate::draw_options::read_words;
 use crate::writing::draw;
 use crate::{EndFault, Screen};
 use std::alloc::Global;
@@ -16,26 +14,6 @@ use thp_cli::{
     Ending, LongRunFault, Program, ProgramFault, Watched, WordsFault, answer, status_of_ending,
     tell, tell_run, texts_of,
 };
-
-/// Draws the journal.
-fn draw_journal<R: Read, W: Write, S: Write, C: Clock>(
-    alloc: Global,
-    options: DrawOptions,
-    reader: &mut Watched<R>,
-    output: &mut Watched<W>,
-    screen: &mut Screen<S, C>,
-) -> Result<Ending, EndFault>
-    requires reader { reader.old.failed ≡ false }
-    requires output { output.old.failed ≡ false }
-    requires screen { screen.old.writer.failed ≡ false }
-    ensures does { Does options (source_of R.remaining reader.old reader.new) (device_of W.contents output.old output.new) (end_of result) }
-    ensures screen { ShowsProgress Thpdraw (may_show options.progress screen.old.is_terminal) (R.remaining reader.old.device) (device_of S.contents screen.old.writer screen.new.writer) }
-{
-    match draw(alloc, options, reader, output, screen) {
-        Ok(ending) => Ok(ending),
-        Err(fault) => Err(EndFault::Journal(fault)),
-    }
-}
 
 /// Executes what the words request.
 fn serve<R: Read, W: Write, S: Write, C: Clock>(
@@ -60,7 +38,7 @@ fn serve<R: Read, W: Write, S: Write, C: Clock>(
         return Err(EndFault::Journal(LongRunFault::OutOfMemory));
     };
     match read_words(alloc, texts.as_slice()) {
-        Ok(options) => draw_journal(alloc, options, reader, output, screen),
+        Ok(options) => draw(alloc, options, reader, output, screen),
         Err(error) => match answer(alloc, &error, output) {
             Ok(()) => Ok(Ending::Written),
             Err(fault) => Err(EndFault::Words(fault)),
@@ -73,8 +51,8 @@ fn serve<R: Read, W: Write, S: Write, C: Clock>(
 /// | Status | Meaning |
 /// | --- | --- |
 /// | 0 | the journal was drawn, or the help or the version was written |
-/// | 1 | some node has an illegal event, and was drawn up to it |
-/// | 2 | the journal or the command line has an error |
+/// | 1 | a node that was drawn has an illegal event, and was drawn up to it |
+/// | 2 | the journal or the command line has an error, or the journal lacks the requested node |
 /// | 3 | memory could not be allocated, or a read or a write failed |
 ///
 /// The screen shows the progress of the reading, if the words request that or the screen is a terminal. The progress is removed

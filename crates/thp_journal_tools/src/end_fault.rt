@@ -11,7 +11,7 @@ use thp_cli::{LongRunFault, ProgramFault};
 pub enum EndFault {
     /// The work on the journal failed.
     Journal(LongRunFault),
-    /// The words of the command line have an error, request a text, or are not available.
+    /// The words of the command line have an error, request a text or a node that the journal lacks, or are not available.
     Words(ProgramFault),
 }
 

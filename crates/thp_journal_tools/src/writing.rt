@@ -1,22 +1,26 @@
 //! From the bytes of a journal of any length to the drawing of its nodes.
-ghost use Rattle.std.specs.Prelude.{◌≡◌, IfOk, false};
+ghost use Rattle.std.specs.Prelude.{◌≡◌, IfErr, IfOk, false};
 ghost use Rattle.thp_journal_tools.specs.Progress.{may_show, ShowsProgress};
 ghost use Rattle.thp_cli.specs.declared.ending.Program.TheVariants.{Thpdraw};
-ghost use Rattle.thp_script.specs.Limits.{max_counted};
-ghost use Rattle.thp_cli.specs.Calls.{ReadsOn};
-ghost use Rattle.thp_cli.specs.Outcomes.{device_of};
-ghost use Rattle.thp_cli.specs.Passages.{WritesAnswer};
-ghost use Rattle.thp_journal_tools.specs.Drawings.{drawing_text, ending_of, some_illegal, DrawEnds};
-ghost use Rattle.thp_journal_tools.specs.DrawOutcomes.{seen_end};
+ghost use Rattle.thp_cli.specs.Outcomes.{device_of, source_of};
+ghost use Rattle.thp_journal_tools.specs.Drawings.{drawing_text, ending_if, node_text, some_illegal, Shows};
+ghost use Rattle.thp_journal_tools.specs.DrawOutcomes.{end_of, Does, IsOutputFault};
 
-use crate::Screen;
 use crate::draw_finding::find_nodes;
 use crate::draw_options::{DrawOptions, Drawing};
+use crate::{EndFault, Screen};
 use std::alloc::{AllocError, Global};
 use std::io::{Read, Write};
 use std::time::Clock;
-use thp_cli::{Ending, LongRunFault, Watched, write_text};
-use thp_drawing::{DrawnNode, put_picture, put_table};
+use thp_cli::{Ending, LongRunFault, ProgramFault, Watched, write_text};
+use thp_drawing::{DrawnNode, put_node_picture, put_node_table, put_picture, put_table};
+
+/// The output for a journal, and how the program ends after it was written.
+#[derive(Drop)]
+struct Output {
+    text: Vec<u8>,
+    ending: Ending,
+}
 
 /// Returns whether some node has an illegal event.
 fn some_illegal(nodes: &[DrawnNode]) -> bool
@@ -29,18 +33,18 @@ fn some_illegal(nodes: &[DrawnNode]) -> bool
     illegal
 }
 
-/// Returns how the program ends after these nodes were drawn.
-fn ending_of(nodes: &[DrawnNode]) -> Ending
-    ensures { result ≡ ending_of nodes.now }
+/// Returns how the program ends after the output was written, given whether an event in it is illegal.
+fn ending_if(illegal: bool) -> Ending
+    ensures { result ≡ ending_if illegal }
 {
-    if some_illegal(nodes) {
+    if illegal {
         Ending::Illegal
     } else {
         Ending::Written
     }
 }
 
-/// Returns the output for these nodes.
+/// Returns the output for all nodes.
 fn text_of(alloc: Global, drawing: Drawing, nodes: &[DrawnNode]) -> Result<Vec<u8>, AllocError>
     ensures { IfOk result (λ text. text.items ≡ drawing_text drawing nodes.now) }
 {
@@ -52,8 +56,46 @@ fn text_of(alloc: Global, drawing: Drawing, nodes: &[DrawnNode]) -> Result<Vec<u
     Ok(text)
 }
 
+/// Returns the output for one node alone.
+fn node_text(
+    alloc: Global,
+    drawing: Drawing,
+    number: usize,
+    node: &DrawnNode,
+) -> Result<Vec<u8>, AllocError>
+    ensures { IfOk result (λ text. text.items ≡ node_text drawing number node.now) }
+{
+    let mut text = Vec::new(alloc);
+    match drawing {
+        Drawing::Picture => put_node_picture(&mut text, number, node)?,
+        Drawing::Table => put_node_table(&mut text, number, node)?,
+    }
+    Ok(text)
+}
+
+/// Returns the output for these nodes, or for the requested one alone.
+fn output_of(alloc: Global, options: DrawOptions, nodes: &[DrawnNode]) -> Result<Output, EndFault>
+    ensures output { IfOk result (λ output. Shows options.drawing options.node nodes.now output.ending output.text.items) }
+    ensures fault { IfErr result (IsOutputFault options.node nodes.now) }
+{
+    let Some(number) = options.node else {
+        return Ok(Output {
+            text: text_of(alloc, options.drawing, nodes)?,
+            ending: ending_if(some_illegal(nodes)),
+        });
+    };
+    let Some(node) = nodes.get(number as usize) else {
+        return Err(EndFault::Words(ProgramFault::NoNode(number)));
+    };
+    Ok(Output {
+        text: node_text(alloc, options.drawing, number as usize, node)?,
+        ending: ending_if(node.illegal.is_some()),
+    })
+}
+
 /// Draws the nodes of a journal of any length from the reader, each up to its first illegal event. Writes a picture, or the table
-/// if that is requested, and returns whether some node has an illegal event.
+/// if that is requested, of all nodes or of the requested one, and returns whether a node in it has an illegal event. If the
+/// journal does not have the requested node, nothing is written.
 ///
 /// Nothing else is written; if the writer fails, a prefix of the text has been written. The screen shows the progress of the
 /// reading, if the options request that or the screen is a terminal. Only the state of the current node, the line in progress and
@@ -64,18 +106,15 @@ pub fn draw<R: Read, W: Write, S: Write, C: Clock>(
     reader: &mut Watched<R>,
     writer: &mut Watched<W>,
     screen: &mut Screen<S, C>,
-) -> Result<Ending, LongRunFault>
+) -> Result<Ending, EndFault>
     requires reader { reader.old.failed ≡ false }
     requires writer { writer.old.failed ≡ false }
     requires screen { screen.old.writer.failed ≡ false }
-    ensures ends { DrawEnds options.drawing (R.remaining reader.old.device) (W.contents writer.old.device) (W.contents writer.new.device) reader.new.failed writer.new.failed (seen_end result) }
-    ensures reads { ReadsOn max_counted reader.new.failed reader.old.calls reader.new.calls }
-    ensures writes { WritesAnswer (seen_end result) writer.new.failed writer.old.calls writer.new.calls }
+    ensures does { Does options (source_of R.remaining reader.old reader.new) (device_of W.contents writer.old writer.new) (end_of result) }
     ensures screen { ShowsProgress Thpdraw (may_show options.progress screen.old.is_terminal) (R.remaining reader.old.device) (device_of S.contents screen.old.writer screen.new.writer) }
 {
     let nodes = find_nodes(alloc, options.progress, reader, screen)?;
-    let ending = ending_of(nodes.as_slice());
-    let text = text_of(alloc, options.drawing, nodes.as_slice())?;
-    write_text(writer, text.as_slice()).ok_or(LongRunFault::Write)?;
-    Ok(ending)
+    let output = output_of(alloc, options, nodes.as_slice())?;
+    write_text(writer, output.text.as_slice()).ok_or(LongRunFault::Write)?;
+    Ok(output.ending)
 }

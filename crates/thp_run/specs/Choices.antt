@@ -8,7 +8,7 @@ use Rattle.thp_script.specs.Limits.{max_nodes}
 use Rattle.thp_script.specs.NumberLists.{orders_in, thresholds_in}
 use Rattle.thp_script.specs.Settings.{AreOrdersFor, AreThresholdsFor}
 use Rattle.thp_cli.specs.declared.ending.ProgramFault.{ProgramFault}
-use Rattle.thp_cli.specs.declared.ending.ProgramFault.TheVariants.{Run, Usage, NoText, Orders, Underused}
+use Rattle.thp_cli.specs.declared.ending.ProgramFault.TheVariants.{Orders, Underused}
 
 -- the orders of all nodes by the option `--orders`: those that its text lists for the nodes, and the greatest if it is not given
 abbrev pub HasOrders : Option (Bor (List ℕ)) → ℕ → List ℕ → Type 0
@@ -52,6 +52,4 @@ abbrev pub Chooses : Line → Result Settings ProgramFault → Type 0
 Chooses line (Ok s) = IsSettingsOf line s
 Chooses line (Err Orders) = HasBadOrders line.orders line.nodes
 Chooses line (Err Underused) = HasOnlyBadThresholds line
-Chooses line (Err (Run fault)) = ⊥
-Chooses line (Err (Usage text)) = ⊥
-Chooses line (Err NoText) = ⊥
+Chooses line (Err _) = ⊥

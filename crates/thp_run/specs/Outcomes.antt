@@ -6,7 +6,7 @@ use Rattle.thp_cli.specs.declared.ending.Ending.{Ending}
 use Rattle.thp_cli.specs.declared.ending.Ending.TheVariants.{Written, Illegal}
 use Rattle.thp_cli.specs.declared.ending.Program.TheVariants.{Thpsplit}
 use Rattle.thp_cli.specs.declared.ending.ProgramFault.{ProgramFault}
-use Rattle.thp_cli.specs.declared.ending.ProgramFault.TheVariants.{Run, Usage, NoText, Orders, Underused}
+use Rattle.thp_cli.specs.declared.ending.ProgramFault.TheVariants.{Run, NoText, Orders, Underused}
 use Rattle.thp_cli.specs.declared.ending.WordsFault.{WordsFault}
 use Rattle.thp_cli.specs.declared.ending.WordsFault.TheVariants as words
 use Rattle.thp_cli.specs.declared.fault.RunFault.{RunFault}
@@ -42,8 +42,7 @@ Does line input output (Ok Illegal) = Checks line input output (Ok false)
 Does line input output (Err (Run fault)) = Runs line input output (Err fault) ⊎ Checks line input output (Err fault)
 Does line input output (Err Orders) = (line.check ≡ false) × HasBadOrders line.orders line.nodes × IsUnread input × IsUntouched output
 Does line input output (Err Underused) = (line.check ≡ false) × HasOnlyBadThresholds line × IsUnread input × IsUntouched output
-Does line input output (Err (Usage text)) = ⊥
-Does line input output (Err NoText) = ⊥
+Does line input output (Err _) = ⊥
 
 -- the words request this line, and that was done
 pub record DidLine (words : List (List ℕ)) (input : Source) (output : Device) (result : Result Ending ProgramFault) : Type 0 where

@@ -4,8 +4,8 @@
 //! Exit status:
 //!
 //! - 0: the nodes were drawn, or the help or the version was written
-//! - 1: some node has an illegal event, and was drawn up to it
-//! - 2: the journal or the command line has an error
+//! - 1: a node that was drawn has an illegal event, and was drawn up to it
+//! - 2: the journal or the command line has an error, or the journal lacks the requested node
 //! - 3: memory could not be allocated, or a read or a write failed
 //!
 //! Error messages and the progress of the reading go to standard error. The work is done by

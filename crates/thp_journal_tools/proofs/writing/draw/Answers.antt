@@ -1,41 +1,56 @@
-use Rattle.std.proofs.Common.{◌∙◌, ap, sym, Err}
-use Rattle.std.specs.Prelude.{Result}
-use Rattle.std.proofs.lemmas.Result.{err_from_is_err_and}
-use Rattle.thp_journal_tools.proofs.CheckLaws.{cut_from, ends_at_find, ends_at_write, ends_told, none_at_find}
-use Rattle.thp_cli.specs.RunFaults.{seen_fault}
-use Rattle.thp_cli.specs.declared.ending.Ending.{Ending}
+use Rattle.std.proofs.Common.{◌∙◌, Err, List, subst, sym, ℕ}
 use Rattle.thp_cli.specs.declared.long_fault.LongRunFault.{LongRunFault}
-use Rattle.thp_journal_tools.specs.Drawings.{IsDrawingOf}
-use Rattle.thp_journal_tools.specs.DrawOutcomes.{seen_end}
-use Rattle.thp_journal_tools.proofs.DrawLaws.{drawing_of, drawing_of_input}
+use Rattle.thp_cli.specs.Outcomes.{device_of, source_of}
+use Rattle.thp_cli.specs.RunFaults.{seen_fault}
+use Rattle.thp_journal_tools.specs.declared.end_fault.EndFault.TheVariants.{Journal}
+use Rattle.thp_journal_tools.specs.Drawings.{Shows}
+use Rattle.thp_journal_tools.specs.DrawOutcomes.{Does}
+use Rattle.thp_journal_tools.specs.Outcomes.{fault_at_end}
+use Rattle.thp_journal_tools.proofs.CheckLaws.{cut_from}
+use Rattle.thp_journal_tools.proofs.DrawLaws.{cut, does_err, drawn, no_output, none_found}
 use Rattle.thp_journal_tools.proofs.writing.draw.Goals as goal
 
-pub returns-in_err-nodes-clause-ends : goal.returns-in_err-nodes-clause-ends
-returns-in_err-nodes-clause-ends g c =
-    ends_at_find (IsDrawingOf c.args.options.drawing) (drawing_of_input c.args.options.drawing) (g.R.Read.remaining c.args.reader.now.device) (g.W.Write.contents c.args.writer.now.device) c.find_nodes.new.reader.failed c.args.writer.now.failed
-    (seen_fault c.in_err-nodes.field-0.0) (seen_end c.from_residual.result) c.in_err-nodes.ensures.fault c.requires.writer
-    (let p = err_from_is_err_and c.from_residual.result c.from_residual.ensures.1 in ap (λ (r : Result Ending LongRunFault). seen_end r) (p.1 ∙ ap (λ (f : LongRunFault). Err f) p.2))
+pub returns-in_err-nodes-clause-does : goal.returns-in_err-nodes-clause-does
+returns-in_err-nodes-clause-does g c =
+    let input = source_of g.R.Read.remaining c.args.reader.now c.find_nodes.new.reader in
+    let writer = c.args.writer.now in
+    let fault = c.in_err-nodes.field-0.0 in
+    does_err c.args.options input (device_of g.W.Write.contents writer writer) (Journal fault) c.from_residual.result c.from_residual.ensures.1
+    (none_found c.args.options input c.find_nodes.ensures.calls (g.W.Write.contents writer.device) writer.failed c.requires.writer writer.calls (seen_fault fault) c.in_err-nodes.ensures.fault)
 
-pub returns-in_err-nodes-clause-writes : goal.returns-in_err-nodes-clause-writes
-returns-in_err-nodes-clause-writes g c =
-    none_at_find (g.R.Read.remaining c.args.reader.now.device) (seen_end c.from_residual.result) c.find_nodes.new.reader.failed c.args.writer.now.failed (seen_fault c.in_err-nodes.field-0.0) c.args.writer.now.calls c.in_err-nodes.ensures.fault
-    (let p = err_from_is_err_and c.from_residual.result c.from_residual.ensures.1 in ap (λ (r : Result Ending LongRunFault). seen_end r) (p.1 ∙ ap (λ (f : LongRunFault). Err f) p.2))
-
-pub returns-in_err-ok_or-clause-ends : goal.returns-in_err-ok_or-clause-ends
-returns-in_err-ok_or-clause-ends g c =
-    let p = err_from_is_err_and c.from_residual-in_err-ok_or.result c.from_residual-in_err-ok_or.ensures.1 in
-    let cut = cut_from c.write_text.result c.in_err-ok_or.field-0.0 (sym c.ok_or.ensures.value ∙ c.in_err-ok_or.was) in
+pub returns-in_err-output-clause-does : goal.returns-in_err-output-clause-does
+returns-in_err-output-clause-does g c =
+    let input = source_of g.R.Read.remaining c.args.reader.now c.find_nodes.new.reader in
+    let writer = c.args.writer.now in
     let found = c.in_ok-nodes.ensures.found in
-    ends_at_write (IsDrawingOf c.args.options.drawing) (drawing_of_input c.args.options.drawing) (g.R.Read.remaining c.args.reader.now.device) found.0 found.1 (g.W.Write.contents c.args.writer.now.device) (g.W.Write.contents c.write_text.new.writer.device)
-    c.find_nodes.new.reader.failed c.write_text.new.writer.failed c.ending_of-ending.result c.as_slice-3.result.now c.write_text.result (seen_end c.from_residual-in_err-ok_or.result)
-    (drawing_of c.args.options.drawing found.0 c.as_slice-3.result.now c.in_ok-nodes.nodes.items c.ending_of-ending.result found.2 (rw c.as_slice.ensures.value at c.ending_of-ending.ensures) (c.as_slice-3.ensures.value ∙ rw c.as_slice-2.ensures.value at c.in_ok-text.ensures))
-    cut.0 c.write_text.ensures.cut c.write_text.ensures.failed c.in_ok-nodes.ensures.flag
-    (ap (λ (r : Result Ending LongRunFault). seen_end r) (p.1 ∙ ap (λ (f : LongRunFault). Err f) (p.2 ∙ sym cut.1)))
+    let fault = c.in_err-output.field-0.0 in
+    does_err c.args.options input (device_of g.W.Write.contents writer writer) fault c.from_residual-in_err-output.result c.from_residual-in_err-output.ensures.1
+    (no_output c.args.options input c.find_nodes.ensures.calls (g.W.Write.contents writer.device) writer.failed c.requires.writer writer.calls found.0 c.in_ok-nodes.nodes.items found.1 found.2 c.in_ok-nodes.ensures.flag fault
+    (rw c.as_slice.ensures.value at c.in_err-output.ensures.fault))
 
-pub returns-clause-ends : goal.returns-clause-ends
-returns-clause-ends g c =
+pub returns-in_err-ok_or-clause-does : goal.returns-in_err-ok_or-clause-does
+returns-in_err-ok_or-clause-does g c =
+    let options = c.args.options in
+    let input = source_of g.R.Read.remaining c.args.reader.now c.find_nodes.new.reader in
+    let output = device_of g.W.Write.contents c.args.writer.now c.write_text.new.writer in
     let found = c.in_ok-nodes.ensures.found in
-    ends_told (IsDrawingOf c.args.options.drawing) (drawing_of_input c.args.options.drawing) (g.R.Read.remaining c.args.reader.now.device) found.0 found.1 (g.W.Write.contents c.args.writer.now.device) (g.W.Write.contents c.write_text.new.writer.device)
-    c.find_nodes.new.reader.failed c.write_text.new.writer.failed c.ending_of-ending.result c.as_slice-3.result.now c.write_text.result c.in_ok-ok_or.field-0
-    (drawing_of c.args.options.drawing found.0 c.as_slice-3.result.now c.in_ok-nodes.nodes.items c.ending_of-ending.result found.2 (rw c.as_slice.ensures.value at c.ending_of-ending.ensures) (c.as_slice-3.ensures.value ∙ rw c.as_slice-2.ensures.value at c.in_ok-text.ensures))
-    (sym c.ok_or.ensures.value ∙ c.in_ok-ok_or.was) c.write_text.ensures.written c.write_text.ensures.flag c.in_ok-nodes.ensures.flag
+    let text = c.as_slice-2.result.now in
+    let shown : Shows options.drawing options.node c.in_ok-nodes.nodes.items c.in_ok-output.output.ending text =
+    subst (λ (t : List ℕ). Shows options.drawing options.node c.in_ok-nodes.nodes.items c.in_ok-output.output.ending t) (sym c.as_slice-2.ensures.value) (rw c.as_slice.ensures.value at c.in_ok-output.ensures.output) in
+    let why = cut_from c.write_text.result c.in_err-ok_or.field-0.0 (sym c.ok_or.ensures.value ∙ c.in_err-ok_or.was) in
+    does_err options input output (Journal c.in_err-ok_or.field-0.0) c.from_residual-in_err-ok_or.result c.from_residual-in_err-ok_or.ensures.1
+    (subst (λ (f : LongRunFault). Does options input output (Err (fault_at_end (Journal f)))) why.1
+    (cut options input output c.find_nodes.ensures.calls c.in_ok-nodes.ensures.flag found.0 text c.in_ok-nodes.nodes.items c.in_ok-output.output.ending found.1 found.2 shown c.write_text.ensures.calls c.write_text.result
+    why.0 c.write_text.ensures.cut c.write_text.ensures.failed))
+
+pub returns-clause-does : goal.returns-clause-does
+returns-clause-does g c =
+    let options = c.args.options in
+    let input = source_of g.R.Read.remaining c.args.reader.now c.find_nodes.new.reader in
+    let output = device_of g.W.Write.contents c.args.writer.now c.write_text.new.writer in
+    let found = c.in_ok-nodes.ensures.found in
+    let text = c.as_slice-2.result.now in
+    let shown : Shows options.drawing options.node c.in_ok-nodes.nodes.items c.in_ok-output.output.ending text =
+    subst (λ (t : List ℕ). Shows options.drawing options.node c.in_ok-nodes.nodes.items c.in_ok-output.output.ending t) (sym c.as_slice-2.ensures.value) (rw c.as_slice.ensures.value at c.in_ok-output.ensures.output) in
+    drawn options input output c.find_nodes.ensures.calls c.in_ok-nodes.ensures.flag found.0 text c.in_ok-nodes.nodes.items c.in_ok-output.output.ending found.1 found.2 shown c.write_text.ensures.calls c.write_text.result
+    c.in_ok-ok_or.field-0 (sym c.ok_or.ensures.value ∙ c.in_ok-ok_or.was) c.write_text.ensures.written c.write_text.ensures.flag
