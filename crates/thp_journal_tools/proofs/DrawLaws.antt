@@ -61,7 +61,7 @@ module _ (options : DrawOptions) (input : Source) (reads : ReadsOn max_counted i
   none_found fault why = record {
     ends = ends_at_find (IsDrawingOf options) (drawing_of_input options) input.bytes content input.failed failed fault (Err fault) why flag refl;
     reads = reads;
-    writes = none_at_find {Ending} input.bytes (Err fault) input.failed failed fault calls why refl;
+    writes = none_at_find {A = Ending} input.bytes (Err fault) input.failed failed fault calls why refl;
   }
 
   pub no_output : (bytes : List ℕ) (nodes : List DrawnNode) → IfSome input.bytes (IsFrontOf max_counted bytes) → IsFound bytes nodes → input.failed ≡ false
