@@ -319,7 +319,7 @@ def requests() -> Iterator[Row]:
     for word, output in {"--help": HELP, "-h": HELP, "--version": VERSION, "-V": VERSION}.items():
         yield Row("words", word, Call((word,), b"fly\n", untouched=True), Ended(0, output))
         yield Row("words", f"{word}, /dev/full", Call((word,), output=Sink.FULL), WRITE_FAILED)
-    for word in ("zzz", "--zzz", "-z", "--summary", "--nodes", "my.journal", "\u00e9", ""):
+    for word in ("zzz", "--zzz", "-z", "--summary", "--blocks", "my.journal", "\u00e9", ""):
         yield at_fault((word,), f"unexpected argument '{word}' found")
     yield from numbers_at_fault()
     for flag in FLAGS:
