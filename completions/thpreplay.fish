@@ -18,7 +18,7 @@ complete -c thpreplay -l keep -x -a '(__fish_complete_directories)' -d 'Folder f
 complete -c thpreplay -l shrink -x -d 'Time to make a script that differs small, in seconds'
 complete -c thpreplay -l store -x -a '(__fish_complete_directories)' -d 'Folder for what the kernel showed'
 complete -c thpreplay -l no-memory -d 'Don\'t read kernel memory'
-complete -c thpreplay -l exact-scans -d 'Scan exactly so many pages as a script says'
+complete -c thpreplay -l exact-scans -d 'Scan exactly so many pages as a script specifies'
 complete -c thpreplay -l fingerprint -d 'Print how this kernel does each known difference'
 complete -c thpreplay -l markdown -d 'Print the fingerprint as a table'
 complete -c thpreplay -l tap -d 'Print KTAP'

@@ -64,7 +64,7 @@ def parse_words(given: Optional[Sequence[str]] = None) -> argparse.Namespace:
                         help="time to make a script that differs small (60; 0: none)")
     parser.add_argument("--store", metavar="FOLDER", help="write what the kernel showed there, a line for each look")
     parser.add_argument("--exact-scans", action="store_true",
-                        help="scan exactly so many pages as a script says (SHRINKER_DEBUG); random scripts scan parts, too")
+                        help="scan exactly so many pages as a script specifies (SHRINKER_DEBUG); random scripts scan parts, too")
     parser.add_argument("--no-memory", action="store_true", help="leave kernel memory, and so the queues, unread")
     parser.add_argument("--show", action="store_true", help="print the random scripts; nothing is run")
     parser.add_argument("--wait", action="store_true", help="wait until another tool has ended")

@@ -26,7 +26,7 @@ LAST_WINDOWS = 1.0  # seconds in which the counters are watched before a differe
 
 class Kernel(Protocol):
     """A kernel that runs commands and can be looked at: the running one (pages.py), or a stored one. `drops_zeros`: it gives
-    mapped zero-filled subpages back at any split (B). `scans_exactly`: a scan takes so many pages as it says, in one pass."""
+    mapped zero-filled subpages back at any split (B). `scans_exactly`: a scan takes so many pages as it specifies, in one pass."""
 
     drops_zeros: bool
     scans_exactly: bool
