@@ -122,7 +122,7 @@ def _parser(text: str, name: str) -> argparse.ArgumentParser:
     add("--every", type=seconds(0, LONG), default=0.02, metavar="SECONDS", help="between two reclaims; 0: none")
     add("--collapse", type=whole(0, 2 ** 32 - 1), metavar="MS", help="khugepaged's pause; long with --own")
     add("--compact", action="store_true", help="compact all memory with each reclaim: pages migrate")
-    add("--straighten", action="store_true", help="allow for E (order of putting back) and B (zeros)")
+    add("--straighten", action="store_true", help="allow for E (order of tries and put-backs) and B (zeros)")
     add("--out", metavar="FILE", help="write the journal into this new file")
     add("--times", metavar="FILE", help="write the time of each event into this new file")
     add("--contents", type=seconds(0.01, LONG), metavar="SECONDS", help="look at the pages' contents so often")

@@ -108,14 +108,15 @@ class ScanEvents:
                 self._emit_partial_unmaps(page, queue)
         if len(stay) > 1 and stay == [page for page in reversed(pages) if page in stay]:
             state.tallies["scans that put back two pages or more, turned around (E)"] += 1
-        taken, back = pages, stay
+        taken, tried, back = pages, pages[::-1], stay  # the kernel tries the newest first
         if state.settings.straighten:
             taken, back = self._straighten(pages, scan, stay)
+            tried = taken
         for page in taken:
             state.emit(record.task, page, "taken")
         for page in pages:
             state.dequeue(page)
-        for page in reversed(pages):  # the kernel tries the newest first
+        for page in tried:
             self._emit_try(record, page, page in stay)
         for page in back:
             state.emit(record.task, page, "back")

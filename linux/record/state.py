@@ -22,9 +22,9 @@ TOO_OLD = "joined the queue too long ago for its place to be changed"
 
 @dataclass(frozen=True)
 class Settings:
-    """What was recorded: the pages' order, the threshold (None: the switch is off). `straighten`: emit put-backs in the
-    order of taking (E), and splits without mapped frames while the switch is off (B). `folios`: where the folios of the
-    queue's NUMA node are (none: pages of all nodes are in the queue)."""
+    """What was recorded: the pages' order, the threshold (None: the switch is off). `straighten`: emit tries and put-backs
+    in the order of taking (E), and splits without mapped frames while the switch is off (B). `folios`: where the folios of
+    the queue's NUMA node are (none: pages of all nodes are in the queue)."""
 
     order: int
     threshold: Optional[int]

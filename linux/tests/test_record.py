@@ -97,6 +97,22 @@ class WrittenRecordsTest(unittest.TestCase):
         self.assertEqual(verdict(records.journal(straighten=True)), "legal")
         self.assertEqual(records.tallies["scans that put back two pages or more, turned around (E)"], 1)
 
+    def test_once_straightened_pages_are_tried_in_the_order_of_taking(self) -> None:
+        """So that a script which scans what was taken repeats the journal."""
+        records = RecordBuilder()
+        pages = [records.page(number) for number in range(3)]
+        for number in range(3):
+            records.drop(number, 0, 8, pages[: number + 1])
+        records.scan(pages, frames_of(2, 0, 8) + frames_of(0, 0, 8), pages[1:2])
+        tries = ["0 split 0 0-7", "0 pin 1", "0 pinned 1", "0 split 2 0-7"]
+        for straighten, expected in ((True, tries), (False, [tries[3], *tries[1:3], tries[0]])):
+            for record in records.records:
+                record.is_applied = False
+            text = records.journal(straighten)
+            taken = ["0 taken 0", "0 taken 1", "0 taken 2"]
+            self.assertEqual(text.split("\n")[-10:-2], [*taken, *expected, "0 back 1"])
+            self.assertEqual(verdict(text), "legal")
+
     def test_a_frame_that_did_not_come_back_leaves_its_page_out(self) -> None:
         records = RecordBuilder()
         page = records.page(0)
@@ -297,7 +313,7 @@ class ScanTest(unittest.TestCase):
             records.add(Kind.FREE, [frame, 0])
         self.by_another(records, Kind.SCANNED, [2], [])
         event_words = self.build_journal(records, None, "pages that joined between a scan's start and its taking")
-        self.assertEqual(event_words[-4:], ["taken 0", "taken 1", "split 1 0-7", "split 0 0-7"])
+        self.assertEqual(event_words[-4:], ["taken 0", "taken 1", "split 0 0-7", "split 1 0-7"])
         self.assertIsNotNone(second)
 
     def test_a_page_freed_while_a_scan_runs_precedes_it(self) -> None:
