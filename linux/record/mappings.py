@@ -80,13 +80,15 @@ class MappingEvents:
         self._state.tallies["pages followed before their process's end"] += 1
 
     def begin_end(self, page: Page, queue: List[int]) -> None:
-        """Unmaps the part of a page that lies in the first of two page tables: the page is in the queue while its
-        processes are ending."""
-        for space, mapping in list(page.maps.items()):
-            if page not in self._state.queue and self._in_first_table(mapping):
-                self.unmap(self._state.ends[space], page, mapping, self._in_first_table(mapping), queue)
-        if page in self._state.queue:
-            self._state.tallies["pages followed before their process's end"] += 1
+        """Unmaps a page that is in the queue in address spaces that are ending, one after the other until it is partly mapped. Of
+        the last mapping the part that lies in the first of two page tables goes."""
+        state = self._state
+        for space, mapping in [(space, page.maps[space]) for space in state.ending_spaces(page)]:
+            bits = page.every if len(page.maps) > 1 else self._in_first_table(mapping)
+            if bits and page not in state.queue:
+                self.unmap(state.ends[space], page, mapping, bits, queue)
+        if page in state.queue:
+            state.tallies["pages followed before their process's end"] += 1
 
     def unmap(self, record: Record, page: Page, mapping: Mapping, bits: int, queue: Optional[List[int]]) -> None:
         """Removes one address space's mappings of these subpages."""

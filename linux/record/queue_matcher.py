@@ -74,7 +74,7 @@ class QueueMatcher:
             for call in self._mappings.calls_reaching(page):
                 if page not in state.queue:
                     self._mappings.apply_early(call, page, queue)
-            if page not in state.queue and page.is_live and state.is_ending(page):
+            if page not in state.queue and page.is_live:
                 self._mappings.begin_end(page, queue)
             if page not in state.queue and page.is_live:
                 state.omit(page, "queued for no reason seen")

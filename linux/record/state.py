@@ -174,10 +174,14 @@ class State:
         self.emit(task, page, "unpin", outcome="freed", given=page.held)
         self.remove_page(page)
 
+    def ending_spaces(self, page: Page) -> List[int]:
+        """Returns the address spaces that map a page and are ending, the first to end first: nothing else of them comes any more."""
+        ends = [(self.ends[space], space) for space in page.maps if space in self.ends]
+        return [space for end, space in sorted(ends, key=lambda each: each[0].time) if end.last_activity < self.now]
+
     def is_ending(self, page: Page) -> bool:
-        """Returns whether all address spaces that map a page are ending: nothing else of them comes any more."""
-        ends = [self.ends.get(space) for space in page.maps]
-        return bool(ends) and all(end and end.last_activity < self.now for end in ends)
+        """Returns whether all address spaces that map a page are ending."""
+        return bool(page.maps) and len(self.ending_spaces(page)) == len(page.maps)
 
     def place_of_join(self, page: Page) -> int:
         """Returns where among the latest lines the event is by which a page joined the queue; -1: nowhere. A page whose

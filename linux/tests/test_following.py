@@ -354,6 +354,20 @@ class EndTest(unittest.TestCase):
         records.daemon(Kind.EXIT_MMAP, [SPACE], [])
         self.assertEqual(build_journal(records).tallies["pages left out: queued for no reason seen"], 1)
 
+    def test_a_page_that_another_process_maps_joins_the_queue_while_one_ends(self) -> None:
+        """The parent has unmapped the first half; a scan sees the page in the queue before the child's end is recorded."""
+        records, child = TwoTaskBuilder(), SPACE + 4096
+        page = records.page(0)
+        records.add(Kind.FORK, [SPACE, child, 99])
+        records.drop(0, 0, 256, [])
+        records.daemon(Kind.SCAN, [0, 1], [page])
+        records.daemon(Kind.SCANNED, [0, 0], [page])
+        records.daemon(Kind.EXIT_MMAP, [child], [page])
+        records.look([page])
+        builder = build_journal(records)
+        self.assertEqual(event_words(builder)[1:], ["mapwhole 0", "splitpmd 0", "unmapsub 0 0 256 stays -", "unmapwhole 0 queued -"])
+        self.assertEqual((builder.tallies["pages followed before their process's end"], builder.count_omitted()), (1, 0))
+
     def test_a_page_that_goes_while_its_process_runs_is_left_out(self) -> None:
         records = TwoTaskBuilder()
         page = records.page(0)
