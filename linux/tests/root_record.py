@@ -32,6 +32,7 @@ from linux.common.helpers import helper  # noqa: E402
 from linux.tests.cases import Cases, Missing  # noqa: E402
 
 MOST_RESIDENT = 64 << 10  # KiB
+SECONDS = 600  # that a case gets: enough on a loaded machine
 FAULTS, DROPS = 300000, 20000
 PAGES, FOLLOWED, RUNS, TRIES = 48, 45, 5, 12  # of snapshots.py
 EXAMPLES = ROOT / "linux/record/examples"
@@ -247,10 +248,19 @@ def pages_of_two_sizes() -> Optional[str]:
         DONE, "legal (", "1 scans of a part of the queue, whose order was compared", "1 of these, scans of pages of several orders")
 
 
+def run_workers(*words: str) -> Optional[str]:
+    """Records workers.py with these words, the last of which is a script; returns what is wrong."""
+    names = [*words[:-1], reachable(str(EXAMPLES / words[-1]))]
+    done = run(["--every", "0.01", "--user", USER, "--", PYTHON, reachable(str(EXAMPLES / "workers.py")), *names])
+    return done.wrong(DONE, "the command ended with status 0", "legal (", " 0 queues that differ")
+
+
 def workers_that_share_a_node() -> Optional[str]:
-    words = ["--every", "0.01", "--user", USER, "--", PYTHON]
-    done = run([*words, *(reachable(str(EXAMPLES / name)) for name in ("workers.py", "shared_node.script"))])
-    return done.wrong(DONE, "legal (", " 0 queues that differ")
+    return run_workers("shared_node.script")
+
+
+def processes_that_share_a_node() -> Optional[str]:
+    return run_workers("--processes", "shared_pages.script")
 
 
 def runs_as_the_user() -> Optional[str]:
@@ -285,13 +295,13 @@ def main() -> int:
     each: List[Callable[[], Optional[str]]] = [
         no_such_command, bad_numbers, outputs_refused, outputs_are_the_callers, one_that_cannot_be_run,
         status_of_the_command, groups_of_its_own_are_removed, pages_of_two_sizes, workers_that_share_a_node,
-        runs_as_the_user, several_threads, bounded_without_events, bounded_with_events,
+        processes_that_share_a_node, runs_as_the_user, several_threads, bounded_without_events, bounded_with_events,
         copies_on_write, ended_by_seconds, ended_by_events, ended_though_it_ignores_that,
     ]
     for case in each:
-        cases.run(case.__name__.replace("_", " "), case, 60)
+        cases.run(case.__name__.replace("_", " "), case, SECONDS)
     for sent in (signal.SIGINT, signal.SIGTERM):
-        cases.run(f"ended by {sent.name}", lambda: interrupted(sent), 60)
+        cases.run(f"ended by {sent.name}", lambda: interrupted(sent), SECONDS)
     cases.run("nothing is left", lambda: None if (settings(), sorted(os.listdir("/var/tmp"))) == (before, files) else
               f"{set(settings()) ^ set(before)} {set(os.listdir('/var/tmp')) ^ set(files)}")
     return cases.end()

@@ -1,9 +1,12 @@
-"""Runs the workers of a script on one node, each in a thread, on pages that all of them share.
+"""Runs the workers of a script on one node, each in a thread or process, on pages that all of them share.
 
-    thprecord --straighten -- python3 workers.py SCRIPT
+    thprecord --straighten -- python3 workers.py [--processes] SCRIPT
 
 The setup makes the pages. A scan, or a batch, waits for a reclaim of the recorder. Commands that need a second process (map,
 mapwhole), another node, a worker's own page or an end of the queue are an error: status 2.
+
+With --processes each worker maps all pages, and its commands change its own mappings: a subpage is unmapped once all workers have
+unmapped it. The process that made the pages unmaps them before the workers start.
 """
 
 from __future__ import annotations
@@ -59,6 +62,10 @@ class Page:
         if self._pins:
             os.close(self._pins.pop())
 
+    def unpin_all(self) -> None:
+        while self._pins:
+            self.unpin()
+
 
 def wait(*_count: int) -> None:
     time.sleep(RECLAIM)
@@ -73,7 +80,7 @@ class Script:
 
     def __init__(self, text: str) -> None:
         self.sections: Dict[int, List[List[str]]] = {0: []}
-        self._pages: List[Page] = []
+        self.pages: List[Page] = []
         section = 0
         for line in text.split("\n"):
             words = line.split()
@@ -90,11 +97,11 @@ class Script:
         for word, _, *rest in self.sections[section]:
             numbers = [int(each) for each in rest]
             if word == "alloc":
-                self._pages.append(Page())
+                self.pages.append(Page())
             elif word in NODE_CALLS:
                 NODE_CALLS[word](*numbers)
             else:
-                getattr(self._pages[numbers[0]], PAGE_CALLS[word])(*numbers[1:])
+                getattr(self.pages[numbers[0]], PAGE_CALLS[word])(*numbers[1:])
 
 
 PAGE_CALLS = {"unmap": "unmap", "unmapwhole": "unmap", "splitpmd": "split_pmd", "pin": "pin", "unpin": "unpin"}
@@ -102,19 +109,52 @@ NODE_CALLS: Dict[str, Callable[..., None]] = {"scan": wait, "take": wait, "split
 CALLS = {"alloc", *PAGE_CALLS, *NODE_CALLS}
 
 
-def main() -> None:
-    """Runs the setup, then all workers at the same time."""
-    try:
-        with open(sys.argv[1], encoding="ascii") as file:
-            script = Script(file.read())
-        script.run(0)
-    except (IndexError, ValueError, OSError) as error:
-        fail(f"no script that can be run: {error}")
-    threads = [threading.Thread(target=script.run, args=(section,)) for section in script.sections if section]
+def run_threads(script: Script, sections: List[int]) -> None:
+    """Runs each section in a thread, all at the same time."""
+    threads = [threading.Thread(target=script.run, args=(section,)) for section in sections]
     for thread in threads:
         thread.start()
     for thread in threads:
         thread.join()
+
+
+def run_worker(script: Script, section: int, reader: int) -> NoReturn:
+    """Runs a section in this process once the pipe's other end is closed, and ends."""
+    for page in script.pages:
+        page.unpin_all()  # these pins are of the process that made the pages
+    os.read(reader, 1)
+    script.run(section)
+    os._exit(0)
+
+
+def run_processes(script: Script, sections: List[int]) -> None:
+    """Runs each section in a process, all at the same time."""
+    reader, writer = os.pipe()
+    children: List[int] = []
+    for section in sections:
+        child = os.fork()
+        if not child:
+            os.close(writer)
+            run_worker(script, section, reader)
+        children.append(child)
+    for page in script.pages:
+        page.unmap()
+    os.close(writer)
+    statuses = [os.waitpid(child, 0)[1] for child in children]
+    if any(statuses):
+        fail(f"the workers ended with statuses {statuses}")
+
+
+def main() -> None:
+    """Runs the setup, then all workers."""
+    is_apart = sys.argv[1:2] == ["--processes"]
+    try:
+        with open(sys.argv[2 if is_apart else 1], encoding="ascii") as file:
+            script = Script(file.read())
+        script.run(0)
+    except (IndexError, ValueError, OSError) as error:
+        fail(f"no script that can be run: {error}")
+    (run_processes if is_apart else run_threads)(script, [section for section in script.sections if section])
     wait()
 
 
