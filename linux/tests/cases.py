@@ -16,16 +16,16 @@ class Missing(Exception):
 
 
 class Cases:
-    """Runs cases and counts them."""
+    """Runs cases and counts them. `seconds`: the time that a case gets, if it has no limit of its own."""
 
-    def __init__(self, name: str) -> None:
-        self._name, self.passed, self.failed = name, 0, 0
+    def __init__(self, name: str, seconds: int = SECONDS) -> None:
+        self._name, self._seconds, self.passed, self.failed = name, seconds, 0, 0
 
-    def run(self, name: str, case: Callable[[], Optional[str]], seconds: int = SECONDS) -> None:
+    def run(self, name: str, case: Callable[[], Optional[str]], seconds: Optional[int] = None) -> None:
         """Runs one case: it passes where it returns nothing. One that needs what isn't there counts neither way."""
         began = time.monotonic()
         signal.signal(signal.SIGALRM, stop)
-        signal.alarm(seconds)
+        signal.alarm(seconds or self._seconds)
         try:
             wrong = case()
         except Missing as lacking:

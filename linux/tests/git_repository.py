@@ -26,7 +26,7 @@ class Git:
     def call(self, *words: str) -> str:
         """Returns what git prints."""
         done = subprocess.run(["git", *words], cwd=self._folder, env=self._environment, capture_output=True, text=True,
-                              timeout=120, check=False)
+                              timeout=1200, check=False)
         return done.stdout + done.stderr
 
     def commit(self) -> str:

@@ -12,6 +12,7 @@ from __future__ import annotations
 import os
 import random
 import re
+import resource
 import shutil
 import signal
 import subprocess
@@ -40,7 +41,11 @@ from linux.tests.plain_program import inject_bug  # noqa: E402
 HERE = Path(__file__).resolve().parent
 SCRIPT = str(ROOT / "examples/first.script")
 RUNS = 50  # beside an attacker
-SECONDS = 40  # that a run of the tool gets
+HANGS = 300  # seconds after which a run of the tool hangs, however loaded the machine is
+CASE_SECONDS = 1800  # that a case gets
+REFUSAL_SECONDS = 10.0  # of processor time that a refusal takes at most
+SHRINKING = "600"  # seconds in which a script is made small: enough for all steps on a loaded machine
+MAPPER_SECONDS = 30  # until the mapping processes of a killed tool have ended
 KILLS = 8
 MOST_COMMANDS = 8  # of a smallest script
 
@@ -82,11 +87,11 @@ class Tool:
         return subprocess.Popen([sys.executable, self._replay, "--wait", *named, *words], cwd="/",
                                 stdout=subprocess.PIPE, stderr=subprocess.PIPE)
 
-    def call(self, *words: str, program: Optional[str] = None, seconds: int = SECONDS) -> Tuple[int, bytes, bytes]:
-        """Returns its status and what it printed. One that takes too long is killed."""
+    def call(self, *words: str, program: Optional[str] = None) -> Tuple[int, bytes, bytes]:
+        """Returns its status and what it printed. One that hangs is killed."""
         process = self.start(*words, program=program)
         try:
-            out, problems = process.communicate(timeout=seconds)
+            out, problems = process.communicate(timeout=HANGS)
         except BaseException:
             process.kill()
             process.wait()
@@ -100,16 +105,26 @@ def outcomes(out: bytes) -> List[str]:
     return [str(each) for each in found]
 
 
-def mappers() -> Set[int]:
-    """Returns the mapping processes of this machine."""
-    found = set()
+def mappers() -> Dict[int, int]:
+    """Returns the mapping processes of this machine, each with its session: those of one tool have one."""
+    found = {}
     for path in Path("/proc").glob("[0-9]*"):
         try:
             if os.readlink(path / "exe").split(" ")[0].endswith("mapper"):
-                found.add(int(path.name))
+                found[int(path.name)] = os.getsid(int(path.name))
         except OSError:
             pass
     return found
+
+
+def session_of(tool: int) -> int:
+    """Returns the session of a tool's mapping processes, or 0 while it has none."""
+    try:
+        children = read(f"/proc/{tool}/task/{tool}/children").split()
+    except OSError:
+        return 0  # it has ended
+    sessions = mappers()
+    return next((sessions[int(child)] for child in children if sessions.get(int(child)) == int(child)), 0)
 
 
 def named_sockets(processes: Set[int]) -> List[str]:
@@ -152,9 +167,9 @@ def has_no_names(tool: Tool) -> Optional[str]:
     """No socket of a running tool or of its mapping processes has a name, and these have no rights."""
     process = tool.start("--random", "1000", "--quiet")
     try:
-        end, seen = time.monotonic() + 10, 0
+        end, seen = time.monotonic() + HANGS, 0
         while time.monotonic() < end and seen < 20:
-            found = mappers()
+            found = set(mappers())
             names = named_sockets({process.pid, *found})
             if names:
                 return f"sockets with names: {names}"
@@ -166,7 +181,7 @@ def has_no_names(tool: Tool) -> Optional[str]:
         return None if seen else "no mapping process was seen"
     finally:
         process.send_signal(signal.SIGTERM)
-        process.communicate(timeout=SECONDS)
+        process.communicate(timeout=HANGS)
 
 
 def rights_left(process: int) -> Optional[str]:
@@ -183,7 +198,7 @@ def rights_left(process: int) -> Optional[str]:
 def beside_noise(tool: Tool, attackers: Attackers, pause: str) -> Optional[str]:
     """Twenty runs of a script and five random ones never differ."""
     with attackers.run_attacker("noise", "600", pause):
-        status, out, problems = tool.call(*[SCRIPT] * 20, "--random", "5", seconds=90)
+        status, out, problems = tool.call(*[SCRIPT] * 20, "--random", "5")
     found = outcomes(out)
     print(f"  beside noise every {pause} us: {found.count('agrees')} agree, {found.count('inconclusive')} inconclusive")
     if status not in (DONE, INCONCLUSIVE) or len(found) != 25 or not {"agrees", "inconclusive"}.issuperset(found):
@@ -226,6 +241,12 @@ def one_line(status: int, out: bytes, problems: bytes, wanted: int) -> Optional[
     return f"status {status}, {out[-200:]!r}, {problems[-300:]!r}"
 
 
+def processor_seconds() -> float:
+    """Returns the processor time of all ended children."""
+    used = resource.getrusage(resource.RUSAGE_CHILDREN)
+    return used.ru_utime + used.ru_stime
+
+
 def refuses(tool: Tool) -> Optional[str]:
     """Files that aren't scripts and words that aren't numbers have one line and status 2."""
     words = [[option, value] for option in ("--random", "--seed", "--length", "--node-counts", "--page-orders",
@@ -233,8 +254,11 @@ def refuses(tool: Tool) -> Optional[str]:
     with tempfile.TemporaryDirectory() as folder:
         for each in [*([path] for path in odd_files(folder)), *words, ["\x1b[2J\x0b\u2028"], ["--\x1b[2J"]]:
             extra = [] if len(each) == 1 else ["--random=1", "--show"]
-            status, out, problems = tool.call(*extra, *each, seconds=10)
+            before = processor_seconds()
+            status, out, problems = tool.call(*extra, *each)
             wrong = one_line(status, out, problems, USAGE)
+            if processor_seconds() - before > REFUSAL_SECONDS:
+                return f"{each}: it takes {processor_seconds() - before:.1f} s of processor time"
             if wrong or any(byte < 32 and byte != 10 or byte > 126 for byte in problems):
                 return f"{each}: {wrong or problems!r}"
     return None
@@ -252,19 +276,18 @@ def prints_names(tool: Tool) -> Optional[str]:
 
 
 def leaves_no_mapper(tool: Tool) -> Optional[str]:
-    """After a kill of the tool no mapping process is left."""
-    before = mappers()
+    """After a kill of the tool no mapping process of it is left."""
     for number in range(KILLS):
         process = tool.start("--random", "1000", "--quiet", "--no-memory")
         try:
-            wait_until(lambda: bool(mappers() - before), 20)
+            wait_until(lambda: session_of(process.pid) > 0, HANGS)
             time.sleep(0.07 * number)
-            seen = mappers() - before
+            session = session_of(process.pid)
         finally:
             process.kill()
-            process.communicate(timeout=SECONDS)
-        if not seen or not wait_until(lambda: not mappers() - before, 5):
-            return f"moment {number}: {len(seen)} mapping processes before the kill, {mappers() - before} after it"
+            process.communicate(timeout=HANGS)
+        if not session or not wait_until(lambda: session not in mappers().values(), MAPPER_SECONDS):
+            return f"moment {number}: session {session} before the kill, {mappers()} after it"
     return None
 
 
@@ -282,7 +305,8 @@ def makes_small(tool: Tool, bug: str) -> Optional[str]:
     with tempfile.TemporaryDirectory() as folder:
         os.chmod(folder, 0o755)
         program, kept = inject_bug(bug, folder), Path(folder) / "kept"
-        tool.call("--random", "8", "--seed", "7", "--quiet", "--keep", str(kept), program=program, seconds=90)
+        words = ["--random", "8", "--seed", "7", "--quiet", "--keep", str(kept), "--shrink", SHRINKING]
+        tool.call(*words, program=program)
         found = sorted(kept.glob("*.smallest.script"))
         if not found:
             return "no script was made small"
@@ -349,7 +373,7 @@ def main() -> int:
         return SKIPPED
     program = os.path.abspath(sys.argv[1]) if len(sys.argv) > 1 else str(HERE / "plain_program.py")
     tool = Tool(program, sys.argv[2] if len(sys.argv) > 2 else str(ROOT / "linux/thpreplay"))
-    cases = Cases("root_replay")
+    cases = Cases("root_replay", CASE_SECONDS)
     with tempfile.TemporaryDirectory() as folder:
         attackers = Attackers(folder)
         attackers.compile()
