@@ -3,8 +3,8 @@
 
     python3 linux/tests/vm_trials.py [--cases N] [--seed S] [SUITE:PACKAGE | KERNEL]..
 
-Random scripts are compared on two NUMA nodes and on one, queues among them; a reader of queues with an injected bug must
-be found; two fingerprints have the same lines, and docs/LINUX.md has the column of the kernel where it has one; a recording is
+Random scripts are compared on two NUMA nodes and on one, queues among them; readers of queues with injected bugs must be
+found; two fingerprints have the same lines, and docs/LINUX.md has the column of the kernel where it has one; recordings are
 legal. The judges are thpsplit and thpcheck where they are built, else the plain reading of the model. A kernel that can't be
 had is named and skipped, as is a machine without qemu.
 """
@@ -32,7 +32,9 @@ PROGRAM = [] if program.find("thpsplit", program.BUILT) else ["--program", "linu
 CHECKER = [] if program.find("thpcheck", checker.BUILT) else ["--checker", "linux/tests/plain_checker.py"]
 SECONDS, SKIPPED, DIFFERS = 6 * 3600, 77, 1
 NO_SIZES = "skipped: this kernel has no pages of order"
-EVENTS = 5000  # of recordings, at least
+RECORDINGS, STEPS, EVENTS = 5, 600, 5000  # runs, steps of a recording, and the events of a run at least
+SEEDS = 1000  # between two runs: one that has too few events goes on with the next seeds
+BUGS = ("reverse", "other")
 MOST_FOR_BUG = 20  # scripts in which an injected bug is found
 TWO_FINGERPRINTS = "thpreplay {0} --fingerprint; echo ==; thpreplay {0} --fingerprint; thpreplay {0} --fingerprint --markdown"
 
@@ -61,11 +63,15 @@ def compare(kernel: str, nodes: int, words: List[str]) -> Optional[str]:
     return None
 
 
-def find_bug(kernel: str, bug: str, words: List[str]) -> Optional[str]:
-    """Returns what is wrong where no script finds an injected bug, or nothing."""
-    command = ["python3", "linux/tests/wrong_queues.py", bug, *PROGRAM, "--quiet", "--shrink", "0", *words]
-    done = run_in_guest(kernel, [], command)
-    return None if done.returncode == DIFFERS else f"status {done.returncode}: {done.stderr.strip()[-200:]}"
+def find_bugs(kernel: str, words: List[str]) -> Optional[str]:
+    """Returns what is wrong where no script finds one of the injected bugs, or nothing."""
+    tried = " ".join([*PROGRAM, "--quiet", "--shrink", "0", *words])
+    each = f"python3 linux/tests/wrong_queues.py $bug {tried}; echo status of $bug: $?"
+    done = run_in_guest(kernel, [], ["sh", "-c", f"for bug in {' '.join(BUGS)}; do {each}; done"])
+    print("\n".join(line[:140] for line in re.findall("^.*differs: .*$", done.stdout, re.MULTILINE)), flush=True)
+    statuses = re.findall("^status of ([a-z]+: [0-9]+)$", done.stdout, re.MULTILINE)
+    wanted = [f"{bug}: {DIFFERS}" for bug in BUGS]
+    return None if statuses == wanted else f"statuses {statuses}: {done.stderr.strip()[-200:]}"
 
 
 def print_letters(kernel: str) -> Optional[str]:
@@ -80,10 +86,15 @@ def print_letters(kernel: str) -> Optional[str]:
 
 def record(kernel: str, seed: int) -> Optional[str]:
     """Returns what is wrong with recordings of the tool's own workload, or nothing."""
-    words = ["--straighten", "--own", f"1,300,{seed}", "--least", str(EVENTS)]
-    done = run_in_guest(kernel, [], ["thprecord", *CHECKER, *words])
+    words = " ".join(["thprecord", *CHECKER, "--straighten", "--own"])
+    seeds = " ".join(str(seed + SEEDS * number) for number in range(RECORDINGS))
+    command = f"for seed in {seeds}; do {words} 1,{STEPS},$seed --least {EVENTS} || exit $?; done"
+    done = run_in_guest(kernel, [], ["sh", "-c", command])
     print("\n".join(line for line in done.stdout.split("\n") if re.search("legal|queues", line)), flush=True)
-    return f"status {done.returncode}: {(done.stdout + done.stderr).strip()[-400:]}" if done.returncode else None
+    if done.returncode:
+        return f"status {done.returncode}: {(done.stdout + done.stderr).strip()[-400:]}"
+    events = [int(each) for each in re.findall("^ *([0-9]+) events in journals$", done.stdout, re.MULTILINE)]
+    return None if len(events) == RECORDINGS and min(events) >= EVENTS else f"events of recordings: {events}"
 
 
 def main() -> int:
@@ -97,11 +108,9 @@ def main() -> int:
     for kernel in options.kernel:
         for nodes in (2, 1):
             cases.run(f"{kernel}, {nodes} NUMA nodes", partial(compare, kernel, nodes, words), SECONDS)
-        for bug in ("reverse", "other"):
-            case = partial(find_bug, kernel, bug, ["--random", str(MOST_FOR_BUG)])
-            cases.run(f"{kernel}, queues with the bug {bug}", case, SECONDS)
+        cases.run(f"{kernel}, queues with injected bugs", partial(find_bugs, kernel, ["--random", str(MOST_FOR_BUG)]), SECONDS)
         cases.run(f"{kernel}, known differences", partial(print_letters, kernel), SECONDS)
-        cases.run(f"{kernel}, a recording", partial(record, kernel, options.seed), SECONDS)
+        cases.run(f"{kernel}, {RECORDINGS} recordings", partial(record, kernel, options.seed), SECONDS)
     return cases.end()
 
 
