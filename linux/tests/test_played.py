@@ -101,7 +101,7 @@ class PutBackTest(unittest.TestCase):
         records.look([])
         builder = build_journal(records.records, THRESHOLD)
         self.assertEqual(builder.tallies["pages that joined between a scan's start and its taking"], 1)
-        self.assertEqual([words for words in event_words(builder) if words.startswith("used")], ["used 1", "used 0"])
+        self.assertEqual([words for words in event_words(builder) if words.startswith("used")], ["used 0", "used 1"])
 
 
 class PlayedTest(unittest.TestCase):
