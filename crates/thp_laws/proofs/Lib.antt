@@ -11,6 +11,7 @@ pub mod ReadingBack
 pub mod RepeatedCalls
 pub mod RepeatedPlaces
 pub mod RepeatedRuns
+pub mod CountedTurns
 pub mod RepeatedScans
 pub mod RepeatedTurns
 pub mod SameRefusals
