@@ -3,7 +3,6 @@
 
     prove.py CRATE [WORD..]
     prove.py verdicts [PART]
-    prove.py is-released
 
 With words it then runs `rt WORD..` in the crate's folder: `run` proves, builds and runs a program, `lib` builds a library, `verdict`
 proves the crate again from scratch.
@@ -15,10 +14,9 @@ as `rt` chooses; other libraries use the rest of the machine. Libraries that are
 checks them at the end.
 
 The line in which `rt` reports that a crate is proved, its verdict line, is stored in the crate's out/, with the sum of the sources
-that it is for (`verdict`). `rt` prints no line for a proof that it takes from an earlier run or another checkout. So each line is also
-stored below the user's folder of caches, by that sum, where all checkouts find it. With the word `verdicts` each crate of a release that
-has no line is proved from scratch, to get one; all that it uses must be built. PART is the folder in out/ of what was built for another
-platform. With `is-released` the status is 0 if each crate has its line, and the built files are those that the lines are for; else 1.
+that it is for (`verdict`). Where `rt` takes a proof from another checkout, the line of that checkout comes with it, if there is one.
+With the word `verdicts` each crate of a release that has no line is proved from scratch, to get one; all that it uses must be built.
+PART is the folder in out/ of what was built for another platform.
 
 Writes a line for each library on standard error. The status is 1 if a library is not proved, and then the output of its `rt`
 is shown; with words it is otherwise that of `rt`.
@@ -37,7 +35,6 @@ import tempfile
 import threading
 import time
 from concurrent.futures import FIRST_COMPLETED, Future, ThreadPoolExecutor, wait
-from contextlib import suppress
 from functools import cache
 from pathlib import Path
 
@@ -121,25 +118,14 @@ def sources(name: str) -> str:
     for it in (*below(name), name):
         whole.update(f"{listed()[it][0]}\n".encode())
         for path in sorted(files(it)):
-            whole.update(f"{path.relative_to(CRATES)} {hash_of(path)}\n".encode())
+            whole.update(f"{path.relative_to(CRATES)} {hashlib.sha256(path.read_bytes()).hexdigest()}\n".encode())
     return whole.hexdigest()
-
-
-def hash_of(path: Path) -> str:
-    """The SHA-256 of a file."""
-    return hashlib.sha256(path.read_bytes()).hexdigest()
 
 
 def products(name: str, part: str = "") -> list[Path]:
     """What was built from a crate: its program, or its static library; for another platform in that part of out/."""
     out = CRATES / name / "out" / part
     return [it for it in (out / name, out / f"lib{name}.a") if it.is_file()]
-
-
-def shared(name: str, whole: str, part: str) -> Path:
-    """Where all checkouts of this user find the verdict line of a crate for the sources with this sum."""
-    caches = Path(os.environ.get("XDG_CACHE_HOME") or Path.home() / ".cache")
-    return caches / "leversorrel/verdicts" / "-".join(it for it in (name, part, whole) if it)
 
 
 def keep_verdict(name: str, before: str, said: str, folder: Path | None = None, part: str = "") -> bool:
@@ -150,33 +136,21 @@ def keep_verdict(name: str, before: str, said: str, folder: Path | None = None, 
         return False
     folder = folder or CRATES / name / "out" / part
     folder.mkdir(parents=True, exist_ok=True)
-    built = "".join(f"built={it.name} {hash_of(it)}\n" for it in products(name, part))
+    built = "".join(f"built={it.name} {hashlib.sha256(it.read_bytes()).hexdigest()}\n" for it in products(name, part))
     (folder / "verdict").write_text(f"sources={before}\n{built}{lines[-1]}\n")
-    with suppress(OSError):  # without it only this checkout has the line
-        other = shared(name, before, part)
-        other.parent.mkdir(parents=True, exist_ok=True)
-        shutil.copyfile(folder / "verdict", other)
     return True
 
 
 def verdict(name: str, part: str = "") -> tuple[str, dict[str, str]] | None:
     """The stored verdict line of a crate, and the hash of each file that was built with it, by name; or None if there is none for the
     present sources. A library has the same line for all platforms."""
-    now, own = sources(name), part if name in RELEASED else ""
-    for path in [*(CRATES / name / "out" / it / "verdict" for it in ([own] if own else ["", "rlib"])), shared(name, now, own)]:
+    now = sources(name)
+    for folder in [part] if part and name in RELEASED else ["", "rlib"]:
+        path = CRATES / name / "out" / folder / "verdict"
         lines = path.read_text(errors="replace").splitlines() if path.is_file() else []
         if len(lines) >= 2 and lines[0] == f"sources={now}" and VERDICT.fullmatch(lines[-1]):
             return lines[-1], dict(line.removeprefix("built=").split(" ", 1) for line in lines[1:-1])
     return None
-
-
-def is_released() -> bool:
-    """Whether each crate of a release has a verdict line, and the programs and the library are those that were built with it."""
-    for name in released():
-        stored, made = verdict(name), products(name) if name in RELEASED else []
-        if stored is None or (name in RELEASED and not made) or any(hash_of(it) not in stored[1].values() for it in made):
-            return False
-    return True
 
 
 def link(one: str, other: str) -> None:
@@ -320,8 +294,6 @@ def end(started: list[subprocess.Popen[str]]) -> None:
 
 
 def main() -> None:
-    if sys.argv[1] == "is-released":
-        sys.exit(0 if is_released() else 1)
     if sys.argv[1] == "verdicts":
         sys.exit(0 if prove_lacking("".join(sys.argv[2:])) else 1)
     started: list[subprocess.Popen[str]] = []

@@ -18,8 +18,8 @@ import sys
 from pathlib import Path
 
 from platforms import ARM64
-from proof import ROOT
-from prove import CRATES, RELEASED, below, hash_of, keep_verdict, listed, sources, verdict
+from proof import ROOT, hash_of
+from prove import CRATES, RELEASED, below, keep_verdict, listed, sources, verdict
 
 TARGET = "aarch64-unknown-linux-gnu"
 """The toolchain's name of the platform."""

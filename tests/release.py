@@ -16,8 +16,6 @@ import subprocess
 import sys
 import tarfile
 import tempfile
-from collections.abc import Iterator
-from contextlib import contextmanager
 from functools import partial
 from pathlib import Path
 
@@ -64,8 +62,7 @@ class Release:
         (folder / "bin").mkdir()
         (folder / "bin/rt").write_text("#!/bin/sh\necho kit-of-a-test logic 00\n")
         (folder / "bin/rt").chmod(0o755)
-        self.caches = folder / "caches"
-        self.environment = {**os.environ, "PATH": f"{folder}/bin:{os.environ['PATH']}", "XDG_CACHE_HOME": str(self.caches)}
+        self.environment = {**os.environ, "PATH": f"{folder}/bin:{os.environ['PATH']}"}
         self.fill()
         self.commit()
         self.out = [self.tree / "crates" / name / "out" / name for name in RELEASED[:-1]]
@@ -108,22 +105,6 @@ class Release:
         """Stores verdict lines, as a proof does."""
         code = f"import prove\nfor name, line in {lines!r}.items():\n    prove.keep_verdict(name, prove.sources(name), line)\n"
         subprocess.run([sys.executable, "-c", code], cwd=self.tree, env=self.environment, check=True)
-
-    @contextmanager
-    def without_line(self, name: str) -> Iterator[None]:
-        """Meanwhile a crate has no verdict line, neither in the tree nor in the folder of caches."""
-        paths = [self.tree / "crates" / name / "out/verdict", *self.caches.glob(f"leversorrel/verdicts/{name}-*")]
-        kept = {path: path.read_bytes() for path in paths if path.exists()}
-        for path in kept:
-            path.unlink()
-        yield
-        for path, text in kept.items():
-            path.write_bytes(text)
-
-    def needs_proofs(self) -> bool:
-        """Whether something must be proved or built before a release can be made."""
-        command = [sys.executable, str(self.tree / "prove.py"), "is-released"]
-        return subprocess.run(command, env=self.environment, check=False).returncode != 0
 
     def script(self, name: str, *words: str) -> subprocess.CompletedProcess[str]:
         """Runs a script of release/ on the stand-ins."""
@@ -169,11 +150,12 @@ def versions_differ() -> str | None:
 
 def refuses(release: Release) -> str | None:
     """No release of crates without a verdict line, of other sources, of another program, or of an unprotected one."""
-    low = below("thpsplit")[0]
+    low, other = below("thpsplit")[0], release.tree / "crates/thp_c/out/verdict"
     source, readme = release.tree / f"crates/{low}/src/lib.rt", release.tree / "README.md"
-    was, text = source.read_text(), readme.read_text()
-    with release.without_line("thp_c"):
-        wrong = release.refusal_differs("no verdict line for the present sources of thp_c:")
+    was, text, stored = source.read_text(), readme.read_text(), other.read_bytes()
+    other.unlink()
+    wrong = release.refusal_differs("no verdict line for the present sources of thp_c:")
+    other.write_bytes(stored)
     readme.write_text(f"{text}more\n")
     wrong = wrong or release.refusal_differs("the sources differ from the commit: README.md")
     readme.write_text(text)
@@ -198,30 +180,15 @@ def packages_state(release: Release) -> str | None:
     lacks = [name for name in released() if not any(line.split(maxsplit=1) == [name, LINE] for line in lines)]
     begun = {line[:64] for line in lines}
     lacks += [path.name for path in release.out if hashlib.sha256(path.read_bytes()).hexdigest() not in begun]
-    with release.without_line("thp_c"):
-        refused = release.script("proof")
+    stored = release.tree / "crates/thp_c/out/verdict"
+    kept = stored.read_bytes()
+    stored.unlink()
+    refused = release.script("proof")
+    stored.write_bytes(kept)
     if done.returncode != 0 or lacks:
         return f"status {done.returncode}, lacks {lacks}: {done.stderr.strip()[-300:]}"
     is_refused = refused.returncode == 1 and not refused.stdout and "no verdict line for the present sources of thp_c" in refused.stderr
     return None if is_refused else f"without a line: status {refused.returncode}: {refused.stderr.strip()[-300:]}"
-
-
-def lines_are_shared(release: Release) -> str | None:
-    """What is wrong where a release needs no proof: the lines are in the folder of caches, and all is built; or where it needs one."""
-    stored = {path: path.read_bytes() for path in release.tree.glob("crates/*/out/verdict")}
-    for path in stored:
-        path.unlink()
-    program = release.out[0]
-    was = program.read_bytes()
-    found = [release.needs_proofs()]
-    with release.without_line("thp_links"):
-        found.append(release.needs_proofs())
-    program.write_bytes(was + b"more")
-    found.append(release.needs_proofs())
-    program.write_bytes(was)
-    for path, text in stored.items():
-        path.write_bytes(text)
-    return None if found == [False, True, True] else f"{found}"
 
 
 def is_reproducible(release: Release) -> str | None:
@@ -315,7 +282,6 @@ def main() -> None:
             tally.end()
         tally.run("what a release refuses", partial(refuses, release))
         tally.run("what the packages state", partial(packages_state, release))
-        tally.run("what needs no proof", partial(lines_are_shared, release))
         tally.run("the same bytes from a clone", partial(is_reproducible, release))
         tally.run("archives, PROOF and binaries", partial(archives_differ, release))
     tally.end()

@@ -11,7 +11,6 @@ pub mod ReadingBack
 pub mod RepeatedCalls
 pub mod RepeatedPlaces
 pub mod RepeatedRuns
-pub mod CountedTurns
 pub mod RepeatedScans
 pub mod RepeatedTurns
 pub mod SameRefusals
