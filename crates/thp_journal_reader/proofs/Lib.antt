@@ -15,4 +15,3 @@ pub mod RepeatLaws
 pub mod ScriptBatchLaws
 pub mod WholeScanLaws
 pub mod FoldingLaws
-pub mod JournalScriptLaws

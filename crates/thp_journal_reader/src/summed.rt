@@ -12,7 +12,7 @@ pub struct Summed {
     pub totals: Vec<Totals>,
 }
 
-/// Why a check that also sums nodes up, or writes a script, has no result.
+/// Why there is no summary.
 #[derive(Clone, Copy, Debug, PartialEq, Eq)]
 pub enum SummaryFault {
     /// The first error of the text.

@@ -16,5 +16,4 @@ invariant-loop-text g l =
       counted : IsCounted l.rest l.text;
       along : g.N.KeepsNodes.goes_along l.text.line l.nodes;
       limit : l.text.most ≡ l.fn.self.text.most;
-      taken : g.N.KeepsNodes.taken l.nodes ≡ g.N.KeepsNodes.taken l.fn.self.nodes;
     }
