@@ -91,8 +91,8 @@ class Frames:
 
     def whole(self, first: int, count: int) -> int:
         """Returns how many of these frames are still parts of one compound page that begins at the first."""
-        head, *tails = self.flags(first, count)
-        return bool(head & _HEAD) + sum(1 for flags in tails if flags & _TAIL)
+        flags = self.flags(first, count)
+        return sum(1 for head in flags[:1] if head & _HEAD) + sum(1 for tail in flags[1:] if tail & _TAIL)
 
     def close(self) -> None:
         self._flags.close()

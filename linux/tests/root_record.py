@@ -291,7 +291,7 @@ def main() -> int:
     if os.geteuid() != 0:
         print("root_record: skipped: not root", file=sys.stderr)
         return SKIPPED
-    cases, before, files = Cases("root_record"), settings(), sorted(os.listdir("/var/tmp"))
+    cases, before, files = Cases("root_record", SECONDS), settings(), sorted(os.listdir("/var/tmp"))
     each: List[Callable[[], Optional[str]]] = [
         no_such_command, bad_numbers, outputs_refused, outputs_are_the_callers, one_that_cannot_be_run,
         status_of_the_command, groups_of_its_own_are_removed, pages_of_two_sizes, workers_that_share_a_node,
@@ -299,9 +299,9 @@ def main() -> int:
         copies_on_write, ended_by_seconds, ended_by_events, ended_though_it_ignores_that,
     ]
     for case in each:
-        cases.run(case.__name__.replace("_", " "), case, SECONDS)
+        cases.run(case.__name__.replace("_", " "), case)
     for sent in (signal.SIGINT, signal.SIGTERM):
-        cases.run(f"ended by {sent.name}", lambda: interrupted(sent), SECONDS)
+        cases.run(f"ended by {sent.name}", lambda: interrupted(sent))
     cases.run("nothing is left", lambda: None if (settings(), sorted(os.listdir("/var/tmp"))) == (before, files) else
               f"{set(settings()) ^ set(before)} {set(os.listdir('/var/tmp')) ^ set(files)}")
     return cases.end()
