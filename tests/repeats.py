@@ -3,8 +3,8 @@
     tests/repeats.py CHECKER PROGRAM [--cases N] [--seed S]
 
 The journals are those of the model in model.py. For one caller, and for callers whose batches are not open at once, the script must
-repeat the journal byte for byte, except for the callers' numbers. For others it must make the same calls. For an illegal journal it
-must be the script of the events before the illegal one.
+repeat the journal byte for byte, except for the callers' numbers. For others it must make the same calls, and the number of tries in
+another order than the takes must be reported. For an illegal journal it must be the script of the events before the illegal one.
 """
 
 from __future__ import annotations
@@ -29,7 +29,8 @@ SECONDS = 60
 CALLS = {"mapsub": "map", "unmapsub": "unmap"}
 """Events of calls whose command has another word."""
 
-BATCH_EVENTS = ("taken", "split", "pinned", "used", "back", "dropped")
+TRIES = ("split", "pinned", "used")
+BATCH_EVENTS = ("taken", *TRIES, "back", "dropped")
 BATCH_COMMANDS = ("scan", "take", "splitnext", "putback")
 CALLERS = (0, 1, 2, 63)
 
@@ -76,6 +77,30 @@ def calls_in(script: bytes) -> list[str]:
     return [line for line in lines if line and line != "setup" and line[0] != "#" and line.split()[0] not in BATCH_COMMANDS]
 
 
+def out_of_turn(journal: list[str]) -> int:
+    """The number of tries of another page than the first that its caller has taken and not tried yet."""
+    count = 0
+    untried: list[tuple[str, str]] = []
+    for caller, word, *rest in (line.split() for line in journal[1:-1]):
+        if caller == "node":
+            untried = []
+            continue
+        own = [page for other, page in untried if other == caller]
+        count += word in TRIES and own[:1] != rest[:1]
+        if word in (*TRIES, "back", "dropped") or "freed" in rest:
+            untried = [(other, page) for other, page in untried if page != rest[0]]
+        if word == "taken":
+            untried.append((caller, rest[0]))
+    return count
+
+
+def turns_message(journal: list[str]) -> bytes:
+    """The line that reports tries in another order than the takes, if there are any."""
+    count = out_of_turn(journal)
+    words = "try" if count == 1 else "tries"
+    return f"thpcheck: {count} {words} came in another order than the takes\n".encode() if count else b""
+
+
 def repeats(checker: Path, program: Path, journal: list[str]) -> Optional[str]:
     """What is wrong with the script of a journal that it must repeat."""
     status, script, errors = checked(checker, ["--script"], joined(journal))
@@ -98,8 +123,8 @@ def callers_apart(chance: Random, checker: Path, program: Path) -> Optional[str]
     return repeats(checker, program, script.run.journal())
 
 
-def mixed_journal(chance: Random) -> list[str]:
-    """A journal of callers whose commands alternate, so that their batches are open at once."""
+def mixed_journal(chance: Random, in_turn: bool = True) -> list[str]:
+    """A journal of callers whose commands alternate, so that their batches are open at once; tries are in any order unless `in_turn`."""
     run = Run(random_shapes(chance, chance.choice((1, 1, 2))))
     batches: dict[int, dict[int, list[int]]] = {caller: {} for caller in CALLERS}
     for _ in range(chance.randrange(120)):
@@ -110,18 +135,21 @@ def mixed_journal(chance: Random) -> list[str]:
             run.command(caller, word, number, [int(text) for text in operands(chance, word, run.nodes[number])])
         except Refused:
             pass
+        if word == "take" and not in_turn:
+            chance.shuffle(run.batches.get(number, []))
     for caller in CALLERS if chance.random() < 0.8 else ():
         run.batches = batches[caller]
         run.end(caller)
     return run.journal()
 
 
-def callers_mixed(chance: Random, checker: Path, program: Path) -> Optional[str]:
-    """A journal of callers whose batches are open at once."""
-    journal = mixed_journal(chance)
+def makes_same_calls(checker: Path, program: Path, journal: list[str]) -> Optional[str]:
+    """What is wrong with the script of a journal whose calls it must make, or with the messages about it."""
     status, script, errors = checked(checker, ["--script"], joined(journal))
     if status != 0:
         return f"status {status}, {errors!r}"
+    if not errors.endswith(turns_message(journal)) or errors.count(b"another order") > 1:
+        return f"{out_of_turn(journal)} tries out of turn, {errors!r}"
     if calls_in(script) != calls_of(journal):
         return "other calls"
     again = repeated(program, script)
@@ -130,6 +158,16 @@ def callers_mixed(chance: Random, checker: Path, program: Path) -> Optional[str]
     if checked(checker, [], again) != (0, b"legal\n", b""):
         return "an illegal journal"
     return None
+
+
+def callers_mixed(chance: Random, checker: Path, program: Path) -> Optional[str]:
+    """A journal of callers whose batches are open at once."""
+    return makes_same_calls(checker, program, mixed_journal(chance))
+
+
+def tries_mixed(chance: Random, checker: Path, program: Path) -> Optional[str]:
+    """A journal whose tries come in any order."""
+    return makes_same_calls(checker, program, mixed_journal(chance, in_turn=False))
 
 
 def illegal(chance: Random, checker: Path, program: Path) -> Optional[str]:
@@ -154,6 +192,7 @@ KINDS: dict[str, Callable[[Random, Path, Path], Optional[str]]] = {
     "one caller": one_caller,
     "callers apart": callers_apart,
     "callers mixed": callers_mixed,
+    "tries mixed": tries_mixed,
     "illegal": illegal,
 }
 

@@ -182,13 +182,13 @@ module _ (nodes before : List NodeJournal) (last : NodeJournal) (are : nodes ≡
   grown = ap (on_last (with_event told)) are ∙ on_last-push (with_event told) before last
 
   -- the nodes before it are legal where all are
-  before_legal : ReportsFirst nodes None → (k : ℕ) (node : NodeJournal) → slice_get before k ≡ Some node → IsLegalNode node
+  pub before_legal : ReportsFirst nodes None → (k : ℕ) (node : NodeJournal) → slice_get before k ≡ Some node → IsLegalNode node
   before_legal all k node here =
       let there : slice_get nodes k ≡ Some node = ap (λ (ns : List NodeJournal). slice_get ns k) are ∙ get-append_left before (last ∷ []) k node here in
       all k node (slice_get_within nodes k node there) there
 
   -- what stands behind it: one of the nodes before, or it
-  stands : (k : ℕ) (node : NodeJournal) → slice_get (on_last (with_event told) nodes) k ≡ Some node → ((k < length before) × (slice_get before k ≡ Some node)) ⊎ ((k ≡ length before) × (node ≡ with_event told last))
+  pub stands : (k : ℕ) (node : NodeJournal) → slice_get (on_last (with_event told) nodes) k ≡ Some node → ((k < length before) × (slice_get before k ≡ Some node)) ⊎ ((k ≡ length before) × (node ≡ with_event told last))
   stands k node here = get_push before (with_event told last) k node (sym (ap (λ (ns : List NodeJournal). slice_get ns k) grown) ∙ here)
 
   -- it fits

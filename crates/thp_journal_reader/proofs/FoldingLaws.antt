@@ -6,6 +6,7 @@ use Rattle.std.proofs.lemmas.List.Elements.{All-append, All-cons, All-nil}
 use Rattle.thp_model.specs.declared.events.Event.{Event}
 use Rattle.thp_model.specs.declared.events.What.{What}
 use Rattle.thp_model.specs.declared.events.What.TheVariants as what
+use Rattle.thp_model.specs.BlockLaws.{with_block}
 use Rattle.thp_model.specs.History.{History}
 use Rattle.thp_script.specs.declared.script.Op.{Op}
 use Rattle.thp_script.specs.declared.script.Op.TheVariants as op
@@ -27,6 +28,11 @@ use Rattle.thp_journal_reader.proofs.ScriptBatchLaws.{completes, first_take, is_
 abbrev pub IsPlainCall : EventKind → Type 0
 IsPlainCall (Call o) = IsCallOrScan o
 IsPlainCall _ = Unit {0}
+
+-- what is the same for an allocation in any block is so for an event with any block
+pub in_any_block : {X : Type 0} (f : What → X) → ((p b c : ℕ) → f (what.Alloc p b) ≡ f (what.Alloc p c)) → (b : ℕ) (w : What) → f (with_block b w) ≡ f w
+in_any_block f same b (what.Alloc p c) = same p b c
+in_any_block f same b w = refl
 
 -- the same script, said of equal parts
 as_said : (h : History) (ops more : List Op) (b after : ScriptBatch) (n m : ℕ) → ops ≡ more → after ≡ b → m ≡ n → IsFoldedTo h ops b n → IsFoldedTo h more after m

@@ -15,3 +15,4 @@ pub mod RepeatLaws
 pub mod ScriptBatchLaws
 pub mod WholeScanLaws
 pub mod FoldingLaws
+pub mod JournalScriptLaws

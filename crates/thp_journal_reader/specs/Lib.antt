@@ -8,6 +8,7 @@ pub mod Reading
 pub mod Answers
 pub mod Parts
 pub mod LineTrace
+pub mod TextTrace
 pub mod FastParsing
 pub mod Following
 pub mod Summaries
@@ -17,7 +18,9 @@ pub mod Later
 pub mod Repeating
 pub mod ScriptBatches
 pub mod Moving
+pub mod Turns
 pub mod WholeScans
 pub mod Folds
 pub mod ScriptTexts
 pub mod NodeScripts
+pub mod JournalScripts

@@ -1,6 +1,6 @@
 -- The script of several nodes as text, and how far it has been written (this project's profile).
 use Rattle.std.specs.Prelude.{◌≡◌, ◌++◌, ◌-◌, ◌^◌, ℕ, All, List, [], ◌∷◌, Option, Some, None, codes, length, map, min}
-use Rattle.std.specs.List.{fold}
+use Rattle.std.specs.List.{fold, sum_by}
 use Rattle.thp_model.specs.declared.events.Event.{Event}
 use Rattle.thp_model.specs.declared.shape.Shape.{Shape}
 use Rattle.thp_model.specs.History.{History}
@@ -9,8 +9,10 @@ use Rattle.thp_journal_reader.specs.declared.folding.Folding.{Folding}
 use Rattle.thp_journal_reader.specs.declared.journal_script.JournalScript.{JournalScript}
 use Rattle.thp_journal_reader.specs.declared.moved.Moved.{Moved}
 use Rattle.thp_journal_reader.specs.Folds.{nothing_moved, IsFolded, IsScript}
-use Rattle.thp_journal_reader.specs.Moving.{both_moved}
+use Rattle.thp_journal_reader.specs.declared.turns.UntriedPage.{UntriedPage}
+use Rattle.thp_journal_reader.specs.Moving.{both_moved, counted}
 use Rattle.thp_journal_reader.specs.ScriptTexts.{commands_text, options_line}
+use Rattle.thp_journal_reader.specs.Turns.{out_of_turn, turns_of}
 
 -- ---- the text
 
@@ -70,7 +72,10 @@ IsBegun None None = Unit {0}
 IsBegun (Some n) (Some f) = IsFolded n.events n.ops f
 IsBegun _ _ = ⊥
 
--- the text that was not taken out
+-- the text that was taken out, and the rest of it
+abbrev pub taken_of : JournalScript → List ℕ
+taken_of s = s.taken
+
 abbrev pub untaken : JournalScript → List ℕ
 untaken s = s.text.items
 
@@ -78,12 +83,26 @@ untaken s = s.text.items
 abbrev pub moved_by : JournalScript → Moved
 moved_by s = s.moved
 
--- the script so far is this text
-pub record IsWriting (ended : List EndedNode) (begun : Option NodeScript) (text : List ℕ) (s : JournalScript) : Type 0 where
+-- the number of tries out of turn in the nodes
+abbrev pub out_of_turn_in : List NodeScript → ℕ
+out_of_turn_in nodes = sum_by (λ (n : NodeScript). out_of_turn n.events) nodes
+
+abbrev pub out_of_turn_by : JournalScript → ℕ
+out_of_turn_by s = s.turns.out_of_turn
+
+-- the pages that are taken and not tried yet, if a node has begun
+abbrev pub AreUntried : Option NodeScript → List UntriedPage → Type 0
+AreUntried None pages = Unit {0}
+AreUntried (Some n) pages = pages ≡ (turns_of n.events).untried
+
+-- the script so far is that of these nodes
+pub record IsWriting (ended : List EndedNode) (begun : Option NodeScript) (s : JournalScript) : Type 0 where
   pub each : All IsEnded ended
   pub begun_is : IsBegun begun s.node
-  pub text_is : text ≡ nodes_text [] (nodes_of ended begun)
+  pub text_is : taken_of s ++ untaken s ≡ nodes_text [] (nodes_of ended begun)
   pub moved_is : moved_by s ≡ moved_in ended
+  pub untried_are : AreUntried begun s.turns.untried.items
+  pub out_of_turn_is : out_of_turn_by s ≡ counted (out_of_turn_in (nodes_of ended begun))
   pub shapes_are : s.shapes.items ≡ map shape_of (nodes_of ended begun)
   pub count : s.nodes ≡ min (length s.shapes.items) (2 ^ 32 - 1)
   pub none_left : s.ops.items ≡ []
@@ -93,29 +112,24 @@ abbrev pub EndsAs : List EndedNode → Option NodeScript → List EndedNode → 
 EndsAs ended None after = after ≡ ended
 EndsAs ended (Some n) after = (ops : List Op) × ((moved : Moved) × (after ≡ ended ++ record { node = record n { ops = n.ops ++ ops }; moved = moved } ∷ []))
 
--- with this text, the node has ended
-abbrev pub EndsNode : JournalScript → JournalScript → List ℕ → Type 0
-EndsNode old new more =
-    (ended : List EndedNode) (begun : Option NodeScript) (text : List ℕ) → IsWriting ended begun text old →
-    (after : List EndedNode) × EndsAs ended begun after × IsWriting after None (text ++ more) new
+-- the node has ended
+abbrev pub EndsNode : JournalScript → JournalScript → Type 0
+EndsNode old new = (ended : List EndedNode) (begun : Option NodeScript) → IsWriting ended begun old → (after : List EndedNode) × EndsAs ended begun after × IsWriting after None new
 
 -- and one of this shape has begun
-abbrev pub BeginsNode : Shape → JournalScript → JournalScript → List ℕ → Type 0
-BeginsNode s old new more =
-    (ended : List EndedNode) (begun : Option NodeScript) (text : List ℕ) → IsWriting ended begun text old →
-    (after : List EndedNode) × EndsAs ended begun after × IsWriting after (Some (record { shape = s; events = []; ops = [] })) (text ++ more) new
+abbrev pub BeginsNode : Shape → JournalScript → JournalScript → Type 0
+BeginsNode s old new =
+    (ended : List EndedNode) (begun : Option NodeScript) → IsWriting ended begun old →
+    (after : List EndedNode) × EndsAs ended begun after × IsWriting after (Some (record { shape = s; events = []; ops = [] })) new
 
 -- the node that had begun has one more event
 abbrev pub GoesOnAs : Event → Option NodeScript → Option NodeScript → Type 0
 GoesOnAs e None after = after ≡ None
 GoesOnAs e (Some n) after = (ops : List Op) × (after ≡ Some (record n { events = n.events ++ e ∷ []; ops = n.ops ++ ops }))
 
--- with this text, it has
-abbrev pub GoesOnWith : Event → JournalScript → JournalScript → List ℕ → Type 0
-GoesOnWith e old new more =
-    (ended : List EndedNode) (begun : Option NodeScript) (text : List ℕ) → IsWriting ended begun text old →
-    (after : Option NodeScript) × GoesOnAs e begun after × IsWriting ended after (text ++ more) new
+abbrev pub GoesOnWith : Event → JournalScript → JournalScript → Type 0
+GoesOnWith e old new = (ended : List EndedNode) (begun : Option NodeScript) → IsWriting ended begun old → (after : Option NodeScript) × GoesOnAs e begun after × IsWriting ended after new
 
 -- only text was taken out
 abbrev pub StaysWritten : JournalScript → JournalScript → Type 0
-StaysWritten old new = (ended : List EndedNode) (begun : Option NodeScript) (text : List ℕ) → IsWriting ended begun text old → IsWriting ended begun text new
+StaysWritten old new = (ended : List EndedNode) (begun : Option NodeScript) → IsWriting ended begun old → IsWriting ended begun new

@@ -1,5 +1,6 @@
 //! The commands that repeat the events of a node.
 ghost use Rattle.std.specs.Prelude.{◌≡◌, ◌++◌, ◌+◌, [], ◌∷◌, ℕ, IfOk, OnOk, true};
+ghost use Rattle.thp_model.specs.BlockLaws.{event_with};
 ghost use Rattle.thp_model.specs.declared.events.Event.{Event};
 ghost use Rattle.thp_model.specs.declared.events.What.{What};
 ghost use Rattle.thp_model.specs.declared.events.What.TheVariants.{Taken};
@@ -28,7 +29,7 @@ use thp_script::Op;
 ///
 /// Stores the pages in flight and the number of pages in each flight that waits, and no event.
 #[derive(Drop)]
-pub struct Folding {
+pub(crate) struct Folding {
     pub(crate) batch: ScriptBatch,
     // the number of flights before the batch's
     flight: u64,
@@ -41,7 +42,7 @@ pub struct Folding {
 
 impl Folding {
     /// Creates the script of no event.
-    pub fn new(alloc: Global) -> Folding
+    pub(crate) fn new(alloc: Global) -> Folding
         ensures { IsFolded [] [] result }
     {
         Folding {
@@ -54,9 +55,10 @@ impl Folding {
         }
     }
 
-    /// Adds an event, and appends the commands whose place is known by it. On error the script is unusable.
-    pub fn add(&mut self, event: &Event, ops: &mut Vec<Op>) -> Result<(), AllocError>
-        ensures { OnOk result (HasAdded ops.old.items ops.new.items (AddsTo event.now self.old self.new)) }
+    /// Adds an event, and appends the commands whose place is known by it. An allocation's block makes no difference. On error the
+    /// script is unusable.
+    pub(crate) fn add(&mut self, event: &Event, ops: &mut Vec<Op>) -> Result<(), AllocError>
+        ensures { OnOk result ((block : ℕ) → HasAdded ops.old.items ops.new.items (AddsTo (event_with block event.now) self.old self.new)) }
     {
         self.add_kind(event, ops)?;
         self.follow(&event.what)?;
@@ -67,7 +69,7 @@ impl Folding {
 
     /// Adds an event by its kind.
     fn add_kind(&mut self, event: &Event, ops: &mut Vec<Op>) -> Result<(), AllocError>
-        ensures adds { OnOk result (HasAdded ops.old.items ops.new.items (AddsEvent event.now self.old self.new)) }
+        ensures adds { OnOk result ((block : ℕ) → HasAdded ops.old.items ops.new.items (AddsEvent (event_with block event.now) self.old self.new)) }
         ensures goes_on { OnOk result (GoesOn (λ s. scan_place_of s (kind_of event.now.what) event.now.caller event.now.what) self.old self.new) }
         ensures plain { OnOk result (AddsPlain (λ s. scan_place_of s (kind_of event.now.what) event.now.caller event.now.what) self.old ops.old.items ops.new.items) }
     {
@@ -92,7 +94,7 @@ impl Folding {
     }
 
     /// Ends the script: appends the remaining commands, and returns what it does in another order than the history.
-    pub fn finish(self, ops: &mut Vec<Op>) -> Result<Moved, AllocError>
+    pub(crate) fn finish(self, ops: &mut Vec<Op>) -> Result<Moved, AllocError>
         ensures { IfOk result (λ moved. HasAdded ops.old.items ops.new.items (Ends self moved)) }
     {
         let mut folding = self;

@@ -212,6 +212,8 @@ impl<K: Drop, F: FollowsNode<Kept = K>> KeepsNodes for FollowedNodes<F, K> {
 
     ghost goes_along = { λ number nodes. FollowsLines F.replayed F.keeps F.follows_all number nodes };
 
+    ghost taken = { λ nodes. [] };
+
     ghost last_line = { max_counted };
 
     fn add(&mut self, _alloc: Global, number: u64, line: &Line) -> Result<(), AllocError> {

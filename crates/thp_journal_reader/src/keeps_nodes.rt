@@ -15,6 +15,9 @@ pub(crate) trait KeepsNodes: Sized {
     /// The stored data agrees with the nodes, which are before the line of this number.
     ghost goes_along: { ℕ → Self → Type 0 };
 
+    /// The text that was taken out, if the stored data has a text.
+    ghost taken: { Self → List ℕ };
+
     /// The greatest line number allowed.
     ghost last_line: { ℕ };
 
@@ -24,7 +27,8 @@ pub(crate) trait KeepsNodes: Sized {
         requires in_range { IsInRange line.now }
         requires room { number ≤ last_line }
         ensures nodes { OnOk result (told self.new ≡ with_line number (told self.old) line.now) }
-        ensures along { OnOk result (goes_along (number + 1) self.new) };
+        ensures along { OnOk result (goes_along (number + 1) self.new) }
+        ensures taken { OnOk result (taken self.new ≡ taken self.old) };
 
     /// The stored data still agrees after a line without content.
     ghost later: { (number : ℕ) (nodes : Self) → goes_along number nodes → goes_along (number + 1) nodes };

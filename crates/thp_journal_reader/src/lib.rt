@@ -13,12 +13,13 @@
 //! - Used by `long_check`, `summed_check`, `series_check` and `script_check`: `follower` (`Following`, proof `FollowLaws`), generic
 //!   in `follows_node`: what follows a node, and what is kept of it (`Keeping`): nothing, totals (`summed_node`), numbers
 //!   (`series_node`).
-//! - `script_check`, `scripted_nodes`: the script that repeats the legal events. `journal_script` (`NodeScripts`): the script of
-//!   all nodes, as text. `folding`: the commands that repeat a node's events, given one event at a time (`Folds`, `WholeScans`).
-//!   `event_kind` (`Repeating`): the kinds of events, and what each command repeats. `script_batch` (`ScriptBatches`): the batch
-//!   that the script has open, or whose commands are not written yet. `open_flights`, `waiting_flights`: pages in flight, and
-//!   flights that wait for the batch before them. `moved` (`Moving`): what a script does in another order than the history.
-//!   `command_text`, `options_text` (`ScriptTexts`): a command's line, and the options of `thpsplit` for a script.
+//! - `script_check`, `scripted_nodes`, `scripted` (`JournalScripts`): the script that repeats the legal events. `journal_script`
+//!   (`NodeScripts`), `text_trace`: the script of all nodes, as text. `turns` (`Turns`): tries in another order than the takes.
+//!   `folding`: the commands that repeat a node's events, given one event at a time (`Folds`, `WholeScans`). `event_kind`
+//!   (`Repeating`): the kinds of events, and what each command repeats. `script_batch` (`ScriptBatches`): the batch that the
+//!   script has open, or whose commands are not written yet. `open_flights`, `waiting_flights`: pages in flight, and flights that
+//!   wait for the batch before them. `moved` (`Moving`): what a script does in another order than the history. `command_text`,
+//!   `options_text` (`ScriptTexts`): a command's line, and the options of `thpsplit` for a script.
 #![tactic(auto)]
 
 mod checking;
@@ -48,6 +49,7 @@ mod place;
 mod reading;
 mod script_batch;
 mod script_check;
+mod scripted;
 mod scripted_nodes;
 mod series_check;
 mod series_node;
@@ -56,6 +58,8 @@ mod summed;
 mod summed_check;
 mod summed_node;
 mod text_reader;
+mod text_trace;
+mod turns;
 mod version;
 mod waiting_flights;
 
@@ -64,11 +68,9 @@ pub use command_text::put_command;
 pub use event_kind::EventKind;
 pub use event_reader::read_event;
 pub use event_word::{EventWord, LossWord, PageWord, RangeWord};
-pub use folding::Folding;
 pub use illegal::{Illegal, TextFault};
 pub use journal_check::JournalCheck;
 pub use journal_reader::{JournalReader, read_journal};
-pub use journal_script::JournalScript;
 pub use journals::{Journals, NodeJournal};
 pub use line::Line;
 pub use long_check::LongCheck;
@@ -77,6 +79,7 @@ pub use numbered::NumberedNode;
 pub use options_text::put_options;
 pub use place::Place;
 pub use script_check::ScriptCheck;
+pub use scripted::Scripted;
 pub use series_check::SeriesCheck;
 pub use summed::{SummaryFault, Summed};
 pub use summed_check::SummedCheck;

@@ -130,6 +130,8 @@ impl KeepsNodes for Option<Nodes> {
 
     ghost goes_along = { λ number nodes. IsReading number nodes };
 
+    ghost taken = { λ nodes. [] };
+
     ghost last_line = { max_input };
 
     fn add(&mut self, alloc: Global, number: u64, line: &Line) -> Result<(), AllocError> {

@@ -1,15 +1,17 @@
 //! The check of journals of any length that also writes the script that repeats them.
 ghost use Rattle.std.specs.Prelude.{◌≡◌, ◌++◌, Ok, Err, [], IfOk, IfErr};
-ghost use Rattle.thp_journal_reader.specs.Answers.{ReportsFirst};
+ghost use Rattle.thp_journal_reader.specs.JournalScripts.{AreScripted};
 ghost use Rattle.thp_journal_reader.specs.Journals.{journals_within};
 ghost use Rattle.thp_journal_reader.specs.Parts.{told_with};
+ghost use Rattle.thp_journal_reader.specs.Summaries.{ReportsSummaryFault};
 ghost use Rattle.thp_journal_reader.specs.declared.journals.Journals.{Journals};
 ghost use Rattle.thp_script.specs.Limits.{max_counted};
 ghost use Rattle.thp_script.specs.Words.{Text};
 
-use crate::illegal::{Illegal, TextFault};
-use crate::moved::Moved;
+use crate::illegal::TextFault;
+use crate::scripted::Scripted;
 use crate::scripted_nodes::ScriptedNodes;
+use crate::summed::SummaryFault;
 use crate::text_reader::TextReader;
 use std::alloc::{AllocError, Global};
 use std::marker::Model;
@@ -25,21 +27,25 @@ pub struct ScriptCheck {
 impl Model for ScriptCheck {
     ghost use Rattle.std.specs.Prelude.{◌≤◌, false};
     ghost use Rattle.thp_journal_reader.specs.Following.{nodes_told, FollowsLines};
+    ghost use Rattle.thp_journal_reader.specs.JournalScripts.{IsScripting, ScriptSoFar};
     ghost use Rattle.thp_journal_reader.specs.Keeping.{KeepsNothing};
-    ghost use Rattle.thp_journal_reader.specs.Parts.{so_far, ReadSoFar};
+    ghost use Rattle.thp_journal_reader.specs.NodeScripts.{taken_of, untaken};
+    ghost use Rattle.thp_journal_reader.specs.Parts.{so_far};
     ghost use Rattle.thp_script.specs.Limits.{max_counted};
 
-    ghost Value = { ReadSoFar };
+    ghost Value = { ScriptSoFar };
 
-    ghost view = { λ c. so_far (nodes_told c.text.nodes.checked.lines) c.text.place c.text.text };
+    ghost view = { λ c. record { read = so_far (nodes_told c.text.nodes.checked.lines) c.text.place c.text.text; taken = taken_of c.text.nodes.script; untaken = untaken c.text.nodes.script } };
 
-    ghost invariant = { λ c. FollowsLines (λ replay. replay) KeepsNothing false c.text.text.line c.text.nodes.checked × (c.text.text.most ≤ max_counted) };
+    ghost invariant = { λ c. FollowsLines (λ replay. replay) KeepsNothing false c.text.text.line c.text.nodes.checked × IsScripting (nodes_told c.text.nodes.checked.lines) c.text.nodes.checked.follower.illegal c.text.nodes.script × (c.text.text.most ≤ max_counted) };
 }
 
 impl ScriptCheck {
     /// Creates a check that has read nothing. The journals can have any length.
     pub fn new(alloc: Global) -> ScriptCheck
-        ensures { (text : Text) → told_with result text ≡ journals_within max_counted text }
+        ensures tells { (text : Text) → told_with result.read text ≡ journals_within max_counted text }
+        ensures taken { result.taken ≡ [] }
+        ensures untaken { result.untaken ≡ [] }
     {
         ScriptCheck {
             text: TextReader::new(
@@ -53,39 +59,40 @@ impl ScriptCheck {
     /// Reads the next part of the text. After the first error the part is ignored. Fails if memory for a node's replay, for the
     /// script of the part, or for a line that spans several parts, can't be allocated.
     pub fn read_part(self, part: &[u8]) -> Result<ScriptCheck, AllocError>
-        ensures { IfOk result (λ check. (more : Text) → told_with check more ≡ told_with self (part.now ++ more)) }
+        ensures tells { IfOk result (λ check. (more : Text) → told_with check.read more ≡ told_with self.read (part.now ++ more)) }
+        ensures taken { IfOk result (λ check. check.taken ≡ self.taken) }
     {
         let text = self.text.read_part(part)?;
         Ok(ScriptCheck { text })
     }
 
     /// Returns the text of the script that was not taken out.
-    pub fn script(&self) -> &[u8] {
+    pub fn script(&self) -> &[u8]
+        ensures { result.now ≡ self.now.untaken }
+    {
         self.text.nodes.script.text()
     }
 
     /// Takes the text of the script out.
     pub fn clear_script(&mut self)
-        ensures { self.new ≡ self.old }
+        ensures { self.new ≡ record self.old { taken = self.old.taken ++ self.old.untaken; untaken = [] } }
     {
         self.text.nodes.script.clear_text();
     }
 
-    /// Returns what the script does in another order than the journal, after its last line.
-    pub fn moved(&self) -> Moved {
-        self.text.nodes.script.moved()
-    }
-
     /// Returns the first illegal event of the whole text, in the order of the text, and why it is illegal, or `None` if each
-    /// node's events are legal. Fails with the first error of the text, even if that is after an illegal event. Allocates no
-    /// memory.
-    pub fn finish(self) -> Result<Option<Illegal>, TextFault>
-        ensures first { IfOk result (λ illegal. (journals : Journals) × (told_with self [] ≡ Ok journals) × ReportsFirst journals.nodes illegal) }
-        ensures fault { IfErr result (λ fault. told_with self [] ≡ Err (fault.line, fault.kind)) }
+    /// node's events are legal; and the rest of the script. Fails with the first error of the text, even if that is after an
+    /// illegal event, and if memory for the rest of the script can't be allocated.
+    pub fn finish(self) -> Result<Scripted, SummaryFault>
+        ensures scripted { IfOk result (λ scripted. (journals : Journals) × (told_with self.read [] ≡ Ok journals) × AreScripted journals.nodes self.taken scripted) }
+        ensures fault { IfErr result (ReportsSummaryFault (told_with self.read [])) }
     {
         match self.text.fault() {
-            Some((line, kind)) => Err(TextFault { line, kind }),
-            None => Ok(self.text.nodes.checked.illegal()),
+            Some((line, kind)) => Err(SummaryFault::Text(TextFault { line, kind })),
+            None => {
+                let scripted = self.text.into_nodes().finish()?;
+                Ok(scripted)
+            }
         }
     }
 }

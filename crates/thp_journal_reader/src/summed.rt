@@ -12,7 +12,7 @@ pub struct Summed {
     pub totals: Vec<Totals>,
 }
 
-/// Why there is no summary.
+/// Why a check that also sums nodes up, or writes a script, has no result.
 #[derive(Clone, Copy, Debug, PartialEq, Eq)]
 pub enum SummaryFault {
     /// The first error of the text.

@@ -44,6 +44,7 @@ fn add_fast<'p, N: KeepsNodes>(
     ensures counted { IfOk result (λ rest. IsCounted rest.now text.new) }
     ensures most { IfOk result (λ _. text.new.most ≡ text.old.most) }
     ensures shorter { IfOk result (λ rest. length rest.now ≤ length part.now) }
+    ensures taken { IfOk result (λ _. N.taken nodes.new ≡ N.taken nodes.old) }
 {
     let Place::Inside {
         version,
@@ -97,6 +98,7 @@ impl<N: KeepsNodes + Drop> TextReader<N> {
         ensures text { IfOk result (λ r. (more : Text) → told_with (so_far (N.told r.nodes) r.place r.text) more ≡ told_with (so_far (N.told self.nodes) self.place self.text) (part.now ++ more)) }
         ensures along { IfOk result (λ r. N.goes_along r.text.line r.nodes) }
         ensures limit { IfOk result (λ r. r.text.most ≡ self.text.most) }
+        ensures taken { IfOk result (λ r. N.taken r.nodes ≡ N.taken self.nodes) }
     {
         let TextReader {
             alloc,

@@ -1,5 +1,5 @@
 -- How the writing of a script ends, from what its parts did.
-use Rattle.std.proofs.Common.{◌≡◌, ◌∙◌, ◌++◌, ℕ, Bool, true, false, List, [], Option, Some, None, Ok, Err, append_assoc, refl, subst, sym}
+use Rattle.std.proofs.Common.{◌≡◌, ◌∙◌, ◌++◌, ℕ, Bool, true, false, List, [], Option, Some, None, Ok, Err, append_assoc, ap, refl, subst, sym}
 use Rattle.std.specs.Prelude.{IfErr, IfNone, IfSome, IsErrAnd, Result, ok_or}
 use Rattle.std.specs.Io.KnownBytes.{Appends, Keeps}
 use Rattle.std.proofs.lemmas.List.{append-nil}
@@ -8,12 +8,14 @@ use Rattle.thp_cli.specs.declared.fault.RunFault.TheVariants.{Text, OutOfMemory,
 use Rattle.thp_cli.specs.declared.long_fault.LongRunFault.{LongRunFault}
 use Rattle.thp_cli.specs.declared.long_fault.LongRunFault.TheVariants as long
 use Rattle.thp_cli.specs.Devices.{IsFrontOf, WritesFront}
-use Rattle.thp_cli.specs.RunFaults.{seen_fault}
+use Rattle.thp_cli.specs.RunFaults.{fault_of_summary, seen_fault}
 use Rattle.thp_journal_tools.specs.Scripting.{script_end, Grows, IsDeviceFault, IsScriptEnd}
 use Rattle.thp_journal_tools.specs.declared.scripting.ScriptFinding.{ScriptFinding}
 use Rattle.thp_script.specs.Limits.{max_counted}
-use Rattle.thp_script.specs.declared.fault.TextKind.{TextKind}
+use Rattle.thp_journal_reader.specs.declared.summed.SummaryFault.{SummaryFault}
+use Rattle.thp_journal_reader.specs.declared.summed.SummaryFault.TheVariants as summary
 use Rattle.thp_journal_reader.specs.Journals.{journals_within}
+use Rattle.thp_journal_reader.specs.Summaries.{ReportsSummaryFault}
 
 -- ---- a writer that takes texts
 
@@ -34,6 +36,28 @@ pub grows_kept : (a b : Option (List ℕ)) → Keeps a b → Grows a b
 grows_kept None b k = ([], tt)
 grows_kept (Some xs) None k = absurd k
 grows_kept (Some xs) (Some ys) k = ([], k ∙ sym (append-nil xs))
+
+-- one text after another
+pub appends_more : (a b c : Option (List ℕ)) (t u : List ℕ) → Appends a b t → Appends b c u → Appends a c (t ++ u)
+appends_more None b c t u h k = tt
+appends_more (Some xs) None c t u h k = absurd h
+appends_more (Some xs) (Some ys) None t u h k = absurd k
+appends_more (Some xs) (Some ys) (Some zs) t u h k = rw (k, h) (append_assoc xs t u)
+
+pub appends_none : (a : Option (List ℕ)) → Appends a a []
+appends_none None = tt
+appends_none (Some xs) = sym (append-nil xs)
+
+pub appends_kept : (a b c : Option (List ℕ)) (t : List ℕ) → Appends a b t → Keeps b c → Appends a c t
+appends_kept None b c t h k = tt
+appends_kept (Some xs) None c t h k = absurd h
+appends_kept (Some xs) (Some ys) None t h k = absurd k
+appends_kept (Some xs) (Some ys) (Some zs) t h k = k ∙ h
+
+-- four texts, each after the one before
+pub four_texts : (o a b c d : List ℕ) {s t u v : List ℕ} → s ≡ o ++ a → t ≡ s ++ b → u ≡ t ++ c → v ≡ u ++ d → v ≡ o ++ (((a ++ b) ++ c) ++ d)
+four_texts o a b c d first second third fourth =
+    rw (fourth, third, second, first) (ap (λ x. (x ++ c) ++ d) (append_assoc o a b) ∙ ap (λ x. x ++ d) (append_assoc o (a ++ b) c) ∙ append_assoc o ((a ++ b) ++ c) d)
 
 -- a text was written, or a prefix of it
 pub grows_by : (a b : Option (List ℕ)) (text : List ℕ) (o : Option (Unit {0})) → IfSome o (λ _. Appends a b text) → IfNone o (WritesFront a b text) → Grows a b
@@ -58,24 +82,26 @@ cut_end None fault r wf e failed is = err_is r false wf fault is (subst (λ (x :
 
 -- ---- the end
 
-device_end : (known : Option (List ℕ)) (rf wf : Bool) (fault : RunFault) → IsDeviceFault rf wf fault → IsScriptEnd known rf wf (Err fault)
-device_end known rf wf (Text line kind) why = absurd why
-device_end known rf wf OutOfMemory why = why
-device_end known rf wf Read why = why
-device_end known rf wf Write why = why
+device_end : (known old new : Option (List ℕ)) (rf wf : Bool) (fault : RunFault) → IsDeviceFault rf wf fault → IsScriptEnd known old new rf wf (Err fault)
+device_end known old new rf wf (Text line kind) why = absurd why
+device_end known old new rf wf OutOfMemory why = why
+device_end known old new rf wf Read why = why
+device_end known old new rf wf Write why = why
 
 -- a device failed, or memory could not be allocated
-pub end_at_fault : (known : Option (List ℕ)) (rf wf : Bool) (r : Result ScriptFinding LongRunFault) → IfErr r (λ e. IsDeviceFault rf wf (seen_fault e)) → IsErrAnd r (λ e. Unit {0}) → IsScriptEnd known rf wf (script_end r)
-end_at_fault known rf wf (Ok found) why is = absurd is
-end_at_fault known rf wf (Err e) why is = device_end known rf wf (seen_fault e) why
+pub end_at_fault : (known old new : Option (List ℕ)) (rf wf : Bool) (r : Result ScriptFinding LongRunFault) → IfErr r (λ e. IsDeviceFault rf wf (seen_fault e)) → IsErrAnd r (λ e. Unit {0}) → IsScriptEnd known old new rf wf (script_end r)
+end_at_fault known old new rf wf (Ok found) why is = absurd is
+end_at_fault known old new rf wf (Err e) why is = device_end known old new rf wf (seen_fault e) why
 
 pub is_err : {A : Type 0} (r : Result A LongRunFault) (P : LongRunFault → Type 0) → IsErrAnd r P → IsErrAnd r (λ e. Unit {0})
 is_err (Ok x) P is = absurd is
 is_err (Err e) P is = tt
 
--- the journal has an error
-pub end_at_text : (known : Option (List ℕ)) (bytes : List ℕ) → IfSome known (IsFrontOf max_counted bytes) → (rf wf : Bool) → rf ≡ false → wf ≡ false → (line : ℕ) (kind : TextKind) (r : Result ScriptFinding LongRunFault)
-    → IsErrAnd r (λ e. e ≡ long.Text line kind) → journals_within max_counted bytes ≡ Err (line, kind) → IsScriptEnd known rf wf (script_end r)
-end_at_text known bytes read rf wf no_read no_write line kind (Ok found) is told = absurd is
-end_at_text known bytes read rf wf no_read no_write line kind (Err e) is told =
-    subst (λ (f : LongRunFault). IsScriptEnd known rf wf (Err (seen_fault f))) (sym is) ((bytes, read, told), no_read, no_write)
+-- the journal has an error, or memory could not be allocated
+pub end_at_finish : (known old new : Option (List ℕ)) (bytes : List ℕ) → IfSome known (IsFrontOf max_counted bytes) → (rf wf : Bool) → rf ≡ false → wf ≡ false → (fault : SummaryFault) (r : Result ScriptFinding LongRunFault)
+    → IsErrAnd r (λ e. e ≡ fault_of_summary fault) → ReportsSummaryFault (journals_within max_counted bytes) fault → IsScriptEnd known old new rf wf (script_end r)
+end_at_finish known old new bytes read rf wf no_read no_write fault (Ok found) is told = absurd is
+end_at_finish known old new bytes read rf wf no_read no_write (summary.Text fault) (Err e) is told =
+    subst (λ (f : LongRunFault). IsScriptEnd known old new rf wf (Err (seen_fault f))) (sym is) ((bytes, read, told), no_read, no_write)
+end_at_finish known old new bytes read rf wf no_read no_write summary.OutOfMemory (Err e) is told =
+    subst (λ (f : LongRunFault). IsScriptEnd known old new rf wf (Err (seen_fault f))) (sym is) (no_read, no_write)

@@ -56,7 +56,7 @@ pub record DidScript (options : CheckOptions) (input : Source) (output : Device)
   pub found : ScriptFinding
   pub scripts : Scripts input output (Ok found)
   pub ending_is : ending ≡ ending_of found.illegal
-  pub notes_are : notes ≡ notes_of options found.illegal found.moved
+  pub notes_are : notes ≡ notes_of options found
 
 -- what was done with the journal if its script is requested, by how it ended
 abbrev pub DoesScript : CheckOptions → Source → Device → Result Ending ProgramFault → Option (List ℕ) → Type 0

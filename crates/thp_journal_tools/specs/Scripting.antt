@@ -8,6 +8,7 @@ use Rattle.thp_journal_reader.specs.declared.moved.Moved.{Moved}
 use Rattle.thp_journal_reader.specs.declared.illegal.Illegal.{Illegal}
 use Rattle.thp_journal_reader.specs.declared.journals.Journals.{Journals}
 use Rattle.thp_journal_reader.specs.Answers.{ReportsFirst}
+use Rattle.thp_journal_reader.specs.JournalScripts.{IsScriptOf}
 use Rattle.thp_journal_reader.specs.Journals.{journals_within}
 use Rattle.thp_cli.specs.declared.fault.RunFault.{RunFault}
 use Rattle.thp_cli.specs.declared.fault.RunFault.TheVariants.{Text, OutOfMemory, Read, Write}
@@ -22,11 +23,13 @@ use Rattle.thp_journal_tools.specs.declared.scripting.ScriptFinding.{ScriptFindi
 
 -- ---- the script
 
--- the bytes are of journals with this first illegal event
-pub record IsScripted (bytes : List ℕ) (illegal : Option Illegal) : Type 0 where
+-- The bytes are of journals with this first illegal event, and the text is the script of the events before it; what it does in
+-- another order, and the number of tries out of turn, are as found.
+pub record IsScripted (bytes text : List ℕ) (found : ScriptFinding) : Type 0 where
   pub journals : Journals
   pub spelled : journals_within max_counted bytes ≡ Ok journals
-  pub first : ReportsFirst journals.nodes illegal
+  pub first : ReportsFirst journals.nodes found.illegal
+  pub script : IsScriptOf journals.nodes found.illegal text found.moved found.out_of_turn
 
 -- the writer took a text
 abbrev pub Grows : Option (List ℕ) → Option (List ℕ) → Type 0
@@ -44,17 +47,17 @@ abbrev pub script_end : Result ScriptFinding LongRunFault → Result ScriptFindi
 script_end (Ok found) = Ok found
 script_end (Err fault) = Err (seen_fault fault)
 
--- the result for the bytes that could be read
-abbrev pub IsScriptEnd : Option (List ℕ) → Bool → Bool → Result ScriptFinding RunFault → Type 0
-IsScriptEnd known reader_failed writer_failed (Ok found) =
-    ((bytes : List ℕ) × IfSome known (IsFrontOf max_counted bytes) × IsScripted bytes found.illegal) × (reader_failed ≡ false) × (writer_failed ≡ false)
-IsScriptEnd known reader_failed writer_failed (Err (Text line kind)) =
+-- the result for the bytes that could be read, and what the writer took
+abbrev pub IsScriptEnd : Option (List ℕ) → Option (List ℕ) → Option (List ℕ) → Bool → Bool → Result ScriptFinding RunFault → Type 0
+IsScriptEnd known old new reader_failed writer_failed (Ok found) =
+    ((bytes : List ℕ) × (text : List ℕ) × IfSome known (IsFrontOf max_counted bytes) × Appends old new text × IsScripted bytes text found) × (reader_failed ≡ false) × (writer_failed ≡ false)
+IsScriptEnd known old new reader_failed writer_failed (Err (Text line kind)) =
     ((bytes : List ℕ) × IfSome known (IsFrontOf max_counted bytes) × (journals_within max_counted bytes ≡ Err (line, kind))) × (reader_failed ≡ false) × (writer_failed ≡ false)
-IsScriptEnd known reader_failed writer_failed (Err fault) = IsDeviceFault reader_failed writer_failed fault
+IsScriptEnd known old new reader_failed writer_failed (Err fault) = IsDeviceFault reader_failed writer_failed fault
 
 -- how it ends: the writer took a text, and the result is right
 abbrev pub ScriptEnds : Option (List ℕ) → Option (List ℕ) → Option (List ℕ) → Bool → Bool → Result ScriptFinding RunFault → Type 0
-ScriptEnds known old new reader_failed writer_failed result = Grows old new × IsScriptEnd known reader_failed writer_failed result
+ScriptEnds known old new reader_failed writer_failed result = Grows old new × IsScriptEnd known old new reader_failed writer_failed result
 
 -- the script was written like this: with the first illegal event, or none
 pub record Scripts (input : Source) (output : Device) (result : Result ScriptFinding RunFault) : Type 0 where
@@ -72,19 +75,25 @@ illegal_text options (Some i) = codes "thpcheck: " ++ verdict_text (Some i.line)
 abbrev pub note : ℕ → List ℕ → List ℕ → List ℕ
 note n one many = if n == 0 then [] else codes "thpcheck: " ++ decimal n ++ codes " " ++ (if n == 1 then one else many)
 
--- the verdict, and what the script does in another order than the journal
-unfoldable pub notes_text : CheckOptions → Option Illegal → Moved → List ℕ
-notes_text options illegal moved =
-    illegal_text options illegal
-    ++ note moved.batches (codes "batch moved after the one that was open\n") (codes "batches moved after the one that was open\n")
+-- what the script does in another order than the journal
+unfoldable pub moved_text : Moved → List ℕ
+moved_text moved =
+    note moved.batches (codes "batch moved after the one that was open\n") (codes "batches moved after the one that was open\n")
     ++ note moved.calls (codes "call moved before a scan that it interrupted\n") (codes "calls moved before a scan that they interrupted\n")
     ++ note moved.events (codes "take, try or put-back left to a scan\n") (codes "takes, tries and put-backs left to scans\n")
     ++ note moved.left (codes "page put back at the end\n") (codes "pages put back at the end\n")
+
+-- the verdict, what is moved, and the number of tries out of turn
+unfoldable pub notes_text : CheckOptions → ScriptFinding → List ℕ
+notes_text options found =
+    illegal_text options found.illegal
+    ++ moved_text found.moved
+    ++ note found.out_of_turn (codes "try came in another order than the takes\n") (codes "tries came in another order than the takes\n")
 
 -- the text, if there is one
 abbrev pub some_text : List ℕ → Option (List ℕ)
 some_text [] = None
 some_text (b ∷ bytes) = Some (b ∷ bytes)
 
-abbrev pub notes_of : CheckOptions → Option Illegal → Moved → Option (List ℕ)
-notes_of options illegal moved = some_text (notes_text options illegal moved)
+abbrev pub notes_of : CheckOptions → ScriptFinding → Option (List ℕ)
+notes_of options found = some_text (notes_text options found)

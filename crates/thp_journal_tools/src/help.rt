@@ -27,7 +27,7 @@ verdict other than 'legal' goes to standard error, and --summary and --progress 
 The script is that of one caller. Its comments have the options of 'thpsplit', the last one those of all nodes. A journal of
 callers that had no batches at the same time, and tried their pages in the order of the takes, is repeated exactly, except for
 the callers' numbers. A batch that began while another one was open is a scan after it, and standard error reports what was
-moved.
+moved, and tries in another order.
 
 With --progress, standard error shows the progress once a second. The line is removed before the verdict is written. If standard
 error is a terminal, this happens without the option too, after the first second:

@@ -1,6 +1,6 @@
 //! What is reported about a script on standard error.
 ghost use Rattle.std.specs.Prelude.{◌≡◌, ◌++◌, IfOk, OnOk, option_map};
-ghost use Rattle.thp_journal_tools.specs.Scripting.{illegal_text, note, notes_of, notes_text, some_text};
+ghost use Rattle.thp_journal_tools.specs.Scripting.{illegal_text, moved_text, note, notes_of, notes_text, some_text};
 
 use crate::options::CheckOptions;
 use crate::scripting::ScriptFinding;
@@ -17,9 +17,9 @@ pub(crate) fn notes_of(
     options: CheckOptions,
     found: &ScriptFinding,
 ) -> Result<Option<Vec<u8>>, AllocError>
-    ensures { IfOk result (λ text. option_map (λ t. t.items) text ≡ notes_of options found.now.illegal found.now.moved) }
+    ensures { IfOk result (λ text. option_map (λ t. t.items) text ≡ notes_of options found.now) }
 {
-    let text = notes_text(alloc, options, &found.illegal, found.moved)?;
+    let text = notes_text(alloc, options, found)?;
     Ok(some_text(text))
 }
 
@@ -34,38 +34,51 @@ fn some_text(text: Vec<u8>) -> Option<Vec<u8>>
 fn notes_text(
     alloc: Global,
     options: CheckOptions,
-    illegal: &Option<Illegal>,
-    moved: Moved,
+    found: &ScriptFinding,
 ) -> Result<Vec<u8>, AllocError>
-    ensures { IfOk result (λ text. text.items ≡ notes_text options illegal.now moved) }
+    ensures { IfOk result (λ text. text.items ≡ notes_text options found.now) }
 {
     let mut text = Vec::new(alloc);
-    put_illegal(&mut text, options, illegal)?;
+    put_illegal(&mut text, options, &found.illegal)?;
+    put_moved(&mut text, found.moved)?;
     put_note(
         &mut text,
+        found.out_of_turn,
+        b"try came in another order than the takes\n",
+        b"tries came in another order than the takes\n",
+    )?;
+    Ok(text)
+}
+
+/// Appends what the script does in another order than the journal.
+fn put_moved(text: &mut Vec<u8>, moved: Moved) -> Result<(), AllocError>
+    ensures { OnOk result (text.new.items ≡ text.old.items ++ moved_text moved) }
+{
+    put_note(
+        text,
         moved.batches,
         b"batch moved after the one that was open\n",
         b"batches moved after the one that was open\n",
     )?;
     put_note(
-        &mut text,
+        text,
         moved.calls,
         b"call moved before a scan that it interrupted\n",
         b"calls moved before a scan that they interrupted\n",
     )?;
     put_note(
-        &mut text,
+        text,
         moved.events,
         b"take, try or put-back left to a scan\n",
         b"takes, tries and put-backs left to scans\n",
     )?;
     put_note(
-        &mut text,
+        text,
         moved.left,
         b"page put back at the end\n",
         b"pages put back at the end\n",
     )?;
-    Ok(text)
+    Ok(())
 }
 
 /// Appends the verdict about an illegal journal, and the explanation if that is requested.

@@ -7,6 +7,7 @@ ghost use Rattle.thp_cli.specs.RunFaults.{seen_fault};
 ghost use Rattle.thp_journal_reader.specs.Journals.{journals_within};
 ghost use Rattle.thp_journal_reader.specs.Parts.{told_with};
 ghost use Rattle.thp_journal_tools.specs.Scripting.{script_end, Grows, IsDeviceFault, ScriptEnds};
+ghost use Rattle.std.specs.Io.KnownBytes.{Appends};
 
 use std::alloc::Global;
 use std::io::{Read, Write};
@@ -26,6 +27,8 @@ pub struct ScriptFinding {
     pub illegal: Option<Illegal>,
     /// What the script does in another order than the journal.
     pub moved: Moved,
+    /// The number of tries of another page than the first that its caller has taken and not tried yet.
+    pub out_of_turn: u64,
 }
 
 /// Writes the script that repeats the journal from the reader, up to the first illegal event. The journal can have any length: it
@@ -48,10 +51,14 @@ pub fn write_script<R: Read, W: Write>(
         Misfit::BlockTaken,
     );
     let check = write_parts(alloc, reader, writer)?;
-    let moved = check.moved();
-    let illegal = check.finish()?;
+    let scripted = check.finish()?;
+    write_all(writer, scripted.text.as_slice()).ok_or(LongRunFault::Write)?;
     writer.flush().ok_or(LongRunFault::Write)?;
-    Ok(ScriptFinding { illegal, moved })
+    Ok(ScriptFinding {
+        illegal: scripted.illegal,
+        moved: scripted.moved,
+        out_of_turn: scripted.out_of_turn,
+    })
 }
 
 /// Reads all of a reader's bytes in parts, and writes the script of each.
@@ -62,8 +69,9 @@ fn write_parts<R: Read, W: Write>(
 ) -> Result<ScriptCheck, LongRunFault>
     requires reader { reader.old.failed ≡ false }
     requires writer { writer.old.failed ≡ false }
-    ensures parts { IfOk result (λ check. (bytes : List ℕ) × IfSome (R.remaining reader.old.device) (IsFrontOf max_counted bytes) × (told_with check [] ≡ journals_within max_counted bytes)) }
+    ensures parts { IfOk result (λ check. (bytes : List ℕ) × IfSome (R.remaining reader.old.device) (IsFrontOf max_counted bytes) × (told_with check.read [] ≡ journals_within max_counted bytes)) }
     ensures grows { Grows (W.contents writer.old.device) (W.contents writer.new.device) }
+    ensures text { IfOk result (λ check. Appends (W.contents writer.old.device) (W.contents writer.new.device) check.taken) }
     ensures flags { IfOk result (λ _. (reader.new.failed ≡ false) × (writer.new.failed ≡ false)) }
     ensures fault { IfErr result (λ fault. IsDeviceFault reader.new.failed writer.new.failed (seen_fault fault)) }
     ensures reads { ReadsOn max_counted reader.new.failed reader.old.calls reader.new.calls }
@@ -93,8 +101,9 @@ fn write_part<W: Write>(
     writer: &mut Watched<W>,
 ) -> Result<ScriptCheck, LongRunFault>
     requires { writer.old.failed ≡ false }
-    ensures read { IfOk result (λ new. (more : List ℕ) → told_with new more ≡ told_with check (part.now ++ more)) }
+    ensures read { IfOk result (λ new. (more : List ℕ) → told_with new.read more ≡ told_with check.read (part.now ++ more)) }
     ensures grows { Grows (W.contents writer.old.device) (W.contents writer.new.device) }
+    ensures text { IfOk result (λ new. (text : List ℕ) × (new.taken ≡ check.taken ++ text) × Appends (W.contents writer.old.device) (W.contents writer.new.device) text) }
     ensures flag { IfOk result (λ _. writer.new.failed ≡ false) }
     ensures fault { IfErr result (λ fault. IsDeviceFault false writer.new.failed (seen_fault fault)) }
 {

@@ -24,4 +24,5 @@ loop-event-preserved g c =
       begins = rw is refl;
       most = rw is l.invariant.most;
       shorter = omega (arith, a.shorter, l.invariant.shorter);
+      taken = c.in_ok-add.ensures.taken ∙ l.invariant.taken;
     }

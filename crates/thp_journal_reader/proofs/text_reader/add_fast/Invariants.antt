@@ -18,4 +18,5 @@ invariant-loop-event g l =
       begins : l.text.begun ≡ [];
       most : l.text.most ≡ l.fn.text.most;
       shorter : length l.rest ≤ length l.part;
+      taken : g.N.KeepsNodes.taken l.nodes ≡ g.N.KeepsNodes.taken l.fn.nodes;
     }

@@ -4,4 +4,4 @@ use Rattle.thp_journal_tools.proofs.notes.notes_text.Goals as goal
 
 pub returns : goal.returns
 unfolding notes_text
-returns c = rw (c.in_ok-put_note-4.ensures, c.in_ok-put_note-3.ensures, c.in_ok-put_note-2.ensures, c.in_ok-put_note.ensures, c.in_ok-put_illegal.ensures, c.new-text.ensures.items) refl
+returns c = rw (c.in_ok-put_note.ensures, c.in_ok-put_moved.ensures, c.in_ok-put_illegal.ensures, c.new-text.ensures.items) refl

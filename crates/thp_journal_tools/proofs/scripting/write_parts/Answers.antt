@@ -1,18 +1,24 @@
-use Rattle.std.proofs.Common.{◌∙◌, ◌++◌, [], append_assoc, ap, arith, refl, rules, sym, take}
+use Rattle.std.proofs.Common.{◌≡◌, ◌∙◌, ◌++◌, ℕ, List, [], Option, append_assoc, ap, arith, refl, rules, subst, sym, take}
+use Rattle.std.specs.Io.KnownBytes.{Appends}
 use Rattle.std.proofs.lemmas.List.{append-nil, length-append, length-take-le}
 use Rattle.thp_cli.proofs.CallLaws.{reading_more, reading_none, reads_by}
 use Rattle.thp_cli.proofs.DeviceLaws.{read_all, read_beyond, read_more, read_nothing}
 use Rattle.thp_script.specs.Limits.{max_counted}
 use Rattle.thp_journal_reader.specs.Journals.{journals_within}
-use Rattle.thp_journal_tools.proofs.ScriptLaws.{grows_more, grows_none}
+use Rattle.thp_journal_tools.proofs.ScriptLaws.{appends_more, appends_none, grows_more, grows_none}
 use Rattle.thp_journal_tools.proofs.scripting.write_parts.Goals as goal
+
+-- the text of a part behind that of those before
+with_text : (a b c : Option (List ℕ)) (t u : List ℕ) → Appends a b t → (text : List ℕ) × (u ≡ t ++ text) × Appends b c text → Appends a c u
+with_text a b c t u before more = subst (λ x. Appends a c x) (sym more.1) (appends_more a b c t more.0 before more.2)
 
 pub loop-count-init : goal.loop-count-init
 loop-count-init g c = record {
-  taken = ([], read_nothing (g.R.Read.remaining c.args.reader.now.device), omega arith, λ more. c.new-check.ensures more);
+  taken = ([], read_nothing (g.R.Read.remaining c.args.reader.now.device), omega arith, λ more. c.new-check.ensures.tells more);
   flag = c.requires.reader;
   calls = reading_none max_counted c.args.reader.now.calls;
   grows = grows_none (g.W.Write.contents c.args.writer.now.device);
+  text = subst (λ t. Appends (g.W.Write.contents c.args.writer.now.device) (g.W.Write.contents c.args.writer.now.device) t) (sym c.new-check.ensures.taken) (appends_none (g.W.Write.contents c.args.writer.now.device));
   writes = c.requires.writer;
 }
 
@@ -33,6 +39,7 @@ loop-count-preserved g c =
       flag = (rw c.in-Some.is at c.read.ensures.flag_stays) ∙ c.loop-count.invariant.flag;
       calls = reading_more max_counted c.loop-count.left c.in-Some.count _ c.args.reader.now.calls c.loop-count.reader.calls c.read.new.self.calls c.loop-count.invariant.calls (omega (arith, c.if-count-eq0.false)) (omega (arith, c.if-count-left.false)) (search rules) (rw c.in-Some.is at c.read.ensures.calls);
       grows = grows_more (contents c.args.writer.now.device) (contents c.loop-count.writer.device) (contents c.write_part.new.writer.device) c.loop-count.invariant.grows c.write_part.ensures.grows;
+      text = with_text (contents c.args.writer.now.device) (contents c.loop-count.writer.device) (contents c.write_part.new.writer.device) c.loop-count.check.taken c.in_ok-check.check.taken c.loop-count.invariant.text c.in_ok-check.ensures.text;
       writes = c.in_ok-check.ensures.flag;
     }
 
@@ -73,3 +80,6 @@ returns-in_err-check-clause-reads g c = reads_by max_counted c.loop-count.left _
 
 pub returns-then-count-left-clause-reads : goal.returns-then-count-left-clause-reads
 returns-then-count-left-clause-reads g c = reads_by max_counted c.loop-count.left _ c.read.new.self.failed c.loop-count.reader.failed c.read.result c.args.reader.now.calls c.loop-count.reader.calls c.read.new.self.calls c.loop-count.invariant.calls c.loop-count.invariant.flag (search rules) c.read.ensures.calls c.read.ensures.failed c.read.ensures.flag_stays
+
+pub returns-then-count-left-clause-text : goal.returns-then-count-left-clause-text
+returns-then-count-left-clause-text g c = with_text (g.W.Write.contents c.args.writer.now.device) (g.W.Write.contents c.loop-count.writer.device) (g.W.Write.contents c.write_part.new.writer.device) c.loop-count.check.taken c.in_ok-check.check.taken c.loop-count.invariant.text c.in_ok-check.ensures.text

@@ -23,6 +23,7 @@ loop-text-init g c =
       counted = c.in_ok-rest.ensures.counted;
       along = c.in_ok-rest.ensures.along;
       limit = c.in_ok-rest.ensures.most ∙ ap most_of part.ensures.part;
+      taken = c.in_ok-rest.ensures.taken;
     }
 
 pub loop-text-preserved : goal.loop-text-preserved
@@ -45,6 +46,7 @@ loop-text-preserved g c =
       counted = c.in_ok-rest-in-Ok.ensures.counted;
       along = c.in_ok-rest-in-Ok.ensures.along;
       limit = c.in_ok-rest-in-Ok.ensures.most ∙ rw after l.invariant.limit;
+      taken = c.in_ok-rest-in-Ok.ensures.taken ∙ c.in_ok-add-in-Ok.ensures.taken ∙ l.invariant.taken;
     }
 
 pub returns-clause-text : goal.returns-clause-text

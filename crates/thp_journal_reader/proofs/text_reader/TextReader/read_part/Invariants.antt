@@ -16,4 +16,5 @@ invariant-loop-text g l =
       counted : IsCounted l.rest l.text;
       along : g.N.KeepsNodes.goes_along l.text.line l.nodes;
       limit : l.text.most ≡ l.fn.self.text.most;
+      taken : g.N.KeepsNodes.taken l.nodes ≡ g.N.KeepsNodes.taken l.fn.self.nodes;
     }
