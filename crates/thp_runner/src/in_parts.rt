@@ -36,7 +36,7 @@ pub fn new_cells<N: Recorder>(
 ) -> Result<(Vec<NodeCell<N>>, Vec<Pass<N>>), AllocError>
     ensures { IfOk result (λ r. AreNew settings.now r.0.items r.1.items) }
 {
-    let nodes = new_nodes(alloc, settings, 0)?;
+    let nodes = new_nodes(alloc, settings)?;
     share(alloc, nodes, settings.workers + 1)
 }
 

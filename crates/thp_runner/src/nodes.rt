@@ -8,20 +8,17 @@ use thp_model::Shape;
 use thp_node::{NewFault, Node, Recorder};
 use thp_script::Settings;
 
-/// Creates the nodes that the settings describe. Each has room for `events` events from the start, if memory for that can be
-/// allocated; otherwise its journal grows as needed.
+/// Creates the nodes that the settings describe.
 pub(crate) fn new_nodes<R: Recorder>(
     alloc: Global,
     settings: &Settings,
-    events: u32,
 ) -> Result<Vec<Node<R>>, AllocError>
     ensures shapes { IfOk result (λ r. AreNodesFor settings.now r.items) }
     ensures new { IfOk result (λ r. All (λ (node : NodeState). node.journal ≡ []) r.items) }
 {
     let mut nodes = Vec::new(alloc);
     for index in 0..settings.nodes {
-        let mut node = new_node(alloc, settings, index)?;
-        make_room(&mut node, events);
+        let node = new_node(alloc, settings, index)?;
         nodes.push(node)?;
     }
     Ok(nodes)
@@ -46,11 +43,4 @@ fn new_node<R: Recorder>(
         Ok(node) => Ok(node),
         Err(NewFault::BadSize | NewFault::OutOfMemory) => Err(AllocError),
     }
-}
-
-/// Reserves room for `events` events, if that is possible. Otherwise the node allocates memory when it records them.
-fn make_room<R: Recorder>(node: &mut Node<R>, events: u32)
-    ensures { node.new ≡ record node.old { room = node.new.room } }
-{
-    let _ = node.reserve(events);
 }

@@ -1,4 +1,4 @@
-//! All sections of a script: `setup`, the concurrent workers, and the commands that they postponed.
+//! The sections of a script after `setup`: the concurrent workers, and the commands that they postponed.
 ghost use Rattle.std.specs.Prelude.{◌≡◌, ◌+◌, ◌≤◌, ◌∷◌, [], All, IfOk, List, length};
 ghost use Rattle.thp_worker.specs.declared.answer_log.Answers.{Answers};
 ghost use Rattle.thp_worker.specs.Fronts.{Fronts, HoldsAllCallers};
@@ -6,37 +6,12 @@ ghost use Rattle.thp_worker.specs.Halves.{AllWork, IsSection};
 ghost use Rattle.thp_worker.specs.Sections.{AnswersAre, IsDoneFor};
 ghost use Rattle.thp_script.specs.Limits.{max_workers};
 ghost use Rattle.thp_script.specs.declared.script.Command.{Command};
-ghost use Rattle.thp_runner.specs.Sections.{commands_in, numbered, GoesFrom, InOrder, IsFitScript, IsNew, IsSetUp, RunsTo, SectionAnswersAre};
+ghost use Rattle.thp_runner.specs.Sections.{commands_in, numbered, GoesFrom, InOrder, IsSetUp, RunsTo, SectionAnswersAre};
 
 use std::alloc::{AllocError, Global};
 use std::thread::Threads;
-use thp_script::{Command, Script, Sequence};
-use thp_worker::{
-    Answers, Gate, NoGate, Passes, SectionLog, SectionOutcome, Steps, run_range, work, work_rest,
-};
-
-/// Executes `setup` as caller 0, then the section of each worker on its own thread, and then the postponed commands, workers in
-/// ascending order. The passes have caller 0 and a caller for each worker, and keep the nodes if they have all callers. `answers`
-/// is what happens to the answers.
-pub(crate) fn run_sections<R: Threads + Sync, P: Passes + Send + Drop, G: Gate + Sync>(
-    rt: &R,
-    alloc: Global,
-    passes: P,
-    script: Script,
-    answers: Answers,
-    gate: &G,
-) -> Result<(P, Vec<SectionLog>), AllocError>
-    requires new { IsNew (length script.workers) (P.fronts passes) }
-    requires fits { IsFitScript (P.fronts passes).nodes script }
-    ensures runs { IfOk result (λ r. RunsTo (P.fronts passes) (P.fronts r.0) script r.1.items) }
-    ensures answers { IfOk result (λ r. All (SectionAnswersAre answers) r.1.items) }
-{
-    let Script { setup, workers } = script;
-    let mut passes = passes;
-    passes.keep_nodes();
-    let setup = work(alloc, setup.as_slice(), 0, answers, &mut passes, &NoGate)?;
-    run_workers_after(rt, alloc, passes, setup, workers, answers, gate)
-}
+use thp_script::{Command, Sequence};
+use thp_worker::{Answers, Gate, Passes, SectionLog, SectionOutcome, Steps, run_range, work_rest};
 
 /// Executes the sections of the workers after `setup`, each on its own thread, and then the postponed commands, workers in
 /// ascending order.

@@ -1,4 +1,4 @@
-use Rattle.std.proofs.Common.{◌∙◌, ◌+◌, ◌++◌, rules, subst, sym}
+use Rattle.std.proofs.Common.{◌∙◌, ◌++◌, rules, subst, sym}
 use Rattle.std.specs.Prelude.{All}
 use denote.Param.Send.{param_send, arg_send}
 use Rattle.thp_worker.specs.InParts.{DidFirst}
