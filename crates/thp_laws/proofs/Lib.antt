@@ -1,4 +1,5 @@
 pub mod Atoms
+pub mod CountedTurns
 pub mod EventsBack
 pub mod JournalsBack
 pub mod LegalNumbers

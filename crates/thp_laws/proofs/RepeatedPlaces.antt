@@ -141,7 +141,7 @@ stays_elsewhere Take c w = refl
 stays_elsewhere Try c w = refl
 stays_elsewhere Put c w = refl
 
-all_elsewhere : (h : History) → fold scan_place_after Elsewhere h ≡ Elsewhere
+pub all_elsewhere : (h : History) → fold scan_place_after Elsewhere h ≡ Elsewhere
 all_elsewhere [] = refl
 all_elsewhere (e ∷ h) = ap (λ s. fold scan_place_after s h) (stays_elsewhere (kind_of e.what) e.caller e.what) ∙ all_elsewhere h
 

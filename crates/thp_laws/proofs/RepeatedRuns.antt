@@ -28,7 +28,8 @@ use Rattle.thp_worker.specs.Sections.{batches_after, command_of, put_back_on, st
 use Rattle.thp_worker.specs.Turns.{TurnsOut}
 use Rattle.thp_worker.proofs.StepLaws.{batches_after-append}
 use Rattle.thp_runner.specs.Runs.{no_batches, IsSection}
-use Rattle.thp_laws.specs.Repeated.{ops_on, AreInTurn, IsRepeated, ScriptsRepeatHistories}
+use Rattle.thp_laws.specs.Repeated.{ops_on, IsRepeated, ScriptsRepeatHistories}
+use Rattle.thp_laws.proofs.CountedTurns.{all_in_turn, AreInTurn}
 use Rattle.thp_laws.proofs.RepeatedCalls.{does_call, one_step_of}
 use Rattle.thp_laws.proofs.RepeatedPlaces.{none_between, one_no_take, some_no_take, Begins, IsBeginning, IsNotTake, IsNoTake}
 use Rattle.thp_laws.proofs.RepeatedScans.{scans_as, untried_of_call}
@@ -338,7 +339,7 @@ given_all s h ops is = record {
   callers = recursion_from_All IsFirst h is.callers;
   repeats = is.script.repeats (ap (λ (m : Moved). m.events) (is.script.whole is.scans));
   plain = recursion_from_All IsCallOrScan ops (is.script.plain is.scans);
-  in_turn = is.in_turn;
+  in_turn = all_in_turn h is.callers is.scans is.in_turn;
   whole = is.scans;
   no_take = tt;
 }

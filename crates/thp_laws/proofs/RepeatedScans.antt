@@ -26,7 +26,7 @@ use Rattle.thp_script.specs.declared.script.Op.{Op}
 use Rattle.thp_journal_reader.specs.declared.event_kind.EventKind.TheVariants.{Call, Put, Take, Try}
 use Rattle.thp_journal_reader.specs.Repeating.{kind_of, IsBy}
 use Rattle.thp_node.proofs.ScanLemmas.{all_tried}
-use Rattle.thp_laws.specs.Repeated.{untried_after, AreInTurn, IsInTurn}
+use Rattle.thp_laws.proofs.CountedTurns.{untried_after, AreInTurn, IsInTurn}
 
 -- ---- one event
 

@@ -1,9 +1,7 @@
 -- Scripts that repeat histories: a run of such a script records the history again, except for its blocks.
-use Rattle.std.specs.Prelude.{◌≡◌, ℕ, nat_eq, ⊤, List, [], ◌∷◌, ◌++◌, All, drop, map, slice_get, Some}
+use Rattle.std.specs.Prelude.{◌≡◌, ℕ, nat_eq, List, [], All, map, slice_get, Some}
 use Rattle.std.specs.List.{filter}
 use Rattle.thp_model.specs.declared.events.Event.{Event}
-use Rattle.thp_model.specs.declared.events.What.{What}
-use Rattle.thp_model.specs.declared.events.What.TheVariants.{Taken, Split, Pinned, Used}
 use Rattle.thp_model.specs.declared.shape.Shape.{Shape}
 use Rattle.thp_model.specs.BlockLaws.{SameButBlocks}
 use Rattle.thp_model.specs.History.{History}
@@ -14,29 +12,10 @@ use Rattle.thp_script.specs.declared.script.Op.{Op}
 use Rattle.thp_script.specs.declared.script.Script.{Script}
 use Rattle.thp_journal_reader.specs.declared.moved.Moved.{Moved}
 use Rattle.thp_journal_reader.specs.Folds.{IsScript}
+use Rattle.thp_journal_reader.specs.Turns.{out_of_turn}
 use Rattle.thp_journal_reader.specs.WholeScans.{IsWholeScans}
 use Rattle.thp_worker.specs.declared.reply.SectionLog.{SectionLog}
 use Rattle.thp_runner.specs.Runs.{IsRun}
-
--- a try is of the page that was taken first of those not tried yet
-abbrev pub IsInTurn : What → List ℕ → Type 0
-IsInTurn (Split p released) untried = slice_get untried 0 ≡ Some p
-IsInTurn (Pinned p) untried = slice_get untried 0 ≡ Some p
-IsInTurn (Used p) untried = slice_get untried 0 ≡ Some p
-IsInTurn w untried = ⊤
-
--- the pages taken and not tried yet, after one more event
-abbrev pub untried_after : What → List ℕ → List ℕ
-untried_after (Taken p) untried = untried ++ p ∷ []
-untried_after (Split p released) untried = drop 1 untried
-untried_after (Pinned p) untried = drop 1 untried
-untried_after (Used p) untried = drop 1 untried
-untried_after w untried = untried
-
--- pages are tried in the order in which they were taken, beginning with those not tried yet
-abbrev pub AreInTurn : List ℕ → History → Type 0
-AreInTurn untried [] = ⊤
-AreInTurn untried (e ∷ h) = IsInTurn e.what untried × AreInTurn (untried_after e.what untried) h
 
 -- the commands on node n
 abbrev pub ops_on : ℕ → List Command → List Op
@@ -46,13 +25,14 @@ ops_on n commands = map (λ (c : Command). c.op) (filter (λ (c : Command). nat_
 abbrev pub HasSetupOnly : Script → Type 0
 HasSetupOnly script = (k : ℕ) (commands : List Command) → slice_get script.workers k ≡ Some commands → commands ≡ []
 
--- the legal history of caller 0 alone, whose batches are whole scans that try their pages in order, and the script that repeats it
+-- the legal history of caller 0 alone, whose batches are whole scans that try their pages in the order of the takes, and the script
+-- that repeats it
 pub record IsRepeated (s : Shape) (h : History) (ops : List Op) : Type 0 where
   pub shape : IsShape s
   pub legal : IsLegal s h
   pub callers : All (λ (e : Event). e.caller ≡ 0) h
   pub scans : IsWholeScans h
-  pub in_turn : AreInTurn [] h
+  pub in_turn : out_of_turn h ≡ 0
   pub moved : Moved
   pub script : IsScript h ops moved
 

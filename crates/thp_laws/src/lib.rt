@@ -7,7 +7,7 @@
 //! - `runs`: the answer of a step follows from the history (`OneStep`; `SameSteps`, `SameRefusals`); workers on nodes of their
 //!   own, or one worker, have one run (`OneRun`; `Walks`, `SideBySide`, `SameTurns`, `SameSections`, `WorkersApart`). A script that
 //!   repeats histories records them again (`Repeated`; `RepeatedCalls`, `RepeatedScans`, `RepeatedPlaces`, `RepeatedTurns`,
-//!   `RepeatedRuns`).
+//!   `CountedTurns`, `RepeatedRuns`).
 //! - `reports`: so they have one report (`OneReport`), and one text one totals report (`OneText`; `OneTotals`).
 #![tactic(auto)]
 
