@@ -38,8 +38,8 @@ HELD = (
     "bin/thpsplit", "bin/thpcheck", "bin/thpdraw", "bin/thpreplay", "bin/thprecord", "bin/thpvm", "bin/thpwhatif", "lib/libthp.a",
     "lib/libthp.so", "lib/pkgconfig/thp.pc", "lib/cmake/thp/thp-config.cmake", "include/thp.h", "share/man/man1/thpsplit.1",
     "share/man/man3/libthp.3", "share/man/man3/thp_node_create.3", "share/bash-completion/completions/thpwhatif",
-    "lib/thpsplit/linux/out/pages.so", "examples/first.script", "examples/c/first.c", "docs/C.md", "rust/Cargo.toml",
-    "rust/leversorrel-sys/build.rs",
+    "lib/thpsplit/linux/out/pages.so", "examples/first.script", "examples/c/first.c", "examples/c/CMakeLists.txt",
+    "docs/C.md", "rust/Cargo.toml", "rust/examples/first.rs", "rust/leversorrel-sys/build.rs",
     "LICENSE-MIT", "LICENSE-APACHE", "CHANGELOG.md", "README.md", "PROOF",
 )
 """Files of the archive of the programs, among others."""
