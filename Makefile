@@ -108,8 +108,8 @@ released: toolchain
 	@python3 release/aarch64.py && python3 prove.py verdicts aarch64
 else
 RELEASED = $(PROGRAM) $(CHECKER) $(DRAWER) $(ARCHIVE)
-released: run checker drawer $(ARCHIVE)
-	@python3 prove.py verdicts
+released: toolchain
+	@python3 prove.py is-released || { $(MAKE) --no-print-directory run checker drawer $(ARCHIVE) && python3 prove.py verdicts; }
 endif
 .PHONY: released
 

@@ -3,6 +3,7 @@
 
     prove.py CRATE [WORD..]
     prove.py verdicts [PART]
+    prove.py is-released
 
 With words it then runs `rt WORD..` in the crate's folder: `run` proves, builds and runs a program, `lib` builds a library, `verdict`
 proves the crate again from scratch.
@@ -14,9 +15,11 @@ as `rt` chooses; other libraries use the rest of the machine. Libraries that are
 checks them at the end.
 
 The line in which `rt` reports that a crate is proved, its verdict line, is stored in the crate's out/, with the sum of the sources
-that it is for (`verdict`). Where `rt` takes a proof from another checkout, the line of that checkout comes with it, if there is one.
-With the word `verdicts` each crate of a release that has no line is proved from scratch, to get one; all that it uses must be built.
-PART is the folder in out/ of what was built for another platform.
+that it is for, and the hashes of what was built from them (`verdict`). Where `rt` takes a proof from another checkout, the line of
+that checkout comes with it, if there is one. With the word `verdicts` each crate of a release that has no line is proved from scratch,
+to get one; all that it uses must be built. PART is the folder in out/ of what was built for another platform. With `is-released` the
+status is 0 if each crate of a release has its line, and programs and library are those that were built from its sources, otherwise 1:
+nothing is proved or built.
 
 Writes a line for each library on standard error. The status is 1 if a library is not proved, and then the output of its `rt`
 is shown; with words it is otherwise that of `rt`.
@@ -34,6 +37,7 @@ import sys
 import tempfile
 import threading
 import time
+from collections.abc import Sequence
 from concurrent.futures import FIRST_COMPLETED, Future, ThreadPoolExecutor, wait
 from functools import cache
 from pathlib import Path
@@ -118,8 +122,16 @@ def sources(name: str) -> str:
     for it in (*below(name), name):
         whole.update(f"{listed()[it][0]}\n".encode())
         for path in sorted(files(it)):
-            whole.update(f"{path.relative_to(CRATES)} {hashlib.sha256(path.read_bytes()).hexdigest()}\n".encode())
+            whole.update(f"{path.relative_to(CRATES)} {hash_of(path)}\n".encode())
     return whole.hexdigest()
+
+
+def hash_of(path: Path) -> str:
+    """The SHA-256 of a file; of a folder that of the names and hashes of its files."""
+    if path.is_file():
+        return hashlib.sha256(path.read_bytes()).hexdigest()
+    inside = sorted(it for it in path.rglob("*") if it.is_file())
+    return hashlib.sha256("".join(f"{it.relative_to(path)} {hash_of(it)}\n" for it in inside).encode()).hexdigest()
 
 
 def products(name: str, part: str = "") -> list[Path]:
@@ -128,29 +140,57 @@ def products(name: str, part: str = "") -> list[Path]:
     return [it for it in (out / name, out / f"lib{name}.a") if it.is_file()]
 
 
-def keep_verdict(name: str, before: str, said: str, folder: Path | None = None, part: str = "") -> bool:
+def library(name: str) -> Path:
+    """Where a library is built for the crates above it: a folder."""
+    return CRATES / name / "out/rlib" / f"{name}.rlib"
+
+
+def stored(path: Path, now: str) -> tuple[str, dict[str, str]]:
+    """The verdict line that a file has for the sources with this sum, or nothing, and the hash of each file built from them, by name."""
+    lines = path.read_text(errors="replace").splitlines() if path.is_file() else []
+    if lines[:1] != [f"sources={now}"]:
+        return "", {}
+    built = dict(line.removeprefix("built=").split(" ", 1) for line in lines if line.startswith("built="))
+    return lines[-1] if VERDICT.fullmatch(lines[-1]) else "", built
+
+
+def keep_verdict(name: str, before: str, said: str, made: Sequence[Path] = (), folder: Path | None = None, part: str = "") -> bool:
     """Stores the verdict line in the output of a crate's proof, with the sum that the crate's sources had before the proof, and the
-    hashes of what was built. Returns whether there is such a line and the sources are still the same."""
+    hashes of the files that `rt` has built from them. What is stored for the same sources stays. Returns whether there is such a line and
+    the sources are still the same."""
     lines = [found[0] for found in VERDICT.finditer(said)]
-    if not lines or sources(name) != before:
+    if sources(name) != before:
         return False
     folder = folder or CRATES / name / "out" / part
+    line, built = stored(folder / "verdict", before)
+    built |= {it.name: hash_of(it) for it in made}
     folder.mkdir(parents=True, exist_ok=True)
-    built = "".join(f"built={it.name} {hashlib.sha256(it.read_bytes()).hexdigest()}\n" for it in products(name, part))
-    (folder / "verdict").write_text(f"sources={before}\n{built}{lines[-1]}\n")
-    return True
+    texts = [f"sources={before}", *(f"built={it} {built[it]}" for it in built), *(lines[-1:] or [line])]
+    (folder / "verdict").write_text("".join(f"{text}\n" for text in texts if text))
+    return bool(lines)
 
 
 def verdict(name: str, part: str = "") -> tuple[str, dict[str, str]] | None:
-    """The stored verdict line of a crate, and the hash of each file that was built with it, by name; or None if there is none for the
-    present sources. A library has the same line for all platforms."""
+    """The stored verdict line of a crate, and the hash of each file that was built from the same sources, by name; or None if there is
+    none for the present sources. A library has the same line for all platforms."""
     now = sources(name)
     for folder in [part] if part and name in RELEASED else ["", "rlib"]:
-        path = CRATES / name / "out" / folder / "verdict"
-        lines = path.read_text(errors="replace").splitlines() if path.is_file() else []
-        if len(lines) >= 2 and lines[0] == f"sources={now}" and VERDICT.fullmatch(lines[-1]):
-            return lines[-1], dict(line.removeprefix("built=").split(" ", 1) for line in lines[1:-1])
+        line, built = stored(CRATES / name / "out" / folder / "verdict", now)
+        if line:
+            return line, built
     return None
+
+
+def is_built(name: str, *files: Path) -> bool:
+    """Whether a crate has a verdict line for the present sources, and these files, or its library, are what was built from them."""
+    found = verdict(name)
+    return found is not None and all(it.exists() and found[1].get(it.name) == hash_of(it) for it in files)
+
+
+def is_released() -> bool:
+    """Whether nothing is left to prove or build for a release."""
+    built = {name: products(name) for name in RELEASED}
+    return all(is_built(name, *built.get(name, ())) for name in released()) and all(built.values())
 
 
 def link(one: str, other: str) -> None:
@@ -207,7 +247,7 @@ def prove(name: str, is_first: bool, started: list[subprocess.Popen[str]]) -> st
         said, _ = child.communicate()
         if child.returncode:
             return str(said)
-        keep_verdict(name, before, said, home / "out/rlib")
+        keep_verdict(name, before, said, [home / "out/rlib" / library(name).name], home / "out/rlib")
         hand_in(home / "out", name)
     print(f"{name}: proved in {time.monotonic() - began:.0f} s", file=sys.stderr, flush=True)
     return None
@@ -271,8 +311,13 @@ def prove_all(target: str, most: int, started: list[subprocess.Popen[str]]) -> b
     return True
 
 
+BUILDS = ("run", "lib")
+"""The words with which `rt` builds what is released."""
+
+
 def run_rt(name: str, words: list[str]) -> int:
-    """Runs `rt` in the folder of a crate with standard input and output of this process, and stores the verdict line in its output."""
+    """Runs `rt` in the folder of a crate with standard input and output of this process, and stores the verdict line in its output, and
+    the hashes of what it built or found unchanged."""
     before, said = sources(name), ""
     with subprocess.Popen(["rt", *words], cwd=CRATES / name, stdout=subprocess.PIPE) as child:
         assert child.stdout is not None
@@ -281,7 +326,7 @@ def run_rt(name: str, words: list[str]) -> int:
             sys.stdout.buffer.flush()
             said += line.decode(errors="replace") if line.startswith(b"logic=proved ") else ""
     if child.returncode == 0:
-        keep_verdict(name, before, said)
+        keep_verdict(name, before, said, products(name) if words[0] in BUILDS else ())
     return child.returncode
 
 
@@ -294,6 +339,8 @@ def end(started: list[subprocess.Popen[str]]) -> None:
 
 
 def main() -> None:
+    if sys.argv[1] == "is-released":
+        sys.exit(0 if is_released() else 1)
     if sys.argv[1] == "verdicts":
         sys.exit(0 if prove_lacking("".join(sys.argv[2:])) else 1)
     started: list[subprocess.Popen[str]] = []

@@ -72,11 +72,11 @@ const char *thp_strerror(thp_code code) {
     case THP_NO_BLOCK: return "no free block";
     case THP_HAS_BATCH: return "the caller has pages in flight";
     case THP_OUT_OF_MEMORY: return "out of memory";
-    case THP_EMPTY: return "the handle leads to nothing";
-    case THP_IN_USE: return "in use already";
+    case THP_EMPTY: return "the handle is empty";
+    case THP_IN_USE: return "already in use";
     case THP_BAD_CALLER: return "bad caller";
     case THP_BAD_SIZE: return "bad size";
-    case THP_BAD_COUNT: return "too many pages asked for";
+    case THP_BAD_COUNT: return "too many pages requested";
     case THP_NO_BATCH: return "no open batch";
     case THP_BATCH_OPEN: return "a batch is open";
     case THP_TOO_SMALL: return "the buffer is too small";
@@ -89,11 +89,11 @@ const char *thp_strerror(thp_code code) {
     case THP_TEXT_BAD_COUNT: return "too few or too many words in a line";
     case THP_TEXT_BAD_NUMBER: return "bad number in the text";
     case THP_TEXT_BAD_SET: return "bad set in the text";
-    case THP_TEXT_BAD_ORDER: return "a line out of place";
+    case THP_TEXT_BAD_ORDER: return "the line is out of place";
     case THP_BUSY: return "another pass has the node";
     case THP_BAD_PASS: return "the passes don't fit";
     case THP_FINISHED: return "the check is finished";
-    case THP_NO_REASON: return "there is no reason to tell";
+    case THP_NO_REASON: return "there is no reason to report";
     case THP_NO_JOURNAL: return "the node only counts its events";
     case THP_NO_CODE: break;
     }

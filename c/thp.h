@@ -458,9 +458,9 @@ thp_code thp_node_journal(const thp_node *node, void *buffer, size_t capacity, s
  * A cell is a node that threads share through passes. Each pass has some of the cell's callers and its own handle, and belongs to
  * one thread at a time. No call waits: if another pass has the node, the call returns THP_BUSY and has no effect. A pass of all
  * callers never gets THP_BUSY. Another pass has the node only during one call, so to wait, repeat the call with sched_yield()
- * between tries. Which pass gets the node next is not specified. Each caller of a pass can have an open batch, which stays with the caller when passes are divided
- * and joined. A take, each try and a put back lock the node separately: between them other passes can free pages of the batch,
- * which are then skipped. Each call can also return THP_EMPTY and THP_NULL.
+ * between tries. Which pass gets the node next is not specified. Each caller of a pass can have an open batch, which stays with the
+ * caller when passes are divided and joined. A take, each try and a put back lock the node separately: between them other passes can
+ * free pages of the batch, which are then skipped. Each call can also return THP_EMPTY and THP_NULL.
  * @{
  */
 /**

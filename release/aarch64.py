@@ -3,10 +3,10 @@
 
     release/aarch64.py [CRATE ..]
 
-The libraries below are proved as for any target (prove.py). Each CRATE, by default all that a release needs, is then proved and compiled
-for aarch64 from scratch, and its verdict line is stored, in crates/CRATE/out/aarch64; a crate that has a line for these sources is left
-alone. Programs are linked with c/host.c by Debian's compiler for aarch64. Prints the built files. Status 77 with one line if this machine
-lacks the compiler.
+The libraries below are proved as for any target (prove.py, or the gate). Each CRATE, by default all that a release needs, is then
+proved and compiled for aarch64 from scratch, and its verdict line is stored, in crates/CRATE/out/aarch64; a crate that has a line for
+these sources is left alone. Programs are linked with c/host.c by Debian's compiler for aarch64. Prints the built files. Status 77 with
+one line if this machine lacks the compiler.
 """
 
 from __future__ import annotations
@@ -18,8 +18,8 @@ import sys
 from pathlib import Path
 
 from platforms import ARM64
-from proof import ROOT, hash_of
-from prove import CRATES, RELEASED, below, keep_verdict, listed, sources, verdict
+from proof import ROOT
+from prove import CRATES, RELEASED, below, hash_of, is_built, keep_verdict, library, listed, sources, verdict
 
 TARGET = "aarch64-unknown-linux-gnu"
 """The toolchain's name of the platform."""
@@ -56,16 +56,16 @@ def command(name: str, to: Path) -> list[str]:
         words += ["--extern", f"{it}={top}/rlibs/{it}.rlib"]
     words += ["-L", f"dependency={top}/rlibs"]
     for it in (it for it in own if it in inside):
-        words += ["--extern", f"{it}={CRATES}/{it}/out/rlib/{it}.rlib"]
+        words += ["--extern", f"{it}={library(it)}"]
     for it in inside:
-        words += ["-L", f"dependency={CRATES}/{it}/out/rlib"]
+        words += ["-L", f"dependency={library(it).parent}"]
     words += ["--antt-project", f"{top}/rattle/logic/antt-project.json", "--logic-built", f"{top}/logic_built", "--links", f"{name}="]
     words += [] if is_program(name) else ["--crate-type", "staticlib"]
     words += ["--toolchain", f"{top}/toolchain", "--backend", "llvm", "--target", TARGET, "--jobs", "2"]
     return [f"{top}/bin/rattle", *words, "-o", str(to)]
 
 
-def is_built(name: str) -> bool:
+def stands(name: str) -> bool:
     """Whether a crate has a verdict line for the present sources, and the file that was built with it."""
     stored, built = verdict(name, ARM64.part), product(name)
     is_old = is_program(name) and built.is_file() and built.stat().st_mtime < (ROOT / "c/host.c").stat().st_mtime
@@ -86,14 +86,17 @@ def build(name: str) -> bool:
     done = subprocess.run(command(name, compiled), cwd=CRATES / name, stdin=subprocess.DEVNULL, stdout=subprocess.PIPE,
                           stderr=subprocess.STDOUT, text=True, errors="replace", check=False)
     is_good = done.returncode == 0 and (not is_program(name) or link(name, compiled))
-    if is_good and keep_verdict(name, before, done.stdout, part=ARM64.part):
+    if is_good and keep_verdict(name, before, done.stdout, [built], part=ARM64.part):
         return True
     print(f"{done.stdout}{name}: not built for {ARM64.name}", file=sys.stderr)
     return False
 
 
 def prove_below(name: str) -> bool:
-    """Proves the libraries that a crate depends on, and returns whether all are proved."""
+    """Proves the libraries that a crate depends on, except where the gate has proved and built all of them, and returns whether all are
+    proved."""
+    if all(is_built(it, library(it)) for it in below(name)):
+        return True
     return subprocess.run([sys.executable, ROOT / "prove.py", name], cwd=ROOT, env=os.environ, check=False).returncode == 0
 
 
@@ -107,7 +110,7 @@ def main() -> None:
         print(f"nothing is built for {ARM64.name}: this machine lacks {', '.join(lacks)}")
         sys.exit(LACKS)
     for name in names:
-        if not is_built(name) and not (prove_below(name) and build(name)):
+        if not stands(name) and not (prove_below(name) and build(name)):
             sys.exit(1)
         print(product(name), flush=True)
 

@@ -24,8 +24,9 @@ from itertools import repeat
 from pathlib import Path
 
 from platforms import AMD64, Platform
-from proof import ROOT, Commit, Unreleasable, asked, called, commit, hash_of, library_version, origins, statement, verdicts
-from build import version  # the folder debian/ is in the path since the import above
+from proof import ROOT, Commit, Unreleasable, asked, called, commit, library_version, origins, statement, verdicts
+from build import version  # the folders of these two are in the path since the import above
+from prove import hash_of
 from protection import is_elf, is_stripped, oldest_glibc, weaknesses
 
 LACKS = 77

@@ -11,7 +11,6 @@ verdict line for them, or a file is not the one that was built with it.
 from __future__ import annotations
 
 import argparse
-import hashlib
 import os
 import re
 import subprocess
@@ -25,7 +24,7 @@ sys.path[:0] = [str(ROOT), str(ROOT / "debian"), str(ROOT / "release")]
 
 from build import date, version  # noqa: E402
 from platforms import PLATFORMS, Platform  # noqa: E402
-from prove import RELEASED, released, toolchain, verdict  # noqa: E402
+from prove import RELEASED, hash_of, released, toolchain, verdict  # noqa: E402
 
 
 class Unreleasable(Exception):
@@ -60,11 +59,6 @@ def commit() -> Commit:
     if changed:
         raise Unreleasable(f"the sources differ from the commit: {', '.join(line.split(maxsplit=1)[1] for line in changed[:3])}")
     return Commit(called(["git", "rev-parse", "HEAD"]), called(["git", "rev-parse", "HEAD^{tree}"]), date())
-
-
-def hash_of(path: Path) -> str:
-    """The SHA-256 of a file."""
-    return hashlib.sha256(path.read_bytes()).hexdigest()
 
 
 def verdicts(built: list[Path], platform: Platform) -> dict[str, str]:

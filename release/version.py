@@ -28,7 +28,7 @@ PROGRAMS = {
 
 LIBRARY = {
     "c/thp.h": r'^#define THP_VERSION "([\d.]+)"',
-    "docs/libthp.3": r'^\.TH LIBTHP 3 "" "libthp ([\d.]+)"',
+    "docs/libthp.3": r'^\.TH LIBTHP 3 "[\d-]+" "libthp ([\d.]+)"',
     "rust/Cargo.toml": r'^(?:version|leversorrel-sys) = .*"([\d.]+)"',
     "rust/leversorrel-sys/Cargo.toml": r'^version = "([\d.]+)"',
     "rust/Cargo.lock": r'^name = "leversorrel(?:-sys)?"\nversion = "([\d.]+)"',

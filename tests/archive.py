@@ -19,7 +19,7 @@ from pathlib import Path
 ROOT = Path(__file__).resolve().parent.parent
 sys.path.insert(0, str(ROOT))
 
-from prove import below, keep_verdict, listed, sources  # noqa: E402
+from prove import below, is_built, keep_verdict, library, listed, sources, stands  # noqa: E402
 from tally import Missing, Tally  # noqa: E402
 
 NAME = "thp_c"
@@ -32,7 +32,7 @@ def of_kit(name: str) -> list[str]:
 
 def words(kit: Path, to: Path) -> list[str]:
     """The arguments of the compiler: the crate, the libraries that it names and those below them, and the build options."""
-    built = {name: ROOT / "crates" / name / "out/rlib" / f"{name}.rlib" for name in below(NAME)}
+    built = {name: library(name) for name in below(NAME)}
     found = ["--crate-name", NAME, "src/lib.rt", "--crate-type", "staticlib"]
     for name in of_kit(NAME):
         found += ["--extern", f"{name}={kit}/rlibs/{name}.rlib"]
@@ -51,6 +51,9 @@ def build(to: Path) -> str | None:
     rt = shutil.which("rt")
     if rt is None:
         raise Missing("rt isn't on the path")
+    others = [name for name in below(NAME) if not (is_built(name, library(name)) or stands(name))]
+    if others:
+        return f"no library of the present sources: {', '.join(others)}"
     kit = Path(rt).resolve().parent.parent
     to.parent.mkdir(parents=True, exist_ok=True)
     command, before = [str(kit / "bin/rattle"), "build", *words(kit, to)], sources(NAME)
@@ -58,7 +61,7 @@ def build(to: Path) -> str | None:
     said = (ended.stdout + ended.stderr).strip()
     if ended.returncode != 0:
         return f"status {ended.returncode}: {said[-900:]}"
-    keep_verdict(NAME, before, said)
+    keep_verdict(NAME, before, said, [to])
     return None
 
 

@@ -1,4 +1,4 @@
-"""The release in a clean Debian: unpacked, run and linked in a root folder that has no Rattle toolchain.
+"""The release in a clean Debian: unpacked, run and linked in a root folder that has no Rattle toolchain, also by the lines of README.md.
 
     python3 tests/clean_root.py FOLDER [--root EXISTING] [--suite NAME ..] [--mirror URL]
 
@@ -18,13 +18,15 @@ import signal
 import subprocess
 import sys
 import tempfile
+import time
 from functools import partial
 from pathlib import Path
 from types import FrameType
 
 from tally import SKIPPED, Missing, Tally
 
-sys.path.insert(0, str(Path(__file__).resolve().parent.parent / "release"))
+ROOT = Path(__file__).resolve().parent.parent
+sys.path.insert(0, str(ROOT / "release"))
 
 from protection import oldest_glibc  # noqa: E402
 
@@ -74,6 +76,9 @@ RUST_PACKAGED = RUST.replace("crates=$PWD/rust", 'crates=$room/crates; cp -R rus
 
 NOBODY = "65534:65534"
 
+MOST_SECONDS = 300
+"""The longest time that the lines of README.md may take together."""
+
 
 def called(words: list[str]) -> subprocess.CompletedProcess[str]:
     """Runs a command in a mount namespace of its own, so that none of its mounts outlives it."""
@@ -88,6 +93,13 @@ def cargo_of_machine() -> str | None:
     if shutil.which("rustc") is None:
         return None
     return subprocess.run(["rustc", "--print", "sysroot"], capture_output=True, text=True, check=True).stdout.strip()
+
+
+def readme_lines() -> list[str]:
+    """What README.md has to paste for a release."""
+    found = re.search(r"^```sh\n(.*?)^```$", (ROOT / "README.md").read_text(), re.M | re.S)
+    assert found is not None
+    return found[1].splitlines()
 
 
 class Root:
@@ -192,9 +204,35 @@ class Root:
             raise Missing("no cargo here")
         return self.differs(RUST, lent=cargo)
 
+    def follows_readme(self, archive: Path) -> str | None:
+        """The lines of README.md, pasted by a user in a folder of his own, unpack the archive, run the first script, and build and run the
+        same in C, by pkg-config and by CMake, and in Rust; as root thpwhatif prints its table. Together they are quick."""
+        cargo, room = cargo_of_machine(), self.path / "tmp/room"
+        lines = readme_lines() if cargo else [line for line in readme_lines() if not line.startswith("cargo ")]
+        room.mkdir()
+        os.chown(room, *map(int, NOBODY.split(":")))
+        shutil.copy(archive, room)
+        own = ["cd /tmp/room", "export PATH=/mnt/bin:$PATH CARGO_HOME=/tmp/room/home", *(it for it in lines if not it.startswith("sudo "))]
+        began = time.monotonic()
+        done = self.run("\n".join(own), lent=cargo)
+        wrong = None if done.returncode == 0 else f"status {done.returncode}: {(done.stdout + done.stderr).strip()[-400:]}"
+        lacks = [line for line in TOTALS if f"{line}\n" not in done.stdout]
+        count, wanted = done.stdout.count(LINKED), 3 if cargo else 2
+        wrong = wrong or (f"lacks {lacks}" if lacks else None) or (None if count == wanted else f"{count} programs ran, not {wanted}")
+        as_root = [line.removeprefix("sudo ") for line in lines if line.startswith("sudo ")]
+        wrong = wrong or self.looks("\n".join(["cd /tmp/room/leversorrel-*/", *as_root]))
+        took = time.monotonic() - began
+        shutil.rmtree(room)
+        print(f"  the {len(lines)} lines took {took:.0f} s", flush=True)
+        return wrong or (None if took <= MOST_SECONDS else f"{took:.0f} s, and may take {MOST_SECONDS}")
+
     def whatif_looks(self) -> str | None:
         """As root, thpwhatif prints its table about the running system."""
-        done = self.run("mount -t proc proc /proc; mount -t sysfs sysfs /sys; bin/thpwhatif now --all", "0:0")
+        return self.looks("bin/thpwhatif now --all")
+
+    def looks(self, script: str) -> str | None:
+        """What is wrong with the table that a script as root prints about the running system."""
+        done = self.run(f"mount -t proc proc /proc; mount -t sysfs sysfs /sys\n{script}", "0:0")
         if done.returncode == SKIPPED:
             raise Missing(done.stderr.strip()[-200:])
         is_table = done.returncode == 0 and "threshold  pages split" in done.stdout
@@ -270,6 +308,7 @@ def try_all(tally: Tally, root: Root, folder: Path, suite: str) -> None:
         tally.run(f"{suite}: the programs name the glibc that they need", root.programs_name_glibc)
         tally.run(f"{suite}: the tools in Python", root.tools_run)
     else:
+        tally.run(f"{suite}: the lines of README.md", partial(root.follows_readme, next(folder.glob(ARCHIVE))))
         tally.run(f"{suite}: the first run", root.first_run)
         tally.run(f"{suite}: programs, manual pages, completions", root.programs_run)
         tally.run(f"{suite}: thpwhatif now --all", root.whatif_looks)

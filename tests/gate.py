@@ -10,6 +10,7 @@ from __future__ import annotations
 
 import os
 import re
+import shutil
 import subprocess
 import sys
 import time
@@ -21,7 +22,7 @@ from tally import SKIPPED, Tally
 ROOT = Path(__file__).resolve().parent.parent
 sys.path.insert(0, str(ROOT))
 
-from prove import keep_verdict, listed, released, sources, verdict  # noqa: E402
+from prove import keep_verdict, library, listed, products, released, sources, verdict  # noqa: E402
 
 WITHOUT = (
     "tests/docs.py", "tests/surface.py", "tests/installed.py", "tests/release.py", "tests/lint.py", "linux/tests/run.py",
@@ -95,6 +96,12 @@ def spent() -> float:
     return times.children_user + times.children_system
 
 
+def unstamped(name: str) -> list[Path]:
+    """The library of a crate, if `rt ci` has built it: those that other commands built have a stamp, and `rt ci` puts them back."""
+    built = library(name)
+    return [built] if built.is_dir() and not (built.parent / "stamp").exists() else []
+
+
 class Verdicts:
     """The verdict lines in the output of `rt ci`, by crate."""
 
@@ -116,7 +123,7 @@ class Verdicts:
         """Stores them once `rt ci` has ended, which moves what the crates' folders contain, and names crates that have none: `rt ci`
         prints no verdict line of a proof that it kept from an earlier run."""
         for name, line in self.lines.items():
-            keep_verdict(name, self.before[name], line)
+            keep_verdict(name, self.before[name], line, [*products(name), *unstamped(name)])
         lacking = [name for name in released() if verdict(name) is None]
         if lacking:
             print(f"no verdict line for `make dist`: {', '.join(lacking)}", flush=True)
@@ -164,6 +171,9 @@ def main() -> None:
     began = time.time() - 1
     # One process for each proof, and as many side by side as there are processors: several for one proof take a quarter more.
     os.environ.setdefault("RT_JOBS", str(len(os.sched_getaffinity(0))))
+    for name in listed():
+        for built in unstamped(name):  # of an earlier gate: `rt ci` would put it back over its own
+            shutil.rmtree(built.parent)
     verdicts = Verdicts()
     gate.add("rt ci", ["rt", "ci"], verdicts.see)
     verdicts.keep()

@@ -2,8 +2,9 @@
 
     python3 tests/injected_bugs.py ARCHIVE [WORD]
 
-ARCHIVE is the result of `rt lib` for crates/thp_c. The bugs are in the header, the texts of codes, the mark of cells, the build, and the
-cargo crates; tests/wrong_boundary.py has those of the readers and creates. With WORD only bugs whose name has it are tried.
+ARCHIVE is the result of `rt lib` for crates/thp_c. The bugs are in the header, the texts of codes, the mark of cells, the build, the
+cargo crates, and the Debian packages, which are built with stand-ins for the programs; tests/wrong_boundary.py has those of the readers
+and creates. With WORD only bugs whose name has it are tried.
 """
 
 from __future__ import annotations
@@ -25,7 +26,7 @@ ROOT = Path(__file__).resolve().parent.parent
 SECONDS = 300
 """The greatest time that one command may take."""
 
-UNREAD = r"crates/[^/]+/(?:proofs|specs|must-fail)/|bench/|linux/(?!common/version.py)|.*\.svg$"
+UNREAD = r"crates/[^/]+/(?:proofs|specs|must-fail)/|bench/|linux/(?:.*/)?tests/|.*\.svg$"
 """What no test needs of the tree here."""
 
 
@@ -55,6 +56,7 @@ HEADER, SOURCE, MAKE, RUST, SYS = "c/thp.h", "c/thp.c", "c/Makefile", "rust/src"
 GIVEN = "    uint64_t frames_given;         /**< frames given back */\n"
 HELD = "    uint64_t frames_held;          /**< frames that the live pages hold */\n"
 ATOMIC, CREATE = "__atomic_fetch_add(&next_mark, 1, __ATOMIC_RELAXED);", "\n    return (thp_code)thp_c_cell_create"
+CONTROL, RULES, PRE = "debian/control", "debian/rules", "Pre-Depends: ${misc:Pre-Depends}\n"
 LENT, BATCH = "pub fn batch(&mut self, caller: u32, n: u32) -> Result<Batch<'_, {}>, Fault> {{", "Ok(Batch::new(self, caller, taken))"
 
 BUGS = (
@@ -84,11 +86,20 @@ BUGS = (
           ((LENT.format(name), LENT.format(name).replace("batch(", "batch<'a>(").replace("'_", "'a")),
            (BATCH, f"Ok(Batch::new(unsafe {{ &mut *(self as *mut {name}) }}, caller, taken))")), "documents") for name in ("Node", "Pass")),
     bug("a batch that is dropped stays open", f"{RUST}/batch.rs", "        if self.is_open {\n", "        if false {\n", "calls"),
+    bug("a batch is put back twice", f"{RUST}/batch.rs", "                self.is_open = false;\n", "", "calls"),
     bug("a batch is abandoned and put back", f"{RUST}/batch.rs", "        self.is_open = false;\n        self.of.abandon(self.caller)",
         "        self.of.put_back(self.caller).map(|_| ())", "calls"),
     bug("lack of memory is a verdict", f"{RUST}/lib.rs", "                Fault::OutOfMemory => Err(Fault::OutOfMemory),\n", "", "memory"),
     bug("a lost check panics", f"{RUST}/check.rs", "LOST => Err(Fault::OutOfMemory),\n            code => Verdict",
         "LOST => panic!(),\n            code => Verdict", "memory"),
+    bug("the tools are packaged without python3", CONTROL, "Depends: python3, thpsplit", "Depends: thpsplit", "packages"),
+    bug("the programs are packaged without the C library", CONTROL, "Depends: ${shlibs:Depends}, ${misc:Depends}\nSuggests",
+        "Depends: ${misc:Depends}\nSuggests", "packages"),
+    bug("the library is packaged without the C library", CONTROL, f"{PRE}Depends: ${{shlibs:Depends}}, ", f"{PRE}Depends: ", "packages"),
+    bug("the header is packaged without the library", CONTROL, "Depends: libthp0 (= ${binary:Version}), ", "Depends: ", "packages"),
+    bug("the packaged library has another version", RULES, "-- -v$(LIBRARY)\n", "-- -v0.0.1\n", "packages"),
+    bug("programs are installed beside any version of the library", RULES, "-V'libthp0 (>= $(LIBRARY))'", "-V'libthp0'", "packages"),
+    bug("the library is packaged without its soname", "debian/libthp0.install", "libthp.so.*", "libthp.so.*.*", "packages"),
 )
 """All of them."""
 
@@ -98,6 +109,17 @@ from library import Built
 built = Built(Path(sys.argv[1]), Path(sys.argv[2]))
 sys.exit(built.libraries() or built.{}())"""
 """A program that builds the library in a copy and makes one of its tests."""
+
+PACKAGES = """import sys; sys.path.insert(0, "tests")
+from pathlib import Path
+from package import built, fields_differ, library_differs, needs_differ
+*files, folder = map(Path, sys.argv[1:])
+made = built(files, folder)
+sys.exit(fields_differ(made) or library_differs(made, folder) or needs_differ(made, folder))"""
+"""A program that builds the Debian packages in a copy and makes three of their tests."""
+
+STAND_IN = "#include <stdio.h>\nint main(void) { return puts(\"\") < 0; }\n"
+"""The source of a stand-in for a program."""
 
 
 class Copy:
@@ -111,6 +133,7 @@ class Copy:
                 (self.tree / name).parent.mkdir(parents=True, exist_ok=True)
                 shutil.copy(ROOT / name, self.tree / name)
         self.built.mkdir()
+        self.stand_in = folder / "program"
 
     def ends(self, *command: str | Path, where: str = "") -> bool:
         """Whether a command in the copy ends well."""
@@ -133,6 +156,16 @@ class Copy:
         with tempfile.TemporaryDirectory(dir=self.built.parent) as room:
             return self.ends(sys.executable, "-c", LIBRARY.format(test), self.archive, room)
 
+    def packages(self) -> bool:
+        """Whether tests of the Debian packages pass."""
+        if shutil.which("dh") is None:
+            raise Missing("no debhelper here")
+        source = self.stand_in.with_suffix(".c")
+        source.write_text(STAND_IN)
+        self.ends("cc", "-g", source, "-o", self.stand_in)
+        with tempfile.TemporaryDirectory(dir=self.built.parent) as room:
+            return self.ends(sys.executable, "-c", PACKAGES, *3 * [self.stand_in], self.archive, room)
+
     def marks(self, *flags: str) -> bool | None:
         """Whether cells are distinguished; None if the test isn't built."""
         program = self.built / "marks"
@@ -149,7 +182,8 @@ class Copy:
         """Whether a test passes on the copy; None if it isn't built."""
         tests: dict[str, Callable[[], bool | None]] = {
             "texts": self.texts, "elf": partial(self.of_built, "header_of_elf"), "installed": partial(self.of_built, "installed"),
-            "marks": self.marks, "races": partial(self.marks, "-fsanitize=thread"), "documents": partial(self.crates, "--doc"),
+            "packages": self.packages, "marks": self.marks, "races": partial(self.marks, "-fsanitize=thread"),
+            "documents": partial(self.crates, "--doc"),
             "memory": partial(self.crates, "--test", "memory"), "calls": partial(self.crates, "--test", "node", "--test", "pass"),
         }
         return tests[test]()

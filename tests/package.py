@@ -47,7 +47,7 @@ PUT = ("usr/bin/thpsplit", "usr/bin/thpcheck", "usr/bin/thpdraw", *(f"usr/bin/{n
        *(f"usr/share/doc/{name}" for name in (
            "thpsplit/README.md.gz", "thpsplit/CHANGELOG.md.gz", "thpsplit/FORMATS.md.gz", "thpsplit/examples/first.script",
            "thp-linux-tools/WHATIF.md.gz", "thp-linux-tools/SECURITY.md.gz", "libthp0/README.md.gz", "libthp-dev/C.md.gz",
-           "libthp-dev/examples/first.c")),
+           "libthp-dev/examples/first.c", "libthp-dev/examples/CMakeLists.txt")),
        "usr/include/thp.h", "usr/share/man/man3/libthp.3.gz", "usr/share/man/man3/thp_node_create.3.gz", "usr/share/libthp/tsan.supp")
 """Files that the packages must have, among others."""
 

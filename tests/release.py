@@ -16,6 +16,7 @@ import subprocess
 import sys
 import tarfile
 import tempfile
+from collections.abc import Callable
 from functools import partial
 from pathlib import Path
 
@@ -37,8 +38,8 @@ HELD = (
     "bin/thpsplit", "bin/thpcheck", "bin/thpdraw", "bin/thpreplay", "bin/thprecord", "bin/thpvm", "bin/thpwhatif", "lib/libthp.a",
     "lib/libthp.so", "lib/pkgconfig/thp.pc", "lib/cmake/thp/thp-config.cmake", "include/thp.h", "share/man/man1/thpsplit.1",
     "share/man/man3/libthp.3", "share/man/man3/thp_node_create.3", "share/bash-completion/completions/thpwhatif",
-    "lib/thpsplit/linux/out/pages.so", "examples/first.script", "examples/c/first.c", "docs/C.md", "rust/Cargo.toml",
-    "rust/leversorrel-sys/build.rs",
+    "lib/thpsplit/linux/out/pages.so", "examples/first.script", "examples/c/first.c", "examples/c/CMakeLists.txt",
+    "docs/C.md", "rust/Cargo.toml", "rust/examples/first.rs", "rust/leversorrel-sys/build.rs",
     "LICENSE-MIT", "LICENSE-APACHE", "CHANGELOG.md", "README.md", "PROOF",
 )
 """Files of the archive of the programs, among others."""
@@ -101,10 +102,15 @@ class Release:
         run(["cc", "-g", f"-ffile-prefix-map={self.folder}=.", "-fPIC", "-c", str(source), "-o", "built.o"], self.folder)
         run(["ar", "rcsD", str(self.out[-1]), "built.o"], self.folder)
 
-    def keep(self, lines: dict[str, str]) -> None:
-        """Stores verdict lines, as a proof does."""
-        code = f"import prove\nfor name, line in {lines!r}.items():\n    prove.keep_verdict(name, prove.sources(name), line)\n"
+    def keep(self, lines: dict[str, str], made: str = "prove.products(name)") -> None:
+        """Stores verdict lines, and that these files were built, as a proof does."""
+        code = f"import prove\nfor name, line in {lines!r}.items():\n    prove.keep_verdict(name, prove.sources(name), line, {made})\n"
         subprocess.run([sys.executable, "-c", code], cwd=self.tree, env=self.environment, check=True)
+
+    def is_released(self) -> bool:
+        """Whether prove.py has nothing left to do for a release."""
+        command = [sys.executable, "prove.py", "is-released"]
+        return subprocess.run(command, cwd=self.tree, env=self.environment, check=False).returncode == 0
 
     def script(self, name: str, *words: str) -> subprocess.CompletedProcess[str]:
         """Runs a script of release/ on the stand-ins."""
@@ -171,6 +177,26 @@ def refuses(release: Release) -> str | None:
     release.build()
     release.keep({name: LINE for name in released()})
     return wrong
+
+
+def is_recognised(release: Release) -> str | None:
+    """What is proved and built is recognised, and nothing else: neither a changed program or source, nor a missing line or archive. A line
+    alone binds no file; with the files that were built before from the same sources it does."""
+    source, line = release.tree / f"crates/{below('thpsplit')[0]}/src/lib.rt", release.tree / "crates/thpcheck/out/verdict"
+    wrong = [] if release.is_released() else ["the release itself isn't"]
+    for path in (release.out[0], release.out[-1], source, line):
+        was = path.read_bytes()
+        changes: tuple[Callable[[], object], ...] = (partial(path.write_bytes, was + b"\n//"), path.unlink)
+        for change in changes:
+            change()
+            wrong += [f"{path.name} may be another, or missing"] if release.is_released() else []
+            path.write_bytes(was)
+    line.unlink()
+    release.keep({"thpcheck": LINE}, "()")
+    wrong += ["a line alone binds the program"] if release.is_released() else []
+    release.keep({"thpcheck": ""})
+    wrong += [] if release.is_released() else ["a line and a program of the same sources aren't"]
+    return "; ".join(wrong) or None
 
 
 def packages_state(release: Release) -> str | None:
@@ -281,6 +307,7 @@ def main() -> None:
             tally.skip("the release", str(missing))
             tally.end()
         tally.run("what a release refuses", partial(refuses, release))
+        tally.run("what is built is recognised", partial(is_recognised, release))
         tally.run("what the packages state", partial(packages_state, release))
         tally.run("the same bytes from a clone", partial(is_reproducible, release))
         tally.run("archives, PROOF and binaries", partial(archives_differ, release))

@@ -109,7 +109,7 @@ WRONG = (
     Wrong(C, "thp_pass_callers", CALLERS, "thp_code code = (thp_code)thp_c_pass_callers(&copy, first, end); *first = 0; return code;"),
     # the caller's own handle is written, or a pointer isn't tested
     *(Wrong(C, f"thp_{what}", "&copy", f"((void)copy, (thp_{what.split('_')[0]} *){what.split('_')[0]})")
-      for what in ("node_page", "node_mapcount", "node_queue", "pass_callers")),
+      for what in ("node_page", "node_mapcount", "node_queue", "node_queue_length", "node_stats", "node_journal", "pass_callers")),
     *(Wrong(C, "thp_node_page", old, "") for old in ("node == NULL || ", " || state == NULL")),
     *(Wrong(C, "thp_node_mapcount", old, "") for old in ("node == NULL || ", " || own == NULL")),
     *(Wrong(C, "thp_node_queue", old, "") for old in ("node == NULL || ", "(pages == NULL && room != 0) || ", " || count == NULL")),

@@ -65,7 +65,7 @@ static void made_and_given_back(void) {
     ANSWERS(thp_node_destroy(&node), THP_OK);
 }
 
-/* each call on a handle that leads to nothing tells that, and nothing else */
+/* each call on an empty handle returns THP_EMPTY, and does nothing else */
 static void empty_handle(void) {
     thp_node node = EMPTY;
     uint64_t page = 7;

@@ -159,8 +159,9 @@ impl<H: HasBatches> Iterator for Tries<'_, '_, H> {
 impl<H: HasBatches> Drop for Batch<'_, H> {
     fn drop(&mut self) {
         if self.is_open {
-            // on failure the batch stays open, as the type's description says
-            let _ = self.of.put_back(self.caller);
+            // on failure the batch stays open, as the type's description says; nothing else can have closed it
+            let back = self.of.put_back(self.caller);
+            debug_assert_ne!(back.err(), Some(Fault::NoBatch));
         }
     }
 }
