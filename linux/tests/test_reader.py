@@ -11,8 +11,8 @@ from concurrent.futures import ThreadPoolExecutor
 from typing import Any, Tuple
 from unittest import mock
 
-from ...common.files import BASE
-from ..reader import PIECE, Reader, begin, load_library
+from ..common.files import BASE
+from ..common.reader import PIECE, Reader, begin, load_library
 
 
 @unittest.skipUnless(shutil.which(os.environ.get("CC", "cc")) or shutil.which("gcc"), "no C compiler")

@@ -1,4 +1,4 @@
-/* What a snapshot reads in bulk, as a shared library for linux/whatif/reader.py.
+/* What a snapshot reads in bulk, as a shared library for linux/common/reader.py.
  *
  *   walk_process    how a process maps huge anonymous pages
  *   find_changed    which of these it no longer maps so

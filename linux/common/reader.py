@@ -25,14 +25,14 @@ from dataclasses import dataclass, replace
 from functools import lru_cache, partial
 from typing import Callable, Deque, Dict, Iterator, List, Optional, Sequence, Set, Tuple, TypeVar
 
-from ..common.direct_map import DirectMap
-from ..common.errors import Unavailable
-from ..common.files import BASE
-from ..common.helpers import helper
-from ..common.page_files import PageFlag
-from ..common.subpages import bits_of
+from .direct_map import DirectMap
+from .errors import Unavailable
+from .files import BASE
 from .folios import Folio, Mapping, compact_counts
+from .helpers import helper
+from .page_files import PageFlag
 from .proc import Unreadable, locked_bytes, path_of
+from .subpages import bits_of
 
 Progress = Callable[[str, int, int], None]  # what is done, how many of how many
 Result = TypeVar("Result")
@@ -81,7 +81,7 @@ assert PIECE.size == ctypes.sizeof(Piece)
 @lru_cache(maxsize=None)
 def load_library() -> ctypes.CDLL:
     """Loads the C helper. Unavailable where it isn't built and there is no compiler."""
-    library = ctypes.CDLL(helper("whatif/pages.c", ["-shared", "-fPIC"]))
+    library = ctypes.CDLL(helper("common/pages.c", ["-shared", "-fPIC"]))
     number, long, pointer = ctypes.c_int, ctypes.c_long, ctypes.c_void_p
     library.walk_process.argtypes = [number, number, number, pointer, pointer, long, pointer]
     library.walk_process.restype = long
