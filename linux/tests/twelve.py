@@ -37,7 +37,8 @@ ROWS: Dict[str, Tuple[List[str], List[str]]] = {
     "python3": (["--underused", "100"], [*LARGE, PYTHON, str(RECORDER / "strings.py"), "1", "40"]),
     "sqlite3": (["--underused", "100", "--seconds", "6"], [*LARGE, "sh", "-c", f"sqlite3 :memory: < {WHATIF / 'blobs.sql'}"]),
     "sort": (["--underused", "100"], [*LARGE, "sh", "-c", NUMBERS]),
-    "gcc": (["--underused", "100", "--every", "0.2"], [*LARGE, "g++", "-std=c++17", "-O2", "-c", "-o", "/dev/null", str(WHATIF / "heavy.cpp")]),
+    "gcc": (["--underused", "100", "--every", "0.5", "--seconds", "15"], [
+        *LARGE, "g++", "-std=c++17", "-O2", "-c", "-o", "/dev/null", str(WHATIF / "heavy.cpp")]),
     "java": (["--underused", "100", "--seconds", "15"], [
         "java", "-XX:+UseTransparentHugePages", "-Xms16m", "-Xmx600m", str(RECORDER / "Heap.java")]),
     "fork": (["--own", "1,2000,1"], []),
