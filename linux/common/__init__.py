@@ -13,6 +13,9 @@
     groups          Groups: memory control groups of version 1 or 2, and a reclaim in one
     shrinker_debug  ShrinkerFile: scans of exactly so many pages of a queue, by debugfs
     page_files      pagemap of a process, kpageflags, kpagecount, kpagecgroup; the flags by name
+    proc            files of processes and of control groups, read as bytes
+    folios          Folio: a huge page as it was read
+    reader          Reader: the huge pages that processes map, how they map them, and which subpages are zero-filled
     direct_map      content of page frames, read by the kernel's map of all memory
     counters        the statistics of /proc/vmstat and of each page size; CounterWatch: whether others move them
     bpf             the bpf system call, an assembler of BPF programs, maps

@@ -20,6 +20,7 @@ ALIGNED = 1 << 30  # the map begins at a multiple of that
 FARTHEST = 1 << 14  # GiB of frames that are tried
 MOST = 64  # subpages of a run of the program
 GLANCE, REST = 64, 448  # bytes of a subpage that are read first, and then at a time: what a program's stack holds
+# always ascending: a look at a later place first makes the processor read memory a third slower
 
 
 class DirectMap:
@@ -62,7 +63,7 @@ def build_zero_program() -> Assembler:
     code = Assembler().move(9, 1).load(6, 9, 0).load(7, 9, 8).jump("fails", ">", 7, MOST)
     code.shift_left(7, 12).add_register(7, 6).set(8, 0).set(2, 1).store(9, 24, 2)  # r7: the end, r8: the set
     code.label("next").jump("done", ">=", 6, right=7).loop_end("fails")
-    places = [(0, GLANCE), (BASE // 2, GLANCE)] + [(at, REST) for at in range(GLANCE, BASE, REST)]
+    places = [(0, GLANCE)] + [(at, REST) for at in range(GLANCE, BASE, REST)]
     for offset, length in places:
         code.move(3, 6).read_kernel(-length, length, offset).jump("fails", "!=", 0, 0).load(1, 10, -length)
         for at in range(8, length, 8):

@@ -7,7 +7,6 @@ no part of /run, from which programs may not be run on Debian.
 
 from __future__ import annotations
 
-import hashlib
 import os
 import shlex
 import shutil
@@ -67,6 +66,8 @@ def own_folder_of_helpers() -> Path:
 
 def hash_of(path: Path, words: List[str], libraries: Sequence[str]) -> str:
     """Returns the hash of a source, of the compiler's words and of archives."""
+    import hashlib  # which loads OpenSSL; installed tools don't need it
+
     parts = [path.read_bytes(), *(word.encode() for word in (*words, *libraries))]
     parts += [Path(library).read_bytes() for library in libraries if not library.startswith("-")]
     return hashlib.sha256(b"\0".join(parts)).hexdigest()[:32]

@@ -3,6 +3,7 @@
 from __future__ import annotations
 
 import re
+import sys
 from typing import Iterator, Tuple
 
 from .errors import InputFault
@@ -26,7 +27,7 @@ def runs(bits: int) -> Iterator[Tuple[int, int]]:
 
 def size(bits: int) -> int:
     """Returns how many subpages a set has."""
-    return bin(bits).count("1")
+    return bits.bit_count() if sys.version_info >= (3, 10) else bin(bits).count("1")
 
 
 def set_text(bits: int) -> str:

@@ -10,8 +10,8 @@ from ..common.direct_map import DirectMap
 from ..common.errors import Unavailable
 from ..common.files import PMD_ORDER, read_bytes
 from ..common.kernel_memory import KernelMemory
-from ..whatif.proc import Unreadable
-from ..whatif.reader import Reader
+from ..common.proc import Unreadable
+from ..common.reader import Reader
 from .records import Kind, Record, pack_record
 
 MOST_MEMORY = 64  # MiB of one look

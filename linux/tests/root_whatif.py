@@ -40,8 +40,8 @@ from linux.common.page_files import frames_at  # noqa: E402
 from linux.common.program import find_program  # noqa: E402
 from linux.common.user import NOBODY  # noqa: E402
 from linux.tests.cases import Cases, Missing  # noqa: E402
-from linux.whatif.folios import full_set  # noqa: E402
-from linux.whatif.reader import CONTENT, load_library  # noqa: E402
+from linux.common.folios import full_set  # noqa: E402
+from linux.common.reader import CONTENT, load_library  # noqa: E402
 
 WHATIF = str(ROOT / "linux/whatif/thpwhatif")
 SOURCE = ROOT / "linux/tests/hostile_pages.c"

@@ -38,7 +38,7 @@ MERGED = re.compile("/(bin|sbin|lib|lib64)/")
 PASSWD = "root:x:0:0:root:/root:/bin/sh\nnobody:x:65534:65534:nobody:/nonexistent:/usr/sbin/nologin\n"
 GROUP = "root:x:0:\nnogroup:x:65534:\n"
 HELPERS = (("replay/mapper.c", ()), ("record/workload.c", ()), ("whatif/known.c", ()), ("common/btf.c", ("-shared", "-fPIC")),
-           ("whatif/pages.c", ("-shared", "-fPIC")))
+           ("common/pages.c", ("-shared", "-fPIC")))
 
 
 @dataclass(frozen=True)

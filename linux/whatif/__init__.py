@@ -1,9 +1,6 @@
 """How much memory would the shrinker of transparent huge pages free now? The program is thpwhatif (docs/WHATIF.md).
 
-    folios       a huge page as it was read; sets of subpages
-    reader       the huge pages that processes map, from /proc
-    queues       what the kernel's own structures contain of them, by BPF
-    proc         files of /proc and of control groups, read as bytes
+    queues       what the kernel's own structures contain of huge pages, by BPF; linux/common/reader has all else of them
     processes    which processes are looked at
     rights       the rights that the tool has, tried on what it needs
     snapshot     all of it together, and what was left out

@@ -14,9 +14,9 @@ from concurrent.futures import ThreadPoolExecutor
 from typing import Deque, Dict, List, NamedTuple, Optional, Sequence, Tuple
 
 from ..common.errors import RunFailed
+from ..common.folios import Folio, full_set
 from ..common.program import Program
 from ..common.subpages import bits_of, size
-from .folios import Folio, full_set
 from .page_commands import NotExpressible, PagePlan, dropped_zeros, owners_of, plan_page
 from .predictor import Fate, Predictor, Row, Share, owner, sum_of
 from .scripts import BLOCKS, MANY, TAKE, Group, Script, name_of, write_scripts

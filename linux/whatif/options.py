@@ -7,9 +7,9 @@ import argparse
 from ..common.arguments import OneLineParser, seconds, whole
 from ..common.errors import InputFault
 from ..common.hold import LIMIT
+from ..common.reader import MEMORY
 from ..common.version import add_version
 from .processes import ProcessChoice
-from .reader import MEMORY
 from .snapshot import NAME, LookOptions
 
 MOST_PROCESS = 1 << 22  # the kernel's limit of process numbers

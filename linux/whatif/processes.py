@@ -6,11 +6,11 @@ import os
 from dataclasses import dataclass, field
 from typing import List, Set
 
+from ..common import proc
 from ..common.errors import InputFault
 from ..common.groups import checked_group
+from ..common.proc import has_memory, members
 from ..common.text import escape
-from . import proc
-from .proc import has_memory, members
 
 
 @dataclass

@@ -10,7 +10,6 @@ import time
 from contextlib import ExitStack, contextmanager, suppress
 from typing import TYPE_CHECKING, Any, Callable, Dict, Iterator, List, Mapping, NoReturn, Optional, Sequence, Union
 
-from ..common.checker import find_checker
 from ..common.errors import DIFFERS, DONE, InputFault
 from ..common.files import create, read_input
 from ..common.program import Program
@@ -367,6 +366,7 @@ def command_verify(options: argparse.Namespace) -> int:
 
 def command_policies(options: argparse.Namespace) -> int:
     """Tries policies on journals."""
+    from ..common.checker import find_checker
     from .policies import IllegalJournal, best_of, policies_of, policy_table, read_recording, try_policies
     from .policies_picture import policies_picture
 

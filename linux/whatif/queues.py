@@ -15,9 +15,9 @@ from typing import Callable, Dict, Iterable, List, Set
 from ..common.bpf import SLEEPABLE, ProgramType, load_program
 from ..common.btf import Types
 from ..common.errors import Unavailable
+from ..common.folios import Folio, even_counts
 from ..common.kernel_memory import KernelMemory, build_copier
-from .folios import Folio, even_counts
-from .reader import load_library
+from ..common.reader import load_library
 
 HEADS = 4  # struct pages that a struct folio lies over
 BATCH = 1024  # pages that are read at a time

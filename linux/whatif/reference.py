@@ -9,7 +9,7 @@ from __future__ import annotations
 
 from typing import List, Optional
 
-from .folios import Folio
+from ..common.folios import Folio
 
 
 def given_back(folio: Folio, max_ptes_none: int, locked_are_tried: bool = False) -> Optional[List[bool]]:

@@ -11,7 +11,7 @@ from typing import Iterable
 from ..common.errors import Unavailable
 from ..common.files import BASE
 from ..common.page_files import NumberFile, frame_of_entry
-from .proc import missing_capabilities
+from ..common.proc import missing_capabilities
 
 
 def demand_root() -> None:

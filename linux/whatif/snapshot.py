@@ -15,18 +15,18 @@ from typing import Any, Dict, Iterator, List, Optional, Set, Tuple
 from ..common.direct_map import DirectMap
 from ..common.errors import Unavailable
 from ..common.files import BASE, PMD_ORDER, PTES_NONE, SWITCH, read
+from ..common.folios import Folio
 from ..common.groups import find_hierarchy
 from ..common.hold import LIMIT, hold_processes
 from ..common.keeper import Keeper
 from ..common.kernel_memory import KernelMemory
 from ..common.machine import namespace_note
+from ..common.proc import Unreadable, anonymous_huge, group_names, machine_huge, name_of
+from ..common.reader import MEMORY, MOVED, Progress, Reader
 from ..common.text import escape
-from .folios import Folio
 from .page_commands import NotExpressible, PagePlan, plan_page
-from .proc import Unreadable, anonymous_huge, group_names, machine_huge, name_of
 from .processes import ProcessChoice
 from .queues import Queues, keep_lasting_pins
-from .reader import MEMORY, MOVED, Progress, Reader
 from .rights import demand_frames, demand_reading, demand_signals
 from .scripts import Script, write_scripts
 

@@ -9,7 +9,7 @@ from collections import Counter
 from typing import Any, Callable, Dict, NoReturn
 
 from ..common.errors import InputFault
-from .folios import flag_of, folio_of, number_of
+from ..common.folios import flag_of, folio_of, number_of
 from .snapshot import VERSION, Snapshot, Sums
 
 MOST = (1 << 63) - 1

@@ -29,21 +29,21 @@ from ..common.counters import Counter as Statistic
 from ..common.counters import CounterWatch, counts
 from ..common.errors import DIFFERS, DONE, INCONCLUSIVE, InputFault, RunFailed
 from ..common.files import BASE, COLLAPSE_SLEEP, PMD_ORDER, PTES_NONE, SWITCH, THP, OwnFolder, size_folder
+from ..common.folios import Folio
 from ..common.groups import Groups
 from ..common.hold import LIMIT, hold_processes
 from ..common.keeper import Keeper
 from ..common.page_files import Frames, PageFlag, frame_of_entry
+from ..common.proc import members
 from ..common.program import Program
+from ..common.reader import OpenFiles
 from ..common.subpages import size
 from ..common.text import escape
 from ..common.user import User
-from .folios import Folio
 from .known_pages import KnownPages
 from .page_commands import Reason
 from .predictor import OFF, Predictor, label
-from .proc import members
 from .processes import ProcessChoice
-from .reader import OpenFiles
 from .reference import given_back
 from .snapshot import NAME, LookOptions, Scripts, Snapshot, SnapshotTaker, write_snapshot
 

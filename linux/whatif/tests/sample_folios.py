@@ -6,9 +6,9 @@ import random
 from typing import Any, Optional
 
 from ...common.errors import Unavailable
+from ...common.folios import Folio, Mapping
 from ...common.program import Program
 from ...common.subpages import bits_of
-from ..folios import Folio, Mapping
 
 
 def folio(number: int = 0, order: int = 9, **facts: Any) -> Folio:

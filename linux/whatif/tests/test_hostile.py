@@ -17,13 +17,14 @@ from pathlib import Path
 from typing import Any, Dict, Iterator, List, Sequence, Tuple
 from unittest import mock
 
+from ...common import proc
 from ...common.errors import InputFault, RunFailed, Unavailable
 from ...common.files import BASE
+from ...common.folios import compact_counts, even_counts
 from ...common.program import TextError
-from .. import proc, program
-from ..folios import compact_counts, even_counts
+from ...common.reader import Spans, load_library
+from .. import program
 from ..page_commands import plan_page
-from ..reader import Spans, load_library
 from ..scripts import MARK, read_script, write_scripts
 from ..snapshot import write_snapshot
 from ..stored import from_json

@@ -9,9 +9,9 @@ from pathlib import Path
 from typing import List
 
 from ...common.errors import RunFailed
+from ...common.folios import Folio
 from ...common.program import Program
 from ...common.subpages import bits_of, size
-from ..folios import Folio
 from ..kinds import KindPredictor, count_pinned, kind_of, page_of
 from ..page_commands import NotExpressible, PagePlan, plan_page
 from ..predictor import DEFAULT, OFF, Fate, Predictor, find_highest

@@ -7,8 +7,8 @@ import unittest
 from collections import Counter
 from typing import Any, Dict, List, Tuple
 
+from ...common.folios import Folio, Mapping
 from ...common.subpages import bits_of
-from ..folios import Folio, Mapping
 from ..page_commands import LEVELS, NotExpressible, Reason, commands_before, commands_of, levels_of, plan_page
 from ..snapshot import Snapshot
 from .sample_folios import folio, holed_folio

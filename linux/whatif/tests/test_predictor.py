@@ -9,8 +9,8 @@ from pathlib import Path
 from typing import Dict, List
 
 from ...common.errors import InputFault
+from ...common.folios import Folio, Mapping
 from ...common.subpages import bits_of, size
-from ..folios import Folio, Mapping
 from ..page_commands import NotExpressible, plan_page
 from ..predictor import OFF, Predictor, Row, find_highest, label, sum_of, thresholds_of, with_today
 from ..reference import given_back

@@ -11,8 +11,8 @@ from concurrent.futures import ThreadPoolExecutor
 from typing import Any, Tuple
 from unittest import mock
 
-from ...common.files import BASE
-from ..reader import begin, load_library
+from ..common.files import BASE
+from ..common.reader import PIECE, Reader, begin, load_library
 
 
 @unittest.skipUnless(shutil.which(os.environ.get("CC", "cc")) or shutil.which("gcc"), "no C compiler")
@@ -43,6 +43,36 @@ class Zeros(unittest.TestCase):
     def test_what_is_not_mapped_is_not_known(self) -> None:
         self.at = 0
         self.assertEqual(self.found(3), (0, 7))
+
+
+@unittest.skipUnless(os.geteuid() == 0, "not root")
+class Changes(unittest.TestCase):
+    def changed(self, process: int, pieces: bytes) -> bytes:
+        """A byte of each piece of a process: whether it has changed."""
+        out = ctypes.create_string_buffer(len(pieces) // PIECE.size)
+        with open("/proc/kpageflags", "rb") as flags:
+            load_library().find_changed(process, flags.fileno(), pieces, len(out), out)
+        return out.raw
+
+    def test_pages_that_are_freed_or_moved_have_changed(self) -> None:
+        memory = mmap.mmap(-1, 5 << 21, flags=mmap.MAP_PRIVATE | mmap.MAP_ANONYMOUS)
+        first = -ctypes.addressof(ctypes.c_char.from_buffer(memory)) % (1 << 21)
+        memory.madvise(14)  # MADV_HUGEPAGE
+        for number in range(4):
+            memory[first + (number << 21)] = 1
+        reader = Reader(threads=1)
+        self.addCleanup(reader.close)
+        walk = reader.walk(os.getpid(), 64)
+        places = [piece[0] for piece in PIECE.iter_unpack(walk.pieces)]
+        at = ctypes.addressof(ctypes.c_char.from_buffer(memory)) + first
+        own = [places.index(at + (number << 21)) for number in range(4) if at + (number << 21) in places]
+        if len(own) < 4:
+            self.skipTest("there are no huge pages here")
+        self.assertEqual([self.changed(os.getpid(), walk.pieces)[i] for i in own], [0, 0, 0, 0])
+        memory.madvise(mmap.MADV_DONTNEED, first, 1 << 21)
+        memory.madvise(mmap.MADV_DONTNEED, first + (2 << 21), BASE)
+        self.assertEqual([self.changed(os.getpid(), walk.pieces)[i] for i in own], [1, 0, 1, 0])
+        self.assertEqual(set(self.changed(1 << 22, walk.pieces)), {1})
 
 
 class Work(unittest.TestCase):

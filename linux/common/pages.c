@@ -1,6 +1,7 @@
-/* What a snapshot reads in bulk, as a shared library for linux/whatif/reader.py.
+/* What a snapshot reads in bulk, as a shared library for linux/common/reader.py.
  *
  *   walk_process    how a process maps huge anonymous pages
+ *   find_changed    which of these it no longer maps so
  *   find_locked     the address ranges of its locked VMAs
  *   find_zeros      which subpages of a range are zero-filled, by /proc/PID/mem
  *   scan_frames     the same of many huge pages, by a BPF program, in threads
@@ -218,6 +219,25 @@ long walk_process(int pid, int flags_file, int with_small, known *known, struct 
     close(w.map);
     *sums = (struct sums){ w.lost, w.small, w.others, w.changed };
     return w.found;
+}
+
+/* Whether the first subpage of a piece is mapped as before, and its frames are still one huge page. */
+static int is_unchanged(int map, int flags_file, const struct piece *p) {
+    uint64_t first = 0, entry, front[2], last;
+    while (first < BLOCK - 1 && !(p->set[first / 64] >> first % 64 & 1)) first++;
+    if (pread(map, &entry, 8, (p->address / BASE + first) * 8) != 8 || frame_of(entry) != p->head + first) return 0;
+    if (pread(flags_file, front, 16, p->head * 8) != 16) return 0;
+    if (pread(flags_file, &last, 8, (p->head + (1ul << p->order) - 1) * 8) != 8) return 0;
+    return front[0] & HEAD && front[0] & ANON && front[1] & last & TAIL;
+}
+
+/* Sets a byte of `changed` for each of a process's `count` pieces that is no longer as `walk_process` found it. */
+void find_changed(int pid, int flags_file, const struct piece *pieces, long count, char *changed) {
+    char path[64];
+    snprintf(path, sizeof path, "/proc/%d/pagemap", pid);
+    int map = open(path, O_RDONLY | O_CLOEXEC);
+    for (long i = 0; i < count; i++) changed[i] = map < 0 || !is_unchanged(map, flags_file, &pieces[i]);
+    if (map >= 0) close(map);
 }
 
 struct span { uint64_t low, high; };

@@ -8,7 +8,7 @@ from dataclasses import dataclass, field
 from functools import lru_cache
 from typing import Any, Callable, Dict, Iterable, Iterator, List, NamedTuple, Optional, Sequence, Tuple
 
-from ..common.files import PMD_ORDER
+from .files import PMD_ORDER
 
 MOST_MAPPED = (1 << 32) - 1  # mappings of a subpage that are counted
 

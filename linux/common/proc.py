@@ -10,8 +10,8 @@ import os
 import re
 from typing import Dict, Iterator, List, Optional, Set
 
-from ..common.files import read_bytes
-from ..common.text import escape, lines
+from .files import read_bytes
+from .text import escape, lines
 
 ROOT = "/proc"  # tests put another folder here
 CAPABILITIES = {"CAP_KILL": 5, "CAP_SYS_PTRACE": 19, "CAP_SYS_ADMIN": 21, "CAP_PERFMON": 38, "CAP_BPF": 39}

@@ -25,21 +25,20 @@ from dataclasses import dataclass, replace
 from functools import lru_cache, partial
 from typing import Callable, Deque, Dict, Iterator, List, Optional, Sequence, Set, Tuple, TypeVar
 
-from ..common.direct_map import DirectMap
-from ..common.errors import Unavailable
-from ..common.files import BASE
-from ..common.helpers import helper
-from ..common.page_files import PageFlag, frame_of_entry
-from ..common.subpages import bits_of
+from .direct_map import DirectMap
+from .errors import Unavailable
+from .files import BASE
 from .folios import Folio, Mapping, compact_counts
+from .helpers import helper
+from .page_files import PageFlag
 from .proc import Unreadable, locked_bytes, path_of
+from .subpages import bits_of
 
 Progress = Callable[[str, int, int], None]  # what is done, how many of how many
 Result = TypeVar("Result")
 MOVED = "huge pages that changed while they were read"
 PARTS_MOVED = "parts of huge pages that changed while they were read"
 SMALL = "huge pages below PMD size (--orders has them)"
-HEAD, TAIL, ANON = int(PageFlag.COMPOUND_HEAD), int(PageFlag.COMPOUND_TAIL), int(PageFlag.ANON)
 MLOCKED, POISONED = int(PageFlag.MLOCKED), int(PageFlag.HWPOISON)
 SWAP_CACHE, SWAP_BACKED = int(PageFlag.SWAPCACHE), int(PageFlag.SWAPBACKED)
 SAMPLE = 64  # huge pages that are read twice
@@ -75,16 +74,19 @@ class WalkSums(ctypes.Structure):
 
 CONTENT = struct.Struct("<QII64s")  # struct content of pages.c
 PIECE = struct.Struct("<QQQIIII64s")  # the same as Piece, unpacked in one call
+HEAD_OF = struct.Struct("<8xQ")  # the frame of a piece
 assert PIECE.size == ctypes.sizeof(Piece)
 
 
 @lru_cache(maxsize=None)
 def load_library() -> ctypes.CDLL:
     """Loads the C helper. Unavailable where it isn't built and there is no compiler."""
-    library = ctypes.CDLL(helper("whatif/pages.c", ["-shared", "-fPIC"]))
+    library = ctypes.CDLL(helper("common/pages.c", ["-shared", "-fPIC"]))
     number, long, pointer = ctypes.c_int, ctypes.c_long, ctypes.c_void_p
     library.walk_process.argtypes = [number, number, number, pointer, pointer, long, pointer]
     library.walk_process.restype = long
+    library.find_changed.argtypes = [number, number, pointer, long, pointer]
+    library.find_changed.restype = None
     library.find_locked.argtypes = [number, pointer, long]
     library.find_locked.restype = long
     library.find_zeros.argtypes = [number, ctypes.c_uint64, long, pointer, pointer, pointer]
@@ -161,6 +163,7 @@ class Reader:
         self._locked: Dict[int, Spans] = {}  # by process
         self._readable: Dict[int, bool] = {}  # by process
         self._pieces = self._spans = 0  # how many are kept
+        self._walked: Dict[int, bytes] = {}  # the pieces of each process that has any
         self._sample: List[Tuple[Folio, Folio]] = []
         self.folios: Dict[int, Folio] = {}  # by frame
         self.left_out: Counter[str] = Counter()
@@ -219,6 +222,8 @@ class Reader:
             self._spans += len(spans)
         for piece in PIECE.iter_unpack(walk.pieces):
             self._take(*piece)
+        if found:
+            self._walked[process] = walk.pieces
         self._pieces += found
         self.others += sums.others
         for why, count in ((PARTS_MOVED, sums.changed), (SMALL, sums.small), (self.beyond, sums.lost)):
@@ -362,26 +367,14 @@ class Reader:
     def check_again(self) -> None:
         """Leaves out, and counts, huge pages that moved, were split or freed while they were read."""
         began = time.monotonic()
-        gone = {frame for frame, folio in self.folios.items() if not self._is_whole(folio)}
-        mapped: Dict[int, List[Tuple[int, Mapping]]] = {}
-        for frame, folio in self.folios.items():
-            for mapping in folio.mappings:
-                mapped.setdefault(mapping.process, []).append((frame, mapping))
-        for process, own in mapped.items():
-            with OpenFiles("pagemap") as maps:
-                file = maps.descriptor_of(process)
-                gone.update(frame for frame, mapping in own if not is_mapped(file, frame, mapping))
-        for frame in gone:
-            del self.folios[frame]
-        if gone:
-            self.left_out[MOVED] += len(gone)
+        for process, pieces in self._walked.items():
+            changed = ctypes.create_string_buffer(len(pieces) // PIECE.size)
+            self._library.find_changed(process, self._files[0], pieces, len(changed), changed)
+            for index in (index for index, has_changed in enumerate(changed.raw) if has_changed != 0):
+                if self.folios.pop(HEAD_OF.unpack_from(pieces, index * PIECE.size)[0], None):
+                    self.left_out[MOVED] += 1
+        self._walked = {}
         self.spent["second look"] += time.monotonic() - began
-
-    def _is_whole(self, folio: Folio) -> bool:
-        """Returns whether the page's frames are still one huge page."""
-        front = struct.unpack("<2Q", os.pread(self._files[0], 16, 8 * folio.frame).ljust(16, b"\0"))
-        last = int.from_bytes(os.pread(self._files[0], 8, 8 * (folio.frame + folio.size - 1)), "little")
-        return bool(front[0] & HEAD and front[0] & ANON and front[1] & last & TAIL)
 
     def read_sample(self) -> None:
         """Reads some pages a second time; `finish` compares them."""
@@ -416,16 +409,6 @@ def begin(pool: ThreadPoolExecutor, work: Callable[[], Result]) -> Future[Result
         done: Future[Result] = Future()
         done.set_result(work())
         return done
-
-
-def is_mapped(file: int, frame: int, mapping: Mapping) -> bool:
-    """Returns whether a process maps the first subpage of a mapping where it did, by its open pagemap."""
-    first = (mapping.subset & -mapping.subset).bit_length() - 1
-    try:
-        raw = os.pread(file, 8, (mapping.address // BASE + first) * 8)
-    except OSError:
-        return False
-    return frame_of_entry(int.from_bytes(raw, "little")) == frame + first
 
 
 class OpenFiles:
