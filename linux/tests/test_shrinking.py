@@ -97,7 +97,7 @@ class ShrinkTest(unittest.TestCase):
         self.assertEqual([" ".join(each.words) for each in found[0].commands[:3]], ["alloc 0", "scan 0 9", "count 0"])
         self.assertEqual([len(each.commands) for each in found], [7])
         program = InProcessProgram("splits-pinned")
-        pinned = script_of("x", "# thpsplit --order 3\nsetup\nalloc 0\npin 0 0\nsplitpmd 0 0\nunmap 0 0 0 1\n" + batch)
+        pinned = script_of("x", "# thpsplit --orders 3\nsetup\nalloc 0\npin 0 0\nsplitpmd 0 0\nunmap 0 0 0 1\n" + batch)
         small = Shrinker(lambda each: run_on_model(each, program)).shrink(pinned, run_on_model(pinned, program))
         self.assertEqual([each.words[0] for each in small.script.commands()], ["alloc", "pin", "splitpmd", "unmap", "scan"])
 
