@@ -184,7 +184,8 @@ class ProgramBuilder(ProgramParts):
         code.bit_and(1, huge).jump("out", "!=", 1, huge)
         code.call(Helper.CURRENT_TASK).move(8, 0).move(3, 8).read_kernel(-8, 8, self._mm).load(1, 10, -8)
         code.store(10, -64, 1).jump("kernel", "==", 1, 0)
-        self._in_group(code.move(3, 8)).jump("ours")
+        self._in_group(code.move(3, 8), "another group").jump("ours")
+        self._count_inner(code.label("another group"))
         code.label("kernel").load(1, 6, 8).jump("out", "!=", 1, PMD_ORDER).label("ours")
         self._at_home(self._track(code.load(1, 6, 0)))
         self._output(self._record(code, Kind.ALLOC, [

@@ -25,7 +25,9 @@ BASE_BITS = 12
 BLOCKS = 4096  # bits of an address space, which then begin again
 BLOCKS_AT = 8  # after a word that says whether all of the space matters
 RANGE = 32  # blocks of 2 MiB of a call that are looked at; one that reaches more of them is sent
-LOST_AT, UNFILTERED_AT = 0, 1  # counters: records that found no room; address spaces that did
+LOST_AT, UNFILTERED_AT, INNER_AT = 0, 1, 2  # counters: records, address spaces without room; huge pages of inner groups
+COUNTERS = 3
+LEVELS = 8  # of control groups below the recorded one whose pages are counted
 ADDRESS_AT, CODE_AT = 0, 8  # of a task: its last fault (0: a call began since)
 NEXT_AT, ENTERED_AT = 16, 24  # whether its next event is sent in any case; whether the beginning of its call was sent
 HOW, FAULT_ADDRESS, FAULT_CODE = -152, -160, -168  # places on the stack
@@ -58,7 +60,7 @@ class Maps:
             create_map(MapType.LRU_HASH, 16, 8, HOMES),
             create_map(MapType.HASH, 8, BLOCKS_AT + BLOCKS // 8, SPACES),
             create_map(MapType.ARRAY, 4, BLOCKS_AT + BLOCKS // 8, 1),
-            create_map(MapType.ARRAY, 4, 8, 2, MMAPABLE),
+            create_map(MapType.ARRAY, 4, 8, COUNTERS, MMAPABLE),
             create_map(MapType.LRU_HASH, 8, 8, TASKS),
         )
 
@@ -82,15 +84,25 @@ class ProgramParts:
         return Assembler().move(6, 1)
 
     def _own_only(self, code: Assembler) -> Assembler:
-        """Leaves the program, except in tasks of the group."""
-        return self._in_group(code.call(Helper.CURRENT_TASK).move(3, 0))
+        """Leaves the program, except in tasks of the group, and of address spaces that have pages of the group: such a task has
+        left it. Spoils the place of a home."""
+        self._in_group(code.call(Helper.CURRENT_TASK).move(3, 0), "elsewhere").jump("own")
+        self._look_up(self._own_space(code.label("elsewhere")), self._maps.spaces, -64).jump("out", "==", 0, 0)
+        return code.label("own")
 
-    def _in_group(self, code: Assembler) -> Assembler:
-        """Leaves the program, unless the task at r3 is in the group."""
+    def _in_group(self, code: Assembler, otherwise: str = "out") -> Assembler:
+        """Goes to `otherwise`, unless the task at r3 is in the group. r1 = the group of the task."""
         at = self._memory.group_fields()
         code.read_kernel(-8, 8, at.task).load(3, 10, -8)
         code.read_kernel(-8, 8, at.css).load(1, 10, -8).set_wide(2, self._group)
-        return code.jump("out", "!=", 1, right=2)
+        return code.jump(otherwise, "!=", 1, right=2)
+
+    def _count_inner(self, code: Assembler) -> Assembler:
+        """Leaves the program, and counts where the group at r1 is below the recorded one."""
+        for _ in range(LEVELS):
+            code.move(3, 1).store_number(10, -8, 0).read_kernel(-8, 8, self._memory.group_fields().parent).load(1, 10, -8)
+            code.jump("out", "==", 1, 0).set_wide(2, self._group).jump("inner", "==", 1, right=2)
+        return self._increment(code.jump("out").label("inner"), INNER_AT, "out")
 
     def _look_up(self, code: Assembler, into: int, key: int) -> Assembler:
         """r0 = the map's value at the key at r10 + key, or 0."""
@@ -104,6 +116,11 @@ class ProgramParts:
     def _counter(self, code: Assembler, number: int) -> Assembler:
         """r0 = where a counter is, or 0."""
         return self._look_up(code.store_number(10, -4, number, 4), self._maps.counters, -4)
+
+    def _increment(self, code: Assembler, number: int, then: str) -> Assembler:
+        """Adds 1 to a counter, and goes to `then`."""
+        self._counter(code, number).jump(then, "==", 0, 0)
+        return code.set(1, 1).put(0xDB, 0, 1, 0, 0).jump(then)  # atomic
 
     # tasks and address spaces
 
@@ -227,8 +244,7 @@ class ProgramParts:
             if with_queue:
                 code.move(3, 9).shift_left(3, 3).add(3, FOLIOS_AT)
             code.call(Helper.RINGBUF_OUTPUT).jump(then, "==", 0, 0)
-        self._counter(code, LOST_AT).jump(then, "==", 0, 0).set(1, 1).put(0xDB, 0, 1, 0, 0)  # atomic add
-        return code.jump(then)
+        return self._increment(code, LOST_AT, then)
 
     def _end(self, code: Assembler) -> Assembler:
         return code.label("out").set(0, 0).exit()

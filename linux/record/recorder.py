@@ -6,7 +6,7 @@ import os
 import threading
 import time
 from dataclasses import dataclass
-from typing import Callable, List, Optional, Tuple
+from typing import Callable, Dict, List, Optional, Sequence, Tuple
 
 from ..common.files import COLLAPSE_SLEEP, COMPACT, PMD_ORDER, PTES_NONE, SWITCH, read, size_folder, write
 from ..common.groups import Groups
@@ -93,8 +93,9 @@ class Recorder:
             running = Commands(self._keeper, take)
             ended = self._run(running, commands, stores, take)
             lacking = traces[0].lacking
-            if running.has_inner_groups:
-                lacking.append("control groups were made in a recorded one: pages of their tasks aren't followed")
+            inner = count_inner_pages([path for path, _ in places], traces)
+            if inner or running.has_inner_groups:
+                lacking.append(f"control groups were made in a recorded one: {inner} huge pages of their tasks aren't followed")
             if any(trace.is_unfiltered() for trace in traces):
                 lacking.append("more address spaces than can be known: all records were kept from then on")
             lost = sum(trace.lost() for trace in traces)
@@ -157,6 +158,15 @@ class Recorder:
                     write(COMPACT, 1)
                 except OSError:
                     pass  # the next round tries it again
+
+
+def count_inner_pages(paths: Sequence[str], traces: Sequence[TracePrograms]) -> int:
+    """Returns how many huge pages were allocated in control groups below the recorded ones, by the path of each queue's group:
+    the programs of each of a group's queues count all of them."""
+    counts: Dict[str, int] = {}
+    for path, trace in zip(paths, traces):
+        counts[path] = max(counts.get(path, 0), trace.inner_pages())
+    return sum(counts.values())
 
 
 def settings_for(

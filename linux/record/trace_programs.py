@@ -12,7 +12,7 @@ from ..common.bpf import ProgramType, load_program, open_tracepoint
 from ..common.files import PMD_ORDER
 from ..common.kernel_memory import KernelMemory
 from .program_builder import ProgramBuilder
-from .program_parts import LOST_AT, UNFILTERED_AT, Maps
+from .program_parts import INNER_AT, LOST_AT, UNFILTERED_AT, Maps
 from .queue_places import QueuePlace
 from .ring import SIZE, Ring
 from .store import Store
@@ -42,6 +42,10 @@ class TracePrograms:
     def lost(self) -> int:
         """Returns how many records found no room."""
         return self._counter(LOST_AT)
+
+    def inner_pages(self) -> int:
+        """Returns how many huge pages were allocated in control groups below the recorded one."""
+        return self._counter(INNER_AT)
 
     def is_unfiltered(self) -> bool:
         """Returns whether there were too many address spaces to know which records matter, so that all are sent."""

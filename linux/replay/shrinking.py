@@ -173,6 +173,18 @@ def drop_node(draft: Draft, _outcome: Outcome) -> Iterator[Attempt]:
         yield from (partial(without_node, draft, node) for node in range(draft.options.nodes))
 
 
+def scan_batch(draft: Draft, _outcome: Outcome) -> Iterator[Attempt]:
+    """A scan instead of a batch that is taken, tried and put back."""
+    commands = draft.commands
+    for first, take in enumerate(commands):
+        node, end = take.words[1:2], first + 1
+        while end < len(commands) and [*commands[end].words] == ["splitnext", *node]:
+            end += 1
+        if take.words[0] == "take" and end < len(commands) and [*commands[end].words] == ["putback", *node]:
+            scan = Command(take.section, ("scan", *take.words[1:]))
+            yield partial(replace, draft, commands=(*commands[:first], scan, *commands[end + 1:]))
+
+
 def drop_part(draft: Draft, _outcome: Outcome) -> Iterator[Attempt]:
     """A run of commands, long ones first."""
     size = len(draft.commands) // 2
@@ -212,4 +224,4 @@ def switch_off(draft: Draft, _outcome: Outcome) -> Iterator[Attempt]:
     yield lambda: replace(draft, options=replace(options, underused=(None,) * options.nodes))
 
 
-STEPS: Sequence[Step] = (cut_end, join_sections, drop_node, drop_part, drop_pair, switch_off, lower_number)
+STEPS: Sequence[Step] = (cut_end, join_sections, drop_node, scan_batch, drop_part, drop_pair, switch_off, lower_number)

@@ -242,6 +242,24 @@ def groups_of_its_own_are_removed() -> Optional[str]:
     return done.wrong(SKIPPED, "control groups were made in a recorded one") or (str(left) if left else None)
 
 
+def run_groups(word: str, status: int, *texts: str) -> Optional[str]:
+    """Records groups.py with a word, as root; returns what is wrong."""
+    return run(["--", PYTHON, "-I", str(EXAMPLES / "groups.py"), word]).wrong(
+        status, "the command ended with status 0", " 0 queues that differ" if status == DONE else "empty: ", *texts)
+
+
+def tasks_that_change_their_group() -> Optional[str]:
+    return (run_groups("leaves", DONE, "8 of 8 pages followed", "8 queued, seen")
+            or run_groups("enters", DONE, "8 of 8 pages followed", "8 queued, seen"))
+
+
+def pages_of_groups_of_its_own_are_counted() -> Optional[str]:
+    text = "control groups were made in a recorded one: {} huge pages of their tasks aren't followed"
+    if find_hierarchy().version == 2:  # all of its tasks are in such groups
+        return run_groups("inner", SKIPPED, text.format(16))
+    return run_groups("inner", DONE, "8 of 8 pages followed", text.format(8))
+
+
 def pages_of_two_sizes() -> Optional[str]:
     words = ["--order", "9,4", "--every", "1", "--user", USER]
     return run([*words, "--", PYTHON, reachable(str(EXAMPLES / "two_sizes.py")), "150", "2"]).wrong(
@@ -294,7 +312,8 @@ def main() -> int:
     cases, before, files = Cases("root_record", SECONDS), settings(), sorted(os.listdir("/var/tmp"))
     each: List[Callable[[], Optional[str]]] = [
         no_such_command, bad_numbers, outputs_refused, outputs_are_the_callers, one_that_cannot_be_run,
-        status_of_the_command, groups_of_its_own_are_removed, pages_of_two_sizes, workers_that_share_a_node,
+        status_of_the_command, groups_of_its_own_are_removed, tasks_that_change_their_group,
+        pages_of_groups_of_its_own_are_counted, pages_of_two_sizes, workers_that_share_a_node,
         processes_that_share_a_node, runs_as_the_user, several_threads, bounded_without_events, bounded_with_events,
         copies_on_write, ended_by_seconds, ended_by_events, ended_though_it_ignores_that,
     ]

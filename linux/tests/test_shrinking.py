@@ -10,7 +10,7 @@ from ..common.errors import RunFailed
 from ..common.script import Script, script_of
 from ..replay.generator import Shape, scripts
 from ..replay.runner import Outcome, Result
-from ..replay.shrinking import Draft, Shrinker, SmallScript, drop
+from ..replay.shrinking import Draft, Shrinker, SmallScript, drop, scan_batch
 from .model_kernel import InProcessProgram, run_on_model
 
 MOST = {"unmap-short": 8, "splits-pinned": 8, "forgets-free": 8, "back-at-head": 9}
@@ -89,6 +89,17 @@ class ShrinkTest(unittest.TestCase):
 
         small = Shrinker(run).shrink(script, outcome)
         self.assertEqual((len(small.script.commands()), small.runs), (2, 2))
+
+    def test_a_batch_becomes_a_scan(self) -> None:
+        batch = "take 0 9\nsplitnext 0\nsplitnext 0\nputback 0\n"
+        script = script_of("x", f"# thpsplit --nodes 2\nsetup\nalloc 0\n{batch}count 0\n{batch.replace('splitnext 0', 'splitnext 1', 1)}")
+        found = [attempt() for attempt in scan_batch(Draft(script.options, tuple(script.commands())), Outcome(Result.DIFFERS))]
+        self.assertEqual([" ".join(each.words) for each in found[0].commands[:3]], ["alloc 0", "scan 0 9", "count 0"])
+        self.assertEqual([len(each.commands) for each in found], [7])
+        program = InProcessProgram("splits-pinned")
+        pinned = script_of("x", "# thpsplit --orders 3\nsetup\nalloc 0\npin 0 0\nsplitpmd 0 0\nunmap 0 0 0 1\n" + batch)
+        small = Shrinker(lambda each: run_on_model(each, program)).shrink(pinned, run_on_model(pinned, program))
+        self.assertEqual([each.words[0] for each in small.script.commands()], ["alloc", "pin", "splitpmd", "unmap", "scan"])
 
     def test_a_page_goes_with_its_commands(self) -> None:
         script = script_of("x", "setup\nalloc 0\nalloc 0\npin 0 0\npin 0 1\nscan 0 8\n")
