@@ -173,6 +173,11 @@ def drop_node(draft: Draft, _outcome: Outcome) -> Iterator[Attempt]:
         yield from (partial(without_node, draft, node) for node in range(draft.options.nodes))
 
 
+def with_commands(draft: Draft, commands: Tuple[Command, ...]) -> Draft:
+    """Returns a draft with these commands."""
+    return replace(draft, commands=commands)
+
+
 def scan_batch(draft: Draft, _outcome: Outcome) -> Iterator[Attempt]:
     """A scan instead of a batch that is taken, tried and put back."""
     commands = draft.commands
@@ -182,7 +187,7 @@ def scan_batch(draft: Draft, _outcome: Outcome) -> Iterator[Attempt]:
             end += 1
         if take.words[0] == "take" and end < len(commands) and [*commands[end].words] == ["putback", *node]:
             scan = Command(take.section, ("scan", *take.words[1:]))
-            yield partial(replace, draft, commands=(*commands[:first], scan, *commands[end + 1:]))
+            yield partial(with_commands, draft, (*commands[:first], scan, *commands[end + 1:]))
 
 
 def drop_part(draft: Draft, _outcome: Outcome) -> Iterator[Attempt]:
