@@ -173,6 +173,13 @@ def drop_node(draft: Draft, _outcome: Outcome) -> Iterator[Attempt]:
         yield from (partial(without_node, draft, node) for node in range(draft.options.nodes))
 
 
+def with_scan(draft: Draft, first: int, last: int) -> Draft:
+    """Returns a draft with a scan instead of the batch between the places of its `take` and its `putback`."""
+    take = draft.commands[first]
+    scan = Command(take.section, ("scan", *take.words[1:]))
+    return replace(draft, commands=(*draft.commands[:first], scan, *draft.commands[last + 1:]))
+
+
 def scan_batch(draft: Draft, _outcome: Outcome) -> Iterator[Attempt]:
     """A scan instead of a batch that is taken, tried and put back."""
     commands = draft.commands
@@ -181,8 +188,7 @@ def scan_batch(draft: Draft, _outcome: Outcome) -> Iterator[Attempt]:
         while end < len(commands) and [*commands[end].words] == ["splitnext", *node]:
             end += 1
         if take.words[0] == "take" and end < len(commands) and [*commands[end].words] == ["putback", *node]:
-            scan = Command(take.section, ("scan", *take.words[1:]))
-            yield partial(replace, draft, commands=(*commands[:first], scan, *commands[end + 1:]))
+            yield partial(with_scan, draft, first, end)
 
 
 def drop_part(draft: Draft, _outcome: Outcome) -> Iterator[Attempt]:
