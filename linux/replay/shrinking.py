@@ -173,9 +173,11 @@ def drop_node(draft: Draft, _outcome: Outcome) -> Iterator[Attempt]:
         yield from (partial(without_node, draft, node) for node in range(draft.options.nodes))
 
 
-def with_commands(draft: Draft, commands: Tuple[Command, ...]) -> Draft:
-    """Returns a draft with these commands."""
-    return replace(draft, commands=commands)
+def with_scan(draft: Draft, first: int, last: int) -> Draft:
+    """Returns a draft with a scan instead of the batch between the places of its `take` and its `putback`."""
+    take = draft.commands[first]
+    scan = Command(take.section, ("scan", *take.words[1:]))
+    return replace(draft, commands=(*draft.commands[:first], scan, *draft.commands[last + 1:]))
 
 
 def scan_batch(draft: Draft, _outcome: Outcome) -> Iterator[Attempt]:
@@ -186,8 +188,7 @@ def scan_batch(draft: Draft, _outcome: Outcome) -> Iterator[Attempt]:
         while end < len(commands) and [*commands[end].words] == ["splitnext", *node]:
             end += 1
         if take.words[0] == "take" and end < len(commands) and [*commands[end].words] == ["putback", *node]:
-            scan = Command(take.section, ("scan", *take.words[1:]))
-            yield partial(with_commands, draft, (*commands[:first], scan, *commands[end + 1:]))
+            yield partial(with_scan, draft, first, end)
 
 
 def drop_part(draft: Draft, _outcome: Outcome) -> Iterator[Attempt]:

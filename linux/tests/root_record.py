@@ -242,22 +242,22 @@ def groups_of_its_own_are_removed() -> Optional[str]:
     return done.wrong(SKIPPED, "control groups were made in a recorded one") or (str(left) if left else None)
 
 
-def run_groups(word: str, status: int, *texts: str) -> Optional[str]:
+def run_groups(word: str, *texts: str) -> Optional[str]:
     """Records groups.py with a word, as root; returns what is wrong."""
     return run(["--", PYTHON, "-I", str(EXAMPLES / "groups.py"), word]).wrong(
-        status, "the command ended with status 0", " 0 queues that differ" if status == DONE else "empty: ", *texts)
+        DONE, "the command ended with status 0", " 0 queues that differ", *texts)
 
 
 def tasks_that_change_their_group() -> Optional[str]:
-    return (run_groups("leaves", DONE, "8 of 8 pages followed", "8 queued, seen")
-            or run_groups("enters", DONE, "8 of 8 pages followed", "8 queued, seen"))
+    return (run_groups("leaves", "8 of 8 pages followed", "8 queued, seen")
+            or run_groups("enters", "8 of 8 pages followed", "8 queued, seen"))
 
 
 def pages_of_groups_of_its_own_are_counted() -> Optional[str]:
     text = "control groups were made in a recorded one: {} huge pages of their tasks aren't followed"
-    if find_hierarchy().version == 2:  # all of its tasks are in such groups
-        return run_groups("inner", SKIPPED, text.format(16))
-    return run_groups("inner", DONE, "8 of 8 pages followed", text.format(8))
+    if find_hierarchy().version == 2:  # its tasks are in such groups from then on
+        return run_groups("inner", "8 of 8 pages followed", text.format(16))
+    return run_groups("inner", "16 of 16 pages followed", text.format(8))
 
 
 def pages_of_two_sizes() -> Optional[str]:

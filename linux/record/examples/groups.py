@@ -4,7 +4,8 @@
     thprecord --straighten -- python3 groups.py enters      # comes from the root group; pages from there stay in its queue
     thprecord --straighten -- python3 groups.py inner       # makes a group in its own for some pages, and leaves it to end
 
-Of eight pages, the half is in the queue before the change. Needs root.
+Of eight pages, the half is in the queue before the change; after it, eight more are made. With `inner`, eight are made before it, too.
+Needs root.
 """
 
 from __future__ import annotations
@@ -56,6 +57,8 @@ own, word = find_group(), sys.argv[1]
 root = "/sys/fs/cgroup/memory" if own.startswith("/sys/fs/cgroup/memory/") else "/sys/fs/cgroup"
 inner = f"{own}/inner"
 if word == "inner":
+    former = make_pages()
+    drop(former, PAGES // 2, 100)
     os.mkdir(inner)
 if word == "inner" and root == "/sys/fs/cgroup":  # of version 2: a group with controllers for those in it has no tasks
     os.mkdir(f"{own}/tasks")
@@ -73,5 +76,7 @@ else:
     enter(root if word == "leaves" else own)
 drop(area, PAGES, 200)
 time.sleep(WAIT)
+if word == "inner":
+    drop(former, PAGES, 200)
 drop(make_pages(), PAGES, 100)
 time.sleep(WAIT)
