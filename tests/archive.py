@@ -3,7 +3,7 @@
 `rt ci` proves crates/thp_c from scratch, but builds nothing of it, and `rt lib` would prove all libraries below it again. The
 crate only has the exports, so the second proof is short. The build begins with the work that `rt check`, or an earlier build,
 kept in the crate's folder, so it proves nothing again that has not changed. The verdict on the crate's proof is that of `rt ci`
-only.
+only, where there is one.
 
     python3 tests/archive.py TO
 """
@@ -61,7 +61,7 @@ def build(to: Path) -> str | None:
     said = (ended.stdout + ended.stderr).strip()
     if ended.returncode != 0:
         return f"status {ended.returncode}: {said[-900:]}"
-    keep_verdict(NAME, before, said, [to])
+    keep_verdict(NAME, before, "" if is_built(NAME) else said, [to])
     return None
 
 
