@@ -263,7 +263,8 @@ def proof_differs(release: Release, top: Path) -> str | None:
     count = len(released())
     wanted = [*(rf"^{name} +{re.escape(LINE)}$" for name in released()), f"^Commit: +{commit}$", f"^Sources: +{tree} ",
               "^Toolchain:  kit-of-a-test logic 00$", r"^Runs on: .* glibc 2\.\d+ ",
-              f"^Verdicts of {count} crates: {7 * count} functions proved. ", "^library can call, whose contracts are taken as written: none.$"]
+              f"^Verdicts of {count} crates: {7 * count} functions proved. ",
+              "^library can call, whose contracts are taken as written: none.$"]
     lacks = [it for it in wanted if not re.search(it, text, re.M)]
     hashes = {name: it for it, name in re.findall(r"^([0-9a-f]{64})  (\S+)$", text, re.M)}
     files = {str(path.relative_to(top)): path for path in top.rglob("*") if is_elf(path) or path.suffix == ".a"}
