@@ -115,7 +115,8 @@ Toolchain:  {toolchain()}
 C compiler: {called([platform.tool("cc"), "--version"]).splitlines()[0]}
 Runs on:    {needs}
 
-Verdicts of {len(lines)} crates: {functions} functions proved; axioms: {axioms(lines)}. A line without `axioms=` counts none.
+Verdicts of {len(lines)} crates: {functions} functions proved. With `axioms=` a line counts the functions of C that a program or the
+library can call, whose contracts are taken as written: {axioms(lines)}.
 
 {rows}
 """

@@ -3,6 +3,7 @@
 
     release/version.py            prints each place with its number; status 1 if they are not one
     release/version.py NUMBER     writes the number into all of them
+    release/version.py tag        prints the text of the release's tag, for `git tag -a vNUMBER -F -`: the head of its part of CHANGELOG.md
 
 A change of crates/thp_cli/src/version.rt needs a new proof of the crates above it.
 """
@@ -74,8 +75,18 @@ def write(number: str) -> None:
     (ROOT / "c/thp.h").write_text(header)
 
 
+def tag() -> str:
+    """The text of the release's tag, or nothing if CHANGELOG.md doesn't begin with this version, and what it is."""
+    number = next(iter(numbers(PROGRAMS).values()))
+    first = (ROOT / "CHANGELOG.md").read_text().partition("\n## ")[2]
+    head = first.removeprefix(f"{number}\n\n").partition("\n\n")[0]
+    return f"leversorrel {number}\n\n{head}\n" if first.startswith(f"{number}\n\n") and not head.startswith("-") else ""
+
+
 def main() -> None:
     """Prints or writes the version."""
+    if sys.argv[1:] == ["tag"]:
+        sys.exit(0 if sys.stdout.write(tag()) else 1)
     if sys.argv[1:] and (len(sys.argv) > 2 or not re.fullmatch(r"\d+\.\d+\.\d+", sys.argv[1])):
         sys.exit(__doc__)
     if sys.argv[1:]:
