@@ -34,6 +34,7 @@ from linux.tests.cases import Cases, Missing  # noqa: E402
 MOST_RESIDENT = 64 << 10  # KiB
 SECONDS = 600  # that a case gets: enough on a loaded machine
 FAULTS, DROPS = 300000, 20000
+RECORDED = 1.5  # seconds of a recording that is interrupted
 PAGES, FOLLOWED, RUNS, TRIES = 48, 45, 5, 12  # of snapshots.py
 EXAMPLES = ROOT / "linux/record/examples"
 CHECKER = program.find("thpcheck", checker.BUILT) or str(ROOT / "linux/tests/plain_checker.py")
@@ -172,11 +173,30 @@ def ended_though_it_ignores_that() -> Optional[str]:
     return run(["--seconds", "0.5", "--", *words]).wrong(SKIPPED, "the command was killed by SIGKILL", "empty")
 
 
+def recorded_groups() -> List[str]:
+    """Returns the folders of the tool's control groups."""
+    return [path for path, _, _ in os.walk(find_hierarchy().top) if "/thprecord" in path]
+
+
+def is_recording() -> bool:
+    """Whether a command runs in one of these."""
+    for path in recorded_groups():
+        try:
+            if read(f"{path}/cgroup.procs"):
+                return True
+        except OSError:  # it has gone
+            continue
+    return False
+
+
 def interrupted(sent: signal.Signals) -> Optional[str]:
+    begun: List[float] = []  # when the command was first seen to run, which may take a while on a loaded machine
     once: List[int] = []
 
     def interrupt(tool: subprocess.Popen[bytes], since: float) -> None:
-        if since > 2.5 and not once:
+        if not begun and is_recording():
+            begun.append(since)
+        if begun and since > begun[0] + RECORDED and not once:
             once.append(1)
             tool.send_signal(sent)
 
@@ -301,7 +321,7 @@ def settings() -> List[str]:
     """All settings of huge pages, the tool's control groups, and open temporary files of tools that have ended."""
     out = [f"{path} {read(path)}" for path in sorted(Path(THP).rglob("*"))
            if path.is_file() and path.stat().st_mode & 0o200 and "stats" not in path.parts]
-    return out + [path for path, _, _ in os.walk(find_hierarchy().top) if "/thprecord" in path]
+    return out + recorded_groups()
 
 
 def main() -> int:
