@@ -7,9 +7,8 @@ The journal has 10,000,000 events in 24 hours (--events), and a file of their ti
 each when 200 younger ones have come, and it is freed after 2,000. Of four pages one is full of data, one has 100 subpages of data, one
 loses half of its subpages, and one has 188 subpages of data and loses 12. Both files, 350 MB, are removed unless --folder keeps them.
 
-A line for each program has the seconds by the clock and of processors, the greatest sum of resident memory of all its processes (a page
-that several share counts with each; looked at each 10 ms), and that of the largest process. The policies are three thresholds with four
-kinds of scans.
+A line for each program has the seconds by the clock and of processors, and the greatest sum of resident memory of all its processes (a
+page that several share counts with each; looked at each 10 ms). The policies are three thresholds with four kinds of scans.
 """
 
 from __future__ import annotations
@@ -108,8 +107,8 @@ def measure(name: str, command: list[str], source: Path, out: Path) -> None:
     if child.returncode:
         sys.exit(f"{name}: status {child.returncode}")
     processor = used.ru_utime + used.ru_stime - before.ru_utime - before.ru_stime
-    size, largest = most * resource.getpagesize() / (1 << 20), used.ru_maxrss / 1024
-    print(f"{name}: {seconds:.1f} s, processor {processor:.1f} s, {size:.1f} MiB in all, {largest:.1f} MiB the largest", flush=True)
+    size = most * resource.getpagesize() / (1 << 20)
+    print(f"{name}: {seconds:.1f} s, processor {processor:.1f} s, {size:.1f} MiB", flush=True)
 
 
 def main() -> None:

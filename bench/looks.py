@@ -1,11 +1,12 @@
 #!/usr/bin/env python3
 """How long `thpwhatif now --all` takes, and how much memory, by the size of the huge pages that are mapped (root).
 
-    bench/looks.py [--sizes LIST] [--rounds N] PROGRAM TOOL..
+    bench/looks.py [--sizes LIST] [--rounds N] [--one] PROGRAM TOOL..
 
 For each size, in GiB, a process maps huge pages, each second subpage of which is zero-filled. Each TOOL, a path of thpwhatif, then looks
 with PROGRAM, a thpsplit, in turn. A line has the median and the least time by the clock, the processor time of the tool and of what it ran,
-the resident memory of the largest of these processes, and what the look saw. Status 77 without root, memory or huge pages.
+the resident memory of the largest of these processes, and what the look saw. --one: `now --pid` of that process alone, where others have
+much memory. Status 77 without root or memory.
 """
 
 from __future__ import annotations
@@ -41,39 +42,37 @@ class Look:
 
 
 def map_pages(count: int) -> None:
-    """Maps so many huge pages, writes each second subpage, prints a line and waits to be ended."""
+    """Maps so many huge pages, writes each second subpage, prints a line and waits until the caller ends."""
     memory = mmap.mmap(-1, (count + 1) * HUGE, flags=mmap.MAP_PRIVATE | mmap.MAP_ANONYMOUS)
     memory.madvise(MADV_HUGEPAGE)
     first = ctypes.addressof(ctypes.c_char.from_buffer(memory))
     for at in range(-(-first // HUGE) * HUGE, -(-first // HUGE) * HUGE + count * HUGE, 2 * BASE):
         ctypes.memset(at, 1, BASE)
     print("ready", flush=True)
-    time.sleep(1e6)
+    sys.stdin.read()
 
 
 @contextmanager
-def mapped(gibibytes: float) -> Iterator[None]:
-    """Has a process that maps so many GiB of huge pages until the end of the `with`."""
+def mapped(gibibytes: float) -> Iterator[int]:
+    """Has a process that maps so many GiB of huge pages until the end of the `with`; gives its number."""
     count = round(gibibytes * (1 << 30) / HUGE)
-    if not count:
-        yield
-        return
-    child = subprocess.Popen([sys.executable, "-I", str(Path(__file__).resolve()), "--map", str(count)], stdout=subprocess.PIPE)
+    command = [sys.executable, "-I", str(Path(__file__).resolve()), "--map", str(count)]
+    child = subprocess.Popen(command, stdin=subprocess.PIPE, stdout=subprocess.PIPE)
     try:
         assert child.stdout
         child.stdout.readline()
-        yield
+        yield child.pid
     finally:
         child.kill()
         child.wait()
 
 
-def look(tool: str, program: str) -> Look:
-    """Looks once."""
+def look(tool: str, program: str, at: list[str]) -> Look:
+    """Looks once at all processes or at one."""
     reader, writer = os.pipe()
     began = time.perf_counter()
     streams = [(os.POSIX_SPAWN_DUP2, writer, 1), (os.POSIX_SPAWN_CLOSE, reader), (os.POSIX_SPAWN_OPEN, 2, os.devnull, os.O_WRONLY, 0)]
-    child = os.posix_spawn(tool, [tool, "now", "--all", "--json", "--program", program], os.environ, file_actions=streams)
+    child = os.posix_spawn(tool, [tool, "now", *at, "--json", "--program", program], os.environ, file_actions=streams)
     os.close(writer)
     with open(reader, "rb") as text:
         out = text.read()
@@ -106,10 +105,11 @@ def main() -> None:
     parser = argparse.ArgumentParser(description=__doc__, formatter_class=argparse.RawDescriptionHelpFormatter)
     parser.add_argument("--sizes", default="0,1,4,8,12")
     parser.add_argument("--rounds", type=int, default=5)
+    parser.add_argument("--one", action="store_true")
     parser.add_argument("--map", type=int, help=argparse.SUPPRESS)
     parser.add_argument("programs", nargs="*", metavar="PROGRAM TOOL")
     words = parser.parse_args()
-    if words.map:
+    if words.map is not None:
         return map_pages(words.map)
     sizes = [float(size) for size in words.sizes.split(",")]
     if os.geteuid() != 0 or available() < max(sizes) + 2:
@@ -118,11 +118,12 @@ def main() -> None:
     program, *tools = words.programs
     for size in sizes:
         looks: dict[str, list[Look]] = {tool: [] for tool in tools}
-        with mapped(size):
+        with mapped(size) as process:
             time.sleep(1.0)
+            at = ["--pid", str(process)] if words.one else ["--all"]
             for _ in range(words.rounds):
                 for tool in tools:
-                    looks[tool].append(look(tool, program))
+                    looks[tool].append(look(tool, program, at))
         for tool in tools:
             print(f"{size:g} GiB, load {os.getloadavg()[0]:.1f}, {tool}: {describe(looks[tool])}", flush=True)
 
