@@ -108,7 +108,7 @@ def outcome_of(path: Path) -> Outcome:
 def run(words: List[str], stdin: Stream = subprocess.DEVNULL, stdout: Stream = subprocess.DEVNULL) -> Tuple[int, List[str]]:
     """Runs a program; returns its status and messages."""
     done = subprocess.run(words, stdin=stdin, stdout=stdout, stderr=subprocess.PIPE, text=True, errors="replace", check=False)
-    return done.returncode, done.stderr.splitlines()
+    return done.returncode, [line for line in done.stderr.split("\n") if line]
 
 
 def record(path: Path, workload: Workload) -> Optional[str]:
