@@ -1,5 +1,5 @@
 //! Runs of a script whose `setup` arrives in parts, so that its commands need not be stored.
-ghost use Rattle.std.specs.Prelude.{◌≡◌, [], All, IfOk, List};
+ghost use Rattle.std.specs.Prelude.{◌≡◌, ◌↔◌, [], All, IfOk, IsTrue, List};
 ghost use Rattle.thp_cell.specs.Views.{PassState};
 ghost use Rattle.thp_worker.specs.declared.answer_log.Answers.TheVariants.{Kept as KeptAnswers, Counted as CountedAnswers};
 ghost use Rattle.thp_worker.specs.Fronts.{Fronts};
@@ -14,10 +14,10 @@ ghost use Rattle.thp_runner.specs.InParts.{AreNew, HasBegun};
 ghost use Rattle.thp_runner.specs.NewNodes.{histories_of, shapes_of, AreNodesFor};
 ghost use Rattle.thp_runner.specs.Runs.{IsRun};
 ghost use Rattle.thp_runner.specs.Sections.{SectionAnswersAre};
-ghost use Rattle.thp_runner.specs.Sharing.{RunsOn};
+ghost use Rattle.thp_runner.specs.Sharing.{AreFew, RunsOn};
 
 use crate::nodes::new_nodes;
-use crate::running::{RunResult, answers_for, are_few};
+use crate::running::RunResult;
 use crate::sections::run_workers_after;
 use crate::sharing::{close, finish, open, share};
 use std::alloc::{AllocError, Global};
@@ -26,7 +26,8 @@ use thp_cell::{NodeCell, Pass};
 use thp_node::Recorder;
 use thp_script::{Report, Script, Settings};
 use thp_worker::{
-    Gate, NodePasses, Passes, SectionInParts, SectionLog, begin_section, do_commands, end_section,
+    Answers, Gate, NodePasses, Passes, SectionInParts, SectionLog, begin_section, do_commands,
+    end_section,
 };
 
 /// Creates nodes that record their events in an `N`, each in a cell, and the passes that have all of their callers.
@@ -107,4 +108,28 @@ pub fn take_apart<N: Recorder>(
 {
     let nodes = finish(alloc, cells, passes)?;
     Ok(RunResult { nodes, sections })
+}
+
+/// Returns what happens to the answers: they are stored if the report is of answers.
+fn answers_for(report: Report) -> Answers
+    ensures kept { (result ≡ Answers.Kept) ↔ (report ≡ Report.Answers) }
+    ensures counted { (report ≡ Report.Answers → ⊥) → result ≡ Answers.Counted }
+{
+    match report {
+        Report::Answers => Answers::Kept,
+        Report::Totals | Report::Journal => Answers::Counted,
+    }
+}
+
+/// Returns whether each section has fewer than 2^32 commands.
+fn are_few(script: &Script) -> bool
+    ensures { IsTrue result ↔ AreFew script.now }
+{
+    let most = u32::MAX as usize;
+    script.setup.as_slice().len() <= most
+        && script
+            .workers
+            .as_slice()
+            .iter()
+            .all(|commands| commands.as_slice().len() <= most)
 }

@@ -1,10 +1,9 @@
 //! Runs of whole scripts.
-ghost use Rattle.std.specs.Prelude.{◌≡◌, ◌↔◌, All, IfOk, IsTrue};
+ghost use Rattle.std.specs.Prelude.{◌≡◌, All, IfOk};
 ghost use Rattle.thp_script.specs.Scripts.{IsScriptFor};
 ghost use Rattle.thp_runner.specs.NewNodes.{histories_of, shapes_of, AreNodesFor};
 ghost use Rattle.thp_runner.specs.Runs.{IsRun};
 ghost use Rattle.thp_runner.specs.Sections.{SectionAnswersAre};
-ghost use Rattle.thp_runner.specs.Sharing.{AreFew};
 
 use crate::in_parts::{begin_run, end_run, new_cells, take_apart};
 use std::alloc::{AllocError, Global};
@@ -44,28 +43,4 @@ pub fn run_script<R: Threads + Sync, G: Gate + Sync>(
     let (passes, setup) = begin_run(alloc, settings, cells.as_slice(), passes)?;
     let (passes, sections) = end_run(rt, alloc, settings, passes, setup, script, gate)?;
     take_apart(alloc, settings, cells, passes, sections)
-}
-
-/// Returns what happens to the answers: they are stored if the report is of answers.
-pub(crate) fn answers_for(report: Report) -> Answers
-    ensures kept { (result ≡ Answers.Kept) ↔ (report ≡ Report.Answers) }
-    ensures counted { (report ≡ Report.Answers → ⊥) → result ≡ Answers.Counted }
-{
-    match report {
-        Report::Answers => Answers::Kept,
-        Report::Totals | Report::Journal => Answers::Counted,
-    }
-}
-
-/// Returns whether each section has fewer than 2^32 commands.
-pub(crate) fn are_few(script: &Script) -> bool
-    ensures { IsTrue result ↔ AreFew script.now }
-{
-    let most = u32::MAX as usize;
-    script.setup.as_slice().len() <= most
-        && script
-            .workers
-            .as_slice()
-            .iter()
-            .all(|commands| commands.as_slice().len() <= most)
 }
