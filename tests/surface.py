@@ -21,7 +21,7 @@ STORED = ROOT / "tests/stored/surface.txt"
 WITH_LINKS = ("thp_links", "thp_page")
 """The crates that hold or change the links between pages."""
 
-WITH_THREADS = {"thp_worker", "thp_runner", "thp_run"}
+WITH_THREADS = {"thp_worker", "thp_run"}
 """The libraries that start threads: concurrent workers, and the crates above them."""
 
 ITEM = re.compile(r"^(?:pub )?(?:impl|trait)\b(.*)$")

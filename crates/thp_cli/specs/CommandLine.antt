@@ -1,5 +1,5 @@
 -- The program's command line, as `clap` reads it.
-use Rattle.std.specs.Prelude.{◌≡◌, ℕ, true, pos, List, [], ◌∷◌, Option, Some, None, Result, map, option_map, codes}
+use Rattle.std.specs.Prelude.{◌≡◌, ℕ, pos, List, [], ◌∷◌, Some, Result, map, option_map, codes}
 use Rattle.std.specs.Borrow.{Bor}
 use Rattle.clap.specs.Words.{App, FailsBy, Row, Rule, fault_of, first_of, matches_of, one_of, with_rule}
 use Rattle.clap.specs.declared.builder.value_parser.ValueParser.TheVariants.{Names, Signed}

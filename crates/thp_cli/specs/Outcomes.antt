@@ -1,5 +1,5 @@
 -- The messages of programs, their exit statuses, and their effect on their streams (this project's profile).
-use Rattle.std.specs.Prelude.{◌≡◌, ◌≢◌, ◌⊎◌, ◌++◌, ◌∷◌, [], ℕ, Bool, true, false, List, Option, None, Some, IfSome, MatchBool, Result, Ok, Err, Vec, String, codes, map, string_bytes}
+use Rattle.std.specs.Prelude.{◌≡◌, ◌≢◌, ◌⊎◌, ◌++◌, ◌∷◌, [], ℕ, Bool, true, false, List, Option, None, IfSome, MatchBool, Result, Ok, Err, Vec, String, codes, map, string_bytes}
 use Rattle.std.specs.Fmt.{decimal}
 use Rattle.std.specs.declared.alloc.Global.{Global}
 use Rattle.std.specs.Io.KnownBytes.{Keeps, Appends}
@@ -12,7 +12,6 @@ use Rattle.thp_cli.specs.declared.ending.Ending.TheVariants.{Written, Illegal}
 use Rattle.thp_cli.specs.declared.ending.ProgramFault.{ProgramFault}
 use Rattle.thp_cli.specs.declared.ending.ProgramFault.TheVariants.{Run, Usage, NoNode, NoText, Orders, Underused}
 use Rattle.thp_cli.specs.declared.ending.WordsFault.{WordsFault}
-use Rattle.thp_cli.specs.declared.ending.WordsFault.TheVariants as words
 use Rattle.thp_cli.specs.declared.ending.Program.{Program}
 use Rattle.thp_cli.specs.declared.ending.Program.TheVariants.{Thpsplit, Thpcheck, Thpdraw}
 use Rattle.thp_cli.specs.declared.fault.RunFault.{RunFault}

@@ -4,8 +4,8 @@ use Rattle.std.specs.Fmt.{decimal}
 use Rattle.thp_script.specs.TextKinds.{kind_word}
 use Rattle.thp_script.specs.declared.fault.ReadFault.{ReadFault}
 use Rattle.thp_script.specs.declared.fault.ReadFault.TheVariants as reading
-use Rattle.thp_journal_reader.specs.declared.summed.SummaryFault.{SummaryFault}
-use Rattle.thp_journal_reader.specs.declared.summed.SummaryFault.TheVariants as summary
+use Rattle.thp_journal_reader.specs.declared.illegal.LongReadFault.{LongReadFault}
+use Rattle.thp_journal_reader.specs.declared.illegal.LongReadFault.TheVariants as summary
 use Rattle.thp_cli.specs.declared.long_fault.LongRunFault.{LongRunFault}
 use Rattle.thp_cli.specs.declared.long_fault.LongRunFault.TheVariants as long
 use Rattle.thp_cli.specs.declared.fault.RunFault.{RunFault}
@@ -26,9 +26,9 @@ seen_fault long.Read = Read
 seen_fault long.Write = Write
 
 -- why there is no summary, as a fault of a check of any length
-abbrev pub fault_of_summary : SummaryFault → LongRunFault
-fault_of_summary (summary.Text fault) = long.Text fault.line fault.kind
-fault_of_summary summary.OutOfMemory = long.OutOfMemory
+abbrev pub fault_of_long_read : LongReadFault → LongRunFault
+fault_of_long_read (summary.Text fault) = long.Text fault.line fault.kind
+fault_of_long_read summary.OutOfMemory = long.OutOfMemory
 
 -- a failed read sets the reader's flag, and lack of memory does not
 abbrev pub IsReadingFault : Bool → RunFault → Type 0

@@ -14,7 +14,7 @@ use crate::fault::RunFault;
 use crate::watched::Watched;
 use std::alloc::Global;
 use std::io::{Read, Write};
-use thp_journal_reader::{JournalCheck, LongCheck, SeriesCheck, SummedCheck};
+use thp_journal_reader::{JournalCheck, LongCheck};
 use thp_script::{MAX_INPUT, ReadFault};
 
 /// The greatest number of bytes of one read.
@@ -54,30 +54,6 @@ impl ReadsParts for LongCheck {
 
     fn read_part(self, part: &[u8]) -> Result<Self, ReadFault> {
         Ok(LongCheck::read_part(self, part)?)
-    }
-
-    ghost nothing_read = { λ r more. refl };
-
-    ghost more_read = { λ a b c first more old new rest. new rest ∙ old (more ++ rest) ∙ ap (told_with a) (sym (append_assoc first more rest)) };
-}
-
-impl ReadsParts for SummedCheck {
-    ghost has_read = { λ old bytes new. (more : List ℕ) → told_with new more ≡ told_with old (bytes ++ more) };
-
-    fn read_part(self, part: &[u8]) -> Result<Self, ReadFault> {
-        Ok(SummedCheck::read_part(self, part)?)
-    }
-
-    ghost nothing_read = { λ r more. refl };
-
-    ghost more_read = { λ a b c first more old new rest. new rest ∙ old (more ++ rest) ∙ ap (told_with a) (sym (append_assoc first more rest)) };
-}
-
-impl ReadsParts for SeriesCheck {
-    ghost has_read = { λ old bytes new. (more : List ℕ) → told_with new more ≡ told_with old (bytes ++ more) };
-
-    fn read_part(self, part: &[u8]) -> Result<Self, ReadFault> {
-        Ok(SeriesCheck::read_part(self, part)?)
     }
 
     ghost nothing_read = { λ r more. refl };

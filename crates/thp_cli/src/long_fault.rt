@@ -1,12 +1,12 @@
 //! The errors of a check of any length.
 ghost use Rattle.std.specs.Prelude.{◌≡◌, Some};
 ghost use Rattle.thp_cli.specs.declared.long_fault.LongRunFault.TheVariants.{OutOfMemory, Text};
-ghost use Rattle.thp_cli.specs.RunFaults.{fault_of_summary, fault_text, seen_fault};
+ghost use Rattle.thp_cli.specs.RunFaults.{fault_of_long_read, fault_text, seen_fault};
 
 use crate::fault::RunFault;
 use std::alloc::AllocError;
 use std::{error, fmt};
-use thp_journal_reader::{SummaryFault, TextFault};
+use thp_journal_reader::{LongReadFault, TextFault};
 use thp_script::TextKind;
 
 /// Why a check of a journal of any length ended without its complete verdict. As [`RunFault`], with 64-bit line numbers.
@@ -57,13 +57,13 @@ impl From<TextFault> for LongRunFault {
     }
 }
 
-impl From<SummaryFault> for LongRunFault {
-    ghost from_gives = { λ summary fault. fault ≡ fault_of_summary summary };
+impl From<LongReadFault> for LongRunFault {
+    ghost from_gives = { λ summary fault. fault ≡ fault_of_long_read summary };
 
-    fn from(fault: SummaryFault) -> LongRunFault {
+    fn from(fault: LongReadFault) -> LongRunFault {
         match fault {
-            SummaryFault::Text(fault) => LongRunFault::from(fault),
-            SummaryFault::OutOfMemory => LongRunFault::OutOfMemory,
+            LongReadFault::Text(fault) => LongRunFault::from(fault),
+            LongReadFault::OutOfMemory => LongRunFault::OutOfMemory,
         }
     }
 }

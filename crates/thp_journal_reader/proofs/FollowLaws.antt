@@ -12,8 +12,7 @@ use Rattle.thp_model.proofs.LegalSteps.{legal_push}
 use Rattle.thp_model.proofs.ListPlaces.{get_middle}
 use Rattle.thp_check.specs.declared.misfit.Misfit.{Misfit}
 use Rattle.thp_check.specs.Reasons.{Explains}
-use Rattle.thp_check.specs.Replays.{Replayed}
-use Rattle.thp_check.specs.Replays.{with_event as replayed_with}
+use Rattle.thp_check.specs.Replays.{Replayed, with_event as replayed_with}
 use Rattle.thp_script.specs.Limits.{max_counted}
 use Rattle.thp_journal_reader.specs.declared.follower.FollowedNodes.{FollowedNodes}
 use Rattle.thp_journal_reader.specs.declared.follower.Follower.{Follower}

@@ -1,6 +1,5 @@
 pub mod SetLaws
 pub mod JournalLaws
-pub mod NodeScriptLaws
 pub mod NodeLaws
 pub mod AnswerLaws
 pub mod PlainWords
@@ -10,9 +9,3 @@ pub mod PartLaws
 pub mod ZipLaws
 pub mod CheckLaws
 pub mod FollowLaws
-pub mod KeptLaws
-pub mod RepeatLaws
-pub mod ScriptBatchLaws
-pub mod WholeScanLaws
-pub mod FoldingLaws
-pub mod JournalScriptLaws

@@ -1,10 +1,14 @@
 -- The results of the check of a journal text.
-use Rattle.std.specs.Prelude.{◌≡◌, ◌<◌, ◌+◌, ℕ, List, length, slice_get, take, Option, Some, None}
+use Rattle.std.specs.Prelude.{◌≡◌, ◌<◌, ◌+◌, ◌⊎◌, ⊤, ℕ, List, length, slice_get, take, Option, Some, None, Result, Err}
 use Rattle.thp_model.specs.BlockLaws.{SameButBlocks}
 use Rattle.thp_model.specs.History.{History}
 use Rattle.thp_model.specs.Legal.{IsLegal, IsFirstMisfit}
 use Rattle.thp_check.specs.Reasons.{Explains}
+use Rattle.thp_script.specs.Scripts.{Fault}
 use Rattle.thp_journal_reader.specs.declared.illegal.Illegal.{Illegal}
+use Rattle.thp_journal_reader.specs.declared.illegal.LongReadFault.{LongReadFault}
+use Rattle.thp_journal_reader.specs.declared.illegal.LongReadFault.TheVariants.{Text, OutOfMemory}
+use Rattle.thp_journal_reader.specs.declared.journals.Journals.{Journals}
 use Rattle.thp_journal_reader.specs.declared.journals.NodeJournal.{NodeJournal}
 
 -- the node's events are a legal history
@@ -53,3 +57,18 @@ ReportsFirst nodes (Some illegal) = IsFirstIllegalEvent nodes illegal
 -- some choice of blocks makes the node's events legal
 abbrev pub CanBeLegal : NodeJournal → Type 0
 CanBeLegal node = (h : History) × SameButBlocks node.events h × IsLegal node.shape h
+
+-- the node's events up to its first illegal one, which is at this index
+pub record IsFrontAt (node : NodeJournal) (front : History) : Type 0 where
+  pub place : ℕ
+  pub misfit : IsFirstMisfit node.shape node.events place
+  pub front_is : front ≡ take place node.events
+
+-- the node's legal events: all of them, or those before its first illegal event
+abbrev pub IsLegalFront : NodeJournal → History → Type 0
+IsLegalFront node front = (IsLegalNode node × (front ≡ node.events)) ⊎ IsFrontAt node front
+
+-- the text has this error, if it is one of the text
+abbrev pub ReportsLongReadFault : Result Journals Fault → LongReadFault → Type 0
+ReportsLongReadFault read (Text fault) = read ≡ Err (fault.line, fault.kind)
+ReportsLongReadFault read OutOfMemory = ⊤

@@ -11,9 +11,8 @@ use Rattle.thp_journal_reader.specs.declared.follower.Follower.{Follower}
 use Rattle.thp_journal_reader.specs.declared.illegal.Illegal.{Illegal}
 use Rattle.thp_journal_reader.specs.declared.journals.NodeJournal.{NodeJournal}
 use Rattle.thp_journal_reader.specs.declared.line.Line.{Line}
-use Rattle.thp_journal_reader.specs.Answers.{IsLegalNode, ReportsFirst}
+use Rattle.thp_journal_reader.specs.Answers.{IsLegalNode, ReportsFirst, IsLegalFront}
 use Rattle.thp_journal_reader.specs.Reading.{with_line, IsNodeBefore}
-use Rattle.thp_journal_reader.specs.Summaries.{IsLegalFront}
 
 -- the nodes in numbered lines
 unfoldable pub nodes_told : List (ℕ × Line) → List NodeJournal

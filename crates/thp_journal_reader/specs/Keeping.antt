@@ -1,15 +1,9 @@
--- What each check keeps of a node, and what it is made of where an event is illegal. No public clause cites this module.
-use Rattle.std.specs.Prelude.{◌≡◌, ⊤, Option}
+-- What is kept of a node by a check that needs its verdict alone.
+use Rattle.std.specs.Prelude.{⊤, Option}
 use Rattle.thp_model.specs.History.{History}
 use Rattle.thp_model.specs.declared.shape.Shape.{Shape}
 use Rattle.thp_check.specs.Replays.{Replayed}
-use Rattle.thp_metrics.specs.Series.{numbers_at, series}
-use Rattle.thp_metrics.specs.Stuck.{AreStuck}
-use Rattle.thp_journal_writer.specs.Totals.{totals_of}
-use Rattle.thp_journal_writer.specs.declared.totals.Totals.{Totals}
 use Rattle.thp_journal_reader.specs.declared.illegal.Illegal.{Illegal}
-use Rattle.thp_journal_reader.specs.declared.numbered.NumberedNode.{NumberedNode}
-use Rattle.thp_journal_reader.specs.declared.series_node.SeriesRest.{SeriesRest}
 
 -- nothing
 abbrev pub KeepsNothing : {K : Type 0} → Shape → History → Option Illegal → K → Type 0
@@ -17,24 +11,3 @@ KeepsNothing shape front illegal kept = ⊤
 
 abbrev pub LeavesNothing : {R : Type 0} → Replayed → R → Type 0
 LeavesNothing before rest = ⊤
-
--- the totals
-abbrev pub KeepsTotals : Shape → History → Option Illegal → Totals → Type 0
-KeepsTotals shape front illegal totals = totals ≡ totals_of shape front
-
-abbrev pub LeavesTotals : Replayed → Totals → Type 0
-LeavesTotals before totals = totals ≡ totals_of before.shape before.history
-
--- the numbers, and the illegal event
-pub record KeepsNumbers (shape : Shape) (front : History) (illegal : Option Illegal) (kept : NumberedNode) : Type 0 where
-  pub shape_is : kept.shape ≡ shape
-  pub numbers_are : kept.numbers ≡ numbers_at shape front
-  pub columns_are : kept.columns ≡ series shape front
-  pub stuck_are : AreStuck shape front kept.stuck.items
-  pub illegal_is : kept.illegal ≡ illegal
-
-pub record LeavesNumbers (before : Replayed) (rest : SeriesRest) : Type 0 where
-  pub shape_is : rest.shape ≡ before.shape
-  pub numbers_are : rest.end.numbers ≡ numbers_at before.shape before.history
-  pub columns_are : rest.end.columns ≡ series before.shape before.history
-  pub waiting_is : rest.end.waiting ≡ before

@@ -1,6 +1,5 @@
 -- What is before a line is before the next one, too: ghost members of traits, which cite no file of proofs, need it here.
-use Rattle.std.specs.Prelude.{◌+◌, ℕ, Bool, List, Option}
-use Rattle.std.specs.Prelude.{All}
+use Rattle.std.specs.Prelude.{◌+◌, ℕ, Bool, List, Option, All}
 use Rattle.std.proofs.Math.Nat.{le_trans, le-add_right}
 use Rattle.thp_model.specs.declared.shape.Shape.{Shape}
 use Rattle.thp_model.specs.History.{History}

@@ -22,7 +22,7 @@ use thp_model::{Event, PageId, Shape, What};
 
 /// What is known of the nodes so far. `F` follows the current node, and a `K` is kept of each other.
 #[derive(Drop)]
-pub(crate) struct Follower<F, K> {
+pub struct Follower<F, K> {
     alloc: Global,
     // the last node, while its events are legal
     at_hand: Option<F>,
@@ -166,15 +166,15 @@ impl<K: Drop, F: FollowsNode<Kept = K>> Follower<F, K> {
 
 /// What is known of the nodes in the lines so far.
 #[derive(Drop)]
-pub(crate) struct FollowedNodes<F, K> {
+pub struct FollowedNodes<F, K> {
     follower: Follower<F, K>,
     // has no bytes
-    pub(crate) lines: LineTrace,
+    pub lines: LineTrace,
 }
 
 impl<K: Drop, F: FollowsNode<Kept = K>> FollowedNodes<F, K> {
     /// Returns the state before the first line.
-    pub(crate) fn new(alloc: Global) -> FollowedNodes<F, K>
+    pub fn new(alloc: Global) -> FollowedNodes<F, K>
         ensures lines { result.lines ≡ [] }
         ensures follows { FollowsLines F.replayed F.keeps F.follows_all 1 result }
     {
@@ -191,14 +191,14 @@ impl<K: Drop, F: FollowsNode<Kept = K>> FollowedNodes<F, K> {
     }
 
     /// Returns the first illegal event, if there is one.
-    pub(crate) fn illegal(&self) -> Option<Illegal>
+    pub fn illegal(&self) -> Option<Illegal>
         ensures { result ≡ self.now.follower.illegal }
     {
         self.follower.illegal
     }
 
     /// Returns the first illegal event, if there is one, and the kept data of each node, after the last line.
-    pub(crate) fn finish(self) -> Result<(Option<Illegal>, Vec<K>), AllocError>
+    pub fn finish(self) -> Result<(Option<Illegal>, Vec<K>), AllocError>
         ensures { IfOk result (λ found. (nodes : List NodeJournal) → Follows F.replayed F.keeps F.follows_all nodes self.follower → HasEnded F.keeps F.follows_all nodes found.0 found.1.items) }
     {
         let mut follower = self.follower;

@@ -17,15 +17,15 @@ use thp_model::{Event, Shape};
 
 /// The data of a node whose next event does not fit.
 #[derive(Drop)]
-pub(crate) struct Stopped<R> {
+pub struct Stopped<R> {
     /// Why the event does not fit.
-    pub(crate) misfit: Misfit,
+    pub misfit: Misfit,
     /// What is left of the node.
-    pub(crate) rest: R,
+    pub rest: R,
 }
 
 /// A replay of a node's events, with the data about them from which the kept data is made.
-pub(crate) trait FollowsNode: Drop {
+pub trait FollowsNode: Drop {
     /// The data that is kept of a node: of all its events, or of those before its first illegal event.
     type Kept: Drop;
 

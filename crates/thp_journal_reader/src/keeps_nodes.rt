@@ -8,7 +8,7 @@ use crate::line::Line;
 use std::alloc::{AllocError, Global};
 
 /// The data that is stored about the nodes in the lines of a journal.
-pub(crate) trait KeepsNodes: Sized {
+pub trait KeepsNodes: Sized {
     /// The nodes so far.
     ghost told: { Self → List NodeJournal };
 

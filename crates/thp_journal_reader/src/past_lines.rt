@@ -14,7 +14,7 @@ enum LineChain {
 
 /// A list of numbered lines that is visible to contracts only and has no bytes.
 #[derive(Drop)]
-pub(crate) struct LineTrace {
+pub struct LineTrace {
     steps: Snapshot<LineChain>,
 }
 
@@ -30,7 +30,7 @@ impl Model for LineTrace {
 
 impl LineTrace {
     /// Returns the empty list.
-    pub(crate) fn new() -> LineTrace
+    pub fn new() -> LineTrace
         ensures { result ≡ [] }
     {
         LineTrace {
@@ -39,7 +39,7 @@ impl LineTrace {
     }
 
     /// Appends the line of this number.
-    pub(crate) fn push(&mut self, number: u64, line: &Line)
+    pub fn push(&mut self, number: u64, line: &Line)
         ensures { self.new ≡ self.old ++ (number, line.now) ∷ [] }
     {
         let start = Snapshot::of(&LineChain::Start);

@@ -68,17 +68,17 @@ fn add_fast<'p, N: KeepsNodes>(
 
 /// The state of reading a text of journals. Only the line in progress of the text is stored.
 #[derive(Drop)]
-pub(crate) struct TextReader<N> {
+pub struct TextReader<N> {
     alloc: Global,
-    pub(crate) nodes: N,
+    pub nodes: N,
     // after the last line
-    pub(crate) place: Place,
-    pub(crate) text: TextInParts,
+    pub place: Place,
+    pub text: TextInParts,
 }
 
 impl<N: KeepsNodes + Drop> TextReader<N> {
     /// Creates the state before the first byte of this text.
-    pub(crate) fn new(alloc: Global, text: TextInParts, nodes: N) -> TextReader<N>
+    pub fn new(alloc: Global, text: TextInParts, nodes: N) -> TextReader<N>
         ensures nodes { result.nodes ≡ nodes }
         ensures place { result.place ≡ Start }
         ensures text { result.text ≡ text }
@@ -92,7 +92,7 @@ impl<N: KeepsNodes + Drop> TextReader<N> {
     }
 
     /// Reads the next part of the text. After the first error, or after more bytes than allowed, the part is ignored.
-    pub(crate) fn read_part(self, part: &[u8]) -> Result<TextReader<N>, AllocError>
+    pub fn read_part(self, part: &[u8]) -> Result<TextReader<N>, AllocError>
         requires along { N.goes_along self.text.line self.nodes }
         requires limit { self.text.most ≤ N.last_line }
         ensures text { IfOk result (λ r. (more : Text) → told_with (so_far (N.told r.nodes) r.place r.text) more ≡ told_with (so_far (N.told self.nodes) self.place self.text) (part.now ++ more)) }
@@ -132,14 +132,14 @@ impl<N: KeepsNodes + Drop> TextReader<N> {
     }
 
     /// Returns the data about the nodes.
-    pub(crate) fn into_nodes(self) -> N
+    pub fn into_nodes(self) -> N
         ensures { result ≡ self.nodes }
     {
         self.nodes
     }
 
     /// Returns the first error of the text, if nothing follows.
-    pub(crate) fn fault(&self) -> Option<(u64, TextKind)>
+    pub fn fault(&self) -> Option<(u64, TextKind)>
         ensures wrong { IfSome result (λ fault. told_with (so_far (N.told self.now.nodes) self.now.place self.now.text) [] ≡ Err fault) }
         ensures sound { IfNone result (told_with (so_far (N.told self.now.nodes) self.now.place self.now.text) [] ≡ Ok (journals_in (N.told self.now.nodes))) }
         ensures line { IfSome result (λ fault. fault.0 ≤ self.now.text.most + 1) }

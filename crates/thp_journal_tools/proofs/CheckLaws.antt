@@ -9,12 +9,11 @@ use Rattle.thp_script.specs.Scripts.{Fault}
 use Rattle.thp_journal_writer.specs.Totals.{lines_from}
 use Rattle.thp_journal_reader.specs.declared.illegal.Illegal.{Illegal}
 use Rattle.thp_journal_reader.specs.declared.journals.NodeJournal.{NodeJournal}
-use Rattle.thp_journal_reader.specs.declared.summed.Summed.{Summed}
-use Rattle.thp_journal_reader.specs.declared.summed.SummaryFault.{SummaryFault}
-use Rattle.thp_journal_reader.specs.declared.summed.SummaryFault.TheVariants as summary
-use Rattle.thp_journal_reader.specs.Answers.{ReportsFirst, ReportsIllegal}
+use Rattle.thp_journal_tools.specs.declared.summed.Summed.{Summed}
+use Rattle.thp_journal_reader.specs.declared.illegal.LongReadFault.{LongReadFault}
+use Rattle.thp_journal_reader.specs.declared.illegal.LongReadFault.TheVariants as summary
+use Rattle.thp_journal_reader.specs.Answers.{ReportsFirst, ReportsIllegal, ReportsLongReadFault}
 use Rattle.thp_journal_reader.specs.Journals.{journals_within}
-use Rattle.thp_journal_reader.specs.Summaries.{ReportsSummaryFault}
 use Rattle.thp_journal_reader.proofs.AnswerLaws.{free_choice}
 use Rattle.thp_cli.specs.declared.calls.DeviceCall.{DeviceCall}
 use Rattle.thp_cli.specs.declared.fault.RunFault.{RunFault}
@@ -23,7 +22,7 @@ use Rattle.thp_cli.specs.declared.long_fault.LongRunFault.{LongRunFault}
 use Rattle.thp_cli.specs.declared.long_fault.LongRunFault.TheVariants as long
 use Rattle.thp_cli.specs.Devices.{IsFrontOf, WritesFront}
 use Rattle.thp_cli.specs.Passages.{WritesAnswer}
-use Rattle.thp_cli.specs.RunFaults.{fault_of_summary, seen_fault, IsReadingFault}
+use Rattle.thp_cli.specs.RunFaults.{fault_of_long_read, seen_fault, IsReadingFault}
 use Rattle.thp_cli.specs.Verdicts.{verdict_text}
 use Rattle.thp_cli.proofs.PassageLaws.{ends_cut, ends_early, ends_written, fault_of_journal, keeps_same, same_journals}
 use Rattle.thp_journal_tools.specs.Checks.{line_of, IsCheckOf, IsFindFault, IsFound, LongEnds}
@@ -53,7 +52,7 @@ module _ (known : Option (List ℕ)) (bytes : List ℕ) (read : IfSome known (Is
       subst P (sym is) (bytes, read, told, same)
 
   -- or memory for the last totals was refused
-  pub err_at_summary : {A : Type 0} (fault : SummaryFault) (r : Result A LongRunFault) → IsErrAnd r (λ e. e ≡ fault_of_summary fault) → ReportsSummaryFault (journals_within max_counted bytes) fault → IfErr r (λ e. IsFindFault known failed (seen_fault e))
+  pub err_at_summary : {A : Type 0} (fault : LongReadFault) (r : Result A LongRunFault) → IsErrAnd r (λ e. e ≡ fault_of_long_read fault) → ReportsLongReadFault (journals_within max_counted bytes) fault → IfErr r (λ e. IsFindFault known failed (seen_fault e))
   err_at_summary (summary.Text fault) r is told = err_at_text fault.line fault.kind r is told
   err_at_summary summary.OutOfMemory (Ok found) is told = absurd is
   err_at_summary summary.OutOfMemory (Err e) is told =

@@ -23,7 +23,7 @@ use Rattle.thp_journal_tools.specs.Checks.{IsFindFault}
 use Rattle.thp_journal_tools.specs.Drawings.{Draws, IsDrawingOf, IsFound, LacksNode, Shows}
 use Rattle.thp_journal_tools.specs.DrawOutcomes.{end_of, Does, IsOutputFault}
 use Rattle.thp_journal_tools.specs.Nodes.{IsDrawnOf}
-use Rattle.thp_journal_tools.specs.Outcomes.{fault_at_end}
+use Rattle.thp_journal_tools.specs.Requests.{fault_at_end}
 use Rattle.thp_journal_tools.proofs.CheckLaws.{ends_at_find, ends_at_write, ends_told, none_at_find}
 
 -- the text of what was found

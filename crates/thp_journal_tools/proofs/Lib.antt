@@ -5,3 +5,4 @@ mod CountLaws
 mod ProgressLaws
 mod NodeLaws
 mod DrawLaws
+pub mod KeptLaws

@@ -7,9 +7,9 @@ use Rattle.thp_drawing.specs.declared.illegal_event.IllegalEvent.{IllegalEvent}
 use Rattle.thp_drawing.specs.declared.node.DrawnNode.{DrawnNode}
 use Rattle.thp_journal_reader.specs.declared.illegal.Illegal.{Illegal}
 use Rattle.thp_journal_reader.specs.declared.journals.NodeJournal.{NodeJournal}
-use Rattle.thp_journal_reader.specs.declared.numbered.NumberedNode.{NumberedNode}
+use Rattle.thp_journal_tools.specs.declared.numbered.NumberedNode.{NumberedNode}
 use Rattle.thp_journal_reader.specs.Answers.{IsFirstIllegalEvent, ReportsFirst}
-use Rattle.thp_journal_reader.specs.Numbered.{IsNumbered}
+use Rattle.thp_journal_tools.specs.Numbered.{IsNumbered}
 use Rattle.thp_metrics.specs.Stuck.{AreStuck}
 use Rattle.thp_metrics.specs.declared.stuck_page.StuckPage.{StuckPage}
 use Rattle.thp_metrics.specs.declared.numbers.Numbers.{Numbers}

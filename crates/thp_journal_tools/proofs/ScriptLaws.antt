@@ -8,14 +8,14 @@ use Rattle.thp_cli.specs.declared.fault.RunFault.TheVariants.{Text, OutOfMemory,
 use Rattle.thp_cli.specs.declared.long_fault.LongRunFault.{LongRunFault}
 use Rattle.thp_cli.specs.declared.long_fault.LongRunFault.TheVariants as long
 use Rattle.thp_cli.specs.Devices.{IsFrontOf, WritesFront}
-use Rattle.thp_cli.specs.RunFaults.{fault_of_summary, seen_fault}
+use Rattle.thp_cli.specs.RunFaults.{fault_of_long_read, seen_fault}
 use Rattle.thp_journal_tools.specs.Scripting.{script_end, Grows, IsDeviceFault, IsScriptEnd}
 use Rattle.thp_journal_tools.specs.declared.scripting.ScriptFinding.{ScriptFinding}
 use Rattle.thp_script.specs.Limits.{max_counted}
-use Rattle.thp_journal_reader.specs.declared.summed.SummaryFault.{SummaryFault}
-use Rattle.thp_journal_reader.specs.declared.summed.SummaryFault.TheVariants as summary
+use Rattle.thp_journal_reader.specs.declared.illegal.LongReadFault.{LongReadFault}
+use Rattle.thp_journal_reader.specs.declared.illegal.LongReadFault.TheVariants as summary
 use Rattle.thp_journal_reader.specs.Journals.{journals_within}
-use Rattle.thp_journal_reader.specs.Summaries.{ReportsSummaryFault}
+use Rattle.thp_journal_reader.specs.Answers.{ReportsLongReadFault}
 
 -- ---- a writer that takes texts
 
@@ -98,8 +98,8 @@ is_err (Ok x) P is = absurd is
 is_err (Err e) P is = tt
 
 -- the journal has an error, or memory could not be allocated
-pub end_at_finish : (known old new : Option (List ℕ)) (bytes : List ℕ) → IfSome known (IsFrontOf max_counted bytes) → (rf wf : Bool) → rf ≡ false → wf ≡ false → (fault : SummaryFault) (r : Result ScriptFinding LongRunFault)
-    → IsErrAnd r (λ e. e ≡ fault_of_summary fault) → ReportsSummaryFault (journals_within max_counted bytes) fault → IsScriptEnd known old new rf wf (script_end r)
+pub end_at_finish : (known old new : Option (List ℕ)) (bytes : List ℕ) → IfSome known (IsFrontOf max_counted bytes) → (rf wf : Bool) → rf ≡ false → wf ≡ false → (fault : LongReadFault) (r : Result ScriptFinding LongRunFault)
+    → IsErrAnd r (λ e. e ≡ fault_of_long_read fault) → ReportsLongReadFault (journals_within max_counted bytes) fault → IsScriptEnd known old new rf wf (script_end r)
 end_at_finish known old new bytes read rf wf no_read no_write fault (Ok found) is told = absurd is
 end_at_finish known old new bytes read rf wf no_read no_write (summary.Text fault) (Err e) is told =
     subst (λ (f : LongRunFault). IsScriptEnd known old new rf wf (Err (seen_fault f))) (sym is) ((bytes, read, told), no_read, no_write)

@@ -5,10 +5,10 @@ use Rattle.thp_check.specs.Explanations.{explanation}
 use Rattle.thp_journal_reader.specs.declared.illegal.Illegal.{Illegal}
 use Rattle.thp_journal_reader.specs.declared.journals.Journals.{Journals}
 use Rattle.thp_journal_reader.specs.declared.journals.NodeJournal.{NodeJournal}
-use Rattle.thp_journal_reader.specs.declared.summed.Summed.{Summed}
+use Rattle.thp_journal_tools.specs.declared.summed.Summed.{Summed}
 use Rattle.thp_journal_reader.specs.Answers.{ReportsFirst}
 use Rattle.thp_journal_reader.specs.Journals.{journals_within}
-use Rattle.thp_journal_reader.specs.Summaries.{AreSummaries}
+use Rattle.thp_journal_tools.specs.Summaries.{AreSummaries}
 use Rattle.thp_journal_writer.specs.Totals.{lines_from}
 use Rattle.thp_journal_writer.specs.declared.totals.Totals.{Totals}
 use Rattle.thp_cli.specs.declared.fault.RunFault.{RunFault}

@@ -1,19 +1,16 @@
--- The effect of the program on its words, its input and its outputs, and its exit status (this project's profile).
-use Rattle.std.specs.Prelude.{◌≡◌, ◌≤◌, ◌⊎◌, ℕ, length, List, Option, Some, Result, Ok, Err}
-use Rattle.thp_journal_tools.specs.Outcomes.{fault_at_end}
+-- What `thpdraw` does with a journal, as its options request (this project's profile).
+use Rattle.std.specs.Prelude.{◌≡◌, ◌≤◌, ℕ, Bool, length, List, Option, Some, None, Result, Ok, Err}
+use Rattle.thp_journal_tools.specs.Progress.{may_show}
+use Rattle.thp_journal_tools.specs.Requests.{fault_at_end}
 use Rattle.thp_drawing.specs.declared.node.DrawnNode.{DrawnNode}
 use Rattle.thp_journal_tools.specs.declared.end_fault.EndFault.{EndFault}
 use Rattle.thp_journal_tools.specs.declared.end_fault.EndFault.TheVariants as ended
 use Rattle.thp_cli.specs.declared.ending.Ending.{Ending}
-use Rattle.thp_cli.specs.declared.ending.Program.TheVariants.{Thpdraw}
 use Rattle.thp_cli.specs.declared.ending.ProgramFault.{ProgramFault}
-use Rattle.thp_cli.specs.declared.ending.ProgramFault.TheVariants.{Run, NoNode, NoText}
-use Rattle.thp_cli.specs.declared.ending.WordsFault.{WordsFault}
-use Rattle.thp_cli.specs.declared.ending.WordsFault.TheVariants as words
+use Rattle.thp_cli.specs.declared.ending.ProgramFault.TheVariants.{Run, NoNode}
 use Rattle.thp_cli.specs.declared.long_fault.LongRunFault.TheVariants.{OutOfMemory}
-use Rattle.thp_cli.specs.Outcomes.{Device, IsShort, IsUnread, IsUntouched, Source, WritesMessage, WasAnsweredBy}
+use Rattle.thp_cli.specs.Outcomes.{Device, Source}
 use Rattle.thp_journal_tools.specs.declared.draw_options.DrawOptions.{DrawOptions}
-use Rattle.thp_journal_tools.specs.DrawCommandLine.{AnswersWords}
 use Rattle.thp_journal_tools.specs.Drawings.{Draws, FindsNoNode}
 
 -- how the program ended
@@ -34,24 +31,10 @@ Does options input output (Err (Run fault)) = Draws options input output (Err fa
 Does options input output (Err (NoNode number)) = FindsNoNode options input output number
 Does options input output (Err _) = ⊥
 
--- the words request a drawing, and that was done
-pub record DidDraw (words : List (List ℕ)) (input : Source) (output : Device) (result : Result Ending ProgramFault) : Type 0 where
-  pub options : DrawOptions
-  pub accepted : AnswersWords words (Ok options)
-  pub does : Does options input output result
+-- the same, and there is no text for standard error
+abbrev pub DoesRequest : DrawOptions → Source → Device → Result Ending ProgramFault → Option (List ℕ) → Type 0
+DoesRequest options input output result notes = Does options input output result × (notes ≡ None)
 
--- nothing was drawn: the words were rejected or request a text, or memory could not be allocated
-abbrev pub DidNothing : List (List ℕ) → Source → Device → Result Ending ProgramFault → Type 0
-DidNothing words input output result = WasAnsweredBy (λ error. AnswersWords words (Err error)) input output result ⊎ IsShort input output result
-
--- what was done with the words, the input and standard output, by how it ended
-abbrev pub Served : Result (List (List ℕ)) WordsFault → Source → Device → Result Ending ProgramFault → Type 0
-Served (Ok words) input output result = DidDraw words input output result ⊎ DidNothing words input output result
-Served (Err words.NotText) input output result = (result ≡ Err NoText) × IsUntouched output × IsUnread input
-Served (Err words.OutOfMemory) input output result = IsShort input output result
-
--- how the program ends: what it did, what it reported about that and its exit status
-pub record Finishes (given : Result (List (List ℕ)) WordsFault) (input : Source) (output errors : Device) (status : ℕ) : Type 0 where
-  pub end : Result Ending ProgramFault
-  pub served : Served given input output end
-  pub told : WritesMessage Thpdraw errors status end
+-- the progress may be shown
+abbrev pub shows_progress : DrawOptions → Bool → Bool
+shows_progress options is_terminal = may_show options.progress is_terminal

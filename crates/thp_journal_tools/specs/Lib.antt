@@ -1,8 +1,8 @@
-pub mod Asking
 pub mod CommandLine
 pub mod Checks
 pub mod Counting
 pub mod Scripting
+pub mod Requests
 pub mod Outcomes
 pub mod Progress
 pub mod Reaching
@@ -11,5 +11,7 @@ pub mod Making
 pub mod Words
 pub mod Nodes
 pub mod Drawings
-pub mod DrawAsking
 pub mod DrawOutcomes
+pub mod Summaries
+pub mod Numbered
+pub mod Keeping

@@ -5,7 +5,7 @@ use Rattle.thp_drawing.specs.Drawn.{AreColumnsOf}
 use Rattle.thp_drawing.specs.declared.illegal_event.IllegalEvent.{IllegalEvent}
 use Rattle.thp_drawing.specs.declared.node.DrawnNode.{DrawnNode}
 use Rattle.thp_journal_reader.specs.declared.illegal.Illegal.{Illegal}
-use Rattle.thp_journal_reader.specs.declared.numbered.NumberedNode.{NumberedNode}
+use Rattle.thp_journal_tools.specs.declared.numbered.NumberedNode.{NumberedNode}
 
 -- the line and the event of the first illegal event
 abbrev pub told_of : Option Illegal → Option IllegalEvent

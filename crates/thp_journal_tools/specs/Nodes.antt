@@ -5,8 +5,7 @@ use Rattle.thp_drawing.specs.Drawn.{AreColumnsOf}
 use Rattle.thp_drawing.specs.declared.illegal_event.IllegalEvent.{IllegalEvent}
 use Rattle.thp_drawing.specs.declared.node.DrawnNode.{DrawnNode}
 use Rattle.thp_journal_reader.specs.declared.journals.NodeJournal.{NodeJournal}
-use Rattle.thp_journal_reader.specs.Answers.{IsFirstIllegal, IsLegalNode}
-use Rattle.thp_journal_reader.specs.Summaries.{IsLegalFront}
+use Rattle.thp_journal_reader.specs.Answers.{IsFirstIllegal, IsLegalNode, IsLegalFront}
 use Rattle.thp_model.specs.History.{History}
 use Rattle.thp_metrics.specs.Series.{numbers_at, series}
 use Rattle.thp_metrics.specs.Stuck.{AreStuck}

@@ -1,37 +1,16 @@
--- The effect of the program on its words, its input and its outputs, and its exit status (this project's profile).
-use Rattle.std.specs.Prelude.{◌≡◌, ◌⊎◌, ℕ, Bool, true, false, List, Option, Some, None, Result, Ok, Err, option_map}
+-- What `thpcheck` does with a journal, as its options request (this project's profile).
+use Rattle.std.specs.Prelude.{◌≡◌, ◌&&◌, ℕ, Bool, true, false, not, List, Option, Some, None, Result, Ok, Err}
 use Rattle.thp_journal_reader.specs.declared.illegal.Illegal.{Illegal}
 use Rattle.thp_cli.specs.declared.ending.Ending.{Ending}
 use Rattle.thp_cli.specs.declared.ending.Ending.TheVariants.{Written, Illegal as IsIllegal}
-use Rattle.thp_cli.specs.declared.ending.Program.TheVariants.{Thpcheck}
 use Rattle.thp_cli.specs.declared.ending.ProgramFault.{ProgramFault}
-use Rattle.thp_cli.specs.declared.ending.ProgramFault.TheVariants.{Run, NoText}
-use Rattle.thp_cli.specs.declared.ending.WordsFault.{WordsFault}
-use Rattle.thp_cli.specs.declared.ending.WordsFault.TheVariants as words
-use Rattle.thp_cli.specs.Outcomes.{Device, IsShort, IsUnread, IsUntouched, Source, Takes, WritesMessage, WasAnsweredBy, end_status}
-use Rattle.thp_cli.specs.RunFaults.{seen_fault}
-use Rattle.thp_journal_tools.specs.declared.end_fault.EndFault.{EndFault}
-use Rattle.thp_journal_tools.specs.declared.end_fault.EndFault.TheVariants as ended
+use Rattle.thp_cli.specs.declared.ending.ProgramFault.TheVariants.{Run}
+use Rattle.thp_cli.specs.Outcomes.{Device, Source}
 use Rattle.thp_journal_tools.specs.declared.options.CheckOptions.{CheckOptions}
-use Rattle.thp_journal_tools.specs.declared.program.CheckEnd.{CheckEnd}
 use Rattle.thp_journal_tools.specs.Checks.{explanation_of, Checks}
-use Rattle.thp_journal_tools.specs.CommandLine.{AnswersWords}
 use Rattle.thp_journal_tools.specs.declared.scripting.ScriptFinding.{ScriptFinding}
+use Rattle.thp_journal_tools.specs.Progress.{may_show}
 use Rattle.thp_journal_tools.specs.Scripting.{notes_of, Scripts}
-
--- why the program did not do what was requested, in the terms of both programs
-abbrev pub fault_at_end : EndFault → ProgramFault
-fault_at_end (ended.Journal fault) = Run (seen_fault fault)
-fault_at_end (ended.Words fault) = fault
-
--- how the program ended, and the explanation to write
-abbrev pub end_of : Result CheckEnd EndFault → Result Ending ProgramFault
-end_of (Ok done) = Ok done.ending
-end_of (Err fault) = Err (fault_at_end fault)
-
-abbrev pub explained_by : Result CheckEnd EndFault → Option (List ℕ)
-explained_by (Ok done) = option_map (λ t. t.items) done.explanation
-explained_by (Err fault) = None
 
 -- how the check of a journal ends the program, by its first illegal event
 abbrev pub ending_of : Option Illegal → Ending
@@ -69,36 +48,10 @@ abbrev pub DoesAsked : Bool → CheckOptions → Source → Device → Result En
 DoesAsked false = Does
 DoesAsked true = DoesScript
 
--- the words request the check or a script, and that was done
-pub record DidCheck (words : List (List ℕ)) (input : Source) (output : Device) (result : Result Ending ProgramFault) (explanation : Option (List ℕ)) : Type 0 where
-  pub options : CheckOptions
-  pub accepted : AnswersWords words (Ok options)
-  pub does : DoesAsked options.script options input output result explanation
+-- what was done with the journal as the options request
+abbrev pub DoesRequest : CheckOptions → Source → Device → Result Ending ProgramFault → Option (List ℕ) → Type 0
+DoesRequest options = DoesAsked options.script options
 
--- nothing was checked: the words were rejected or request a text, or memory could not be allocated
-abbrev pub DidNothing : List (List ℕ) → Source → Device → Result Ending ProgramFault → Option (List ℕ) → Type 0
-DidNothing words input output result explanation =
-    (WasAnsweredBy (λ error. AnswersWords words (Err error)) input output result ⊎ IsShort input output result) × (explanation ≡ None)
-
--- what was done with the words, the input and standard output, by how it ended
-abbrev pub Served : Result (List (List ℕ)) WordsFault → Source → Device → Result Ending ProgramFault → Option (List ℕ) → Type 0
-Served (Ok words) input output result explanation = DidCheck words input output result explanation ⊎ DidNothing words input output result explanation
-Served (Err words.NotText) input output result explanation = (result ≡ Err NoText) × IsUntouched output × IsUnread input × (explanation ≡ None)
-Served (Err words.OutOfMemory) input output result explanation = IsShort input output result × (explanation ≡ None)
-
--- standard error took the explanation, if there is one, otherwise nothing
-abbrev pub TakesExplanation : Device → Option (List ℕ) → Type 0
-TakesExplanation errors None = IsUntouched errors
-TakesExplanation errors (Some text) = Takes errors text
-
--- the text that standard error took, and the exit status: an explanation does not change the latter
-abbrev pub ReportsEnd : Device → ℕ → Result Ending ProgramFault → Option (List ℕ) → Type 0
-ReportsEnd errors status (Ok ending) explanation = TakesExplanation errors explanation × (status ≡ end_status ending)
-ReportsEnd errors status (Err fault) explanation = WritesMessage Thpcheck errors status (Err fault)
-
--- how the program ends: what it did, what it reported about that and its exit status
-pub record Finishes (given : Result (List (List ℕ)) WordsFault) (input : Source) (output errors : Device) (status : ℕ) : Type 0 where
-  pub end : Result Ending ProgramFault
-  pub explanation : Option (List ℕ)
-  pub served : Served given input output end explanation
-  pub told : ReportsEnd errors status end explanation
+-- the progress of a check may be shown; that of a script is not
+abbrev pub shows_progress : CheckOptions → Bool → Bool
+shows_progress options is_terminal = not options.script && may_show options.progress is_terminal

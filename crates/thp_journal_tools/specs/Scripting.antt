@@ -4,11 +4,11 @@ use Rattle.std.specs.Fmt.{decimal}
 use Rattle.std.specs.Io.KnownBytes.{Appends}
 use Rattle.thp_script.specs.Limits.{max_counted}
 use Rattle.thp_check.specs.Explanations.{explanation}
-use Rattle.thp_journal_reader.specs.declared.moved.Moved.{Moved}
+use Rattle.thp_journal_scripts.specs.declared.moved.Moved.{Moved}
 use Rattle.thp_journal_reader.specs.declared.illegal.Illegal.{Illegal}
 use Rattle.thp_journal_reader.specs.declared.journals.Journals.{Journals}
 use Rattle.thp_journal_reader.specs.Answers.{ReportsFirst}
-use Rattle.thp_journal_reader.specs.JournalScripts.{IsScriptOf}
+use Rattle.thp_journal_scripts.specs.JournalScripts.{IsScriptOf}
 use Rattle.thp_journal_reader.specs.Journals.{journals_within}
 use Rattle.thp_cli.specs.declared.fault.RunFault.{RunFault}
 use Rattle.thp_cli.specs.declared.fault.RunFault.TheVariants.{Text, OutOfMemory, Read, Write}

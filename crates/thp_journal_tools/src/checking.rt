@@ -13,12 +13,13 @@ ghost use Rattle.thp_journal_tools.specs.Progress.{may_show, ShowsProgress};
 use crate::finding::find;
 use crate::options::CheckOptions;
 use crate::screen::Screen;
+use crate::summed::Summed;
 use std::alloc::{AllocError, Global};
 use std::io::{Read, Write};
 use std::time::Clock;
 use thp_check::put_explanation;
 use thp_cli::{LongRunFault, Watched, verdict, write_text};
-use thp_journal_reader::{Illegal, Summed};
+use thp_journal_reader::Illegal;
 use thp_journal_writer::{put, put_totals_of_each};
 
 /// The result of the check of a journal.

@@ -10,7 +10,10 @@ ghost use Rattle.thp_cli.specs.RunFaults.{seen_fault};
 ghost use Rattle.thp_script.specs.Limits.{max_counted};
 ghost use Rattle.thp_journal_tools.specs.Drawings.{IsFound};
 
+use crate::keeping_check::KeepingCheck;
 use crate::nodes::drawn_nodes;
+use crate::numbered::NumberedNode;
+use crate::series_node::SeriesNode;
 use crate::{Screen, read_journal};
 use std::alloc::Global;
 use std::io::{Read, Write};
@@ -18,7 +21,6 @@ use std::time::Clock;
 use thp_check::Misfit;
 use thp_cli::{LongRunFault, Program, Watched};
 use thp_drawing::DrawnNode;
-use thp_journal_reader::SeriesCheck;
 use thp_model::{Outcome, Refusal, What};
 
 /// Reads the journal from the reader in parts, and returns what is drawn of its nodes.
@@ -43,9 +45,9 @@ pub(crate) fn find_nodes<R: Read, S: Write, C: Clock>(
         Refusal::NoPage,
         Misfit::BlockTaken,
     );
-    let check = SeriesCheck::new(alloc);
+    let check: KeepingCheck<NumberedNode, SeriesNode> = KeepingCheck::new(alloc);
     let check = read_journal(alloc, Program::Thpdraw, asked, check, reader, screen)?;
-    let numbered = check.finish()?;
+    let (_, numbered) = check.finish()?;
     let nodes = drawn_nodes(alloc, numbered)?;
     Ok(nodes)
 }

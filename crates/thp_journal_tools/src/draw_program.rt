@@ -1,48 +1,53 @@
 //! The program `thpdraw`: from the words of its command line to its exit status.
 ghost use Rattle.std.specs.Prelude.{◌≡◌, false};
+ghost use Rattle.thp_cli.specs.declared.ending.Program.TheVariants.{Thpdraw};
 ghost use Rattle.thp_cli.specs.Outcomes.{device_of, given_words, source_of};
-ghost use Rattle.thp_journal_tools.specs.DrawAsking.{ShowsAsAsked};
-ghost use Rattle.thp_journal_tools.specs.DrawOutcomes.{end_of, Finishes, Served};
+ghost use Rattle.thp_journal_tools.specs.DrawCommandLine.{AnswersWords};
+ghost use Rattle.thp_journal_tools.specs.DrawOutcomes.{shows_progress, DoesRequest};
+ghost use Rattle.thp_journal_tools.specs.Requests.{Finishes, ShowsAsAsked};
 
-use crate::draw_options::read_words;
+use crate::draw_options::{DrawOptions, read_words};
+use crate::end_fault::EndFault;
+use crate::request::{ProgramEnd, Request, run_request};
+use crate::screen::Screen;
 use crate::writing::draw;
-use crate::{EndFault, Screen};
+use clap::Error;
 use std::alloc::Global;
 use std::io::{Read, Write};
 use std::time::Clock;
-use thp_cli::{
-    Ending, LongRunFault, Program, ProgramFault, Watched, WordsFault, answer, status_of_ending,
-    tell, tell_run, texts_of,
-};
+use thp_cli::{Program, Watched, WordsFault};
 
-/// Executes what the words request.
-fn serve<R: Read, W: Write, S: Write, C: Clock>(
-    alloc: Global,
-    words: &Result<Vec<String>, WordsFault>,
-    reader: &mut Watched<R>,
-    output: &mut Watched<W>,
-    screen: &mut Screen<S, C>,
-) -> Result<Ending, EndFault>
-    requires reader { reader.old.failed ≡ false }
-    requires output { output.old.failed ≡ false }
-    requires screen { screen.old.writer.failed ≡ false }
-    ensures served { Served (given_words words.now) (source_of R.remaining reader.old reader.new) (device_of W.contents output.old output.new) (end_of result) }
-    ensures screen { ShowsAsAsked (given_words words.now) screen.old.is_terminal (source_of R.remaining reader.old reader.new) (device_of S.contents screen.old.writer screen.new.writer) }
-{
-    let words = match words {
-        Ok(words) => words,
-        Err(WordsFault::NotText) => return Err(EndFault::Words(ProgramFault::NoText)),
-        Err(WordsFault::OutOfMemory) => return Err(EndFault::Journal(LongRunFault::OutOfMemory)),
-    };
-    let Ok(texts) = texts_of(alloc, words.as_slice()) else {
-        return Err(EndFault::Journal(LongRunFault::OutOfMemory));
-    };
-    match read_words(alloc, texts.as_slice()) {
-        Ok(options) => draw(alloc, options, reader, output, screen),
-        Err(error) => match answer(alloc, &error, output) {
-            Ok(()) => Ok(Ending::Written),
-            Err(fault) => Err(EndFault::Words(fault)),
-        },
+impl Request for DrawOptions {
+    ghost program = { Thpdraw };
+
+    ghost answers = { AnswersWords };
+
+    ghost does = { DoesRequest };
+
+    ghost shows = { shows_progress };
+
+    fn program() -> Program {
+        Program::Thpdraw
+    }
+
+    fn read<'a>(alloc: Global, words: &'a [&'a str]) -> Result<DrawOptions, Error> {
+        read_words(alloc, words)
+    }
+
+    fn perform<R: Read, W: Write, S: Write, C: Clock>(
+        self,
+        alloc: Global,
+        reader: &mut Watched<R>,
+        output: &mut Watched<W>,
+        screen: &mut Screen<S, C>,
+    ) -> Result<ProgramEnd, EndFault> {
+        match draw(alloc, self, reader, output, screen) {
+            Ok(ending) => Ok(ProgramEnd {
+                ending,
+                notes: None,
+            }),
+            Err(fault) => Err(fault),
+        }
     }
 }
 
@@ -69,12 +74,8 @@ pub fn run_draw_program<R: Read, W: Write, E: Write, S: Write, C: Clock>(
     requires output { output.old.failed ≡ false }
     requires errors { errors.old.failed ≡ false }
     requires screen { screen.old.writer.failed ≡ false }
-    ensures finishes { Finishes (given_words words) (source_of R.remaining reader.old reader.new) (device_of W.contents output.old output.new) (device_of E.contents errors.old errors.new) result }
-    ensures screen { ShowsAsAsked (given_words words) screen.old.is_terminal (source_of R.remaining reader.old reader.new) (device_of S.contents screen.old.writer screen.new.writer) }
+    ensures finishes { Finishes Thpdraw AnswersWords DoesRequest (given_words words) (source_of R.remaining reader.old reader.new) (device_of W.contents output.old output.new) (device_of E.contents errors.old errors.new) result }
+    ensures screen { ShowsAsAsked Thpdraw AnswersWords shows_progress (given_words words) screen.old.is_terminal (source_of R.remaining reader.old reader.new) (device_of S.contents screen.old.writer screen.new.writer) }
 {
-    match serve(alloc, &words, reader, output, screen) {
-        Ok(ending) => status_of_ending(ending),
-        Err(EndFault::Journal(fault)) => tell_run(Program::Thpdraw, fault, errors),
-        Err(EndFault::Words(fault)) => tell(Program::Thpdraw, fault, errors),
-    }
+    run_request::<DrawOptions, R, W, E, S, C>(alloc, words, reader, output, errors, screen)
 }

@@ -9,15 +9,19 @@ ghost use Rattle.thp_cli.specs.RunFaults.{seen_fault};
 ghost use Rattle.thp_journal_tools.specs.Checks.{IsFindFault, IsFound};
 ghost use Rattle.thp_journal_tools.specs.Progress.{may_show, ShowsProgress};
 
+use crate::keeping_check::KeepingCheck;
 use crate::options::CheckOptions;
 use crate::reading::read_journal;
 use crate::screen::Screen;
+use crate::summed::Summed;
+use crate::summed_node::SummedNode;
 use std::alloc::Global;
 use std::io::{Read, Write};
 use std::time::Clock;
 use thp_check::Misfit;
 use thp_cli::{LongRunFault, Program, Watched};
-use thp_journal_reader::{LongCheck, Summed, SummedCheck};
+use thp_journal_reader::LongCheck;
+use thp_journal_writer::Totals;
 use thp_model::{Outcome, Refusal, What};
 
 /// Returns the first illegal event of the journal from the reader, which is read in parts, and the totals of its nodes if the
@@ -45,10 +49,10 @@ pub(crate) fn find<R: Read, S: Write, C: Clock>(
     );
     let asked = options.progress;
     if options.summary {
-        let check = SummedCheck::new(alloc);
+        let check: KeepingCheck<Totals, SummedNode> = KeepingCheck::new(alloc);
         let check = read_journal(alloc, Program::Thpcheck, asked, check, reader, screen)?;
-        let summed = check.finish()?;
-        return Ok(summed);
+        let (illegal, totals) = check.finish()?;
+        return Ok(Summed { illegal, totals });
     }
     let check = LongCheck::new(alloc);
     let check = read_journal(alloc, Program::Thpcheck, asked, check, reader, screen)?;

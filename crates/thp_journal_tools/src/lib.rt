@@ -2,14 +2,16 @@
 //!
 //! What they share with `thpsplit` is in `thp_cli`.
 //!
+//! - Both: `request` (from words to a status, for any kind of request; `Requests`), `end_fault` (how a program ends early),
+//!   `keeping_check` (a check that keeps data of each node): totals (`summed_node`, `summed`; `Keeping`, `Summaries`) or numbers
+//!   (`series_node`, `numbered`; `Keeping`, `Numbered`).
 //! - `thpcheck`: `program`, `options`, `help`, `finding` (what is read), `checking` (what is written); `Checks`, `Outcomes`,
-//!   `CommandLine`, `Asking`.
+//!   `CommandLine`.
 //! - `thpcheck --script`: `scripting` (the loop), `notes` (what standard error gets); `Scripting`.
 //! - `thpdraw`: `draw_program`, `draw_options`, `draw_help`, `draw_finding`, `nodes` (what is drawn of a node), `writing`;
-//!   `Nodes`, `Drawings`, `DrawOutcomes`, `DrawCommandLine`, `DrawAsking`.
+//!   `Nodes`, `Drawings`, `DrawOutcomes`, `DrawCommandLine`.
 //! - Progress on a terminal: `progress` (the line), `screen` (when one is due), `counting` (events by their bytes), `reading`
 //!   (the loop); `Progress`, `Counting`, `Reaching`; proofs `ProgressLaws`, `CountLaws`.
-//! - `end_fault`: how a program ends early.
 #![tactic(auto)]
 
 mod checking;
@@ -21,24 +23,35 @@ mod draw_program;
 mod end_fault;
 mod finding;
 mod help;
+mod keeping_check;
 mod nodes;
 mod notes;
+mod numbered;
 mod options;
 mod program;
 mod progress;
 mod reading;
+mod request;
 mod screen;
 mod scripting;
+mod series_node;
+mod summed;
+mod summed_node;
 mod writing;
 
 pub use checking::{CheckFinding, check_long};
 pub use draw_options::{DrawOptions, Drawing};
 pub use draw_program::run_draw_program;
 pub use end_fault::EndFault;
+pub use keeping_check::KeepingCheck;
+pub use numbered::NumberedNode;
 pub use options::{CheckOptions, read_words};
 pub use program::run_check_program;
 pub use reading::read_journal;
 pub use screen::Screen;
 pub use scripting::{ScriptFinding, write_script};
+pub use series_node::SeriesNode;
+pub use summed::Summed;
+pub use summed_node::SummedNode;
 pub use thp_cli::{LongRunFault, Watched, WordsFault, words_of};
 pub use writing::draw;

@@ -2,9 +2,10 @@
 ghost use Rattle.std.specs.Prelude.{◌≡◌, IfOk};
 ghost use Rattle.thp_journal_tools.specs.Making.{told_of, AreMadeOf, IsMadeOf};
 
+use crate::numbered::NumberedNode;
 use std::alloc::{AllocError, Global};
 use thp_drawing::{DrawnNode, IllegalEvent};
-use thp_journal_reader::{Illegal, NumberedNode};
+use thp_journal_reader::Illegal;
 
 /// Converts the first illegal event of a node for its drawing.
 fn told_of(illegal: &Option<Illegal>) -> Option<IllegalEvent>

@@ -7,7 +7,8 @@ use crate::scripting::ScriptFinding;
 use std::alloc::{AllocError, Global};
 use thp_check::put_explanation;
 use thp_cli::verdict;
-use thp_journal_reader::{Illegal, Moved};
+use thp_journal_reader::Illegal;
+use thp_journal_scripts::Moved;
 use thp_journal_writer::{put, put_number};
 
 /// Returns the text about a script: the line of the first illegal event, why it is illegal if that is requested, and what the

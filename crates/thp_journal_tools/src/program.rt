@@ -1,33 +1,25 @@
 //! The program `thpcheck`: from the words of its command line to its exit status.
-ghost use Rattle.std.specs.Prelude.{◌≡◌, false, option_map};
+ghost use Rattle.std.specs.Prelude.{◌≡◌, false};
 ghost use Rattle.thp_cli.specs.declared.ending.Program.TheVariants.{Thpcheck};
 ghost use Rattle.thp_cli.specs.Outcomes.{device_of, given_words, source_of};
-ghost use Rattle.thp_journal_tools.specs.Outcomes.{end_of, ending_of, explained_by, Does, DoesAsked, DoesScript, Finishes, Served, TakesExplanation};
-ghost use Rattle.thp_journal_tools.specs.Asking.{shows_progress, ShowsAsAsked};
+ghost use Rattle.thp_journal_tools.specs.CommandLine.{AnswersWords};
+ghost use Rattle.thp_journal_tools.specs.Outcomes.{ending_of, shows_progress, Does, DoesRequest, DoesScript};
 ghost use Rattle.thp_journal_tools.specs.Progress.{may_show, ShowsProgress};
+ghost use Rattle.thp_journal_tools.specs.Requests.{end_of, notes_by, Finishes, ShowsAsAsked};
 
 use crate::checking::check_long;
 use crate::end_fault::EndFault;
 use crate::notes::notes_of;
 use crate::options::{CheckOptions, read_words};
+use crate::request::{ProgramEnd, Request, run_request};
 use crate::screen::Screen;
 use crate::scripting::write_script;
+use clap::Error;
 use std::alloc::Global;
 use std::io::{Read, Write};
 use std::time::Clock;
-use thp_cli::{
-    Ending, LongRunFault, Program, ProgramFault, Watched, WordsFault, answer, status_of_ending,
-    tell, tell_run, tell_text, texts_of,
-};
+use thp_cli::{Ending, LongRunFault, Program, Watched, WordsFault};
 use thp_journal_reader::Illegal;
-
-/// How the program ended after doing what was requested.
-#[derive(Drop)]
-pub(crate) struct CheckEnd {
-    pub(crate) ending: Ending,
-    // the text for standard error: an explanation, or what is reported about a script
-    pub(crate) explanation: Option<Vec<u8>>,
-}
 
 /// Returns how the program ends after the check of a journal.
 fn ending_of(illegal: &Option<Illegal>) -> Ending
@@ -46,17 +38,17 @@ fn check<R: Read, W: Write, S: Write, C: Clock>(
     reader: &mut Watched<R>,
     output: &mut Watched<W>,
     screen: &mut Screen<S, C>,
-) -> Result<CheckEnd, EndFault>
+) -> Result<ProgramEnd, EndFault>
     requires reader { reader.old.failed ≡ false }
     requires output { output.old.failed ≡ false }
     requires screen { screen.old.writer.failed ≡ false }
-    ensures does { Does options (source_of R.remaining reader.old reader.new) (device_of W.contents output.old output.new) (end_of result) (explained_by result) }
+    ensures does { Does options (source_of R.remaining reader.old reader.new) (device_of W.contents output.old output.new) (end_of result) (notes_by result) }
     ensures screen { ShowsProgress Thpcheck (may_show options.progress screen.old.is_terminal) (R.remaining reader.old.device) (device_of S.contents screen.old.writer screen.new.writer) }
 {
     match check_long(alloc, options, reader, output, screen) {
-        Ok(checked) => Ok(CheckEnd {
+        Ok(checked) => Ok(ProgramEnd {
             ending: ending_of(&checked.illegal),
-            explanation: checked.explanation,
+            notes: checked.explanation,
         }),
         Err(fault) => Err(EndFault::Journal(fault)),
     }
@@ -68,86 +60,53 @@ fn script<R: Read, W: Write>(
     options: CheckOptions,
     reader: &mut Watched<R>,
     output: &mut Watched<W>,
-) -> Result<CheckEnd, EndFault>
+) -> Result<ProgramEnd, EndFault>
     requires reader { reader.old.failed ≡ false }
     requires output { output.old.failed ≡ false }
-    ensures does { DoesScript options (source_of R.remaining reader.old reader.new) (device_of W.contents output.old output.new) (end_of result) (explained_by result) }
+    ensures does { DoesScript options (source_of R.remaining reader.old reader.new) (device_of W.contents output.old output.new) (end_of result) (notes_by result) }
 {
     let found = match write_script(alloc, reader, output) {
         Ok(found) => found,
         Err(fault) => return Err(EndFault::Journal(fault)),
     };
     match notes_of(alloc, options, &found) {
-        Ok(notes) => Ok(CheckEnd {
+        Ok(notes) => Ok(ProgramEnd {
             ending: ending_of(&found.illegal),
-            explanation: notes,
+            notes,
         }),
         Err(_) => Err(EndFault::Journal(LongRunFault::OutOfMemory)),
     }
 }
 
-/// Checks the journal, or writes its script if that is requested.
-fn check_or_script<R: Read, W: Write, S: Write, C: Clock>(
-    alloc: Global,
-    options: CheckOptions,
-    reader: &mut Watched<R>,
-    output: &mut Watched<W>,
-    screen: &mut Screen<S, C>,
-) -> Result<CheckEnd, EndFault>
-    requires reader { reader.old.failed ≡ false }
-    requires output { output.old.failed ≡ false }
-    requires screen { screen.old.writer.failed ≡ false }
-    ensures does { DoesAsked options.script options (source_of R.remaining reader.old reader.new) (device_of W.contents output.old output.new) (end_of result) (explained_by result) }
-    ensures screen { ShowsProgress Thpcheck (shows_progress options screen.old.is_terminal) (R.remaining reader.old.device) (device_of S.contents screen.old.writer screen.new.writer) }
-{
-    if options.script {
-        script(alloc, options, reader, output)
-    } else {
-        check(alloc, options, reader, output, screen)
-    }
-}
+impl Request for CheckOptions {
+    ghost program = { Thpcheck };
 
-/// Executes what the words request.
-fn serve<R: Read, W: Write, S: Write, C: Clock>(
-    alloc: Global,
-    words: &Result<Vec<String>, WordsFault>,
-    reader: &mut Watched<R>,
-    output: &mut Watched<W>,
-    screen: &mut Screen<S, C>,
-) -> Result<CheckEnd, EndFault>
-    requires reader { reader.old.failed ≡ false }
-    requires output { output.old.failed ≡ false }
-    requires screen { screen.old.writer.failed ≡ false }
-    ensures served { Served (given_words words.now) (source_of R.remaining reader.old reader.new) (device_of W.contents output.old output.new) (end_of result) (explained_by result) }
-    ensures screen { ShowsAsAsked (given_words words.now) screen.old.is_terminal (source_of R.remaining reader.old reader.new) (device_of S.contents screen.old.writer screen.new.writer) }
-{
-    let words = match words {
-        Ok(words) => words,
-        Err(WordsFault::NotText) => return Err(EndFault::Words(ProgramFault::NoText)),
-        Err(WordsFault::OutOfMemory) => return Err(EndFault::Journal(LongRunFault::OutOfMemory)),
-    };
-    let Ok(texts) = texts_of(alloc, words.as_slice()) else {
-        return Err(EndFault::Journal(LongRunFault::OutOfMemory));
-    };
-    match read_words(alloc, texts.as_slice()) {
-        Ok(options) => check_or_script(alloc, options, reader, output, screen),
-        Err(error) => match answer(alloc, &error, output) {
-            Ok(()) => Ok(CheckEnd {
-                ending: Ending::Written,
-                explanation: None,
-            }),
-            Err(fault) => Err(EndFault::Words(fault)),
-        },
-    }
-}
+    ghost answers = { AnswersWords };
 
-/// Writes the explanation, if any, to standard error.
-fn explain<E: Write>(explanation: Option<Vec<u8>>, errors: &mut Watched<E>)
-    requires { errors.old.failed ≡ false }
-    ensures { TakesExplanation (device_of E.contents errors.old errors.new) (option_map (λ t. t.items) explanation) }
-{
-    if let Some(text) = explanation {
-        tell_text(errors, text.as_slice());
+    ghost does = { DoesRequest };
+
+    ghost shows = { shows_progress };
+
+    fn program() -> Program {
+        Program::Thpcheck
+    }
+
+    fn read<'a>(alloc: Global, words: &'a [&'a str]) -> Result<CheckOptions, Error> {
+        read_words(alloc, words)
+    }
+
+    fn perform<R: Read, W: Write, S: Write, C: Clock>(
+        self,
+        alloc: Global,
+        reader: &mut Watched<R>,
+        output: &mut Watched<W>,
+        screen: &mut Screen<S, C>,
+    ) -> Result<ProgramEnd, EndFault> {
+        if self.script {
+            script(alloc, self, reader, output)
+        } else {
+            check(alloc, self, reader, output, screen)
+        }
     }
 }
 
@@ -179,15 +138,8 @@ pub fn run_check_program<R: Read, W: Write, E: Write, S: Write, C: Clock>(
     requires output { output.old.failed ≡ false }
     requires errors { errors.old.failed ≡ false }
     requires screen { screen.old.writer.failed ≡ false }
-    ensures finishes { Finishes (given_words words) (source_of R.remaining reader.old reader.new) (device_of W.contents output.old output.new) (device_of E.contents errors.old errors.new) result }
-    ensures screen { ShowsAsAsked (given_words words) screen.old.is_terminal (source_of R.remaining reader.old reader.new) (device_of S.contents screen.old.writer screen.new.writer) }
+    ensures finishes { Finishes Thpcheck AnswersWords DoesRequest (given_words words) (source_of R.remaining reader.old reader.new) (device_of W.contents output.old output.new) (device_of E.contents errors.old errors.new) result }
+    ensures screen { ShowsAsAsked Thpcheck AnswersWords shows_progress (given_words words) screen.old.is_terminal (source_of R.remaining reader.old reader.new) (device_of S.contents screen.old.writer screen.new.writer) }
 {
-    match serve(alloc, &words, reader, output, screen) {
-        Ok(done) => {
-            explain(done.explanation, errors);
-            status_of_ending(done.ending)
-        }
-        Err(EndFault::Journal(fault)) => tell_run(Program::Thpcheck, fault, errors),
-        Err(EndFault::Words(fault)) => tell(Program::Thpcheck, fault, errors),
-    }
+    run_request::<CheckOptions, R, W, E, S, C>(alloc, words, reader, output, errors, screen)
 }

@@ -13,7 +13,8 @@ use std::alloc::Global;
 use std::io::{Read, Write};
 use thp_check::Misfit;
 use thp_cli::{LongRunFault, Watched, write_all};
-use thp_journal_reader::{Illegal, Moved, ScriptCheck};
+use thp_journal_reader::Illegal;
+use thp_journal_scripts::{Moved, ScriptCheck};
 use thp_model::{Outcome, Refusal, What};
 use thp_script::MAX_COUNTED;
 

@@ -12,12 +12,12 @@ use Rattle.thp_model.specs.declared.events.What.TheVariants.{Taken, Split, Pinne
 use Rattle.thp_model.specs.History.{by, History}
 use Rattle.thp_model.specs.Limits.{max_batch}
 use Rattle.thp_script.specs.declared.script.Op.{Op}
-use Rattle.thp_journal_reader.specs.declared.event_kind.EventKind.TheVariants.{Call, Put, Try}
-use Rattle.thp_journal_reader.specs.declared.turns.UntriedPage.{UntriedPage}
-use Rattle.thp_journal_reader.specs.Repeating.{kind_of}
-use Rattle.thp_journal_reader.specs.Turns.{done_page, is_other, is_out_of_turn, out_of_turn, taken_by, tried_page, turns_after, unless_done, without, TurnsSoFar}
-use Rattle.thp_journal_reader.specs.Turns as counted
-use Rattle.thp_journal_reader.specs.WholeScans.{once_ended, pages_after, place_of_call, place_of_put, place_of_try, scan_place_after, scan_place_of, Between, Elsewhere, InPuts, InTakes, InTries, IsWholeScans, ScanPlace}
+use Rattle.thp_journal_scripts.specs.declared.event_kind.EventKind.TheVariants.{Call, Put, Try}
+use Rattle.thp_journal_scripts.specs.declared.turns.UntriedPage.{UntriedPage}
+use Rattle.thp_journal_scripts.specs.Repeating.{kind_of}
+use Rattle.thp_journal_scripts.specs.Turns.{done_page, is_other, is_out_of_turn, out_of_turn, taken_by, tried_page, turns_after, unless_done, without, TurnsSoFar}
+use Rattle.thp_journal_scripts.specs.Turns as counted
+use Rattle.thp_journal_scripts.specs.WholeScans.{once_ended, pages_after, place_of_call, place_of_put, place_of_try, scan_place_after, scan_place_of, Between, Elsewhere, InPuts, InTakes, InTries, IsWholeScans, ScanPlace}
 use Rattle.thp_laws.proofs.RepeatedPlaces.{all_elsewhere}
 
 -- ---- tries in the order of the takes

@@ -13,9 +13,9 @@ use Rattle.thp_model.specs.Shapes.{IsShape}
 use Rattle.thp_model.proofs.Allowed.{allowed_map_sub, allowed_unmap_sub, allowed_write, allowed_zero}
 use Rattle.thp_script.specs.declared.script.Op.{Op}
 use Rattle.thp_script.specs.declared.script.Op.TheVariants as op
-use Rattle.thp_journal_reader.specs.declared.event_kind.EventKind.{EventKind}
-use Rattle.thp_journal_reader.specs.declared.event_kind.EventKind.TheVariants.{Call}
-use Rattle.thp_journal_reader.specs.Repeating.{kind_of, operand_of}
+use Rattle.thp_journal_scripts.specs.declared.event_kind.EventKind.{EventKind}
+use Rattle.thp_journal_scripts.specs.declared.event_kind.EventKind.TheVariants.{Call}
+use Rattle.thp_journal_scripts.specs.Repeating.{kind_of, operand_of}
 use Rattle.thp_worker.specs.declared.reply.Reply.TheVariants as reply
 use Rattle.thp_worker.specs.declared.steps.Step.TheVariants.{One}
 use Rattle.thp_worker.specs.Does.{Does, Open, Reaction, Unless}

@@ -20,11 +20,11 @@ use Rattle.thp_model.proofs.LegalSteps.{legal_front}
 use Rattle.thp_model.proofs.ListPlaces.{append_none}
 use Rattle.thp_model.proofs.OnePlace.{once_flies, without_none}
 use Rattle.thp_model.proofs.Standing.{times, times-cons}
-use Rattle.thp_journal_reader.specs.declared.event_kind.EventKind.{EventKind}
-use Rattle.thp_journal_reader.specs.declared.event_kind.EventKind.TheVariants.{Call, Put, Take, Try}
-use Rattle.thp_journal_reader.specs.Folds.{pages_at}
-use Rattle.thp_journal_reader.specs.Repeating.{kind_of}
-use Rattle.thp_journal_reader.specs.WholeScans.{once_ended, pages_after, place_of_call, place_of_put, place_of_take, place_of_try, scan_place, scan_place_after, scan_place_of, without_first, ScanPlace, Between, InTakes, InTries, InPuts, Elsewhere}
+use Rattle.thp_journal_scripts.specs.declared.event_kind.EventKind.{EventKind}
+use Rattle.thp_journal_scripts.specs.declared.event_kind.EventKind.TheVariants.{Call, Put, Take, Try}
+use Rattle.thp_journal_scripts.specs.Folds.{pages_at}
+use Rattle.thp_journal_scripts.specs.Repeating.{kind_of}
+use Rattle.thp_journal_scripts.specs.WholeScans.{once_ended, pages_after, place_of_call, place_of_put, place_of_take, place_of_try, scan_place, scan_place_after, scan_place_of, without_first, ScanPlace, Between, InTakes, InTries, InPuts, Elsewhere}
 
 -- ---- the pages in flight
 

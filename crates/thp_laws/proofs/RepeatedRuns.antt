@@ -17,17 +17,17 @@ use Rattle.thp_model.proofs.ListPlaces.{append_none}
 use Rattle.thp_script.specs.declared.script.Command.{Command}
 use Rattle.thp_script.specs.declared.script.Op.{Op}
 use Rattle.thp_script.specs.declared.script.Op.TheVariants as op
-use Rattle.thp_journal_reader.specs.declared.moved.Moved.{Moved}
-use Rattle.thp_journal_reader.specs.declared.event_kind.EventKind.TheVariants.{Call, Put, Take, Try}
-use Rattle.thp_journal_reader.specs.Repeating.{kind_of, IsBy, IsScanBy, Repeats}
-use Rattle.thp_journal_reader.specs.WholeScans.{scan_place, Between, IsCallOrScan}
+use Rattle.thp_journal_scripts.specs.declared.moved.Moved.{Moved}
+use Rattle.thp_journal_scripts.specs.declared.event_kind.EventKind.TheVariants.{Call, Put, Take, Try}
+use Rattle.thp_journal_scripts.specs.Repeating.{kind_of, IsBy, IsScanBy, Repeats}
+use Rattle.thp_journal_scripts.specs.WholeScans.{scan_place, Between, IsCallOrScan}
 use Rattle.thp_worker.specs.declared.steps.Step.TheVariants.{One}
 use Rattle.thp_worker.specs.Does.{Does, Open}
 use Rattle.thp_worker.specs.OpenBatches.{is_open}
 use Rattle.thp_worker.specs.Sections.{batches_after, command_of, put_back_on, steps_of, told_by, IsTurn, Made, Turn}
 use Rattle.thp_worker.specs.Turns.{TurnsOut}
 use Rattle.thp_worker.proofs.StepLaws.{batches_after-append}
-use Rattle.thp_runner.specs.Runs.{no_batches, IsSection}
+use Rattle.thp_run.specs.Runs.{no_batches, IsSection}
 use Rattle.thp_laws.specs.Repeated.{ops_on, IsRepeated, ScriptsRepeatHistories}
 use Rattle.thp_laws.proofs.CountedTurns.{all_in_turn, AreInTurn}
 use Rattle.thp_laws.proofs.RepeatedCalls.{does_call, one_step_of}

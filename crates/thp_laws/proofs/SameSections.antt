@@ -15,7 +15,7 @@ use Rattle.thp_worker.specs.declared.reply.Answer.{Answer}
 use Rattle.thp_worker.specs.Does.{Open}
 use Rattle.thp_worker.specs.OpenBatches.{is_open}
 use Rattle.thp_worker.specs.Sections.{ComesBefore, IsMade, IsTurn, Made, Turn, answers_from, batches_after, closing, command_of, own_events, put_back_on, steps_of, with_batch}
-use Rattle.thp_runner.specs.Runs.{IsSection, no_batches}
+use Rattle.thp_run.specs.Runs.{IsSection, no_batches}
 use Rattle.thp_laws.proofs.SameTurns.{turns_twice}
 use Rattle.thp_laws.proofs.SideBySide.{Pair}
 use Rattle.thp_laws.proofs.Walks.{IsAbove, IsWithin, Ordered, Walk, own_else}

@@ -15,7 +15,7 @@ use Rattle.thp_script.specs.declared.script.Script.{Script}
 use Rattle.thp_worker.specs.declared.reply.Answer.{Answer}
 use Rattle.thp_worker.specs.declared.reply.SectionLog.{SectionLog}
 use Rattle.thp_worker.specs.Sections.{Made, steps_of}
-use Rattle.thp_runner.specs.Runs.{IsAnswered, IsRun, IsSection, no_batches, sections_of}
+use Rattle.thp_run.specs.Runs.{IsAnswered, IsRun, IsSection, no_batches, sections_of}
 use Rattle.thp_laws.specs.OneRun.{AreApart, HasOneWorker, IsSameSection, OneWorkerHasOneRun, WorkersApartHaveOneRun}
 use Rattle.thp_laws.proofs.SameSections.{none_elsewhere, same_answers, same_nodes, section_among, section_walk}
 use Rattle.thp_laws.proofs.SideBySide.{Pair}

@@ -7,7 +7,7 @@ use Rattle.thp_model.specs.History.{History}
 use Rattle.thp_script.specs.declared.script.Command.{Command}
 use Rattle.thp_script.specs.declared.script.Script.{Script}
 use Rattle.thp_worker.specs.declared.reply.SectionLog.{SectionLog}
-use Rattle.thp_runner.specs.Runs.{IsRun}
+use Rattle.thp_run.specs.Runs.{IsRun}
 
 -- no two workers have commands on the same node
 abbrev pub AreApart : Script → Type 0

@@ -10,12 +10,12 @@ use Rattle.thp_model.specs.Shapes.{IsShape}
 use Rattle.thp_script.specs.declared.script.Command.{Command}
 use Rattle.thp_script.specs.declared.script.Op.{Op}
 use Rattle.thp_script.specs.declared.script.Script.{Script}
-use Rattle.thp_journal_reader.specs.declared.moved.Moved.{Moved}
-use Rattle.thp_journal_reader.specs.Folds.{IsScript}
-use Rattle.thp_journal_reader.specs.Turns.{out_of_turn}
-use Rattle.thp_journal_reader.specs.WholeScans.{IsWholeScans}
+use Rattle.thp_journal_scripts.specs.declared.moved.Moved.{Moved}
+use Rattle.thp_journal_scripts.specs.Folds.{IsScript}
+use Rattle.thp_journal_scripts.specs.Turns.{out_of_turn}
+use Rattle.thp_journal_scripts.specs.WholeScans.{IsWholeScans}
 use Rattle.thp_worker.specs.declared.reply.SectionLog.{SectionLog}
-use Rattle.thp_runner.specs.Runs.{IsRun}
+use Rattle.thp_run.specs.Runs.{IsRun}
 
 -- the commands on node n
 abbrev pub ops_on : ℕ → List Command → List Op

@@ -8,8 +8,8 @@ use Rattle.thp_cli.specs.Calls.{ReadsOn}
 use Rattle.thp_cli.proofs.CallLaws.{reading_ended, reading_none}
 use Rattle.thp_script.specs.Limits.{max_input}
 use Rattle.thp_cli.specs.declared.calls.DeviceCall.{DeviceCall}
-use Rattle.thp_runner.specs.InParts.{HasBegun}
-use Rattle.thp_runner.proofs.BegunLaws.{begun_all, begun_nodes, starts_new}
+use Rattle.thp_run.specs.InParts.{HasBegun}
+use Rattle.thp_run.proofs.BegunRunLaws.{begun_all, begun_nodes, starts_new}
 use Rattle.thp_worker.specs.declared.in_parts.SectionInParts.{SectionInParts}
 use Rattle.thp_worker.specs.Passes.{fronts_in, Passes}
 use Rattle.thp_worker.proofs.StepLaws.{goes_trans}

@@ -5,9 +5,9 @@ use Rattle.std.proofs.lemmas.List.Elements.{All-head, All-tail}
 use Rattle.thp_node.specs.NodeState.{NodeState}
 use Rattle.thp_report.specs.Answers.{answers_text}
 use Rattle.thp_report.specs.Reports.{report_of, shape_in, told_of}
-use Rattle.thp_runner.specs.NewNodes.{histories_of, shapes_of, AreNodesFor}
-use Rattle.thp_runner.specs.Runs.{IsRun}
-use Rattle.thp_runner.specs.Sections.{SectionAnswersAre}
+use Rattle.thp_run.specs.NewNodes.{histories_of, shapes_of, AreNodesFor}
+use Rattle.thp_run.specs.Runs.{IsRun}
+use Rattle.thp_run.specs.Sections.{SectionAnswersAre}
 use Rattle.thp_worker.specs.declared.answer_log.Answers.TheVariants.{Kept}
 use Rattle.thp_worker.specs.declared.reply.SectionLog.{SectionLog}
 use Rattle.thp_worker.specs.KeptSections.{has_kept}

@@ -1,3 +1,8 @@
+pub mod RunLaws
+pub mod RestLaws
+pub mod NodeLaws
+pub mod SharingLaws
+pub mod BegunRunLaws
 pub mod PassageLaws
 pub mod KeptLaws
 pub mod ListedLaws

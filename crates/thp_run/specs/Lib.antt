@@ -1,3 +1,8 @@
+pub mod NewNodes
+pub mod Runs
+pub mod Sections
+pub mod Sharing
+pub mod InParts
 pub mod Programs
 pub mod Choices
 pub mod Outcomes

@@ -5,10 +5,10 @@ use Rattle.thp_node.specs.NodeState.{NodeState}
 use Rattle.thp_cli.specs.declared.fault.RunFault.{RunFault}
 use Rattle.thp_cli.specs.declared.fault.RunFault.TheVariants.{Text, OutOfMemory, Read, Write}
 use Rattle.thp_cli.specs.Devices.{IsInputOf}
-use Rattle.thp_runner.specs.NewNodes.{histories_of, shapes_of, AreNodesFor}
-use Rattle.thp_runner.specs.Runs.{IsRun}
-use Rattle.thp_runner.specs.Sections.{SectionAnswersAre}
-use Rattle.thp_runner.specs.Sharing.{RunsOn}
+use Rattle.thp_run.specs.NewNodes.{histories_of, shapes_of, AreNodesFor}
+use Rattle.thp_run.specs.Runs.{IsRun}
+use Rattle.thp_run.specs.Sections.{SectionAnswersAre}
+use Rattle.thp_run.specs.Sharing.{RunsOn}
 use Rattle.thp_worker.specs.declared.answer_log.Answers.TheVariants.{Kept}
 use Rattle.thp_worker.specs.declared.in_parts.SectionInParts.{SectionInParts}
 use Rattle.thp_worker.specs.declared.reply.SectionLog.{SectionLog}

@@ -5,6 +5,7 @@ ghost use Rattle.thp_cli.specs.Calls.{ReadsOn};
 ghost use Rattle.thp_cli.specs.Passages.{WritesAnswer};
 ghost use Rattle.thp_run.specs.Programs.{RunEnds};
 
+use crate::run_result::RunResult;
 use crate::script_in_progress::run_as_read;
 use crate::writing::{write_answers, write_journals, write_totals};
 use std::alloc::Global;
@@ -12,7 +13,6 @@ use std::io::{Read, Write};
 use std::thread::Threads;
 use thp_cli::{RunFault, Watched};
 use thp_node::CountOnly;
-use thp_runner::RunResult;
 use thp_script::{Report, Settings};
 use thp_worker::Gate;
 

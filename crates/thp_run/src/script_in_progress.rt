@@ -6,23 +6,24 @@ ghost use Rattle.thp_script.specs.Limits.{max_input};
 ghost use Rattle.thp_cli.specs.Calls.{ReadsOn};
 ghost use Rattle.thp_run.specs.ScriptInProgress.{HasRead, HasRun, IsScriptInProgress, EndsBeforeRun, RunsOnRest};
 ghost use Rattle.thp_run.specs.ScriptInProgressLaws.{nothing_read, more_read};
-ghost use Rattle.thp_runner.specs.InParts.{AreNew, HasBegun};
+ghost use Rattle.thp_run.specs.InParts.{AreNew, HasBegun};
 ghost use Rattle.thp_worker.specs.Fronts.{Fronts};
 ghost use Rattle.thp_worker.specs.Passes.{fronts_in};
 ghost use Rattle.thp_worker.specs.declared.answer_log.Answers.TheVariants.{Kept as KeptAnswers};
-ghost use Rattle.thp_runner.specs.Sections.{SectionAnswersAre};
+ghost use Rattle.thp_run.specs.Sections.{SectionAnswersAre};
 ghost use Rattle.thp_script.specs.declared.fault.ReadFault.TheVariants.{OutOfMemory};
 ghost use Rattle.thp_script.specs.declared.script.Command.{Command};
 ghost use Rattle.thp_script.specs.Parts.{spelled_with};
 ghost use Rattle.thp_script.specs.Scripts.{script_of, ReportsFault};
 
+use crate::in_parts::{begin_run, end_run, new_cells, take_apart};
+use crate::run_result::RunResult;
 use std::alloc::Global;
 use std::io::Read;
 use std::thread::Threads;
 use thp_cell::{NodeCell, Pass};
 use thp_cli::{ReadsParts, RunFault, Watched, read_parts};
 use thp_node::Recorder;
-use thp_runner::{RunResult, begin_run, end_run, new_cells, take_apart};
 use thp_script::{MAX_INPUT, ReadFault, Report, ScriptReader, Settings};
 use thp_worker::{Gate, NodePasses, SectionInParts, SectionLog, do_commands};
 

@@ -11,12 +11,12 @@ ghost use Rattle.thp_journal_writer.specs.Totals.{totals_text as totals_told};
 ghost use Rattle.thp_worker.specs.KeptSections.{has_kept};
 ghost use Rattle.thp_run.specs.Written.{Wrote};
 
+use crate::run_result::RunResult;
 use std::alloc::Global;
 use std::io::Write;
 use thp_cli::{RunFault, Watched, write_all, write_text};
 use thp_node::Recorder;
 use thp_report::{AnswerParts, journals_text, totals_text};
-use thp_runner::RunResult;
 use thp_worker::kept_sections;
 
 /// Writes the totals of a run's nodes and flushes once.

@@ -4,7 +4,7 @@ use crate::turns::InTurns;
 use std::alloc::{AllocError, Global};
 use std::process::Abort;
 use std::thread::Threads;
-use thp_runner::RunResult;
+use thp_run::RunResult;
 
 // Runs a script of two workers with two commands each, `first` before `other`, and checks the answers of both.
 fn take_turns<R: Threads + Abort + Sync>(

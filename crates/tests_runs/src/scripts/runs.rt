@@ -4,7 +4,7 @@ use std::process::Abort;
 use std::thread::Threads;
 use thp_model::{Outcome, PageId, Refusal};
 use thp_node::{BackReply, ScanReply, Tried};
-use thp_runner::{RunResult, run_script};
+use thp_run::{RunResult, run_script};
 use thp_script::{Report, Settings, read_script};
 use thp_worker::{Answer, Gate, Reply};
 

@@ -1,6 +1,6 @@
 //! Rows of workers on one node and on a node each.
 use crate::scripts::runs::{ExpectedAnswer, are_answers, ran, settings_of};
-use thp_runner::RunResult;
+use thp_run::RunResult;
 use thp_worker::NoGate;
 
 // The run has this many nodes and sections.

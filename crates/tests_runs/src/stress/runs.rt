@@ -6,7 +6,7 @@ use std::sync::atomic::{AtomicU32, Ordering};
 use std::thread;
 use std::thread::Threads;
 use std::time::{Clock, Duration};
-use thp_runner::{RunResult, run_script};
+use thp_run::{RunResult, run_script};
 use thp_script::{Report, Script, Settings, read_script};
 use thp_worker::Gate;
 

@@ -10,7 +10,7 @@ use std::thread::Threads;
 use std::time::Clock;
 use thp_check::check;
 use thp_node::Node;
-use thp_runner::RunResult;
+use thp_run::RunResult;
 use thp_script::{Script, Settings};
 use thp_worker::{KeptSection, kept_sections};
 

@@ -1,5 +1,5 @@
 //! Journals that are checked with the numbers of their nodes.
-use thp_journal_reader::SeriesCheck;
+use thp_journal_tools::{KeepingCheck, NumberedNode, SeriesNode};
 
 // The first run on node 0; on node 1 a page that was never allocated is pinned.
 const JOURNAL: &[u8] =
@@ -10,11 +10,11 @@ const JOURNAL: &[u8] =
 fn check_keeps_the_numbers_of_each_node(rt: HostRuntime) {
     let alloc = rt.alloc();
     let (front, behind) = JOURNAL.split_at(50);
-    let check = SeriesCheck::new(alloc);
+    let check: KeepingCheck<NumberedNode, SeriesNode> = KeepingCheck::new(alloc);
     let check = check.read_part(front).expect(&rt, "memory");
     let check = check.read_part(behind).expect(&rt, "memory");
     let nodes = match check.finish() {
-        Ok(nodes) => nodes,
+        Ok((_, nodes)) => nodes,
         Err(_) => panic!(rt; "a fault of the text"),
     };
     let [first, second] = nodes.as_slice() else {

@@ -1,4 +1,4 @@
-use Rattle.std.proofs.Common.{◌≡◌, ◌+◌, ℕ, List, [], length, false, true}
+use Rattle.std.proofs.Common.{◌≡◌, ◌+◌, ℕ, List, length, false}
 use Rattle.std.specs.Io.KnownBytes.{Consumes}
 use Rattle.thp_cli.proofs.CallLaws.{Reading}
 use Rattle.thp_cli.proofs.device.read_parts.Given as goal

@@ -1,4 +1,4 @@
-use Rattle.std.proofs.Common.{◌≡◌, [], length, false, true}
+use Rattle.std.proofs.Common.{◌≡◌, length, false}
 use Rattle.thp_cli.proofs.DeviceLaws.{Written}
 use Rattle.thp_cli.proofs.CallLaws.{Writing}
 use Rattle.thp_cli.proofs.device.write_all.Given as goal

@@ -1,4 +1,4 @@
-use Rattle.std.proofs.Common.{length, true, [], None, Option, Some}
+use Rattle.std.proofs.Common.{length, [], None, Option, Some}
 use Rattle.std.specs.Prelude.{IfNone}
 use Rattle.thp_cli.proofs.CallLaws.{flushes_by, follow_none, part_failed, part_written}
 use Rattle.thp_cli.proofs.DeviceLaws.{flush_stops, written_all}

@@ -4,39 +4,45 @@ use Rattle.thp_script.specs.Limits.{max_counted}
 use Rattle.thp_script.specs.Scripts.{Fault}
 use Rattle.thp_journal_reader.specs.declared.journals.Journals.{Journals}
 use Rattle.thp_journal_reader.specs.Journals.{journals_within}
-use Rattle.thp_journal_reader.specs.Summaries.{ReportsSummaryFault}
+use Rattle.thp_journal_reader.specs.Answers.{ReportsLongReadFault}
+use Rattle.thp_journal_reader.specs.Following.{IsKept}
+use Rattle.thp_journal_reader.proofs.FollowLaws.{ended_kept}
+use Rattle.thp_journal_reader.proofs.ZipLaws.{zip_weaker}
 use Rattle.thp_journal_tools.specs.Checks.{AreTotals}
+use Rattle.thp_journal_tools.specs.Keeping.{KeepsTotals}
+use Rattle.thp_journal_tools.specs.Summaries.{IsSummary}
+use Rattle.thp_journal_tools.proofs.KeptLaws.{as_summary}
 use Rattle.thp_journal_tools.proofs.CheckLaws.{err_at_summary}
 use Rattle.thp_journal_tools.proofs.finding.find.Goals as goal
 
-pub returns-in_err-summed-clause-fault : goal.returns-in_err-summed-clause-fault
-returns-in_err-summed-clause-fault g c =
+pub returns-in_err-illegal-clause-fault : goal.returns-in_err-illegal-clause-fault
+returns-in_err-illegal-clause-fault g c =
     let read = c.in_ok-check.ensures.parts in
-    let fault = c.in_err-summed.field-0.0 in
-    let P : Result Journals Fault → Type 0 = λ told. ReportsSummaryFault told fault in
+    let fault = c.in_err-illegal.field-0.0 in
+    let P : Result Journals Fault → Type 0 = λ told. ReportsLongReadFault told fault in
     err_at_summary (g.R.Read.remaining c.args.reader.now.device) read.0 read.1 c.read_journal.new.reader.failed c.in_ok-check.ensures.flag fault
-    c.from_residual-in_err-summed.result c.from_residual-in_err-summed.ensures.1
-    (subst P (read.2 [] ∙ c.new-check.ensures (read.0 ++ []) ∙ ap (journals_within max_counted) (append-nil read.0)) c.in_err-summed.ensures.fault)
+    c.from_residual-in_err-illegal.result c.from_residual-in_err-illegal.ensures.1
+    (subst P (read.2 [] ∙ c.new-check.ensures (read.0 ++ []) ∙ ap (journals_within max_counted) (append-nil read.0)) c.in_err-illegal.ensures.fault)
 
 pub returns-then-options-clause-found : goal.returns-then-options-clause-found
 returns-then-options-clause-found g c =
     let read = c.in_ok-check.ensures.parts in
-    let summed = c.in_ok-summed.ensures.summed in
-    let T : Bool → Type 0 = λ asked. AreTotals asked summed.0.nodes c.in_ok-summed.summed.totals.items in (
+    let kept = c.in_ok-illegal.ensures.kept in
+    let T : Bool → Type 0 = λ asked. AreTotals asked kept.0.nodes c.in_ok-illegal.totals.items in (
       read.0,
       read.1,
       record {
-        journals = summed.0;
-        spelled = sym (read.2 [] ∙ c.new-check.ensures (read.0 ++ []) ∙ ap (journals_within max_counted) (append-nil read.0)) ∙ summed.1;
-        first = summed.2.first;
-        totals_are = subst T (sym c.if-options.true) summed.2.totals;
+        journals = kept.0;
+        spelled = sym (read.2 [] ∙ c.new-check.ensures (read.0 ++ []) ∙ ap (journals_within max_counted) (append-nil read.0)) ∙ kept.1;
+        first = kept.2.0;
+        totals_are = subst T (sym c.if-options.true) (zip_weaker (IsKept KeepsTotals) IsSummary kept.0.nodes _ as_summary (ended_kept KeepsTotals kept.0.nodes _ _ kept.2));
       },
     )
 
 pub returns-clause-found : goal.returns-clause-found
 returns-clause-found g c =
     let read = c.in_ok-check-2.ensures.parts in
-    let first = c.in_ok-illegal.ensures.first in
+    let first = c.in_ok-illegal-2.ensures.first in
     let T : Bool → Type 0 = λ asked. AreTotals asked first.0.nodes c.new.result.items in (
       read.0,
       read.1,

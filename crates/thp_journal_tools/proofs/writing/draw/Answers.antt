@@ -5,7 +5,7 @@ use Rattle.thp_cli.specs.RunFaults.{seen_fault}
 use Rattle.thp_journal_tools.specs.declared.end_fault.EndFault.TheVariants.{Journal}
 use Rattle.thp_journal_tools.specs.Drawings.{Shows}
 use Rattle.thp_journal_tools.specs.DrawOutcomes.{Does}
-use Rattle.thp_journal_tools.specs.Outcomes.{fault_at_end}
+use Rattle.thp_journal_tools.specs.Requests.{fault_at_end}
 use Rattle.thp_journal_tools.proofs.CheckLaws.{cut_from}
 use Rattle.thp_journal_tools.proofs.DrawLaws.{cut, does_err, drawn, no_output, none_found}
 use Rattle.thp_journal_tools.proofs.writing.draw.Goals as goal

@@ -1,6 +1,0 @@
-use Rattle.std.proofs.Common.{refl}
-use Rattle.thp_journal_reader.proofs.FoldingLaws.{adds_pending}
-use Rattle.thp_journal_reader.proofs.folding.Folding.settle.Goals as goal
-
-pub returns-clause-adds : goal.returns-clause-adds
-returns-clause-adds c = adds_pending c.args.ops.now.items c.args.self.now (record c.args.self.now { batch = c.in_ok-batch.batch }) c.settle.new.ops.items c.in_ok-batch.ensures.ops c.in_ok-batch.ensures.batch refl

@@ -1,0 +1,244 @@
+-- What each step of a script adds.
+use Rattle.std.proofs.Common.{◌≡◌, ◌∙◌, ◌+◌, ℕ, List, [], ◌∷◌, ◌++◌, append_assoc, ap, refl, subst, sym}
+use Rattle.std.specs.Prelude.{All}
+use Rattle.std.proofs.lemmas.List.{append-nil}
+use Rattle.std.proofs.lemmas.List.Elements.{All-append, All-cons, All-nil}
+use Rattle.thp_model.specs.declared.events.Event.{Event}
+use Rattle.thp_model.specs.declared.events.What.{What}
+use Rattle.thp_model.specs.declared.events.What.TheVariants as what
+use Rattle.thp_model.specs.BlockLaws.{with_block}
+use Rattle.thp_model.specs.History.{History}
+use Rattle.thp_script.specs.declared.script.Op.{Op}
+use Rattle.thp_script.specs.declared.script.Op.TheVariants as op
+use Rattle.thp_journal_scripts.specs.declared.event_kind.EventKind.{EventKind}
+use Rattle.thp_journal_scripts.specs.declared.event_kind.EventKind.TheVariants.{Call, Take, Try, Put}
+use Rattle.thp_journal_scripts.specs.declared.folding.Folding.{Folding}
+use Rattle.thp_journal_scripts.specs.declared.script_batch.ScriptBatch.{ScriptBatch}
+use Rattle.thp_journal_scripts.specs.declared.script_batch.ScriptBatch.TheVariants.{Idle, Taking, Open, Closing}
+use Rattle.thp_journal_scripts.specs.ScriptBatches.{pending_ops, settled, Completes, PutsMore, TakesMore, TriesMore}
+use Rattle.thp_journal_scripts.specs.Folds.{nothing_moved, AddsCommands, AddsEvent, AddsPlain, AddsTo, Ends, HasAdded, IsAtPlace, IsFoldedTo}
+use Rattle.thp_journal_scripts.specs.declared.moved.Moved.{Moved}
+use Rattle.thp_journal_scripts.specs.Repeating.{call_in, kind_of, IsBy}
+use Rattle.thp_journal_scripts.specs.Moving.{counted}
+use Rattle.thp_journal_scripts.specs.WholeScans.{scan_place, scan_place_after, Between, Elsewhere, InPuts, InTakes, InTries, IsCallOrScan, ScanPlace}
+use Rattle.thp_journal_scripts.proofs.WholeScanLaws.{place_more, scans_more, stays_elsewhere}
+use Rattle.thp_journal_scripts.proofs.ScriptBatchLaws.{completes, first_take, is_script, one_more_call, one_more_put, one_more_take, one_more_try, open_put, open_try, puts_nothing, scans, settles, waits}
+
+-- a command of a call is a call
+abbrev pub IsPlainCall : EventKind → Type 0
+IsPlainCall (Call o) = IsCallOrScan o
+IsPlainCall _ = Unit {0}
+
+-- what is the same for an allocation in any block is so for an event with any block
+pub in_any_block : {X : Type 0} (f : What → X) → ((p b c : ℕ) → f (what.Alloc p b) ≡ f (what.Alloc p c)) → (b : ℕ) (w : What) → f (with_block b w) ≡ f w
+in_any_block f same b (what.Alloc p c) = same p b c
+in_any_block f same b w = refl
+
+-- the same script, said of equal parts
+as_said : (h : History) (ops more : List Op) (b after : ScriptBatch) (n m : ℕ) → ops ≡ more → after ≡ b → m ≡ n → IsFoldedTo h ops b n → IsFoldedTo h more after m
+as_said h ops more b after n m o e k f = subst (λ os. IsFoldedTo h os after m) o (subst (λ a. IsFoldedTo h ops a m) (sym e) (subst (λ j. IsFoldedTo h ops b j) (sym k) f))
+
+-- ---- calls and scans
+
+pub no_command : (o p : List Op) → p ≡ o → HasAdded o p (All IsCallOrScan)
+no_command o p same = ([], same ∙ sym (append-nil o), All-nil IsCallOrScan)
+
+pub one_command : (o p : List Op) (x : Op) → p ≡ o ++ x ∷ [] → IsCallOrScan x → HasAdded o p (All IsCallOrScan)
+one_command o p x more plain = (x ∷ [], more, All-cons IsCallOrScan x [] plain (All-nil IsCallOrScan))
+
+pub more_commands : (o p q : List Op) → HasAdded o p (All IsCallOrScan) → HasAdded p q (All IsCallOrScan) → HasAdded o q (All IsCallOrScan)
+more_commands o p q first then = (first.0 ++ then.0, then.1 ∙ ap (λ os. os ++ then.0) first.1 ∙ append_assoc o first.0 then.0, All-append IsCallOrScan first.0 then.0 first.2 then.2)
+
+-- the command of a call is one
+plain_call : (w : What) → IsPlainCall (kind_of w)
+plain_call (what.Alloc p b) = tt
+plain_call (what.MapWhole p) = tt
+plain_call (what.UnmapWhole o p set) = tt
+plain_call (what.MapSub p first count) = tt
+plain_call (what.UnmapSub o p first count set) = tt
+plain_call (what.SplitPmd p) = tt
+plain_call (what.Pin p) = tt
+plain_call (what.Unpin o p set) = tt
+plain_call (what.Write p first count) = tt
+plain_call (what.Zero p first count) = tt
+plain_call (what.Taken p) = tt
+plain_call (what.Split p set) = tt
+plain_call (what.Pinned p) = tt
+plain_call (what.Used p) = tt
+plain_call (what.Back p) = tt
+plain_call (what.Dropped p) = tt
+plain_call what.Close = tt
+
+pub call_is_plain : (w : What) (o : Op) → kind_of w ≡ Call o → IsCallOrScan o
+call_is_plain w o kind = subst IsPlainCall kind (plain_call w)
+
+-- what was added is determined
+added_once : (o xs ys : List Op) → o ++ xs ≡ o ++ ys → xs ≡ ys
+added_once [] xs ys same = same
+added_once (x ∷ o) xs ys same = let rest : o ++ xs ≡ o ++ ys = cc in added_once o xs ys rest
+
+-- ---- one after the other
+
+module _ (o p q : List Op) where
+  pub commands_then : (a b c d : Folding) → HasAdded o p (AddsCommands a b) → c.batch ≡ b.batch → c.moved.events ≡ b.moved.events → HasAdded p q (AddsCommands c d) → HasAdded o q (AddsCommands a d)
+  commands_then a b c d first batch events then = (
+    first.0 ++ then.0,
+    then.1 ∙ ap (λ os. os ++ then.0) first.1 ∙ append_assoc o first.0 then.0,
+    λ h past f. as_said h ((past ++ first.0) ++ then.0) (past ++ (first.0 ++ then.0)) d.batch d.batch d.moved.events d.moved.events (append_assoc past first.0 then.0) refl refl
+        (then.2 h (past ++ first.0) (as_said h (past ++ first.0) (past ++ first.0) b.batch c.batch b.moved.events c.moved.events refl batch events (first.2 h past f))),
+  )
+
+  pub event_then : (e : Event) (a b c d : Folding) → HasAdded o p (AddsEvent e a b) → c.batch ≡ b.batch → c.moved.events ≡ b.moved.events → HasAdded p q (AddsCommands c d) → HasAdded o q (AddsEvent e a d)
+  event_then e a b c d first batch events then = (
+    first.0 ++ then.0,
+    then.1 ∙ ap (λ os. os ++ then.0) first.1 ∙ append_assoc o first.0 then.0,
+    λ h past f. as_said (h ++ e ∷ []) ((past ++ first.0) ++ then.0) (past ++ (first.0 ++ then.0)) d.batch d.batch d.moved.events d.moved.events (append_assoc past first.0 then.0) refl refl
+        (then.2 (h ++ e ∷ []) (past ++ first.0) (as_said (h ++ e ∷ []) (past ++ first.0) (past ++ first.0) b.batch c.batch b.moved.events c.moved.events refl batch events (first.2 h past f))),
+  )
+
+-- ---- single steps
+
+module _ (o : List Op) (a b : Folding) where
+  pub adds_nothing : b.batch ≡ a.batch → b.moved.events ≡ a.moved.events → HasAdded o o (AddsCommands a b)
+  adds_nothing batch events = ([], sym (append-nil o), λ h past f. as_said h past (past ++ []) a.batch b.batch a.moved.events b.moved.events (sym (append-nil past)) batch events f)
+
+  module _ (p : List Op) where
+    pub adds_pending : p ≡ o ++ pending_ops a.batch → b.batch ≡ settled a.batch → b.moved.events ≡ a.moved.events → HasAdded o p (AddsCommands a b)
+    adds_pending is batch events = (
+      pending_ops a.batch,
+      is,
+      λ h past f. as_said h (past ++ pending_ops a.batch) (past ++ pending_ops a.batch) (settled a.batch) b.batch a.moved.events b.moved.events refl batch events (settles h past a.batch a.moved.events f),
+    )
+
+    pub adds_completion : (x : Op) → Completes a.batch x → p ≡ o ++ x ∷ [] → b.batch ≡ Idle → b.moved.events ≡ a.moved.events → HasAdded o p (AddsCommands a b)
+    adds_completion x done is batch events = (
+      x ∷ [],
+      is,
+      λ h past f. as_said h (past ++ x ∷ []) (past ++ x ∷ []) Idle b.batch a.moved.events b.moved.events refl batch events (completes h past a.batch a.moved.events x done f),
+    )
+
+    pub adds_put_back : (c : ℕ) → a.batch ≡ Open c → p ≡ o ++ op.PutBack ∷ [] → b.batch ≡ Idle → b.moved.events ≡ a.moved.events → HasAdded o p (AddsCommands a b)
+    adds_put_back c opened is batch events = (
+      op.PutBack ∷ [],
+      is,
+      λ h past f. as_said h (past ++ op.PutBack ∷ []) (past ++ op.PutBack ∷ []) Idle b.batch a.moved.events b.moved.events refl batch events
+          (puts_nothing h past a.moved.events c (subst (λ x. IsFoldedTo h past x a.moved.events) opened f)),
+    )
+
+    pub adds_scan : (k : ℕ) → (a.moved.events ≡ 0 → ⊥) → p ≡ o ++ op.Scan k ∷ [] → b.batch ≡ a.batch → b.moved.events ≡ a.moved.events → HasAdded o p (AddsCommands a b)
+    adds_scan k some is batch events = (
+      op.Scan k ∷ [],
+      is,
+      λ h past f. as_said h (past ++ op.Scan k ∷ []) (past ++ op.Scan k ∷ []) a.batch b.batch a.moved.events b.moved.events refl batch events (scans h past a.batch a.moved.events k some f),
+    )
+
+-- ---- events
+
+module _ (o : List Op) (a b : Folding) (e : Event) where
+  -- a part of the batch
+  pub adds_take : (by : ℕ) (after : ScriptBatch) → TakesMore a.batch by after → IsBy by Take e → b.batch ≡ after → b.moved.events ≡ a.moved.events → HasAdded o o (AddsEvent e a b)
+  adds_take by after more is batch events = (
+    [],
+    sym (append-nil o),
+    λ h past f. as_said (h ++ e ∷ []) past (past ++ []) after b.batch a.moved.events b.moved.events (sym (append-nil past)) batch events (one_more_take h past a.batch after a.moved.events by e more is f),
+  )
+
+  pub adds_try : (by : ℕ) (after : ScriptBatch) → TriesMore a.batch by after → IsBy by Try e → b.batch ≡ after → b.moved.events ≡ a.moved.events → HasAdded o o (AddsEvent e a b)
+  adds_try by after more is batch events = (
+    [],
+    sym (append-nil o),
+    λ h past f. as_said (h ++ e ∷ []) past (past ++ []) after b.batch a.moved.events b.moved.events (sym (append-nil past)) batch events (one_more_try h past a.batch after a.moved.events by e more is f),
+  )
+
+  pub adds_put : (by : ℕ) (after : ScriptBatch) → PutsMore a.batch by after → IsBy by Put e → b.batch ≡ after → b.moved.events ≡ a.moved.events → HasAdded o o (AddsEvent e a b)
+  adds_put by after more is batch events = (
+    [],
+    sym (append-nil o),
+    λ h past f. as_said (h ++ e ∷ []) past (past ++ []) after b.batch a.moved.events b.moved.events (sym (append-nil past)) batch events (one_more_put h past a.batch after a.moved.events by e more is f),
+  )
+
+  -- an event after the commands so far
+  module _ (p : List Op) (m : Folding) (so_far : HasAdded o p (AddsCommands a m)) where
+    -- it is not at its place
+    pub adds_waiting : (c : ℕ) (kind : EventKind) → call_in kind ≡ [] → IsBy c kind e → b.batch ≡ m.batch → b.moved.events ≡ counted (m.moved.events + 1) → HasAdded o p (AddsEvent e a b)
+    adds_waiting c kind none is batch some = (
+      so_far.0,
+      so_far.1,
+      λ h past f.
+          as_said (h ++ e ∷ []) (past ++ so_far.0) (past ++ so_far.0) m.batch b.batch b.moved.events b.moved.events refl batch refl
+          (waits h (past ++ so_far.0) m.batch m.moved.events b.moved.events e (ap call_in is.1 ∙ none) some (so_far.2 h past f)),
+    )
+
+    pub adds_first_take : (c : ℕ) → IsBy c Take e → m.batch ≡ Idle → b.batch ≡ Taking c 1 → b.moved.events ≡ m.moved.events → HasAdded o p (AddsEvent e a b)
+    adds_first_take c is idle batch events = (
+      so_far.0,
+      so_far.1,
+      λ h past f. as_said (h ++ e ∷ []) (past ++ so_far.0) (past ++ so_far.0) (Taking c 1) b.batch m.moved.events b.moved.events refl batch events
+          (first_take h (past ++ so_far.0) m.moved.events c e is (subst (λ x. IsFoldedTo h (past ++ so_far.0) x m.moved.events) idle (so_far.2 h past f))),
+    )
+
+    pub adds_open_put : (c : ℕ) → IsBy c Put e → m.batch ≡ Open c → b.batch ≡ Closing c → b.moved.events ≡ m.moved.events → HasAdded o p (AddsEvent e a b)
+    adds_open_put c is opened batch events = (
+      so_far.0,
+      so_far.1,
+      λ h past f. as_said (h ++ e ∷ []) (past ++ so_far.0) (past ++ so_far.0) (Closing c) b.batch m.moved.events b.moved.events refl batch events
+          (open_put h (past ++ so_far.0) m.moved.events c e is (subst (λ x. IsFoldedTo h (past ++ so_far.0) x m.moved.events) opened (so_far.2 h past f))),
+    )
+
+    module _ (q : List Op) where
+      pub adds_open_try : (c : ℕ) → IsBy c Try e → m.batch ≡ Open c → q ≡ p ++ op.SplitNext ∷ [] → b.batch ≡ m.batch → b.moved.events ≡ m.moved.events → HasAdded o q (AddsEvent e a b)
+      adds_open_try c is opened more batch events = (
+        so_far.0 ++ op.SplitNext ∷ [],
+        more ∙ ap (λ os. os ++ op.SplitNext ∷ []) so_far.1 ∙ append_assoc o so_far.0 (op.SplitNext ∷ []),
+        λ h past f. as_said (h ++ e ∷ []) ((past ++ so_far.0) ++ op.SplitNext ∷ []) (past ++ (so_far.0 ++ op.SplitNext ∷ [])) (Open c) b.batch m.moved.events b.moved.events (append_assoc past so_far.0 (op.SplitNext ∷ [])) (batch ∙ opened) events
+            (open_try h (past ++ so_far.0) m.moved.events c e is (subst (λ x. IsFoldedTo h (past ++ so_far.0) x m.moved.events) opened (so_far.2 h past f))),
+      )
+
+      -- a call
+      pub adds_call : (x : Op) → kind_of e.what ≡ Call x → m.batch ≡ settled a.batch → q ≡ p ++ x ∷ [] → b.batch ≡ m.batch → b.moved.events ≡ m.moved.events → HasAdded o q (AddsEvent e a b)
+      adds_call x is quiet more batch events = (
+        so_far.0 ++ x ∷ [],
+        more ∙ ap (λ os. os ++ x ∷ []) so_far.1 ∙ append_assoc o so_far.0 (x ∷ []),
+        λ h past f. as_said (h ++ e ∷ []) ((past ++ so_far.0) ++ x ∷ []) (past ++ (so_far.0 ++ x ∷ [])) (settled a.batch) b.batch m.moved.events b.moved.events (append_assoc past so_far.0 (x ∷ [])) (batch ∙ quiet) events
+            (one_more_call h (past ++ so_far.0) a.batch m.moved.events e x is (subst (λ y. IsFoldedTo h (past ++ so_far.0) y m.moved.events) quiet (so_far.2 h past f))),
+      )
+
+-- where no flight waits
+pub still_plain : (f : Folding) (o p : List Op) → (f.waiting.flights.items ≡ [] → p ≡ o) → (s : ScanPlace) → IsAtPlace s f → (s ≡ Elsewhere → ⊥) → HasAdded o p (All IsCallOrScan)
+still_plain f o p same Between at ne = no_command o p (same at.quiet.none_waits)
+still_plain f o p same (InTakes c ps) at ne = no_command o p (same at.quiet.none_waits)
+still_plain f o p same (InTries c n k ps) at ne = no_command o p (same at.quiet.none_waits)
+still_plain f o p same (InPuts c ps) at ne = no_command o p (same at.quiet.none_waits)
+still_plain f o p same Elsewhere at ne = absurd (ne refl)
+
+-- ---- the whole
+
+-- with its whole scans, the script of one more event
+pub folded_more : (o p : List Op) (e : Event) (a b : Folding) → HasAdded o p (AddsEvent e a b) → ((s : ScanPlace) → IsAtPlace s a → IsAtPlace (scan_place_after s e) b) → AddsPlain (λ s. scan_place_after s e) a o p → HasAdded o p (AddsTo e a b)
+folded_more o p e a b adds goes plain = (
+  adds.0,
+  adds.1,
+  λ h past f.
+      record {
+        commands = adds.2 h past f.commands;
+        scans = scans_more h e b (goes (scan_place h) f.scans);
+        plain = λ whole.
+            let ne : scan_place_after (scan_place h) e ≡ Elsewhere → ⊥ = λ away. whole (place_more h e ∙ away) in
+            let more = plain (scan_place h) f.scans ne in
+            let here : scan_place h ≡ Elsewhere → ⊥ = λ away. ne (ap (λ s. scan_place_after s e) away ∙ stays_elsewhere e) in
+            All-append IsCallOrScan past adds.0 (f.plain here) (subst (All IsCallOrScan) (added_once o more.0 adds.0 (sym more.1 ∙ adds.1)) more.2);
+      },
+)
+
+pub finishes : (o p : List Op) (a b : Folding) (moved : Moved) → HasAdded o p (AddsCommands a b) → b.batch ≡ Idle → moved.events ≡ b.moved.events → (IsAtPlace Between a → moved ≡ nothing_moved) → (IsAtPlace Between a → p ≡ o) → HasAdded o p (Ends a moved)
+finishes o p a b moved adds idle same none still = (
+  adds.0,
+  adds.1,
+  λ h past f.
+      is_script h (past ++ adds.0) moved b.moved.events same (subst (λ x. IsFoldedTo h (past ++ adds.0) x b.moved.events) idle (adds.2 h past f.commands))
+      (λ whole. none (subst (λ s. IsAtPlace s a) whole f.scans))
+      (λ whole.
+      let nothing : adds.0 ≡ [] = added_once o adds.0 [] (sym adds.1 ∙ still (subst (λ s. IsAtPlace s a) whole f.scans) ∙ sym (append-nil o)) in
+      let here : scan_place h ≡ Elsewhere → ⊥ = λ away. let both : Between ≡ Elsewhere = sym whole ∙ away in absurd (cc) in
+      subst (All IsCallOrScan) (sym (append-nil past) ∙ ap (λ os. past ++ os) (sym nothing)) (f.plain here)),
+)

@@ -1,0 +1,37 @@
+use Rattle.std.proofs.Common.{◌≡◌, ◌∙◌, ap, refl, subst, sym}
+use Rattle.thp_model.specs.BlockLaws.{event_with}
+use Rattle.thp_model.specs.declared.events.What.{What}
+use Rattle.thp_journal_scripts.specs.declared.moved.Moved.{Moved}
+use Rattle.thp_journal_scripts.specs.Folds.{flying_after, pages_at, IsAt, IsAtPlace}
+use Rattle.thp_journal_scripts.specs.Repeating.{kind_of}
+use Rattle.thp_journal_scripts.specs.WholeScans.{once_ended, scan_place_of, ScanPlace}
+use Rattle.thp_journal_scripts.proofs.FoldingLaws.{event_then, folded_more, in_any_block, more_commands, still_plain}
+use Rattle.thp_journal_scripts.proofs.WholeScanLaws.{event_after, still_at}
+use Rattle.thp_journal_scripts.proofs.folding.Folding.add.Goals as goal
+
+pub returns : goal.returns
+returns c = λ block.
+    let o = c.args.ops.now.items in
+    let p = c.add_kind.new.ops.items in
+    let q = c.end.new.ops.items in
+    let told = c.args.event.now in
+    let e = event_with block told in
+    let a = c.args.self.now in
+    let m = c.add_kind.new.self in
+    let b = c.follow.new.self in
+    let d = c.end.new.self in
+    let place : ScanPlace → ScanPlace = λ s. scan_place_of s (kind_of e.what) e.caller e.what in
+    let same : (s : ScanPlace) → place s ≡ scan_place_of s (kind_of told.what) told.caller told.what = λ s. in_any_block (λ (w : What). scan_place_of s (kind_of w) told.caller w) (λ p b d. refl) block told.what in
+    let pages : b.pages.pages.items ≡ flying_after e.what m.flights m.pages.pages.items =
+    c.in_ok-follow.ensures.pages ∙ sym (in_any_block (λ (w : What). flying_after w m.flights m.pages.pages.items) (λ p b d. refl) block told.what) in
+    let goes : (s : ScanPlace) → IsAtPlace s a → IsAt (place s) (pages_at s) m = λ s at. subst (λ t. IsAt t (pages_at s) m) (sym (same s)) (c.in_ok-add_kind.ensures.goes_on s at) in
+    let after : (s : ScanPlace) → IsAtPlace s a → IsAtPlace (place s) b = λ s at. event_after e.what m b c.follow.ensures.batch c.follow.ensures.moved pages c.follow.ensures.flights e.caller s (goes s at) in
+    folded_more o c.release.new.ops.items e a c.release.new.self
+    (event_then o q c.release.new.ops.items e a d d c.release.new.self
+    (event_then o p q e a m b d (c.in_ok-add_kind.ensures.adds block) c.follow.ensures.batch (ap (λ (moved : Moved). moved.events) c.follow.ensures.moved) c.in_ok-end.ensures.adds)
+    refl refl c.in_ok-release.ensures.adds)
+    (λ s at. still_at d c.release.new.self c.in_ok-release.ensures.none_waits (once_ended (place s)) (c.in_ok-end.ensures.goes_on (place s) (after s at)))
+    (λ s at ne.
+    more_commands o q c.release.new.ops.items
+    (more_commands o p q (c.in_ok-add_kind.ensures.plain s at (λ away. ne (ap once_ended (same s ∙ away)))) (c.in_ok-end.ensures.plain (place s) (after s at) ne))
+    (still_plain d q c.release.new.ops.items c.in_ok-release.ensures.none_written (once_ended (place s)) (c.in_ok-end.ensures.goes_on (place s) (after s at)) ne))

@@ -1,0 +1,84 @@
+-- The script of a journal: that of its nodes' legal events, up to the first illegal one (this project's profile).
+use Rattle.std.specs.Prelude.{◌≡◌, ℕ, All, List, [], ◌∷◌, ◌++◌, Option, Some, None, length, map, take}
+use Rattle.thp_model.specs.declared.shape.Shape.{Shape}
+use Rattle.thp_model.specs.BlockLaws.{event_with}
+use Rattle.thp_model.specs.History.{History}
+use Rattle.thp_model.specs.Legal.{IsFirstMisfit}
+use Rattle.thp_journal_reader.specs.declared.illegal.Illegal.{Illegal}
+use Rattle.thp_journal_scripts.specs.declared.journal_script.JournalScript.{JournalScript}
+use Rattle.thp_journal_reader.specs.declared.journals.NodeJournal.{NodeJournal}
+use Rattle.thp_journal_reader.specs.declared.line.Line.{Line}
+use Rattle.thp_journal_reader.specs.declared.line.Line.TheVariants.{Node, Happened}
+use Rattle.thp_journal_scripts.specs.declared.moved.Moved.{Moved}
+use Rattle.thp_journal_scripts.specs.declared.scripted.Scripted.{Scripted}
+use Rattle.thp_journal_reader.specs.Answers.{AreLegalBefore, ReportsFirst}
+use Rattle.thp_journal_scripts.specs.Moving.{counted}
+use Rattle.thp_journal_scripts.specs.NodeScripts.{moved_in, nodes_of, nodes_text, out_of_turn_in, BeginsNode, EndedNode, GoesOnWith, IsEnded, IsWriting, NodeScript}
+use Rattle.thp_journal_reader.specs.Parts.{ReadSoFar}
+
+-- the nodes up to the first illegal event, the last of them with the events before it
+pub record IsLegalPart (nodes part : List NodeJournal) : Type 0 where
+  pub before : List NodeJournal
+  pub node : NodeJournal
+  pub after : List NodeJournal
+  pub nodes_are : nodes ≡ before ++ node ∷ after
+  pub legal : AreLegalBefore (length before) before
+  pub place : ℕ
+  pub misfit : IsFirstMisfit node.shape node.events place
+  pub part_is : part ≡ before ++ record node { events = take place node.events } ∷ []
+
+-- the same, or all nodes if none has an illegal event
+abbrev pub LegalPart : List NodeJournal → Option Illegal → List NodeJournal → Type 0
+LegalPart nodes None part = part ≡ nodes
+LegalPart nodes (Some illegal) part = IsLegalPart nodes part
+
+-- a node's shape and events
+abbrev pub told_of : NodeJournal → Shape × History
+told_of n = (n.shape, n.events)
+
+-- those of a node's script
+abbrev pub repeated_of : NodeScript → Shape × History
+repeated_of n = (n.shape, n.events)
+
+abbrev pub ended_nodes : List EndedNode → List NodeScript
+ended_nodes ended = map (λ (e : EndedNode). e.node) ended
+
+-- The text is the script of the nodes up to the first illegal event. It moves this much, and so many tries are out of turn.
+pub record IsScriptOf (nodes : List NodeJournal) (illegal : Option Illegal) (text : List ℕ) (moved : Moved) (turns : ℕ) : Type 0 where
+  pub part : List NodeJournal
+  pub legal : LegalPart nodes illegal part
+  pub scripts : List EndedNode
+  pub each : All IsEnded scripts
+  pub same : map told_of part ≡ map repeated_of (ended_nodes scripts)
+  pub text_is : text ≡ nodes_text [] (ended_nodes scripts)
+  pub moved_is : moved ≡ moved_in scripts
+  pub out_of_turn_is : turns ≡ counted (out_of_turn_in (ended_nodes scripts))
+
+-- the first illegal event of the nodes and their script, of which this text was taken out before
+pub record AreScripted (nodes : List NodeJournal) (taken : List ℕ) (scripted : Scripted) : Type 0 where
+  pub first : ReportsFirst nodes scripted.illegal
+  pub script : IsScriptOf nodes scripted.illegal (taken ++ scripted.text.items) scripted.moved scripted.out_of_turn
+
+-- ---- while nodes are read
+
+-- the script so far is that of the nodes; the last of them has not ended, unless an event is illegal
+pub record IsScripting (nodes : List NodeJournal) (illegal : Option Illegal) (s : JournalScript) : Type 0 where
+  pub part : List NodeJournal
+  pub legal : LegalPart nodes illegal part
+  pub ended : List EndedNode
+  pub begun : Option NodeScript
+  pub same : map told_of part ≡ map repeated_of (nodes_of ended begun)
+  pub goes_on : illegal ≡ None → begun ≡ None → ended ≡ []
+  pub writing : IsWriting ended begun s
+
+-- a line without an illegal event is added
+abbrev pub AddsLine : Line → JournalScript → JournalScript → Type 0
+AddsLine (Node n shape) old new = BeginsNode shape old new
+AddsLine (Happened event) old new = (block : ℕ) → GoesOnWith (event_with block event) old new
+AddsLine _ old new = new ≡ old
+
+-- The state of a check that also writes a script: what was read, the text that was taken out, and the rest of it.
+pub record ScriptSoFar : Type 0 where
+  pub read : ReadSoFar
+  pub taken : List ℕ
+  pub untaken : List ℕ

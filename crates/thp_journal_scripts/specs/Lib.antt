@@ -1,0 +1,10 @@
+pub mod TextTrace
+pub mod Repeating
+pub mod ScriptBatches
+pub mod Moving
+pub mod Turns
+pub mod WholeScans
+pub mod Folds
+pub mod ScriptTexts
+pub mod NodeScripts
+pub mod JournalScripts

@@ -1,0 +1,91 @@
+-- Scripts that repeat a history: which events each command repeats (this project's profile).
+use Rattle.std.specs.Prelude.{◌≡◌, ◌++◌, ℕ, Bool, true, false, All, List, [], ◌∷◌, Option, Some, None, length, nat_lt, if◌then◌else◌}
+use Rattle.std.specs.List.{filter, flat_map}
+use Rattle.thp_model.specs.declared.events.Event.{Event}
+use Rattle.thp_model.specs.declared.events.What.{What}
+use Rattle.thp_model.specs.declared.events.What.TheVariants.{Alloc, MapWhole, UnmapWhole, MapSub, UnmapSub, SplitPmd, Pin, Unpin, Write, Zero, Taken, Split, Pinned, Used, Back, Dropped, Close}
+use Rattle.thp_model.specs.History.{History}
+use Rattle.thp_script.specs.declared.script.Op.{Op}
+use Rattle.thp_script.specs.declared.script.Op.TheVariants as op
+use Rattle.thp_journal_scripts.specs.declared.event_kind.EventKind.{EventKind}
+use Rattle.thp_journal_scripts.specs.declared.event_kind.EventKind.TheVariants.{Call, Take, Try, Put}
+
+-- a number of a range as an operand, which has 16 bits: a range past that is refused in any case
+abbrev pub operand_of : ℕ → ℕ
+operand_of n = if nat_lt n 65536 then n else 65535
+
+-- a call, with the command that repeats it; or a part of a batch
+abbrev pub kind_of : What → EventKind
+kind_of (Alloc p block) = Call op.Alloc
+kind_of (MapWhole p) = Call (op.MapWhole p)
+kind_of (UnmapWhole outcome p released) = Call (op.UnmapWhole p)
+kind_of (MapSub p first count) = Call (op.Map (operand_of first) (operand_of count) p)
+kind_of (UnmapSub outcome p first count released) = Call (op.Unmap (operand_of first) (operand_of count) p)
+kind_of (SplitPmd p) = Call (op.SplitPmd p)
+kind_of (Pin p) = Call (op.Pin p)
+kind_of (Unpin outcome p released) = Call (op.Unpin p)
+kind_of (Write p first count) = Call (op.Write (operand_of first) (operand_of count) p)
+kind_of (Zero p first count) = Call (op.Zero (operand_of first) (operand_of count) p)
+kind_of (Taken p) = Take
+kind_of (Split p released) = Try
+kind_of (Pinned p) = Try
+kind_of (Used p) = Try
+kind_of (Back p) = Put
+kind_of (Dropped p) = Put
+kind_of Close = Call op.Close
+
+-- an event of caller c of this kind
+abbrev pub IsBy : ℕ → EventKind → Event → Type 0
+IsBy c kind e = (e.caller ≡ c) × (kind_of e.what ≡ kind)
+
+-- so many of them
+abbrev pub AreBy : ℕ → EventKind → ℕ → History → Type 0
+AreBy c kind n own = (length own ≡ n) × All (IsBy c kind) own
+
+-- caller c took n pages, tried each, and put some back
+pub record IsScanBy (c n : ℕ) (own : History) : Type 0 where
+  pub takes : History
+  pub tries : History
+  pub puts : History
+  pub parts : own ≡ (takes ++ tries) ++ puts
+  pub takes_are : AreBy c Take n takes
+  pub tries_are : AreBy c Try n tries
+  pub puts_are : All (IsBy c Put) puts
+
+-- the one event is the call that this command makes
+abbrev pub IsCall : Op → History → Type 0
+IsCall o own = (e : Event) × (own ≡ e ∷ []) × (kind_of e.what ≡ Call o)
+
+-- The command repeats these events, given the caller whose batch is open before and after it. A take and a scan need that none is,
+-- a try and a put back that one is.
+abbrev pub RepeatsBy : Option ℕ → Op → History → Option ℕ → Type 0
+RepeatsBy batch (op.Take n) own after = (c : ℕ) × (batch ≡ None) × AreBy c Take n own × (after ≡ Some c)
+RepeatsBy batch (op.Scan n) own after = (c : ℕ) × (batch ≡ None) × IsScanBy c n own × (after ≡ None)
+RepeatsBy batch op.SplitNext own after = (c : ℕ) × (batch ≡ Some c) × AreBy c Try 1 own × (after ≡ Some c)
+RepeatsBy batch op.PutBack own after = (c : ℕ) × (batch ≡ Some c) × All (IsBy c Put) own × (after ≡ None)
+RepeatsBy batch o own after = IsCall o own × (after ≡ batch)
+
+-- the commands repeat the history, one part of it after the other
+abbrev pub Repeats : Option ℕ → List Op → History → Option ℕ → Type 0
+Repeats batch [] h after = (h ≡ []) × (after ≡ batch)
+Repeats batch (o ∷ ops) h after = (own : History) × (rest : History) × (between : Option ℕ) × (h ≡ own ++ rest) × RepeatsBy batch o own between × Repeats between ops rest after
+
+-- the command of a call
+abbrev pub call_in : EventKind → List Op
+call_in (Call o) = o ∷ []
+call_in _ = []
+
+-- the commands of the calls in a history, in order
+abbrev pub calls_of : History → List Op
+calls_of h = flat_map (λ (e : Event). call_in (kind_of e.what)) h
+
+abbrev pub is_call : Op → Bool
+is_call (op.Take n) = false
+is_call (op.Scan n) = false
+is_call op.SplitNext = false
+is_call op.PutBack = false
+is_call o = true
+
+-- the calls among commands
+abbrev pub calls_in : List Op → List Op
+calls_in ops = filter is_call ops

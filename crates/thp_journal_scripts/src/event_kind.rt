@@ -1,0 +1,73 @@
+//! The kinds of events, by the command that repeats them.
+ghost use Rattle.std.specs.Prelude.{◌≡◌};
+ghost use Rattle.thp_journal_scripts.specs.Repeating.{kind_of, operand_of};
+
+use thp_model::What;
+use thp_script::Op;
+
+/// The kind of an event, by the command that repeats it.
+#[derive(Clone, Copy)]
+pub enum EventKind {
+    /// A call, which this command repeats.
+    Call(Op),
+    /// A page was taken into a batch.
+    Take,
+    /// A page of a batch was tried: it was split, or found pinned or in use.
+    Try,
+    /// A page of a batch was put back or dropped.
+    Put,
+}
+
+/// Returns a number of a range as an operand of a command. A range past the operand's greatest value is refused in any case.
+fn operand_of(number: u32) -> u16
+    ensures { result ≡ operand_of number }
+{
+    if number < 65_536 {
+        number as u16
+    } else {
+        u16::MAX
+    }
+}
+
+/// Returns the kind of an event.
+pub(crate) fn kind_of(what: &What) -> EventKind
+    ensures { result ≡ kind_of what.now }
+{
+    EventKind::Call(match *what {
+        What::Alloc { .. } => Op::Alloc,
+        What::MapWhole { page } => Op::MapWhole { page: page.0 },
+        What::UnmapWhole { page, .. } => Op::UnmapWhole { page: page.0 },
+        What::MapSub { page, first, count } => Op::Map {
+            first: operand_of(first),
+            count: operand_of(count),
+            page: page.0,
+        },
+        What::UnmapSub {
+            page,
+            first,
+            count,
+            ..
+        } => Op::Unmap {
+            first: operand_of(first),
+            count: operand_of(count),
+            page: page.0,
+        },
+        What::SplitPmd { page } => Op::SplitPmd { page: page.0 },
+        What::Pin { page } => Op::Pin { page: page.0 },
+        What::Unpin { page, .. } => Op::Unpin { page: page.0 },
+        What::Write { page, first, count } => Op::Write {
+            first: operand_of(first),
+            count: operand_of(count),
+            page: page.0,
+        },
+        What::Zero { page, first, count } => Op::Zero {
+            first: operand_of(first),
+            count: operand_of(count),
+            page: page.0,
+        },
+        What::Close => Op::Close,
+        What::Taken { .. } => return EventKind::Take,
+        What::Split { .. } | What::Pinned { .. } | What::Used { .. } => return EventKind::Try,
+        What::Back { .. } | What::Dropped { .. } => return EventKind::Put,
+    })
+}

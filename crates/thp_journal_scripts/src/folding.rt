@@ -1,0 +1,380 @@
+//! The commands that repeat the events of a node.
+ghost use Rattle.std.specs.Prelude.{◌≡◌, ◌++◌, ◌+◌, [], ◌∷◌, ℕ, IfOk, OnOk, true};
+ghost use Rattle.thp_model.specs.BlockLaws.{event_with};
+ghost use Rattle.thp_model.specs.declared.events.Event.{Event};
+ghost use Rattle.thp_model.specs.declared.events.What.{What};
+ghost use Rattle.thp_model.specs.declared.events.What.TheVariants.{Taken};
+ghost use Rattle.thp_journal_scripts.specs.ScriptBatches.{pending_ops, settled};
+ghost use Rattle.thp_journal_scripts.specs.Folds.{flying_after, leave_if_freed, AddsCommands, AddsEvent, AddsPlain, AddsTo, Ends, GoesOn, HasAdded, IsAtPlace, IsFolded, KeepsFlights};
+ghost use Rattle.thp_journal_scripts.specs.Moving.{counted};
+ghost use Rattle.thp_journal_scripts.specs.Repeating.{kind_of, IsBy};
+ghost use Rattle.thp_journal_scripts.specs.WholeScans.{once_ended, place_of_call, place_of_put, place_of_take, place_of_try, scan_place_of, ScanPlace};
+ghost use Rattle.thp_journal_scripts.specs.declared.script_batch.ScriptBatch.TheVariants.{Idle, Open};
+ghost use Rattle.thp_journal_scripts.specs.declared.event_kind.EventKind.TheVariants.{Call, Put, Take, Try};
+
+use crate::event_kind::{EventKind, kind_of};
+use crate::moved::Moved;
+use crate::open_flights::OpenFlights;
+use crate::script_batch::ScriptBatch;
+use crate::waiting_flights::WaitingFlights;
+use std::alloc::{AllocError, Global};
+use thp_model::{Event, Outcome, PageId, What};
+use thp_script::Op;
+
+/// The script of one caller that repeats a node's events, which are added one by one.
+///
+/// A call is the same call. A batch whose takes, tries and put-backs follow one another is a `scan`; another one is a `take`, a
+/// `splitnext` for each try and a `putback`, each at its place among the calls. A script has one batch at a time: a flight that
+/// begins while the batch has pages waits, and becomes a `scan` once it and the batches before it have ended.
+///
+/// Stores the pages in flight and the number of pages in each flight that waits, and no event.
+#[derive(Drop)]
+pub(crate) struct Folding {
+    pub(crate) batch: ScriptBatch,
+    // the number of flights before the batch's
+    flight: u64,
+    // the number of flights so far
+    flights: u64,
+    pages: OpenFlights,
+    waiting: WaitingFlights,
+    pub(crate) moved: Moved,
+}
+
+impl Folding {
+    /// Creates the script of no event.
+    pub(crate) fn new(alloc: Global) -> Folding
+        ensures { IsFolded [] [] result }
+    {
+        Folding {
+            batch: ScriptBatch::Idle,
+            flight: 0,
+            flights: 0,
+            pages: OpenFlights::new(alloc),
+            waiting: WaitingFlights::new(alloc),
+            moved: Moved::nothing(),
+        }
+    }
+
+    /// Adds an event, and appends the commands whose place is known by it. An allocation's block makes no difference. On error the
+    /// script is unusable.
+    pub(crate) fn add(&mut self, event: &Event, ops: &mut Vec<Op>) -> Result<(), AllocError>
+        ensures { OnOk result ((block : ℕ) → HasAdded ops.old.items ops.new.items (AddsTo (event_with block event.now) self.old self.new)) }
+    {
+        self.add_kind(event, ops)?;
+        self.follow(&event.what)?;
+        self.end(ops)?;
+        self.release(ops)?;
+        Ok(())
+    }
+
+    /// Adds an event by its kind.
+    fn add_kind(&mut self, event: &Event, ops: &mut Vec<Op>) -> Result<(), AllocError>
+        ensures adds { OnOk result ((block : ℕ) → HasAdded ops.old.items ops.new.items (AddsEvent (event_with block event.now) self.old self.new)) }
+        ensures goes_on { OnOk result (GoesOn (λ s. scan_place_of s (kind_of event.now.what) event.now.caller event.now.what) self.old self.new) }
+        ensures plain { OnOk result (AddsPlain (λ s. scan_place_of s (kind_of event.now.what) event.now.caller event.now.what) self.old ops.old.items ops.new.items) }
+    {
+        match kind_of(&event.what) {
+            EventKind::Call(op) => {
+                self.call(op, ops)?;
+                Ok(())
+            }
+            EventKind::Take => {
+                self.take(event.caller, ops)?;
+                Ok(())
+            }
+            EventKind::Try => {
+                self.try_page(event.caller, ops)?;
+                Ok(())
+            }
+            EventKind::Put => {
+                self.put_page(event.caller, ops)?;
+                Ok(())
+            }
+        }
+    }
+
+    /// Ends the script: appends the remaining commands, and returns what it does in another order than the history.
+    pub(crate) fn finish(self, ops: &mut Vec<Op>) -> Result<Moved, AllocError>
+        ensures { IfOk result (λ moved. HasAdded ops.old.items ops.new.items (Ends self moved)) }
+    {
+        let mut folding = self;
+        let left = folding.pages.len() as u64;
+        folding.close(ops)?;
+        folding.write_scans(true, ops)?;
+        Ok(Moved {
+            left,
+            ..folding.moved
+        })
+    }
+
+    /// Appends the commands of the batch that are not written yet.
+    fn settle(&mut self, ops: &mut Vec<Op>) -> Result<(), AllocError>
+        ensures batch { OnOk result (self.new.batch ≡ settled self.old.batch) }
+        ensures rest { OnOk result (self.new ≡ record self.old { batch = settled self.old.batch }) }
+        ensures ops { OnOk result (ops.new.items ≡ ops.old.items ++ pending_ops self.old.batch) }
+        ensures adds { OnOk result (HasAdded ops.old.items ops.new.items (AddsCommands self.old self.new)) }
+    {
+        let batch = self.batch.settle(ops)?;
+        self.batch = batch;
+        Ok(())
+    }
+
+    /// Counts a call if a flight waits.
+    fn count_call(&mut self)
+        ensures batch { self.new.batch ≡ self.old.batch }
+        ensures events { self.new.moved.events ≡ self.old.moved.events }
+        ensures none_waits { self.old.waiting.flights.items ≡ [] → self.new ≡ self.old }
+    {
+        if self.waiting.first().is_some() {
+            self.moved.calls = self.moved.calls.saturating_add(1);
+        }
+    }
+
+    /// Counts an event of a batch that is not at its place.
+    fn count_event(&mut self)
+        ensures batch { self.new.batch ≡ self.old.batch }
+        ensures events { self.new.moved.events ≡ counted (self.old.moved.events + 1) }
+    {
+        self.moved.events = self.moved.events.saturating_add(1);
+    }
+
+    /// Appends a call.
+    fn call(&mut self, op: Op, ops: &mut Vec<Op>) -> Result<(), AllocError>
+        ensures adds { OnOk result ((e : Event) → kind_of e.what ≡ Call op → HasAdded ops.old.items ops.new.items (AddsEvent e self.old self.new)) }
+        ensures goes_on { OnOk result (GoesOn place_of_call self.old self.new) }
+        ensures plain { OnOk result ((e : Event) → kind_of e.what ≡ Call op → AddsPlain place_of_call self.old ops.old.items ops.new.items) }
+    {
+        self.settle(ops)?;
+        self.count_call();
+        ops.push(op)?;
+        Ok(())
+    }
+
+    /// Adds a take to the batch, or to the flights that wait.
+    fn take(&mut self, caller: u32, ops: &mut Vec<Op>) -> Result<(), AllocError>
+        ensures adds { OnOk result ((e : Event) → IsBy caller Take e → HasAdded ops.old.items ops.new.items (AddsEvent e self.old self.new)) }
+        ensures goes_on { OnOk result ((p : ℕ) → GoesOn (λ s. place_of_take s caller (Taken p)) self.old self.new) }
+        ensures plain { OnOk result ((p : ℕ) → AddsPlain (λ s. place_of_take s caller (Taken p)) self.old ops.old.items ops.new.items) }
+    {
+        if let Some(batch) = self.batch.with_take(caller) {
+            self.batch = batch;
+            return Ok(());
+        }
+        self.put_back_nothing(ops)?;
+        if self.is_free() {
+            self.flights = self.flights.saturating_add(1);
+            self.flight = self.flights;
+            self.batch = ScriptBatch::Taking { caller, taken: 1 };
+            return Ok(());
+        }
+        self.wait(caller)?;
+        Ok(())
+    }
+
+    /// Returns whether a batch can begin.
+    fn is_free(&self) -> bool
+        ensures sound { result ≡ true → self.now.batch ≡ Idle }
+        ensures complete { self.now.batch ≡ Idle → self.now.waiting.flights.items ≡ [] → result ≡ true }
+    {
+        matches!(self.batch, ScriptBatch::Idle) && self.waiting.first().is_none()
+    }
+
+    /// Adds a take to the flights that wait.
+    fn wait(&mut self, caller: u32) -> Result<(), AllocError>
+        ensures batch { self.new.batch ≡ self.old.batch }
+        ensures events { self.new.moved.events ≡ counted (self.old.moved.events + 1) }
+    {
+        self.count_event();
+        if self.pages.has(self.flights) && self.waiting.extend(caller) {
+            return Ok(());
+        }
+        self.moved.batches = self.moved.batches.saturating_add(1);
+        self.flights = self.flights.saturating_add(1);
+        self.waiting.push(caller, self.flights)
+    }
+
+    /// Adds a try.
+    fn try_page(&mut self, caller: u32, ops: &mut Vec<Op>) -> Result<(), AllocError>
+        ensures adds { OnOk result ((e : Event) → IsBy caller Try e → HasAdded ops.old.items ops.new.items (AddsEvent e self.old self.new)) }
+        ensures goes_on { OnOk result ((w : What) → GoesOn (λ s. place_of_try s caller w) self.old self.new) }
+        ensures plain { OnOk result ((w : What) → AddsPlain (λ s. place_of_try s caller w) self.old ops.old.items ops.new.items) }
+    {
+        if let Some(batch) = self.batch.with_try(caller) {
+            self.batch = batch;
+            return Ok(());
+        }
+        self.settle(ops)?;
+        if self.has_open(caller) {
+            ops.push(Op::SplitNext)?;
+            return Ok(());
+        }
+        self.count_event();
+        Ok(())
+    }
+
+    /// Adds a page that is put back or dropped.
+    fn put_page(&mut self, caller: u32, ops: &mut Vec<Op>) -> Result<(), AllocError>
+        ensures adds { OnOk result ((e : Event) → IsBy caller Put e → HasAdded ops.old.items ops.new.items (AddsEvent e self.old self.new)) }
+        ensures goes_on { OnOk result ((w : What) → GoesOn (λ s. place_of_put s caller w) self.old self.new) }
+        ensures plain { OnOk result ((w : What) → AddsPlain (λ s. place_of_put s caller w) self.old ops.old.items ops.new.items) }
+    {
+        if let Some(batch) = self.batch.with_put(caller) {
+            self.batch = batch;
+            return Ok(());
+        }
+        self.settle(ops)?;
+        if self.has_open(caller) {
+            self.batch = ScriptBatch::Closing { caller };
+            return Ok(());
+        }
+        self.count_event();
+        Ok(())
+    }
+
+    /// Returns whether the open batch is this caller's.
+    fn has_open(&self, by: u32) -> bool
+        ensures { result ≡ true → self.now.batch ≡ Open by }
+    {
+        match self.batch {
+            ScriptBatch::Open { caller } => caller == by,
+            _ => false,
+        }
+    }
+
+    /// Follows the pages in flight.
+    fn follow(&mut self, what: &What) -> Result<(), AllocError>
+        ensures batch { self.new.batch ≡ self.old.batch }
+        ensures moved { self.new.moved ≡ self.old.moved }
+        ensures pages { OnOk result (self.new.pages.pages.items ≡ flying_after what.now self.old.flights self.old.pages.pages.items) }
+        ensures flights { KeepsFlights self.old self.new }
+    {
+        match *what {
+            What::Taken { page } => self.pages.push(page, self.flights),
+            What::Split { page, .. }
+            | What::Used { page }
+            | What::Back { page }
+            | What::Dropped { page } => {
+                self.pages.remove(page);
+                Ok(())
+            }
+            What::UnmapWhole { outcome, page, .. }
+            | What::UnmapSub { outcome, page, .. }
+            | What::Unpin { outcome, page, .. } => {
+                self.lose(outcome, page);
+                Ok(())
+            }
+            _ => Ok(()),
+        }
+    }
+
+    /// Removes a page from its flight if it was freed.
+    fn lose(&mut self, outcome: Outcome, page: PageId)
+        ensures batch { self.new.batch ≡ self.old.batch }
+        ensures moved { self.new.moved ≡ self.old.moved }
+        ensures pages { self.new.pages.pages.items ≡ leave_if_freed outcome page self.old.pages.pages.items }
+        ensures flights { KeepsFlights self.old self.new }
+    {
+        if outcome != Outcome::Freed {
+            return;
+        }
+        if let Some(flight) = self.pages.remove(page) {
+            self.waiting.lose(flight);
+        }
+    }
+
+    /// Completes the batch if no page is left in it.
+    fn end(&mut self, ops: &mut Vec<Op>) -> Result<(), AllocError>
+        ensures goes_on { OnOk result ((s : ScanPlace) → IsAtPlace s self.old → IsAtPlace (once_ended s) self.new) }
+        ensures plain { OnOk result (AddsPlain once_ended self.old ops.old.items ops.new.items) }
+        ensures adds { OnOk result (HasAdded ops.old.items ops.new.items (AddsCommands self.old self.new)) }
+    {
+        let Some(op) = self.batch.completion() else {
+            return Ok(());
+        };
+        if self.pages.has(self.flight) {
+            return Ok(());
+        }
+        ops.push(op)?;
+        self.batch = ScriptBatch::Idle;
+        Ok(())
+    }
+
+    /// Puts back the open batch if no page is left in it.
+    fn put_back_nothing(&mut self, ops: &mut Vec<Op>) -> Result<(), AllocError>
+        ensures idle { OnOk result (self.old.batch ≡ Idle → self.new ≡ self.old) }
+        ensures idle_ops { OnOk result (self.old.batch ≡ Idle → ops.new.items ≡ ops.old.items) }
+        ensures adds { OnOk result (HasAdded ops.old.items ops.new.items (AddsCommands self.old self.new)) }
+    {
+        if self.pages.has(self.flight) {
+            return Ok(());
+        }
+        let Some(_caller) = self.batch.open_caller() else {
+            return Ok(());
+        };
+        ops.push(Op::PutBack)?;
+        self.batch = ScriptBatch::Idle;
+        Ok(())
+    }
+
+    /// Appends what is left of the batch.
+    fn close(&mut self, ops: &mut Vec<Op>) -> Result<(), AllocError>
+        ensures idle { OnOk result (self.new.batch ≡ Idle) }
+        ensures was_idle { OnOk result (self.old.batch ≡ Idle → self.new ≡ self.old) }
+        ensures idle_ops { OnOk result (self.old.batch ≡ Idle → ops.new.items ≡ ops.old.items) }
+        ensures adds { OnOk result (HasAdded ops.old.items ops.new.items (AddsCommands self.old self.new)) }
+    {
+        self.settle(ops)?;
+        let Some(_caller) = self.batch.open_caller() else {
+            return Ok(());
+        };
+        ops.push(Op::PutBack)?;
+        self.batch = ScriptBatch::Idle;
+        Ok(())
+    }
+
+    /// Appends a scan for each flight that has ended and waits for no other one.
+    fn release(&mut self, ops: &mut Vec<Op>) -> Result<(), AllocError>
+        ensures none_waits { OnOk result (self.old.waiting.flights.items ≡ [] → self.new ≡ self.old) }
+        ensures none_written { OnOk result (self.old.waiting.flights.items ≡ [] → ops.new.items ≡ ops.old.items) }
+        ensures adds { OnOk result (HasAdded ops.old.items ops.new.items (AddsCommands self.old self.new)) }
+    {
+        if self.waiting.len() == 0 {
+            return Ok(());
+        }
+        self.put_back_nothing(ops)?;
+        if self.batch.is_idle() {
+            self.write_scans(false, ops)?;
+            return Ok(());
+        }
+        Ok(())
+    }
+
+    /// Returns the number of pages of the first flight that waits; `None` if it has not ended, unless `all` flights are meant.
+    fn next_scan(&self, all: bool) -> Option<u16> {
+        let first = self.waiting.first()?;
+        if !all && self.pages.has(first.flight) {
+            return None;
+        }
+        Some(first.taken)
+    }
+
+    /// Appends a scan for each flight that waits, up to the first that has not ended unless `all` flights are meant.
+    fn write_scans(&mut self, all: bool, ops: &mut Vec<Op>) -> Result<(), AllocError>
+        ensures none { OnOk result (self.old.moved.events ≡ 0 → self.new ≡ self.old) }
+        ensures none_written { OnOk result (self.old.moved.events ≡ 0 → ops.new.items ≡ ops.old.items) }
+        ensures batch { OnOk result (self.new.batch ≡ self.old.batch) }
+        ensures adds { OnOk result (HasAdded ops.old.items ops.new.items (AddsCommands self.old self.new)) }
+    {
+        if self.moved.events == 0 {
+            return Ok(());
+        }
+        for _flight in 0..self.waiting.len() {
+            let Some(count) = self.next_scan(all) else {
+                return Ok(());
+            };
+            ops.push(Op::Scan { count })?;
+            self.waiting.pop();
+        }
+        Ok(())
+    }
+}

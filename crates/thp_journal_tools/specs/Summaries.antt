@@ -1,0 +1,24 @@
+-- The results of a check that also sums nodes up.
+use Rattle.std.specs.Prelude.{◌≡◌, List}
+use Rattle.std.specs.List.{AllZip}
+use Rattle.thp_model.specs.History.{History}
+use Rattle.thp_journal_writer.specs.Totals.{totals_of}
+use Rattle.thp_journal_writer.specs.declared.totals.Totals.{Totals}
+use Rattle.thp_journal_reader.specs.declared.journals.NodeJournal.{NodeJournal}
+use Rattle.thp_journal_tools.specs.declared.summed.Summed.{Summed}
+use Rattle.thp_journal_reader.specs.Answers.{IsLegalFront, ReportsFirst}
+
+-- the totals of the node's legal events
+pub record IsSummary (node : NodeJournal) (totals : Totals) : Type 0 where
+  pub front : History
+  pub legal : IsLegalFront node front
+  pub totals_are : totals ≡ totals_of node.shape front
+
+-- the same for each node, in order
+abbrev pub AreSummaries : List NodeJournal → List Totals → Type 0
+AreSummaries = AllZip IsSummary
+
+-- the first illegal event of all nodes, and the totals of each
+pub record AreSummed (nodes : List NodeJournal) (summed : Summed) : Type 0 where
+  pub first : ReportsFirst nodes summed.illegal
+  pub totals : AreSummaries nodes summed.totals.items

@@ -1,0 +1,89 @@
+//! The check of journals of any length that also keeps data of each node.
+ghost use Rattle.std.specs.Prelude.{◌≡◌, ◌++◌, ℕ, List, Ok, [], IfOk, IfErr, refl};
+ghost use Rattle.std.proofs.Common.{◌∙◌, ap, append_assoc, sym};
+ghost use Rattle.thp_journal_reader.specs.Answers.{ReportsLongReadFault};
+ghost use Rattle.thp_journal_reader.specs.Following.{HasEnded};
+ghost use Rattle.thp_journal_reader.specs.Journals.{journals_within};
+ghost use Rattle.thp_journal_reader.specs.Parts.{told_with};
+ghost use Rattle.thp_journal_reader.specs.declared.journals.Journals.{Journals};
+ghost use Rattle.thp_script.specs.Limits.{max_counted};
+ghost use Rattle.thp_script.specs.Words.{Text};
+
+use std::alloc::{AllocError, Global};
+use std::marker::Model;
+use thp_cli::ReadsParts;
+use thp_journal_reader::{
+    FollowedNodes, FollowsNode, Illegal, LongReadFault, TextFault, TextReader,
+};
+use thp_script::{ReadFault, TextInParts};
+
+/// A check of journals of any length that also keeps data of each node, which `F` makes from the node's legal events: its totals
+/// ([`SummedNode`](crate::SummedNode)) or its numbers ([`SeriesNode`](crate::SeriesNode)).
+#[derive(Drop)]
+pub struct KeepingCheck<K: Drop, F: FollowsNode<Kept = K>> {
+    text: TextReader<FollowedNodes<F, K>>,
+}
+
+impl<K: Drop, F: FollowsNode<Kept = K>> Model for KeepingCheck<K, F> {
+    ghost use Rattle.std.specs.Prelude.{◌≤◌};
+    ghost use Rattle.thp_journal_reader.specs.Following.{nodes_told, FollowsLines};
+    ghost use Rattle.thp_journal_reader.specs.Parts.{so_far, ReadSoFar};
+    ghost use Rattle.thp_script.specs.Limits.{max_counted};
+
+    ghost Value = { ReadSoFar };
+
+    ghost view = { λ c. so_far (nodes_told c.text.nodes.lines) c.text.place c.text.text };
+
+    ghost invariant = { λ c. FollowsLines F.replayed F.keeps F.follows_all c.text.text.line c.text.nodes × (c.text.text.most ≤ max_counted) };
+}
+
+impl<K: Drop, F: FollowsNode<Kept = K>> KeepingCheck<K, F> {
+    /// Creates a check that has read nothing. The journals can have any length.
+    pub fn new(alloc: Global) -> KeepingCheck<K, F>
+        ensures { (text : Text) → told_with result text ≡ journals_within max_counted text }
+    {
+        KeepingCheck {
+            text: TextReader::new(
+                alloc,
+                TextInParts::unlimited(alloc),
+                FollowedNodes::new(alloc),
+            ),
+        }
+    }
+
+    /// Reads the next part of the text. After the first error the part is ignored. Fails if memory for a node's replay or its data,
+    /// or for a line that spans several parts, can't be allocated.
+    pub fn read_part(self, part: &[u8]) -> Result<KeepingCheck<K, F>, AllocError>
+        ensures { IfOk result (λ check. (more : Text) → told_with check more ≡ told_with self (part.now ++ more)) }
+    {
+        let text = self.text.read_part(part)?;
+        Ok(KeepingCheck { text })
+    }
+
+    /// Returns the first illegal event of the whole text, and the data of each node. Fails with the first error of the text, even if
+    /// that is after an illegal event, and if memory for the last node's data can't be allocated.
+    pub fn finish(self) -> Result<(Option<Illegal>, Vec<K>), LongReadFault>
+        ensures kept { IfOk result (λ found. (journals : Journals) × (told_with self [] ≡ Ok journals) × HasEnded F.keeps F.follows_all journals.nodes found.0 found.1.items) }
+        ensures fault { IfErr result (ReportsLongReadFault (told_with self [])) }
+    {
+        match self.text.fault() {
+            Some((line, kind)) => Err(LongReadFault::Text(TextFault { line, kind })),
+            None => {
+                let found = self.text.into_nodes().finish()?;
+                Ok(found)
+            }
+        }
+    }
+}
+
+impl<K: Drop, F: FollowsNode<Kept = K>> ReadsParts for KeepingCheck<K, F> {
+    ghost has_read = { λ old bytes new. (more : List ℕ) → told_with new more ≡ told_with old (bytes ++ more) };
+
+    fn read_part(self, part: &[u8]) -> Result<Self, ReadFault> {
+        Ok(KeepingCheck::read_part(self, part)?)
+    }
+
+    ghost nothing_read = { λ r more. refl };
+
+    ghost more_read = { λ a b c first more old new rest. new rest ∙ old (more ++ rest) ∙ ap (told_with a) (sym (append_assoc first more rest)) };
+}

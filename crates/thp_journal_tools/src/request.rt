@@ -1,0 +1,136 @@
+//! The frame of the programs: from the words of a command line to an exit status, for any kind of request.
+ghost use Rattle.std.specs.Prelude.{◌≡◌, ℕ, Bool, List, Option, Result, false, map, option_map};
+ghost use Rattle.clap.specs.declared.error.Error.{Error};
+ghost use Rattle.thp_cli.specs.declared.ending.Ending.{Ending};
+ghost use Rattle.thp_cli.specs.declared.ending.Program.{Program};
+ghost use Rattle.thp_cli.specs.declared.ending.ProgramFault.{ProgramFault};
+ghost use Rattle.thp_cli.specs.Outcomes.{device_of, given_words, source_of, Device, Source};
+ghost use Rattle.thp_journal_tools.specs.Progress.{ShowsProgress};
+ghost use Rattle.thp_journal_tools.specs.Requests.{end_of, notes_by, Finishes, Served, ShowsAsAsked, TakesNotes};
+
+use crate::end_fault::EndFault;
+use crate::screen::Screen;
+use clap::Error;
+use std::alloc::Global;
+use std::io::{Read, Write};
+use std::time::Clock;
+use thp_cli::{
+    Ending, LongRunFault, Program, ProgramFault, Watched, WordsFault, answer, status_of_ending,
+    tell, tell_run, tell_text, texts_of,
+};
+
+/// How a program ended after doing what was requested.
+#[derive(Drop)]
+pub(crate) struct ProgramEnd {
+    pub(crate) ending: Ending,
+    // the text for standard error: an explanation, or what is reported about a script
+    pub(crate) notes: Option<Vec<u8>>,
+}
+
+/// What the words of a command line can request of a program.
+pub(crate) trait Request: Sized {
+    /// The program.
+    ghost program: { Program };
+
+    /// The words make this request, or `clap` has this error.
+    ghost answers: { List (List ℕ) → Result Self Error → Type 0 };
+
+    /// The request was done like this, and this is the text for standard error.
+    ghost does: { Self → Source → Device → Result Ending ProgramFault → Option (List ℕ) → Type 0 };
+
+    /// Whether the progress of the request may be shown, given whether the screen is a terminal.
+    ghost shows: { Self → Bool → Bool };
+
+    /// Returns the program.
+    fn program() -> Program
+        ensures { result ≡ program };
+
+    /// Reads the words of a command line. The first word names the program.
+    fn read<'a>(alloc: Global, words: &'a [&'a str]) -> Result<Self, Error>
+        ensures { answers (map (λ word. word.now) words.entry.now) result };
+
+    /// Does what is requested.
+    fn perform<R: Read, W: Write, S: Write, C: Clock>(
+        self,
+        alloc: Global,
+        reader: &mut Watched<R>,
+        output: &mut Watched<W>,
+        screen: &mut Screen<S, C>,
+    ) -> Result<ProgramEnd, EndFault>
+        requires reader { reader.old.failed ≡ false }
+        requires output { output.old.failed ≡ false }
+        requires screen { screen.old.writer.failed ≡ false }
+        ensures does { does self (source_of R.remaining reader.old reader.new) (device_of W.contents output.old output.new) (end_of result) (notes_by result) }
+        ensures screen { ShowsProgress program (shows self screen.old.is_terminal) (R.remaining reader.old.device) (device_of S.contents screen.old.writer screen.new.writer) };
+}
+
+/// Executes what the words request.
+fn serve<Q: Request, R: Read, W: Write, S: Write, C: Clock>(
+    alloc: Global,
+    words: &Result<Vec<String>, WordsFault>,
+    reader: &mut Watched<R>,
+    output: &mut Watched<W>,
+    screen: &mut Screen<S, C>,
+) -> Result<ProgramEnd, EndFault>
+    requires reader { reader.old.failed ≡ false }
+    requires output { output.old.failed ≡ false }
+    requires screen { screen.old.writer.failed ≡ false }
+    ensures served { Served Q.answers Q.does (given_words words.now) (source_of R.remaining reader.old reader.new) (device_of W.contents output.old output.new) (end_of result) (notes_by result) }
+    ensures screen { ShowsAsAsked Q.program Q.answers Q.shows (given_words words.now) screen.old.is_terminal (source_of R.remaining reader.old reader.new) (device_of S.contents screen.old.writer screen.new.writer) }
+{
+    let words = match words {
+        Ok(words) => words,
+        Err(WordsFault::NotText) => return Err(EndFault::Words(ProgramFault::NoText)),
+        Err(WordsFault::OutOfMemory) => return Err(EndFault::Journal(LongRunFault::OutOfMemory)),
+    };
+    let Ok(texts) = texts_of(alloc, words.as_slice()) else {
+        return Err(EndFault::Journal(LongRunFault::OutOfMemory));
+    };
+    match Q::read(alloc, texts.as_slice()) {
+        Ok(request) => request.perform(alloc, reader, output, screen),
+        Err(error) => match answer(alloc, &error, output) {
+            Ok(()) => Ok(ProgramEnd {
+                ending: Ending::Written,
+                notes: None,
+            }),
+            Err(fault) => Err(EndFault::Words(fault)),
+        },
+    }
+}
+
+/// Writes the text, if any, to standard error.
+fn note<E: Write>(notes: Option<Vec<u8>>, errors: &mut Watched<E>)
+    requires { errors.old.failed ≡ false }
+    ensures { TakesNotes (device_of E.contents errors.old errors.new) (option_map (λ t. t.items) notes) }
+{
+    if let Some(text) = notes {
+        tell_text(errors, text.as_slice());
+    }
+}
+
+/// Runs the program for the words of its command line and returns the exit status. Messages about failures, and notes, go to
+/// standard error.
+pub(crate) fn run_request<Q: Request, R: Read, W: Write, E: Write, S: Write, C: Clock>(
+    alloc: Global,
+    words: Result<Vec<String>, WordsFault>,
+    reader: &mut Watched<R>,
+    output: &mut Watched<W>,
+    errors: &mut Watched<E>,
+    screen: &mut Screen<S, C>,
+) -> u8
+    requires reader { reader.old.failed ≡ false }
+    requires output { output.old.failed ≡ false }
+    requires errors { errors.old.failed ≡ false }
+    requires screen { screen.old.writer.failed ≡ false }
+    ensures finishes { Finishes Q.program Q.answers Q.does (given_words words) (source_of R.remaining reader.old reader.new) (device_of W.contents output.old output.new) (device_of E.contents errors.old errors.new) result }
+    ensures screen { ShowsAsAsked Q.program Q.answers Q.shows (given_words words) screen.old.is_terminal (source_of R.remaining reader.old reader.new) (device_of S.contents screen.old.writer screen.new.writer) }
+{
+    match serve::<Q, R, W, S, C>(alloc, &words, reader, output, screen) {
+        Ok(done) => {
+            note(done.notes, errors);
+            status_of_ending(done.ending)
+        }
+        Err(EndFault::Journal(fault)) => tell_run(Q::program(), fault, errors),
+        Err(EndFault::Words(fault)) => tell(Q::program(), fault, errors),
+    }
+}

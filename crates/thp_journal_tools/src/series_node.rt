@@ -1,0 +1,102 @@
+//! Follows a node for its numbers over the events, in columns.
+ghost use Rattle.std.specs.Prelude.{◌≡◌, true};
+ghost use Rattle.thp_journal_tools.specs.Keeping.{KeepsNumbers, LeavesNumbers};
+
+use crate::numbered::NumberedNode;
+use std::alloc::{AllocError, Global};
+use std::marker::Model;
+use thp_journal_reader::{FollowsNode, Illegal, Stopped};
+use thp_metrics::{NodeSeries, SeriesEnd};
+use thp_model::{Event, Shape};
+
+/// A node whose events so far are legal, followed for its numbers.
+#[derive(Drop)]
+pub struct SeriesNode {
+    shape: Shape,
+    series: NodeSeries,
+}
+
+/// What is left of a node whose next event does not fit.
+#[derive(Drop)]
+pub struct SeriesRest {
+    shape: Shape,
+    end: SeriesEnd,
+}
+
+impl Model for SeriesNode {
+    ghost use Rattle.std.specs.Prelude.{◌≡◌};
+    ghost use Rattle.thp_check.specs.Replays.{Replayed};
+
+    ghost Value = { Replayed };
+
+    ghost view = { λ n. n.series };
+
+    ghost invariant = { λ n. n.shape ≡ n.series.shape };
+}
+
+/// Keeps the numbers and the illegal event.
+impl FollowsNode for SeriesNode {
+    type Kept = NumberedNode;
+
+    type Rest = SeriesRest;
+
+    ghost replayed = { λ node. node };
+
+    ghost keeps = { KeepsNumbers };
+
+    ghost leaves = { LeavesNumbers };
+
+    ghost follows_all = { true };
+
+    fn follows_all() -> bool {
+        true
+    }
+
+    fn begin(alloc: Global, shape: Shape) -> Result<SeriesNode, AllocError> {
+        let series = NodeSeries::new(alloc, shape)?;
+        Ok(SeriesNode { shape, series })
+    }
+
+    fn free_block(&self) -> u32 {
+        self.series.least_free_block()
+    }
+
+    fn follow(self, event: &Event) -> Result<SeriesNode, Stopped<SeriesRest>> {
+        let SeriesNode { shape, series } = self;
+        match series.admit(event) {
+            Ok(series) => Ok(SeriesNode { shape, series }),
+            Err(end) => Err(Stopped {
+                misfit: end.misfit,
+                rest: SeriesRest { shape, end },
+            }),
+        }
+    }
+
+    fn end(self, alloc: Global) -> Result<NumberedNode, AllocError> {
+        let SeriesNode { shape, series } = self;
+        let stuck = series.stuck(alloc)?;
+        Ok(NumberedNode {
+            shape,
+            illegal: None,
+            numbers: series.numbers(),
+            columns: series.into_columns(),
+            stuck,
+        })
+    }
+
+    fn stop(
+        rest: SeriesRest,
+        alloc: Global,
+        illegal: &Illegal,
+    ) -> Result<NumberedNode, AllocError> {
+        let SeriesRest { shape, end } = rest;
+        let stuck = end.waiting.stuck(alloc)?;
+        Ok(NumberedNode {
+            shape,
+            illegal: Some(*illegal),
+            numbers: end.numbers,
+            columns: end.columns,
+            stuck,
+        })
+    }
+}

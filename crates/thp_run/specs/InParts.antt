@@ -1,0 +1,35 @@
+-- Runs of a script whose `setup` arrives in parts.
+use Rattle.std.specs.Prelude.{◌≡◌, ◌+◌, List, [], All, map}
+use Rattle.atomic_table.specs.Seated.{TableId}
+use Rattle.thp_node.specs.NodeState.{NodeState}
+use Rattle.thp_cell.specs.Views.{PassState}
+use Rattle.thp_script.specs.declared.script.Command.{Command}
+use Rattle.thp_script.specs.declared.settings.Settings.{Settings}
+use Rattle.thp_worker.specs.declared.in_parts.SectionInParts.{SectionInParts}
+use Rattle.thp_worker.specs.Fronts.{Fronts, Goes}
+use Rattle.thp_worker.specs.Holdings.{Held}
+use Rattle.thp_worker.specs.InParts.{DidFirst}
+use Rattle.thp_worker.specs.Passes.{fronts_in}
+use Rattle.thp_run.specs.NewNodes.{AreNodesFor}
+use Rattle.thp_run.specs.Sharing.{cell_of, IsRoot, IsUnused, Pairs}
+
+-- new nodes in cells, as the settings describe, and the passes that have all of their callers
+pub record AreNew (s : Settings) (cells : List TableId) (passes : List PassState) : Type 0 where
+  pub nodes : List NodeState
+  pub asked : AreNodesFor s nodes
+  pub new : All (λ (node : NodeState). node.journal ≡ []) nodes
+  pub in_cells : map cell_of passes ≡ cells
+  pub roots : Pairs (IsRoot (s.workers + 1)) nodes passes
+
+-- the passes' knowledge of the nodes before the first step: no caller has an open batch
+pub record StartsOn (s : Settings) (passes : List PassState) (f : Fronts) : Type 0 where
+  pub held : List Held
+  pub unused : Pairs IsUnused passes held
+  pub are : f ≡ fronts_in (record { callers = s.workers + 1; first = 0; end = s.workers + 1; held = held })
+
+-- On new nodes, with the passes `old`, caller 0 executed these commands, the first of `setup`, and no other caller did anything.
+pub record HasBegun (s : Settings) (cells : List TableId) (old : List PassState) (first : Fronts) (commands : List Command) (now : Fronts) (setup : SectionInParts) : Type 0 where
+  pub new : AreNew s cells old
+  pub starts : StartsOn s old first
+  pub goes : Goes 0 first now
+  pub did : DidFirst 0 first now commands setup

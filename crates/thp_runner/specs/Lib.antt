@@ -1,5 +1,0 @@
-pub mod NewNodes
-pub mod Runs
-pub mod Sections
-pub mod Sharing
-pub mod InParts
