@@ -35,9 +35,6 @@ absent_head x xs i out e = out (0, omega arith, sym e)
 pub absent_after : (x : ℕ) (xs : List ℕ) (i : ℕ) → (Contains (x ∷ xs) i → ⊥) → Contains xs i → ⊥
 absent_after x xs i out m = out (Contains-behind x xs i m)
 
-pub absent_cons : (x : ℕ) (xs : List ℕ) (i : ℕ) → i ≢ x → (Contains xs i → ⊥) → Contains (x ∷ xs) i → ⊥
-absent_cons x xs i ne out m = elim (Contains-cons_cases x xs i m) [ inl e ↦ ne e | inr n ↦ out n ]
-
 -- what is absent from both parts is absent from the whole
 pub absent_append : (xs ys : List ℕ) (i : ℕ) → (Contains xs i → ⊥) → (Contains ys i → ⊥) → Contains (xs ++ ys) i → ⊥
 absent_append xs ys i f g m = elim (Contains-append_cases xs ys i m) [ inl a ↦ f a | inr b ↦ g b ]

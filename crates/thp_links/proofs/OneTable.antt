@@ -1,12 +1,12 @@
 -- What a caller needs that keeps several lists in one table: a change of one leaves the others as they were.
-use Rattle.std.proofs.Common.{◌≡◌, ℕ, ◌<◌, ◌≤◌, List, [], ◌∷◌, ◌++◌, length, drop, Some, inl, inr, refl, subst}
+use Rattle.std.proofs.Common.{◌≡◌, ℕ, ◌<◌, List, [], ◌∷◌, ◌++◌, length, drop, Some, inl, inr, refl, subst}
 use Rattle.std.specs.List.{Contains, slice_get}
 use Rattle.std.proofs.lemmas.List.Elements.{Contains-append_cases}
 use Rattle.thp_links.specs.declared.link.Link.{Link}
 use Rattle.thp_links.specs.declared.link.TheConstants.{NIL}
 use Rattle.thp_links.specs.Indices.{Distinct, Apart, without}
 use Rattle.thp_links.specs.Standing.{Stands, ChainStands, SameOutside}
-use Rattle.thp_links.proofs.Members.{Contains-nil, Contains-cons_cases, Contains-from_first, first_and_rest, Contains-from_rest, Contains-from_without, Distinct-nil, Distinct-head, length-distinct}
+use Rattle.thp_links.proofs.Members.{Contains-nil, Contains-cons_cases, Contains-from_first, first_and_rest, Contains-from_rest, Contains-from_without, Distinct-nil, Distinct-head}
 use Rattle.thp_links.proofs.Segments.{Segment-kept, Segment-inside, Trail-kept, Trail-inside}
 
 -- the empty list stands in any table
@@ -36,13 +36,6 @@ Stands-inside {xs} {ls} i s m = Segment-inside ls NIL xs NIL i s.segment m
 
 pub ChainStands-inside : {xs : List ℕ} {ls : List Link} (i : ℕ) → ChainStands xs ls → Contains xs i → i < length ls
 ChainStands-inside {xs} {ls} i s m = Trail-inside ls xs i s.trail m
-
--- a list that stands is no longer than the table
-pub Stands-length : {xs : List ℕ} {ls : List Link} → Stands xs ls → length xs ≤ length ls
-Stands-length {xs} {ls} s = length-distinct xs (length ls) s.distinct (λ i m. Stands-inside i s m)
-
-pub ChainStands-length : {xs : List ℕ} {ls : List Link} → ChainStands xs ls → length xs ≤ length ls
-ChainStands-length {xs} {ls} s = length-distinct xs (length ls) s.distinct (λ i m. ChainStands-inside i s m)
 
 -- lists that are apart are so in either order
 pub Apart-sym : {xs ys : List ℕ} → Apart xs ys → Apart ys xs

@@ -142,7 +142,3 @@ blocks_without h (x ∷ ps) (y ∷ q) p b at once e =
       go true false u v f n = absurd (let same : x ≡ p = eqb-true x p u in let P : ℕ → Type 0 = λ z. block_of h z ≡ Some b in
           let there : Some y ≡ Some b = sym f ∙ ap (block_of h) same ∙ at in let yes : y ≡ b = cc in let no = eq-eqb y b yes in cc)
       go false true u v f n = absurd (let same : y ≡ b = eqb-true y b v in let here : x ≡ p = once x (f ∙ ap (λ (z : ℕ). Some z) same) in let no = eq-eqb x p here in cc)
-
--- the first page less
-pub blocks_rest : (h : History) (ps q : List ℕ) (p b : ℕ) → map (block_of h) (p ∷ ps) ≡ map (λ b. Some b) (b ∷ q) → map (block_of h) ps ≡ map (λ b. Some b) q
-blocks_rest h ps q p b e = (same_cons p b (block_of h p) (map (block_of h) ps) (map (λ n. Some n) q) e).1

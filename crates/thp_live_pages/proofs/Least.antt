@@ -1,14 +1,13 @@
 -- The least block that isn't held.
-use Rattle.std.proofs.Common.{◌≡◌, ℕ, suc, zero, ◌+◌, ◌*◌, ◌<◌, ◌≤◌, Bool, true, false, cond, ◌&&◌, List, length, set, get_or, refl, ap, sym, ◌∙◌, arith, inl, inr, nat_eq, nat_lt, eq-eqb, ne_eqb, length-set, replicate}
+use Rattle.std.proofs.Common.{◌≡◌, ℕ, suc, zero, ◌+◌, ◌<◌, ◌≤◌, Bool, true, false, cond, ◌&&◌, List, length, set, get_or, refl, ap, sym, ◌∙◌, arith, inl, inr, nat_eq, nat_lt, length-set}
 use Rattle.std.specs.List.{range_with_len}
 use Rattle.std.proofs.lemmas.List.{get_or-set_same, get_or-set_other, get_or_past}
 use Rattle.std.proofs.lemmas.Bool.{cases_lt, lt-ltb}
 use Rattle.std.proofs.lemmas.Bool.Decides.{eqb_tells}
 use Rattle.thp_model.specs.BlockLaws.{first_that}
 use Rattle.thp_model.specs.Words.{in_words}
-use Rattle.thp_model.proofs.Bools.{and_both, and-false, and-true}
+use Rattle.thp_model.proofs.Bools.{and_both}
 use Rattle.thp_live_pages.specs.BlockHolders.{least_of, AreFree}
-use Rattle.thp_live_pages.proofs.FreeWords.{zeros-get, zeros-length}
 
 -- the first number of a range that passes
 pub first_found : (test : ℕ → Bool) (a n b : ℕ) → a ≤ b → b < a + n → test b ≡ true → ((k : ℕ) → k < b → test k ≡ false) → first_that test (range_with_len a n) ≡ b
@@ -79,32 +78,6 @@ free_after counts words others b v a h e f = record {
   size = omega (arith, length-set counts b v, a.size);
 }
 
--- a block that is held once more isn't in the set
-pub free_held : (counts words others : List ℕ) (b v : ℕ) → AreFree counts words → b < length counts → length others ≡ length words → 0 < v →
-    ((k : ℕ) → in_words others k ≡ cond (nat_eq k b) false (in_words words k)) → AreFree (set counts b v) others
-free_held counts words others b v a h e p f =
-    free_after counts words others b v a h e (λ k. f k ∙ ap (λ c. cond (nat_eq k b) c (in_words words k)) (sym (ne_eqb v 0 (λ z. absurd (omega arith)))))
-
--- a block that is held no more is in the set
-pub free_released : (counts words others : List ℕ) (b v : ℕ) → AreFree counts words → b < length counts → length others ≡ length words → v ≡ 0 →
-    ((k : ℕ) → in_words others k ≡ cond (nat_eq k b) true (in_words words k)) → AreFree (set counts b v) others
-free_released counts words others b v a h e z f =
-    free_after counts words others b v a h e (λ k. f k ∙ ap (λ c. cond (nat_eq k b) c (in_words words k)) (sym (eq-eqb v 0 z)))
-
--- a block that is still held isn't in the set, as before
-pub free_still : (counts words : List ℕ) (b v : ℕ) → AreFree counts words → b < length counts → 0 < get_or counts b 0 → 0 < v → AreFree (set counts b v) words
-free_still counts words b v a h p q =
-    free_after counts words words b v a h refl
-    (λ k.
-    elim (eqb_tells k b) [
-      | inl y ↦
-          ap (λ j. in_words words j) y.1
-          ∙ (a.marked b ∙ ap (λ c. nat_lt b (length counts) && c) (ne_eqb (get_or counts b 0) 0 (λ z. absurd (omega arith))) ∙ and-false _)
-          ∙ sym (ne_eqb v 0 (λ z. absurd (omega arith)))
-          ∙ sym (ap (λ c. cond c (nat_eq v 0) (in_words words k)) y.0)
-      | inr y ↦ sym (ap (λ c. cond c (nat_eq v 0) (in_words words k)) y.0)
-    ])
-
 -- a number that isn't 0 stands in the list
 pub counted_inside : (counts : List ℕ) (b : ℕ) → 0 < get_or counts b 0 → b < length counts
 counted_inside counts b h =
@@ -112,10 +85,3 @@ counted_inside counts b h =
       | inl l ↦ l
       | inr g ↦ absurd (let z : get_or counts b 0 ≡ 0 = get_or_past counts b 0 g in omega arith)
     ]
-
--- no block is held at first
-pub free_first : (words : List ℕ) (n : ℕ) → ((b : ℕ) → in_words words b ≡ nat_lt b n) → n ≤ 64 * length words → AreFree (replicate n zero) words
-free_first words n f s = record {
-  marked = λ b. f b ∙ sym (ap (λ m. nat_lt b (length (replicate n zero)) && nat_eq m 0) (zeros-get n b) ∙ and-true (nat_lt b (length (replicate n zero))) ∙ ap (λ m. nat_lt b m) (zeros-length n));
-  size = omega (arith, zeros-length n);
-}

@@ -13,7 +13,7 @@ use Rattle.thp_live_pages.specs.declared.page_blocks.Allocation.{Allocation}
 use Rattle.thp_live_pages.specs.declared.pages.PageRecord.{PageRecord}
 use Rattle.thp_live_pages.specs.declared.pages.PageRecord.TheVariants.{Freed, Holds}
 use Rattle.thp_live_pages.specs.Chains.{IsChain, IsCovered}
-use Rattle.thp_live_pages.specs.Freeing.{freed_page, IsInside}
+use Rattle.thp_live_pages.specs.Freeing.{freed_page}
 use Rattle.thp_live_pages.specs.BlockHolders.{least_of}
 use Rattle.thp_live_pages.specs.Keeping.{Keeps}
 use Rattle.thp_live_pages.specs.State.{BlocksState}
@@ -24,10 +24,6 @@ use Rattle.thp_live_pages.proofs.KeepSteps.{least_is, keeps_quiet, keeps_alloc, 
 pub freed_other : (w : What) (p : ℕ) → freed_page w ≡ Some p → is_alloc w ≡ false
 freed_other (Alloc q b) p e = absurd (cc)
 freed_other w p e = refl
-
--- an allocation's block, where the event is one
-pub inside_of : (n : ℕ) (w : What) (p b : ℕ) → w ≡ Alloc p b → IsInside n w → b < n
-inside_of n w p b e i = subst (λ (v : What). IsInside n v) e i
 
 -- an allocation with the least free block
 pub placed_alloc : (e : Event) (p x b l : ℕ) → e.what ≡ Alloc p x → b ≡ l → by e.caller (Alloc p b) ≡ event_with l e

@@ -1,5 +1,5 @@
 -- What a loss comes to, by the page before and after it.
-use Rattle.std.proofs.Common.{◌≡◌, ℕ, ◌<◌, ◌^◌, Bool, true, false, cond, not, ◌&&◌, ◌||◌, refl, ap, ap₂, sym, ◌∙◌, arith, nat_eq, nat_lt}
+use Rattle.std.proofs.Common.{◌≡◌, ℕ, ◌<◌, ◌^◌, Bool, true, false, cond, not, ◌&&◌, ◌||◌, refl, ap, sym, ◌∙◌, arith, nat_eq, nat_lt}
 use Rattle.std.proofs.lemmas.Bool.Decides.{nat_tests}
 use Rattle.thp_model.specs.declared.events.Outcome.{Outcome}
 use Rattle.thp_model.specs.declared.events.Outcome.TheVariants.{Freed, Queued, Stays}
@@ -23,17 +23,6 @@ use Rattle.thp_live_pages.specs.Outcomes.{outcome_by, released_after}
 same_sizes : (a b : PageState) → a.order ≡ b.order → size a ≡ size b
 unfolding size
 same_sizes a b e = ap (λ n. 2 ^ n) e
-
-neither : (a b : ℕ) → a ≡ b → (nat_lt 0 a && nat_eq b 0) ≡ false
-neither a b e = grind (arith, nat_tests)
-
-same_use : (x x' s s' g g' z z' : Bool) (a b : ℕ) → x ≡ x' → s ≡ s' → g ≡ g' → z ≡ z' → (x ≡ true → a ≡ b) →
-    (x && (not s || (nat_lt 0 a && not (g && z)))) ≡ (x' && (not s' || (nat_lt 0 b && not (g' && z'))))
-same_use true true s s' g g' z z' a b e f i j t =
-    ap₂ (λ (p q : Bool). not p || q) f (ap₂ (λ (n : ℕ) (r : Bool). nat_lt 0 n && not r) (t refl) (ap₂ (λ (u v : Bool). u && v) i j))
-same_use true false s s' g g' z z' a b e f i j t = absurd (cc)
-same_use false true s s' g g' z z' a b e f i j t = absurd (cc)
-same_use false false s s' g g' z z' a b e f i j t = refl
 
 below_size : (i n : ℕ) → nat_lt i n ≡ true → i < n
 below_size i n e = grind (arith, nat_tests)

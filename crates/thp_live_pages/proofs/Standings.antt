@@ -1,7 +1,7 @@
 -- Where a page stands along a history: in the queue, in one flight, or nowhere.
 use Rattle.std.proofs.Common.{◌≡◌, ℕ, ◌+◌, ◌<◌, ◌≤◌, Bool, true, false, cond, not, ◌&&◌, ◌||◌, List, [], ◌∷◌, ◌++◌, Option, Some, None, drop, refl, ap, ap₂, sym, ◌∙◌, arith, nat_eq, inl, inr, eq-eqb, eqb-true}
 use Rattle.std.specs.Prelude.{slice_get, is_some}
-use Rattle.std.specs.List.{filter, list_any}
+use Rattle.std.specs.List.{filter}
 use Rattle.std.proofs.lemmas.List.Folds.{list_any-append}
 use Rattle.std.proofs.lemmas.Bool.Decides.{eqb_tells}
 use Rattle.thp_model.specs.declared.events.Event.{Event}
@@ -170,17 +170,6 @@ unfolding flying
 no_flying p fs e =
     no_flier p fs (by_bool (has_page p (pages fs)) _ (λ y. absurd (let g = (count_any (λ (f : ℕ × ℕ). nat_eq f.1 p) fs).1 (sym (any-pages p fs) ∙ y) in omega arith)) (λ y. y))
 
-has_flier : (p : ℕ) (fs : List (ℕ × ℕ)) → flying p fs ≡ 0 → has_page p (pages fs) ≡ false
-unfolding flying
-has_flier p fs e = by_bool (has_page p (pages fs)) _ (λ y. absurd (let g = (count_any (λ (f : ℕ × ℕ). nat_eq f.1 p) fs).1 (sym (any-pages p fs) ∙ y) in omega arith)) (λ y. y)
-
-flier_flies : (p c : ℕ) (fs : List (ℕ × ℕ)) → flier p fs ≡ Some c → 0 < flying p fs
-unfolding flying
-flier_flies p c fs e =
-    by_bool (list_any (λ (f : ℕ × ℕ). nat_eq f.1 p) fs) _
-    (λ y. (count_any (λ (f : ℕ × ℕ). nat_eq f.1 p) fs).1 y)
-    (λ y. absurd (let g = no_flier p fs (any-pages p fs ∙ y) in cc))
-
 -- the flier of a page has it in its flight
 pub flier_has : (p c : ℕ) (fs : List (ℕ × ℕ)) → flier p fs ≡ Some c → has_page p (pages (filter (λ (f : ℕ × ℕ). nat_eq f.0 c) fs)) ≡ true
 flier_has p c [] e = absurd (cc)
@@ -247,11 +236,6 @@ by_batch false (Some d) c e = (refl, cc)
 pub batch_has : (s : Shape) (h : History) (p c : ℕ) → standing_of s h p ≡ Batch c → (has_page p (flight h c) ≡ true) × (flier p (flights h) ≡ Some c) × (has_page p (queue s h) ≡ false)
 unfolding standing_of
 batch_has s h p c e = let w = by_batch _ _ c e in (flier_has p c (flights h) w.1, w.1, w.0)
-
-by_nowhere : (b : Bool) (o : Option ℕ) → stands_by b o ≡ Nowhere → (b ≡ false) × (o ≡ None)
-by_nowhere true o e = absurd (cc)
-by_nowhere false None e = (refl, refl)
-by_nowhere false (Some d) e = absurd (cc)
 
 -- the flier of a page is told by where the page stands
 pub batch_is : (s : Shape) (h : History) (p : ℕ) → Sound s h → batch_of (standing_of s h p) ≡ flier p (flights h)

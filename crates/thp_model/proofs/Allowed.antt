@@ -6,12 +6,10 @@ use Rattle.thp_model.specs.declared.shape.Shape.{Shape}
 use Rattle.thp_model.specs.History.{History}
 use Rattle.thp_model.specs.Counts.{is_live, is_split, is_closed, total, whole, own, pins}
 use Rattle.thp_model.specs.Frames.{is_held, block_in_use}
-use Rattle.thp_model.specs.Places.{flight, no_pages}
 use Rattle.thp_model.specs.Refusals.{refusal, most, some_of}
 use Rattle.thp_model.specs.Refusals as call
 use Rattle.thp_model.specs.Sets.{some_below, each_below}
 use Rattle.thp_model.specs.Shapes.{subpages}
-use Rattle.thp_model.proofs.Bools.{not_false}
 
 -- no refusal: none of one test holds
 one : (a : Bool) (x : Refusal) → cond a (Some x) None ≡ None → a ≡ false
@@ -116,16 +114,6 @@ allowed_zero shape h p first count e =
 pub allowed_close : (shape : Shape) (h : History) → refusal shape h call.close ≡ None → is_closed h ≡ false
 unfolding refusal
 allowed_close shape h e = one (is_closed h) reason.Closed e
-
--- the caller has nothing in flight
-pub allowed_take : (shape : Shape) (h : History) (c : ℕ) → refusal shape h (call.take c) ≡ None → no_pages (flight h c) ≡ true
-unfolding refusal
-allowed_take shape h c e = not_false (no_pages (flight h c)) (one (not (no_pages (flight h c))) reason.HasBatch e)
-
--- the same for a scan
-pub allowed_scan : (shape : Shape) (h : History) (c : ℕ) → refusal shape h (call.scan c) ≡ None → no_pages (flight h c) ≡ true
-unfolding refusal
-allowed_scan shape h c e = not_false (no_pages (flight h c)) (one (not (no_pages (flight h c))) reason.HasBatch e)
 
 -- a call about a page that doesn't live
 pub refused_gone : (shape : Shape) (h : History) (p : ℕ) → is_live h p ≡ false →

@@ -1,11 +1,11 @@
 -- Legal histories, one event at a time.
-use Rattle.std.proofs.Common.{◌≡◌, ℕ, suc, zero, ◌<◌, [], ◌∷◌, ◌++◌, length, take, drop, get_or, sym, ◌∙◌, subst, arith, inl, inr, append_assoc}
+use Rattle.std.proofs.Common.{◌≡◌, ℕ, suc, zero, ◌<◌, [], ◌∷◌, ◌++◌, length, take, drop, get_or, sym, ◌∙◌, subst, arith, inl, inr}
 use Rattle.std.proofs.lemmas.List.{take-append-le, take_all, take_at, take-append-drop}
 use Rattle.thp_model.specs.declared.events.Event.{Event}
 use Rattle.thp_model.specs.declared.shape.Shape.{Shape}
 use Rattle.thp_model.specs.History.{History}
 use Rattle.thp_model.specs.Legal.{IsLegal, Fits, IsFirstMisfit}
-use Rattle.thp_model.proofs.ListPlaces.{get_push, get-append_left, get_middle, get_below, get_at, take_one, append_none}
+use Rattle.thp_model.proofs.ListPlaces.{get_push, get-append_left, get_middle, get_below, get_at, take_one}
 
 -- the empty history is legal
 pub legal_none : (shape : Shape) → IsLegal shape []
@@ -64,23 +64,6 @@ front shape P none more h l (suc k) =
 pub legal_all : (shape : Shape) (P : History → Type 0) → P [] → ((h : History) (e : Event) → P h → Fits shape h e → P (h ++ e ∷ [])) →
     (h : History) → IsLegal shape h → P h
 legal_all shape P none more h l = subst P (take_all (length h) h (omega arith)) (front shape P none more h l (length h))
-
--- a legal history and events, each of which fits what is before it
-pub legal_run : (shape : Shape) (h es : History) → IsLegal shape h →
-    ((ds : History) (e : Event) (fs : History) → es ≡ ds ++ e ∷ fs → IsLegal shape (h ++ ds) → Fits shape (h ++ ds) e) → IsLegal shape (h ++ es)
-legal_run shape h [] l f = let P : History → Type 0 = λ k. IsLegal shape k in subst P (sym (append_none h)) l
-legal_run shape h (e ∷ es) l f =
-    let P : History → Type 0 = λ k. IsLegal shape k in
-    let here : P (h ++ []) = subst P (sym (append_none h)) l in
-    let F : History → Type 0 = λ k. Fits shape k e in
-    let more : IsLegal shape (h ++ e ∷ []) = legal_push shape h e l (subst F (append_none h) (f [] e es (λ i. e ∷ es) here)) in
-    subst P (append_assoc h (e ∷ []) es)
-    (legal_run shape (h ++ e ∷ []) es more
-    (λ ds x fs same m.
-    let G : History → Type 0 = λ k. Fits shape k x in
-    subst G (sym (append_assoc h (e ∷ []) ds)) (f (e ∷ ds) x fs (ap_cons e es (ds ++ x ∷ fs) same) (subst P (append_assoc h (e ∷ []) ds) m)))) where
-      ap_cons : (x : Event) (xs ys : History) → xs ≡ ys → x ∷ xs ≡ x ∷ ys
-      ap_cons x xs ys e = cc
 
 -- an event that doesn't fit a legal history is the first misfit of each history that goes on so
 pub first_misfit : (shape : Shape) (h : History) (k : ℕ) (e : Event) → k < length h → e ≡ get_or h k e → IsLegal shape (take k h) →

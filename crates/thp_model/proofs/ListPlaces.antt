@@ -52,7 +52,3 @@ take_one (x ∷ xs) (suc k) =
 pub append_none : {X : Type 0} (xs : List X) → xs ++ [] ≡ xs
 append_none [] = refl
 append_none (x ∷ xs) = ap (λ ys. x ∷ ys) (append_none xs)
-
--- the first of a list that is taken page by page
-pub get_first : {X : Type 0} (x : X) (xs ys : List X) → ys ≡ x ∷ xs → slice_get ys 0 ≡ Some x
-get_first x xs ys e = ap (λ zs. slice_get zs 0) e

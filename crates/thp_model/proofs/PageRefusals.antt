@@ -149,6 +149,3 @@ unfolding refusal page_refusal
 refusal_unpin shape h p t m l =
     live_first (is_live h p) reason.NoPage _ l
     ∙ two_tests _ _ _ _ reason.IsSplit reason.NotPinned (sym m.split) (ap (λ n. nat_eq n 0) (pins_is shape h p t m))
-
--- the refusals of the calls about a live page
-pub ruleset page_refusals = (refusal_map_whole, refusal_unmap_whole, refusal_map_sub, refusal_unmap_sub, refusal_split_pmd, refusal_pin, refusal_unpin, refusal_write, refusal_zero)

@@ -1,13 +1,13 @@
 -- Each definition at a history with one more event.
-use Rattle.std.proofs.Common.{◌≡◌, ℕ, ◌+◌, Bool, true, false, cond, not, ◌&&◌, ◌||◌, [], ◌∷◌, ◌++◌, refl, ap, sym, ◌∙◌, arith, nat_eq, append_assoc}
+use Rattle.std.proofs.Common.{◌≡◌, ℕ, ◌+◌, Bool, true, false, cond, not, ◌&&◌, ◌||◌, [], ◌∷◌, ◌++◌, refl, ap, sym, ◌∙◌, arith, append_assoc}
 use Rattle.std.specs.List.{filter_map, fold}
-use Rattle.std.proofs.lemmas.List.Elements.{filter-append, filter_map-append}
+use Rattle.std.proofs.lemmas.List.Elements.{filter_map-append}
 use Rattle.std.proofs.lemmas.List.Sums.{sum_by_push, fold_push}
 use Rattle.std.proofs.lemmas.List.Folds.{list_any-append}
 use Rattle.thp_model.specs.declared.events.Event.{Event}
 use Rattle.thp_model.specs.declared.events.What.{What}
 use Rattle.thp_model.specs.declared.shape.Shape.{Shape}
-use Rattle.thp_model.specs.History.{History, count_of, some_event, events_of}
+use Rattle.thp_model.specs.History.{History, count_of, some_event}
 use Rattle.thp_model.specs.Counts.{is_live, allocates, frees}
 use Rattle.thp_model.specs.Places.{queue, queue_after, flights, flights_after, is_taking, takes_by}
 use Rattle.thp_model.specs.Counters.{thp_split_pmd, add_split_pmds, splits_pmds, thp_underused_split_page, add_split_underused, splits_underused}
@@ -42,11 +42,6 @@ pub is_taking_push : (h : History) (c : ℕ) (e : Event) → is_taking (h ++ e �
 unfolding is_taking
 is_taking_push h c e = fold_push (λ before (x : Event). takes_by c x.caller x.what) false h e
 
--- the events of one caller
-pub events_of_push : (c : ℕ) (h : History) (e : Event) → events_of c (h ++ e ∷ []) ≡ events_of c h ++ cond (nat_eq e.caller c) (e ∷ []) []
-unfolding events_of
-events_of_push c h e = filter-append (λ (x : Event). nat_eq x.caller c) h (e ∷ [])
-
 -- an event that doesn't pass a test
 pub count_same : (test : What → Bool) (h : History) (e : Event) → test e.what ≡ false → count_of test (h ++ e ∷ []) ≡ count_of test h
 count_same test h e f = count_of_push test h e ∙ ap (λ b. count_of test h + cond b 1 0) f ∙ none (count_of test h) where
@@ -78,11 +73,6 @@ unfolding thp_split_pmd
 thp_split_pmd_push h e =
     ap (λ (k : History × ℕ). k.1) (fold_push add_split_pmds ([], 0) h e)
     ∙ ap (λ k. (fold add_split_pmds ([], 0) h).1 + splits_pmds k e.what) (history_of [] 0 h)
-
--- at the start none was split
-pub thp_split_pmd_none : thp_split_pmd [] ≡ 0
-unfolding thp_split_pmd
-thp_split_pmd_none = refl
 
 -- the count of underused pages split goes along the history too
 history_so : (shape : Shape) (k : History) (n : ℕ) (h : History) → (fold (add_split_underused shape) (k, n) h).0 ≡ k ++ h
@@ -146,18 +136,3 @@ partly_stays shape h e p f =
 pub given_push : (h : History) (e : Event) → given (h ++ e ∷ []) ≡ given h ++ filter_map gives_back (e ∷ [])
 unfolding given
 given_push h e = filter_map-append gives_back h (e ∷ [])
-
--- a history with one more event
-pub ruleset history_pushes = (
-  count_of_push,
-  some_event_push,
-  queue_push,
-  flights_push,
-  is_taking_push,
-  events_of_push,
-  thp_split_pmd_push,
-  thp_underused_split_page_push,
-  is_zero_filled_push,
-  is_partly_mapped_push,
-  given_push,
-)

@@ -1,19 +1,17 @@
 -- Returns of pages in flight, one at a time: each goes to the tail of the queue, or nowhere where it is dropped.
-use Rattle.std.proofs.Common.{◌≡◌, ℕ, ◌≤◌, Bool, true, false, cond, not, List, [], ◌∷◌, ◌++◌, Some, map, take, drop, refl, ap, ap₂, sym, ◌∙◌, subst, nat_eq, eq-eqb, append_assoc}
+use Rattle.std.proofs.Common.{◌≡◌, ℕ, ◌≤◌, Bool, true, false, cond, not, List, [], ◌∷◌, ◌++◌, Some, map, refl, ap, ap₂, sym, ◌∙◌, subst, eq-eqb, append_assoc}
 use Rattle.std.specs.Prelude.{slice_get}
 use Rattle.std.specs.List.{filter}
-use Rattle.std.proofs.lemmas.List.{take-append-drop}
-use Rattle.std.proofs.lemmas.List.Elements.{filter-append}
 use Rattle.thp_model.specs.declared.events.Event.{Event}
 use Rattle.thp_model.specs.declared.events.What.TheVariants.{Back, Dropped}
 use Rattle.thp_model.specs.declared.shape.Shape.{Shape}
 use Rattle.thp_model.specs.History.{History, by}
 use Rattle.thp_model.specs.Counts.{is_closed, closes}
-use Rattle.thp_model.specs.Places.{queue, flight, has_page, without}
+use Rattle.thp_model.specs.Places.{queue, flight, without}
 use Rattle.thp_model.specs.Legal.{IsLegal, Fits, is_dropped}
 use Rattle.thp_model.specs.Runs.{return_event, goes_back, still_flying, put_back_events}
 use Rattle.thp_model.specs.Underused.{unmaps_some, is_partly_mapped}
-use Rattle.thp_model.proofs.Bools.{by_bool, or_none, or_first, or_second, not_false}
+use Rattle.thp_model.proofs.Bools.{or_none, not_false}
 use Rattle.thp_model.proofs.Flights.{flight_push}
 use Rattle.thp_model.proofs.LegalSteps.{legal_push}
 use Rattle.thp_model.proofs.ListPlaces.{append_none}
@@ -99,37 +97,7 @@ pub returns_run : (shape : Shape) (h : History) (c : ℕ) (ps qs : List ℕ) →
     Returned shape h (h ++ map (return_event shape h c) ps) c ps qs
 returns_run shape h c ps qs l f = return_run shape h h c ps qs l f (λ q. refl)
 
--- what is put back of a batch so far, and what is left of it
-pub still_flying-split : (h : History) (c i : ℕ) (ps : List ℕ) → still_flying h c ps ≡ still_flying h c (take i ps) ++ still_flying h c (drop i ps)
-still_flying-split h c i ps =
-    ap (still_flying h c) (sym (take-append-drop i ps)) ∙ filter-append (λ p. has_page p (flight h c)) (take i ps) (drop i ps)
-
--- a batch whose pages still in flight are the flight's front can be put back page by page: here its first i pages were
-pub put_back_run : (shape : Shape) (h : History) (c i : ℕ) (ps qs : List ℕ) → IsLegal shape h → flight h c ≡ still_flying h c ps ++ qs →
-    Returned shape h (h ++ put_back_events shape h c (take i ps)) c (still_flying h c (take i ps)) (still_flying h c (drop i ps) ++ qs)
-put_back_run shape h c i ps qs l f =
-    returns_run shape h c (still_flying h c (take i ps)) (still_flying h c (drop i ps) ++ qs) l
-    (f ∙ ap (λ x. x ++ qs) (still_flying-split h c i ps) ∙ append_assoc (still_flying h c (take i ps)) (still_flying h c (drop i ps)) qs)
-
 -- a whole batch put back
 pub put_back_all : (shape : Shape) (h : History) (c : ℕ) (ps qs : List ℕ) → IsLegal shape h → flight h c ≡ still_flying h c ps ++ qs →
     Returned shape h (h ++ put_back_events shape h c ps) c (still_flying h c ps) qs
 put_back_all shape h c ps qs l f = returns_run shape h c (still_flying h c ps) qs l f
-
--- a page behind a front
-behind : (p : ℕ) (xs ys : List ℕ) → has_page p ys ≡ true → has_page p (xs ++ ys) ≡ true
-behind p [] ys e = e
-behind p (x ∷ xs) ys e = or_second (nat_eq x p) _ (behind p xs ys e)
-
--- the next page of the batch is still in flight exactly where it was before any was put back, and is in front there
-pub next_flies : (shape : Shape) (h : History) (c p : ℕ) (ds ps qs : List ℕ) → IsLegal shape h → flight h c ≡ still_flying h c (ds ++ p ∷ ps) ++ qs →
-    has_page p (still_flying h c (p ∷ ps) ++ qs) ≡ has_page p (flight h c)
-next_flies shape h c p ds ps qs l f =
-    go (has_page p (flight h c)) refl where
-      go : (b : Bool) → has_page p (flight h c) ≡ b → has_page p (cond b (p ∷ still_flying h c ps) (still_flying h c ps) ++ qs) ≡ b
-      go true y = or_first (nat_eq p p) _ (eq-eqb p p refl)
-      go false y = by_bool (has_page p (still_flying h c ps ++ qs)) _ (λ z. absurd (let w : has_page p (flight h c) ≡ true = ap (has_page p) (f ∙ ap (λ x. x ++ qs) (filter-append (λ q. has_page q (flight h c)) ds (p ∷ ps))) ∙ inside y z in cc)) (λ z. z) where
-        inside : has_page p (flight h c) ≡ false → has_page p (still_flying h c ps ++ qs) ≡ true → has_page p ((still_flying h c ds ++ still_flying h c (p ∷ ps)) ++ qs) ≡ true
-        inside y z =
-            ap (has_page p) (append_assoc (still_flying h c ds) (still_flying h c (p ∷ ps)) qs)
-            ∙ behind p (still_flying h c ds) (still_flying h c (p ∷ ps) ++ qs) (ap (λ b. has_page p (cond b (p ∷ still_flying h c ps) (still_flying h c ps) ++ qs)) y ∙ z)

@@ -1,5 +1,5 @@
 -- A scan: a take, a try of each page taken, and the return of those that were pinned.
-use Rattle.std.proofs.Common.{◌≡◌, ℕ, ◌+◌, ◌≤◌, Bool, true, false, cond, not, List, [], ◌∷◌, ◌++◌, Option, Some, None, map, take, drop, refl, ap, ap₂, sym, ◌∙◌, subst, arith, nat_eq, eq-eqb, append_assoc}
+use Rattle.std.proofs.Common.{◌≡◌, ℕ, ◌+◌, ◌≤◌, Bool, true, false, cond, not, List, [], ◌∷◌, ◌++◌, Some, map, take, drop, refl, ap, ap₂, sym, ◌∙◌, subst, arith, nat_eq, eq-eqb, append_assoc}
 use Rattle.std.specs.Prelude.{slice_get}
 use Rattle.std.specs.List.{filter}
 use Rattle.std.proofs.lemmas.List.{map-append, take-append-drop}
@@ -11,22 +11,16 @@ use Rattle.thp_model.specs.Counts.{is_closed, closes}
 use Rattle.thp_model.specs.Places.{queue, flight, has_page, no_pages}
 use Rattle.thp_model.specs.Legal.{IsLegal, is_dropped}
 use Rattle.thp_model.specs.PlaceLaws.{takes_of}
-use Rattle.thp_model.specs.Runs.{take_events, try_event, return_event, goes_back, is_pinned, scan_events, next_page, split_next_events, tries_of}
+use Rattle.thp_model.specs.Runs.{take_events, try_event, return_event, goes_back, is_pinned, scan_events}
 use Rattle.thp_model.proofs.Bools.{or_first, or_second}
-use Rattle.thp_model.proofs.LegalSteps.{legal_push}
 use Rattle.thp_model.proofs.ListPlaces.{append_none}
 use Rattle.thp_model.proofs.OnePlace.{once_queued, times-append, not_before}
 use Rattle.thp_model.proofs.Pushes.{some_same}
 use Rattle.thp_model.proofs.ReturnRuns.{Returned, return_run}
 use Rattle.thp_model.proofs.Standing.{times}
 use Rattle.thp_model.proofs.TakeRuns.{Took, take_runs, more_taken}
-use Rattle.thp_model.proofs.TryRuns.{Tried, tries_run, try_kept, try_fits, pinned_kept, dropped_kept}
+use Rattle.thp_model.proofs.TryRuns.{Tried, tries_run, try_kept, pinned_kept, dropped_kept}
 use Rattle.thp_model.proofs.Untouched.{untouched}
-
--- a page found in a batch is in flight
-abbrev pub FindsFlying : History → ℕ → Option ℕ → Type 0
-FindsFlying h c None = Unit {0}
-FindsFlying h c (Some p) = has_page p (flight h c) ≡ true
 
 -- takes leave what a try does, which pages are pinned, and whether the node is closed
 pub record TakesLeave (shape : Shape) (h k : History) (c : ℕ) : Type 0 where
@@ -59,11 +53,6 @@ scan_taken shape h c n = h ++ take_events shape h c n
 -- the history once the first i of them were tried
 abbrev pub scan_tried : Shape → History → ℕ → ℕ → ℕ → History
 scan_tried shape h c n i = scan_taken shape h c n ++ map (try_event shape h c) (take i (take n (queue shape h)))
-
--- the history once all were tried, and the first i of those that were pinned were returned
-abbrev pub scan_returned : Shape → History → ℕ → ℕ → ℕ → History
-scan_returned shape h c n i =
-    (scan_taken shape h c n ++ map (try_event shape h c) (take n (queue shape h))) ++ map (return_event shape h c) (take i (filter (is_pinned shape h) (take n (queue shape h))))
 
 -- functions that agree
 map_same : (f g : ℕ → Event) → ((p : ℕ) → f p ≡ g p) → (ps : List ℕ) → map f ps ≡ map g ps
@@ -178,17 +167,3 @@ scan_run shape h c n l f =
       left = w.left;
       closed_same = w.closed_same ∙ r.closed_same ∙ t.closed;
     })
-
--- one page of a batch tried: the first that is still in flight, or none
-pub split_next_fits : (shape : Shape) (h : History) (c : ℕ) (rest : List ℕ) → IsLegal shape h → IsLegal shape (h ++ split_next_events shape h c rest)
-split_next_fits shape h c rest l = go (next_page h c rest) (found rest) where
-  found : (ps : List ℕ) → FindsFlying h c (next_page h c ps)
-  found [] = tt
-  found (p ∷ ps) = here (has_page p (flight h c)) refl (found ps) where
-    here : (b : Bool) → has_page p (flight h c) ≡ b → FindsFlying h c (next_page h c ps) → FindsFlying h c (cond b (Some p) (next_page h c ps))
-    here true y m = y
-    here false y m = m
-
-  go : (o : Option ℕ) → FindsFlying h c o → IsLegal shape (h ++ tries_of shape h c o)
-  go None m = let P : History → Type 0 = λ x. IsLegal shape x in subst P (sym (append_none h)) l
-  go (Some p) m = legal_push shape h (try_event shape h c p) l (try_fits shape h c p l m)

@@ -1,7 +1,6 @@
 -- Some event of a history passes a test: which one, and the tests that follow.
-use Rattle.std.proofs.Common.{◌≡◌, ℕ, suc, zero, Bool, true, false, ◌||◌, [], ◌∷◌, ◌++◌, Some, refl, ap, ◌∙◌}
+use Rattle.std.proofs.Common.{◌≡◌, ℕ, suc, zero, Bool, true, false, ◌||◌, [], ◌∷◌, Some, refl, ap, ◌∙◌}
 use Rattle.std.specs.Prelude.{slice_get}
-use Rattle.std.proofs.lemmas.List.Folds.{list_any-append}
 use Rattle.thp_model.specs.declared.events.Event.{Event}
 use Rattle.thp_model.specs.declared.events.What.{What}
 use Rattle.thp_model.specs.History.{History, some_event}
@@ -29,12 +28,3 @@ unfolding some_event
 some_passes test [] k e g s = absurd (cc)
 some_passes test (x ∷ h) zero e g s = let same : x ≡ e = cc in or_first _ _ (ap (λ (y : Event). test y.what) same ∙ s)
 some_passes test (x ∷ h) (suc k) e g s = or_second (test x.what) _ (some_passes test h k e g s)
-
--- what passes one test passes a wider one
-pub some_wider : (f g : What → Bool) (h : History) → ((w : What) → f w ≡ true → g w ≡ true) → some_event f h ≡ true → some_event g h ≡ true
-some_wider f g h t s = let r : Passing f h = passing f h s in some_passes g h r.place r.event r.there (t r.event.what r.passes)
-
--- of two parts of a history
-pub some_event-append : (test : What → Bool) (h k : History) → some_event test (h ++ k) ≡ (some_event test h || some_event test k)
-unfolding some_event
-some_event-append test h k = list_any-append (λ (e : Event). test e.what) h k

@@ -205,10 +205,6 @@ entered shape h p q n a b s l w none e f g =
           less shape h q n a b s (omega arith) f g
     ]
 
--- either q is not p, or q is p
-flip : (p q : ℕ) → nat_eq p q ≡ nat_eq q p
-flip p q = elim (eqb_tells p q) [ inl y ↦ y.0 ∙ sym (eq-eqb q p (sym y.1)) | inr y ↦ y.0 ∙ sym (ne_eqb q p (λ e. y.1 (sym e))) ]
-
 -- a page that is p, or isn't
 unless_same : (shape : Shape) (h : History) (p q n : ℕ) (a b : Bool) → Sound shape h → n ≤ stand shape h q → (q ≡ p → n ≡ 0) →
     (nat_eq q p ≡ false → (a ≡ false) × (b ≡ false)) → Next h q n a b

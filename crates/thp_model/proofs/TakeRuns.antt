@@ -1,7 +1,7 @@
 -- Takes, one page at a time: the oldest pages move from the queue to the end of the caller's flight.
-use Rattle.std.proofs.Common.{◌≡◌, ℕ, suc, zero, ◌+◌, ◌≤◌, true, cond, ◌||◌, List, [], ◌∷◌, ◌++◌, Some, length, take, drop, refl, ap, sym, ◌∙◌, subst, arith, eq-eqb, append_assoc, take-append-drop}
+use Rattle.std.proofs.Common.{◌≡◌, ℕ, suc, zero, ◌+◌, true, cond, ◌||◌, List, [], ◌∷◌, ◌++◌, Some, length, take, drop, refl, ap, sym, ◌∙◌, subst, arith, eq-eqb, append_assoc, take-append-drop}
 use Rattle.std.specs.Prelude.{slice_get}
-use Rattle.std.proofs.lemmas.List.{take_all, map-append}
+use Rattle.std.proofs.lemmas.List.{map-append}
 use Rattle.thp_model.specs.declared.events.Event.{Event}
 use Rattle.thp_model.specs.declared.events.What.TheVariants.{Taken}
 use Rattle.thp_model.specs.declared.shape.Shape.{Shape}
@@ -59,10 +59,6 @@ more_taken (suc i) (q ∷ qs) p e =
 -- one more take
 pub take_events_more : (shape : Shape) (h : History) (c i p : ℕ) → slice_get (drop i (queue shape h)) 0 ≡ Some p → take_events shape h c (i + 1) ≡ take_events shape h c i ++ by c (Taken p) ∷ []
 take_events_more shape h c i p e = ap (takes_of c) (more_taken i (queue shape h) p e).0 ∙ map-append (λ q. by c (Taken q)) (take i (queue shape h)) (p ∷ [])
-
--- a take of more pages than there are is one of all
-pub take_events_short : (shape : Shape) (h : History) (c n : ℕ) → length (queue shape h) ≤ n → take_events shape h c n ≡ take_events shape h c (length (queue shape h))
-take_events_short shape h c n l = ap (takes_of c) (take_all n (queue shape h) l ∙ sym (take_all (length (queue shape h)) (queue shape h) (omega arith)))
 
 -- a caller has nothing in flight exactly where its flight's length is 0
 pub none_flies : (ps : List ℕ) → length ps ≡ 0 → no_pages ps ≡ true

@@ -1,24 +1,22 @@
 -- A page's state along a history: after each event it is what the history says of the page.
-use Rattle.std.proofs.Common.{◌≡◌, ℕ, ◌+◌, ◌-◌, ◌^◌, ◌<◌, ◌≤◌, Bool, true, false, cond, not, ◌&&◌, ◌||◌, List, [], ◌∷◌, ◌++◌, refl, ap, sym, ◌∙◌, arith, nat_eq, nat_lt, eq-eqb, lt-ltb}
-use Rattle.std.proofs.Math.Pow.{pow_mono}
-use Rattle.std.proofs.lemmas.Bool.Decides.{nat_tests}
+use Rattle.std.proofs.Common.{◌≡◌, ℕ, ◌+◌, ◌-◌, ◌^◌, ◌<◌, Bool, true, false, cond, not, ◌&&◌, ◌||◌, List, [], ◌∷◌, ◌++◌, refl, ap, sym, ◌∙◌, arith, nat_eq, nat_lt, eq-eqb}
 use Rattle.std.specs.Prelude.{slice_index_or}
 use Rattle.thp_model.specs.declared.events.Event.{Event}
 use Rattle.thp_model.specs.declared.events.Outcome.{Outcome}
 use Rattle.thp_model.specs.declared.events.What.{What}
 use Rattle.thp_model.specs.declared.events.What.TheVariants.{Alloc, MapWhole, UnmapWhole, MapSub, UnmapSub, SplitPmd, Pin, Unpin, Write, Zero, Split}
 use Rattle.thp_model.specs.declared.shape.Shape.{Shape}
-use Rattle.thp_model.specs.Sets.{covers, has, some_below, count_below, set_size}
+use Rattle.thp_model.specs.Sets.{covers, has, some_below, count_below}
 use Rattle.thp_model.specs.Shapes.{subpages}
 use Rattle.thp_model.specs.History.{History, count_of, by}
 use Rattle.thp_model.specs.Counts.{maps, unmaps, maps_whole, unmaps_whole, pins_page, unpins_page, is_split, splits, total, whole, own, pins, is_mapped, loses_use}
 use Rattle.thp_model.specs.Underused.{shrinks_underused, zeroes, writes, unmaps_some, is_zero_filled, is_partly_mapped, is_worth_split, is_above, zero_filled}
-use Rattle.thp_model.specs.Pages.{PageState, size, own_at, total_at, zero_at, zero_count, zero_set, has_use, drops_use, partly_after, is_split_candidate, KeepsZero, KeepsCounts, WholeMapped, WholeUnmapped, RangeMapped, RangeUnmapped, PmdSplit, Pinned, PageSplit, RangeWritten, RangeZeroed, IsFresh, Tallies}
+use Rattle.thp_model.specs.Pages.{PageState, size, own_at, total_at, zero_at, zero_count, has_use, drops_use, partly_after, is_split_candidate, KeepsZero, KeepsCounts, WholeMapped, WholeUnmapped, RangeMapped, RangeUnmapped, PmdSplit, Pinned, PageSplit, RangeWritten, RangeZeroed, IsFresh, Tallies}
 use Rattle.thp_model.proofs.Below.{some_below-ext}
-use Rattle.thp_model.proofs.Bools.{by_bool, or_first, and_no, none_if}
+use Rattle.thp_model.proofs.Bools.{by_bool, or_first}
 use Rattle.thp_model.proofs.Numbers.{Fresh}
 use Rattle.thp_model.proofs.Pushes.{count_of_push, count_same, count_more, some_same, some_event_push, zero_stays, partly_stays, is_zero_filled_push, is_partly_mapped_push}
-use Rattle.thp_model.proofs.SumsBelow.{sum_below-ext, sum_below-stop, set_size-set_of}
+use Rattle.thp_model.proofs.SumsBelow.{sum_below-ext}
 use Rattle.thp_model.proofs.Untouched.{Untouched}
 
 -- a page has as many subpages as each page of its node
@@ -332,38 +330,8 @@ zero_count_is : (shape : Shape) (h : History) (p : ℕ) (t : PageState) → Tall
 zero_count_is shape h p t m =
     sum_below-ext (subpages shape) _ _ (λ i below. ap (λ b. cond b 1 0) (sym (m.zero i below))) ∙ ap (λ n. count_below n (zero_at t)) (sym (size_is shape h p t m))
 
--- as many as the set of zero-filled subpages has
-pub zero_set_size : (t : PageState) → t.order ≤ 9 → set_size (zero_set t) ≡ zero_count t
-unfolding size
-zero_set_size t small =
-    set_size-set_of (λ i. nat_lt i (size t) && zero_at t i)
-    ∙ ap (λ m. count_below m (λ i. nat_lt i (size t) && zero_at t i)) (up (size t) (omega (arith, pow_mono {i = t.order} {j = 9} small)))
-    ∙ sum_below-stop (512 - size t) (size t) _ (λ i above. none_if _ (and_no (nat_lt i (size t)) _ (past i (size t) above)))
-    ∙ sum_below-ext (size t) _ _ (λ i below. ap (λ b. cond {A = ℕ} (b && zero_at t i) 1 0) (lt-ltb i (size t) below)) where
-      up : (n : ℕ) → n ≤ 512 → 512 ≡ 512 - n + n
-      up n h = omega arith
-
-      past : (i n : ℕ) → n ≤ i → nat_lt i n ≡ false
-      past i n h = grind (arith, nat_tests)
-
 -- whether a split of the page is worth its while
 pub worth_is : (shape : Shape) (h : History) (p : ℕ) (t : PageState) → Tallies shape h p t → is_worth_split shape h p ≡ is_split_candidate shape.underused t
 worth_is shape h p t m = both _ _ _ _ (sym m.partly) (ap (λ n. is_above shape.underused n) (zero_count_is shape h p t m)) where
   both : (a a' b b' : Bool) → a ≡ a' → b ≡ b' → (a || b) ≡ (a' || b')
   both a a' b b' e f = cc
-
--- a page's state after each event about it
-pub ruleset page_tallies = (
-  tallies_stay,
-  tallies_alloc,
-  tallies_map_whole,
-  tallies_unmap_whole,
-  tallies_map_sub,
-  tallies_unmap_sub,
-  tallies_split_pmd,
-  tallies_pin,
-  tallies_unpin,
-  tallies_split,
-  tallies_write,
-  tallies_zero,
-)

@@ -175,26 +175,6 @@ below_bit n k r h =
       le-ltb_false : (a b : ℕ) → b ≤ a → nat_lt a b ≡ false
       le-ltb_false a b l = grind (arith, nat_tests)
 
--- they are the set of the numbers below n
-below_all : (n : ℕ) → set_of (in_words (map (ones_below n) (range_with_len 0 8))) ≡ set_of (λ i. nat_lt i n)
-unfolding in_words
-below_all n =
-    set_of-ext _ _
-    (λ i h.
-    ap (λ x. nat_eq (bit_at x (i % 64)) 1) (get_or-map-range_with_len (ones_below n) 0 8 (i / 64) (i / 64) 0 (omega arith) (omega arith))
-    ∙ below_bit n (i / 64) (i % 64) (omega arith)
-    ∙ ap (λ j. nat_lt j n) (parts i)) where
-      parts : (i : ℕ) → 64 * (i / 64) + i % 64 ≡ i
-      parts i = omega arith
-
--- eight words that are those
-pub below_words : (n a b c d e f g h : ℕ) → a ≡ ones_below n 0 → b ≡ ones_below n 1 → c ≡ ones_below n 2 → d ≡ ones_below n 3 →
-    e ≡ ones_below n 4 → f ≡ ones_below n 5 → g ≡ ones_below n 6 → h ≡ ones_below n 7 →
-    set_of (in_words (a ∷ b ∷ c ∷ d ∷ e ∷ f ∷ g ∷ h ∷ [])) ≡ set_of (λ i. nat_lt i n)
-below_words n a b c d e f g h u v w x y z s t =
-    let same : a ∷ b ∷ c ∷ d ∷ e ∷ f ∷ g ∷ h ∷ [] ≡ map (ones_below n) (range_with_len 0 8) = cc in
-    ap (λ ws. set_of (in_words ws)) same ∙ below_all n
-
 -- the bits of the first that aren't of the second
 abbrev pub without_words : List ℕ → List ℕ → List ℕ
 without_words ws vs = map (λ k. bit_and (get_or ws k 0) (18446744073709551615 - get_or vs k 0)) (range_with_len 0 8)

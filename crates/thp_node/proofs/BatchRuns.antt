@@ -92,9 +92,6 @@ unrefused_take s h c e = go (flight h c) e where
   go [] e = refl
   go (p ∷ ps) e = absurd (omega arith)
 
-no_both : (x : Bool) → x ≡ false → x ≡ true → ⊥
-no_both x e f = cc
-
 -- whether a page is in a caller's flight is told by where the page of its block stands
 pub flies_there : (s : Shape) (h : History) (t : Table) (q : List ℕ) (c p b : ℕ) → IsNode s h t q → (w : Found s h t p b) → w.slot.standing ≡ Batch c → has_page p (flight h c) ≡ true
 flies_there s h t q c p b m w e =

@@ -1,5 +1,5 @@
 -- What a call did, put together from what its parts did.
-use Rattle.std.proofs.Common.{◌≡◌, Option, Some, None, inl, inr, ℕ, zero, suc, ◌+◌, ◌<◌, ◌≤◌, List, [], ◌∷◌, ◌++◌, length, map, refl, ap, sym, ◌∙◌, arith, get_or, length-append, append_assoc}
+use Rattle.std.proofs.Common.{◌≡◌, Option, Some, None, inl, inr, ℕ, zero, suc, ◌+◌, ◌<◌, ◌≤◌, List, [], ◌∷◌, ◌++◌, length, refl, ap, sym, ◌∙◌, arith, get_or, length-append, append_assoc}
 use Rattle.std.proofs.lemmas.Bool.{cases_lt}
 use Rattle.std.specs.List.{All}
 use Rattle.thp_model.specs.declared.refusal.Refusal.{Refusal}
@@ -34,13 +34,6 @@ own-append c (e ∷ es) fs a b =
       go : e.caller ≡ c → All (λ (e : Event). e.caller ≡ c) (es ++ fs) → (k : ℕ) (d : Event) → k < length (e ∷ (es ++ fs)) → (get_or (e ∷ (es ++ fs)) k d).caller ≡ c
       go first rest zero d l = first
       go first rest (suc k) d l = rest k d (omega arith)
-
-pub own-map : (c : ℕ) (f : ℕ → Event) (ps : List ℕ) → ((p : ℕ) → (f p).caller ≡ c) → All (λ (e : Event). e.caller ≡ c) (map f ps)
-own-map c f [] g = own_none c
-own-map c f (p ∷ ps) g = go (own-map c f ps g) where
-  go : All (λ (e : Event). e.caller ≡ c) (map f ps) → (k : ℕ) (d : Event) → k < length (f p ∷ map f ps) → (get_or (f p ∷ map f ps) k d).caller ≡ c
-  go rest zero d l = g p
-  go rest (suc k) d l = rest k d (omega arith)
 
 -- nothing was done
 pub did_none : (old new : NodeState) (c : ℕ) → new.shape ≡ old.shape → new.journal ≡ old.journal → IsLegal new.shape new.journal → old.room ≤ new.room →

@@ -5,7 +5,7 @@ use Rattle.std.specs.List.{Contains}
 use Rattle.std.proofs.lemmas.Bool.Decides.{eqb_tells}
 use Rattle.std.proofs.lemmas.List.{get_or-set_other, get_or-set_same}
 use Rattle.thp_links.specs.Indices.{Distinct}
-use Rattle.thp_links.proofs.Members.{Contains-head, Contains-behind, Contains-cons_cases, Contains-from_first, Contains-from_rest, Contains-nil, Distinct-head, first_and_rest, empty_from_first}
+use Rattle.thp_links.proofs.Members.{Contains-head, Contains-behind, Contains-cons_cases, Contains-from_first, Contains-from_rest, Distinct-head, first_and_rest}
 use Rattle.thp_model.specs.declared.events.Outcome.{Outcome}
 use Rattle.thp_model.specs.declared.events.Outcome.TheVariants as outcome
 use Rattle.thp_page.specs.declared.standing.Standing.TheVariants.{Queued}
@@ -113,14 +113,6 @@ loss_keeps loss closed x old new b done left lost unfreed = go done.outcome unfr
 -- the first block of the chain has no page; where the chain is empty every block has one
 pub chain_some : (t : Table) (f : List ℕ) (b : ℕ) → HasChain t f → slice_get f 0 ≡ Some b → HasFree t
 chain_some t f b m first = let here = Contains-from_first f b first in record { block = b; inside = m.inside b here; empty = m.chain.empty b here }
-
-pub chain_none : (t : Table) (f : List ℕ) → HasChain t f → slice_get f 0 ≡ None → (b : ℕ) → b < length t.slots → IsSome (slot_at t b)
-chain_none t f m none b inside = go (slot_at t b) refl where
-  go : (o : Option Slot) → slot_at t b ≡ o → IsSome o
-  go (Some x) e = refl
-  go None e =
-      let P : List ℕ → Type 0 = λ xs. Contains xs b in
-      absurd (Contains-nil b (subst P (empty_from_first f none) (m.all b inside e)))
 
 -- the first block of the chain goes out of it, and gets a page
 pub chain_placed : (old mid new : PageStoreState) (f g : List ℕ) (b : ℕ) (y : Slot) (q : List ℕ) (n : ℕ) → HasChain old.table f → slice_get f 0 ≡ Some b → Distinct f → g ≡ drop 1 f →

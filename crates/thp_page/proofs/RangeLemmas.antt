@@ -6,9 +6,6 @@ use Rattle.thp_model.specs.Sets.{covers}
 pub covers_inside : (first count i : ℕ) → first ≤ i → i < first + count → covers first count i ≡ true
 covers_inside first count i least most = grind (arith, nat_tests)
 
-pub covers_before : (first count i : ℕ) → i < first → covers first count i ≡ false
-covers_before first count i below = grind (arith, nat_tests)
-
 pub covers_after : (first count i : ℕ) → first + count ≤ i → covers first count i ≡ false
 covers_after first count i above = grind (arith, nat_tests)
 

@@ -122,10 +122,3 @@ none_held p bs all c = by_test (nat_le p.first c) refl
     by_test : (t : Bool) → nat_le p.first c ≡ t → batch_of (record { pass = p; batches = bs }) c ≡ None
     by_test true e = rw e (none_open bs all (c - p.first))
     by_test false e = rw e refl
-
-pub held_new : (cell : TableId) (p : PassState) (bs : List (Option BatchState)) → p.cell ≡ cell → p.first + length bs ≡ p.end → All (λ (b : Option BatchState). b ≡ None) bs → IsHeld cell p bs
-held_new cell p bs is places all = record {
-  cell_is = is;
-  callers = places;
-  each = λ k b at. let e = none_open bs all k in let f = rw at at e in absurd (cc);
-}

@@ -1,9 +1,8 @@
 -- A step on one node, as a step of the holder of all nodes' passes.
-use Rattle.std.proofs.Common.{◌≡◌, ◌∙◌, ◌≢◌, ◌++◌, ◌<◌, ◌==◌, ap, ℕ, Bool, true, false, List, [], ◌∷◌, length, refl, sym, subst, Option, Some, None, Ok, Err, set, map, zero, suc}
-use Rattle.std.specs.Prelude.{All, slice_get, Result}
+use Rattle.std.proofs.Common.{◌≡◌, ◌∙◌, ◌≢◌, ◌++◌, ◌<◌, ◌==◌, ap, ℕ, Bool, true, false, List, [], ◌∷◌, length, refl, sym, subst, Option, Some, Ok, Err, set, map, zero, suc}
+use Rattle.std.specs.Prelude.{slice_get, Result}
 use Rattle.std.proofs.lemmas.Bool.{eqb-true, eqb-false}
 use Rattle.std.proofs.lemmas.Option.{slice_get_within}
-use Rattle.std.proofs.lemmas.List.Elements.{All-head, All-tail}
 use Rattle.thp_model.specs.declared.events.Event.{Event}
 use Rattle.thp_model.specs.declared.refusal.Refusal.TheVariants.{OutOfMemory}
 use Rattle.thp_cell.specs.declared.fault.CellFault.{CellFault}
@@ -15,8 +14,7 @@ use Rattle.thp_worker.specs.declared.steps.Step.{Step}
 use Rattle.thp_worker.specs.declared.reply.Reply.{Reply}
 use Rattle.thp_worker.specs.Does.{Open, Reaction}
 use Rattle.thp_worker.specs.Fronts.{Fronts, Moves, Answered, OutOf, IsStepBusy, StepDone, Goes}
-use Rattle.thp_worker.specs.Holdings.{Held, Acts, HeldAnswered, HeldOutOf, HeldDone, IsShut, batch_of}
-use Rattle.thp_worker.specs.OpenBatches.{HasNoBatch}
+use Rattle.thp_worker.specs.Holdings.{Held, Acts, HeldAnswered, HeldOutOf, HeldDone, batch_of}
 use Rattle.thp_worker.specs.Passes.{cell_in, shape_in, front_in, batch_in, fronts_of, IsOf, Agree}
 use Rattle.thp_worker.proofs.HoldingLaws.{slice_get-set_same, slice_get-set_other, set_same, length-set_same}
 use Rattle.thp_worker.proofs.StepLaws.{goes_refl, moves_goes}
@@ -141,12 +139,3 @@ goes_done c n step old new (Ok reply) d = moves_goes c n old new d.others d.own 
 goes_done c n step old new (Err Busy) d = rw d.same (goes_refl c old)
 goes_done c n step old new (Err (Refused OutOfMemory)) d = moves_goes c n old new d.others [] (old.batches c n) d.moves
 goes_done c n step old new (Err (Refused why)) d = moves_goes c n old new d.others d.own d.after d.moves
-
--- where no caller has a batch open on any node, none has one
-pub all_shut : (callers first end : ℕ) (held : List Held) → All IsShut held → (c : ℕ) → HasNoBatch c (fronts_of callers first end held)
-all_shut callers first end held shut c n = at held shut n
-  where
-    at : (hs : List Held) → All IsShut hs → (n : ℕ) → batch_in c (slice_get hs n) ≡ None
-    at [] all n = refl
-    at (h ∷ hs) all zero = All-head IsShut h hs all c
-    at (h ∷ hs) all (suc n) = at hs (All-tail IsShut h hs all) n

@@ -28,7 +28,7 @@ use Rattle.thp_worker.specs.declared.steps.Step.{Step}
 use Rattle.thp_worker.specs.declared.steps.Step.TheVariants.{Take, SplitNext, PutBack}
 use Rattle.thp_worker.specs.declared.reply.Reply.TheVariants as reply
 use Rattle.thp_worker.specs.declared.scanning.CommandProgress.{CommandProgress}
-use Rattle.thp_worker.specs.Does.{Open, Reaction, Does, Unless, IsStep, IsFit}
+use Rattle.thp_worker.specs.Does.{Open, Reaction, Does, Unless, IsFit}
 use Rattle.thp_worker.specs.Turns.{CommandState, On, Ended, StepAnswer, Turned, IsProgressAfter, StepReacts, Reacts, first_step, next_step, scan_step, goes_on, scan_goes_on, no_progress, counted, took, answered_try, if_done, IsPage, is_split, is_pinned, is_used, tries_of, IsReady, StaysReady}
 
 abbrev steps_in : CommandState → ℕ
@@ -161,17 +161,6 @@ turned o begun answer told is reacts = single o begun told answer (λ n e. cc) i
 
 -- ---- what a step leaves the next one
 
--- the next step is one that there is
-cond_step : (n : ℕ) (a b : Bool) → n ≤ max_batch → IsStep (cond a (Take n) (cond b SplitNext PutBack))
-cond_step n true b le = le
-cond_step n false true le = tt
-cond_step n false false le = tt
-
-pub step_fits : (o : Op) (begun : CommandProgress) → IsFit o → IsStep (next_step o begun)
-step_fits (op.Scan n) begun fit = cond_step n _ _ fit
-step_fits (op.Take n) begun fit = fit
-step_fits _ begun fit = tt
-
 some_left : (test : ℕ → Bool) (xs : List ℕ) (p : ℕ) → find test xs ≡ Some p → 0 < length xs
 some_left test [] p e = absurd (cc)
 some_left test (x ∷ xs) p e = omega arith
@@ -259,7 +248,3 @@ scan_longer begun more _ e = absurd (cc)
 pub longer : (o : Op) (begun more : CommandProgress) (answer : Reaction) → goes_on o begun answer ≡ On more → more.steps ≡ begun.steps + 1
 longer (op.Scan n) begun more answer e = scan_longer begun more answer e
 longer _ begun more answer e = absurd (cc)
-
--- a command that can go on has few steps yet
-pub few_steps : (batch : Option Open) (begun : CommandProgress) → IsReady batch begun → (begun.steps ≤ max_batch + 2) × (tries_of begun.so_far ≤ max_batch)
-few_steps batch begun ready = elim ready [ inl first ↦ rw first (omega arith, omega arith) | inr h ↦ (omega (arith, h.few, h.short), omega (arith, h.few)) ]

@@ -92,12 +92,6 @@ command_of t = t.command
 abbrev pub steps_of : List Turn → List Made
 steps_of ts = flat_map (λ (t : Turn). t.steps) ts
 
--- caller c executed these commands with these turns
-pub record CommandsDone (c : ℕ) (old new : Fronts) (commands : List Command) (ts : List Turn) : Type 0 where
-  pub steps : Steps c old new (steps_of ts)
-  pub each : All IsTurn ts
-  pub are : map command_of ts ≡ commands
-
 abbrev pub put_back_on : ℕ → Command
 put_back_on n = record { node = n; op = op.PutBack }
 

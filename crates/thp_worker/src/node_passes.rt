@@ -1,9 +1,8 @@
 //! Passes of all nodes, with the open batches of their callers.
-ghost use Rattle.std.specs.Prelude.{◌≡◌, ◌<◌, ◌++◌, All, IfOk, map};
-ghost use Rattle.thp_worker.specs.Does.{answer_of, IsStep};
-ghost use Rattle.thp_worker.specs.Fronts.{Goes, HoldsAllCallers, HoldsCaller, StepDone};
+ghost use Rattle.std.specs.Prelude.{◌≡◌, ◌<◌, All, IfOk, map};
+ghost use Rattle.thp_worker.specs.Fronts.{HoldsAllCallers};
 ghost use Rattle.thp_worker.specs.Holdings.{keeping_node};
-ghost use Rattle.thp_worker.specs.Passes.{fronts_in, fronts_of, high_part, low_part, Agree, EachAdjoins, EachJoint, IsCut, IsOfAll};
+ghost use Rattle.thp_worker.specs.Passes.{fronts_in, high_part, low_part, Agree, EachAdjoins, EachJoint, IsCut, IsOfAll};
 
 use crate::halves::Passes;
 use crate::node_pass::NodePass;
@@ -44,7 +43,7 @@ impl<'a, R: Recorder> Steps for NodePasses<'a, R> {
 
     fn step(&mut self, caller: u32, node: u32, step: Step) -> Result<Reply, CellFault> {
         let mut reply = Reply::Unit;
-        match self.step_in_place(caller, node, step, &mut reply) {
+        match self.step_into(caller, node, step, &mut reply) {
             Ok(()) => Ok(reply),
             Err(fault) => Err(fault),
         }
@@ -57,7 +56,7 @@ impl<'a, R: Recorder> Steps for NodePasses<'a, R> {
         step: Step,
         reply: &mut Reply,
     ) -> Result<(), CellFault> {
-        self.step_in_place(caller, node, step, reply)
+        self.nodes[node as usize].step(caller, step, reply)
     }
 }
 
@@ -73,24 +72,6 @@ impl<'a, R: Recorder> NodePasses<'a, R> {
             end,
             nodes,
         }
-    }
-
-    // Makes one step of a caller. On success the result is in `reply`; on error its content is unspecified.
-    #[inline(always)]
-    fn step_in_place(
-        &mut self,
-        caller: u32,
-        node: u32,
-        step: Step,
-        reply: &mut Reply,
-    ) -> Result<(), CellFault>
-        requires caller { HoldsCaller (fronts_in self.old) caller }
-        requires node { node < (fronts_in self.old).nodes }
-        requires step { IsStep step }
-        ensures goes { Goes caller (fronts_in self.old) (fronts_in self.new) }
-        ensures done { StepDone caller node step (fronts_in self.old) (fronts_in self.new) (answer_of result reply.new) }
-    {
-        self.nodes[node as usize].step(caller, step, reply)
     }
 
     /// Returns the passes of the nodes.

@@ -4,7 +4,7 @@ use Rattle.thp_worker.specs.Does.{answer_of}
 use Rattle.thp_worker.specs.Fronts.{Goes, StepDone}
 use Rattle.thp_worker.specs.Passes.{fronts_in, fronts_of}
 use Rattle.thp_worker.proofs.PassLaws.{done_same, agree_after, step_done, goes_done}
-use Rattle.thp_worker.proofs.node_passes.NodePasses.step_in_place.Goals as goal
+use Rattle.thp_worker.proofs.node_passes.NodePassesSteps.step_into.Goals as goal
 
 pub invariant_of-self : goal.invariant_of-self
 invariant_of-self g c =
