@@ -1,6 +1,5 @@
 //! The picture of nodes, as SVG.
-ghost use Rattle.std.specs.Prelude.{◌≡◌, ◌++◌, codes, OnOk};
-ghost use Rattle.std.specs.Fmt.{decimal};
+ghost use Rattle.std.specs.Prelude.{◌≡◌, ◌++◌, OnOk};
 ghost use Rattle.thp_drawing.specs.Pictures.{
   axis_top,
   column_words,
@@ -31,8 +30,9 @@ ghost use Rattle.thp_drawing.specs.Pictures.{
   waits_top,
 };
 
-use crate::axis::{put_event_axis, put_group_end};
-use crate::element::{put_decimal, put_group, put_text};
+use crate::axis::put_event_axis;
+use crate::element::{GROUP_END, put_group, put_text};
+use crate::grouped::put_decimal;
 use crate::illegal_event::IllegalEvent;
 use crate::lanes::{lanes_height, put_lanes_panel};
 use crate::node::DrawnNode;
@@ -190,7 +190,7 @@ fn put_node(text: &mut Vec<u8>, y: u128, number: usize, node: &DrawnNode) -> Res
     put_stuck_text(text, plus(stuck_top(&node.illegal), 140), node)?;
     put_panels(text, node)?;
     put_event_axis(text, plus(axis_top(node), 110), node)?;
-    put_group_end(text)
+    put(text, GROUP_END)
 }
 
 #[tactic(auto, using(crate::proofs::Pieces::seven), unfolding(crate::specs::Pictures::panels_drawn))]

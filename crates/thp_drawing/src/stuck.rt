@@ -4,8 +4,8 @@ ghost use Rattle.std.specs.Fmt.{decimal};
 ghost use Rattle.thp_drawing.specs.Elements.{text_at};
 ghost use Rattle.thp_drawing.specs.Stucks.{more_line, more_words, stuck_height, stuck_lines, stuck_text, stuck_words, told_stuck, words_of};
 
-use crate::element::{put_decimal, put_text};
-use crate::grouped::put_grouped;
+use crate::element::put_text;
+use crate::grouped::{put_decimal, put_grouped};
 use crate::node::DrawnNode;
 use crate::scale::{plus, times};
 use crate::title::put_many;

@@ -4,13 +4,12 @@ ghost use Rattle.thp_journal_writer.specs.EventLines.{event_line};
 ghost use Rattle.thp_drawing.specs.Titles.{events_words, illegal_text, illegal_words, many, node_words};
 ghost use Rattle.thp_drawing.specs.Titles.{shape_words, shortened, threshold_words};
 
-use crate::element::{put_decimal, put_text};
-use crate::grouped::put_grouped;
+use crate::element::put_text;
+use crate::grouped::{put_decimal, put_grouped};
 use crate::illegal_event::IllegalEvent;
 use crate::node::DrawnNode;
-use crate::table::put_event_line;
 use std::alloc::AllocError;
-use thp_journal_writer::put;
+use thp_journal_writer::{put, put_event_line};
 use thp_model::Event;
 
 // The greatest number of letters in the line of an event that is shown.
