@@ -25,29 +25,12 @@ seven t a b c d e f g = simp append_assoc
 pub eight : (t a b c d e f g h : List ℕ) → t ++ a ++ b ++ c ++ d ++ e ++ f ++ g ++ h ≡ t ++ (a ++ b ++ c ++ d ++ e ++ f ++ g ++ h)
 eight t a b c d e f g h = simp append_assoc
 
-pub nine : (t a b c d e f g h i : List ℕ)
-    → t ++ a ++ b ++ c ++ d ++ e ++ f ++ g ++ h ++ i ≡ t ++ (a ++ b ++ c ++ d ++ e ++ f ++ g ++ h ++ i)
-nine t a b c d e f g h i = simp append_assoc
-
 -- ---- texts each of which is the one before and a piece behind it
 pub two_after : (t a b : List ℕ) {u : List ℕ} → u ≡ t ++ a → u ++ b ≡ t ++ (a ++ b)
 two_after t a b p = ap (λ x. x ++ b) p ∙ two t a b
 
-pub three_after : (t a b c : List ℕ) {u v : List ℕ} → u ≡ t ++ a → v ≡ u ++ b → v ++ c ≡ t ++ (a ++ b ++ c)
-three_after t a b c p q = ap (λ x. x ++ c) (q ∙ ap (λ x. x ++ b) p) ∙ three t a b c
-
 pub four_after : (t a b c d : List ℕ) {u v w : List ℕ} → u ≡ t ++ a → v ≡ u ++ b → w ≡ v ++ c → w ++ d ≡ t ++ (a ++ b ++ c ++ d)
 four_after t a b c d p q r = ap (λ x. x ++ d) (r ∙ ap (λ x. x ++ c) (q ∙ ap (λ x. x ++ b) p)) ∙ four t a b c d
-
-pub five_after : (t a b c d e : List ℕ) {u v w x : List ℕ}
-    → u ≡ t ++ a → v ≡ u ++ b → w ≡ v ++ c → x ≡ w ++ d → x ++ e ≡ t ++ (a ++ b ++ c ++ d ++ e)
-five_after t a b c d e p q r s =
-    ap (λ y. y ++ e) (s ∙ ap (λ y. y ++ d) (r ∙ ap (λ y. y ++ c) (q ∙ ap (λ y. y ++ b) p))) ∙ five t a b c d e
-
-pub six_after : (t a b c d e f : List ℕ) {u v w x y : List ℕ}
-    → u ≡ t ++ a → v ≡ u ++ b → w ≡ v ++ c → x ≡ w ++ d → y ≡ x ++ e → y ++ f ≡ t ++ (a ++ b ++ c ++ d ++ e ++ f)
-six_after t a b c d e f p q r s o =
-    ap (λ z. z ++ f) (o ∙ ap (λ z. z ++ e) (s ∙ ap (λ z. z ++ d) (r ∙ ap (λ z. z ++ c) (q ∙ ap (λ z. z ++ b) p)))) ∙ six t a b c d e f
 
 with_flat : (t : List ℕ) (ps : List Piece) → with_pieces t ps ≡ t ++ flat_map piece_text ps
 with_flat t [] = sym (append-nil t)

@@ -3,16 +3,17 @@
 use Rattle.std.specs.Prelude.{ℕ, List, [], ◌∷◌, ◌++◌, codes}
 use Rattle.std.specs.Fmt.{decimal}
 use Rattle.thp_drawing.specs.Escapes.{escaped}
-use Rattle.thp_drawing.specs.Grouped.{grouped}
+use Rattle.thp_drawing.specs.Grouped.{grouped, many}
 use Rattle.thp_drawing.specs.Scales.{plus}
 use Rattle.thp_drawing.specs.declared.element.Piece.{Piece}
-use Rattle.thp_drawing.specs.declared.element.Piece.TheVariants.{Bytes, Escaped, Decimal, Grouped}
+use Rattle.thp_drawing.specs.declared.element.Piece.TheVariants.{Bytes, Escaped, Decimal, Grouped, Many}
 
 abbrev pub piece_text : Piece → List ℕ
 piece_text (Bytes bytes) = bytes.now
 piece_text (Escaped words) = escaped words.now
 piece_text (Decimal n) = decimal n
 piece_text (Grouped n) = grouped n
+piece_text (Many n word) = many n word.now
 
 -- a text, and pieces after it
 abbrev pub with_pieces : List ℕ → List Piece → List ℕ

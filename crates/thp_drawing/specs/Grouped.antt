@@ -1,5 +1,5 @@
 -- Numbers whose digits are in groups of three, separated by commas.
-use Rattle.std.specs.Prelude.{ℕ, ◌/◌, ◌%◌, max, List, [], ◌++◌, codes, if◌then◌else◌, nat_lt}
+use Rattle.std.specs.Prelude.{ℕ, ◌/◌, ◌%◌, max, List, [], ◌++◌, codes, if◌then◌else◌, nat_eq, nat_lt}
 use Rattle.std.specs.Fmt.{decimal}
 use Rattle.std.specs.List.{flat_map}
 use Rattle.thp_drawing.specs.declared.grouped.TheConstants.{THOUSANDS}
@@ -16,3 +16,7 @@ group_at n power = if nat_lt n power then [] else group_of (n / max power 1)
 -- the number
 unfoldable pub grouped : ℕ → List ℕ
 grouped n = flat_map (group_at n) THOUSANDS ++ group_of n
+
+-- a number and a word, with an `s` unless the number is 1
+unfoldable pub many : ℕ → List ℕ → List ℕ
+many n word = grouped n ++ codes " " ++ word ++ (if nat_eq n 1 then [] else codes "s")

@@ -3,7 +3,7 @@ ghost use Rattle.std.specs.Prelude.{◌≡◌, ◌++◌, OnOk};
 ghost use Rattle.thp_drawing.specs.Elements.{group_start, item_at, piece_text, pieces_text, square_at, text_at};
 
 use crate::escaping::put_escaped;
-use crate::grouped::{put_decimal, put_grouped};
+use crate::grouped::{put_decimal, put_grouped, put_many};
 use crate::scale::plus;
 use std::alloc::AllocError;
 use thp_journal_writer::put;
@@ -22,6 +22,8 @@ pub(crate) enum Piece<'a> {
     Decimal(u128),
     /// A number whose digits are in groups of three.
     Grouped(u128),
+    /// A number and a word, with an `s` unless the number is 1.
+    Many(u128, &'a [u8]),
 }
 
 /// Appends pieces to a text.
@@ -42,6 +44,7 @@ fn put_piece(text: &mut Vec<u8>, piece: &Piece<'_>) -> Result<(), AllocError>
         Piece::Escaped(words) => put_escaped(text, *words),
         Piece::Decimal(number) => put_decimal(text, *number),
         Piece::Grouped(number) => put_grouped(text, *number),
+        Piece::Many(number, word) => put_many(text, *number, *word),
     }
 }
 

@@ -2,7 +2,7 @@
 ghost use Rattle.std.specs.Prelude.{◌≡◌, ◌++◌, OnOk};
 ghost use Rattle.std.specs.Fmt.{decimal};
 ghost use Rattle.std.specs.List.{flat_map};
-ghost use Rattle.thp_drawing.specs.Grouped.{group_at, group_of, grouped};
+ghost use Rattle.thp_drawing.specs.Grouped.{group_at, group_of, grouped, many};
 
 use itoa::Buffer;
 use std::alloc::AllocError;
@@ -71,4 +71,15 @@ fn put_group(text: &mut Vec<u8>, number: u128) -> Result<(), AllocError>
     put_decimal(text, number / 100 % 10)?;
     put_decimal(text, number / 10 % 10)?;
     put_decimal(text, number % 10)
+}
+
+/// Appends a number and a word, with an `s` unless the number is 1.
+#[tactic(auto, using(crate::proofs::Pieces::four), unfolding(crate::specs::Grouped::many))]
+pub(crate) fn put_many(text: &mut Vec<u8>, number: u128, word: &[u8]) -> Result<(), AllocError>
+    ensures { OnOk result (text.new.items ≡ text.old.items ++ many number word.now) }
+{
+    put_grouped(text, number)?;
+    put(text, b" ")?;
+    put(text, word)?;
+    if number == 1 { Ok(()) } else { put(text, b"s") }
 }
