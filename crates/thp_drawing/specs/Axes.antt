@@ -3,7 +3,7 @@ use Rattle.std.specs.Prelude.{ℕ, zero, suc, ◌-◌, List, [], ◌++◌, lengt
 use Rattle.std.specs.Fmt.{decimal}
 use Rattle.thp_drawing.specs.Elements.{group_end, group_start, text_at}
 use Rattle.thp_drawing.specs.Grouped.{grouped}
-use Rattle.thp_drawing.specs.Scales.{round_steps, scaled, step_among, steps_in, times}
+use Rattle.thp_drawing.specs.Scales.{plus, round_step, scaled, steps_in, times}
 use Rattle.thp_drawing.specs.declared.node.DrawnNode.{DrawnNode}
 
 -- a number, and a line at its height
@@ -28,9 +28,12 @@ events_of d = d.prefixes - 1
 abbrev pub room_of : DrawnNode → ℕ
 room_of d = times d.width (length d.columns.items)
 
--- the step of their numbers
+-- the step of their numbers, and how many there are, from 0 on
 abbrev pub event_step : DrawnNode → ℕ
-event_step d = step_among round_steps (events_of d)
+event_step d = round_step (events_of d)
+
+abbrev pub event_marks : DrawnNode → ℕ
+event_marks d = plus (steps_in (event_step d) (events_of d)) 1
 
 -- the position of an event: the first column begins before any
 abbrev pub event_at : ℕ → ℕ → ℕ
@@ -40,16 +43,15 @@ event_at room event = scaled 6000 event room
 unfoldable pub upright : ℕ → ℕ → List ℕ
 upright high x = codes "M" ++ decimal x ++ codes " 0v" ++ decimal high
 
--- the first k vertical lines after the axis, one for each step of events
+-- the first k vertical lines, one for each step of events; the axis is the first
 abbrev pub uprights : ℕ → ℕ → ℕ → ℕ → List ℕ
 uprights high step room zero = []
-uprights high step room (suc k) = uprights high step room k ++ upright high (event_at room (times step (suc k)))
+uprights high step room (suc k) = uprights high step room k ++ upright high (event_at room (times step k))
 
--- these and the axis, in a panel of this height
+-- all of them, in a panel of this height
 unfoldable pub event_rules : ℕ → DrawnNode → List ℕ
 event_rules high d =
-    codes "<path class=\"rule\" d=\"M0 0v" ++ decimal high
-    ++ uprights high (event_step d) (room_of d) (steps_in (event_step d) (events_of d)) ++ codes "\"/>\n"
+    codes "<path class=\"rule\" d=\"" ++ uprights high (event_step d) (room_of d) (event_marks d) ++ codes "\"/>\n"
 
 -- the number of an event, below its line
 abbrev pub event_number : ℕ → ℕ → List ℕ
@@ -58,11 +60,10 @@ event_number room event = text_at (codes "soft c") (event_at room event) 0 (grou
 -- the first k of them
 abbrev pub event_numbers : ℕ → ℕ → ℕ → List ℕ
 event_numbers step room zero = []
-event_numbers step room (suc k) = event_numbers step room k ++ event_number room (times step (suc k))
+event_numbers step room (suc k) = event_numbers step room k ++ event_number room (times step k)
 
 -- the numbers of events, at this height
 unfoldable pub event_axis : ℕ → DrawnNode → List ℕ
 event_axis y d =
-    group_start 900 y
-    ++ codes "<text class=\"soft e\" x=\"-130\" y=\"0\">event</text>\n<text class=\"soft c\" x=\"0\" y=\"0\">0</text>\n"
-    ++ event_numbers (event_step d) (room_of d) (steps_in (event_step d) (events_of d)) ++ group_end
+    group_start 900 y ++ codes "<text class=\"soft e\" x=\"-130\" y=\"0\">event</text>\n"
+    ++ event_numbers (event_step d) (room_of d) (event_marks d) ++ group_end

@@ -31,17 +31,11 @@ abbrev pub covers : Bar → Column → Bool
 covers (PageIn x p) c = nat_eq (stage_number (stage_in p c.stages)) (stage_number (Some x))
 covers (BatchOf caller) c = is_among caller c.callers
 
-unfoldable pub line_start : ℕ → ℕ → List ℕ
-line_start y x = codes "M" ++ decimal x ++ codes " " ++ decimal y
-
-unfoldable pub line_end : ℕ → List ℕ
-line_end x = codes "H" ++ decimal x
-
 -- between a column and the next, at this position: a line begins where the bar begins, and ends where the bar ends
 abbrev pub line_turn : ℕ → ℕ → Bool → Bool → List ℕ
 line_turn y x false false = []
-line_turn y x false true = line_start y x
-line_turn y x true false = line_end x
+line_turn y x false true = codes "M" ++ decimal x ++ codes " " ++ decimal y
+line_turn y x true false = codes "H" ++ decimal x
 line_turn y x true true = []
 
 -- the number of starts and ends of a bar there

@@ -1,7 +1,28 @@
--- The elements of a picture. A class determines the colour of an element, and the appearance of its letters.
-use Rattle.std.specs.Prelude.{ℕ, List, ◌++◌, codes}
+-- Texts made of pieces, and the elements of a picture. A class determines the colour of an element, and the appearance of its
+-- letters.
+use Rattle.std.specs.Prelude.{ℕ, List, [], ◌∷◌, ◌++◌, codes}
 use Rattle.std.specs.Fmt.{decimal}
 use Rattle.thp_drawing.specs.Escapes.{escaped}
+use Rattle.thp_drawing.specs.Grouped.{grouped, many}
+use Rattle.thp_drawing.specs.Scales.{plus}
+use Rattle.thp_drawing.specs.declared.element.Piece.{Piece}
+use Rattle.thp_drawing.specs.declared.element.Piece.TheVariants.{Bytes, Escaped, Decimal, Grouped, Many}
+
+abbrev pub piece_text : Piece → List ℕ
+piece_text (Bytes bytes) = bytes.now
+piece_text (Escaped words) = escaped words.now
+piece_text (Decimal n) = decimal n
+piece_text (Grouped n) = grouped n
+piece_text (Many n word) = many n word.now
+
+-- a text, and pieces after it
+abbrev pub with_pieces : List ℕ → List Piece → List ℕ
+with_pieces text [] = text
+with_pieces text (p ∷ more) = with_pieces (text ++ piece_text p) more
+
+abbrev pub pieces_text : List Piece → List ℕ
+pieces_text [] = []
+pieces_text (p ∷ more) = with_pieces (piece_text p) more
 
 -- a text of this class, from this position on
 unfoldable pub text_at : List ℕ → ℕ → ℕ → List ℕ → List ℕ
@@ -9,11 +30,14 @@ text_at kind x y words =
     codes "<text class=\"" ++ kind ++ codes "\" x=\"" ++ decimal x ++ codes "\" y=\"" ++ decimal y ++ codes "\">"
     ++ escaped words ++ codes "</text>\n"
 
--- a square of this class, 80 high
-unfoldable pub square_at : List ℕ → ℕ → ℕ → List ℕ
-square_at kind x y =
-    codes "<rect class=\"" ++ kind ++ codes "\" x=\"" ++ decimal x ++ codes "\" y=\"" ++ decimal y
-    ++ codes "\" width=\"80\" height=\"80\"/>\n"
+-- a square of this class in a panel's title
+unfoldable pub square_at : List ℕ → ℕ → List ℕ
+square_at kind x =
+    codes "<rect class=\"" ++ kind ++ codes "\" x=\"" ++ decimal x ++ codes "\" y=\"72\" width=\"80\" height=\"80\"/>\n"
+
+-- the square, and words after it
+unfoldable pub item_at : List ℕ → ℕ → List ℕ → List ℕ
+item_at kind x words = square_at kind x ++ text_at (codes "ink") (plus x 130) 150 words
 
 -- the elements up to the end of the group have this position as their origin
 unfoldable pub group_start : ℕ → ℕ → List ℕ

@@ -2,9 +2,10 @@
 use Rattle.std.specs.Prelude.{ℕ, zero, suc, Bool, false, ◌+◌, ◌&&◌, List, [], ◌++◌, codes, if◌then◌else◌, nat_le, nat_lt}
 use Rattle.thp_metrics.specs.declared.column.Column.{Column}
 use Rattle.thp_metrics.specs.Waits.{shown_callers}
-use Rattle.thp_drawing.specs.Axes.{event_rules, tick}
+use Rattle.thp_drawing.specs.Axes.{tick}
 use Rattle.thp_drawing.specs.Bars.{bar_at, bar_turns}
-use Rattle.thp_drawing.specs.Elements.{group_end, group_start, square_at, text_at}
+use Rattle.thp_drawing.specs.Elements.{item_at}
+use Rattle.thp_drawing.specs.Panels.{graph_start, panel_end, panel_start}
 use Rattle.thp_drawing.specs.Rows.{max_turns, row_middle}
 use Rattle.thp_drawing.specs.Scales.{plus, times}
 use Rattle.thp_drawing.specs.declared.bar.Bar.TheVariants.{BatchOf}
@@ -32,24 +33,20 @@ lane_count columns = lanes_below columns shown_callers
 unfoldable pub all_turns : List Column → ℕ
 all_turns columns = turns_below columns shown_callers
 
--- the number of lanes of a node
-abbrev pub lanes_of : DrawnNode → ℕ
-lanes_of d = lane_count d.columns.items
-
 -- there are lanes, and their bars can be distinguished
 abbrev pub has_lanes : DrawnNode → Bool
-has_lanes d = nat_le 1 (lanes_of d) && nat_le (all_turns d.columns.items) max_turns
+has_lanes d = nat_le 1 (lane_count d.columns.items) && nat_le (all_turns d.columns.items) max_turns
 
 -- the height of a lane
 abbrev pub lane_height : ℕ
 lane_height = 140
 
--- a lane at this height: the caller's number, and its bar
+-- the lane of caller c, at this height: the caller's number, and its bar
 unfoldable pub lane_drawn : List Column → ℕ → ℕ → List ℕ
 lane_drawn columns y c =
     tick [] c y ++ codes "<path class=\"lane s3\" d=\"" ++ bar_at (BatchOf c) y columns ++ codes "\"/>\n"
 
--- the lane of caller c, or nothing if the caller never had pages in its batch
+-- these, or nothing if the caller never had pages in its batch
 abbrev pub lane_at : List Column → ℕ → ℕ → List ℕ
 lane_at columns lane c = if has_lane columns c then lane_drawn columns (row_middle lane_height lane) c else []
 
@@ -63,17 +60,12 @@ unfoldable pub all_lanes : List Column → List ℕ
 all_lanes columns = lanes columns shown_callers
 
 unfoldable pub lanes_title : List ℕ
-lanes_title =
-    codes "<text class=\"soft e\" x=\"-60\" y=\"150\">caller</text>\n" ++ square_at (codes "s3") 0 72
-    ++ text_at (codes "ink") 130 150 (codes "pages in its batch at least once in a column")
-
-unfoldable pub lanes_graph : ℕ → DrawnNode → List ℕ
-lanes_graph high d = event_rules high d ++ all_lanes d.columns.items
+lanes_title = item_at (codes "s3") 0 (codes "pages in its batch at least once in a column")
 
 unfoldable pub lanes_drawn : ℕ → DrawnNode → List ℕ
 lanes_drawn y d =
-    group_start 900 y ++ lanes_title ++ group_start 0 260 ++ lanes_graph (times lane_height (lanes_of d)) d
-    ++ group_end ++ group_end
+    panel_start y (codes "caller") ++ lanes_title ++ graph_start (times lane_height (lane_count d.columns.items)) d
+    ++ all_lanes d.columns.items ++ panel_end
 
 -- the panel of lanes, from this height on
 abbrev pub lanes_panel : ℕ → DrawnNode → List ℕ
@@ -81,4 +73,4 @@ lanes_panel y d = if has_lanes d then lanes_drawn y d else []
 
 -- its height
 abbrev pub lanes_height : DrawnNode → ℕ
-lanes_height d = if has_lanes d then plus 360 (times lane_height (lanes_of d)) else 0
+lanes_height d = if has_lanes d then plus 360 (times lane_height (lane_count d.columns.items)) else 0

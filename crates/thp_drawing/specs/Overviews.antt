@@ -14,24 +14,21 @@ use Rattle.thp_drawing.specs.declared.quantity.Quantity.TheVariants.{Queue}
 abbrev pub live_pages : Pages → ℕ
 live_pages p = plus (plus (plus (plus p.allocated p.partly_mapped) p.queued) p.in_batch) p.split
 
--- the number of a node, and whether an event of it is illegal
-abbrev pub number_words : ℕ → Option IllegalEvent → List ℕ
-number_words n None = decimal n
-number_words n (Some illegal) = decimal n ++ codes " (illegal)"
+-- whether an event of a node is illegal
+abbrev pub illegal_mark : Option IllegalEvent → List ℕ
+illegal_mark None = []
+illegal_mark (Some illegal) = codes " (illegal)"
 
 -- a right-aligned number that ends at this position
 abbrev pub number_cell : ℕ → ℕ → List ℕ
 number_cell x n = text_at (codes "ink e") x 0 (grouped n)
 
-unfoldable pub overview_numbers : DrawnNode → List ℕ
-overview_numbers d =
-    number_cell 2400 (live_pages d.last.pages) ++ number_cell 3900 (most_of Queue d.columns.items)
-    ++ number_cell 5400 d.last.held ++ number_cell 6900 d.last.given
-
 -- the line of node n
 unfoldable pub overview_line : ℕ → ℕ → DrawnNode → List ℕ
 overview_line y n d =
-    group_start 0 y ++ text_at (codes "ink") 150 0 (number_words n d.illegal) ++ overview_numbers d ++ group_end
+    group_start 0 y ++ text_at (codes "ink") 150 0 (decimal n ++ illegal_mark d.illegal)
+    ++ number_cell 2400 (live_pages d.last.pages) ++ number_cell 3900 (most_of Queue d.columns.items)
+    ++ number_cell 5400 d.last.held ++ number_cell 6900 d.last.given ++ group_end
 
 -- the lines of nodes from node n on, from this height on
 abbrev pub overview_lines : ℕ → ℕ → List DrawnNode → List ℕ

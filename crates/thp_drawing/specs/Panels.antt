@@ -1,14 +1,14 @@
 -- Panels: one for each unit of the quantities. A panel whose numbers are all 0 is left out.
-use Rattle.std.specs.Prelude.{ℕ, ◌+◌, List, [], ◌++◌, codes, if◌then◌else◌, nat_eq}
+use Rattle.std.specs.Prelude.{ℕ, List, [], ◌++◌, codes, if◌then◌else◌, nat_eq}
 use Rattle.thp_metrics.specs.declared.stage.Stage.{Stage}
 use Rattle.thp_metrics.specs.declared.stage.Stage.TheVariants.{Allocated, PartlyMapped, Queued, InBatch, Split}
 use Rattle.thp_drawing.specs.Areas.{quantity_areas, stage_area}
 use Rattle.thp_drawing.specs.Axes.{base_line, event_rules, ticks}
-use Rattle.thp_drawing.specs.Elements.{group_end, group_start, square_at, text_at}
+use Rattle.thp_drawing.specs.Elements.{group_end, group_start, item_at}
 use Rattle.thp_drawing.specs.Grouped.{grouped}
 use Rattle.thp_drawing.specs.Quantities.{last_of, most_in, most_of, pages_most, quantity_class, quantity_name}
 use Rattle.thp_drawing.specs.Quantities.{stage_class, stage_name}
-use Rattle.thp_drawing.specs.Scales.{doubled_steps, plus, round_steps, scaled, step_among, steps_in, times}
+use Rattle.thp_drawing.specs.Scales.{doubled_step, plus, round_step, scaled, steps_in, times}
 use Rattle.thp_drawing.specs.declared.node.DrawnNode.{DrawnNode}
 use Rattle.thp_drawing.specs.declared.quantity.Quantity.{Quantity}
 use Rattle.thp_drawing.specs.declared.quantity.Quantity.TheVariants.{Queue, InBatches, Held, Given, Splits, PinnedTries, UnderusedSplits, Wait, Nothing}
@@ -30,50 +30,52 @@ down_of Frames = Given
 down_of Tries = PinnedTries
 down_of Underused = Nothing
 
--- its unit, next to its title
-abbrev pub unit_text : Panel → List ℕ
-unit_text Pages = codes "<text class=\"soft e\" x=\"-60\" y=\"150\">pages</text>\n"
-unit_text Waits = codes "<text class=\"soft e\" x=\"-60\" y=\"150\">events</text>\n"
-unit_text Frames = codes "<text class=\"soft e\" x=\"-60\" y=\"150\">frames</text>\n"
-unit_text Tries = codes "<text class=\"soft e\" x=\"-60\" y=\"150\">tries</text>\n"
-unit_text Underused = codes "<text class=\"soft e\" x=\"-60\" y=\"150\">tries</text>\n"
+-- what its numbers count
+abbrev pub unit_of : Panel → List ℕ
+unit_of Pages = codes "pages"
+unit_of Waits = codes "events"
+unit_of Frames = codes "frames"
+unit_of Tries = codes "tries"
+unit_of Underused = codes "tries"
 
 -- the step of its numbers up to n
 abbrev pub panel_step : Panel → ℕ → ℕ
-panel_step Pages n = step_among round_steps n
-panel_step Waits n = step_among round_steps n
-panel_step Frames n = step_among doubled_steps n
-panel_step Tries n = step_among round_steps n
-panel_step Underused n = step_among round_steps n
+panel_step Pages n = round_step n
+panel_step Waits n = round_step n
+panel_step Frames n = doubled_step n
+panel_step Tries n = round_step n
+panel_step Underused n = round_step n
 
 -- the sum of the greatest numbers of both quantities: a panel is left out if it is 0
 abbrev pub panel_most : Panel → DrawnNode → ℕ
 panel_most p d = plus (most_of (up_of p) d.columns.items) (most_of (down_of p) d.columns.items)
 
+-- the beginning of a panel, from this height on: what its numbers count
+unfoldable pub panel_start : ℕ → List ℕ → List ℕ
+panel_start y unit =
+    group_start 900 y ++ codes "<text class=\"soft e\" x=\"-60\" y=\"150\">" ++ unit ++ codes "</text>\n"
+
+-- the beginning of its content, which is this high, below its title
+unfoldable pub graph_start : ℕ → DrawnNode → List ℕ
+graph_start high d = group_start 0 260 ++ event_rules high d
+
+abbrev pub panel_end : List ℕ
+panel_end = group_end ++ group_end
+
 -- a quantity's name, its greatest number, and its number after the last event
-unfoldable pub quantity_words : Quantity → DrawnNode → List ℕ
+abbrev pub quantity_words : Quantity → DrawnNode → List ℕ
 quantity_words q d =
     quantity_name q ++ codes ": most " ++ grouped (most_of q d.columns.items) ++ codes ", last " ++ grouped (last_of q d.last)
 
--- its colour and its words
-unfoldable pub quantity_label : Quantity → ℕ → DrawnNode → List ℕ
-quantity_label q x d = square_at (quantity_class q) x 72 ++ text_at (codes "ink") (x + 130) 150 (quantity_words q d)
-
 -- these, in a panel's title, or nothing if all its numbers are 0
 abbrev pub quantity_item : Quantity → ℕ → DrawnNode → List ℕ
-quantity_item q x d = if nat_eq (most_of q d.columns.items) 0 then [] else quantity_label q x d
+quantity_item q x d = if nat_eq (most_of q d.columns.items) 0 then [] else item_at (quantity_class q) x (quantity_words q d)
 
--- the lines and areas of a quantity
-unfoldable pub quantity_graph : List ℕ → Quantity → ℕ → ℕ → DrawnNode → List ℕ
-quantity_graph sign q step most d =
-    ticks sign step most (steps_in step (most_of q d.columns.items)) ++ quantity_areas sign q most d
-
--- these, or nothing if all its numbers are 0
-abbrev pub quantity_half : List ℕ → Quantity → ℕ → ℕ → DrawnNode → List ℕ
-quantity_half sign q step most d = if nat_eq (most_of q d.columns.items) 0 then [] else quantity_graph sign q step most d
-
-unfoldable pub panel_title : Panel → DrawnNode → List ℕ
-panel_title p d = unit_text p ++ quantity_item (up_of p) 0 d ++ quantity_item (down_of p) 3000 d
+-- its lines and areas, or nothing if all its numbers are 0
+unfoldable pub quantity_half : List ℕ → Quantity → ℕ → ℕ → DrawnNode → List ℕ
+quantity_half sign q step most d =
+    if nat_eq (most_of q d.columns.items) 0 then []
+    else ticks sign step most (steps_in step (most_of q d.columns.items)) ++ quantity_areas sign q most d
 
 -- the number that is 1,000 high on the scale of a quantity, by its own greatest number and that of the panel's other quantity: each
 -- of two has a half
@@ -94,28 +96,21 @@ panel_halves p d =
     scaled_halves p (half_most (most_of (up_of p) d.columns.items) (most_of (down_of p) d.columns.items))
     (half_most (most_of (down_of p) d.columns.items) (most_of (up_of p) d.columns.items)) d
 
-unfoldable pub panel_drawn : Panel → ℕ → DrawnNode → List ℕ
-panel_drawn p y d =
-    group_start 900 y ++ panel_title p d ++ group_start 0 260 ++ event_rules 1000 d ++ panel_halves p d
-    ++ group_end ++ group_end
-
 -- a panel, from this height on
-abbrev pub panel_at : Panel → ℕ → DrawnNode → List ℕ
-panel_at p y d = if nat_eq (panel_most p d) 0 then [] else panel_drawn p y d
+unfoldable pub panel_at : Panel → ℕ → DrawnNode → List ℕ
+panel_at p y d =
+    if nat_eq (panel_most p d) 0 then []
+    else panel_start y (unit_of p) ++ quantity_item (up_of p) 0 d ++ quantity_item (down_of p) 3000 d ++ graph_start 1000 d
+    ++ panel_halves p d ++ panel_end
 
 -- the colour and the name of a stage that occurs
-unfoldable pub stage_item : Stage → ℕ → DrawnNode → List ℕ
-stage_item x at d =
-    if nat_eq (most_in x d.columns.items) 0 then []
-    else square_at (stage_class x) at 72 ++ text_at (codes "ink") (at + 130) 150 (stage_name x)
+abbrev pub stage_item : Stage → ℕ → DrawnNode → List ℕ
+stage_item x at d = if nat_eq (most_in x d.columns.items) 0 then [] else item_at (stage_class x) at (stage_name x)
 
 unfoldable pub stage_items : DrawnNode → List ℕ
 stage_items d =
     stage_item Allocated 0 d ++ stage_item PartlyMapped 1200 d ++ stage_item Queued 2400 d
     ++ stage_item InBatch 3600 d ++ stage_item Split 4800 d
-
-unfoldable pub stages_title : DrawnNode → List ℕ
-stages_title d = codes "<text class=\"soft e\" x=\"-60\" y=\"150\">pages</text>\n" ++ stage_items d
 
 -- the stages, the last on top
 unfoldable pub stage_areas : DrawnNode → List ℕ
@@ -125,14 +120,11 @@ stage_areas d =
 -- the content above the base line, for means up to `most`
 unfoldable pub stages_stacked : ℕ → DrawnNode → List ℕ
 stages_stacked most d =
-    group_start 0 1000 ++ ticks (codes "-") (step_among round_steps most) most (steps_in (step_among round_steps most) most)
+    group_start 0 1000 ++ ticks (codes "-") (round_step most) most (steps_in (round_step most) most)
     ++ stage_areas d ++ base_line ++ group_end
 
-unfoldable pub stages_drawn : ℕ → DrawnNode → List ℕ
-stages_drawn y d =
-    group_start 900 y ++ stages_title d ++ group_start 0 260 ++ event_rules 1000 d ++ stages_stacked (pages_most d) d
-    ++ group_end ++ group_end
-
 -- the panel of stages
-abbrev pub stages_panel : ℕ → DrawnNode → List ℕ
-stages_panel y d = if nat_eq (pages_most d) 0 then [] else stages_drawn y d
+unfoldable pub stages_panel : ℕ → DrawnNode → List ℕ
+stages_panel y d =
+    if nat_eq (pages_most d) 0 then []
+    else panel_start y (codes "pages") ++ stage_items d ++ graph_start 1000 d ++ stages_stacked (pages_most d) d ++ panel_end

@@ -83,23 +83,20 @@ abbrev pub foot_of : ℕ → List DrawnNode → ℕ
 foot_of y [] = y
 foot_of y (d ∷ more) = foot_of (plus y (node_height d)) more
 
+-- the beginning, with the name and the description for screen readers
 unfoldable pub svg_start : ℕ → List ℕ
 svg_start high =
     codes "<svg xmlns=\"http://www.w3.org/2000/svg\" viewBox=\"0 0 7200 " ++ decimal high
     ++ codes "\" role=\"img\" aria-labelledby=\"title desc\">\n"
-
--- its name and its description, for screen readers
-unfoldable pub described : List ℕ
-described =
-    codes "<title id=\"title\">Deferred split queues</title>\n"
+    ++ codes "<title id=\"title\">Deferred split queues</title>\n"
     ++ codes "<desc id=\"desc\">Queue, batches, frames and pages of each node over its events; thpdraw --table lists them.</desc>\n"
 
 unfoldable pub ground : ℕ → List ℕ
 ground high = codes "<rect class=\"bg\" x=\"0\" y=\"0\" width=\"7200\" height=\"" ++ decimal high ++ codes "\"/>\n"
 
--- the beginning of the picture, of this height
+-- all of it, for a picture of this height
 unfoldable pub head : ℕ → List ℕ
-head high = svg_start high ++ described ++ style ++ ground high
+head high = svg_start high ++ style ++ ground high
 
 unfoldable pub title_words : List ℕ
 title_words = codes "Deferred split queues"

@@ -5,10 +5,9 @@ use Rattle.thp_metrics.specs.declared.column.Column.{Column}
 use Rattle.thp_metrics.specs.declared.stage.Stage.{Stage}
 use Rattle.thp_metrics.specs.declared.stage.Stage.TheVariants.{Allocated, PartlyMapped, Queued, InBatch, Split}
 use Rattle.thp_metrics.specs.Stages.{shown_pages}
-use Rattle.thp_drawing.specs.Axes.{event_rules, tick}
+use Rattle.thp_drawing.specs.Axes.{tick}
 use Rattle.thp_drawing.specs.Bars.{bar_at, bar_turns}
-use Rattle.thp_drawing.specs.Elements.{group_end, group_start}
-use Rattle.thp_drawing.specs.Panels.{stage_items}
+use Rattle.thp_drawing.specs.Panels.{graph_start, panel_end, panel_start, stage_items}
 use Rattle.thp_drawing.specs.Quantities.{most_in, stage_class}
 use Rattle.thp_drawing.specs.Scales.{plus, steps_in, times}
 use Rattle.thp_drawing.specs.declared.bar.Bar.TheVariants.{PageIn}
@@ -81,30 +80,23 @@ stage_rows x high columns (suc k) = stage_rows x high columns k ++ bar_at (PageI
 abbrev pub row_class : ℕ → List ℕ
 row_class count = if nat_le count few_rows then codes "bar " else codes "bar thin "
 
-unfoldable pub stage_bars_drawn : Stage → ℕ → DrawnNode → List ℕ
-stage_bars_drawn x count d =
-    codes "<path class=\"" ++ row_class count ++ stage_class x ++ codes "\" d=\""
-    ++ stage_rows x (row_height count) d.columns.items count ++ codes "\"/>\n"
-
 -- these, or nothing if no page was ever in the stage
-abbrev pub stage_bars : Stage → ℕ → DrawnNode → List ℕ
-stage_bars x count d = if nat_eq (most_in x d.columns.items) 0 then [] else stage_bars_drawn x count d
+unfoldable pub stage_bars : Stage → ℕ → DrawnNode → List ℕ
+stage_bars x count d =
+    if nat_eq (most_in x d.columns.items) 0 then []
+    else (codes "<path class=\"" ++ row_class count ++ stage_class x ++ codes "\" d=\"")
+    ++ stage_rows x (row_height count) d.columns.items count ++ codes "\"/>\n"
 
 unfoldable pub bars : ℕ → DrawnNode → List ℕ
 bars count d =
     stage_bars Allocated count d ++ stage_bars PartlyMapped count d ++ stage_bars Queued count d
     ++ stage_bars InBatch count d ++ stage_bars Split count d
 
--- the content of the panel of this many rows
-unfoldable pub rows_graph : ℕ → DrawnNode → List ℕ
-rows_graph count d =
-    event_rules (rows_height count) d ++ row_numbers (row_height count) (number_step count) (numbers_of count) ++ bars count d
+-- the panel of this many rows, from this height on
+abbrev pub panel_of_rows : ℕ → ℕ → DrawnNode → List ℕ
+panel_of_rows count y d =
+    panel_start y (codes "page") ++ stage_items d ++ graph_start (rows_height count) d
+    ++ row_numbers (row_height count) (number_step count) (numbers_of count) ++ bars count d ++ panel_end
 
-unfoldable pub row_unit : List ℕ
-row_unit = codes "<text class=\"soft e\" x=\"-60\" y=\"150\">page</text>\n"
-
--- the panel of rows, from this height on
 unfoldable pub rows_panel : ℕ → DrawnNode → List ℕ
-rows_panel y d =
-    group_start 900 y ++ row_unit ++ stage_items d ++ group_start 0 260 ++ rows_graph (allocated_pages d) d
-    ++ group_end ++ group_end
+rows_panel y d = panel_of_rows (allocated_pages d) y d

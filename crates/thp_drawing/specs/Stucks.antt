@@ -3,19 +3,15 @@ use Rattle.std.specs.Prelude.{ℕ, ◌+◌, ◌-◌, min, List, [], ◌∷◌, �
 use Rattle.std.specs.Fmt.{decimal}
 use Rattle.thp_metrics.specs.declared.stuck_page.StuckPage.{StuckPage}
 use Rattle.thp_drawing.specs.Elements.{text_at}
-use Rattle.thp_drawing.specs.Grouped.{grouped}
+use Rattle.thp_drawing.specs.Grouped.{grouped, many}
 use Rattle.thp_drawing.specs.Scales.{plus, times}
-use Rattle.thp_drawing.specs.Titles.{many}
 use Rattle.thp_drawing.specs.declared.node.DrawnNode.{DrawnNode}
 
--- the text about page p, which was found pinned that often and waits since this event
-unfoldable pub words_of : ℕ → ℕ → ℕ → List ℕ
-words_of p finds since =
-    codes "stuck by pins: page " ++ decimal p ++ codes ", found pinned " ++ many finds (codes "time")
-    ++ codes ", waits since event " ++ grouped since
-
-abbrev pub stuck_words : StuckPage → List ℕ
-stuck_words x = words_of x.page x.finds x.since
+-- the text about a page: how often it was found pinned, and since which event it waits
+unfoldable pub stuck_words : StuckPage → List ℕ
+stuck_words x =
+    codes "stuck by pins: page " ++ decimal x.page ++ codes ", found pinned " ++ many x.finds (codes "time")
+    ++ codes ", waits since event " ++ grouped x.since
 
 -- the lines of pages from page n on, below each other from this height on
 abbrev pub stuck_lines : ℕ → ℕ → List StuckPage → List ℕ

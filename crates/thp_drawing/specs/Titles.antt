@@ -1,16 +1,12 @@
 -- The title of a node above its panels.
-use Rattle.std.specs.Prelude.{ℕ, ◌-◌, List, [], ◌++◌, length, take, Option, Some, None, codes, if◌then◌else◌, nat_eq, nat_le}
+use Rattle.std.specs.Prelude.{ℕ, ◌-◌, List, [], ◌++◌, length, take, Option, Some, None, codes, if◌then◌else◌, nat_le}
 use Rattle.std.specs.Fmt.{decimal}
 use Rattle.thp_model.specs.declared.events.Event.{Event}
 use Rattle.thp_journal_writer.specs.EventLines.{event_line}
 use Rattle.thp_drawing.specs.Elements.{text_at}
-use Rattle.thp_drawing.specs.Grouped.{grouped}
+use Rattle.thp_drawing.specs.Grouped.{many}
 use Rattle.thp_drawing.specs.declared.illegal_event.IllegalEvent.{IllegalEvent}
 use Rattle.thp_drawing.specs.declared.node.DrawnNode.{DrawnNode}
-
--- a number and a word, with an `s` unless the number is 1
-unfoldable pub many : ℕ → List ℕ → List ℕ
-many n word = grouped n ++ codes " " ++ word ++ (if nat_eq n 1 then [] else codes "s")
 
 abbrev pub threshold_words : Option ℕ → List ℕ
 threshold_words None = codes "off"
@@ -23,13 +19,13 @@ shape_words blocks order threshold =
 
 -- the number of events drawn
 unfoldable pub events_words : DrawnNode → List ℕ
-events_words d = many (d.prefixes - 1) (codes "legal event")
+events_words d = codes ", " ++ many (d.prefixes - 1) (codes "legal event")
 
 -- the title of node n
 unfoldable pub node_words : ℕ → DrawnNode → List ℕ
 node_words n d =
     codes "node " ++ decimal n ++ codes ": "
-    ++ shape_words d.shape.blocks d.shape.order d.shape.underused ++ codes ", " ++ events_words d
+    ++ shape_words d.shape.blocks d.shape.order d.shape.underused ++ events_words d
 
 -- a line of at most 70 letters, or the beginning of a longer one
 unfoldable pub shortened : List ℕ → List ℕ

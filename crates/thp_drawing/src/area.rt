@@ -1,10 +1,8 @@
 //! Areas over a node's columns.
 ghost use Rattle.std.specs.Prelude.{◌≡◌, ◌<◌, ◌^◌, ◌++◌, length, codes, OnOk};
-ghost use Rattle.std.specs.Fmt.{decimal};
-ghost use Rattle.thp_drawing.specs.Areas.{column_width, outline, quantity_area, quantity_areas, quantity_height};
-ghost use Rattle.thp_drawing.specs.Areas.{stage_area, stage_drawn, stage_height, step_to};
+ghost use Rattle.thp_drawing.specs.Areas.{area, column_width, height_at, outline, quantity_areas, stage_area, step_to};
 
-use crate::element::put_decimal;
+use crate::element::{Piece, put_pieces};
 use crate::node::DrawnNode;
 use crate::quantity::{Edge, Quantity};
 use crate::scale::{scaled, times};
@@ -12,6 +10,28 @@ use crate::stages::{most_in, pages_most, prefixes_of, stage_class, sum_up_to};
 use std::alloc::AllocError;
 use thp_journal_writer::put;
 use thp_metrics::{Column, Stage};
+
+/// What the heights of an area are, on a scale where `most` is 1,000 high.
+#[derive(Clone, Copy, Debug, PartialEq, Eq)]
+pub(crate) enum Height {
+    /// The least or the greatest number of a column.
+    Of(Quantity, Edge, u128),
+    /// The mean number of pages up to a stage, given the prefixes of a column, and of all columns.
+    UpTo(Stage, u64, u128, u128),
+}
+
+// The height of the column at this index.
+fn height_at(height: Height, place: usize, column: &Column) -> u128
+    ensures { result ≡ height_at height place column.now }
+{
+    match height {
+        Height::Of(quantity, edge, most) => scaled(1000, edge.of(quantity.span(column)), most),
+        Height::UpTo(stage, width, prefixes, most) => {
+            let room = times(prefixes_of(width, prefixes, place), most);
+            scaled(1000, sum_up_to(stage, &column.pages), room)
+        }
+    }
+}
 
 /// Appends the areas of a quantity, on a scale where `most` is 1,000 high.
 #[tactic(auto, using(crate::proofs::Pieces::two), unfolding(crate::specs::Areas::quantity_areas))]
@@ -24,58 +44,51 @@ pub(crate) fn put_quantity_areas(
 ) -> Result<(), AllocError>
     ensures { OnOk result (text.new.items ≡ text.old.items ++ quantity_areas sign.now quantity most node.now) }
 {
+    let (kind, columns) = (quantity.class(), node.columns.as_slice());
+    let greatest = Height::Of(quantity, Edge::Greatest, most);
     if node.width != 1 {
-        put_quantity_area(
-            text,
-            sign,
-            quantity,
-            Edge::Greatest,
-            most,
-            node.columns.as_slice(),
-        )?;
+        put_area(text, kind, b" pale", sign, greatest, columns)?;
     }
-    put_quantity_area(
-        text,
-        sign,
-        quantity,
-        Edge::Least,
-        most,
-        node.columns.as_slice(),
-    )
+    let least = Height::Of(quantity, Edge::Least, most);
+    put_area(text, kind, b"", sign, least, columns)
 }
 
-#[tactic(auto, using(crate::proofs::Pieces::six), unfolding(crate::specs::Areas::quantity_area))]
-fn put_quantity_area(
+// An area of this class, and of this shade.
+#[tactic(auto, using(crate::proofs::Pieces::three), unfolding(crate::specs::Areas::area))]
+fn put_area<'a>(
     text: &mut Vec<u8>,
+    kind: &'a [u8],
+    shade: &'a [u8],
     sign: &[u8],
-    quantity: Quantity,
-    edge: Edge,
-    most: u128,
+    height: Height,
     columns: &[Column],
 ) -> Result<(), AllocError>
-    ensures { OnOk result (text.new.items ≡ text.old.items ++ quantity_area sign.now quantity edge most columns.now) }
+    ensures { OnOk result (text.new.items ≡ text.old.items ++ area kind.now shade.now sign.now height columns.now) }
 {
-    put(text, b"<path class=\"")?;
-    put(text, quantity.class())?;
-    put(text, edge.class())?;
-    put(text, b"\" d=\"M0 0")?;
-    put_quantity_outline(text, sign, quantity, edge, most, columns)?;
+    put_pieces(
+        text,
+        &[
+            Piece::Bytes(b"<path class=\""),
+            Piece::Bytes(kind),
+            Piece::Bytes(shade),
+            Piece::Bytes(b"\" d=\"M0 0"),
+        ],
+    )?;
+    put_outline(text, sign, height, columns)?;
     put(text, b"V0z\"/>\n")
 }
 
-fn put_quantity_outline(
+fn put_outline(
     text: &mut Vec<u8>,
     sign: &[u8],
-    quantity: Quantity,
-    edge: Edge,
-    most: u128,
+    height: Height,
     columns: &[Column],
 ) -> Result<(), AllocError>
-    ensures { OnOk result (text.new.items ≡ text.old.items ++ outline sign.now (quantity_height quantity edge most) (length columns.now) 0 columns.now) }
+    ensures { OnOk result (text.new.items ≡ text.old.items ++ outline sign.now height (length columns.now) 0 columns.now) }
 {
     let count = columns.len() as u128;
     for (place, column) in columns.iter().enumerate() {
-        let high = scaled(1000, edge.of(quantity.span(column)), most);
+        let high = height_at(height, place, column);
         put_step(text, sign, high, column_width(count, place as u128))?;
     }
     Ok(())
@@ -90,15 +103,20 @@ fn column_width(count: u128, place: u128) -> u128
 }
 
 // A step to this height, and this far to the right.
-#[tactic(auto, using(crate::proofs::Pieces::five), unfolding(crate::specs::Areas::step_to))]
+#[tactic(auto, unfolding(crate::specs::Areas::step_to))]
 fn put_step(text: &mut Vec<u8>, sign: &[u8], high: u128, wide: u128) -> Result<(), AllocError>
     ensures { OnOk result (text.new.items ≡ text.old.items ++ step_to sign.now high wide) }
 {
-    put(text, b"V")?;
-    put(text, sign)?;
-    put_decimal(text, high)?;
-    put(text, b"h")?;
-    put_decimal(text, wide)
+    put_pieces(
+        text,
+        &[
+            Piece::Bytes(b"V"),
+            Piece::Bytes(sign),
+            Piece::Decimal(high),
+            Piece::Bytes(b"h"),
+            Piece::Decimal(wide),
+        ],
+    )
 }
 
 /// Appends the area of a stage, if any page was ever in it.
@@ -109,46 +127,10 @@ pub(crate) fn put_stage_area(
 ) -> Result<(), AllocError>
     ensures { OnOk result (text.new.items ≡ text.old.items ++ stage_area stage node.now) }
 {
-    if most_in(stage, node.columns.as_slice()) == 0 {
+    let columns = node.columns.as_slice();
+    if most_in(stage, columns) == 0 {
         return Ok(());
     }
-    put_stage_drawn(text, stage, node)
-}
-
-#[tactic(auto, using(crate::proofs::Pieces::five), unfolding(crate::specs::Areas::stage_drawn))]
-fn put_stage_drawn(text: &mut Vec<u8>, stage: Stage, node: &DrawnNode) -> Result<(), AllocError>
-    ensures { OnOk result (text.new.items ≡ text.old.items ++ stage_drawn stage node.now) }
-{
-    let most = pages_most(node);
-    put(text, b"<path class=\"")?;
-    put(text, stage_class(stage))?;
-    put(text, b"\" d=\"M0 0")?;
-    put_stage_outline(
-        text,
-        stage,
-        node.width,
-        node.prefixes,
-        most,
-        node.columns.as_slice(),
-    )?;
-    put(text, b"V0z\"/>\n")
-}
-
-fn put_stage_outline(
-    text: &mut Vec<u8>,
-    stage: Stage,
-    width: u64,
-    prefixes: u128,
-    most: u128,
-    columns: &[Column],
-) -> Result<(), AllocError>
-    ensures { OnOk result (text.new.items ≡ text.old.items ++ outline (codes "-") (stage_height stage width prefixes most) (length columns.now) 0 columns.now) }
-{
-    let count = columns.len() as u128;
-    for (place, column) in columns.iter().enumerate() {
-        let room = times(prefixes_of(width, prefixes, place), most);
-        let high = scaled(1000, sum_up_to(stage, &column.pages), room);
-        put_step(text, b"-", high, column_width(count, place as u128))?;
-    }
-    Ok(())
+    let height = Height::UpTo(stage, node.width, node.prefixes, pages_most(node));
+    put_area(text, stage_class(stage), b"", b"-", height, columns)
 }

@@ -1,30 +1,17 @@
 //! Axes: numbers next to lines.
 ghost use Rattle.std.specs.Prelude.{◌≡◌, ◌++◌, OnOk};
-ghost use Rattle.std.specs.Fmt.{decimal};
-ghost use Rattle.thp_drawing.specs.Axes.{
-  base_line,
-  event_at,
-  event_axis,
-  event_number,
-  event_numbers,
-  event_rules,
-  event_step,
-  events_of,
-  room_of,
-  tick,
-  ticks,
-  upright,
-  uprights,
-};
-ghost use Rattle.thp_drawing.specs.Elements.{group_end};
-ghost use Rattle.thp_drawing.specs.Grouped.{grouped};
+ghost use Rattle.thp_drawing.specs.Axes.{event_axis, event_marks, event_numbers, event_rules, event_step, room_of, tick};
+ghost use Rattle.thp_drawing.specs.Axes.{ticks, upright, uprights};
 
-use crate::element::{put_decimal, put_group, put_text};
-use crate::grouped::put_grouped;
+use crate::element::{GROUP_END, Piece, put_group, put_pieces, put_words};
 use crate::node::DrawnNode;
-use crate::scale::{round_step, scaled, steps_in, times};
+use crate::scale::{plus, round_step, scaled, steps_in, times};
 use std::alloc::AllocError;
 use thp_journal_writer::put;
+
+/// The line from which areas extend upwards and downwards.
+pub(crate) const BASE_LINE: &[u8] =
+    b"<path class=\"zero\" d=\"M0 0h6000\"/>\n<text class=\"soft e\" x=\"-60\" y=\"0\" dy=\"40\">0</text>\n";
 
 /// Appends the first `count` numbers of an axis, on a scale where `most` is 1,000 high, and lines at their heights.
 pub(crate) fn put_ticks(
@@ -44,7 +31,7 @@ pub(crate) fn put_ticks(
 }
 
 /// Appends a number of an axis, and a line at its height.
-#[tactic(auto, using(crate::proofs::Pieces::nine), unfolding(crate::specs::Axes::tick))]
+#[tactic(auto, unfolding(crate::specs::Axes::tick))]
 pub(crate) fn put_tick(
     text: &mut Vec<u8>,
     sign: &[u8],
@@ -53,39 +40,20 @@ pub(crate) fn put_tick(
 ) -> Result<(), AllocError>
     ensures { OnOk result (text.new.items ≡ text.old.items ++ tick sign.now number high) }
 {
-    put(text, b"<path class=\"rule\" d=\"M0 ")?;
-    put(text, sign)?;
-    put_decimal(text, high)?;
-    put(text, b"h6000\"/>\n<text class=\"soft e\" x=\"-60\" y=\"")?;
-    put(text, sign)?;
-    put_decimal(text, high)?;
-    put(text, b"\" dy=\"40\">")?;
-    put_grouped(text, number)?;
-    put(text, b"</text>\n")
-}
-
-/// Appends the line from which areas extend upwards and downwards.
-pub(crate) fn put_base_line(text: &mut Vec<u8>) -> Result<(), AllocError>
-    ensures { OnOk result (text.new.items ≡ text.old.items ++ base_line) }
-{
-    put(
+    put_pieces(
         text,
-        b"<path class=\"zero\" d=\"M0 0h6000\"/>\n<text class=\"soft e\" x=\"-60\" y=\"0\" dy=\"40\">0</text>\n",
+        &[
+            Piece::Bytes(b"<path class=\"rule\" d=\"M0 "),
+            Piece::Bytes(sign),
+            Piece::Decimal(high),
+            Piece::Bytes(b"h6000\"/>\n<text class=\"soft e\" x=\"-60\" y=\""),
+            Piece::Bytes(sign),
+            Piece::Decimal(high),
+            Piece::Bytes(b"\" dy=\"40\">"),
+            Piece::Grouped(number),
+            Piece::Bytes(b"</text>\n"),
+        ],
     )
-}
-
-/// Ends a group.
-pub(crate) fn put_group_end(text: &mut Vec<u8>) -> Result<(), AllocError>
-    ensures { OnOk result (text.new.items ≡ text.old.items ++ group_end) }
-{
-    put(text, b"</g>\n")
-}
-
-// The number of a node's events that are drawn.
-fn events_of(node: &DrawnNode) -> u128
-    ensures { result ≡ events_of node.now }
-{
-    node.prefixes.saturating_sub(1)
 }
 
 // The number of events that there is room for.
@@ -95,15 +63,25 @@ fn room_of(node: &DrawnNode) -> u128
     times(u128::from(node.width), node.columns.len() as u128)
 }
 
-// The step of their numbers.
+// The step of the numbers of events.
 fn event_step(node: &DrawnNode) -> u128
     ensures { result ≡ event_step node.now }
 {
-    round_step(events_of(node))
+    round_step(node.prefixes.saturating_sub(1))
+}
+
+// How many events have numbers.
+fn event_marks(node: &DrawnNode) -> u128
+    ensures { result ≡ event_marks node.now }
+{
+    plus(
+        steps_in(event_step(node), node.prefixes.saturating_sub(1)),
+        1,
+    )
 }
 
 /// Appends the vertical lines of a panel of this height.
-#[tactic(auto, using(crate::proofs::Pieces::four), unfolding(crate::specs::Axes::event_rules))]
+#[tactic(auto, using(crate::proofs::Pieces::three), unfolding(crate::specs::Axes::event_rules))]
 pub(crate) fn put_event_rules(
     text: &mut Vec<u8>,
     high: u128,
@@ -111,15 +89,13 @@ pub(crate) fn put_event_rules(
 ) -> Result<(), AllocError>
     ensures { OnOk result (text.new.items ≡ text.old.items ++ event_rules high node.now) }
 {
-    let step = event_step(node);
-    put(text, b"<path class=\"rule\" d=\"M0 0v")?;
-    put_decimal(text, high)?;
+    put(text, b"<path class=\"rule\" d=\"")?;
     put_uprights(
         text,
         high,
-        step,
+        event_step(node),
         room_of(node),
-        steps_in(step, events_of(node)),
+        event_marks(node),
     )?;
     put(text, b"\"/>\n")
 }
@@ -134,19 +110,24 @@ fn put_uprights(
     ensures { OnOk result (text.new.items ≡ text.old.items ++ uprights high step room count) }
 {
     for before in 0..count {
-        put_upright(text, high, scaled(6000, times(step, before + 1), room))?;
+        put_upright(text, high, scaled(6000, times(step, before), room))?;
     }
     Ok(())
 }
 
-#[tactic(auto, using(crate::proofs::Pieces::four), unfolding(crate::specs::Axes::upright))]
+#[tactic(auto, unfolding(crate::specs::Axes::upright))]
 fn put_upright(text: &mut Vec<u8>, high: u128, x: u128) -> Result<(), AllocError>
     ensures { OnOk result (text.new.items ≡ text.old.items ++ upright high x) }
 {
-    put(text, b"M")?;
-    put_decimal(text, x)?;
-    put(text, b" 0v")?;
-    put_decimal(text, high)
+    put_pieces(
+        text,
+        &[
+            Piece::Bytes(b"M"),
+            Piece::Decimal(x),
+            Piece::Bytes(b" 0v"),
+            Piece::Decimal(high),
+        ],
+    )
 }
 
 /// Appends the numbers of events at this height.
@@ -158,14 +139,13 @@ pub(crate) fn put_event_axis(
 ) -> Result<(), AllocError>
     ensures { OnOk result (text.new.items ≡ text.old.items ++ event_axis y node.now) }
 {
-    let step = event_step(node);
     put_group(text, 900, y)?;
     put(
         text,
-        b"<text class=\"soft e\" x=\"-130\" y=\"0\">event</text>\n<text class=\"soft c\" x=\"0\" y=\"0\">0</text>\n",
+        b"<text class=\"soft e\" x=\"-130\" y=\"0\">event</text>\n",
     )?;
-    put_event_numbers(text, step, room_of(node), steps_in(step, events_of(node)))?;
-    put_group_end(text)
+    put_event_numbers(text, event_step(node), room_of(node), event_marks(node))?;
+    put(text, GROUP_END)
 }
 
 fn put_event_numbers(
@@ -177,21 +157,9 @@ fn put_event_numbers(
     ensures { OnOk result (text.new.items ≡ text.old.items ++ event_numbers step room count) }
 {
     for before in 0..count {
-        put_event_number(text, room, times(step, before + 1))?;
+        let event = times(step, before);
+        let x = scaled(6000, event, room);
+        put_words(text, b"soft c", x, 0, &[Piece::Grouped(event)])?;
     }
     Ok(())
-}
-
-fn put_event_number(text: &mut Vec<u8>, room: u128, event: u128) -> Result<(), AllocError>
-    ensures { OnOk result (text.new.items ≡ text.old.items ++ event_number room event) }
-{
-    let mut words = Vec::new(*text.allocator());
-    put_grouped(&mut words, event)?;
-    put_text(
-        text,
-        b"soft c",
-        scaled(6000, event, room),
-        0,
-        words.as_slice(),
-    )
 }

@@ -1,12 +1,10 @@
 //! Bars over a node's columns.
 ghost use Rattle.std.specs.Prelude.{◌≡◌, ◌≤◌, ◌++◌, false, length, OnOk};
-ghost use Rattle.std.specs.Fmt.{decimal};
-ghost use Rattle.thp_drawing.specs.Bars.{bar_at, bar_turns, covers, is_among, line_end, line_start, line_turn, stage_in, stage_number, turn_count};
+ghost use Rattle.thp_drawing.specs.Bars.{bar_at, bar_turns, covers, is_among, line_turn, stage_in, stage_number, turn_count};
 
-use crate::element::put_decimal;
+use crate::element::{Piece, put_pieces};
 use crate::scale::scaled;
 use std::alloc::AllocError;
-use thp_journal_writer::put;
 use thp_metrics::{Column, SHOWN_CALLERS, Stage};
 
 /// The content of a bar.
@@ -111,26 +109,16 @@ fn put_turn(text: &mut Vec<u8>, y: u128, x: u128, before: bool, now: bool) -> Re
     ensures { OnOk result (text.new.items ≡ text.old.items ++ line_turn y x before now) }
 {
     match (before, now) {
-        (false, true) => put_line_start(text, y, x),
-        (true, false) => put_line_end(text, x),
+        (false, true) => put_pieces(
+            text,
+            &[
+                Piece::Bytes(b"M"),
+                Piece::Decimal(x),
+                Piece::Bytes(b" "),
+                Piece::Decimal(y),
+            ],
+        ),
+        (true, false) => put_pieces(text, &[Piece::Bytes(b"H"), Piece::Decimal(x)]),
         (false, false) | (true, true) => Ok(()),
     }
-}
-
-#[tactic(auto, using(crate::proofs::Pieces::four), unfolding(crate::specs::Bars::line_start))]
-fn put_line_start(text: &mut Vec<u8>, y: u128, x: u128) -> Result<(), AllocError>
-    ensures { OnOk result (text.new.items ≡ text.old.items ++ line_start y x) }
-{
-    put(text, b"M")?;
-    put_decimal(text, x)?;
-    put(text, b" ")?;
-    put_decimal(text, y)
-}
-
-#[tactic(auto, using(crate::proofs::Pieces::two), unfolding(crate::specs::Bars::line_end))]
-fn put_line_end(text: &mut Vec<u8>, x: u128) -> Result<(), AllocError>
-    ensures { OnOk result (text.new.items ≡ text.old.items ++ line_end x) }
-{
-    put(text, b"H")?;
-    put_decimal(text, x)
 }

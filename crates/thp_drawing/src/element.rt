@@ -1,69 +1,138 @@
-//! The elements of a picture.
+//! Texts made of pieces, and the elements of a picture.
 ghost use Rattle.std.specs.Prelude.{◌≡◌, ◌++◌, OnOk};
-ghost use Rattle.std.specs.Fmt.{decimal};
-ghost use Rattle.thp_drawing.specs.Elements.{group_start, square_at, text_at};
+ghost use Rattle.thp_drawing.specs.Elements.{group_start, item_at, piece_text, pieces_text, square_at, text_at};
 
 use crate::escaping::put_escaped;
-use itoa::Buffer;
+use crate::grouped::{put_decimal, put_grouped, put_many};
+use crate::scale::plus;
 use std::alloc::AllocError;
 use thp_journal_writer::put;
 
-/// Appends a number to a text.
-pub(crate) fn put_decimal(text: &mut Vec<u8>, number: u128) -> Result<(), AllocError>
-    ensures { OnOk result (text.new.items ≡ text.old.items ++ decimal number) }
+/// The text that ends a group.
+pub(crate) const GROUP_END: &[u8] = b"</g>\n";
+
+/// A piece of a text.
+#[derive(Clone, Copy)]
+pub(crate) enum Piece<'a> {
+    /// These bytes.
+    Bytes(&'a [u8]),
+    /// Words, escaped.
+    Escaped(&'a [u8]),
+    /// A number in decimal.
+    Decimal(u128),
+    /// A number whose digits are in groups of three.
+    Grouped(u128),
+    /// A number and a word, with an `s` unless the number is 1.
+    Many(u128, &'a [u8]),
+}
+
+/// Appends pieces to a text.
+pub(crate) fn put_pieces(text: &mut Vec<u8>, pieces: &[Piece<'_>]) -> Result<(), AllocError>
+    ensures { OnOk result (text.new.items ≡ text.old.items ++ pieces_text pieces.now) }
 {
-    put(text, Buffer::new().format(number).as_bytes())
+    for piece in pieces {
+        put_piece(text, piece)?;
+    }
+    Ok(())
+}
+
+fn put_piece(text: &mut Vec<u8>, piece: &Piece<'_>) -> Result<(), AllocError>
+    ensures { OnOk result (text.new.items ≡ text.old.items ++ piece_text piece.now) }
+{
+    match piece {
+        Piece::Bytes(bytes) => put(text, *bytes),
+        Piece::Escaped(words) => put_escaped(text, *words),
+        Piece::Decimal(number) => put_decimal(text, *number),
+        Piece::Grouped(number) => put_grouped(text, *number),
+        Piece::Many(number, word) => put_many(text, *number, *word),
+    }
 }
 
 /// Appends a text of this class, from this position on.
-#[tactic(auto, using(crate::proofs::Pieces::nine), unfolding(crate::specs::Elements::text_at))]
-pub(crate) fn put_text(
+#[tactic(auto, unfolding(crate::specs::Elements::text_at))]
+pub(crate) fn put_text<'a>(
     text: &mut Vec<u8>,
-    kind: &[u8],
+    kind: &'a [u8],
     x: u128,
     y: u128,
-    words: &[u8],
+    words: &'a [u8],
 ) -> Result<(), AllocError>
     ensures { OnOk result (text.new.items ≡ text.old.items ++ text_at kind.now x y words.now) }
 {
-    put(text, b"<text class=\"")?;
-    put(text, kind)?;
-    put(text, b"\" x=\"")?;
-    put_decimal(text, x)?;
-    put(text, b"\" y=\"")?;
-    put_decimal(text, y)?;
-    put(text, b"\">")?;
-    put_escaped(text, words)?;
-    put(text, b"</text>\n")
+    put_pieces(
+        text,
+        &[
+            Piece::Bytes(b"<text class=\""),
+            Piece::Bytes(kind),
+            Piece::Bytes(b"\" x=\""),
+            Piece::Decimal(x),
+            Piece::Bytes(b"\" y=\""),
+            Piece::Decimal(y),
+            Piece::Bytes(b"\">"),
+            Piece::Escaped(words),
+            Piece::Bytes(b"</text>\n"),
+        ],
+    )
 }
 
-/// Appends a square of this class.
-#[tactic(auto, using(crate::proofs::Pieces::seven), unfolding(crate::specs::Elements::square_at))]
-pub(crate) fn put_square(
+/// Appends a text whose words are these pieces.
+pub(crate) fn put_words(
     text: &mut Vec<u8>,
     kind: &[u8],
     x: u128,
     y: u128,
+    pieces: &[Piece<'_>],
 ) -> Result<(), AllocError>
-    ensures { OnOk result (text.new.items ≡ text.old.items ++ square_at kind.now x y) }
+    ensures { OnOk result (text.new.items ≡ text.old.items ++ text_at kind.now x y (pieces_text pieces.now)) }
 {
-    put(text, b"<rect class=\"")?;
-    put(text, kind)?;
-    put(text, b"\" x=\"")?;
-    put_decimal(text, x)?;
-    put(text, b"\" y=\"")?;
-    put_decimal(text, y)?;
-    put(text, b"\" width=\"80\" height=\"80\"/>\n")
+    let mut words = Vec::new(*text.allocator());
+    put_pieces(&mut words, pieces)?;
+    put_text(text, kind, x, y, words.as_slice())
+}
+
+/// Appends words in a panel's title, after a square of this class.
+#[tactic(auto, using(crate::proofs::Pieces::two), unfolding(crate::specs::Elements::item_at))]
+pub(crate) fn put_item(
+    text: &mut Vec<u8>,
+    kind: &[u8],
+    x: u128,
+    pieces: &[Piece<'_>],
+) -> Result<(), AllocError>
+    ensures { OnOk result (text.new.items ≡ text.old.items ++ item_at kind.now x (pieces_text pieces.now)) }
+{
+    put_square(text, kind, x)?;
+    put_words(text, b"ink", plus(x, 130), 150, pieces)
+}
+
+#[tactic(auto, unfolding(crate::specs::Elements::square_at))]
+fn put_square(text: &mut Vec<u8>, kind: &[u8], x: u128) -> Result<(), AllocError>
+    ensures { OnOk result (text.new.items ≡ text.old.items ++ square_at kind.now x) }
+{
+    put_pieces(
+        text,
+        &[
+            Piece::Bytes(b"<rect class=\""),
+            Piece::Bytes(kind),
+            Piece::Bytes(b"\" x=\""),
+            Piece::Decimal(x),
+            Piece::Bytes(b"\" y=\"72\" width=\"80\" height=\"80\"/>\n"),
+        ],
+    )
 }
 
 /// Begins a group whose origin is this position.
-#[tactic(auto, using(crate::proofs::Pieces::five), unfolding(crate::specs::Elements::group_start))]
+#[tactic(auto, unfolding(crate::specs::Elements::group_start))]
 pub(crate) fn put_group(text: &mut Vec<u8>, x: u128, y: u128) -> Result<(), AllocError>
     ensures { OnOk result (text.new.items ≡ text.old.items ++ group_start x y) }
 {
-    put(text, b"<g transform=\"translate(")?;
-    put_decimal(text, x)?;
-    put(text, b" ")?;
-    put_decimal(text, y)?;
-    put(text, b")\">\n")
+    put_pieces(
+        text,
+        &[
+            Piece::Bytes(b"<g transform=\"translate("),
+            Piece::Decimal(x),
+            Piece::Bytes(b" "),
+            Piece::Decimal(y),
+            Piece::Bytes(b")\">\n"),
+        ],
+    )
 }

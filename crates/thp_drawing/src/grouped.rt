@@ -1,12 +1,15 @@
-//! Numbers whose digits are in groups of three.
+//! Numbers in decimal, and with their digits in groups of three.
 ghost use Rattle.std.specs.Prelude.{◌≡◌, ◌++◌, OnOk};
-ghost use Rattle.thp_drawing.specs.Grouped.{digits, further_group, group_at, grouped, groups_at, last_group, three_digits};
+ghost use Rattle.std.specs.Fmt.{decimal};
+ghost use Rattle.std.specs.List.{flat_map};
+ghost use Rattle.thp_drawing.specs.Grouped.{group_at, group_of, grouped, many};
 
-use crate::element::put_decimal;
+use itoa::Buffer;
 use std::alloc::AllocError;
 use thp_journal_writer::put;
 
-const THOUSANDS: [u128; 13] = [
+/// The powers of 1,000 up to the greatest 128-bit number, the greatest first.
+pub(crate) const THOUSANDS: [u128; 12] = [
     1000000000000000000000000000000000000,
     1000000000000000000000000000000000,
     1000000000000000000000000000000,
@@ -19,19 +22,26 @@ const THOUSANDS: [u128; 13] = [
     1000000000,
     1000000,
     1000,
-    1,
 ];
 
+/// Appends a number to a text.
+pub(crate) fn put_decimal(text: &mut Vec<u8>, number: u128) -> Result<(), AllocError>
+    ensures { OnOk result (text.new.items ≡ text.old.items ++ decimal number) }
+{
+    put(text, Buffer::new().format(number).as_bytes())
+}
+
 /// Appends a number to a text, with commas between groups of three digits.
-#[tactic(auto, unfolding(crate::specs::Grouped::grouped, crate::specs::Grouped::thousands))]
+#[tactic(auto, using(crate::proofs::Pieces::two), unfolding(crate::specs::Grouped::grouped))]
 pub(crate) fn put_grouped(text: &mut Vec<u8>, number: u128) -> Result<(), AllocError>
     ensures { OnOk result (text.new.items ≡ text.old.items ++ grouped number) }
 {
-    put_groups(text, number, &THOUSANDS)
+    put_groups(text, number, &THOUSANDS)?;
+    put_group(text, number)
 }
 
 fn put_groups(text: &mut Vec<u8>, number: u128, powers: &[u128]) -> Result<(), AllocError>
-    ensures { OnOk result (text.new.items ≡ text.old.items ++ groups_at number powers.now) }
+    ensures { OnOk result (text.new.items ≡ text.old.items ++ flat_map (group_at number) powers.now) }
 {
     for power in powers {
         put_group_at(text, number, *power)?;
@@ -44,47 +54,32 @@ fn put_group_at(text: &mut Vec<u8>, number: u128, power: u128) -> Result<(), All
     ensures { OnOk result (text.new.items ≡ text.old.items ++ group_at number power) }
 {
     if number < power {
-        put_last(text, number, power)
-    } else {
-        put_digits(text, number / power.max(1))
+        return Ok(());
     }
-}
-
-// The digits of a number that is less than this power: 0 has one.
-fn put_last(text: &mut Vec<u8>, number: u128, power: u128) -> Result<(), AllocError>
-    ensures { OnOk result (text.new.items ≡ text.old.items ++ last_group number power) }
-{
-    if power == 1 {
-        put_decimal(text, number)
-    } else {
-        Ok(())
-    }
+    put_group(text, number / power.max(1))
 }
 
 // The last three digits of a number, after a comma if there are others before them.
-fn put_digits(text: &mut Vec<u8>, number: u128) -> Result<(), AllocError>
-    ensures { OnOk result (text.new.items ≡ text.old.items ++ digits number) }
+#[tactic(auto, using(crate::proofs::Pieces::four), unfolding(crate::specs::Grouped::group_of))]
+fn put_group(text: &mut Vec<u8>, number: u128) -> Result<(), AllocError>
+    ensures { OnOk result (text.new.items ≡ text.old.items ++ group_of number) }
 {
     if number < 1000 {
-        put_decimal(text, number)
-    } else {
-        put_further_group(text, number)
+        return put_decimal(text, number);
     }
-}
-
-#[tactic(auto, using(crate::proofs::Pieces::two), unfolding(crate::specs::Grouped::further_group))]
-fn put_further_group(text: &mut Vec<u8>, number: u128) -> Result<(), AllocError>
-    ensures { OnOk result (text.new.items ≡ text.old.items ++ further_group number) }
-{
     put(text, b",")?;
-    put_three_digits(text, number)
-}
-
-#[tactic(auto, using(crate::proofs::Pieces::three), unfolding(crate::specs::Grouped::three_digits))]
-fn put_three_digits(text: &mut Vec<u8>, number: u128) -> Result<(), AllocError>
-    ensures { OnOk result (text.new.items ≡ text.old.items ++ three_digits number) }
-{
     put_decimal(text, number / 100 % 10)?;
     put_decimal(text, number / 10 % 10)?;
     put_decimal(text, number % 10)
+}
+
+/// Appends a number and a word, with an `s` unless the number is 1.
+#[tactic(auto, using(crate::proofs::Pieces::four), unfolding(crate::specs::Grouped::many))]
+pub(crate) fn put_many(text: &mut Vec<u8>, number: u128, word: &[u8]) -> Result<(), AllocError>
+    ensures { OnOk result (text.new.items ≡ text.old.items ++ many number word.now) }
+{
+    put_grouped(text, number)?;
+    put(text, b" ")?;
+    put(text, word)?;
+    if number == 1 { Ok(()) } else { put(text, b"s") }
 }

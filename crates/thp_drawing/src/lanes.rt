@@ -1,26 +1,15 @@
 //! The panel of callers' batches.
 ghost use Rattle.std.specs.Prelude.{◌≡◌, ◌≤◌, ◌++◌, [], length, if◌then◌else◌, OnOk};
 ghost use Rattle.thp_drawing.specs.Axes.{tick};
-ghost use Rattle.thp_drawing.specs.Lanes.{
-  all_lanes,
-  all_turns,
-  has_lane,
-  has_lanes,
-  lane_at,
-  lane_count,
-  lane_drawn,
-  lanes_drawn,
-  lanes_graph,
-  lanes_height,
-  lanes_of,
-  lanes_panel,
-  lanes_title,
-};
+ghost use Rattle.thp_drawing.specs.Lanes.{all_lanes, all_turns, has_lane, has_lanes, lane_at, lane_count, lane_drawn};
+ghost use Rattle.thp_drawing.specs.Lanes.{lane_height, lanes_drawn, lanes_height, lanes_panel, lanes_title};
+ghost use Rattle.thp_drawing.specs.Scales.{times};
 
-use crate::axis::{put_event_rules, put_group_end, put_tick};
+use crate::axis::put_tick;
 use crate::bar::{Bar, put_bar};
-use crate::element::{put_group, put_square, put_text};
+use crate::element::{Piece, put_item};
 use crate::node::DrawnNode;
+use crate::panel::{put_graph_start, put_panel_end, put_panel_start};
 use crate::rows::{MAX_TURNS, row_middle};
 use crate::scale::{plus, times};
 use std::alloc::AllocError;
@@ -45,13 +34,7 @@ fn lanes_of_caller(columns: &[Column], caller: u32) -> u128
     if has_lane(columns, caller) { 1 } else { 0 }
 }
 
-// The number of lanes of a node.
-fn lanes_of(node: &DrawnNode) -> u128
-    ensures { result ≡ lanes_of node.now }
-{
-    count_lanes(node.columns.as_slice())
-}
-
+// The number of lanes.
 fn count_lanes(columns: &[Column]) -> u128
     ensures { result ≡ lane_count columns.now }
 {
@@ -78,7 +61,15 @@ fn all_turns(columns: &[Column]) -> u128
 fn has_lanes(node: &DrawnNode) -> bool
     ensures { result ≡ has_lanes node.now }
 {
-    1 <= lanes_of(node) && all_turns(node.columns.as_slice()) <= MAX_TURNS
+    let columns = node.columns.as_slice();
+    1 <= count_lanes(columns) && all_turns(columns) <= MAX_TURNS
+}
+
+// The height of all lanes.
+fn graph_height(node: &DrawnNode) -> u128
+    ensures { result ≡ times lane_height (lane_count node.now.columns.items) }
+{
+    times(LANE_HEIGHT, count_lanes(node.columns.as_slice()))
 }
 
 /// Returns the height of the panel of lanes.
@@ -86,7 +77,7 @@ pub(crate) fn lanes_height(node: &DrawnNode) -> u128
     ensures { result ≡ lanes_height node.now }
 {
     if has_lanes(node) {
-        plus(360, times(LANE_HEIGHT, lanes_of(node)))
+        plus(360, graph_height(node))
     } else {
         0
     }
@@ -107,42 +98,23 @@ pub(crate) fn put_lanes_panel(
     }
 }
 
-#[tactic(auto, using(crate::proofs::Pieces::six), unfolding(crate::specs::Lanes::lanes_drawn))]
+#[tactic(auto, using(crate::proofs::Pieces::five), unfolding(crate::specs::Lanes::lanes_drawn))]
 fn put_lanes_drawn(text: &mut Vec<u8>, y: u128, node: &DrawnNode) -> Result<(), AllocError>
     ensures { OnOk result (text.new.items ≡ text.old.items ++ lanes_drawn y node.now) }
 {
-    put_group(text, 900, y)?;
+    put_panel_start(text, y, b"caller")?;
     put_lanes_title(text)?;
-    put_group(text, 0, 260)?;
-    put_lanes_graph(text, times(LANE_HEIGHT, lanes_of(node)), node)?;
-    put_group_end(text)?;
-    put_group_end(text)
+    put_graph_start(text, graph_height(node), node)?;
+    put_lanes(text, node.columns.as_slice())?;
+    put_panel_end(text)
 }
 
-#[tactic(auto, using(crate::proofs::Pieces::three), unfolding(crate::specs::Lanes::lanes_title))]
+#[tactic(auto, unfolding(crate::specs::Lanes::lanes_title))]
 fn put_lanes_title(text: &mut Vec<u8>) -> Result<(), AllocError>
     ensures { OnOk result (text.new.items ≡ text.old.items ++ lanes_title) }
 {
-    put(
-        text,
-        b"<text class=\"soft e\" x=\"-60\" y=\"150\">caller</text>\n",
-    )?;
-    put_square(text, b"s3", 0, 72)?;
-    put_text(
-        text,
-        b"ink",
-        130,
-        150,
-        b"pages in its batch at least once in a column",
-    )
-}
-
-#[tactic(auto, using(crate::proofs::Pieces::two), unfolding(crate::specs::Lanes::lanes_graph))]
-fn put_lanes_graph(text: &mut Vec<u8>, high: u128, node: &DrawnNode) -> Result<(), AllocError>
-    ensures { OnOk result (text.new.items ≡ text.old.items ++ lanes_graph high node.now) }
-{
-    put_event_rules(text, high, node)?;
-    put_lanes(text, node.columns.as_slice())
+    let words = Piece::Bytes(b"pages in its batch at least once in a column");
+    put_item(text, b"s3", 0, &[words])
 }
 
 fn put_lanes(text: &mut Vec<u8>, columns: &[Column]) -> Result<(), AllocError>
@@ -172,7 +144,6 @@ fn put_lane(
     }
 }
 
-#[tactic(auto, using(crate::proofs::Pieces::four), unfolding(crate::specs::Lanes::lane_drawn))]
 fn put_lane_drawn(
     text: &mut Vec<u8>,
     columns: &[Column],

@@ -7,7 +7,7 @@
 //! - `node`: what is drawn of a node (`Drawn`): its numbers, its columns, the event at which it ends (`illegal_event`).
 //! - `table`; `picture`, `title`, `overview`, `panel`, `quantity`, `rows_panel`, `rows` (one for each page), `lanes` (one for
 //!   each caller's batches), `stages_panel`, `stages`, `stuck`, `bar`, `axis`, `area`, `scale`, `element`, `grouped`, `style`: by
-//!   the same names.
+//!   the same names. A text is a list of pieces (`element`), which one function appends.
 //! - `escaping` (`Escapes`): words as XML has them. `laws` (`Laws`).
 //!
 //! docs/FORMATS.md has both formats; the stored pictures are compared by `tests/drawer.py`.

@@ -1,20 +1,9 @@
 //! The overview of all nodes.
 ghost use Rattle.std.specs.Prelude.{◌≡◌, ◌++◌, OnOk};
-ghost use Rattle.thp_drawing.specs.Overviews.{
-  live_pages,
-  number_cell,
-  number_words,
-  overview,
-  overview_foot,
-  overview_heads,
-  overview_line,
-  overview_lines,
-  overview_numbers,
-};
+ghost use Rattle.thp_drawing.specs.Overviews.{illegal_mark, live_pages, number_cell, overview, overview_foot};
+ghost use Rattle.thp_drawing.specs.Overviews.{overview_heads, overview_line, overview_lines};
 
-use crate::axis::put_group_end;
-use crate::element::{put_decimal, put_group, put_text};
-use crate::grouped::put_grouped;
+use crate::element::{GROUP_END, Piece, put_group, put_text, put_words};
 use crate::illegal_event::IllegalEvent;
 use crate::node::DrawnNode;
 use crate::quantity::Quantity;
@@ -70,7 +59,7 @@ fn put_overview_lines(text: &mut Vec<u8>, nodes: &[DrawnNode]) -> Result<(), All
     Ok(())
 }
 
-#[tactic(auto, using(crate::proofs::Pieces::four), unfolding(crate::specs::Overviews::overview_line))]
+#[tactic(auto, using(crate::proofs::Pieces::seven), unfolding(crate::specs::Overviews::overview_line))]
 fn put_overview_line(
     text: &mut Vec<u8>,
     y: u128,
@@ -79,50 +68,39 @@ fn put_overview_line(
 ) -> Result<(), AllocError>
     ensures { OnOk result (text.new.items ≡ text.old.items ++ overview_line y number node.now) }
 {
-    let mut words = Vec::new(*text.allocator());
-    put_number_words(&mut words, number, &node.illegal)?;
     put_group(text, 0, y)?;
-    put_text(text, b"ink", 150, 0, words.as_slice())?;
-    put_overview_numbers(text, node)?;
-    put_group_end(text)
+    put_words(
+        text,
+        b"ink",
+        150,
+        0,
+        &[
+            Piece::Decimal(number as u128),
+            Piece::Bytes(illegal_mark(&node.illegal)),
+        ],
+    )?;
+    put_number(text, 2400, live_pages(&node.last.pages))?;
+    put_number(text, 3900, Quantity::Queue.most(node.columns.as_slice()))?;
+    put_number(text, 5400, node.last.held)?;
+    put_number(text, 6900, node.last.given)?;
+    put(text, GROUP_END)
 }
 
-// The number of a node, and whether an event of it is illegal.
-#[tactic(auto, using(crate::proofs::Pieces::two))]
-fn put_number_words(
-    text: &mut Vec<u8>,
-    number: usize,
-    illegal: &Option<IllegalEvent>,
-) -> Result<(), AllocError>
-    ensures { OnOk result (text.new.items ≡ text.old.items ++ number_words number illegal.now) }
+// Whether an event of a node is illegal.
+fn illegal_mark(illegal: &Option<IllegalEvent>) -> &'static [u8]
+    ensures { result.now ≡ illegal_mark illegal.now }
 {
     match illegal {
-        None => put_decimal(text, number as u128),
-        Some(_) => {
-            put_decimal(text, number as u128)?;
-            put(text, b" (illegal)")
-        }
+        None => b"",
+        Some(_) => b" (illegal)",
     }
-}
-
-#[tactic(auto, using(crate::proofs::Pieces::four), unfolding(crate::specs::Overviews::overview_numbers))]
-fn put_overview_numbers(text: &mut Vec<u8>, node: &DrawnNode) -> Result<(), AllocError>
-    ensures { OnOk result (text.new.items ≡ text.old.items ++ overview_numbers node.now) }
-{
-    let most = Quantity::Queue.most(node.columns.as_slice());
-    put_number(text, 2400, live_pages(&node.last.pages))?;
-    put_number(text, 3900, most)?;
-    put_number(text, 5400, node.last.held)?;
-    put_number(text, 6900, node.last.given)
 }
 
 // A right-aligned number that ends at this position.
 fn put_number(text: &mut Vec<u8>, x: u128, number: u128) -> Result<(), AllocError>
     ensures { OnOk result (text.new.items ≡ text.old.items ++ number_cell x number) }
 {
-    let mut words = Vec::new(*text.allocator());
-    put_grouped(&mut words, number)?;
-    put_text(text, b"ink e", x, 0, words.as_slice())
+    put_words(text, b"ink e", x, 0, &[Piece::Grouped(number)])
 }
 
 // The number of live pages in all stages.

@@ -1,29 +1,25 @@
 //! Panels: one for each unit of what is drawn.
 ghost use Rattle.std.specs.Prelude.{◌≡◌, ◌++◌, [], codes, OnOk};
-ghost use Rattle.thp_drawing.specs.Grouped.{grouped};
 ghost use Rattle.thp_drawing.specs.Panels.{
   down_of,
+  graph_start,
   half_most,
   panel_at,
-  panel_drawn,
+  panel_end,
   panel_halves,
   panel_most,
+  panel_start,
   panel_step,
-  panel_title,
-  quantity_graph,
   quantity_half,
   quantity_item,
-  quantity_label,
-  quantity_words,
   scaled_halves,
-  unit_text,
+  unit_of,
   up_of,
 };
 
 use crate::area::put_quantity_areas;
-use crate::axis::{put_base_line, put_event_rules, put_group_end, put_ticks};
-use crate::element::{put_group, put_square, put_text};
-use crate::grouped::put_grouped;
+use crate::axis::{BASE_LINE, put_event_rules, put_ticks};
+use crate::element::{GROUP_END, Piece, put_group, put_item, put_pieces};
 use crate::node::DrawnNode;
 use crate::quantity::Quantity;
 use crate::scale::{doubled_step, plus, round_step, scaled, steps_in, times};
@@ -69,6 +65,18 @@ impl Panel {
         }
     }
 
+    // What its numbers count.
+    fn unit(self) -> &'static [u8]
+        ensures { result.now ≡ unit_of self }
+    {
+        match self {
+            Panel::Pages => b"pages",
+            Panel::Waits => b"events",
+            Panel::Frames => b"frames",
+            Panel::Tries | Panel::Underused => b"tries",
+        }
+    }
+
     // The step of the panel's numbers up to this one.
     fn step(self, number: u128) -> u128
         ensures { result ≡ panel_step self number }
@@ -89,7 +97,44 @@ impl Panel {
     }
 }
 
+/// Begins a panel from this height on, whose numbers count these.
+#[tactic(auto, using(crate::proofs::Pieces::two), unfolding(crate::specs::Panels::panel_start))]
+pub(crate) fn put_panel_start(text: &mut Vec<u8>, y: u128, unit: &[u8]) -> Result<(), AllocError>
+    ensures { OnOk result (text.new.items ≡ text.old.items ++ panel_start y unit.now) }
+{
+    put_group(text, 900, y)?;
+    put_pieces(
+        text,
+        &[
+            Piece::Bytes(b"<text class=\"soft e\" x=\"-60\" y=\"150\">"),
+            Piece::Bytes(unit),
+            Piece::Bytes(b"</text>\n"),
+        ],
+    )
+}
+
+/// Begins the content of a panel, which is this high, below its title.
+#[tactic(auto, using(crate::proofs::Pieces::two), unfolding(crate::specs::Panels::graph_start))]
+pub(crate) fn put_graph_start(
+    text: &mut Vec<u8>,
+    high: u128,
+    node: &DrawnNode,
+) -> Result<(), AllocError>
+    ensures { OnOk result (text.new.items ≡ text.old.items ++ graph_start high node.now) }
+{
+    put_group(text, 0, 260)?;
+    put_event_rules(text, high, node)
+}
+
+/// Ends a panel.
+pub(crate) fn put_panel_end(text: &mut Vec<u8>) -> Result<(), AllocError>
+    ensures { OnOk result (text.new.items ≡ text.old.items ++ panel_end) }
+{
+    put(text, b"</g>\n</g>\n")
+}
+
 /// Appends a panel from this height on, unless its numbers are all 0.
+#[tactic(auto, using(crate::proofs::Pieces::six), unfolding(crate::specs::Panels::panel_at))]
 pub(crate) fn put_panel(
     text: &mut Vec<u8>,
     panel: Panel,
@@ -101,102 +146,39 @@ pub(crate) fn put_panel(
     if panel.most(node) == 0 {
         return Ok(());
     }
-    put_panel_drawn(text, panel, y, node)
-}
-
-#[tactic(auto, using(crate::proofs::Pieces::seven), unfolding(crate::specs::Panels::panel_drawn))]
-fn put_panel_drawn(
-    text: &mut Vec<u8>,
-    panel: Panel,
-    y: u128,
-    node: &DrawnNode,
-) -> Result<(), AllocError>
-    ensures { OnOk result (text.new.items ≡ text.old.items ++ panel_drawn panel y node.now) }
-{
-    put_group(text, 900, y)?;
-    put_panel_title(text, panel, node)?;
-    put_group(text, 0, 260)?;
-    put_event_rules(text, 1000, node)?;
-    put_panel_halves(text, panel, node)?;
-    put_group_end(text)?;
-    put_group_end(text)
-}
-
-#[tactic(auto, using(crate::proofs::Pieces::three), unfolding(crate::specs::Panels::panel_title))]
-fn put_panel_title(text: &mut Vec<u8>, panel: Panel, node: &DrawnNode) -> Result<(), AllocError>
-    ensures { OnOk result (text.new.items ≡ text.old.items ++ panel_title panel node.now) }
-{
-    put_unit(text, panel)?;
+    put_panel_start(text, y, panel.unit())?;
     put_quantity_item(text, panel.up(), 0, node)?;
-    put_quantity_item(text, panel.down(), 3000, node)
-}
-
-fn put_unit(text: &mut Vec<u8>, panel: Panel) -> Result<(), AllocError>
-    ensures { OnOk result (text.new.items ≡ text.old.items ++ unit_text panel) }
-{
-    match panel {
-        Panel::Pages => put(
-            text,
-            b"<text class=\"soft e\" x=\"-60\" y=\"150\">pages</text>\n",
-        ),
-        Panel::Waits => put(
-            text,
-            b"<text class=\"soft e\" x=\"-60\" y=\"150\">events</text>\n",
-        ),
-        Panel::Frames => put(
-            text,
-            b"<text class=\"soft e\" x=\"-60\" y=\"150\">frames</text>\n",
-        ),
-        Panel::Tries | Panel::Underused => put(
-            text,
-            b"<text class=\"soft e\" x=\"-60\" y=\"150\">tries</text>\n",
-        ),
-    }
+    put_quantity_item(text, panel.down(), 3000, node)?;
+    put_graph_start(text, 1000, node)?;
+    put_panel_halves(text, panel, node)?;
+    put_panel_end(text)
 }
 
 // A quantity's colour and words, if it has any number other than 0.
 fn put_quantity_item(
     text: &mut Vec<u8>,
     quantity: Quantity,
-    x: u32,
+    x: u128,
     node: &DrawnNode,
 ) -> Result<(), AllocError>
     ensures { OnOk result (text.new.items ≡ text.old.items ++ quantity_item quantity x node.now) }
 {
-    if quantity.most(node.columns.as_slice()) == 0 {
+    let most = quantity.most(node.columns.as_slice());
+    if most == 0 {
         return Ok(());
     }
-    put_quantity_label(text, quantity, x, node)
-}
-
-#[tactic(auto, using(crate::proofs::Pieces::two), unfolding(crate::specs::Panels::quantity_label))]
-fn put_quantity_label(
-    text: &mut Vec<u8>,
-    quantity: Quantity,
-    x: u32,
-    node: &DrawnNode,
-) -> Result<(), AllocError>
-    ensures { OnOk result (text.new.items ≡ text.old.items ++ quantity_label quantity x node.now) }
-{
-    let mut words = Vec::new(*text.allocator());
-    put_quantity_words(&mut words, quantity, node)?;
-    put_square(text, quantity.class(), u128::from(x), 72)?;
-    put_text(text, b"ink", u128::from(x) + 130, 150, words.as_slice())
-}
-
-#[tactic(auto, using(crate::proofs::Pieces::five), unfolding(crate::specs::Panels::quantity_words))]
-fn put_quantity_words(
-    text: &mut Vec<u8>,
-    quantity: Quantity,
-    node: &DrawnNode,
-) -> Result<(), AllocError>
-    ensures { OnOk result (text.new.items ≡ text.old.items ++ quantity_words quantity node.now) }
-{
-    put(text, quantity.name())?;
-    put(text, b": most ")?;
-    put_grouped(text, quantity.most(node.columns.as_slice()))?;
-    put(text, b", last ")?;
-    put_grouped(text, quantity.last(&node.last))
+    put_item(
+        text,
+        quantity.class(),
+        x,
+        &[
+            Piece::Bytes(quantity.name()),
+            Piece::Bytes(b": most "),
+            Piece::Grouped(most),
+            Piece::Bytes(b", last "),
+            Piece::Grouped(quantity.last(&node.last)),
+        ],
+    )
 }
 
 // The number that is 1,000 high on the scale of a quantity, given its greatest number and that of the panel's other quantity.
@@ -230,11 +212,12 @@ fn put_scaled_halves(
     put_group(text, 0, base)?;
     put_quantity_half(text, b"-", panel.up(), panel.step(above), above, node)?;
     put_quantity_half(text, b"", panel.down(), panel.step(below), below, node)?;
-    put_base_line(text)?;
-    put_group_end(text)
+    put(text, BASE_LINE)?;
+    put(text, GROUP_END)
 }
 
 // The lines and areas of a quantity, if it has any number other than 0.
+#[tactic(auto, using(crate::proofs::Pieces::two), unfolding(crate::specs::Panels::quantity_half))]
 fn put_quantity_half(
     text: &mut Vec<u8>,
     sign: &[u8],
@@ -245,24 +228,10 @@ fn put_quantity_half(
 ) -> Result<(), AllocError>
     ensures { OnOk result (text.new.items ≡ text.old.items ++ quantity_half sign.now quantity step most node.now) }
 {
-    if quantity.most(node.columns.as_slice()) == 0 {
+    let own = quantity.most(node.columns.as_slice());
+    if own == 0 {
         return Ok(());
     }
-    put_quantity_graph(text, sign, quantity, step, most, node)
-}
-
-#[tactic(auto, using(crate::proofs::Pieces::two), unfolding(crate::specs::Panels::quantity_graph))]
-fn put_quantity_graph(
-    text: &mut Vec<u8>,
-    sign: &[u8],
-    quantity: Quantity,
-    step: u128,
-    most: u128,
-    node: &DrawnNode,
-) -> Result<(), AllocError>
-    ensures { OnOk result (text.new.items ≡ text.old.items ++ quantity_graph sign.now quantity step most node.now) }
-{
-    let count = steps_in(step, quantity.most(node.columns.as_slice()));
-    put_ticks(text, sign, step, most, count)?;
+    put_ticks(text, sign, step, most, steps_in(step, own))?;
     put_quantity_areas(text, sign, quantity, most, node)
 }

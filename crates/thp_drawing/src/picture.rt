@@ -1,10 +1,8 @@
 //! The picture of nodes, as SVG.
-ghost use Rattle.std.specs.Prelude.{◌≡◌, ◌++◌, codes, OnOk};
-ghost use Rattle.std.specs.Fmt.{decimal};
+ghost use Rattle.std.specs.Prelude.{◌≡◌, ◌++◌, OnOk};
 ghost use Rattle.thp_drawing.specs.Pictures.{
   axis_top,
   column_words,
-  described,
   foot_of,
   frames_top,
   ground,
@@ -31,8 +29,8 @@ ghost use Rattle.thp_drawing.specs.Pictures.{
   waits_top,
 };
 
-use crate::axis::{put_event_axis, put_group_end};
-use crate::element::{put_decimal, put_group, put_text};
+use crate::axis::put_event_axis;
+use crate::element::{GROUP_END, Piece, put_group, put_pieces, put_text};
 use crate::illegal_event::IllegalEvent;
 use crate::lanes::{lanes_height, put_lanes_panel};
 use crate::node::DrawnNode;
@@ -84,12 +82,11 @@ pub fn put_node_picture(
     put(text, b"</svg>\n")
 }
 
-#[tactic(auto, using(crate::proofs::Pieces::four), unfolding(crate::specs::Pictures::head))]
+#[tactic(auto, using(crate::proofs::Pieces::three), unfolding(crate::specs::Pictures::head))]
 fn put_head(text: &mut Vec<u8>, high: u128) -> Result<(), AllocError>
     ensures { OnOk result (text.new.items ≡ text.old.items ++ head high) }
 {
     put_svg_start(text, high)?;
-    put_described(text)?;
     put_style(text)?;
     put_ground(text, high)
 }
@@ -97,31 +94,30 @@ fn put_head(text: &mut Vec<u8>, high: u128) -> Result<(), AllocError>
 fn put_svg_start(text: &mut Vec<u8>, high: u128) -> Result<(), AllocError>
     ensures { OnOk result (text.new.items ≡ text.old.items ++ svg_start high) }
 {
-    put(
+    put_pieces(
         text,
-        b"<svg xmlns=\"http://www.w3.org/2000/svg\" viewBox=\"0 0 7200 ",
-    )?;
-    put_decimal(text, high)?;
-    put(text, b"\" role=\"img\" aria-labelledby=\"title desc\">\n")
+        &[
+            Piece::Bytes(b"<svg xmlns=\"http://www.w3.org/2000/svg\" viewBox=\"0 0 7200 "),
+            Piece::Decimal(high),
+            Piece::Bytes(b"\" role=\"img\" aria-labelledby=\"title desc\">\n"),
+            Piece::Bytes(NAME),
+            Piece::Bytes(DESCRIPTION),
+        ],
+    )
 }
 
-fn put_described(text: &mut Vec<u8>) -> Result<(), AllocError>
-    ensures { OnOk result (text.new.items ≡ text.old.items ++ described) }
-{
-    put(text, NAME)?;
-    put(text, DESCRIPTION)
-}
-
-#[tactic(auto, using(crate::proofs::Pieces::three), unfolding(crate::specs::Pictures::ground))]
+#[tactic(auto, unfolding(crate::specs::Pictures::ground))]
 fn put_ground(text: &mut Vec<u8>, high: u128) -> Result<(), AllocError>
     ensures { OnOk result (text.new.items ≡ text.old.items ++ ground high) }
 {
-    put(
+    put_pieces(
         text,
-        b"<rect class=\"bg\" x=\"0\" y=\"0\" width=\"7200\" height=\"",
-    )?;
-    put_decimal(text, high)?;
-    put(text, b"\"/>\n")
+        &[
+            Piece::Bytes(b"<rect class=\"bg\" x=\"0\" y=\"0\" width=\"7200\" height=\""),
+            Piece::Decimal(high),
+            Piece::Bytes(b"\"/>\n"),
+        ],
+    )
 }
 
 #[tactic(auto, unfolding(crate::specs::Pictures::title_words))]
@@ -190,7 +186,7 @@ fn put_node(text: &mut Vec<u8>, y: u128, number: usize, node: &DrawnNode) -> Res
     put_stuck_text(text, plus(stuck_top(&node.illegal), 140), node)?;
     put_panels(text, node)?;
     put_event_axis(text, plus(axis_top(node), 110), node)?;
-    put_group_end(text)
+    put(text, GROUP_END)
 }
 
 #[tactic(auto, using(crate::proofs::Pieces::seven), unfolding(crate::specs::Pictures::panels_drawn))]

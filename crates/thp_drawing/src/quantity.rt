@@ -1,6 +1,6 @@
 //! The quantities that are drawn over a node's events.
 ghost use Rattle.std.specs.Prelude.{◌≡◌};
-ghost use Rattle.thp_drawing.specs.Areas.{edge_class, edge_of};
+ghost use Rattle.thp_drawing.specs.Areas.{edge_of};
 ghost use Rattle.thp_drawing.specs.Quantities.{last_of, most_of, quantity_class, quantity_name, span_in};
 
 use thp_metrics::{Column, Numbers, Span};
@@ -127,16 +127,6 @@ impl Edge {
         match self {
             Edge::Least => span.least,
             Edge::Greatest => span.greatest,
-        }
-    }
-
-    /// Returns the class that is added to its area.
-    pub(crate) fn class(self) -> &'static [u8]
-        ensures { result.now ≡ edge_class self }
-    {
-        match self {
-            Edge::Least => b"",
-            Edge::Greatest => b" pale",
         }
     }
 }

@@ -1,20 +1,12 @@
 //! The panel of individual pages.
 ghost use Rattle.std.specs.Prelude.{◌≡◌, ◌++◌, OnOk};
-ghost use Rattle.thp_drawing.specs.Rows.{
-  bars,
-  row_numbers,
-  row_unit,
-  rows_graph,
-  rows_panel,
-  stage_bars,
-  stage_bars_drawn,
-  stage_rows,
-};
+ghost use Rattle.thp_drawing.specs.Rows.{bars, row_numbers, rows_panel, stage_bars, stage_rows};
 
-use crate::axis::{put_event_rules, put_group_end, put_tick};
+use crate::axis::put_tick;
 use crate::bar::{Bar, put_bar};
-use crate::element::put_group;
+use crate::element::{Piece, put_pieces};
 use crate::node::DrawnNode;
+use crate::panel::{put_graph_start, put_panel_end, put_panel_start};
 use crate::rows::{
     allocated_pages, number_step, numbers_of, row_class, row_height, row_middle, rows_height,
 };
@@ -26,7 +18,7 @@ use thp_journal_writer::put;
 use thp_metrics::{Column, Stage};
 
 /// Appends the panel of a node's pages from this height on, with a row for each.
-#[tactic(auto, using(crate::proofs::Pieces::seven), unfolding(crate::specs::Rows::rows_panel))]
+#[tactic(auto, using(crate::proofs::Pieces::six), unfolding(crate::specs::Rows::rows_panel))]
 pub(crate) fn put_rows_panel(
     text: &mut Vec<u8>,
     y: u128,
@@ -35,37 +27,17 @@ pub(crate) fn put_rows_panel(
     ensures { OnOk result (text.new.items ≡ text.old.items ++ rows_panel y node.now) }
 {
     let count = allocated_pages(node);
-    put_group(text, 900, y)?;
-    put_row_unit(text)?;
+    put_panel_start(text, y, b"page")?;
     put_stage_items(text, node)?;
-    put_group(text, 0, 260)?;
-    put_rows_graph(text, count, node)?;
-    put_group_end(text)?;
-    put_group_end(text)
-}
-
-#[tactic(auto, unfolding(crate::specs::Rows::row_unit))]
-fn put_row_unit(text: &mut Vec<u8>) -> Result<(), AllocError>
-    ensures { OnOk result (text.new.items ≡ text.old.items ++ row_unit) }
-{
-    put(
-        text,
-        b"<text class=\"soft e\" x=\"-60\" y=\"150\">page</text>\n",
-    )
-}
-
-#[tactic(auto, using(crate::proofs::Pieces::three), unfolding(crate::specs::Rows::rows_graph))]
-fn put_rows_graph(text: &mut Vec<u8>, count: u128, node: &DrawnNode) -> Result<(), AllocError>
-    ensures { OnOk result (text.new.items ≡ text.old.items ++ rows_graph count node.now) }
-{
-    put_event_rules(text, rows_height(count), node)?;
+    put_graph_start(text, rows_height(count), node)?;
     put_row_numbers(
         text,
         row_height(count),
         number_step(count),
         numbers_of(count),
     )?;
-    put_bars(text, count, node)
+    put_bars(text, count, node)?;
+    put_panel_end(text)
 }
 
 // The first `count` numbers of rows, and thin lines through them.
@@ -96,6 +68,7 @@ fn put_bars(text: &mut Vec<u8>, count: u128, node: &DrawnNode) -> Result<(), All
 }
 
 // The bars of the first `count` pages in a stage, if any page was ever in it.
+#[tactic(auto, using(crate::proofs::Pieces::three), unfolding(crate::specs::Rows::stage_bars))]
 fn put_stage_bars(
     text: &mut Vec<u8>,
     stage: Stage,
@@ -104,32 +77,20 @@ fn put_stage_bars(
 ) -> Result<(), AllocError>
     ensures { OnOk result (text.new.items ≡ text.old.items ++ stage_bars stage count node.now) }
 {
-    if most_in(stage, node.columns.as_slice()) == 0 {
+    let columns = node.columns.as_slice();
+    if most_in(stage, columns) == 0 {
         return Ok(());
     }
-    put_stage_bars_drawn(text, stage, count, node)
-}
-
-#[tactic(auto, using(crate::proofs::Pieces::six), unfolding(crate::specs::Rows::stage_bars_drawn))]
-fn put_stage_bars_drawn(
-    text: &mut Vec<u8>,
-    stage: Stage,
-    count: u128,
-    node: &DrawnNode,
-) -> Result<(), AllocError>
-    ensures { OnOk result (text.new.items ≡ text.old.items ++ stage_bars_drawn stage count node.now) }
-{
-    put(text, b"<path class=\"")?;
-    put(text, row_class(count))?;
-    put(text, stage_class(stage))?;
-    put(text, b"\" d=\"")?;
-    put_stage_rows(
+    put_pieces(
         text,
-        stage,
-        row_height(count),
-        node.columns.as_slice(),
-        count,
+        &[
+            Piece::Bytes(b"<path class=\""),
+            Piece::Bytes(row_class(count)),
+            Piece::Bytes(stage_class(stage)),
+            Piece::Bytes(b"\" d=\""),
+        ],
     )?;
+    put_stage_rows(text, stage, row_height(count), columns, count)?;
     put(text, b"\"/>\n")
 }
 

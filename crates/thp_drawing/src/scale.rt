@@ -1,80 +1,25 @@
 //! Numbers and their positions.
 ghost use Rattle.std.specs.Prelude.{◌≡◌};
-ghost use Rattle.thp_drawing.specs.Scales.{doubled_steps, plus, round_steps, scaled, step_among, steps_in, times};
+ghost use Rattle.thp_drawing.specs.Scales.{doubled_step, plus, round_step, scaled, step_among, steps_in, times};
 
-const ROUND_STEPS: [u128; 33] = [
+/// Powers of 10.
+pub(crate) const TENS: [u128; 11] = [
     1,
-    2,
-    5,
     10,
-    20,
-    50,
     100,
-    200,
-    500,
     1000,
-    2000,
-    5000,
     10000,
-    20000,
-    50000,
     100000,
-    200000,
-    500000,
     1000000,
-    2000000,
-    5000000,
     10000000,
-    20000000,
-    50000000,
     100000000,
-    200000000,
-    500000000,
     1000000000,
-    2000000000,
-    5000000000,
     10000000000,
-    20000000000,
-    50000000000,
 ];
 
-const DOUBLED_STEPS: [u128; 36] = [
-    1,
-    2,
-    4,
-    8,
-    16,
-    32,
-    64,
-    128,
-    256,
-    512,
-    1024,
-    2048,
-    4096,
-    8192,
-    16384,
-    32768,
-    65536,
-    131072,
-    262144,
-    524288,
-    1048576,
-    2097152,
-    4194304,
-    8388608,
-    16777216,
-    33554432,
-    67108864,
-    134217728,
-    268435456,
-    536870912,
-    1073741824,
-    2147483648,
-    4294967296,
-    8589934592,
-    17179869184,
-    34359738368,
+/// Powers of 8.
+pub(crate) const EIGHTS: [u128; 12] = [
+    1, 8, 64, 512, 4096, 32768, 262144, 2097152, 16777216, 134217728, 1073741824, 8589934592,
 ];
 
 /// Returns the sum, saturating at the greatest number.
@@ -110,27 +55,33 @@ pub(crate) fn steps_in(step: u128, number: u128) -> u128
 }
 
 /// Returns the step of decimal numbers, up to this one.
-#[tactic(auto, unfolding(crate::specs::Scales::round_steps))]
+#[tactic(auto, unfolding(crate::specs::Scales::round_step))]
 pub(crate) fn round_step(number: u128) -> u128
-    ensures { result ≡ step_among round_steps number }
+    ensures { result ≡ round_step number }
 {
-    step_among(&ROUND_STEPS, number)
+    step_among(5, &TENS, number)
 }
 
 /// Returns the step of numbers of frames, a power of two, up to this number.
-#[tactic(auto, unfolding(crate::specs::Scales::doubled_steps))]
+#[tactic(auto, unfolding(crate::specs::Scales::doubled_step))]
 pub(crate) fn doubled_step(number: u128) -> u128
-    ensures { result ≡ step_among doubled_steps number }
+    ensures { result ≡ doubled_step number }
 {
-    step_among(&DOUBLED_STEPS, number)
+    step_among(4, &EIGHTS, number)
 }
 
-fn step_among(ladder: &[u128], number: u128) -> u128
-    ensures { result ≡ step_among ladder.now number }
+fn step_among(more: u128, units: &[u128], number: u128) -> u128
+    ensures { result ≡ step_among more units.now number }
 {
-    for step in ladder {
-        if number <= times(6, *step) {
-            return *step;
+    for unit in units {
+        if number <= times(6, *unit) {
+            return *unit;
+        }
+        if number <= times(6, times(2, *unit)) {
+            return times(2, *unit);
+        }
+        if number <= times(6, times(more, *unit)) {
+            return times(more, *unit);
         }
     }
     number

@@ -1,11 +1,12 @@
 //! The panel of pages' stages.
 ghost use Rattle.std.specs.Prelude.{◌≡◌, ◌++◌, OnOk};
-ghost use Rattle.thp_drawing.specs.Panels.{stage_areas, stage_item, stage_items, stages_drawn, stages_panel, stages_stacked, stages_title};
+ghost use Rattle.thp_drawing.specs.Panels.{stage_areas, stage_item, stage_items, stages_panel, stages_stacked};
 
 use crate::area::put_stage_area;
-use crate::axis::{put_base_line, put_event_rules, put_group_end, put_ticks};
-use crate::element::{put_group, put_square, put_text};
+use crate::axis::{BASE_LINE, put_ticks};
+use crate::element::{GROUP_END, Piece, put_group, put_item};
 use crate::node::DrawnNode;
+use crate::panel::{put_graph_start, put_panel_end, put_panel_start};
 use crate::scale::{round_step, steps_in};
 use crate::stages::{most_in, pages_most, stage_class, stage_name};
 use std::alloc::AllocError;
@@ -13,6 +14,7 @@ use thp_journal_writer::put;
 use thp_metrics::Stage;
 
 /// Appends the panel of stages from this height on, unless there was never a live page.
+#[tactic(auto, using(crate::proofs::Pieces::five), unfolding(crate::specs::Panels::stages_panel))]
 pub(crate) fn put_stages_panel(
     text: &mut Vec<u8>,
     y: u128,
@@ -20,35 +22,15 @@ pub(crate) fn put_stages_panel(
 ) -> Result<(), AllocError>
     ensures { OnOk result (text.new.items ≡ text.old.items ++ stages_panel y node.now) }
 {
-    if pages_most(node) == 0 {
+    let most = pages_most(node);
+    if most == 0 {
         return Ok(());
     }
-    put_stages_drawn(text, y, node)
-}
-
-#[tactic(auto, using(crate::proofs::Pieces::seven), unfolding(crate::specs::Panels::stages_drawn))]
-fn put_stages_drawn(text: &mut Vec<u8>, y: u128, node: &DrawnNode) -> Result<(), AllocError>
-    ensures { OnOk result (text.new.items ≡ text.old.items ++ stages_drawn y node.now) }
-{
-    let most = pages_most(node);
-    put_group(text, 900, y)?;
-    put_stages_title(text, node)?;
-    put_group(text, 0, 260)?;
-    put_event_rules(text, 1000, node)?;
+    put_panel_start(text, y, b"pages")?;
+    put_stage_items(text, node)?;
+    put_graph_start(text, 1000, node)?;
     put_stages_stacked(text, most, node)?;
-    put_group_end(text)?;
-    put_group_end(text)
-}
-
-#[tactic(auto, using(crate::proofs::Pieces::two), unfolding(crate::specs::Panels::stages_title))]
-fn put_stages_title(text: &mut Vec<u8>, node: &DrawnNode) -> Result<(), AllocError>
-    ensures { OnOk result (text.new.items ≡ text.old.items ++ stages_title node.now) }
-{
-    put(
-        text,
-        b"<text class=\"soft e\" x=\"-60\" y=\"150\">pages</text>\n",
-    )?;
-    put_stage_items(text, node)
+    put_panel_end(text)
 }
 
 /// Appends the colours and names of the stages that occur.
@@ -64,11 +46,10 @@ pub(crate) fn put_stage_items(text: &mut Vec<u8>, node: &DrawnNode) -> Result<()
 }
 
 // A stage's colour and name, if it occurs.
-#[tactic(auto, using(crate::proofs::Pieces::two), unfolding(crate::specs::Panels::stage_item))]
 fn put_stage_item(
     text: &mut Vec<u8>,
     stage: Stage,
-    x: u32,
+    x: u128,
     node: &DrawnNode,
 ) -> Result<(), AllocError>
     ensures { OnOk result (text.new.items ≡ text.old.items ++ stage_item stage x node.now) }
@@ -76,8 +57,12 @@ fn put_stage_item(
     if most_in(stage, node.columns.as_slice()) == 0 {
         return Ok(());
     }
-    put_square(text, stage_class(stage), u128::from(x), 72)?;
-    put_text(text, b"ink", u128::from(x) + 130, 150, stage_name(stage))
+    put_item(
+        text,
+        stage_class(stage),
+        x,
+        &[Piece::Bytes(stage_name(stage))],
+    )
 }
 
 #[tactic(auto, using(crate::proofs::Pieces::five), unfolding(crate::specs::Panels::stages_stacked))]
@@ -88,8 +73,8 @@ fn put_stages_stacked(text: &mut Vec<u8>, most: u128, node: &DrawnNode) -> Resul
     put_group(text, 0, 1000)?;
     put_ticks(text, b"-", step, most, steps_in(step, most))?;
     put_stage_areas(text, node)?;
-    put_base_line(text)?;
-    put_group_end(text)
+    put(text, BASE_LINE)?;
+    put(text, GROUP_END)
 }
 
 // The last stage is drawn first, and earlier stages on top of it.

@@ -1,16 +1,12 @@
 //! The pages whose split is prevented by pins.
 ghost use Rattle.std.specs.Prelude.{◌≡◌, ◌++◌, codes, take, OnOk};
-ghost use Rattle.std.specs.Fmt.{decimal};
 ghost use Rattle.thp_drawing.specs.Elements.{text_at};
-ghost use Rattle.thp_drawing.specs.Stucks.{more_line, more_words, stuck_height, stuck_lines, stuck_text, stuck_words, told_stuck, words_of};
+ghost use Rattle.thp_drawing.specs.Stucks.{more_line, stuck_height, stuck_lines, stuck_text, stuck_words, told_stuck};
 
-use crate::element::{put_decimal, put_text};
-use crate::grouped::put_grouped;
+use crate::element::{Piece, put_words};
 use crate::node::DrawnNode;
 use crate::scale::{plus, times};
-use crate::title::put_many;
 use std::alloc::AllocError;
-use thp_journal_writer::put;
 use thp_metrics::StuckPage;
 
 // The number of pages that have a line each.
@@ -47,34 +43,29 @@ fn put_stuck_lines(text: &mut Vec<u8>, y: u128, pages: &[StuckPage]) -> Result<(
     Ok(())
 }
 
+// The text about a page.
+#[tactic(auto, unfolding(crate::specs::Stucks::stuck_words))]
 fn put_stuck_line(text: &mut Vec<u8>, y: u128, page: &StuckPage) -> Result<(), AllocError>
     ensures { OnOk result (text.new.items ≡ text.old.items ++ text_at (codes "ink") 900 y (stuck_words page.now)) }
 {
-    let mut words = Vec::new(*text.allocator());
-    put_stuck_words(&mut words, page)?;
-    put_text(text, b"ink", 900, y, words.as_slice())
-}
-
-// The text about a page.
-fn put_stuck_words(text: &mut Vec<u8>, page: &StuckPage) -> Result<(), AllocError>
-    ensures { OnOk result (text.new.items ≡ text.old.items ++ stuck_words page.now) }
-{
-    let number = u128::from(page.page.0);
-    put_words_of(text, number, u128::from(page.finds), u128::from(page.since))
-}
-
-fn put_words_of(text: &mut Vec<u8>, page: u128, finds: u128, since: u128) -> Result<(), AllocError>
-    ensures { OnOk result (text.new.items ≡ text.old.items ++ words_of page finds since) }
-{
-    put(text, b"stuck by pins: page ")?;
-    put_decimal(text, page)?;
-    put(text, b", found pinned ")?;
-    put_many(text, finds, b"time")?;
-    put(text, b", waits since event ")?;
-    put_grouped(text, since)
+    put_words(
+        text,
+        b"ink",
+        900,
+        y,
+        &[
+            Piece::Bytes(b"stuck by pins: page "),
+            Piece::Decimal(u128::from(page.page.0)),
+            Piece::Bytes(b", found pinned "),
+            Piece::Many(u128::from(page.finds), b"time"),
+            Piece::Bytes(b", waits since event "),
+            Piece::Grouped(u128::from(page.since)),
+        ],
+    )
 }
 
 // The number of pages without a line.
+#[tactic(auto, unfolding(crate::specs::Stucks::more_words))]
 fn put_more_line(text: &mut Vec<u8>, y: u128, count: u128) -> Result<(), AllocError>
     ensures { OnOk result (text.new.items ≡ text.old.items ++ more_line y count) }
 {
@@ -82,22 +73,16 @@ fn put_more_line(text: &mut Vec<u8>, y: u128, count: u128) -> Result<(), AllocEr
     if count <= told {
         return Ok(());
     }
-    let mut words = Vec::new(*text.allocator());
-    put_more_words(&mut words, count - told)?;
-    put_text(
+    put_words(
         text,
         b"ink",
         900,
         plus(y, times(165, told)),
-        words.as_slice(),
+        &[
+            Piece::Bytes(b"stuck by pins: "),
+            Piece::Many(count - told, b"more page"),
+        ],
     )
-}
-
-fn put_more_words(text: &mut Vec<u8>, count: u128) -> Result<(), AllocError>
-    ensures { OnOk result (text.new.items ≡ text.old.items ++ more_words count) }
-{
-    put(text, b"stuck by pins: ")?;
-    put_many(text, count, b"more page")
 }
 
 /// Returns the height of the text about stuck pages.

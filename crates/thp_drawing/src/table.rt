@@ -1,8 +1,6 @@
 //! The numbers of nodes as a table.
 ghost use Rattle.std.specs.Prelude.{◌≡◌, ◌≤◌, ◌++◌, ◌+◌, ◌*◌, ◌-◌, List, [], ◌∷◌, length, min, OnOk, codes};
 ghost use Rattle.std.specs.Fmt.{decimal};
-ghost use Rattle.thp_journal_writer.specs.EventLines.{event_line};
-ghost use Rattle.thp_journal_writer.specs.Journals.{ended};
 ghost use Rattle.thp_drawing.specs.Tables.{caller_item, caller_words, callers_joined, column_line, column_lines, column_numbers, fields, heads, illegal_fields, lines_from, node_line, node_lines, node_numbers, node_table, stage_letter, stage_letters, stuck_line, stuck_lines, table_text, threshold_field};
 
 use crate::bar::is_among;
@@ -10,9 +8,8 @@ use crate::illegal_event::IllegalEvent;
 use crate::node::DrawnNode;
 use itoa::Buffer;
 use std::alloc::AllocError;
-use thp_journal_writer::{Version, put, put_event};
+use thp_journal_writer::{put, put_event_line};
 use thp_metrics::{Column, Numbers, SHOWN_CALLERS, Stage, StuckPage};
-use thp_model::Event;
 
 // The names of a node's fields.
 const NODE_HEADS: &[u8] =
@@ -134,17 +131,6 @@ fn put_illegal(text: &mut Vec<u8>, illegal: &Option<IllegalEvent>) -> Result<(),
             put(text, b"\t")?;
             put_event_line(text, &illegal.event)
         }
-    }
-}
-
-// The line of an event, with its line feed. The last version of journals has a word for every event, so this fails only for lack
-// of memory.
-pub(crate) fn put_event_line(text: &mut Vec<u8>, event: &Event) -> Result<(), AllocError>
-    ensures { OnOk result (text.new.items ≡ text.old.items ++ ended (event_line event.now)) }
-{
-    match put_event(text, Version::Underused, event) {
-        Ok(()) => Ok(()),
-        Err(_) => Err(AllocError),
     }
 }
 

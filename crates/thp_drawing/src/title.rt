@@ -1,23 +1,21 @@
 //! The title of a node above its panels.
 ghost use Rattle.std.specs.Prelude.{◌≡◌, ◌++◌, OnOk};
 ghost use Rattle.thp_journal_writer.specs.EventLines.{event_line};
-ghost use Rattle.thp_drawing.specs.Titles.{events_words, illegal_text, illegal_words, many, node_words};
+ghost use Rattle.thp_drawing.specs.Titles.{events_words, illegal_text, illegal_words, node_words};
 ghost use Rattle.thp_drawing.specs.Titles.{shape_words, shortened, threshold_words};
 
-use crate::element::{put_decimal, put_text};
-use crate::grouped::put_grouped;
+use crate::element::{Piece, put_pieces, put_text};
 use crate::illegal_event::IllegalEvent;
 use crate::node::DrawnNode;
-use crate::table::put_event_line;
 use std::alloc::AllocError;
-use thp_journal_writer::put;
+use thp_journal_writer::{put, put_event_line};
 use thp_model::Event;
 
 // The greatest number of letters in the line of an event that is shown.
 const MAX_LETTERS: usize = 70;
 
 /// Appends the words of a node's title.
-#[tactic(auto, using(crate::proofs::Pieces::six), unfolding(crate::specs::Titles::node_words))]
+#[tactic(auto, using(crate::proofs::Pieces::three), unfolding(crate::specs::Titles::node_words))]
 pub(crate) fn put_node_words(
     text: &mut Vec<u8>,
     number: usize,
@@ -26,16 +24,20 @@ pub(crate) fn put_node_words(
     ensures { OnOk result (text.new.items ≡ text.old.items ++ node_words number node.now) }
 {
     let shape = &node.shape;
-    put(text, b"node ")?;
-    put_decimal(text, number as u128)?;
-    put(text, b": ")?;
+    put_pieces(
+        text,
+        &[
+            Piece::Bytes(b"node "),
+            Piece::Decimal(number as u128),
+            Piece::Bytes(b": "),
+        ],
+    )?;
     put_shape_words(
         text,
         u128::from(shape.blocks),
         u128::from(shape.order),
         shape.underused,
     )?;
-    put(text, b", ")?;
     put_events_words(text, node)
 }
 
@@ -44,7 +46,11 @@ pub(crate) fn put_node_words(
 fn put_events_words(text: &mut Vec<u8>, node: &DrawnNode) -> Result<(), AllocError>
     ensures { OnOk result (text.new.items ≡ text.old.items ++ events_words node.now) }
 {
-    put_many(text, node.prefixes.saturating_sub(1), b"legal event")
+    let events = node.prefixes.saturating_sub(1);
+    put_pieces(
+        text,
+        &[Piece::Bytes(b", "), Piece::Many(events, b"legal event")],
+    )
 }
 
 // The size of a node, and its threshold for underused pages.
@@ -56,33 +62,26 @@ fn put_shape_words(
 ) -> Result<(), AllocError>
     ensures { OnOk result (text.new.items ≡ text.old.items ++ shape_words blocks order threshold) }
 {
-    put_many(text, blocks, b"block")?;
-    put(text, b" of 2^")?;
-    put_decimal(text, order)?;
-    put(text, b" frames, underused ")?;
+    put_pieces(
+        text,
+        &[
+            Piece::Many(blocks, b"block"),
+            Piece::Bytes(b" of 2^"),
+            Piece::Decimal(order),
+            Piece::Bytes(b" frames, underused "),
+        ],
+    )?;
     put_threshold_words(text, threshold)
 }
 
-/// Appends a number and a word, with an `s` unless the number is 1.
-#[tactic(auto, using(crate::proofs::Pieces::four), unfolding(crate::specs::Titles::many))]
-pub(crate) fn put_many(text: &mut Vec<u8>, number: u128, word: &[u8]) -> Result<(), AllocError>
-    ensures { OnOk result (text.new.items ≡ text.old.items ++ many number word.now) }
-{
-    put_grouped(text, number)?;
-    put(text, b" ")?;
-    put(text, word)?;
-    if number == 1 { Ok(()) } else { put(text, b"s") }
-}
-
-#[tactic(auto, using(crate::proofs::Pieces::two))]
 fn put_threshold_words(text: &mut Vec<u8>, threshold: Option<u32>) -> Result<(), AllocError>
     ensures { OnOk result (text.new.items ≡ text.old.items ++ threshold_words threshold) }
 {
     match threshold {
         None => put(text, b"off"),
         Some(threshold) => {
-            put(text, b"above ")?;
-            put_decimal(text, u128::from(threshold))
+            let number = u128::from(threshold);
+            put_pieces(text, &[Piece::Bytes(b"above "), Piece::Decimal(number)])
         }
     }
 }
@@ -107,9 +106,14 @@ pub(crate) fn put_illegal_text(
 fn put_illegal_words(text: &mut Vec<u8>, line: u128, event: &Event) -> Result<(), AllocError>
     ensures { OnOk result (text.new.items ≡ text.old.items ++ illegal_words line event.now) }
 {
-    put(text, b"illegal line ")?;
-    put_decimal(text, line)?;
-    put(text, b": ")?;
+    put_pieces(
+        text,
+        &[
+            Piece::Bytes(b"illegal line "),
+            Piece::Decimal(line),
+            Piece::Bytes(b": "),
+        ],
+    )?;
     put_event_words(text, event)
 }
 
@@ -123,7 +127,7 @@ fn put_event_words(text: &mut Vec<u8>, event: &Event) -> Result<(), AllocError>
     put_shortened(text, line.as_slice())
 }
 
-#[tactic(auto, using(crate::proofs::Pieces::two), unfolding(crate::specs::Titles::shortened))]
+#[tactic(auto, unfolding(crate::specs::Titles::shortened))]
 fn put_shortened(text: &mut Vec<u8>, line: &[u8]) -> Result<(), AllocError>
     ensures { OnOk result (text.new.items ≡ text.old.items ++ shortened line.now) }
 {
@@ -131,6 +135,5 @@ fn put_shortened(text: &mut Vec<u8>, line: &[u8]) -> Result<(), AllocError>
         return put(text, line);
     }
     let (front, _) = line.split_at(67);
-    put(text, front)?;
-    put(text, b" ..")
+    put_pieces(text, &[Piece::Bytes(front), Piece::Bytes(b" ..")])
 }

@@ -1,12 +1,10 @@
 use Rattle.std.proofs.Common.{◌≡◌, OnOk, List, ℕ, subst}
 use Rattle.thp_drawing.specs.Titles.{illegal_words}
-use Rattle.thp_drawing.proofs.Pieces.{four_after}
+use Rattle.thp_drawing.proofs.Pieces.{two_after}
 use Rattle.thp_drawing.proofs.title.put_illegal_words.Goals as goal
 
 pub returns : goal.returns
 unfolding illegal_words
 returns c =
     let P : List ℕ → Type 0 = λ t. OnOk c.put_event_words.result (c.put_event_words.new.text.items ≡ t) in
-    subst P
-    (four_after _ _ _ _ _ c.in_ok-put.ensures.text c.in_ok-put_decimal.ensures c.in_ok-put-2.ensures.text)
-    c.put_event_words.ensures
+    subst P (two_after _ _ _ c.in_ok-put_pieces.ensures) c.put_event_words.ensures

@@ -1,8 +1,0 @@
-use Rattle.std.proofs.Common.{◌≡◌, ◌++◌, drop, length}
-use Rattle.thp_drawing.specs.Areas.{outline, quantity_height}
-use Rattle.thp_drawing.proofs.area.put_quantity_outline.Given as goal
-
-abbrev pub invariant-loop-place : goal.invariant-loop-place
-invariant-loop-place l =
-    l.text.items ++ outline l.sign (quantity_height l.quantity l.edge l.most) (length l.columns) l.place (drop l.place l.columns)
-    ≡ l.fn.text.items ++ outline l.sign (quantity_height l.quantity l.edge l.most) (length l.columns) 0 l.columns
