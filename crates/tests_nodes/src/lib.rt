@@ -4,7 +4,7 @@
 //! - `batches`: `rows`, `full_batch` (128 pinned pages), `underused_rows`; their calls are in `batches/steps`.
 //! - `checks`: `legal`, `misfits`, `underused` and `random` histories, for both checks; `explained`, `reasons` (texts),
 //!   `reading` (what a replay shows).
-//! - `recorders`: `FullLog` and `CountOnly`. `nodes`: construction.
+//! - `recorders`: `FullLog` and `CountOnly`. `nodes`: construction. `event_rows`: events as constants.
 //!
 //! It uses the libraries from above, so that they are proved once.
 #![tactic(auto)]
@@ -15,6 +15,8 @@ mod batches;
 mod calls;
 #[cfg(test)]
 mod checks;
+#[cfg(test)]
+mod event_rows;
 #[cfg(test)]
 mod nodes;
 #[cfg(test)]

@@ -5,16 +5,26 @@ ghost use Rattle.thp_node.specs.Batches.{FrontsStay};
 use std::alloc::Global;
 use std::process::Abort;
 use tests_steps::{Answer, Call, first_wrong, queued_node, queueing, shape_of};
-use thp_model::{PageId, Shape};
-use thp_node::Node;
+use thp_model::Shape;
+use thp_node::{Node, ScanReply};
 
 // A node of order 9 with these blocks.
 pub(crate) fn node_of(rt: &impl Abort, alloc: Global, blocks: u32) -> Node {
     node_of_shape(rt, alloc, shape_of(blocks))
 }
 
-pub(crate) fn node_of_shape(rt: &impl Abort, alloc: Global, shape: Shape) -> Node {
+fn node_of_shape(rt: &impl Abort, alloc: Global, shape: Shape) -> Node {
     Node::new(alloc, shape).expect(rt, "a node of this shape")
+}
+
+// A node with these blocks, for pages of 4 subpages, whose shrinker splits pages with more than one zero-filled subpage too.
+pub(crate) fn small_node(rt: &impl Abort, alloc: Global, blocks: u32) -> Node {
+    let shape = Shape {
+        blocks,
+        order: 2,
+        underused: Some(1),
+    };
+    node_of_shape(rt, alloc, shape)
 }
 
 // A node of 16 blocks with this many pages, numbered from 0 on and all queued.
@@ -31,7 +41,7 @@ pub(crate) fn expect(rt: &impl Abort, node: &mut Node, caller: u32, steps: &[(Ca
 }
 
 // The page of this number is allocated and queued.
-pub(crate) fn queue_page(rt: &impl Abort, node: &mut Node, page: PageId)
+pub(crate) fn queue_page(rt: &impl Abort, node: &mut Node, page: u64)
     ensures { FrontsStay node.old.journal node.new.journal }
 {
     expect(rt, node, 0, &queueing(page));
@@ -42,10 +52,23 @@ pub(crate) fn expect_queued(rt: &impl Abort, node: &Node, pages: u32) {
     assert!(rt; node.queue_len() == pages);
 }
 
-// The number of frames that the node's pages hold, and of frames given back.
-pub(crate) fn expect_frames(rt: &impl Abort, node: &Node, held: u128, given: u128) {
-    assert!(rt; node.frames_held() == held);
-    assert!(rt; node.frames_given() == given);
+// The node's pages hold so many frames, and so many were given back.
+pub(crate) fn has_frames(node: &Node, held: u128, given: u128) -> bool {
+    node.frames_held() == held && node.frames_given() == given
+}
+
+// A caller's scan of up to `n` pages has these numbers of pages taken, split, pinned, put back, dropped and used.
+pub(crate) fn is_scanned(node: &mut Node, caller: u32, n: u32, counts: [u32; 6]) -> bool {
+    let [taken, split, pinned, back, dropped, used] = counts;
+    let want = ScanReply {
+        taken,
+        split,
+        pinned,
+        back,
+        dropped,
+        used,
+    };
+    caller < 64 && n <= 128 && node.scan(caller, n) == Ok(want)
 }
 
 // How many events the node's journal has.

@@ -1,4 +1,5 @@
-//! Calls about one page or the node as values, so that a row is a table of calls and results.
+//! Calls about one page or the node as values, so that a row is a table of calls and results. Pages are plain numbers, since a
+//! constant can lend no `PageId`.
 ghost use Rattle.std.specs.Prelude.{◌<◌};
 ghost use Rattle.thp_node.specs.Batches.{FrontsStay};
 
@@ -10,23 +11,23 @@ use thp_node::{Done, Node, Recorder, ScanReply};
 #[derive(Clone, Copy, Debug)]
 pub enum Call {
     Alloc,
-    MapWhole(PageId),
-    UnmapWhole(PageId),
+    MapWhole(u64),
+    UnmapWhole(u64),
     /// From the first number on, as many subpages as the second number; the same for all calls of two numbers.
-    MapSub(PageId, u32, u32),
-    UnmapSub(PageId, u32, u32),
-    SplitPmd(PageId),
-    Pin(PageId),
-    Unpin(PageId),
-    Write(PageId, u32, u32),
-    Zero(PageId, u32, u32),
+    MapSub(u64, u32, u32),
+    UnmapSub(u64, u32, u32),
+    SplitPmd(u64),
+    Pin(u64),
+    Unpin(u64),
+    Write(u64, u32, u32),
+    Zero(u64, u32, u32),
     Close,
 }
 
 /// The result of a call.
 #[derive(Clone, Copy, PartialEq, Eq, Debug)]
 pub enum Answer {
-    Page(PageId),
+    Page(u64),
     Done,
     /// The outcome of an unmap or an unpin, and the run of frames that it gave back: the first, and their number.
     Changed(Outcome, u32, u32),
@@ -78,18 +79,23 @@ pub fn answer_of<R: Recorder>(node: &mut Node<R>, caller: u32, call: Call) -> An
 {
     match call {
         Call::Alloc => match node.alloc_page(caller) {
-            Ok(page) => Answer::Page(page),
+            Ok(PageId(page)) => Answer::Page(page),
             Err(refusal) => Answer::Refused(refusal),
         },
-        Call::MapWhole(page) => done(node.map_whole(caller, page)),
-        Call::UnmapWhole(page) => outcome(node.unmap_whole(caller, page)),
-        Call::MapSub(page, first, count) => done(node.map_sub(caller, page, first, count)),
-        Call::UnmapSub(page, first, count) => outcome(node.unmap_sub(caller, page, first, count)),
-        Call::SplitPmd(page) => done(node.split_pmd(caller, page)),
-        Call::Pin(page) => done(node.pin(caller, page)),
-        Call::Unpin(page) => outcome(node.unpin(caller, page)),
-        Call::Write(page, first, count) => done(node.write(caller, page, first, count)),
-        Call::Zero(page, first, count) => done(node.zero(caller, page, first, count)),
+        Call::MapWhole(page) => done(node.map_whole(caller, PageId(page))),
+        Call::UnmapWhole(page) => outcome(node.unmap_whole(caller, PageId(page))),
+        Call::MapSub(page, first, count) => done(node.map_sub(caller, PageId(page), first, count)),
+        Call::UnmapSub(page, first, count) => outcome(node.unmap_sub(
+            caller,
+            PageId(page),
+            first,
+            count,
+        )),
+        Call::SplitPmd(page) => done(node.split_pmd(caller, PageId(page))),
+        Call::Pin(page) => done(node.pin(caller, PageId(page))),
+        Call::Unpin(page) => outcome(node.unpin(caller, PageId(page))),
+        Call::Write(page, first, count) => done(node.write(caller, PageId(page), first, count)),
+        Call::Zero(page, first, count) => done(node.zero(caller, PageId(page), first, count)),
         Call::Close => done(node.close(caller)),
     }
 }
@@ -126,7 +132,7 @@ fn run_of(set: SubSet) -> Option<(u32, u32)> {
 }
 
 /// The calls that queue the page of this number: it is allocated, its PMD mapping is split, and its first subpage is unmapped.
-pub fn queueing(page: PageId) -> [(Call, Answer); 3] {
+pub fn queueing(page: u64) -> [(Call, Answer); 3] {
     [
         (Call::Alloc, Answer::Page(page)),
         (Call::SplitPmd(page), Answer::Done),
@@ -140,7 +146,7 @@ pub fn queued_node(alloc: Global, pages: u64) -> Option<Node> {
         return None;
     };
     for number in 0..pages {
-        if first_wrong(&mut node, 0, &queueing(PageId(number))).is_some() {
+        if first_wrong(&mut node, 0, &queueing(number)).is_some() {
             return None;
         }
     }

@@ -1,183 +1,216 @@
 //! Rows on scans, with the events that they record.
-use crate::calls::steps::{Step, expect_row, expect_since};
-use crate::nodes::{node_of, node_with_queued};
-use tests_steps::{Answer, Call, FREED, QUEUED, STAYS, scanned, shape_of};
-use thp_model::{Outcome, PageId, Shape, SubSet, What};
+use crate::calls::steps::{Start, Step, expect_events, expect_row};
+use crate::event_rows::{FIRST, Kind, NONE, ONE, TWO, ZERO};
+use crate::nodes::node_of;
+use std::alloc::Global;
+use tests_steps::{Answer, Call, FREED, QUEUED, STAYS, shape_of};
+use thp_model::{Outcome, Shape};
 use thp_node::{Counters, NewFault, Node};
 
-// A split that gave the frame of the first subpage back.
-fn split(page: PageId) -> What {
-    What::Split {
-        page,
-        released: SubSet::range(0, 1),
-    }
-}
-
-#[test]
-fn two_of_three_oldest(rt: HostRuntime) {
-    let (zero, one) = (PageId(0), PageId(1));
-    let counters = Counters {
+const TWO_OF_THREE_OLDEST: &[Step] = &[
+    Step::Scan(2, [2, 2, 0, 0, 0, 0]),
+    Step::Queued(1),
+    Step::Frames(1534, 2),
+    Step::Counters(Counters {
         split_page: 2,
         split_page_failed: 0,
         deferred_split_page: 3,
         underused_split_page: 0,
         split_pmd: 3,
-    };
-    let steps = [
-        Step::Scan(2, scanned(2, 2, 0, 0, 0)),
-        Step::Queued(1),
-        Step::Frames(1534, 2),
-        Step::Counters(counters),
-    ];
-    let node = expect_row(&rt, node_with_queued(&rt, rt.alloc(), 3), &steps);
-    let events = [
-        What::Taken { page: zero },
-        What::Taken { page: one },
-        split(zero),
-        split(one),
-    ];
-    expect_since(&rt, &node, 9, &events);
+    }),
+];
+
+const TWO_OF_THREE_OLDEST_EVENTS: &[Kind] = &[
+    Kind::Taken(ZERO),
+    Kind::Taken(ONE),
+    Kind::Split(ZERO, FIRST),
+    Kind::Split(ONE, FIRST),
+];
+
+#[test]
+fn two_of_three_oldest(rt: HostRuntime) {
+    expect_events(
+        &rt,
+        rt.alloc(),
+        Start::Queued(3),
+        TWO_OF_THREE_OLDEST,
+        9,
+        TWO_OF_THREE_OLDEST_EVENTS,
+    );
 }
+
+const FREED_FROM_THE_MIDDLE: &[Step] = &[
+    Step::Call(Call::UnmapSub(ONE, 1, 511), FREED),
+    Step::Scan(3, [2, 2, 0, 0, 0, 0]),
+];
+
+const FREED_FROM_THE_MIDDLE_EVENTS: &[Kind] = &[
+    Kind::Taken(ZERO),
+    Kind::Taken(TWO),
+    Kind::Split(ZERO, FIRST),
+    Kind::Split(TWO, FIRST),
+];
 
 #[test]
 fn freed_from_the_middle(rt: HostRuntime) {
-    let (zero, one, two) = (PageId(0), PageId(1), PageId(2));
-    let steps = [
-        Step::Call(Call::UnmapSub(one, 1, 511), FREED),
-        Step::Scan(3, scanned(2, 2, 0, 0, 0)),
-    ];
-    let node = expect_row(&rt, node_with_queued(&rt, rt.alloc(), 3), &steps);
-    let events = [
-        What::Taken { page: zero },
-        What::Taken { page: two },
-        split(zero),
-        split(two),
-    ];
-    expect_since(&rt, &node, 10, &events);
+    expect_events(
+        &rt,
+        rt.alloc(),
+        Start::Queued(3),
+        FREED_FROM_THE_MIDDLE,
+        10,
+        FREED_FROM_THE_MIDDLE_EVENTS,
+    );
 }
+
+const FREED_WHILE_QUEUED: &[Step] = &[
+    Step::Call(Call::UnmapSub(ZERO, 1, 511), FREED),
+    Step::Call(Call::Alloc, Answer::Page(ONE)),
+    Step::Call(Call::SplitPmd(ONE), Answer::Done),
+    Step::Call(Call::UnmapSub(ONE, 0, 1), QUEUED),
+    Step::Queued(1),
+    Step::Scan(8, [1, 1, 0, 0, 0, 0]),
+];
 
 #[test]
 fn freed_while_queued(rt: HostRuntime) {
-    let (zero, one) = (PageId(0), PageId(1));
-    let steps = [
-        Step::Call(Call::UnmapSub(zero, 1, 511), FREED),
-        Step::Call(Call::Alloc, Answer::Page(one)),
-        Step::Call(Call::SplitPmd(one), Answer::Done),
-        Step::Call(Call::UnmapSub(one, 0, 1), QUEUED),
-        Step::Queued(1),
-        Step::Scan(8, scanned(1, 1, 0, 0, 0)),
-    ];
-    expect_row(&rt, node_with_queued(&rt, rt.alloc(), 1), &steps);
+    expect_row(&rt, rt.alloc(), Start::Queued(1), FREED_WHILE_QUEUED);
 }
+
+const PINNED_GOES_TO_THE_TAIL: &[Step] = &[
+    Step::Call(Call::Pin(ONE), Answer::Done),
+    Step::Scan(3, [3, 2, 1, 1, 0, 0]),
+    Step::Queued(1),
+    Step::Call(Call::Unpin(ONE), STAYS),
+    Step::Scan(3, [1, 1, 0, 0, 0, 0]),
+];
+
+const PINNED_GOES_TO_THE_TAIL_EVENTS: &[Kind] = &[
+    Kind::Taken(ZERO),
+    Kind::Taken(ONE),
+    Kind::Taken(TWO),
+    Kind::Split(ZERO, FIRST),
+    Kind::Pinned(ONE),
+    Kind::Split(TWO, FIRST),
+    Kind::Back(ONE),
+    Kind::Unpin(ONE, Outcome::Stays, NONE),
+    Kind::Taken(ONE),
+    Kind::Split(ONE, FIRST),
+];
 
 #[test]
 fn pinned_goes_to_the_tail(rt: HostRuntime) {
-    let (zero, one, two) = (PageId(0), PageId(1), PageId(2));
-    let steps = [
-        Step::Call(Call::Pin(one), Answer::Done),
-        Step::Scan(3, scanned(3, 2, 1, 1, 0)),
-        Step::Queued(1),
-        Step::Call(Call::Unpin(one), STAYS),
-        Step::Scan(3, scanned(1, 1, 0, 0, 0)),
-    ];
-    let node = expect_row(&rt, node_with_queued(&rt, rt.alloc(), 3), &steps);
-    let unpin = What::Unpin {
-        page: one,
-        outcome: Outcome::Stays,
-        released: SubSet::empty(),
-    };
-    let events = [
-        What::Taken { page: zero },
-        What::Taken { page: one },
-        What::Taken { page: two },
-        split(zero),
-        What::Pinned { page: one },
-        split(two),
-        What::Back { page: one },
-        unpin,
-        What::Taken { page: one },
-        split(one),
-    ];
-    expect_since(&rt, &node, 10, &events);
+    expect_events(
+        &rt,
+        rt.alloc(),
+        Start::Queued(3),
+        PINNED_GOES_TO_THE_TAIL,
+        10,
+        PINNED_GOES_TO_THE_TAIL_EVENTS,
+    );
 }
 
-#[test]
-fn all_pinned_rotate(rt: HostRuntime) {
-    let (zero, one, two) = (PageId(0), PageId(1), PageId(2));
-    let counters = Counters {
+const ALL_PINNED_ROTATE: &[Step] = &[
+    Step::Call(Call::Pin(ZERO), Answer::Done),
+    Step::Call(Call::Pin(ONE), Answer::Done),
+    Step::Call(Call::Pin(TWO), Answer::Done),
+    Step::Scan(2, [2, 0, 2, 2, 0, 0]),
+    Step::Scan(3, [3, 0, 3, 3, 0, 0]),
+    Step::Counters(Counters {
         split_page: 0,
         split_page_failed: 5,
         deferred_split_page: 3,
         underused_split_page: 0,
         split_pmd: 3,
-    };
-    let steps = [
-        Step::Call(Call::Pin(zero), Answer::Done),
-        Step::Call(Call::Pin(one), Answer::Done),
-        Step::Call(Call::Pin(two), Answer::Done),
-        Step::Scan(2, scanned(2, 0, 2, 2, 0)),
-        Step::Scan(3, scanned(3, 0, 3, 3, 0)),
-        Step::Counters(counters),
-    ];
-    let node = expect_row(&rt, node_with_queued(&rt, rt.alloc(), 3), &steps);
-    let events = [
-        What::Taken { page: zero },
-        What::Taken { page: one },
-        What::Pinned { page: zero },
-        What::Pinned { page: one },
-        What::Back { page: zero },
-        What::Back { page: one },
-        What::Taken { page: two },
-        What::Taken { page: zero },
-        What::Taken { page: one },
-        What::Pinned { page: two },
-        What::Pinned { page: zero },
-        What::Pinned { page: one },
-        What::Back { page: two },
-        What::Back { page: zero },
-        What::Back { page: one },
-    ];
-    expect_since(&rt, &node, 12, &events);
-}
+    }),
+];
+
+const ALL_PINNED_ROTATE_EVENTS: &[Kind] = &[
+    Kind::Taken(ZERO),
+    Kind::Taken(ONE),
+    Kind::Pinned(ZERO),
+    Kind::Pinned(ONE),
+    Kind::Back(ZERO),
+    Kind::Back(ONE),
+    Kind::Taken(TWO),
+    Kind::Taken(ZERO),
+    Kind::Taken(ONE),
+    Kind::Pinned(TWO),
+    Kind::Pinned(ZERO),
+    Kind::Pinned(ONE),
+    Kind::Back(TWO),
+    Kind::Back(ZERO),
+    Kind::Back(ONE),
+];
 
 #[test]
-fn split_of_a_mapped_page(rt: HostRuntime) {
-    let counters = Counters {
+fn all_pinned_rotate(rt: HostRuntime) {
+    expect_events(
+        &rt,
+        rt.alloc(),
+        Start::Queued(3),
+        ALL_PINNED_ROTATE,
+        12,
+        ALL_PINNED_ROTATE_EVENTS,
+    );
+}
+
+const SPLIT_OF_A_MAPPED_PAGE: &[Step] = &[
+    Step::Call(Call::MapWhole(ZERO), Answer::Done),
+    Step::Scan(1, [1, 1, 0, 0, 0, 0]),
+    Step::Frames(512, 0),
+    Step::Counters(Counters {
         split_page: 1,
         split_page_failed: 0,
         deferred_split_page: 1,
         underused_split_page: 0,
         split_pmd: 2,
-    };
-    let steps = [
-        Step::Call(Call::MapWhole(PageId(0)), Answer::Done),
-        Step::Scan(1, scanned(1, 1, 0, 0, 0)),
-        Step::Frames(512, 0),
-        Step::Counters(counters),
-    ];
-    expect_row(&rt, node_with_queued(&rt, rt.alloc(), 1), &steps);
-}
+    }),
+];
 
 #[test]
-fn limits_and_constructors(rt: HostRuntime) {
-    let alloc = rt.alloc();
-    for (blocks, order, underused) in [
-        (0, 9, None),
-        (4097, 9, None),
-        (16, 1, None),
-        (16, 10, None),
-        (16, 2, Some(4)),
-        (16, 9, Some(512)),
-    ] {
+fn split_of_a_mapped_page(rt: HostRuntime) {
+    expect_row(&rt, rt.alloc(), Start::Queued(1), SPLIT_OF_A_MAPPED_PAGE);
+}
+
+// The blocks, the order and the threshold of shapes that are not valid.
+const BAD_SHAPES: &[(u32, u32, Option<u32>)] = &[
+    (0, 9, None),
+    (4097, 9, None),
+    (16, 1, None),
+    (16, 10, None),
+    (16, 2, Some(4)),
+    (16, 9, Some(512)),
+];
+
+// No node has this shape.
+fn is_refused(alloc: Global, shape: Shape) -> bool {
+    matches!(Node::new(alloc, shape), Err(NewFault::BadSize))
+}
+
+// The index of the first row that is the shape of a node, if there is one.
+fn first_good(alloc: Global, rows: &[(u32, u32, Option<u32>)]) -> Option<usize> {
+    for (place, &(blocks, order, underused)) in rows.iter().enumerate() {
         let shape = Shape {
             blocks,
             order,
             underused,
         };
-        let is_bad = matches!(Node::new(alloc, shape), Err(NewFault::BadSize));
-        assert!(rt; is_bad, "{shape:?}");
+        if !is_refused(alloc, shape) {
+            return Some(place);
+        }
     }
-    let mut node = node_of(&rt, alloc, 4096);
-    assert!(rt; node.shape() == shape_of(4096));
-    assert!(rt; node.reserve(5) == Ok(()));
+    None
+}
+
+// The largest node has its shape, and room for a few events.
+fn is_largest(node: &mut Node) -> bool {
+    node.shape() == shape_of(4096) && node.reserve(5) == Ok(())
+}
+
+#[test]
+fn limits_and_constructors(rt: HostRuntime) {
+    assert!(rt; first_good(rt.alloc(), BAD_SHAPES) == None);
+    let mut node = node_of(&rt, rt.alloc(), 4096);
+    assert!(rt; is_largest(&mut node));
 }

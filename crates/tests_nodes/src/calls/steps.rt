@@ -1,8 +1,11 @@
 //! Rows as tables of steps: calls, scans, and looks at the node.
+use crate::event_rows::{Kind, what_of};
+use crate::nodes::{has_frames, is_scanned, node_of, node_with_queued, small_node};
+use std::alloc::Global;
 use std::process::Abort;
-use tests_steps::{Answer, Call, answer_of};
-use thp_model::{Event, What};
-use thp_node::{Counters, Node, ScanReply};
+use tests_steps::{Answer, Call, first_wrong};
+use thp_model::Event;
+use thp_node::{Counters, Node};
 
 // A step of caller 0 on a node, or a query of the node, with the expected result.
 #[derive(Clone, Copy)]
@@ -10,8 +13,8 @@ pub(crate) enum Step {
     Call(Call, Answer),
     // the same call this many times
     Times(u32, Call, Answer),
-    // a scan of up to this many pages
-    Scan(u32, ScanReply),
+    // a scan of up to this many pages: how many are taken, split, pinned, put back, dropped and used
+    Scan(u32, [u32; 6]),
     // how many pages the queue has
     Queued(u32),
     // the number of frames that the pages hold, and of frames given back
@@ -19,43 +22,93 @@ pub(crate) enum Step {
     Counters(Counters),
 }
 
-// Makes the steps of a row on a node, one after the other, and returns the node.
-pub(crate) fn expect_row(rt: &impl Abort, node: Node, steps: &[Step]) -> Node {
-    let mut node = node;
-    for (place, &step) in steps.iter().enumerate() {
-        match step {
-            Step::Call(call, want) => expect_times(rt, &mut node, place, 1, (call, want)),
-            Step::Times(times, call, want) => {
-                expect_times(rt, &mut node, place, times, (call, want));
-            }
-            Step::Scan(n, want) => {
-                assert!(rt; n <= 128, "step {place}");
-                assert!(rt; node.scan(0, n) == Ok(want), "step {place}");
-            }
-            Step::Queued(pages) => assert!(rt; node.queue_len() == pages, "step {place}"),
-            Step::Frames(held, given) => {
-                assert!(rt; node.frames_held() == held, "step {place}");
-                assert!(rt; node.frames_given() == given, "step {place}");
-            }
-            Step::Counters(counters) => assert!(rt; node.counters() == counters, "step {place}"),
+// Each of this many calls has this result.
+fn is_answered(node: &mut Node, times: u32, steps: &[(Call, Answer)]) -> bool {
+    for _time in 0..times {
+        if first_wrong(node, 0, steps).is_some() {
+            return false;
         }
     }
-    node
+    true
 }
 
-// Each of this many calls has this result.
-fn expect_times(rt: &impl Abort, node: &mut Node, place: usize, times: u32, step: (Call, Answer)) {
-    let (call, want) = step;
-    for _time in 0..times {
-        assert!(rt; answer_of(node, 0, call) == want, "step {place}: {call:?}");
+fn has_counters(node: &Node, counters: Counters) -> bool {
+    node.counters() == counters
+}
+
+// The step has the expected result.
+fn is_made(node: &mut Node, step: Step) -> bool {
+    match step {
+        Step::Call(call, want) => is_answered(node, 1, &[(call, want)]),
+        Step::Times(times, call, want) => is_answered(node, times, &[(call, want)]),
+        Step::Scan(n, counts) => is_scanned(node, 0, n, counts),
+        Step::Queued(pages) => node.queue_len() == pages,
+        Step::Frames(held, given) => has_frames(node, held, given),
+        Step::Counters(counters) => has_counters(node, counters),
     }
 }
 
-// The events of caller 0 since the journal had `from` events.
-pub(crate) fn expect_since(rt: &impl Abort, node: &Node, from: usize, whats: &[What]) {
-    let events = node.journal();
-    assert!(rt; events.len() == from.saturating_add(whats.len()));
-    for (place, (event, &what)) in events.iter().skip(from).zip(whats).enumerate() {
-        assert!(rt; *event == Event { caller: 0, what }, "event {place}");
+// The node that a row begins with.
+#[derive(Clone, Copy)]
+pub(crate) enum Start {
+    // of order 9 with so many blocks
+    Empty(u32),
+    // of order 9 with so many pages, all of them queued
+    Queued(u64),
+    // of order 2 with so many blocks, whose shrinker splits pages with more than one zero-filled subpage too
+    Small(u32),
+}
+
+fn node_at(rt: &impl Abort, alloc: Global, start: Start) -> Node {
+    match start {
+        Start::Empty(blocks) => node_of(rt, alloc, blocks),
+        Start::Queued(pages) => node_with_queued(rt, alloc, pages),
+        Start::Small(blocks) => small_node(rt, alloc, blocks),
+    }
+}
+
+// Makes the steps of a row on a node, one after the other.
+fn expect_steps(rt: &impl Abort, node: &mut Node, steps: &[Step]) {
+    for (place, step) in steps.iter().enumerate() {
+        assert!(rt; is_made(node, *step), "step {place}");
+    }
+}
+
+// The same on a new node.
+pub(crate) fn expect_row(rt: &impl Abort, alloc: Global, start: Start, steps: &[Step]) {
+    let mut node = node_at(rt, alloc, start);
+    expect_steps(rt, &mut node, steps);
+}
+
+// The same, and then the events since the journal had `from` events are these of caller 0.
+pub(crate) fn expect_events(
+    rt: &impl Abort,
+    alloc: Global,
+    start: Start,
+    steps: &[Step],
+    from: usize,
+    kinds: &[Kind],
+) {
+    let mut node = node_at(rt, alloc, start);
+    expect_steps(rt, &mut node, steps);
+    assert!(rt; are_since(node.journal(), from, kinds));
+}
+
+// The index of the first event that is not this one of caller 0, if there is one.
+fn first_other(events: &[Event], kinds: &[Kind]) -> Option<usize> {
+    for (place, (event, kind)) in events.iter().zip(kinds).enumerate() {
+        let what = what_of(*kind);
+        if *event != (Event { caller: 0, what }) {
+            return Some(place);
+        }
+    }
+    None
+}
+
+// The events since the journal had `from` events are these of caller 0.
+fn are_since(events: &[Event], from: usize, kinds: &[Kind]) -> bool {
+    match events.get(from..) {
+        Some(events) => events.len() == kinds.len() && first_other(events, kinds) == None,
+        None => false,
     }
 }

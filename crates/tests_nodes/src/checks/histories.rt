@@ -1,130 +1,40 @@
-//! Events and short histories of them, and whether the check and the slow check answer as they should.
+//! Short histories, and whether the check and the slow check answer as they should.
 ghost use Rattle.std.specs.Prelude.{◌≡◌, ◌≤◌};
 
+use crate::event_rows::{Kind, NONE, Row, event_of};
 use std::alloc::Global;
 use std::process::Abort;
 use thp_check::{CheckFault, Misfit, Replay, check};
-use thp_model::{Event, Outcome, PageId, Shape, SubSet, What, check as slow_check};
+use thp_model::{Event, Outcome, Shape, check as slow_check};
 
-pub(crate) const ZERO: PageId = PageId(0);
-
-pub(crate) const ONE: PageId = PageId(1);
-
-pub(crate) fn by(caller: u32, what: What) -> Event {
-    Event { caller, what }
+// The events of these rows, after those that are there.
+pub(crate) fn add_rows(rt: &impl Abort, events: &mut Vec<Event>, rows: &[Row]) {
+    for row in rows {
+        events.push(event_of(*row)).expect(rt, "memory");
+    }
 }
 
-pub(crate) fn alloc_in(page: PageId, block: u32) -> Event {
-    by(0, What::Alloc { page, block })
-}
-
-pub(crate) fn taken(page: PageId) -> Event {
-    by(0, What::Taken { page })
-}
-
-pub(crate) fn back(page: PageId) -> Event {
-    by(0, What::Back { page })
-}
-
-pub(crate) fn dropped(page: PageId) -> Event {
-    by(0, What::Dropped { page })
-}
-
-pub(crate) fn close() -> Event {
-    by(0, What::Close)
-}
-
-pub(crate) fn pin(page: PageId) -> Event {
-    by(0, What::Pin { page })
-}
-
-pub(crate) fn split_pmd(page: PageId) -> Event {
-    by(0, What::SplitPmd { page })
-}
-
-pub(crate) fn pinned(page: PageId) -> Event {
-    by(0, What::Pinned { page })
-}
-
-pub(crate) fn used(page: PageId) -> Event {
-    by(0, What::Used { page })
-}
-
-pub(crate) fn write(page: PageId, first: u32, count: u32) -> Event {
-    by(0, What::Write { page, first, count })
-}
-
-pub(crate) fn zero(page: PageId, first: u32, count: u32) -> Event {
-    by(0, What::Zero { page, first, count })
-}
-
-pub(crate) fn split(page: PageId, released: SubSet) -> Event {
-    by(0, What::Split { page, released })
-}
-
-pub(crate) fn unmap_whole(page: PageId, outcome: Outcome, released: SubSet) -> Event {
-    by(
-        0,
-        What::UnmapWhole {
-            page,
-            outcome,
-            released,
-        },
-    )
-}
-
-pub(crate) fn unpin(page: PageId, outcome: Outcome, released: SubSet) -> Event {
-    by(
-        0,
-        What::Unpin {
-            page,
-            outcome,
-            released,
-        },
-    )
-}
-
-pub(crate) fn unmap(
-    page: PageId,
-    first: u32,
-    count: u32,
-    outcome: Outcome,
-    released: SubSet,
-) -> Event {
-    by(
-        0,
-        What::UnmapSub {
-            page,
-            first,
-            count,
-            outcome,
-            released,
-        },
-    )
+// The events of these rows.
+pub(crate) fn events_of(rt: &impl Abort, alloc: Global, rows: &[Row]) -> Vec<Event> {
+    let mut events = Vec::new(alloc);
+    add_rows(rt, &mut events, rows);
+    events
 }
 
 // The pages 0 to `queued - 1`, each in the block of its number, with the PMD mapping split and the first subpage unmapped,
 // which queues the page; then these events.
-pub(crate) fn queued_then(
-    rt: &impl Abort,
-    alloc: Global,
-    queued: u32,
-    then: &[Event],
-) -> Vec<Event> {
+pub(crate) fn queued_then(rt: &impl Abort, alloc: Global, queued: u32, then: &[Row]) -> Vec<Event> {
     let mut events = Vec::new(alloc);
     for block in 0..queued {
-        let page = PageId(u64::from(block));
-        for event in [
-            alloc_in(page, block),
-            split_pmd(page),
-            unmap(page, 0, 1, Outcome::Queued, SubSet::empty()),
-        ] {
-            events.push(event).expect(rt, "memory");
-        }
+        let page = u64::from(block);
+        let rows = [
+            (0, Kind::Alloc(page, block)),
+            (0, Kind::SplitPmd(page)),
+            (0, Kind::UnmapSub(page, 0, 1, Outcome::Queued, NONE)),
+        ];
+        add_rows(rt, &mut events, &rows);
     }
-    for event in then {
-        events.push(*event).expect(rt, "memory");
-    }
+    add_rows(rt, &mut events, then);
     events
 }
 
@@ -167,14 +77,52 @@ fn admitted(rt: &impl Abort, alloc: Global, shape: Shape, events: &[Event]) -> O
     first_misfit(rt, alloc, shape, events).map(|(place, _)| place)
 }
 
+// The check finds the first event that does not fit at this index, or none.
+fn is_checked(alloc: Global, shape: Shape, events: &[Event], misfit: Option<usize>) -> bool
+    requires least { 2 ≤ shape.order }
+    requires most { shape.order ≤ 9 }
+{
+    match check(alloc, shape, events) {
+        Ok(()) => misfit == None,
+        Err(CheckFault::Illegal(place)) => misfit == Some(place),
+        Err(_) => false,
+    }
+}
+
+// The same of the slow check.
+fn is_checked_slowly(alloc: Global, shape: Shape, events: &[Event], misfit: Option<usize>) -> bool
+    requires least { 2 ≤ shape.order }
+    requires most { shape.order ≤ 9 }
+{
+    match slow_check(alloc, shape, events) {
+        Ok(()) => misfit == None,
+        Err(CheckFault::Illegal(place)) => misfit == Some(place),
+        Err(_) => false,
+    }
+}
+
+// Both checks and a replay find the first event that does not fit at this index, or none.
+fn is_found(
+    rt: &impl Abort,
+    alloc: Global,
+    shape: Shape,
+    events: &[Event],
+    misfit: Option<usize>,
+) -> bool
+    requires least { 2 ≤ shape.order }
+    requires most { shape.order ≤ 9 }
+{
+    is_checked(alloc, shape, events, misfit)
+        && is_checked_slowly(alloc, shape, events, misfit)
+        && admitted(rt, alloc, shape, events) == misfit
+}
+
 // The history is legal on a node of this shape.
 pub(crate) fn expect_legal(rt: &impl Abort, alloc: Global, shape: Shape, events: &[Event])
     requires least { 2 ≤ shape.order }
     requires most { shape.order ≤ 9 }
 {
-    assert!(rt; check(alloc, shape, events) == Ok(()));
-    assert!(rt; slow_check(alloc, shape, events) == Ok(()));
-    assert!(rt; admitted(rt, alloc, shape, events) == None);
+    assert!(rt; is_found(rt, alloc, shape, events, None));
 }
 
 // The last of the events doesn't fit on a node of this shape, and all before it do.
@@ -189,35 +137,33 @@ pub(crate) fn expect_misfit(
     requires most { shape.order ≤ 9 }
 {
     let last = events.len().saturating_sub(1);
+    assert!(rt; is_found(rt, alloc, shape, events, Some(last)), "{name}");
     assert!(rt;
-        check(alloc, shape, events) == Err(CheckFault::Illegal(last)),
-        "{name}"
-    );
-    assert!(rt;
-        slow_check(alloc, shape, events) == Err(CheckFault::Illegal(last)),
-        "{name}"
-    );
-    assert!(rt; admitted(rt, alloc, shape, events) == Some(last), "{name}");
-    assert!(rt;
-        check(alloc, shape, &events[..last]) == Ok(()),
+        is_checked(alloc, shape, &events[..last], None),
         "before {name}"
     );
 }
 
 // This many queued pages and then these events are legal on a large node.
-pub(crate) fn legal(rt: &impl Abort, alloc: Global, queued: u32, then: &[Event]) {
+pub(crate) fn legal(rt: &impl Abort, alloc: Global, queued: u32, then: &[Row]) {
     let events = queued_then(rt, alloc, queued, then);
     expect_legal(rt, alloc, large(), &events);
 }
 
 // After this many queued pages, the last of these events does not fit on a large node.
-pub(crate) fn last_misfits(
-    rt: &impl Abort,
-    alloc: Global,
-    name: &str,
-    queued: u32,
-    then: &[Event],
-) {
+pub(crate) fn last_misfits(rt: &impl Abort, alloc: Global, name: &str, queued: u32, then: &[Row]) {
     let events = queued_then(rt, alloc, queued, then);
     expect_misfit(rt, alloc, large(), name, &events);
+}
+
+// The same for each row.
+pub(crate) fn expect_misfits<const N: usize>(
+    rt: &impl Abort,
+    alloc: Global,
+    queued: u32,
+    rows: &[(&str, [Row; N])],
+) {
+    for (name, then) in rows {
+        last_misfits(rt, alloc, name, queued, then);
+    }
 }

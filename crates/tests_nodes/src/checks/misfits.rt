@@ -1,137 +1,191 @@
 //! For each kind of event histories whose last event doesn't fit.
-use crate::checks::histories::{
-    ONE, ZERO, alloc_in, back, by, close, dropped, last_misfits, pin, pinned, split, split_pmd,
-    taken, unmap, unmap_whole, unpin,
-};
-use thp_model::{Outcome, PageId, SubSet, What};
+use crate::checks::histories::{expect_misfits, last_misfits};
+use crate::event_rows::{FIRST, Kind, NONE, ONE, Row, TWO, ZERO};
+use thp_model::Outcome;
+
+const MISFITS_OF_PAGES: &[(&str, [Row; 1])] = &[
+    ("a block in use", [(0, Kind::Alloc(ONE, 0))]),
+    ("no such block", [(0, Kind::Alloc(ONE, 16))]),
+    ("a number again", [(0, Kind::Alloc(ZERO, 1))]),
+    ("a number too high", [(0, Kind::Alloc(TWO, 1))]),
+    ("no such page", [(0, Kind::MapWhole(ONE))]),
+    ("a range past the end", [(0, Kind::MapSub(ZERO, 511, 2))]),
+    (
+        "a range of a large number",
+        [(0, Kind::MapSub(ZERO, 65_536, 1))],
+    ),
+    ("no PMD mapping", [(0, Kind::SplitPmd(ZERO))]),
+    ("no such page to pin", [(0, Kind::Pin(ONE))]),
+    (
+        "no whole mapping",
+        [(0, Kind::UnmapWhole(ZERO, Outcome::Stays, NONE))],
+    ),
+    (
+        "no mapping",
+        [(0, Kind::UnmapSub(ZERO, 0, 2, Outcome::Stays, NONE))],
+    ),
+    ("no pin", [(0, Kind::Unpin(ZERO, Outcome::Stays, NONE))]),
+    (
+        "queued twice",
+        [(0, Kind::UnmapSub(ZERO, 1, 1, Outcome::Queued, NONE))],
+    ),
+    (
+        "a page gone",
+        [(0, Kind::UnmapSub(ZERO, 1, 511, Outcome::Stays, NONE))],
+    ),
+    (
+        "a frame too many",
+        [(0, Kind::UnmapSub(ZERO, 1, 1, Outcome::Stays, (1, 1)))],
+    ),
+    (
+        "a frame too few",
+        [(0, Kind::UnmapSub(ZERO, 1, 511, Outcome::Freed, (0, 511)))],
+    ),
+];
 
 #[test]
 fn misfits_of_pages(rt: HostRuntime) {
-    let none = SubSet::empty();
-    let past_the_end = What::MapSub {
-        page: ZERO,
-        first: 511,
-        count: 2,
-    };
-    let above_16_bits = What::MapSub {
-        page: ZERO,
-        first: 65_536,
-        count: 1,
-    };
-    for (name, event) in [
-        ("a block in use", alloc_in(ONE, 0)),
-        ("no such block", alloc_in(ONE, 16)),
-        ("a number again", alloc_in(ZERO, 1)),
-        ("a number too high", alloc_in(PageId(2), 1)),
-        ("no such page", by(0, What::MapWhole { page: ONE })),
-        ("a range past the end", by(0, past_the_end)),
-        ("a range of a large number", by(0, above_16_bits)),
-        ("no PMD mapping", split_pmd(ZERO)),
-        ("no such page to pin", by(0, What::Pin { page: ONE })),
-        ("no whole mapping", unmap_whole(ZERO, Outcome::Stays, none)),
-        ("no mapping", unmap(ZERO, 0, 2, Outcome::Stays, none)),
-        ("no pin", unpin(ZERO, Outcome::Stays, none)),
-        ("queued twice", unmap(ZERO, 1, 1, Outcome::Queued, none)),
-        ("a page gone", unmap(ZERO, 1, 511, Outcome::Stays, none)),
-        (
-            "a frame too many",
-            unmap(ZERO, 1, 1, Outcome::Stays, SubSet::range(1, 1)),
-        ),
-        (
-            "a frame too few",
-            unmap(ZERO, 1, 511, Outcome::Freed, SubSet::range(0, 511)),
-        ),
-    ] {
-        last_misfits(&rt, rt.alloc(), name, 1, &[event]);
-    }
+    expect_misfits(&rt, rt.alloc(), 1, MISFITS_OF_PAGES);
 }
+
+const MISFITS_AFTER_OTHER_EVENTS: &[(&str, [Row; 2])] = &[
+    (
+        "an unpin that frees",
+        [
+            (0, Kind::Pin(ZERO)),
+            (0, Kind::Unpin(ZERO, Outcome::Freed, NONE)),
+        ],
+    ),
+    (
+        "an unmap that frees",
+        [
+            (0, Kind::Alloc(ONE, 1)),
+            (0, Kind::UnmapWhole(ONE, Outcome::Stays, NONE)),
+        ],
+    ),
+    (
+        "half the frames",
+        [
+            (0, Kind::Alloc(ONE, 1)),
+            (0, Kind::UnmapWhole(ONE, Outcome::Freed, (0, 256))),
+        ],
+    ),
+    (
+        "an empty queue",
+        [(0, Kind::Taken(ZERO)), (0, Kind::Taken(ZERO))],
+    ),
+    (
+        "frames in use",
+        [(0, Kind::Taken(ZERO)), (0, Kind::Split(ZERO, (0, 2)))],
+    ),
+    (
+        "a page without pins",
+        [(0, Kind::Taken(ZERO)), (0, Kind::Pinned(ZERO))],
+    ),
+    (
+        "a pinned page in the queue",
+        [(0, Kind::Pin(ZERO)), (0, Kind::Pinned(ZERO))],
+    ),
+    (
+        "another's page",
+        [(1, Kind::Taken(ZERO)), (0, Kind::Split(ZERO, FIRST))],
+    ),
+    (
+        "another's page put back",
+        [(1, Kind::Taken(ZERO)), (0, Kind::Back(ZERO))],
+    ),
+    (
+        "dropped before the close",
+        [(0, Kind::Taken(ZERO)), (0, Kind::Dropped(ZERO))],
+    ),
+    ("closed twice", [(0, Kind::Close), (0, Kind::Close)]),
+    (
+        "a page after the close",
+        [(0, Kind::Close), (0, Kind::Alloc(ONE, 1))],
+    ),
+];
 
 #[test]
 fn misfits_after_other_events(rt: HostRuntime) {
-    let none = SubSet::empty();
-    for (name, before, event) in [
-        (
-            "an unpin that frees",
-            pin(ZERO),
-            unpin(ZERO, Outcome::Freed, none),
-        ),
-        (
-            "an unmap that frees",
-            alloc_in(ONE, 1),
-            unmap_whole(ONE, Outcome::Stays, none),
-        ),
-        (
-            "half the frames",
-            alloc_in(ONE, 1),
-            unmap_whole(ONE, Outcome::Freed, SubSet::full(8)),
-        ),
-        ("an empty queue", taken(ZERO), taken(ZERO)),
-        (
-            "frames in use",
-            taken(ZERO),
-            split(ZERO, SubSet::range(0, 2)),
-        ),
-        ("a page without pins", taken(ZERO), pinned(ZERO)),
-        ("a pinned page in the queue", pin(ZERO), pinned(ZERO)),
-        (
-            "another's page",
-            by(1, What::Taken { page: ZERO }),
-            split(ZERO, SubSet::range(0, 1)),
-        ),
-        (
-            "another's page put back",
-            by(1, What::Taken { page: ZERO }),
-            back(ZERO),
-        ),
-        ("dropped before the close", taken(ZERO), dropped(ZERO)),
-        ("closed twice", close(), close()),
-        ("a page after the close", close(), alloc_in(ONE, 1)),
-    ] {
-        last_misfits(&rt, rt.alloc(), name, 1, &[before, event]);
-    }
+    expect_misfits(&rt, rt.alloc(), 1, MISFITS_AFTER_OTHER_EVENTS);
 }
+
+const MISFITS_OF_BATCHES: &[(&str, [Row; 3])] = &[
+    (
+        "not the oldest",
+        [
+            (0, Kind::Alloc(TWO, 2)),
+            (0, Kind::Pin(ZERO)),
+            (0, Kind::Taken(ONE)),
+        ],
+    ),
+    (
+        "a second take",
+        [
+            (0, Kind::Taken(ZERO)),
+            (0, Kind::Pin(ZERO)),
+            (0, Kind::Taken(ONE)),
+        ],
+    ),
+    (
+        "a pinned page split",
+        [
+            (0, Kind::Pin(ZERO)),
+            (0, Kind::Taken(ZERO)),
+            (0, Kind::Split(ZERO, FIRST)),
+        ],
+    ),
+    (
+        "a page outside the batch",
+        [
+            (0, Kind::Taken(ZERO)),
+            (0, Kind::Pin(ONE)),
+            (0, Kind::Split(ONE, FIRST)),
+        ],
+    ),
+    (
+        "put back out of order",
+        [
+            (0, Kind::Taken(ZERO)),
+            (0, Kind::Taken(ONE)),
+            (0, Kind::Back(ONE)),
+        ],
+    ),
+    (
+        "put back after the close",
+        [
+            (0, Kind::Taken(ZERO)),
+            (0, Kind::Close),
+            (0, Kind::Back(ZERO)),
+        ],
+    ),
+    (
+        "a split page mapped whole",
+        [
+            (0, Kind::Taken(ZERO)),
+            (0, Kind::Split(ZERO, FIRST)),
+            (0, Kind::MapWhole(ZERO)),
+        ],
+    ),
+    (
+        "a split page pinned",
+        [
+            (0, Kind::Taken(ZERO)),
+            (0, Kind::Split(ZERO, FIRST)),
+            (0, Kind::Pin(ZERO)),
+        ],
+    ),
+];
+
+const OUT_OF_ORDER: &[Row] = &[
+    (0, Kind::Taken(ZERO)),
+    (0, Kind::Taken(ONE)),
+    (0, Kind::Close),
+    (0, Kind::Dropped(ONE)),
+];
 
 #[test]
 fn misfits_of_batches(rt: HostRuntime) {
-    let first = SubSet::range(0, 1);
-    let map_whole = by(0, What::MapWhole { page: ZERO });
-    for (name, before, between, event) in [
-        (
-            "not the oldest",
-            alloc_in(PageId(2), 2),
-            pin(ZERO),
-            taken(ONE),
-        ),
-        ("a second take", taken(ZERO), pin(ZERO), taken(ONE)),
-        (
-            "a pinned page split",
-            pin(ZERO),
-            taken(ZERO),
-            split(ZERO, first),
-        ),
-        (
-            "a page outside the batch",
-            taken(ZERO),
-            pin(ONE),
-            split(ONE, first),
-        ),
-        ("put back out of order", taken(ZERO), taken(ONE), back(ONE)),
-        ("put back after the close", taken(ZERO), close(), back(ZERO)),
-        (
-            "a split page mapped whole",
-            taken(ZERO),
-            split(ZERO, first),
-            map_whole,
-        ),
-        (
-            "a split page pinned",
-            taken(ZERO),
-            split(ZERO, first),
-            pin(ZERO),
-        ),
-    ] {
-        last_misfits(&rt, rt.alloc(), name, 2, &[before, between, event]);
-    }
-    let out_of_order = [taken(ZERO), taken(ONE), close(), dropped(ONE)];
-    last_misfits(&rt, rt.alloc(), "dropped out of order", 2, &out_of_order);
+    expect_misfits(&rt, rt.alloc(), 2, MISFITS_OF_BATCHES);
+    last_misfits(&rt, rt.alloc(), "dropped out of order", 2, OUT_OF_ORDER);
 }

@@ -1,16 +1,13 @@
 //! The state that a replay shows after its events.
 ghost use Rattle.std.specs.Prelude.{◌≤◌};
 
-use crate::checks::histories::{
-    ONE, ZERO, alloc_in, by, close, large, pin, pinned, queued_then, split, taken, unmap, write,
-};
+use crate::checks::histories::{add_rows, events_of, large, queued_then};
 use crate::checks::underused::small;
+use crate::event_rows::{FIRST, Kind, ONE, Row, TWO, WHOLE, ZERO};
 use std::alloc::Global;
 use std::process::Abort;
-use thp_check::{Replay, Standing};
-use thp_model::{Event, Outcome, PageId, Shape, SubSet, What};
-
-const TWO: PageId = PageId(2);
+use thp_check::{LivePage, Replay, Standing};
+use thp_model::{Event, Outcome, PageId, Shape, SubSet};
 
 // The replay of these events, which are legal on a node of this shape.
 fn replay_of(rt: &impl Abort, alloc: Global, shape: Shape, events: &[Event]) -> Replay
@@ -24,80 +21,179 @@ fn replay_of(rt: &impl Abort, alloc: Global, shape: Shape, events: &[Event]) -> 
     replay
 }
 
+// The replay of these rows on a small node.
+fn small_replay(rt: &impl Abort, alloc: Global, rows: &[Row]) -> Replay {
+    let events = events_of(rt, alloc, rows);
+    replay_of(rt, alloc, small(4), &events)
+}
+
+// The number of pages ever allocated, the length of the queue, and whether the node is closed.
+fn has_counts(replay: &Replay, allocations: u64, queued: u32, is_closed: bool) -> bool {
+    replay.allocations() == allocations
+        && replay.queue_len() == queued
+        && replay.is_closed() == is_closed
+}
+
+fn has_oldest(replay: &Replay, page: Option<PageId>) -> bool {
+    replay.oldest() == page
+}
+
+const TWO_PAGES: &[Row] = &[(0, Kind::Alloc(ZERO, 0)), (0, Kind::Alloc(ONE, 1))];
+
+const TWO_PAGES_CLOSED: &[Row] = &[
+    (0, Kind::Alloc(ZERO, 0)),
+    (0, Kind::Alloc(ONE, 1)),
+    (0, Kind::Close),
+];
+
 #[test]
 fn replay_tells_of_its_node(rt: HostRuntime) {
-    let none = Replay::new(rt.alloc(), small(4)).expect(&rt, "memory");
-    assert!(rt; none.oldest() == None);
-    let one = none.admit(&alloc_in(ZERO, 0)).expect(&rt, "a page");
-    let two = one.admit(&alloc_in(ONE, 1)).expect(&rt, "a page");
-    assert!(rt; !two.is_closed());
-    let closed = two.admit(&close()).expect(&rt, "a close");
-    let told = (closed.allocations(), closed.queue_len(), closed.is_closed());
-    assert!(rt; told == (2, 2, true));
-    assert!(rt; closed.oldest() == Some(ZERO));
+    let none = small_replay(&rt, rt.alloc(), &[]);
+    assert!(rt; has_oldest(&none, None));
+    let two = small_replay(&rt, rt.alloc(), TWO_PAGES);
+    assert!(rt; has_counts(&two, 2, 2, false));
+    let closed = small_replay(&rt, rt.alloc(), TWO_PAGES_CLOSED);
+    assert!(rt; has_counts(&closed, 2, 2, true));
+    assert!(rt; has_oldest(&closed, Some(PageId(ZERO))));
 }
+
+// The pages have these numbers.
+fn are_numbers(pages: &[PageId], numbers: &[u64]) -> bool {
+    for (page, number) in pages.iter().zip(numbers) {
+        if page.0 != *number {
+            return false;
+        }
+    }
+    pages.len() == numbers.len()
+}
+
+// The pages of the queue are these.
+fn is_queue(replay: &mut Replay, alloc: Global, pages: &[u64]) -> bool {
+    match replay.queue(alloc) {
+        Ok(queue) => are_numbers(&queue, pages),
+        Err(_) => false,
+    }
+}
+
+// The pages of a caller's flight are these.
+fn is_flight(replay: &Replay, alloc: Global, caller: u32, pages: &[u64]) -> bool {
+    match replay.flight(alloc, caller) {
+        Ok(flight) => are_numbers(&flight, pages),
+        Err(_) => false,
+    }
+}
+
+// The live pages are these.
+fn are_live(replay: &Replay, alloc: Global, pages: &[u64]) -> bool {
+    match replay.live_pages(alloc) {
+        Ok(live) => are_numbers(&live, pages),
+        Err(_) => false,
+    }
+}
+
+fn page_of(rt: &impl Abort, replay: &Replay, page: PageId) -> LivePage {
+    replay.page(page).expect(rt, "a live page")
+}
+
+// The page is in block 2 and in the batch of caller 64, has a pin, is not mapped whole, and holds all frames.
+fn is_pinned_in_batch(page: &LivePage) -> bool {
+    let stands = page.block == 2 && page.standing == Standing::Batch(64);
+    let holds = page.pins == 1 && page.whole == 0 && page.held == SubSet::full(9);
+    stands && holds
+}
+
+// The page is not live.
+fn is_gone(replay: &Replay, page: PageId) -> bool {
+    replay.page(page) == None && replay.own(page, 0) == None
+}
+
+const THREE: u64 = 3;
+
+const ALL_ZERO_AND_ONE: &[u64] = &[ZERO, ONE];
+
+const ALL_LIVE: &[u64] = &[ZERO, ONE, TWO];
+
+const ONLY_TWO: &[u64] = &[TWO];
+
+const TAKEN_BY_ZERO: &[Row] = &[
+    (0, Kind::Pin(TWO)),
+    (0, Kind::UnmapSub(THREE, 1, 511, Outcome::Freed, WHOLE)),
+    (0, Kind::Taken(ZERO)),
+    (0, Kind::Taken(ONE)),
+];
+
+const TAKEN_BY_64: &[Row] = &[(64, Kind::Taken(TWO))];
 
 // Pages 0 to 3 of a large node were queued, and page 3 freed. Caller 0 took two of them, and caller 64, whose flight is in the
 // same list, took one.
 #[test]
 fn replay_tells_where_pages_stand(rt: HostRuntime) {
     let alloc = rt.alloc();
-    let taken_by_64 = by(64, What::Taken { page: TWO });
-    let gone = unmap(PageId(3), 1, 511, Outcome::Freed, SubSet::full(9));
-    let then = [pin(TWO), gone, taken(ZERO), taken(ONE), taken_by_64];
-    let events = queued_then(&rt, alloc, 4, &then[..4]);
+    let mut events = queued_then(&rt, alloc, 4, TAKEN_BY_ZERO);
     let mut replay = replay_of(&rt, alloc, large(), &events);
-    let queue = replay.queue(alloc).expect(&rt, "memory");
-    assert!(rt; queue.as_slice() == [TWO].as_slice());
-    let events = queued_then(&rt, alloc, 4, &then);
+    assert!(rt; is_queue(&mut replay, alloc, ONLY_TWO));
+    add_rows(&rt, &mut events, TAKEN_BY_64);
     let replay = replay_of(&rt, alloc, large(), &events);
-    let mine = replay.flight(alloc, 0).expect(&rt, "memory");
-    let others = replay.flight(alloc, 64).expect(&rt, "memory");
-    assert!(rt; mine.as_slice() == [ZERO, ONE].as_slice());
-    assert!(rt; others.as_slice() == [TWO].as_slice());
-    let live = replay.live_pages(alloc).expect(&rt, "memory");
-    assert!(rt; live.as_slice() == [ZERO, ONE, TWO].as_slice());
-    let page = replay.page(TWO).expect(&rt, "a live page");
-    let told = (page.block, page.standing, page.pins, page.whole);
-    assert!(rt; told == (2, Standing::Batch(64), 1, 0));
-    assert!(rt; page.held == SubSet::full(9));
-    assert!(rt; replay.page(PageId(3)) == None);
-    assert!(rt; replay.own(PageId(3), 0) == None);
+    assert!(rt; is_flight(&replay, alloc, 0, ALL_ZERO_AND_ONE));
+    assert!(rt; is_flight(&replay, alloc, 64, ONLY_TWO));
+    assert!(rt; are_live(&replay, alloc, ALL_LIVE));
+    assert!(rt; is_pinned_in_batch(&page_of(&rt, &replay, PageId(TWO))));
+    assert!(rt; is_gone(&replay, PageId(THREE)));
+}
+
+// The frames held and given back.
+fn has_frames(replay: &Replay, held: u128, given: u128) -> bool {
+    replay.frames_held() == held && replay.frames_given() == given
+}
+
+// The pages split, and those of them that were underused.
+fn has_splits(replay: &Replay, splits: u64, underused: u64) -> bool {
+    replay.thp_split_page() == splits && replay.thp_underused_split_page() == underused
+}
+
+// The pages found pinned, the pages queued by an unmap or an unpin, and the PMD mappings split.
+fn has_others(replay: &Replay, failed: u64, deferred: u64, pmds: u128) -> bool {
+    replay.thp_split_page_failed() == failed
+        && replay.thp_deferred_split_page() == deferred
+        && replay.thp_split_pmd() == pmds
+}
+
+// The page was split, is worth that, and is partly mapped; its last three subpages are used and zero-filled; it holds no frame.
+fn is_split_in_part(page: &LivePage) -> bool {
+    let rest = SubSet::range(1, 3);
+    let is_split = page.split && page.worth_split && page.partly_mapped;
+    let has_rest = page.used == rest && page.zero_filled == rest;
+    is_split && has_rest && page.held == SubSet::empty()
+}
+
+// The first subpage of page 1 is unmapped, the last is mapped, and there is no fifth.
+fn has_own(replay: &Replay) -> bool {
+    let one = PageId(ONE);
+    replay.own(one, 0) == Some(0) && replay.own(one, 3) == Some(1) && replay.own(one, 4) == None
 }
 
 // A page that is partly mapped and one that is underused are split, and one that is pinned isn't.
+const TWO_SPLITS: &[Row] = &[
+    (0, Kind::Alloc(ZERO, 0)),
+    (0, Kind::Alloc(ONE, 1)),
+    (0, Kind::Alloc(TWO, 2)),
+    (0, Kind::Pin(TWO)),
+    (0, Kind::Write(ONE, 0, 1)),
+    (0, Kind::Taken(ZERO)),
+    (0, Kind::Taken(ONE)),
+    (0, Kind::Taken(TWO)),
+    (0, Kind::Split(ZERO, (0, 4))),
+    (0, Kind::Split(ONE, (1, 3))),
+    (0, Kind::Pinned(TWO)),
+    (0, Kind::UnmapSub(ONE, 0, 1, Outcome::Stays, FIRST)),
+];
+
 #[test]
 fn replay_tells_what_events_add_up_to(rt: HostRuntime) {
-    let first = SubSet::range(0, 1);
-    let rest = SubSet::range(1, 3);
-    let events = [
-        alloc_in(ZERO, 0),
-        alloc_in(ONE, 1),
-        alloc_in(TWO, 2),
-        pin(TWO),
-        write(ONE, 0, 1),
-        taken(ZERO),
-        taken(ONE),
-        taken(TWO),
-        split(ZERO, SubSet::full(2)),
-        split(ONE, rest),
-        pinned(TWO),
-        unmap(ONE, 0, 1, Outcome::Stays, first),
-    ];
-    let replay = replay_of(&rt, rt.alloc(), small(4), &events);
-    assert!(rt; (replay.frames_held(), replay.frames_given()) == (4, 8));
-    let splits = (replay.thp_split_page(), replay.thp_underused_split_page());
-    assert!(rt; splits == (2, 2));
-    let others = (
-        replay.thp_split_page_failed(),
-        replay.thp_deferred_split_page(),
-    );
-    assert!(rt; others == (1, 0));
-    assert!(rt; replay.thp_split_pmd() == 2);
-    let page = replay.page(ONE).expect(&rt, "a live page");
-    assert!(rt; page.split && page.worth_split && page.partly_mapped);
-    assert!(rt; page.used == rest && page.zero_filled == rest);
-    assert!(rt; page.held == SubSet::empty());
-    let own = (replay.own(ONE, 0), replay.own(ONE, 3), replay.own(ONE, 4));
-    assert!(rt; own == (Some(0), Some(1), None));
+    let replay = small_replay(&rt, rt.alloc(), TWO_SPLITS);
+    assert!(rt; has_frames(&replay, 4, 8));
+    assert!(rt; has_splits(&replay, 2, 2));
+    assert!(rt; has_others(&replay, 1, 0, 2));
+    assert!(rt; is_split_in_part(&page_of(&rt, &replay, PageId(ONE))));
+    assert!(rt; has_own(&replay));
 }

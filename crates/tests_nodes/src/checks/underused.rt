@@ -1,15 +1,11 @@
 //! Histories of a small node that splits underused pages too: pages of 4 subpages, of which more than one is zero-filled.
 ghost use Rattle.std.specs.Prelude.{◌≡◌};
 
-use crate::checks::histories::{
-    ONE, ZERO, alloc_in, back, by, close, dropped, expect_legal, expect_misfit, last_misfits,
-    legal, pin, pinned, split, split_pmd, taken, unmap, unmap_whole, unpin, used, write, zero,
-};
+use crate::checks::histories::{events_of, expect_legal, expect_misfit, last_misfits, legal};
+use crate::event_rows::{FIRST, Frames, Kind, NONE, ONE, Row, TWO, WHOLE, ZERO};
 use std::alloc::Global;
 use std::process::Abort;
-use thp_model::{Event, Outcome, PageId, Shape, SubSet, What};
-
-const TWO: PageId = PageId(2);
+use thp_model::{Outcome, Shape};
 
 pub(crate) fn small(blocks: u32) -> Shape
     ensures { result.order ≡ 2 }
@@ -21,244 +17,386 @@ pub(crate) fn small(blocks: u32) -> Shape
     }
 }
 
-fn none() -> SubSet {
-    SubSet::empty()
-}
-
-fn all() -> SubSet {
-    SubSet::full(2)
-}
+// All frames of a small page.
+const ALL: Frames = (0, 4);
 
 // Data in all subpages but the last, so that a page isn't underused.
-fn full() -> Event {
-    write(ZERO, 0, 3)
+const FULL: Row = (0, Kind::Write(ZERO, 0, 3));
+
+// The history is legal on a small node of so many blocks.
+fn small_legal(rt: &impl Abort, alloc: Global, blocks: u32, rows: &[Row]) {
+    let events = events_of(rt, alloc, rows);
+    expect_legal(rt, alloc, small(blocks), &events);
 }
 
-fn map_sub(page: PageId, first: u32, count: u32) -> Event {
-    by(1, What::MapSub { page, first, count })
+// The last event does not fit on a small node of so many blocks.
+fn small_misfit(rt: &impl Abort, alloc: Global, blocks: u32, name: &str, rows: &[Row]) {
+    let events = events_of(rt, alloc, rows);
+    expect_misfit(rt, alloc, small(blocks), name, &events);
 }
+
+const UNDERUSED_SCAN: &[Row] = &[
+    (0, Kind::Alloc(ZERO, 0)),
+    (0, Kind::Write(ZERO, 0, 3)),
+    (0, Kind::Taken(ZERO)),
+    (0, Kind::Used(ZERO)),
+    (0, Kind::SplitPmd(ZERO)),
+    (0, Kind::UnmapSub(ZERO, 0, 1, Outcome::Queued, NONE)),
+    (0, Kind::Taken(ZERO)),
+    (0, Kind::SplitApart(ZERO, FIRST, (3, 1))),
+    (0, Kind::UnmapSub(ZERO, 3, 1, Outcome::Stays, NONE)),
+    (0, Kind::UnmapSub(ZERO, 1, 2, Outcome::Freed, (1, 2))),
+];
 
 #[test]
 fn underused_scan(rt: HostRuntime) {
-    let given = SubSet::range(0, 1).union(SubSet::range(3, 1));
-    let events = [
-        alloc_in(ZERO, 0),
-        write(ZERO, 0, 3),
-        taken(ZERO),
-        used(ZERO),
-        split_pmd(ZERO),
-        unmap(ZERO, 0, 1, Outcome::Queued, none()),
-        taken(ZERO),
-        split(ZERO, given),
-        unmap(ZERO, 3, 1, Outcome::Stays, none()),
-        unmap(ZERO, 1, 2, Outcome::Freed, SubSet::range(1, 2)),
-    ];
-    expect_legal(&rt, rt.alloc(), small(4), &events);
+    small_legal(&rt, rt.alloc(), 4, UNDERUSED_SCAN);
 }
+
+const UNDERUSED_PINNED: &[Row] = &[
+    (0, Kind::Alloc(ZERO, 0)),
+    (0, Kind::Alloc(ONE, 1)),
+    (0, Kind::Write(ZERO, 0, 2)),
+    (0, Kind::Pin(ONE)),
+    (0, Kind::Taken(ZERO)),
+    (0, Kind::Taken(ONE)),
+    (0, Kind::Split(ZERO, (2, 2))),
+    (0, Kind::Pinned(ONE)),
+    (0, Kind::Dropped(ONE)),
+];
 
 #[test]
 fn underused_pinned(rt: HostRuntime) {
-    let events = [
-        alloc_in(ZERO, 0),
-        alloc_in(ONE, 1),
-        write(ZERO, 0, 2),
-        pin(ONE),
-        taken(ZERO),
-        taken(ONE),
-        split(ZERO, SubSet::range(2, 2)),
-        pinned(ONE),
-        dropped(ONE),
-    ];
-    expect_legal(&rt, rt.alloc(), small(4), &events);
+    small_legal(&rt, rt.alloc(), 4, UNDERUSED_PINNED);
 }
+
+const FREED: &[Row] = &[
+    (0, Kind::Alloc(ZERO, 0)),
+    (0, Kind::Taken(ZERO)),
+    (0, Kind::Split(ZERO, ALL)),
+    (0, Kind::UnmapSub(ZERO, 0, 4, Outcome::Freed, NONE)),
+    (0, Kind::Alloc(ONE, 0)),
+];
+
+const IN_USE: &[Row] = &[
+    (0, Kind::Alloc(ZERO, 0)),
+    (0, Kind::Taken(ZERO)),
+    (0, Kind::Split(ZERO, ALL)),
+    (0, Kind::Alloc(ONE, 0)),
+];
 
 // A page whose frames were all given back keeps its block until it is freed.
 #[test]
 fn block_of_a_live_page(rt: HostRuntime) {
-    let freed = [
-        alloc_in(ZERO, 0),
-        taken(ZERO),
-        split(ZERO, all()),
-        unmap(ZERO, 0, 4, Outcome::Freed, none()),
-        alloc_in(ONE, 0),
-    ];
-    expect_legal(&rt, rt.alloc(), small(1), &freed);
-    let in_use = [
-        alloc_in(ZERO, 0),
-        taken(ZERO),
-        split(ZERO, all()),
-        alloc_in(ONE, 0),
-    ];
-    expect_misfit(&rt, rt.alloc(), small(1), "a live page's block", &in_use);
+    small_legal(&rt, rt.alloc(), 1, FREED);
+    small_misfit(&rt, rt.alloc(), 1, "a live page's block", IN_USE);
 }
+
+const WRITE_AND_ZERO: &[Row] = &[
+    (0, Kind::Alloc(ZERO, 0)),
+    (0, Kind::Pin(ZERO)),
+    (0, Kind::SplitPmd(ZERO)),
+    (0, Kind::Taken(ZERO)),
+    (0, Kind::Pinned(ZERO)),
+    (0, Kind::UnmapSub(ZERO, 0, 1, Outcome::Stays, NONE)),
+    (0, Kind::Zero(ZERO, 1, 1)),
+    (0, Kind::Back(ZERO)),
+];
 
 #[test]
 fn write_and_zero_refusals(rt: HostRuntime) {
-    let events = [
-        alloc_in(ZERO, 0),
-        pin(ZERO),
-        split_pmd(ZERO),
-        taken(ZERO),
-        pinned(ZERO),
-        unmap(ZERO, 0, 1, Outcome::Stays, none()),
-        zero(ZERO, 1, 1),
-        back(ZERO),
-    ];
-    expect_legal(&rt, rt.alloc(), small(4), &events);
+    small_legal(&rt, rt.alloc(), 4, WRITE_AND_ZERO);
 }
 
-// The events of three new pages until each was tried: one is in use, one is split, one is pinned.
-fn looked_at() -> [Event; 15] {
-    [
-        alloc_in(ZERO, 0),
-        alloc_in(ONE, 1),
-        alloc_in(TWO, 2),
-        write(ZERO, 0, 3),
-        write(ONE, 0, 2),
-        zero(TWO, 0, 1),
-        pin(TWO),
-        taken(ZERO),
-        taken(ONE),
-        taken(TWO),
-        used(ZERO),
-        split(ONE, SubSet::range(2, 2)),
-        pinned(TWO),
-        dropped(TWO),
-        unpin(TWO, Outcome::Stays, none()),
-    ]
-}
-
-// Their events from there until all of them are freed.
-fn freed_at_last() -> [Event; 17] {
-    [
-        by(1, What::MapWhole { page: ZERO }),
-        unmap_whole(ZERO, Outcome::Stays, none()),
-        split_pmd(ZERO),
-        unmap(ZERO, 0, 1, Outcome::Queued, none()),
-        map_sub(ZERO, 0, 1),
-        pin(ZERO),
-        taken(ZERO),
-        pinned(ZERO),
-        back(ZERO),
-        unpin(ZERO, Outcome::Stays, none()),
-        close(),
-        by(1, What::Taken { page: ZERO }),
-        by(1, What::Dropped { page: ZERO }),
-        unmap(ONE, 2, 2, Outcome::Stays, none()),
-        unmap(ONE, 0, 2, Outcome::Freed, SubSet::range(0, 2)),
-        unmap_whole(TWO, Outcome::Freed, all()),
-        unmap(ZERO, 0, 4, Outcome::Freed, all()),
-    ]
-}
+// Three new pages until each was tried: one is in use, one is split, one is pinned. Then until all of them are freed.
+const EVERY_KIND: &[Row] = &[
+    (0, Kind::Alloc(ZERO, 0)),
+    (0, Kind::Alloc(ONE, 1)),
+    (0, Kind::Alloc(TWO, 2)),
+    (0, Kind::Write(ZERO, 0, 3)),
+    (0, Kind::Write(ONE, 0, 2)),
+    (0, Kind::Zero(TWO, 0, 1)),
+    (0, Kind::Pin(TWO)),
+    (0, Kind::Taken(ZERO)),
+    (0, Kind::Taken(ONE)),
+    (0, Kind::Taken(TWO)),
+    (0, Kind::Used(ZERO)),
+    (0, Kind::Split(ONE, (2, 2))),
+    (0, Kind::Pinned(TWO)),
+    (0, Kind::Dropped(TWO)),
+    (0, Kind::Unpin(TWO, Outcome::Stays, NONE)),
+    (1, Kind::MapWhole(ZERO)),
+    (0, Kind::UnmapWhole(ZERO, Outcome::Stays, NONE)),
+    (0, Kind::SplitPmd(ZERO)),
+    (0, Kind::UnmapSub(ZERO, 0, 1, Outcome::Queued, NONE)),
+    (1, Kind::MapSub(ZERO, 0, 1)),
+    (0, Kind::Pin(ZERO)),
+    (0, Kind::Taken(ZERO)),
+    (0, Kind::Pinned(ZERO)),
+    (0, Kind::Back(ZERO)),
+    (0, Kind::Unpin(ZERO, Outcome::Stays, NONE)),
+    (0, Kind::Close),
+    (1, Kind::Taken(ZERO)),
+    (1, Kind::Dropped(ZERO)),
+    (0, Kind::UnmapSub(ONE, 2, 2, Outcome::Stays, NONE)),
+    (0, Kind::UnmapSub(ONE, 0, 2, Outcome::Freed, (0, 2))),
+    (0, Kind::UnmapWhole(TWO, Outcome::Freed, ALL)),
+    (0, Kind::UnmapSub(ZERO, 0, 4, Outcome::Freed, ALL)),
+];
 
 // Three pages go through every kind of event, by two callers.
 #[test]
 fn every_kind_is_legal(rt: HostRuntime) {
-    let mut events = Vec::new(rt.alloc());
-    for event in looked_at().into_iter().chain(freed_at_last()) {
-        events.push(event).expect(&rt, "memory");
-    }
-    expect_legal(&rt, rt.alloc(), small(3), &events);
+    small_legal(&rt, rt.alloc(), 3, EVERY_KIND);
 }
 
-// After a new page, the last of these events does not fit on a small node.
-fn misfit(rt: &impl Abort, alloc: Global, name: &str, then: &[Event]) {
-    let mut events = Vec::new(alloc);
-    events.push(alloc_in(ZERO, 0)).expect(rt, "memory");
-    for event in then {
-        events.push(*event).expect(rt, "memory");
+// After a new page, the last event of each row does not fit on a small node.
+fn small_misfits<const N: usize>(rt: &impl Abort, alloc: Global, rows: &[(&str, [Row; N])]) {
+    for (name, rows) in rows {
+        small_misfit(rt, alloc, 4, name, rows);
     }
-    expect_misfit(rt, alloc, small(4), name, &events);
 }
+
+// A new page.
+const PAGE: Row = (0, Kind::Alloc(ZERO, 0));
+
+// The first subpage is unmapped, and the page stays where it is.
+const UNMAPPED: Row = (0, Kind::UnmapSub(ZERO, 0, 1, Outcome::Stays, NONE));
+
+const MISFITS_OF_WRITES: &[(&str, [Row; 2])] = &[
+    ("a write of no page", [PAGE, (0, Kind::Write(ONE, 0, 1))]),
+    ("a write past the end", [PAGE, (0, Kind::Write(ZERO, 3, 2))]),
+    ("a write of nothing", [PAGE, (0, Kind::Write(ZERO, 1, 0))]),
+];
+
+const MISFITS_OF_LATE_WRITES: &[(&str, [Row; 4])] = &[
+    (
+        "a write of an unused subpage",
+        [
+            PAGE,
+            (0, Kind::SplitPmd(ZERO)),
+            UNMAPPED,
+            (0, Kind::Write(ZERO, 0, 1)),
+        ],
+    ),
+    (
+        "a write of a split page",
+        [
+            PAGE,
+            (0, Kind::Taken(ZERO)),
+            (0, Kind::Split(ZERO, ALL)),
+            (0, Kind::Write(ZERO, 0, 1)),
+        ],
+    ),
+];
 
 #[test]
 fn misfits_of_writes(rt: HostRuntime) {
-    let alloc = rt.alloc();
-    let first = unmap(ZERO, 0, 1, Outcome::Stays, none());
-    misfit(&rt, alloc, "a write of no page", &[write(ONE, 0, 1)]);
-    misfit(&rt, alloc, "a write past the end", &[write(ZERO, 3, 2)]);
-    misfit(&rt, alloc, "a write of nothing", &[write(ZERO, 1, 0)]);
-    let unused = [split_pmd(ZERO), first, write(ZERO, 0, 1)];
-    misfit(&rt, alloc, "a write of an unused subpage", &unused);
-    let late = [taken(ZERO), split(ZERO, all()), write(ZERO, 0, 1)];
-    misfit(&rt, alloc, "a write of a split page", &late);
+    small_misfits(&rt, rt.alloc(), MISFITS_OF_WRITES);
+    small_misfits(&rt, rt.alloc(), MISFITS_OF_LATE_WRITES);
 }
+
+const MISFITS_OF_ZEROS: &[(&str, [Row; 2])] = &[
+    ("zeros of no page", [PAGE, (0, Kind::Zero(ONE, 0, 1))]),
+    ("zeros past the end", [PAGE, (0, Kind::Zero(ZERO, 4, 1))]),
+];
+
+const MISFITS_OF_LATE_ZEROS: &[(&str, [Row; 4])] = &[
+    (
+        "zeros of an unused subpage",
+        [
+            PAGE,
+            (0, Kind::SplitPmd(ZERO)),
+            UNMAPPED,
+            (0, Kind::Zero(ZERO, 0, 2)),
+        ],
+    ),
+    (
+        "zeros of a split page",
+        [
+            PAGE,
+            (0, Kind::Taken(ZERO)),
+            (0, Kind::Split(ZERO, ALL)),
+            (0, Kind::Zero(ZERO, 0, 1)),
+        ],
+    ),
+];
 
 #[test]
 fn misfits_of_zeros(rt: HostRuntime) {
-    let alloc = rt.alloc();
-    let first = unmap(ZERO, 0, 1, Outcome::Stays, none());
-    misfit(&rt, alloc, "zeros of no page", &[zero(ONE, 0, 1)]);
-    misfit(&rt, alloc, "zeros past the end", &[zero(ZERO, 4, 1)]);
-    let unused = [split_pmd(ZERO), first, zero(ZERO, 0, 2)];
-    misfit(&rt, alloc, "zeros of an unused subpage", &unused);
-    let late = [taken(ZERO), split(ZERO, all()), zero(ZERO, 0, 1)];
-    misfit(&rt, alloc, "zeros of a split page", &late);
+    small_misfits(&rt, rt.alloc(), MISFITS_OF_ZEROS);
+    small_misfits(&rt, rt.alloc(), MISFITS_OF_LATE_ZEROS);
 }
+
+const FOUND_IN_USE: &[(&str, [Row; 3])] = &[
+    (
+        "an underused page",
+        [PAGE, (0, Kind::Taken(ZERO)), (0, Kind::Used(ZERO))],
+    ),
+    ("a page in the queue", [PAGE, FULL, (0, Kind::Used(ZERO))]),
+];
+
+const OF_ANOTHER: &[Row] = &[PAGE, FULL, (1, Kind::Taken(ZERO)), (0, Kind::Used(ZERO))];
+
+const PARTLY_MAPPED: &[Row] = &[
+    PAGE,
+    FULL,
+    (0, Kind::SplitPmd(ZERO)),
+    UNMAPPED,
+    (0, Kind::Taken(ZERO)),
+    (0, Kind::Used(ZERO)),
+];
+
+const ZEROED: &[Row] = &[
+    PAGE,
+    FULL,
+    (0, Kind::Zero(ZERO, 0, 1)),
+    (0, Kind::Taken(ZERO)),
+    (0, Kind::Used(ZERO)),
+];
 
 #[test]
 fn misfits_of_pages_in_use(rt: HostRuntime) {
     let alloc = rt.alloc();
-    let first = unmap(ZERO, 0, 1, Outcome::Stays, none());
-    misfit(&rt, alloc, "an underused page", &[taken(ZERO), used(ZERO)]);
-    misfit(&rt, alloc, "a page in the queue", &[full(), used(ZERO)]);
-    let others = [full(), by(1, What::Taken { page: ZERO }), used(ZERO)];
-    misfit(&rt, alloc, "another's page", &others);
-    let partly = [full(), split_pmd(ZERO), first, taken(ZERO), used(ZERO)];
-    misfit(&rt, alloc, "a partly mapped page", &partly);
-    let zeroed = [full(), zero(ZERO, 0, 1), taken(ZERO), used(ZERO)];
-    misfit(&rt, alloc, "an underused page after zeros", &zeroed);
+    small_misfits(&rt, alloc, FOUND_IN_USE);
+    small_misfit(&rt, alloc, 4, "another's page", OF_ANOTHER);
+    small_misfit(&rt, alloc, 4, "a partly mapped page", PARTLY_MAPPED);
+    small_misfit(&rt, alloc, 4, "an underused page after zeros", ZEROED);
 }
+
+const USED_PAGE_PINNED: &[Row] = &[
+    PAGE,
+    FULL,
+    (0, Kind::Pin(ZERO)),
+    (0, Kind::Taken(ZERO)),
+    (0, Kind::Pinned(ZERO)),
+];
+
+const TRIES: &[(&str, [Row; 4])] = &[
+    (
+        "a page in use split",
+        [
+            PAGE,
+            FULL,
+            (0, Kind::Taken(ZERO)),
+            (0, Kind::Split(ZERO, (3, 1))),
+        ],
+    ),
+    (
+        "a frame with data given back",
+        [
+            PAGE,
+            (0, Kind::Write(ZERO, 0, 1)),
+            (0, Kind::Taken(ZERO)),
+            (0, Kind::Split(ZERO, ALL)),
+        ],
+    ),
+];
+
+const TAKES: &[(&str, [Row; 3])] = &[
+    (
+        "zero-filled frames kept",
+        [PAGE, (0, Kind::Taken(ZERO)), (0, Kind::Split(ZERO, NONE))],
+    ),
+    (
+        "not the oldest",
+        [PAGE, (0, Kind::Alloc(ONE, 1)), (0, Kind::Taken(ONE))],
+    ),
+];
 
 // A page that is neither partly mapped nor underused is neither split nor found pinned.
 #[test]
 fn misfits_of_tries(rt: HostRuntime) {
-    let alloc = rt.alloc();
-    let split_used = [full(), taken(ZERO), split(ZERO, SubSet::range(3, 1))];
-    misfit(&rt, alloc, "a page in use split", &split_used);
-    let pinned_used = [full(), pin(ZERO), taken(ZERO), pinned(ZERO)];
-    misfit(&rt, alloc, "a page in use pinned", &pinned_used);
-    let kept = [taken(ZERO), split(ZERO, none())];
-    misfit(&rt, alloc, "zero-filled frames kept", &kept);
-    let data = [write(ZERO, 0, 1), taken(ZERO), split(ZERO, all())];
-    misfit(&rt, alloc, "a frame with data given back", &data);
-    let newer = [alloc_in(ONE, 1), taken(ONE)];
-    misfit(&rt, alloc, "not the oldest", &newer);
+    small_misfit(&rt, rt.alloc(), 4, "a page in use pinned", USED_PAGE_PINNED);
+    small_misfits(&rt, rt.alloc(), TRIES);
+    small_misfits(&rt, rt.alloc(), TAKES);
 }
+
+const QUEUED_AGAIN: &[Row] = &[
+    PAGE,
+    (0, Kind::SplitPmd(ZERO)),
+    (0, Kind::UnmapSub(ZERO, 0, 1, Outcome::Queued, NONE)),
+];
+
+const AFTER_TRIES: &[(&str, [Row; 4])] = &[
+    (
+        "an underused page put back",
+        [
+            PAGE,
+            (0, Kind::Pin(ZERO)),
+            (0, Kind::Taken(ZERO)),
+            (0, Kind::Back(ZERO)),
+        ],
+    ),
+    (
+        "a zero-filled page gone",
+        [
+            PAGE,
+            (0, Kind::Taken(ZERO)),
+            (0, Kind::Split(ZERO, ALL)),
+            (1, Kind::MapSub(ZERO, 3, 1)),
+        ],
+    ),
+    (
+        "frames given back twice",
+        [
+            PAGE,
+            (0, Kind::Taken(ZERO)),
+            (0, Kind::Split(ZERO, ALL)),
+            (0, Kind::UnmapSub(ZERO, 0, 4, Outcome::Freed, ALL)),
+        ],
+    ),
+];
+
+const PARTLY_MAPPED_DROPPED: &[Row] = &[
+    PAGE,
+    (0, Kind::SplitPmd(ZERO)),
+    UNMAPPED,
+    (0, Kind::Taken(ZERO)),
+    (0, Kind::Dropped(ZERO)),
+];
 
 #[test]
 fn misfits_behind_tries(rt: HostRuntime) {
     let alloc = rt.alloc();
-    let first = unmap(ZERO, 0, 1, Outcome::Stays, none());
-    let queued = unmap(ZERO, 0, 1, Outcome::Queued, none());
-    let again = [split_pmd(ZERO), queued];
-    misfit(&rt, alloc, "a new page queued again", &again);
-    let whole = [pin(ZERO), taken(ZERO), back(ZERO)];
-    misfit(&rt, alloc, "an underused page put back", &whole);
-    let partly = [split_pmd(ZERO), first, taken(ZERO), dropped(ZERO)];
-    misfit(&rt, alloc, "a partly mapped page dropped", &partly);
-    let gone = [taken(ZERO), split(ZERO, all()), map_sub(ZERO, 3, 1)];
-    misfit(&rt, alloc, "a zero-filled page gone", &gone);
-    let last = unmap(ZERO, 0, 4, Outcome::Freed, all());
-    let twice = [taken(ZERO), split(ZERO, all()), last];
-    misfit(&rt, alloc, "frames given back twice", &twice);
+    small_misfit(&rt, alloc, 4, "a new page queued again", QUEUED_AGAIN);
+    small_misfits(&rt, alloc, AFTER_TRIES);
+    small_misfit(
+        &rt,
+        alloc,
+        4,
+        "a partly mapped page dropped",
+        PARTLY_MAPPED_DROPPED,
+    );
 }
+
+const WRITES_WHILE_OFF: &[Row] = &[
+    (0, Kind::Write(ZERO, 1, 511)),
+    (0, Kind::Zero(ZERO, 7, 1)),
+    (0, Kind::Taken(ZERO)),
+    (0, Kind::Split(ZERO, FIRST)),
+];
+
+const USED_WHILE_OFF: &[Row] = &[
+    (0, Kind::Write(ZERO, 1, 511)),
+    (0, Kind::Taken(ZERO)),
+    (0, Kind::Used(ZERO)),
+];
+
+const ZEROS_WHILE_OFF: &[Row] = &[(0, Kind::Taken(ZERO)), (0, Kind::Split(ZERO, WHOLE))];
+
+const NEW_WHILE_OFF: &[Row] = &[
+    (0, Kind::Alloc(ONE, 1)),
+    (0, Kind::Taken(ZERO)),
+    (0, Kind::Taken(ONE)),
+];
 
 // With the switch off, writes and zeros are recorded, and don't change what is split.
 #[test]
 fn switch_is_off(rt: HostRuntime) {
-    let first = SubSet::range(0, 1);
-    let writes = [
-        write(ZERO, 1, 511),
-        zero(ZERO, 7, 1),
-        taken(ZERO),
-        split(ZERO, first),
-    ];
-    legal(&rt, rt.alloc(), 1, &writes);
-    let in_use = [write(ZERO, 1, 511), taken(ZERO), used(ZERO)];
-    last_misfits(&rt, rt.alloc(), "found in use", 1, &in_use);
-    let zeros = [taken(ZERO), split(ZERO, SubSet::full(9))];
-    last_misfits(&rt, rt.alloc(), "zero-filled frames", 1, &zeros);
-    let new = [alloc_in(ONE, 1), taken(ZERO), taken(ONE)];
-    last_misfits(&rt, rt.alloc(), "a new page taken", 1, &new);
+    let alloc = rt.alloc();
+    legal(&rt, alloc, 1, WRITES_WHILE_OFF);
+    last_misfits(&rt, alloc, "found in use", 1, USED_WHILE_OFF);
+    last_misfits(&rt, alloc, "zero-filled frames", 1, ZEROS_WHILE_OFF);
+    last_misfits(&rt, alloc, "a new page taken", 1, NEW_WHILE_OFF);
 }

@@ -2,7 +2,7 @@
 ghost use Rattle.std.specs.Prelude.{◌<◌, ◌≤◌};
 ghost use Rattle.thp_node.specs.Batches.{IsInFront};
 
-use crate::memory::nodes::{MOST, expect_unchanged, node_after, view_of};
+use crate::memory::nodes::{MOST, event_count, expect_unchanged, node_after, view_of};
 use std::alloc::Global;
 use std::process::Abort;
 use thp_model::PageId;
@@ -59,14 +59,14 @@ pub(crate) fn return_at_last(rt: &(impl Abort + Print), node: &mut Node, batch: 
     }
 }
 
-/// Whether one page went back, and none was dropped.
-fn is_back(reply: BackReply) -> bool {
-    reply.back == 1 && reply.dropped == 0
+/// Whether so many pages went back, and none was dropped.
+pub(crate) fn is_back(reply: BackReply, pages: u32) -> bool {
+    reply.back == pages && reply.dropped == 0
 }
 
 /// Whether the queue contains the page, and the journal has this many events.
 fn is_as_before(node: &Node, events: usize) -> bool {
-    node.queue_len() == 1 && node.journal().len() == events
+    node.queue_len() == 1 && event_count(node) == events
 }
 
 /// Takes the pinned page, tries it and puts it back.
@@ -77,7 +77,7 @@ fn pass_batch(rt: &(impl Abort + Print), alloc: Global, writes: usize) {
     let tried = try_at_last(rt, &mut node, &mut batch);
     assert!(rt; matches!(tried, Tried::Pinned(PageId(0))));
     let reply = return_at_last(rt, &mut node, batch);
-    assert!(rt; is_back(reply));
+    assert!(rt; is_back(reply, 1));
     assert!(rt; is_as_before(&node, writes.saturating_add(8)));
 }
 

@@ -1,32 +1,40 @@
 //! Every allocation made to fail in turn: the tests pass with ample memory, and continue if a call reports lack of memory. Such a
 //! call changes nothing, and works at the second try.
-ghost use Rattle.std.specs.Prelude.{◌<◌, ◌≤◌};
-ghost use Rattle.thp_node.specs.Batches.{IsInFront, FrontsStay};
+ghost use Rattle.std.specs.Prelude.{◌<◌};
+ghost use Rattle.thp_node.specs.Batches.{FrontsStay};
 
-use crate::memory::nodes::{expect_unchanged, node_at_last, view_of};
+use crate::memory::batches::{is_back, return_at_last, take_at_last, try_at_last};
+use crate::memory::nodes::{event_count, expect_unchanged, node_at_last, view_of};
 use std::alloc::Global;
 use std::process::Abort;
 use tests_steps::{Answer, Call, STAYS, answer_of, first_wrong, queueing, shape_of};
 use thp_model::{PageId, Refusal, Shape};
-use thp_node::{BackReply, Batch, Node, ScanReply, Tried};
+use thp_node::{Node, ScanReply, Tried};
+
+// The answer to a call at the second try at the latest; none if the first one failed and changed something.
+fn answer_at_last(node: &mut Node, caller: u32, call: Call) -> Option<Answer>
+    requires { caller < 64 }
+    ensures { FrontsStay node.old.journal node.new.journal }
+{
+    let before = view_of(node);
+    let first = answer_of(node, caller, call);
+    if first != Answer::Refused(Refusal::OutOfMemory) {
+        return Some(first);
+    }
+    if view_of(node) != before {
+        return None;
+    }
+    Some(answer_of(node, caller, call))
+}
 
 // Makes these calls one after the other, each with its result at the second try at the latest.
-fn expect_at_last(rt: &(impl Abort + Print), node: &mut Node, caller: u32, steps: &[(Call, Answer)])
+fn expect_at_last(rt: &impl Abort, node: &mut Node, caller: u32, steps: &[(Call, Answer)])
     requires { caller < 64 }
     ensures { FrontsStay node.old.journal node.new.journal }
 {
     for (place, &(call, want)) in steps.iter().enumerate() {
-        let before = view_of(node);
-        let first = answer_of(node, caller, call);
-        if first == Answer::Refused(Refusal::OutOfMemory) {
-            assert!(rt; view_of(node) == before);
-            assert!(rt;
-                answer_of(node, caller, call) == want,
-                "step {place} again: {call:?}"
-            );
-        } else {
-            assert!(rt; first == want, "step {place}: {call:?}");
-        }
+        let answer = answer_at_last(node, caller, call);
+        assert!(rt; answer == Some(want), "step {place}");
     }
 }
 
@@ -42,73 +50,20 @@ fn scan_at_last(rt: &(impl Abort + Print), node: &mut Node) -> ScanReply {
     }
 }
 
-fn take_at_last(rt: &(impl Abort + Print), node: &mut Node, n: u32) -> Batch
-    requires { n ≤ 128 }
-    ensures { IsInFront node.new.journal result }
-{
-    let before = view_of(node);
-    match node.take(0, n) {
-        Ok(batch) => return batch,
-        Err(refusal) => expect_unchanged(rt, node, before, refusal, "Node::take"),
-    }
-    match node.take(0, n) {
-        Ok(batch) => batch,
-        Err(_) => panic!(rt; "a take was refused twice"),
-    }
-}
-
-fn try_at_last(rt: &(impl Abort + Print), node: &mut Node, batch: &mut Batch) -> Tried
-    requires { IsInFront node.old.journal batch.old }
-    ensures { IsInFront node.new.journal batch.new }
-{
-    let before = view_of(node);
-    match node.split_next(batch) {
-        Ok(tried) => return tried,
-        Err(refusal) => expect_unchanged(rt, node, before, refusal, "Node::split_next"),
-    }
-    match node.split_next(batch) {
-        Ok(tried) => tried,
-        Err(_) => panic!(rt; "a try was refused twice"),
-    }
-}
-
-fn return_at_last(rt: &(impl Abort + Print), node: &mut Node, batch: Batch) -> BackReply
-    requires { IsInFront node.old.journal batch }
-{
-    let before = view_of(node);
-    let batch = match node.put_back(batch) {
-        Ok(reply) => return reply,
-        Err((batch, refusal)) => {
-            expect_unchanged(rt, node, before, refusal, "Node::put_back");
-            batch
-        }
-    };
-    match node.put_back(batch) {
-        Ok(reply) => reply,
-        Err(_) => panic!(rt; "a put-back was refused twice"),
-    }
-}
-
 // A page is queued and gets this many pins; then it is taken, tried and put back.
 fn put_back_after_pins(rt: &(impl Abort + Print), alloc: Global, pins: usize) {
-    let page = PageId(0);
+    let page = 0;
     let mut node = node_at_last(rt, alloc, shape_of(16));
     expect_at_last(rt, &mut node, 0, &queueing(page));
     for _pin in 0..pins {
         expect_at_last(rt, &mut node, 0, &[(Call::Pin(page), Answer::Done)]);
     }
-    let mut batch = take_at_last(rt, &mut node, 1);
+    let mut batch = take_at_last(rt, &mut node, 0, 1);
     let tried = try_at_last(rt, &mut node, &mut batch);
-    assert!(rt; tried == Tried::Pinned(page));
-    assert!(rt; node.journal().len() == pins.saturating_add(5));
+    assert!(rt; tried == Tried::Pinned(PageId(page)));
+    assert!(rt; event_count(&node) == pins.saturating_add(5));
     let reply = return_at_last(rt, &mut node, batch);
-    assert!(rt;
-        reply
-            == BackReply {
-                back: 1,
-                dropped: 0
-            }
-    );
+    assert!(rt; is_back(reply, 1));
     assert!(rt; node.queue_len() == 1);
 }
 
@@ -121,7 +76,7 @@ fn put_back_without_memory(rt: HostRuntime) {
 }
 
 // A page is queued, and passes every other call that involves no batch.
-fn calls_about_one_page(rt: &(impl Abort + Print), node: &mut Node, page: PageId) {
+fn calls_about_one_page(rt: &impl Abort, node: &mut Node, page: u64) {
     expect_at_last(rt, node, 0, &queueing(page));
     expect_at_last(rt, node, 0, &[(Call::Pin(page), Answer::Done)]);
     let steps = [
@@ -135,6 +90,29 @@ fn calls_about_one_page(rt: &(impl Abort + Print), node: &mut Node, page: PageId
     expect_at_last(rt, node, 1, &steps);
 }
 
+// Of twelve pages a scan takes eight, and splits all of them but page 1, which is pinned.
+fn is_scanned(reply: ScanReply) -> bool {
+    reply
+        == ScanReply {
+            taken: 8,
+            split: 7,
+            pinned: 1,
+            back: 1,
+            dropped: 0,
+            used: 0,
+        }
+}
+
+// Takes the five pages that are left, splits one of them, and puts the rest back.
+fn pass_the_rest(rt: &(impl Abort + Print), node: &mut Node) {
+    let mut batch = take_at_last(rt, node, 0, 128);
+    assert!(rt; batch.pages().len() == 5);
+    let tried = try_at_last(rt, node, &mut batch);
+    assert!(rt; tried == Tried::Split(PageId(8)));
+    let reply = return_at_last(rt, node, batch);
+    assert!(rt; is_back(reply, 4));
+}
+
 #[test]
 fn each_growth_refused(rt: HostRuntime) {
     let shape = Shape {
@@ -144,31 +122,11 @@ fn each_growth_refused(rt: HostRuntime) {
     };
     let mut node = node_at_last(&rt, rt.alloc(), shape);
     for number in 0..12 {
-        calls_about_one_page(&rt, &mut node, PageId(number));
+        calls_about_one_page(&rt, &mut node, number);
     }
-    expect_at_last(&rt, &mut node, 0, &[(Call::Pin(PageId(1)), Answer::Done)]);
-    let scan = scan_at_last(&rt, &mut node);
-    let scanned = ScanReply {
-        taken: 8,
-        split: 7,
-        pinned: 1,
-        back: 1,
-        dropped: 0,
-        used: 0,
-    };
-    assert!(rt; scan == scanned);
-    let mut batch = take_at_last(&rt, &mut node, 128);
-    assert!(rt; batch.pages().len() == 5);
-    let tried = try_at_last(&rt, &mut node, &mut batch);
-    assert!(rt; tried == Tried::Split(PageId(8)));
-    let reply = return_at_last(&rt, &mut node, batch);
-    assert!(rt;
-        reply
-            == BackReply {
-                back: 4,
-                dropped: 0
-            }
-    );
+    expect_at_last(&rt, &mut node, 0, &[(Call::Pin(1), Answer::Done)]);
+    assert!(rt; is_scanned(scan_at_last(&rt, &mut node)));
+    pass_the_rest(&rt, &mut node);
     expect_at_last(&rt, &mut node, 0, &[(Call::Close, Answer::Done)]);
     assert!(rt; node.queue_len() == 4);
 }
@@ -180,7 +138,7 @@ fn reserved_calls_want_no_memory(rt: HostRuntime) {
     if node.reserve(3).is_err() {
         assert!(rt; node.reserve(3) == Ok(()));
     }
-    let page = PageId(0);
+    let page = 0;
     let steps = [
         (Call::Alloc, Answer::Page(page)),
         (Call::Pin(page), Answer::Done),

@@ -116,9 +116,13 @@ pub(crate) struct View {
     counters: Counters,
 }
 
+pub(crate) fn event_count(node: &Node) -> usize {
+    node.journal().len()
+}
+
 pub(crate) fn view_of(node: &Node) -> View {
     View {
-        events: node.journal().len(),
+        events: event_count(node),
         queued: node.queue_len(),
         held: node.frames_held(),
         given: node.frames_given(),
@@ -202,9 +206,9 @@ fn is_closed(node: &mut Node) -> bool {
 /// Makes a call on a node after this many writes, and then closes the node.
 fn make_one(rt: &(impl Abort + Print), alloc: Global, writes: usize, call: Call) {
     let mut node = node_after(rt, alloc, writes);
-    let wanted = node.journal().len().saturating_add(events_of(call));
+    let wanted = event_count(&node).saturating_add(events_of(call));
     make_at_last(rt, &mut node, call, name_of(call));
-    assert!(rt; node.journal().len() == wanted);
+    assert!(rt; event_count(&node) == wanted);
     // and the node continues
     if !matches!(call, Call::Close) {
         make_at_last(rt, &mut node, Call::Close, "Node::close");

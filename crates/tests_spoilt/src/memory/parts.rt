@@ -84,23 +84,56 @@ fn settings_of(rt: &impl Abort) -> Settings {
     Settings::new(3, 16, 3, Report::Totals).expect(rt, "within the limits")
 }
 
+/// Whether memory for the script could not be allocated; otherwise it must be read.
+fn is_script_refused(rt: &impl Abort, alloc: Global, settings: &Settings) -> bool {
+    match read_script(alloc, settings, SCRIPT) {
+        Ok(_) => false,
+        Err(fault) => {
+            assert!(rt; matches!(fault, ReadFault::OutOfMemory));
+            true
+        }
+    }
+}
+
+/// The same of a journal.
+fn is_journal_refused(rt: &impl Abort, alloc: Global) -> bool {
+    match read_journal(alloc, JOURNAL) {
+        Ok(_) => false,
+        Err(fault) => {
+            assert!(rt; matches!(fault, ReadFault::OutOfMemory));
+            true
+        }
+    }
+}
+
+/// The same of its check, which must find it legal.
+fn is_check_of_text_refused(rt: &impl Abort, alloc: Global) -> bool {
+    match check_text(alloc, JOURNAL) {
+        Ok(line) => {
+            assert!(rt; line == None);
+            false
+        }
+        Err(fault) => {
+            assert!(rt; matches!(fault, ReadFault::OutOfMemory));
+            true
+        }
+    }
+}
+
 #[test]
 fn texts(rt: HostRuntime) {
     let settings = settings_of(&rt);
-    if let Err(fault) = read_script(rt.alloc(), &settings, SCRIPT) {
-        assert!(rt; matches!(fault, ReadFault::OutOfMemory));
+    if is_script_refused(&rt, rt.alloc(), &settings) {
         tell(&rt, "read_script");
-        assert!(rt; read_script(rt.alloc(), &settings, SCRIPT).is_ok());
+        assert!(rt; !is_script_refused(&rt, rt.alloc(), &settings));
     }
-    if let Err(fault) = read_journal(rt.alloc(), JOURNAL) {
-        assert!(rt; matches!(fault, ReadFault::OutOfMemory));
+    if is_journal_refused(&rt, rt.alloc()) {
         tell(&rt, "read_journal");
-        assert!(rt; read_journal(rt.alloc(), JOURNAL).is_ok());
+        assert!(rt; !is_journal_refused(&rt, rt.alloc()));
     }
-    if let Err(fault) = check_text(rt.alloc(), JOURNAL) {
-        assert!(rt; matches!(fault, ReadFault::OutOfMemory));
+    if is_check_of_text_refused(&rt, rt.alloc()) {
         tell(&rt, "check_text");
-        assert!(rt; matches!(check_text(rt.alloc(), JOURNAL), Ok(None)));
+        assert!(rt; !is_check_of_text_refused(&rt, rt.alloc()));
     }
 }
 
