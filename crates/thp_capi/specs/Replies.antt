@@ -15,7 +15,6 @@ use Rattle.thp_node.specs.declared.answers.Tried.TheVariants as try
 use Rattle.thp_node.specs.Journals.{counters_of}
 use Rattle.thp_node.specs.NodeState.{NodeState}
 use Rattle.thp_capi.specs.declared.replies.ThpBack.{ThpBack}
-use Rattle.thp_capi.specs.declared.replies.ThpDone.{ThpDone}
 use Rattle.thp_capi.specs.declared.replies.ThpScan.{ThpScan}
 use Rattle.thp_capi.specs.declared.replies.ThpTried.{ThpTried}
 use Rattle.thp_capi.specs.declared.stats.ThpStats.{ThpStats}
