@@ -21,7 +21,7 @@ CRATES = ROOT / "crates"
 
 CLAIMED = (
     "thp_cell::NodeCell::finish", "thp_node::Node::scan", "thp_check::check", "thp_run::run_program",
-    "thp_capi::node_scan", "thp_capi::pass_take", "thp_capi::check_read",
+    "thp_c::thp_c_node_scan", "thp_c::thp_c_pass_take", "thp_c::thp_c_check_read",
 )
 """The functions whose numbers docs/PROVED.md lists."""
 
@@ -159,7 +159,7 @@ def contract(function: str) -> tuple[Path, list[str]]:
     for path in sorted((CRATES / crate / "src").rglob("*.rt")):
         lines = path.read_text().splitlines()
         for start, line in enumerate(lines):
-            if re.match(rf"\s*pub fn {name}\b", line):
+            if re.match(rf"\s*pub (?:extern \"C\" )?fn {name}\b", line):
                 body: list[str] = []
                 for more in lines[start:]:
                     if more.strip() == "{" or more.rstrip().endswith(") {"):
@@ -176,7 +176,7 @@ def believed(function: str) -> dict[tuple[Path, str], Definition]:
     crate = path.relative_to(CRATES).parts[0]
     for name in dict.fromkeys(NAME.findall("\n".join(lines))):
         reader.follow(name, inside, path)
-        for other in sorted((CRATES / crate / "src").rglob("*.rt")):
+        for other in sorted(it for own in {crate, crate.replace("thp_c", "thp_capi")} for it in (CRATES / own / "src").rglob("*.rt")):
             if name in source(other).definitions:
                 reader.meet(source(other).definitions[name], other)
     return reader.met

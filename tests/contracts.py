@@ -10,7 +10,7 @@ ROOT = Path(__file__).resolve().parent.parent
 ITEM = re.compile(r"(?:impl|pub trait)\b(?:<[^{]*?>(?= ))? *(.* for )?(\w+)")
 """A line that begins the functions of a type, or of a trait for a type."""
 
-FUNCTION = re.compile(r"( *)(pub )?(?:const )?fn (\w+)")
+FUNCTION = re.compile(r'( *)(pub )?(?:const )?(extern "C" )?fn (\w+)')
 CLAUSE = re.compile(r" *ensures (?:(\w+) )?\{")
 
 
@@ -26,7 +26,7 @@ def exported(crate: Path) -> set[str]:
 
 
 def clauses(crate: str) -> dict[str, set[str]]:
-    """Each public function of a crate, as `name` or `Type::name`, with the names of what it ensures; `-` if one has no name."""
+    """Each public or exported function of a crate, as `name` or `Type::name`, with the names of what it ensures; `-` if one has no name."""
     folder = ROOT / "crates" / crate
     is_library = (folder / "src/lib.rt").is_file()
     names = exported(folder) if is_library else set()
@@ -41,9 +41,9 @@ def clauses(crate: str) -> dict[str, set[str]]:
                 owner, current = "", ""
             function, clause = FUNCTION.match(line), CLAUSE.match(line)
             if function:
-                name = owner if function[1] else function[3]
-                is_public = (bool(function[2]) or is_trait) and (name in names or not is_library)
-                current = f"{owner}::{function[3]}" if function[1] else function[3]
+                name = owner if function[1] else function[4]
+                is_public = (bool(function[2]) or is_trait) and (name in names or bool(function[3]) or not is_library)
+                current = f"{owner}::{function[4]}" if function[1] else function[4]
                 current = current if is_public else ""
                 if current:
                     found.setdefault(current, set())

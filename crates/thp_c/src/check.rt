@@ -1,12 +1,17 @@
 //! The check of journals, exported: of a whole text, and of a text that arrives in parts.
 ghost use Rattle.std.specs.Prelude.{◌≡◌};
 ghost use Rattle.thp_capi.specs.Checks.{CheckAnswer, ReportsText, numbers_of};
-ghost use Rattle.thp_capi.specs.CheckCodes.{check_answer_of, IsCheckCode};
+ghost use Rattle.thp_capi.specs.Codes.{answer_of, IsCode};
+ghost use Rattle.thp_capi.specs.Held.{Emptied};
 ghost use Rattle.thp_capi.specs.Rooms.{value_of};
-ghost use Rattle.thp_capi.specs.LongChecks.{CheckMade, CheckEmptied, CheckReads, CheckEnds, CheckTells};
+ghost use Rattle.thp_capi.specs.LongChecks.{CheckMade, CheckReads, CheckEnds, CheckTells};
 
 use std::alloc::Global;
-use thp_capi::ThpCheck;
+use thp_capi::{
+    CheckStage, Fault, Room, ThpCheck, begin_check, code, judge, put_text, read_on, reason_text,
+    verdict_code,
+};
+use thp_model::Refusal;
 
 /// Checks whether the journals in a text are legal. Returns 0 if they are, 21 for an illegal event, 22 to 29 for an error of that
 /// kind in the text, and 11 if memory can't be allocated. `line` is the line of the first illegal event or error, otherwise 0.
@@ -20,28 +25,54 @@ pub extern "C" fn thp_c_check_text(alloc: Global, text: &[u8], line: &mut u32) -
 /// Creates a check that has read nothing, and fills the handle with it.
 #[unsafe(no_mangle)]
 pub extern "C" fn thp_c_check_create(handle: &mut ThpCheck, alloc: Global) -> u32
-    ensures does { CheckMade (value_of handle.old.held) (value_of handle.new.held) (check_answer_of result) }
-    ensures known { IsCheckCode result }
+    ensures does { CheckMade (value_of handle.old.held) (value_of handle.new.held) (answer_of result) }
+    ensures known { IsCode result }
 {
-    thp_capi::check_create(handle, alloc)
+    if let Some((room, stage)) = handle.take(alloc) {
+        handle.put(room, stage);
+        return code(Err(Fault::InUse));
+    }
+    let Some(room) = Room::new(alloc) else {
+        return code(Err(Fault::Refused(Refusal::OutOfMemory)));
+    };
+    handle.put(room, CheckStage::Reading(begin_check(alloc)));
+    code(Ok(()))
 }
 
 /// Frees the check that the handle refers to, and empties the handle.
 #[unsafe(no_mangle)]
 pub extern "C" fn thp_c_check_destroy(handle: &mut ThpCheck, alloc: Global) -> u32
-    ensures does { CheckEmptied (value_of handle.old.held) (value_of handle.new.held) (check_answer_of result) }
-    ensures known { IsCheckCode result }
+    ensures does { Emptied (value_of handle.old.held) (value_of handle.new.held) (answer_of result) }
+    ensures known { IsCode result }
 {
-    thp_capi::check_destroy(handle, alloc)
+    match handle.take(alloc) {
+        Some(_taken) => code(Ok(())),
+        None => code(Err(Fault::Empty)),
+    }
 }
 
 /// Reads the next part of the text. If memory for that can't be allocated, the check is lost and the handle is empty.
 #[unsafe(no_mangle)]
 pub extern "C" fn thp_c_check_read(handle: &mut ThpCheck, alloc: Global, part: &[u8]) -> u32
-    ensures does { CheckReads part.now (value_of handle.old.held) (value_of handle.new.held) (check_answer_of result) }
-    ensures known { IsCheckCode result }
+    ensures does { CheckReads part.now (value_of handle.old.held) (value_of handle.new.held) (answer_of result) }
+    ensures known { IsCode result }
 {
-    thp_capi::check_read(handle, alloc, part)
+    let Some((room, stage)) = handle.take(alloc) else {
+        return code(Err(Fault::Empty));
+    };
+    match stage {
+        CheckStage::Judged(verdict) => {
+            handle.put(room, CheckStage::Judged(verdict));
+            code(Err(Fault::Finished))
+        }
+        CheckStage::Reading(check) => match read_on(check, part) {
+            Ok(check) => {
+                handle.put(room, CheckStage::Reading(check));
+                code(Ok(()))
+            }
+            Err(_) => code(Err(Fault::Refused(Refusal::OutOfMemory))),
+        },
+    }
 }
 
 /// Finishes the check, unless it is finished already. Returns 0 if the text read is legal, 21 for an illegal event, and 22 to 29
@@ -50,7 +81,14 @@ pub extern "C" fn thp_c_check_read(handle: &mut ThpCheck, alloc: Global, part: &
 pub extern "C" fn thp_c_check_finish(handle: &mut ThpCheck, alloc: Global, line: &mut u64) -> u32
     ensures { CheckEnds (value_of handle.old.held) (value_of handle.new.held) result line.old line.new }
 {
-    thp_capi::check_finish(handle, alloc, line)
+    let Some((room, stage)) = handle.take(alloc) else {
+        return 12;
+    };
+    let verdict = judge(stage);
+    let (code, at) = verdict_code(&verdict);
+    handle.put(room, CheckStage::Judged(verdict));
+    *line = at;
+    code
 }
 
 /// Writes why the first illegal event does not fit, as text, to the start of the buffer if the text fits there. `size` is its
@@ -62,8 +100,19 @@ pub extern "C" fn thp_c_check_reason(
     buffer: &mut [u8],
     size: &mut usize,
 ) -> u32
-    ensures does { CheckTells (value_of handle.old.held) (value_of handle.new.held) buffer.old buffer.new size.old size.new (check_answer_of result) }
-    ensures known { IsCheckCode result }
+    ensures does { CheckTells (value_of handle.old.held) (value_of handle.new.held) buffer.old buffer.new size.old size.new (answer_of result) }
+    ensures known { IsCode result }
 {
-    thp_capi::check_reason(handle, alloc, buffer, size)
+    let Some((room, stage)) = handle.take(alloc) else {
+        return code(Err(Fault::Empty));
+    };
+    let text = reason_text(alloc, &stage);
+    handle.put(room, stage);
+    match text {
+        Ok(text) => {
+            *size = text.len();
+            code(put_text(buffer, &text))
+        }
+        Err(fault) => code(Err(fault)),
+    }
 }

@@ -1,6 +1,4 @@
-//! The static library for C: exports of `thp_capi`.
-//!
-//! Each export is a call of `thp_capi` under that call's contract, and nothing else; what a call does is proved there.
+//! The static library for C: its calls, on the handles of `thp_capi`.
 //!
 //! - `node`, `node_readers`, `page_calls` (about one page, of nodes and of passes), `pass`, `pass_batches`, `check`.
 //!

@@ -1,17 +1,20 @@
-//! The calls of a node, exported.
-ghost use Rattle.std.specs.Prelude.{◌≡◌, ◌∷◌, ◌≤◌, [], Ok, Err, OnOk, OnErr, length};
+//! The calls of a node.
+ghost use Rattle.std.specs.Prelude.{◌≡◌, ◌∷◌, [], Ok, Err, OnErr, length};
 ghost use Rattle.thp_model.specs.Places.{queue};
 ghost use Rattle.thp_model.specs.Refusals as call;
 ghost use Rattle.thp_capi.specs.Calls.{OneCall, AllocCall, ScanCall, TakeCall, NextCall, BackCall, AbandonCall, ReserveCall, Written};
 ghost use Rattle.thp_capi.specs.Codes.{answer_of, answer_with, IsCode};
 ghost use Rattle.thp_capi.specs.Engines.{shape_of};
 ghost use Rattle.thp_capi.specs.Held.{Does, DoesIfKept, Made, Emptied};
-ghost use Rattle.thp_capi.specs.Replies.{stats_of, scan_of, tried_of, back_of};
+ghost use Rattle.thp_capi.specs.Replies.{stats_of};
 ghost use Rattle.thp_journal_writer.specs.Journals.{journal_text};
 
 use std::alloc::Global;
-use thp_capi::{Events, Fault, ThpBack, ThpNode, ThpScan, ThpStats, ThpTried};
-use thp_model::What;
+use thp_capi::{
+    Events, Fault, HeldEngine, ThpBack, ThpNode, ThpScan, ThpStats, ThpTried, code, on_node,
+    put_text, report,
+};
+use thp_model::{Refusal, What};
 
 /// Creates a node and fills the handle with it. The greatest number as the threshold turns the search for
 /// underused pages off.
@@ -50,7 +53,10 @@ pub extern "C" fn thp_c_node_destroy(handle: &mut ThpNode, alloc: Global) -> u32
     ensures does { Emptied handle.old.held handle.new.held (answer_of result) }
     ensures known { IsCode result }
 {
-    thp_capi::node_destroy(handle, alloc)
+    match handle.take(alloc) {
+        Some(_engine) => code(Ok(())),
+        None => code(Err(Fault::Empty)),
+    }
 }
 
 /// Allocates a page, mapped whole once. Its number is the number of allocations before it.
@@ -65,7 +71,10 @@ pub extern "C" fn thp_c_node_alloc(
     ensures known { IsCode result }
     ensures kept { OnErr (answer_of result) (page.new ≡ page.old) }
 {
-    thp_capi::node_alloc(handle, alloc, caller, page)
+    report(
+        on_node!(handle, alloc, engine => engine.alloc_page(caller)),
+        page,
+    )
 }
 
 /// Closes the node: no page is queued or allocated afterwards.
@@ -74,7 +83,7 @@ pub extern "C" fn thp_c_node_close(handle: &mut ThpNode, alloc: Global, caller: 
     ensures does { Does handle.old.held handle.new.held (answer_of result) (OneCall caller call.close What.Close) }
     ensures known { IsCode result }
 {
-    thp_capi::node_close(handle, alloc, caller)
+    code(on_node!(handle, alloc, engine => engine.close(caller)))
 }
 
 /// Takes up to `n` of the oldest queued pages, in order, tries each, and returns the pinned ones.
@@ -86,11 +95,14 @@ pub extern "C" fn thp_c_node_scan(
     n: u32,
     scan: &mut ThpScan,
 ) -> u32
-    ensures does { Does handle.old.held handle.new.held (answer_of result) (λ old new answer. ScanCall caller n old new (answer_with answer (scan_of scan.new))) }
+    ensures does { Does handle.old.held handle.new.held (answer_of result) (λ old new answer. ScanCall caller n old new (answer_with answer scan.new)) }
     ensures known { IsCode result }
     ensures kept { OnErr (answer_of result) (scan.new ≡ scan.old) }
 {
-    thp_capi::node_scan(handle, alloc, caller, n, scan)
+    report(
+        on_node!(handle, alloc, engine => engine.scan(caller, n)),
+        scan,
+    )
 }
 
 /// Takes up to `n` of the oldest queued pages, in order, into the caller's batch, which is open afterwards. `count` is the number
@@ -107,7 +119,10 @@ pub extern "C" fn thp_c_node_take(
     ensures known { IsCode result }
     ensures kept { OnErr (answer_of result) (count.new ≡ count.old) }
 {
-    thp_capi::node_take(handle, alloc, caller, n, count)
+    report(
+        on_node!(handle, alloc, engine => engine.take(caller, n)),
+        count,
+    )
 }
 
 /// Tries the next page of the caller's open batch.
@@ -118,12 +133,14 @@ pub extern "C" fn thp_c_node_split_next(
     caller: u32,
     tried: &mut ThpTried,
 ) -> u32
-    ensures does { Does handle.old.held handle.new.held (answer_of result) (λ old new answer. NextCall caller old new (answer_with answer (tried_of tried.new))) }
+    ensures does { Does handle.old.held handle.new.held (answer_of result) (λ old new answer. NextCall caller old new (answer_with answer tried.new)) }
     ensures known { IsCode result }
     ensures kept { OnErr (answer_of result) (tried.new ≡ tried.old) }
-    ensures kind { OnOk (answer_of result) (tried.new.kind ≤ 3) }
 {
-    thp_capi::node_split_next(handle, alloc, caller, tried)
+    report(
+        on_node!(handle, alloc, engine => engine.split_next(caller)),
+        tried,
+    )
 }
 
 /// Returns the remaining pages of the caller's open batch, and closes the batch.
@@ -134,11 +151,14 @@ pub extern "C" fn thp_c_node_put_back(
     caller: u32,
     back: &mut ThpBack,
 ) -> u32
-    ensures does { Does handle.old.held handle.new.held (answer_of result) (λ old new answer. BackCall caller old new (answer_with answer (back_of back.new))) }
+    ensures does { Does handle.old.held handle.new.held (answer_of result) (λ old new answer. BackCall caller old new (answer_with answer back.new)) }
     ensures known { IsCode result }
     ensures kept { OnErr (answer_of result) (back.new ≡ back.old) }
 {
-    thp_capi::node_put_back(handle, alloc, caller, back)
+    report(
+        on_node!(handle, alloc, engine => engine.put_back(caller)),
+        back,
+    )
 }
 
 /// Discards the caller's open batch: its pages stay in the caller's flight, out of the queue.
@@ -147,7 +167,7 @@ pub extern "C" fn thp_c_node_abandon(handle: &mut ThpNode, alloc: Global, caller
     ensures does { Does handle.old.held handle.new.held (answer_of result) (AbandonCall caller) }
     ensures known { IsCode result }
 {
-    thp_capi::node_abandon(handle, alloc, caller)
+    code(on_node!(handle, alloc, engine => engine.abandon(caller)))
 }
 
 /// Reserves room in the journal for `events` events: calls that record no more than that never fail for lack of memory. A scan
@@ -157,7 +177,7 @@ pub extern "C" fn thp_c_node_reserve(handle: &mut ThpNode, alloc: Global, events
     ensures does { Does handle.old.held handle.new.held (answer_of result) (ReserveCall events) }
     ensures known { IsCode result }
 {
-    thp_capi::node_reserve(handle, alloc, events)
+    code(on_node!(handle, alloc, engine => engine.reserve(events)))
 }
 
 /// Stores in `pages` the number of queued pages, which is the shrinker's count.
@@ -171,7 +191,8 @@ pub extern "C" fn thp_c_node_queue_length(
     ensures known { IsCode result }
     ensures kept { OnErr (answer_of result) (pages.new ≡ pages.old) }
 {
-    thp_capi::node_queue_length(handle, alloc, pages)
+    *pages = on_node!(handle, alloc, engine => engine.queue_length());
+    code(Ok(()))
 }
 
 /// Stores the node's statistics in `stats`.
@@ -181,7 +202,8 @@ pub extern "C" fn thp_c_node_stats(handle: &mut ThpNode, alloc: Global, stats: &
     ensures known { IsCode result }
     ensures kept { OnErr (answer_of result) (stats.new ≡ stats.old) }
 {
-    thp_capi::node_stats(handle, alloc, stats)
+    *stats = on_node!(handle, alloc, engine => engine.stats());
+    code(Ok(()))
 }
 
 /// Writes the journal as text to the start of the buffer if the text fits there. `size` is its length in bytes.
@@ -195,5 +217,20 @@ pub extern "C" fn thp_c_node_journal(
     ensures does { DoesIfKept handle.old.held handle.new.held (answer_of result) (λ old new answer. (new ≡ old) × Written (journal_text ((old.node.shape, old.node.journal) ∷ [])) buffer.old buffer.new size.old size.new answer) (λ old new answer. (new ≡ old) × (answer ≡ Err Fault.NoJournal) × (buffer.new ≡ buffer.old) × (size.new ≡ size.old)) }
     ensures known { IsCode result }
 {
-    thp_capi::node_journal(handle, alloc, buffer, size)
+    let Some(engine) = handle.take(alloc) else {
+        return code(Err(Fault::Empty));
+    };
+    let text = match &*engine {
+        HeldEngine::Kept(engine) => Some(engine.text(alloc)),
+        HeldEngine::Counted(_) => None,
+    };
+    handle.store(engine);
+    match text {
+        Some(Ok(text)) => {
+            *size = text.len();
+            code(put_text(buffer, &text))
+        }
+        Some(Err(_)) => code(Err(Fault::Refused(Refusal::OutOfMemory))),
+        None => code(Err(Fault::NoJournal)),
+    }
 }

@@ -1,11 +1,12 @@
-//! The calls that read a node's pages and queue, exported.
+//! The calls that read a node's pages and queue.
 ghost use Rattle.std.specs.Prelude.{◌≡◌, Err, OnErr};
 ghost use Rattle.thp_capi.specs.Codes.{answer_of, answer_with, IsCode};
 ghost use Rattle.thp_capi.specs.Held.{Does, DoesIfKept};
 ghost use Rattle.thp_capi.specs.Reading.{MapcountCall, PageCall, QueueCall};
 
 use std::alloc::Global;
-use thp_capi::{Fault, ThpNode, ThpPageState};
+use thp_capi::{Fault, HeldEngine, ThpNode, ThpPageState, code, on_node, report};
+use thp_model::PageId;
 
 /// Stores the state of a live page in `state`.
 #[unsafe(no_mangle)]
@@ -19,7 +20,10 @@ pub extern "C" fn thp_c_node_page(
     ensures known { IsCode result }
     ensures kept { OnErr (answer_of result) (state.new ≡ state.old) }
 {
-    thp_capi::node_page(handle, alloc, page, state)
+    report(
+        on_node!(handle, alloc, engine => engine.page(PageId(page))),
+        state,
+    )
 }
 
 /// Stores the own map count of a subpage of a live page in `own`: the number of PTE entries that map it.
@@ -35,7 +39,10 @@ pub extern "C" fn thp_c_node_mapcount(
     ensures known { IsCode result }
     ensures kept { OnErr (answer_of result) (own.new ≡ own.old) }
 {
-    thp_capi::node_mapcount(handle, alloc, page, subpage, own)
+    report(
+        on_node!(handle, alloc, engine => engine.mapcount(PageId(page), subpage)),
+        own,
+    )
 }
 
 /// Stores in `pages` the queued pages, oldest first, as many as there is room for, and in `count` the number of queued pages.
@@ -51,5 +58,13 @@ pub extern "C" fn thp_c_node_queue(
     ensures kept_pages { OnErr (answer_of result) (pages.new ≡ pages.old) }
     ensures kept_count { OnErr (answer_of result) (count.new ≡ count.old) }
 {
-    thp_capi::node_queue(handle, alloc, pages, count)
+    let Some(engine) = handle.take(alloc) else {
+        return code(Err(Fault::Empty));
+    };
+    let length = match &*engine {
+        HeldEngine::Kept(engine) => Ok(engine.queue(pages)),
+        HeldEngine::Counted(_) => Err(Fault::NoJournal),
+    };
+    handle.store(engine);
+    report(length, count)
 }

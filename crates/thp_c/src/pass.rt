@@ -1,15 +1,17 @@
-//! The calls of a shared node, exported: of its cell, and of passes of the cell.
+//! The calls of a shared node: of its cell, and of passes of the cell.
 ghost use Rattle.std.specs.Prelude.{◌≡◌, None, OnOk, OnErr, IfErr, Ok};
 ghost use Rattle.thp_model.specs.Refusals as call;
+ghost use Rattle.thp_capi.specs.Codes.{answer_of, answer_with, IsCode};
 ghost use Rattle.thp_capi.specs.Engines.{shape_of};
-ghost use Rattle.thp_capi.specs.PassCodes.{pass_answer_of, pass_answer_with, IsPassCode};
+ghost use Rattle.thp_capi.specs.Held.{Emptied};
 ghost use Rattle.thp_capi.specs.Rooms.{value_of};
-ghost use Rattle.thp_capi.specs.Passes.{PassDoes, PassOne, PassAlloc, PassScan, PassCount, CellMade, PassEmptied, Divided, WhyUndivided, Joined, WhyApart, OneCellHeld, Finished, WhyUnfinished};
-ghost use Rattle.thp_capi.specs.Replies.{scan_of};
+ghost use Rattle.thp_capi.specs.Passes.{PassDoes, PassOne, PassAlloc, PassScan, PassCount, CellMade, Divided, WhyUndivided, Joined, WhyApart, OneCellHeld, Finished, WhyUnfinished};
 
 use std::alloc::Global;
-use thp_capi::{Events, ThpNode, ThpPass, ThpScan};
-use thp_model::What;
+use thp_capi::{
+    Events, Fault, Room, ThpNode, ThpPass, ThpScan, code, on_pass, report, spare_engine,
+};
+use thp_model::{Refusal, What};
 
 /// Creates a shared node for `callers` callers, and fills the handle with the pass of all of them. `mark` distinguishes passes of
 /// this cell from those of others.
@@ -23,8 +25,8 @@ pub extern "C" fn thp_c_cell_create(
     callers: u32,
     mark: u64,
 ) -> u32
-    ensures does { CellMade (value_of handle.old.held) (value_of handle.new.held) (shape_of blocks order underused) Events.Kept callers mark (pass_answer_of result) }
-    ensures known { IsPassCode result }
+    ensures does { CellMade (value_of handle.old.held) (value_of handle.new.held) (shape_of blocks order underused) Events.Kept callers mark (answer_of result) }
+    ensures known { IsCode result }
 {
     thp_capi::cell_create(
         handle,
@@ -49,8 +51,8 @@ pub extern "C" fn thp_c_cell_create_counting(
     callers: u32,
     mark: u64,
 ) -> u32
-    ensures does { CellMade (value_of handle.old.held) (value_of handle.new.held) (shape_of blocks order underused) Events.Counted callers mark (pass_answer_of result) }
-    ensures known { IsPassCode result }
+    ensures does { CellMade (value_of handle.old.held) (value_of handle.new.held) (shape_of blocks order underused) Events.Counted callers mark (answer_of result) }
+    ensures known { IsCode result }
 {
     thp_capi::cell_create(
         handle,
@@ -67,10 +69,13 @@ pub extern "C" fn thp_c_cell_create_counting(
 /// Frees the pass that the handle refers to, and empties the handle. The last pass frees the cell too.
 #[unsafe(no_mangle)]
 pub extern "C" fn thp_c_pass_destroy(handle: &mut ThpPass, alloc: Global) -> u32
-    ensures does { PassEmptied (value_of handle.old.held) (value_of handle.new.held) (pass_answer_of result) }
-    ensures known { IsPassCode result }
+    ensures does { Emptied (value_of handle.old.held) (value_of handle.new.held) (answer_of result) }
+    ensures known { IsCode result }
 {
-    thp_capi::pass_destroy(handle, alloc)
+    match handle.take(alloc) {
+        Some(_taken) => code(Ok(())),
+        None => code(Err(Fault::Empty)),
+    }
 }
 
 /// Divides the callers of a pass: those below `at` stay, and the other handle is filled with a pass of those from `at` on.
@@ -81,13 +86,34 @@ pub extern "C" fn thp_c_pass_split(
     at: u32,
     other: &mut ThpPass,
 ) -> u32
-    ensures done { OnOk (pass_answer_of result) (Divided at (value_of handle.old.held) (value_of handle.new.held) (value_of other.new.held)) }
-    ensures same { OnErr (pass_answer_of result) (value_of handle.new.held ≡ value_of handle.old.held) }
-    ensures same_other { OnErr (pass_answer_of result) (value_of other.new.held ≡ value_of other.old.held) }
-    ensures why { IfErr (pass_answer_of result) (WhyUndivided at (value_of handle.old.held) (value_of other.old.held)) }
-    ensures known { IsPassCode result }
+    ensures done { OnOk (answer_of result) (Divided at (value_of handle.old.held) (value_of handle.new.held) (value_of other.new.held)) }
+    ensures same { OnErr (answer_of result) (value_of handle.new.held ≡ value_of handle.old.held) }
+    ensures same_other { OnErr (answer_of result) (value_of other.new.held ≡ value_of other.old.held) }
+    ensures why { IfErr (answer_of result) (WhyUndivided at (value_of handle.old.held) (value_of other.old.held)) }
+    ensures known { IsCode result }
 {
-    thp_capi::pass_split(handle, alloc, at, other)
+    if let Some((room, pass)) = other.take(alloc) {
+        other.put(room, pass);
+        return code(Err(Fault::InUse));
+    }
+    let Some((room, pass)) = handle.take(alloc) else {
+        return code(Err(Fault::Empty));
+    };
+    let Some(other_room) = Room::new(alloc) else {
+        handle.put(room, pass);
+        return code(Err(Fault::Refused(Refusal::OutOfMemory)));
+    };
+    match pass.split(alloc, at) {
+        Ok((left, right)) => {
+            handle.put(room, left);
+            other.put(other_room, right);
+            code(Ok(()))
+        }
+        Err((pass, fault)) => {
+            handle.put(room, pass);
+            code(Err(fault))
+        }
+    }
 }
 
 /// Joins the pass of the other handle to this one, and empties the other. The callers of the other must directly follow those of
@@ -95,28 +121,65 @@ pub extern "C" fn thp_c_pass_split(
 #[unsafe(no_mangle)]
 pub extern "C" fn thp_c_pass_join(handle: &mut ThpPass, alloc: Global, other: &mut ThpPass) -> u32
     requires { OneCellHeld (value_of handle.old.held) (value_of other.old.held) }
-    ensures done { OnOk (pass_answer_of result) (Joined (value_of handle.old.held) (value_of other.old.held) (value_of handle.new.held)) }
-    ensures emptied { OnOk (pass_answer_of result) (value_of other.new.held ≡ None) }
-    ensures same { OnErr (pass_answer_of result) (value_of handle.new.held ≡ value_of handle.old.held) }
-    ensures same_other { OnErr (pass_answer_of result) (value_of other.new.held ≡ value_of other.old.held) }
-    ensures why { IfErr (pass_answer_of result) (WhyApart (value_of handle.old.held) (value_of other.old.held)) }
-    ensures known { IsPassCode result }
+    ensures done { OnOk (answer_of result) (Joined (value_of handle.old.held) (value_of other.old.held) (value_of handle.new.held)) }
+    ensures emptied { OnOk (answer_of result) (value_of other.new.held ≡ None) }
+    ensures same { OnErr (answer_of result) (value_of handle.new.held ≡ value_of handle.old.held) }
+    ensures same_other { OnErr (answer_of result) (value_of other.new.held ≡ value_of other.old.held) }
+    ensures why { IfErr (answer_of result) (WhyApart (value_of handle.old.held) (value_of other.old.held)) }
+    ensures known { IsCode result }
 {
-    thp_capi::pass_join(handle, alloc, other)
+    let Some((room, left)) = handle.take(alloc) else {
+        return code(Err(Fault::Empty));
+    };
+    let Some((other_room, right)) = other.take(alloc) else {
+        handle.put(room, left);
+        return code(Err(Fault::Empty));
+    };
+    match left.join(right) {
+        Ok(both) => {
+            handle.put(room, both);
+            code(Ok(()))
+        }
+        Err((left, right)) => {
+            handle.put(room, left);
+            other.put(other_room, right);
+            code(Err(Fault::BadPass))
+        }
+    }
 }
 
 /// Dismantles the cell if the pass has all its callers and no other handle refers to the cell: fills the second handle with the
 /// node, and empties the first.
 #[unsafe(no_mangle)]
 pub extern "C" fn thp_c_cell_finish(handle: &mut ThpPass, alloc: Global, node: &mut ThpNode) -> u32
-    ensures done { OnOk (pass_answer_of result) (Finished (value_of handle.old.held) node.new.held) }
-    ensures emptied { OnOk (pass_answer_of result) (value_of handle.new.held ≡ None) }
-    ensures same { OnErr (pass_answer_of result) (value_of handle.new.held ≡ value_of handle.old.held) }
-    ensures same_node { OnErr (pass_answer_of result) (node.new.held ≡ node.old.held) }
-    ensures why { IfErr (pass_answer_of result) (WhyUnfinished (value_of handle.old.held) node.old.held) }
-    ensures known { IsPassCode result }
+    ensures done { OnOk (answer_of result) (Finished (value_of handle.old.held) node.new.held) }
+    ensures emptied { OnOk (answer_of result) (value_of handle.new.held ≡ None) }
+    ensures same { OnErr (answer_of result) (value_of handle.new.held ≡ value_of handle.old.held) }
+    ensures same_node { OnErr (answer_of result) (node.new.held ≡ node.old.held) }
+    ensures why { IfErr (answer_of result) (WhyUnfinished (value_of handle.old.held) node.old.held) }
+    ensures known { IsCode result }
 {
-    thp_capi::cell_finish(handle, alloc, node)
+    if let Some(engine) = node.take(alloc) {
+        node.store(engine);
+        return code(Err(Fault::InUse));
+    }
+    let Some((room, pass)) = handle.take(alloc) else {
+        return code(Err(Fault::Empty));
+    };
+    let Some(mut engine) = spare_engine(alloc, pass.events()) else {
+        handle.put(room, pass);
+        return code(Err(Fault::Refused(Refusal::OutOfMemory)));
+    };
+    match pass.finish(&mut *engine) {
+        Ok(()) => {
+            node.store(engine);
+            code(Ok(()))
+        }
+        Err((pass, fault)) => {
+            handle.put(room, pass);
+            code(Err(fault))
+        }
+    }
 }
 
 /// Allocates a page, mapped whole once. Its number is the number of allocations before it.
@@ -127,20 +190,23 @@ pub extern "C" fn thp_c_pass_alloc(
     caller: u32,
     page: &mut u64,
 ) -> u32
-    ensures does { PassDoes (value_of handle.old.held) (value_of handle.new.held) (pass_answer_of result) (λ old new answer. PassAlloc caller old new (pass_answer_with answer page.new)) }
-    ensures known { IsPassCode result }
-    ensures kept { OnErr (pass_answer_of result) (page.new ≡ page.old) }
+    ensures does { PassDoes (value_of handle.old.held) (value_of handle.new.held) (answer_of result) (λ old new answer. PassAlloc caller old new (answer_with answer page.new)) }
+    ensures known { IsCode result }
+    ensures kept { OnErr (answer_of result) (page.new ≡ page.old) }
 {
-    thp_capi::pass_alloc(handle, alloc, caller, page)
+    report(
+        on_pass!(handle, alloc, pass => pass.alloc_page(caller)),
+        page,
+    )
 }
 
 /// Closes the node: no page is queued or allocated afterwards.
 #[unsafe(no_mangle)]
 pub extern "C" fn thp_c_pass_close(handle: &mut ThpPass, alloc: Global, caller: u32) -> u32
-    ensures does { PassDoes (value_of handle.old.held) (value_of handle.new.held) (pass_answer_of result) (PassOne caller call.close What.Close) }
-    ensures known { IsPassCode result }
+    ensures does { PassDoes (value_of handle.old.held) (value_of handle.new.held) (answer_of result) (PassOne caller call.close What.Close) }
+    ensures known { IsCode result }
 {
-    thp_capi::pass_close(handle, alloc, caller)
+    code(on_pass!(handle, alloc, pass => pass.close(caller)))
 }
 
 /// Takes up to `n` of the oldest queued pages, in order, tries each, and returns the pinned ones.
@@ -152,21 +218,22 @@ pub extern "C" fn thp_c_pass_scan(
     n: u32,
     scan: &mut ThpScan,
 ) -> u32
-    ensures does { PassDoes (value_of handle.old.held) (value_of handle.new.held) (pass_answer_of result) (λ old new answer. PassScan caller n old new (pass_answer_with answer (scan_of scan.new))) }
-    ensures known { IsPassCode result }
-    ensures kept { OnErr (pass_answer_of result) (scan.new ≡ scan.old) }
+    ensures does { PassDoes (value_of handle.old.held) (value_of handle.new.held) (answer_of result) (λ old new answer. PassScan caller n old new (answer_with answer scan.new)) }
+    ensures known { IsCode result }
+    ensures kept { OnErr (answer_of result) (scan.new ≡ scan.old) }
 {
-    thp_capi::pass_scan(handle, alloc, caller, n, scan)
+    report(on_pass!(handle, alloc, pass => pass.scan(caller, n)), scan)
 }
 
 /// Stores in `pages` the number of queued pages, even while another pass has the node.
 #[unsafe(no_mangle)]
 pub extern "C" fn thp_c_pass_count(handle: &mut ThpPass, alloc: Global, pages: &mut u32) -> u32
-    ensures does { PassDoes (value_of handle.old.held) (value_of handle.new.held) (pass_answer_of result) (λ old new answer. (answer ≡ Ok tt) × PassCount pages.new old new) }
-    ensures known { IsPassCode result }
-    ensures kept { OnErr (pass_answer_of result) (pages.new ≡ pages.old) }
+    ensures does { PassDoes (value_of handle.old.held) (value_of handle.new.held) (answer_of result) (λ old new answer. (answer ≡ Ok tt) × PassCount pages.new old new) }
+    ensures known { IsCode result }
+    ensures kept { OnErr (answer_of result) (pages.new ≡ pages.old) }
 {
-    thp_capi::pass_count(handle, alloc, pages)
+    *pages = on_pass!(handle, alloc, pass => pass.count());
+    code(Ok(()))
 }
 
 /// Stores in `first` and `end` the callers of the pass: those from `first` on and below `end`.
@@ -177,10 +244,13 @@ pub extern "C" fn thp_c_pass_callers(
     first: &mut u32,
     end: &mut u32,
 ) -> u32
-    ensures does { PassDoes (value_of handle.old.held) (value_of handle.new.held) (pass_answer_of result) (λ old new answer. (new ≡ old) × (answer ≡ Ok tt) × (first.new ≡ old.pass.first) × (end.new ≡ old.pass.end)) }
-    ensures known { IsPassCode result }
-    ensures kept_first { OnErr (pass_answer_of result) (first.new ≡ first.old) }
-    ensures kept_end { OnErr (pass_answer_of result) (end.new ≡ end.old) }
+    ensures does { PassDoes (value_of handle.old.held) (value_of handle.new.held) (answer_of result) (λ old new answer. (new ≡ old) × (answer ≡ Ok tt) × (first.new ≡ old.pass.first) × (end.new ≡ old.pass.end)) }
+    ensures known { IsCode result }
+    ensures kept_first { OnErr (answer_of result) (first.new ≡ first.old) }
+    ensures kept_end { OnErr (answer_of result) (end.new ≡ end.old) }
 {
-    thp_capi::pass_callers(handle, alloc, first, end)
+    let (from, to) = on_pass!(handle, alloc, pass => pass.callers());
+    *first = from;
+    *end = to;
+    code(Ok(()))
 }

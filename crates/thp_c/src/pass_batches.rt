@@ -1,13 +1,12 @@
-//! The calls about a caller's open batch on a shared node, exported.
-ghost use Rattle.std.specs.Prelude.{◌≡◌, ◌≤◌, OnErr, OnOk};
+//! The calls about a caller's open batch on a shared node.
+ghost use Rattle.std.specs.Prelude.{◌≡◌, OnErr};
 ghost use Rattle.thp_capi.specs.PassBatches.{PassTake, PassNext, PassBack, PassAbandon};
-ghost use Rattle.thp_capi.specs.PassCodes.{pass_answer_of, pass_answer_with, IsPassCode};
+ghost use Rattle.thp_capi.specs.Codes.{answer_of, answer_with, IsCode};
 ghost use Rattle.thp_capi.specs.Rooms.{value_of};
 ghost use Rattle.thp_capi.specs.Passes.{PassDoes};
-ghost use Rattle.thp_capi.specs.Replies.{tried_of, back_of};
 
 use std::alloc::Global;
-use thp_capi::{ThpBack, ThpPass, ThpTried};
+use thp_capi::{ThpBack, ThpPass, ThpTried, code, on_pass, report};
 
 /// Takes up to `n` of the oldest queued pages, in order, into the caller's batch, which is open afterwards. `count` is the number
 /// of pages taken.
@@ -19,11 +18,11 @@ pub extern "C" fn thp_c_pass_take(
     n: u32,
     count: &mut u32,
 ) -> u32
-    ensures does { PassDoes (value_of handle.old.held) (value_of handle.new.held) (pass_answer_of result) (λ old new answer. PassTake caller n old new (pass_answer_with answer count.new)) }
-    ensures known { IsPassCode result }
-    ensures kept { OnErr (pass_answer_of result) (count.new ≡ count.old) }
+    ensures does { PassDoes (value_of handle.old.held) (value_of handle.new.held) (answer_of result) (λ old new answer. PassTake caller n old new (answer_with answer count.new)) }
+    ensures known { IsCode result }
+    ensures kept { OnErr (answer_of result) (count.new ≡ count.old) }
 {
-    thp_capi::pass_take(handle, alloc, caller, n, count)
+    report(on_pass!(handle, alloc, pass => pass.take(caller, n)), count)
 }
 
 /// Tries the next page of the caller's open batch.
@@ -34,12 +33,14 @@ pub extern "C" fn thp_c_pass_split_next(
     caller: u32,
     tried: &mut ThpTried,
 ) -> u32
-    ensures does { PassDoes (value_of handle.old.held) (value_of handle.new.held) (pass_answer_of result) (λ old new answer. PassNext caller old new (pass_answer_with answer (tried_of tried.new))) }
-    ensures known { IsPassCode result }
-    ensures kept { OnErr (pass_answer_of result) (tried.new ≡ tried.old) }
-    ensures kind { OnOk (pass_answer_of result) (tried.new.kind ≤ 3) }
+    ensures does { PassDoes (value_of handle.old.held) (value_of handle.new.held) (answer_of result) (λ old new answer. PassNext caller old new (answer_with answer tried.new)) }
+    ensures known { IsCode result }
+    ensures kept { OnErr (answer_of result) (tried.new ≡ tried.old) }
 {
-    thp_capi::pass_split_next(handle, alloc, caller, tried)
+    report(
+        on_pass!(handle, alloc, pass => pass.split_next(caller)),
+        tried,
+    )
 }
 
 /// Returns the remaining pages of the caller's open batch, and closes the batch.
@@ -50,18 +51,18 @@ pub extern "C" fn thp_c_pass_put_back(
     caller: u32,
     back: &mut ThpBack,
 ) -> u32
-    ensures does { PassDoes (value_of handle.old.held) (value_of handle.new.held) (pass_answer_of result) (λ old new answer. PassBack caller old new (pass_answer_with answer (back_of back.new))) }
-    ensures known { IsPassCode result }
-    ensures kept { OnErr (pass_answer_of result) (back.new ≡ back.old) }
+    ensures does { PassDoes (value_of handle.old.held) (value_of handle.new.held) (answer_of result) (λ old new answer. PassBack caller old new (answer_with answer back.new)) }
+    ensures known { IsCode result }
+    ensures kept { OnErr (answer_of result) (back.new ≡ back.old) }
 {
-    thp_capi::pass_put_back(handle, alloc, caller, back)
+    report(on_pass!(handle, alloc, pass => pass.put_back(caller)), back)
 }
 
 /// Discards the caller's open batch: its pages stay in the caller's flight, out of the queue.
 #[unsafe(no_mangle)]
 pub extern "C" fn thp_c_pass_abandon(handle: &mut ThpPass, alloc: Global, caller: u32) -> u32
-    ensures does { PassDoes (value_of handle.old.held) (value_of handle.new.held) (pass_answer_of result) (PassAbandon caller) }
-    ensures known { IsPassCode result }
+    ensures does { PassDoes (value_of handle.old.held) (value_of handle.new.held) (answer_of result) (PassAbandon caller) }
+    ensures known { IsCode result }
 {
-    thp_capi::pass_abandon(handle, alloc, caller)
+    code(on_pass!(handle, alloc, pass => pass.abandon(caller)))
 }

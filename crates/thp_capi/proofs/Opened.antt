@@ -6,15 +6,16 @@ use Rattle.std.proofs.lemmas.List.{set-set, length-take, length-set, get_or-take
 use Rattle.atomic_table.specs.Seated.{TableId}
 use Rattle.thp_node.specs.Batches.{BatchState, IsInFront, rest}
 use Rattle.thp_model.specs.Runs.{put_back_events, split_next_events}
-use Rattle.thp_node.specs.declared.answers.BackReply.{BackReply}
-use Rattle.thp_node.specs.declared.answers.Tried.{Tried}
 use Rattle.thp_cell.specs.Calls.{at_front, BatchesStay, OtherBatchesStay, Called, Failed, IsJoined, below, from}
 use Rattle.thp_cell.specs.Says.{DidPutBack, DidTry}
 use Rattle.thp_cell.specs.Views.{PassState, HasCaller}
 use Rattle.thp_cell.specs.declared.fault.CellFault.{CellFault}
 use Rattle.thp_cell.specs.declared.fault.CellFault.TheVariants.{Busy, Refused}
 use Rattle.thp_capi.specs.PassBatches.{PassNext, PassBack, PassFailsOnBatch, fault_in}
+use Rattle.thp_capi.specs.Replies.{back_of, tried_of}
 use Rattle.thp_capi.specs.Sharing.{IsShared, OnlyOf, batch_of}
+use Rattle.thp_capi.specs.declared.replies.ThpBack.{ThpBack}
+use Rattle.thp_capi.specs.declared.replies.ThpTried.{ThpTried}
 use Rattle.thp_capi.proofs.Places.{Batches, IsFor, each_set, for_none, for_some, same_again}
 
 -- ---- calls that leave the open batches alone
@@ -109,9 +110,9 @@ module _ (mark : ℕ) (p q : PassState) (bs new : Batches) (c place : ℕ) (same
   failed m b Busy is stays fails = (λ i. record { mark = mark; pass = same i; batches = stays i }, rw (held b is) refl, rw (held b is) fails)
   failed m b (Refused r) is stays fails = (λ i. record { mark = mark; pass = same i; batches = stays i }, rw (held b is) refl, rw (held b is) fails)
 
-  pub next_done : (b b' : BatchState) (t : Tried) → get_or bs place None ≡ Some b → b.caller ≡ c → new ≡ set bs place (Some b') → b'.caller ≡ b.caller → b'.pages ≡ b.pages → Called p q b.caller (DidTry p.shape b b' t)
+  pub next_done : (b b' : BatchState) (t : ThpTried) → t.kind ≤ 3 → get_or bs place None ≡ Some b → b.caller ≡ c → new ≡ set bs place (Some b') → b'.caller ≡ b.caller → b'.pages ≡ b.pages → Called p q b.caller (DidTry p.shape b b' (tried_of t))
       → PassNext c (record { mark = mark; pass = p; batches = bs }) (record { mark = mark; pass = q; batches = new }) (Ok t)
-  next_done b b' t is own now caller pages did = (only_of (Some b') now, rw (held b is, here (Some b') now) (record { caller_is = caller; pages = pages; did = subst (λ d. Called p q d (DidTry p.shape b b' t)) own did }), tt)
+  next_done b b' t kind is own now caller pages did = (only_of (Some b') now, rw (held b is, here (Some b') now) (record { caller_is = caller; pages = pages; kind = kind; did = subst (λ d. Called p q d (DidTry p.shape b b' (tried_of t))) own did }), tt)
 
   pub next_failed : (b b' : BatchState) (f : CellFault) → get_or bs place None ≡ Some b → b.caller ≡ c → new ≡ set bs place (Some b') → b' ≡ b → Failed p q None (length (split_next_events q.shape q.front b.caller (rest b))) f
       → PassNext c (record { mark = mark; pass = p; batches = bs }) (record { mark = mark; pass = q; batches = new }) (Err (fault_in f))
@@ -119,9 +120,9 @@ module _ (mark : ℕ) (p q : PassState) (bs new : Batches) (c place : ℕ) (same
       let same : new ≡ bs = now ∙ ap (λ x. set bs place (Some x)) stays ∙ same_again bs place (Some b) is in
       (only_of (Some b') now, tt, failed (λ x. length (split_next_events q.shape q.front c (rest x))) b f is same (subst (λ d. Failed p q None (length (split_next_events q.shape q.front d (rest b))) f) own fails))
 
-  pub back_done : (b : BatchState) (r : BackReply) → get_or bs place None ≡ Some b → b.caller ≡ c → new ≡ set bs place None → Called p q b.caller (DidPutBack p.shape b r)
+  pub back_done : (b : BatchState) (r : ThpBack) → get_or bs place None ≡ Some b → b.caller ≡ c → new ≡ set bs place None → Called p q b.caller (DidPutBack p.shape b (back_of r))
       → PassBack c (record { mark = mark; pass = p; batches = bs }) (record { mark = mark; pass = q; batches = new }) (Ok r)
-  back_done b r is own now did = (only_of None now, rw (held b is) refl, here None now, rw (held b is) (subst (λ d. Called p q d (DidPutBack p.shape b r)) own did), tt)
+  back_done b r is own now did = (only_of None now, rw (held b is) refl, here None now, rw (held b is) (subst (λ d. Called p q d (DidPutBack p.shape b (back_of r))) own did), tt)
 
   pub back_failed : (b b' : BatchState) (f : CellFault) → get_or bs place None ≡ Some b → b.caller ≡ c → new ≡ set bs place (Some b') → b' ≡ b → Failed p q None (length (put_back_events q.shape q.front b.caller b.pages)) f
       → PassBack c (record { mark = mark; pass = p; batches = bs }) (record { mark = mark; pass = q; batches = new }) (Err (fault_in f))
@@ -153,20 +154,6 @@ shared_from t n m room p bs at k shared is le enough = record {
       (omega (arith, was.0, is), was.1);
 }
 
--- the open batches of a part's callers are those that were
-pub lower_open : (mark : ℕ) (p : PassState) (bs : Batches) (at k c : ℕ) → k + p.first ≡ at → HasCaller (below p at) c → batch_of (record { mark = mark; pass = below p at; batches = take k bs }) c ≡ batch_of (record { mark = mark; pass = p; batches = bs }) c
-lower_open mark p bs at k c is has =
-    let low : nat_le p.first c ≡ true = grind (arith, nat_tests, has.from) in
-    rw (low, get_or-take k bs (c - p.first) None (omega (arith, is, has.from, has.below))) refl
-
-pub upper_open : (mark : ℕ) (p : PassState) (bs : Batches) (at k c : ℕ) → k + p.first ≡ at → HasCaller (from p at) c → batch_of (record { mark = mark; pass = from p at; batches = drop k bs }) c ≡ batch_of (record { mark = mark; pass = p; batches = bs }) c
-upper_open mark p bs at k c is has =
-    let own : nat_le at c ≡ true = grind (arith, nat_tests, has.from) in
-    let before : p.first ≤ c = omega (arith, is, has.from) in
-    let low : nat_le p.first c ≡ true = grind (arith, nat_tests, before) in
-    let place : k + (c - at) ≡ c - p.first = omega (arith, is, has.from) in
-    rw (own, low, get_or-drop k bs (c - at) None, place) refl
-
 pub shared_joined : (t u : TableId) (n m h l room : ℕ) (p q r : PassState) (bs cs : Batches) → IsShared t n m p bs → IsShared u h l q cs → IsJoined p q r → BatchesStay p r → BatchesStay q r → p.end ≡ q.first → m ≤ room → IsShared t n room r (bs ++ cs)
 shared_joined t u n m h l room p q r bs cs left right j left-stay right-stay adjacent enough =
     let first : r.first ≡ p.first = ap (λ (x : PassState). x.first) j.callers in
@@ -193,26 +180,3 @@ shared_joined t u n m h l room p q r bs cs left right j left-stay right-stay adj
         let lt : i < length bs = grind (arith, nat_tests, is) in
         let was = left.each i b lt (sym (get_or_append_left bs cs None i lt) ∙ e) in
         (omega (arith, was.0, first), left-stay b (own_at t n m p bs left i b lt was.0) was.1)
-
-pub joined_left : (mark mark' : ℕ) (p q r : PassState) (bs cs : Batches) → p.first + length bs ≡ p.end → IsJoined p q r → (c : ℕ) → HasCaller p c → batch_of (record { mark = mark'; pass = r; batches = bs ++ cs }) c ≡ batch_of (record { mark = mark; pass = p; batches = bs }) c
-joined_left mark mark' p q r bs cs places j c has =
-    let first : r.first ≡ p.first = ap (λ (x : PassState). x.first) j.callers in
-    let low : nat_le p.first c ≡ true = grind (arith, nat_tests, has.from) in
-    rw (first, low, get_or_append_left bs cs None (c - p.first) (omega (arith, has.from, has.below, places))) refl
-
-pub joined_right : (mark mark' : ℕ) (p q r : PassState) (bs cs : Batches) → p.first + length bs ≡ p.end → IsJoined p q r → p.end ≡ q.first → (c : ℕ) → HasCaller q c → batch_of (record { mark = mark'; pass = r; batches = bs ++ cs }) c ≡ batch_of (record { mark = mark; pass = q; batches = cs }) c
-joined_right mark mark' p q r bs cs places j adjacent c has =
-    let first : r.first ≡ p.first = ap (λ (x : PassState). x.first) j.callers in
-    let le : p.first ≤ c = omega (arith, has.from, places, adjacent) in
-    let low : nat_le p.first c ≡ true = grind (arith, nat_tests, le) in
-    let own : nat_le q.first c ≡ true = grind (arith, nat_tests, has.from) in
-    let at : c - p.first ≡ length bs + (c - q.first) = omega (arith, places, adjacent, has.from) in
-    rw (first, low, own, at, get_or-append-add bs cs (c - q.first) None) refl
-
--- where each place is empty no caller has a batch open
-pub none_shut : (mark : ℕ) (p : PassState) (bs : Batches) → ((k : ℕ) → get_or bs k None ≡ None) → (c : ℕ) → batch_of (record { mark = mark; pass = p; batches = bs }) c ≡ None
-none_shut mark p bs none c = by_test (nat_le p.first c) refl
-  where
-    by_test : (t : Bool) → nat_le p.first c ≡ t → batch_of (record { mark = mark; pass = p; batches = bs }) c ≡ None
-    by_test true e = rw e (none (c - p.first))
-    by_test false e = rw e refl

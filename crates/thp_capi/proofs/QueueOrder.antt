@@ -187,9 +187,6 @@ module _ (s : Shape) (h : History) (legal : IsLegal s h) where
   once_at : (i : ℕ) → NoneTwice (queue s (take i h))
   once_at i = λ q. once_queued s (take i h) q (legal_take s h i legal)
 
-  all_left : take (length (queue s h)) (queue s h) ≡ queue s h
-  all_left = take_all (length (queue s h)) (queue s h) (omega arith)
-
   pub walk_begins : (n i : ℕ) → n ≡ length (queue s h) → i ≡ length h → Walked s h i n
   walk_begins n i e f =
       let whole : take n (queue s h) ≡ queue s h = take_all n (queue s h) (omega (arith, e)) in

@@ -15,13 +15,11 @@ use Rattle.thp_model.specs.Refusals as call
 use Rattle.thp_model.proofs.Narrowing.{kept, map_sub, map_sub-whole, unmap_sub, unmap_sub-whole, write, write-whole, zero_fill, zero_fill-whole}
 use Rattle.thp_node.specs.Calls.{Did}
 use Rattle.thp_cell.proofs.Narrowed.{one_as, lose_as}
-use Rattle.thp_capi.specs.Calls.{OneCall, Fails}
+use Rattle.thp_capi.specs.Calls.{OneCall, LoseCall, Fails}
 use Rattle.thp_capi.specs.Codes.{Answer, answer_with}
 use Rattle.thp_capi.specs.Engines.{EngineState, IsLow}
 use Rattle.thp_capi.specs.Held.{Does, IsLowHeld}
-use Rattle.thp_capi.specs.PassCodes.{PassAnswer, pass_answer_with}
 use Rattle.thp_capi.specs.Passes.{PassDoes, PassOne, PassLost, PassFails, IsLowPass, IsLowShared}
-use Rattle.thp_capi.specs.Replies.{LoseCall}
 use Rattle.thp_capi.specs.Sharing.{SharedState}
 use Rattle.thp_capi.specs.declared.held.HeldEngine.{HeldEngine}
 use Rattle.thp_capi.specs.declared.held.HeldEngine.TheVariants as engine
@@ -74,7 +72,7 @@ lose caller p a b v w k t old new answer low d =
 
 -- ---- a pass
 
-pass_of_one : (caller : ℕ) (a b : Call) (v w : What) → Alike a b v w → (old new : SharedState) (answer : PassAnswer) → IsLowShared old → PassOne caller a v old new answer → PassOne caller b w old new answer
+pass_of_one : (caller : ℕ) (a b : Call) (v w : What) → Alike a b v w → (old new : SharedState) (answer : Answer) → IsLowShared old → PassOne caller a v old new answer → PassOne caller b w old new answer
 pass_of_one caller a b v w k old new (Ok u) low d =
     (d.0, one_as old.pass new.pass caller a b v w (λ h. k.same _ h low) (λ h ok. k.whole _ h low ok) d.1, tt)
 pass_of_one caller a b v w k old new (Err f) low d =
@@ -82,7 +80,7 @@ pass_of_one caller a b v w k old new (Err f) low d =
     (d.0, tt, subst (λ (r : Option Refusal). PassFails caller r 1 old.pass new.pass f) (k.same _ _ low) d.2)
 
 -- whatever a handle holds, what a call does to it implies what another call would do
-pass_does_as : (P Q : SharedState → SharedState → PassAnswer → Type 0) (answer : PassAnswer) → ((old new : SharedState) → IsLowShared old → P old new answer → Q old new answer) → (old new : Option HeldPass) → IfSome old IsLowPass → PassDoes old new answer P → PassDoes old new answer Q
+pass_does_as : (P Q : SharedState → SharedState → Answer → Type 0) (answer : Answer) → ((old new : SharedState) → IsLowShared old → P old new answer → Q old new answer) → (old new : Option HeldPass) → IfSome old IsLowPass → PassDoes old new answer P → PassDoes old new answer Q
 pass_does_as P Q answer f None None low d = d
 pass_does_as P Q answer f None (Some new) low d = d
 pass_does_as P Q answer f (Some (pass.Kept old)) None low d = d
@@ -92,11 +90,11 @@ pass_does_as P Q answer f (Some (pass.Kept old)) (Some (pass.Counted new)) low d
 pass_does_as P Q answer f (Some (pass.Counted old)) (Some (pass.Kept new)) low d = d
 pass_does_as P Q answer f (Some (pass.Counted old)) (Some (pass.Counted new)) low d = f old new low d
 
-pass_one : (caller : ℕ) (a b : Call) (v w : What) → Alike a b v w → (old new : Option HeldPass) (answer : PassAnswer) → IfSome old IsLowPass → PassDoes old new answer (PassOne caller a v) → PassDoes old new answer (PassOne caller b w)
+pass_one : (caller : ℕ) (a b : Call) (v w : What) → Alike a b v w → (old new : Option HeldPass) (answer : Answer) → IfSome old IsLowPass → PassDoes old new answer (PassOne caller a v) → PassDoes old new answer (PassOne caller b w)
 pass_one caller a b v w k old new answer low d = pass_does_as (PassOne caller a v) (PassOne caller b w) answer (λ x y l e. pass_of_one caller a b v w k x y answer l e) old new low d
 
-pass_of_lost : (caller p : ℕ) (a b : Call) (v w : Outcome → List Bool → What) → ((o : Outcome) (r : List Bool) → Alike a b (v o r) (w o r)) → (t : ThpDone) (old new : SharedState) (answer : PassAnswer) → IsLowShared old →
-    PassLost caller a p v old new (pass_answer_with answer t) → PassLost caller b p w old new (pass_answer_with answer t)
+pass_of_lost : (caller p : ℕ) (a b : Call) (v w : Outcome → List Bool → What) → ((o : Outcome) (r : List Bool) → Alike a b (v o r) (w o r)) → (t : ThpDone) (old new : SharedState) (answer : Answer) → IsLowShared old →
+    PassLost caller a p v old new (answer_with answer t) → PassLost caller b p w old new (answer_with answer t)
 pass_of_lost caller p a b v w k t old new (Ok u) low d =
     let x = d.1 in
     let done : Done = x.0 in
@@ -106,10 +104,10 @@ pass_of_lost caller p a b v w k t old new (Err f) low d =
     let low : new.pass.shape.order ≤ max_order = subst (λ (s : SharedState). s.pass.shape.order ≤ max_order) (sym d.0) low in
     (d.0, tt, subst (λ (r : Option Refusal). PassFails caller r 1 old.pass new.pass f) ((k Stays no).same _ _ low) d.2)
 
-pass_lost : (caller p : ℕ) (a b : Call) (v w : Outcome → List Bool → What) → ((o : Outcome) (r : List Bool) → Alike a b (v o r) (w o r)) → (t : ThpDone) (old new : Option HeldPass) (answer : PassAnswer) → IfSome old IsLowPass →
-    PassDoes old new answer (λ o n x. PassLost caller a p v o n (pass_answer_with x t)) → PassDoes old new answer (λ o n x. PassLost caller b p w o n (pass_answer_with x t))
+pass_lost : (caller p : ℕ) (a b : Call) (v w : Outcome → List Bool → What) → ((o : Outcome) (r : List Bool) → Alike a b (v o r) (w o r)) → (t : ThpDone) (old new : Option HeldPass) (answer : Answer) → IfSome old IsLowPass →
+    PassDoes old new answer (λ o n x. PassLost caller a p v o n (answer_with x t)) → PassDoes old new answer (λ o n x. PassLost caller b p w o n (answer_with x t))
 pass_lost caller p a b v w k t old new answer low d =
-    pass_does_as (λ o n x. PassLost caller a p v o n (pass_answer_with x t)) (λ o n x. PassLost caller b p w o n (pass_answer_with x t)) answer (λ x y l e. pass_of_lost caller p a b v w k t x y answer l e) old new low d
+    pass_does_as (λ o n x. PassLost caller a p v o n (answer_with x t)) (λ o n x. PassLost caller b p w o n (answer_with x t)) answer (λ x y l e. pass_of_lost caller p a b v w k t x y answer l e) old new low d
 
 -- ---- the four calls of a range
 
@@ -153,15 +151,15 @@ module _ (caller p first count f n : ℕ) (ef : f ≡ kept first) (en : n ≡ ke
       Does old new answer (λ x y a. LoseCall caller (call.unmap_sub p first count) p (λ o r. what.UnmapSub o p first count r) x y (answer_with a t))
   node_unmap = lose caller p _ _ _ _ (unmap_alike p first count f n ef en)
 
-  pub pass_map : (old new : Option HeldPass) (answer : PassAnswer) → IfSome old IsLowPass → PassDoes old new answer (PassOne caller (call.map_sub p f n) (what.MapSub p f n)) → PassDoes old new answer (PassOne caller (call.map_sub p first count) (what.MapSub p first count))
+  pub pass_map : (old new : Option HeldPass) (answer : Answer) → IfSome old IsLowPass → PassDoes old new answer (PassOne caller (call.map_sub p f n) (what.MapSub p f n)) → PassDoes old new answer (PassOne caller (call.map_sub p first count) (what.MapSub p first count))
   pass_map = pass_one caller _ _ _ _ (map_alike p first count f n ef en)
 
-  pub pass_write : (old new : Option HeldPass) (answer : PassAnswer) → IfSome old IsLowPass → PassDoes old new answer (PassOne caller (call.write p f n) (what.Write p f n)) → PassDoes old new answer (PassOne caller (call.write p first count) (what.Write p first count))
+  pub pass_write : (old new : Option HeldPass) (answer : Answer) → IfSome old IsLowPass → PassDoes old new answer (PassOne caller (call.write p f n) (what.Write p f n)) → PassDoes old new answer (PassOne caller (call.write p first count) (what.Write p first count))
   pass_write = pass_one caller _ _ _ _ (write_alike p first count f n ef en)
 
-  pub pass_zero : (old new : Option HeldPass) (answer : PassAnswer) → IfSome old IsLowPass → PassDoes old new answer (PassOne caller (call.zero_fill p f n) (what.Zero p f n)) → PassDoes old new answer (PassOne caller (call.zero_fill p first count) (what.Zero p first count))
+  pub pass_zero : (old new : Option HeldPass) (answer : Answer) → IfSome old IsLowPass → PassDoes old new answer (PassOne caller (call.zero_fill p f n) (what.Zero p f n)) → PassDoes old new answer (PassOne caller (call.zero_fill p first count) (what.Zero p first count))
   pass_zero = pass_one caller _ _ _ _ (zero_alike p first count f n ef en)
 
-  pub pass_unmap : (t : ThpDone) (old new : Option HeldPass) (answer : PassAnswer) → IfSome old IsLowPass → PassDoes old new answer (λ x y a. PassLost caller (call.unmap_sub p f n) p (λ o r. what.UnmapSub o p f n r) x y (pass_answer_with a t)) →
-      PassDoes old new answer (λ x y a. PassLost caller (call.unmap_sub p first count) p (λ o r. what.UnmapSub o p first count r) x y (pass_answer_with a t))
+  pub pass_unmap : (t : ThpDone) (old new : Option HeldPass) (answer : Answer) → IfSome old IsLowPass → PassDoes old new answer (λ x y a. PassLost caller (call.unmap_sub p f n) p (λ o r. what.UnmapSub o p f n r) x y (answer_with a t)) →
+      PassDoes old new answer (λ x y a. PassLost caller (call.unmap_sub p first count) p (λ o r. what.UnmapSub o p first count r) x y (answer_with a t))
   pass_unmap = pass_lost caller p _ _ _ _ (unmap_alike p first count f n ef en)

@@ -1,5 +1,5 @@
 -- What a node's table reports of a page is what the journal determines.
-use Rattle.std.proofs.Common.{◌≡◌, ◌∙◌, ℕ, ◌<◌, true, false, List, [], ◌∷◌, zero, suc, Option, Some, None, length, ap, sym, subst, refl, arith, get_or}
+use Rattle.std.proofs.Common.{◌≡◌, ◌∙◌, ℕ, true, false, Option, Some, None, ap, sym, subst, refl}
 use Rattle.std.specs.Prelude.{IfSome}
 use Rattle.std.specs.Int.{from_bool}
 use Rattle.thp_model.specs.Counts.{is_live, is_split, pins, whole}
@@ -62,14 +62,6 @@ page_is n t p b w x e =
 
 pub standing_is : (n : NodeState) (t : Table) (p b : ℕ) (w : AtBlock n t p b) (d : Standing) → IfSome (slot_at t b) (λ s. d ≡ s.standing) → d ≡ standing_of n.shape n.journal p
 standing_is n t p b w d e = let I : Option Slot → Type 0 = λ o. IfSome o (λ s. d ≡ s.standing) in subst I w.at e ∙ w.stands_is
-
--- a block in use is one of the node's
-pub inside_blocks : (n : NodeState) (t : Table) (p b : ℕ) → AtBlock n t p b → b < length t.slots
-inside_blocks n t p b w = go t.slots b w.slot w.at where
-  go : (os : List (Option Slot)) (k : ℕ) (y : Slot) → get_or os k None ≡ Some y → k < length os
-  go [] k y e = absurd (cc)
-  go (o ∷ os) zero y e = omega arith
-  go (o ∷ os) (suc k) y e = omega (arith, go os k y e)
 
 -- a page that is in no block is not live
 pub unseen : (n : NodeState) (t : Table) → t ≡ n.table → ((p : ℕ) → is_live n.journal p ≡ true → HasBlock n.table p) →

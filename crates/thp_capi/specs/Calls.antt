@@ -12,16 +12,18 @@ use Rattle.thp_model.specs.Limits.{max_batch, max_callers}
 use Rattle.thp_model.specs.Places.{queue}
 use Rattle.thp_model.specs.Refusals.{Call, refusal, alloc_page, scan, take as take_call}
 use Rattle.thp_model.specs.Runs.{take_events, split_next_events, put_back_events, scan_events, next_page, rest_after, still_flying}
-use Rattle.thp_node.specs.declared.answers.BackReply.{BackReply}
-use Rattle.thp_node.specs.declared.answers.ScanReply.{ScanReply}
-use Rattle.thp_node.specs.declared.answers.Tried.{Tried}
 use Rattle.thp_node.specs.Batches.{BatchState, rest, tried, back_reply, scan_reply}
 use Rattle.thp_node.specs.Calls.{Did, DidAlloc, Refused}
 use Rattle.thp_node.specs.NodeState.{NodeState}
 use Rattle.thp_capi.specs.Codes.{Answer}
 use Rattle.thp_capi.specs.Engines.{EngineState, OthersOpen, open_of}
+use Rattle.thp_capi.specs.Replies.{IsTried, MasksSet, back_of, outcome_number, scan_of}
 use Rattle.thp_capi.specs.declared.codes.Fault.{Fault}
 use Rattle.thp_capi.specs.declared.codes.Fault.TheVariants.{Refused as RefusedWith, BadCaller, BadCount, BatchOpen, NoBatch, TooSmall}
+use Rattle.thp_capi.specs.declared.replies.ThpBack.{ThpBack}
+use Rattle.thp_capi.specs.declared.replies.ThpDone.{ThpDone}
+use Rattle.thp_capi.specs.declared.replies.ThpScan.{ThpScan}
+use Rattle.thp_capi.specs.declared.replies.ThpTried.{ThpTried}
 
 -- ---- why calls fail, and that they change nothing then
 
@@ -82,14 +84,26 @@ ReportsReleased p old new d = d.released ≡ released old.node.shape old.node.jo
 abbrev pub FailsAt : ℕ → Call → EngineState → EngineState → Fault → Type 0
 FailsAt caller call old new f = Fails caller (refusal old.node.shape old.node.journal call) 1 old new f
 
+-- a call that removes a mapping or a pin of page p: the event contains the outcome and the frames given back, as defined, and so
+-- do the numbers
+abbrev pub LoseCall : ℕ → Call → ℕ → (Outcome → List Bool → What) → EngineState → EngineState → Result ThpDone Fault → Type 0
+LoseCall caller call p what old new answer =
+    let s = old.node.shape in let h = old.node.journal in let k = new.node.journal in
+    (new.batches ≡ old.batches)
+    × OnOk answer (refusal s h call ≡ None)
+    × OnOk answer (Did old.node new.node caller (by caller (what (outcome s h k p) (released s h k p)) ∷ []))
+    × IfOk answer (λ d. d.outcome ≡ outcome_number (outcome s h k p))
+    × IfOk answer (λ d. MasksSet d.released (released s h k p))
+    × IfErr answer (Fails caller (refusal s h call) 1 old new)
+
 -- ---- the shrinker
 
-abbrev pub ScanCall : ℕ → ℕ → EngineState → EngineState → Result ScanReply Fault → Type 0
+abbrev pub ScanCall : ℕ → ℕ → EngineState → EngineState → Result ThpScan Fault → Type 0
 ScanCall caller n old new answer =
     let s = old.node.shape in let h = old.node.journal in
     (new.batches ≡ old.batches)
     × OnOk answer ((refusal s h (scan caller) ≡ None) × Did old.node new.node caller (scan_events s h caller n))
-    × IfOk answer (λ r. r ≡ scan_reply (scan_events s h caller n))
+    × IfOk answer (λ r. scan_of r ≡ scan_reply (scan_events s h caller n))
     × IfErr answer (FailsAsking n caller (refusal s h (scan caller)) (3 * length (take_events s h caller n)) old new)
 
 -- a take, which returns the number of pages in the caller's batch, which is open afterwards
@@ -113,15 +127,15 @@ Batched (Some b) (Some c) P = P b c
 Batched _ _ P = ⊥
 
 -- a try of the next page of the caller's open batch
-abbrev pub NextCall : ℕ → EngineState → EngineState → Result Tried Fault → Type 0
+abbrev pub NextCall : ℕ → EngineState → EngineState → Result ThpTried Fault → Type 0
 NextCall caller old new answer =
     let s = old.node.shape in let h = old.node.journal in
-    IfOk answer (λ t. Batched (open_of old caller) (open_of new caller) (λ b c. Advanced old.node b c × (t ≡ tried s h (next_page h caller (rest b))) × Did old.node new.node caller (split_next_events s h caller (rest b))))
+    IfOk answer (λ t. Batched (open_of old caller) (open_of new caller) (λ b c. Advanced old.node b c × IsTried t (tried s h (next_page h caller (rest b))) × Did old.node new.node caller (split_next_events s h caller (rest b))))
     × OthersOpen caller old new
     × IfErr answer (FailsOnBatch caller (λ b. length (split_next_events s h caller (rest b))) old new)
 
-abbrev pub BackReplies : ℕ → EngineState → BackReply → Type 0
-BackReplies caller old r = IfSome (open_of old caller) (λ b. r ≡ back_reply old.node.shape old.node.journal (still_flying old.node.journal caller b.pages))
+abbrev pub BackReplies : ℕ → EngineState → ThpBack → Type 0
+BackReplies caller old r = IfSome (open_of old caller) (λ b. back_of r ≡ back_reply old.node.shape old.node.journal (still_flying old.node.journal caller b.pages))
 
 abbrev pub BackRecords : ℕ → EngineState → EngineState → Type 0
 BackRecords caller old new = IfSome (open_of old caller) (λ b. Did old.node new.node caller (put_back_events old.node.shape old.node.journal caller b.pages))
@@ -130,7 +144,7 @@ abbrev pub BackFails : ℕ → EngineState → EngineState → Fault → Type 0
 BackFails caller old new f = FailsOnBatch caller (λ b. length (put_back_events old.node.shape old.node.journal caller b.pages)) old new f
 
 -- the return of the pages of the caller's open batch, which is closed afterwards
-abbrev pub BackCall : ℕ → EngineState → EngineState → Result BackReply Fault → Type 0
+abbrev pub BackCall : ℕ → EngineState → EngineState → Result ThpBack Fault → Type 0
 BackCall caller old new answer =
     OnOk answer (IsSome (open_of old caller))
     × OnOk answer (open_of new caller ≡ None)

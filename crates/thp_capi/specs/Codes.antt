@@ -1,14 +1,14 @@
 -- The meaning of the number that a call returns.
-use Rattle.std.specs.Prelude.{◌≡◌, ℕ, ◌<◌, ◌⊎◌, zero, suc, List, [], ◌∷◌, length, nat_eq, if◌then◌else◌, Result, Ok, Err, ⊤}
+use Rattle.std.specs.Prelude.{ℕ, ◌<◌, ◌≤◌, ◌+◌, ◌-◌, ◌⊎◌, zero, suc, List, [], ◌∷◌, length, nat_le, if◌then◌else◌, Result, Ok, Err, ⊤}
 use Rattle.thp_model.specs.declared.refusal.Refusal.TheVariants.{NoPage, BadRange, IsSplit, NotMapped, Gone, NotPinned, TooMany, Closed, NoBlock, HasBatch, OutOfMemory}
 use Rattle.thp_capi.specs.declared.codes.Fault.{Fault}
-use Rattle.thp_capi.specs.declared.codes.Fault.TheVariants.{Refused, Empty, InUse, BadCaller, BadSize, BadCount, NoBatch, BatchOpen, TooSmall, NoJournal}
+use Rattle.thp_capi.specs.declared.codes.Fault.TheVariants.{Refused, Empty, InUse, BadCaller, BadSize, BadCount, NoBatch, BatchOpen, TooSmall, Busy, BadPass, Finished, NoReason, NoJournal}
 
 -- success, or why the call has no effect
 abbrev pub Answer : Type 0
 Answer = Result ⊤ Fault
 
--- the results in the order of their numbers from 0 on, as the header's `thp_code` names them
+-- the results in the order of their numbers, as the header's `thp_code` names them: from 0 on, and from 30 on
 abbrev pub answers : List Answer
 answers =
     Ok tt
@@ -33,6 +33,9 @@ answers =
     ∷ Err TooSmall
     ∷ []
 
+abbrev pub later_answers : List Answer
+later_answers = Err Busy ∷ Err BadPass ∷ Err Finished ∷ Err NoReason ∷ Err NoJournal ∷ []
+
 abbrev pub nth : List Answer → ℕ → Answer
 nth [] n = Err Empty
 nth (a ∷ more) zero = a
@@ -40,11 +43,11 @@ nth (a ∷ more) (suc n) = nth more n
 
 -- the result of this number. Each call also guarantees that its number is that of a result.
 abbrev pub answer_of : ℕ → Answer
-answer_of code = if nat_eq code 34 then Err NoJournal else nth answers code
+answer_of code = if nat_le 30 code then nth later_answers (code - 30) else nth answers code
 
 -- the number is that of a result
 abbrev pub IsCode : ℕ → Type 0
-IsCode code = (code < length answers) ⊎ (code ≡ 34)
+IsCode code = (code < length answers) ⊎ ((30 ≤ code) × (code < 30 + length later_answers))
 
 -- the result together with the call's value
 abbrev pub answer_with : {A : Type 0} → Answer → A → Result A Fault

@@ -45,7 +45,7 @@ Made (Some old) (Some new) s are answer = (new ≡ old) × (answer ≡ Err InUse
 Made (Some old) None s are answer = ⊥
 
 -- the handle is empty, whatever it had before
-abbrev pub Emptied : Option HeldEngine → Option HeldEngine → Answer → Type 0
+abbrev pub Emptied : {X : Type 0} → Option X → Option X → Answer → Type 0
 Emptied None None answer = answer ≡ Err Empty
 Emptied (Some old) None answer = answer ≡ Ok tt
 Emptied _ (Some new) answer = ⊥

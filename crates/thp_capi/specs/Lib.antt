@@ -3,15 +3,13 @@ pub mod Checks
 pub mod OpenBatches
 pub mod Engines
 pub mod Held
-pub mod Calls
 pub mod Replies
+pub mod Calls
 pub mod Reading
 pub mod Joining
 pub mod Handles
 pub mod Rooms
-pub mod PassCodes
 pub mod Sharing
 pub mod Passes
 pub mod PassBatches
-pub mod CheckCodes
 pub mod LongChecks

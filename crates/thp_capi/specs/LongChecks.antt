@@ -12,12 +12,11 @@ use Rattle.thp_script.specs.Limits.{max_counted}
 use Rattle.thp_script.specs.Words.{Text}
 use Rattle.thp_capi.specs.Calls.{Written}
 use Rattle.thp_capi.specs.Checks.{text_code}
-use Rattle.thp_capi.specs.CheckCodes.{CheckAnswer}
-use Rattle.thp_capi.specs.declared.check_codes.CheckCallFault.{CheckCallFault}
-use Rattle.thp_capi.specs.declared.check_codes.CheckCallFault.TheVariants.{Plain, Finished, NoReason}
+use Rattle.thp_capi.specs.Codes.{Answer}
 use Rattle.thp_capi.specs.declared.check_stage.CheckStage.{CheckStage}
 use Rattle.thp_capi.specs.declared.check_stage.CheckStage.TheVariants.{Reading, Judged}
-use Rattle.thp_capi.specs.declared.codes.Fault.TheVariants.{Refused, Empty, InUse}
+use Rattle.thp_capi.specs.declared.codes.Fault.{Fault}
+use Rattle.thp_capi.specs.declared.codes.Fault.TheVariants.{Refused, Empty, InUse, Finished, NoReason}
 
 -- this text was read by the check: whatever follows it, the check reports the verdict on the whole text
 abbrev pub HasRead : ReadSoFar → Text → Type 0
@@ -45,25 +44,19 @@ reason_of (Judged (Ok (Some illegal))) = Some (explanation illegal.line illegal.
 reason_of _ = None
 
 -- why no reason is returned: there is none, or memory for it could not be allocated
-abbrev pub WhyNoReason : Option Text → CheckCallFault → Type 0
+abbrev pub WhyNoReason : Option Text → Fault → Type 0
 WhyNoReason None NoReason = ⊤
-WhyNoReason (Some text) (Plain (Refused OutOfMemory)) = ⊤
+WhyNoReason (Some text) (Refused OutOfMemory) = ⊤
 WhyNoReason _ _ = ⊥
 
 -- ---- the effects of the calls
 
 -- a check that has read nothing; or memory for it could not be allocated; or the handle was not empty
-abbrev pub CheckMade : Option CheckStage → Option CheckStage → CheckAnswer → Type 0
+abbrev pub CheckMade : Option CheckStage → Option CheckStage → Answer → Type 0
 CheckMade None (Some (Reading new)) answer = (answer ≡ Ok tt) × HasRead new []
-CheckMade None None answer = answer ≡ Err (Plain (Refused OutOfMemory))
-CheckMade (Some old) (Some new) answer = (new ≡ old) × (answer ≡ Err (Plain InUse))
+CheckMade None None answer = answer ≡ Err (Refused OutOfMemory)
+CheckMade (Some old) (Some new) answer = (new ≡ old) × (answer ≡ Err InUse)
 CheckMade _ _ answer = ⊥
-
--- the handle is empty, whatever it had before
-abbrev pub CheckEmptied : Option CheckStage → Option CheckStage → CheckAnswer → Type 0
-CheckEmptied None None answer = answer ≡ Err (Plain Empty)
-CheckEmptied (Some old) None answer = answer ≡ Ok tt
-CheckEmptied _ (Some new) answer = ⊥
 
 -- the part follows the text read before
 abbrev pub ReadsOn : Text → ReadSoFar → ReadSoFar → Type 0
@@ -71,10 +64,10 @@ ReadsOn part old new = (text : Text) → HasRead old text → HasRead new (text 
 
 -- the part was read; or memory could not be allocated, and the handle is empty; or the check was finished before, and is
 -- unchanged
-abbrev pub CheckReads : Text → Option CheckStage → Option CheckStage → CheckAnswer → Type 0
-CheckReads part None None answer = answer ≡ Err (Plain Empty)
+abbrev pub CheckReads : Text → Option CheckStage → Option CheckStage → Answer → Type 0
+CheckReads part None None answer = answer ≡ Err Empty
 CheckReads part (Some (Reading old)) (Some (Reading new)) answer = (answer ≡ Ok tt) × ReadsOn part old new
-CheckReads part (Some (Reading old)) None answer = answer ≡ Err (Plain (Refused OutOfMemory))
+CheckReads part (Some (Reading old)) None answer = answer ≡ Err (Refused OutOfMemory)
 CheckReads part (Some (Judged v)) (Some new) answer = (answer ≡ Err Finished) × (new ≡ Judged v)
 CheckReads part _ _ answer = ⊥
 
@@ -91,14 +84,13 @@ CheckEnds _ _ code before line = ⊥
 
 -- the reason is at the start of the buffer, or does not fit; the size is that of the reason. Or there is none, or memory for it
 -- could not be allocated
-abbrev pub ReasonTold : Option Text → List ℕ → List ℕ → ℕ → ℕ → CheckAnswer → Type 0
-ReasonTold (Some text) old new before size (Ok u) = Written text old new before size (Ok u)
-ReasonTold (Some text) old new before size (Err (Plain f)) = Written text old new before size (Err f)
+abbrev pub ReasonTold : Option Text → List ℕ → List ℕ → ℕ → ℕ → Answer → Type 0
+ReasonTold (Some text) old new before size answer = Written text old new before size answer
 ReasonTold None old new before size (Err NoReason) = (size ≡ before) × (new ≡ old)
 ReasonTold _ old new before size _ = ⊥
 
 -- the same for a handle, whose content does not change
-abbrev pub CheckTells : Option CheckStage → Option CheckStage → List ℕ → List ℕ → ℕ → ℕ → CheckAnswer → Type 0
-CheckTells None None old new before size answer = (answer ≡ Err (Plain Empty)) × (size ≡ before) × (new ≡ old)
+abbrev pub CheckTells : Option CheckStage → Option CheckStage → List ℕ → List ℕ → ℕ → ℕ → Answer → Type 0
+CheckTells None None old new before size answer = (answer ≡ Err Empty) × (size ≡ before) × (new ≡ old)
 CheckTells (Some s) (Some t) old new before size answer = (t ≡ s) × ReasonTold (reason_of s) old new before size answer
 CheckTells _ _ old new before size answer = ⊥

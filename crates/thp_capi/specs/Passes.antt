@@ -11,13 +11,12 @@ use Rattle.thp_model.specs.Places.{queue}
 use Rattle.thp_model.specs.Refusals.{Call, refusal, alloc_page, scan}
 use Rattle.thp_model.specs.Runs.{take_events}
 use Rattle.thp_model.specs.Shapes.{IsShape}
-use Rattle.thp_node.specs.declared.answers.ScanReply.{ScanReply}
 use Rattle.thp_cell.specs.Calls.{Called, Follows, IsBusy, IsRefused, IsJoined, below, from}
 use Rattle.thp_cell.specs.Says.{DidOne, DidAlloc, DidLose, DidScan}
 use Rattle.thp_cell.specs.Views.{PassState, HasCaller, HasAll}
-use Rattle.thp_capi.specs.PassCodes.{PassAnswer}
+use Rattle.thp_capi.specs.Codes.{Answer}
 use Rattle.thp_capi.specs.Engines.{EngineState, NoneOpen}
-use Rattle.thp_capi.specs.Replies.{MasksSet, outcome_number}
+use Rattle.thp_capi.specs.Replies.{MasksSet, outcome_number, scan_of}
 use Rattle.thp_capi.specs.Sharing.{SharedState, OnlyFront, IsPart, IsShut, HasOpen, OpenStay}
 use Rattle.thp_capi.specs.declared.held.Events.{Events}
 use Rattle.thp_capi.specs.declared.held.Events.TheVariants as events
@@ -25,52 +24,52 @@ use Rattle.thp_capi.specs.declared.held.HeldEngine.{HeldEngine}
 use Rattle.thp_capi.specs.declared.held.HeldEngine.TheVariants as engine
 use Rattle.thp_capi.specs.declared.held.HeldPass.{HeldPass}
 use Rattle.thp_capi.specs.declared.held.HeldPass.TheVariants.{Kept, Counted}
-use Rattle.thp_capi.specs.declared.codes.Fault.TheVariants.{Refused as RefusedWith, BadCaller, BadCount, BadSize, BatchOpen, Empty, InUse}
-use Rattle.thp_capi.specs.declared.pass_codes.PassFault.{PassFault}
+use Rattle.thp_capi.specs.declared.codes.Fault.{Fault}
+use Rattle.thp_capi.specs.declared.codes.Fault.TheVariants.{Refused as RefusedWith, BadCaller, BadCount, BadPass, BadSize, BatchOpen, Busy, Empty, InUse}
 use Rattle.thp_capi.specs.declared.replies.ThpDone.{ThpDone}
-use Rattle.thp_capi.specs.declared.pass_codes.PassFault.TheVariants.{Plain, Busy, BadPass}
+use Rattle.thp_capi.specs.declared.replies.ThpScan.{ThpScan}
 
 -- ---- calls of a caller
 
 -- a call of a caller that returns this fault recorded nothing: the caller is not one of the pass's, or another pass had the node,
 -- or the node refused the call
-abbrev pub PassFails : ℕ → Option Refusal → ℕ → PassState → PassState → PassFault → Type 0
-PassFails caller why m p q (Plain BadCaller) = (HasCaller p caller → ⊥) × (q ≡ p)
+abbrev pub PassFails : ℕ → Option Refusal → ℕ → PassState → PassState → Fault → Type 0
+PassFails caller why m p q BadCaller = (HasCaller p caller → ⊥) × (q ≡ p)
 PassFails caller why m p q Busy = IsBusy p q
-PassFails caller why m p q (Plain (RefusedWith r)) = IsRefused p q why m r
+PassFails caller why m p q (RefusedWith r) = IsRefused p q why m r
 PassFails caller why m p q _ = ⊥
 
 -- the same for a call that requests n pages
-abbrev pub PassFailsAsking : ℕ → ℕ → Option Refusal → ℕ → PassState → PassState → PassFault → Type 0
-PassFailsAsking n caller why m p q (Plain BadCount) = (max_batch < n) × (q ≡ p)
+abbrev pub PassFailsAsking : ℕ → ℕ → Option Refusal → ℕ → PassState → PassState → Fault → Type 0
+PassFailsAsking n caller why m p q BadCount = (max_batch < n) × (q ≡ p)
 PassFailsAsking n caller why m p q f = PassFails caller why m p q f
 
 -- a call that records one event
-abbrev pub PassOne : ℕ → Call → What → SharedState → SharedState → PassAnswer → Type 0
+abbrev pub PassOne : ℕ → Call → What → SharedState → SharedState → Answer → Type 0
 PassOne caller call what old new answer =
     OnlyFront old new
     × OnOk answer (Called old.pass new.pass caller (DidOne old.pass.shape call caller what))
     × IfErr answer (PassFails caller (refusal new.pass.shape new.pass.front call) 1 old.pass new.pass)
 
 -- an allocation, which returns the page's number
-abbrev pub PassAlloc : ℕ → SharedState → SharedState → Result ℕ PassFault → Type 0
+abbrev pub PassAlloc : ℕ → SharedState → SharedState → Result ℕ Fault → Type 0
 PassAlloc caller old new answer =
     OnlyFront old new
     × IfOk answer (λ p. Called old.pass new.pass caller (DidAlloc old.pass.shape caller p))
     × IfErr answer (PassFails caller (refusal new.pass.shape new.pass.front alloc_page) 1 old.pass new.pass)
 
 -- a call that removes a mapping or a pin of page p: the numbers are those of a result of the library
-abbrev pub PassLost : ℕ → Call → ℕ → (Outcome → List Bool → What) → SharedState → SharedState → Result ThpDone PassFault → Type 0
+abbrev pub PassLost : ℕ → Call → ℕ → (Outcome → List Bool → What) → SharedState → SharedState → Result ThpDone Fault → Type 0
 PassLost caller call p what old new answer =
     OnlyFront old new
     × IfOk answer (λ t. (d : Done) × (t.outcome ≡ outcome_number d.outcome) × MasksSet t.released d.released × Called old.pass new.pass caller (DidLose old.pass.shape call caller p what d))
     × IfErr answer (PassFails caller (refusal new.pass.shape new.pass.front call) 1 old.pass new.pass)
 
 -- a scan of up to n pages
-abbrev pub PassScan : ℕ → ℕ → SharedState → SharedState → Result ScanReply PassFault → Type 0
+abbrev pub PassScan : ℕ → ℕ → SharedState → SharedState → Result ThpScan Fault → Type 0
 PassScan caller n old new answer =
     OnlyFront old new
-    × IfOk answer (λ r. Called old.pass new.pass caller (DidScan old.pass.shape caller n r))
+    × IfOk answer (λ r. Called old.pass new.pass caller (DidScan old.pass.shape caller n (scan_of r)))
     × IfErr answer (PassFailsAsking n caller (refusal new.pass.shape new.pass.front (scan caller)) (3 * length (take_events new.pass.shape new.pass.front caller n)) old.pass new.pass)
 
 -- a query of the number of queued pages
@@ -136,25 +135,19 @@ AdjoinHeld _ _ = ⊥
 -- ---- the contents of the handles, before and after a call
 
 -- a call on a handle that is not empty has the effect P; on an empty handle it reports that
-abbrev pub PassDoes : Option HeldPass → Option HeldPass → PassAnswer → (SharedState → SharedState → PassAnswer → Type 0) → Type 0
-PassDoes None None answer P = answer ≡ Err (Plain Empty)
+abbrev pub PassDoes : Option HeldPass → Option HeldPass → Answer → (SharedState → SharedState → Answer → Type 0) → Type 0
+PassDoes None None answer P = answer ≡ Err Empty
 PassDoes (Some (Kept old)) (Some (Kept new)) answer P = P old new answer
 PassDoes (Some (Counted old)) (Some (Counted new)) answer P = P old new answer
 PassDoes _ _ answer P = ⊥
 
 -- the pass of all callers of a new cell, with this mark and no open batch; or the reason why the handle stays empty; or the
 -- handle was not empty
-abbrev pub CellMade : Option HeldPass → Option HeldPass → Shape → Events → ℕ → ℕ → PassAnswer → Type 0
+abbrev pub CellMade : Option HeldPass → Option HeldPass → Shape → Events → ℕ → ℕ → Answer → Type 0
 CellMade None (Some new) s are callers mark answer = (answer ≡ Ok tt) × (pass_events new ≡ are) × IsNewPass s callers (pass_in new).pass × IsShut (pass_in new) × ((pass_in new).mark ≡ mark) × IsCellSize s callers
-CellMade None None s are callers mark answer = ((answer ≡ Err (Plain BadSize)) × (IsCellSize s callers → ⊥)) ⊎ (answer ≡ Err (Plain (RefusedWith OutOfMemory)))
-CellMade (Some old) (Some new) s are callers mark answer = (new ≡ old) × (answer ≡ Err (Plain InUse))
+CellMade None None s are callers mark answer = ((answer ≡ Err BadSize) × (IsCellSize s callers → ⊥)) ⊎ (answer ≡ Err (RefusedWith OutOfMemory))
+CellMade (Some old) (Some new) s are callers mark answer = (new ≡ old) × (answer ≡ Err InUse)
 CellMade (Some old) None s are callers mark answer = ⊥
-
--- the handle is empty, whatever it had before
-abbrev pub PassEmptied : Option HeldPass → Option HeldPass → PassAnswer → Type 0
-PassEmptied None None answer = answer ≡ Err (Plain Empty)
-PassEmptied (Some old) None answer = answer ≡ Ok tt
-PassEmptied _ (Some new) answer = ⊥
 
 -- the callers below `at` stay, and those from `at` on are another pass's, each with its open batch
 abbrev pub Parts : ℕ → SharedState → SharedState → SharedState → Type 0
@@ -166,11 +159,11 @@ Divided at (Some (Counted s)) (Some (Counted left)) (Some (Counted right)) = Par
 Divided at _ _ _ = ⊥
 
 -- why a pass was not divided
-abbrev pub WhyUndivided : ℕ → Option HeldPass → Option HeldPass → PassFault → Type 0
-WhyUndivided at pass other (Plain Empty) = pass ≡ None
-WhyUndivided at pass other (Plain InUse) = IsSome other
-WhyUndivided at pass other (Plain BadCaller) = IfSome pass (λ held. Divides at (pass_in held).pass → ⊥)
-WhyUndivided at pass other (Plain (RefusedWith OutOfMemory)) = ⊤
+abbrev pub WhyUndivided : ℕ → Option HeldPass → Option HeldPass → Fault → Type 0
+WhyUndivided at pass other Empty = pass ≡ None
+WhyUndivided at pass other InUse = IsSome other
+WhyUndivided at pass other BadCaller = IfSome pass (λ held. Divides at (pass_in held).pass → ⊥)
+WhyUndivided at pass other (RefusedWith OutOfMemory) = ⊤
 WhyUndivided at pass other _ = ⊥
 
 -- a pass has the callers of two that adjoin, each with its open batch
@@ -189,8 +182,8 @@ Joined (Some (Counted left)) (Some (Counted right)) (Some (Counted both)) = Whol
 Joined _ _ _ = ⊥
 
 -- why two passes were not joined
-abbrev pub WhyApart : Option HeldPass → Option HeldPass → PassFault → Type 0
-WhyApart left right (Plain Empty) = (left ≡ None) ⊎ (right ≡ None)
+abbrev pub WhyApart : Option HeldPass → Option HeldPass → Fault → Type 0
+WhyApart left right Empty = (left ≡ None) ⊎ (right ≡ None)
 WhyApart left right BadPass = IfSome left (λ l. IfSome right (λ r. AdjoinHeld l r → ⊥))
 WhyApart left right _ = ⊥
 
@@ -208,10 +201,10 @@ Finished (Some (Counted s)) (Some (engine.Counted e)) = Dismantled s e
 Finished _ _ = ⊥
 
 -- why a cell was not dismantled
-abbrev pub WhyUnfinished : Option HeldPass → Option HeldEngine → PassFault → Type 0
-WhyUnfinished pass into (Plain Empty) = pass ≡ None
-WhyUnfinished pass into (Plain InUse) = IsSome into
-WhyUnfinished pass into (Plain BatchOpen) = IfSome pass (λ held. HasOpen (pass_in held))
-WhyUnfinished pass into (Plain (RefusedWith OutOfMemory)) = ⊤
+abbrev pub WhyUnfinished : Option HeldPass → Option HeldEngine → Fault → Type 0
+WhyUnfinished pass into Empty = pass ≡ None
+WhyUnfinished pass into InUse = IsSome into
+WhyUnfinished pass into BatchOpen = IfSome pass (λ held. HasOpen (pass_in held))
+WhyUnfinished pass into (RefusedWith OutOfMemory) = ⊤
 WhyUnfinished pass into BadPass = ⊤
 WhyUnfinished pass into _ = ⊥

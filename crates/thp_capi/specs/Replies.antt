@@ -1,28 +1,20 @@
 -- The meaning of the numbers that calls return in addition to their code.
-use Rattle.std.specs.Prelude.{◌≡◌, ℕ, ◌<◌, ◌-◌, ◌^◌, min, Bool, List, [], ◌∷◌, length, Result, OnOk, IfOk, IfErr, if◌then◌else◌, nat_eq}
+use Rattle.std.specs.Prelude.{◌≡◌, ℕ, ◌<◌, ◌≤◌, ◌-◌, ◌^◌, min, Bool, List, length, if◌then◌else◌, nat_eq}
 use Rattle.thp_model.specs.declared.events.Outcome.{Outcome}
 use Rattle.thp_model.specs.declared.events.Outcome.TheVariants.{Stays, Queued, Freed}
-use Rattle.thp_model.specs.declared.events.What.{What}
 use Rattle.thp_model.specs.Counts.{allocations}
-use Rattle.thp_model.specs.Frames.{frames_given, frames_held, outcome, released}
-use Rattle.thp_model.specs.History.{by}
+use Rattle.thp_model.specs.Frames.{frames_given, frames_held}
 use Rattle.thp_model.specs.Limits.{max_subpages}
 use Rattle.thp_model.specs.Places.{queue}
-use Rattle.thp_model.specs.Refusals.{Call}
 use Rattle.thp_model.specs.Sets.{has}
 use Rattle.thp_model.specs.Words.{in_words}
 use Rattle.thp_node.specs.declared.answers.BackReply.{BackReply}
 use Rattle.thp_node.specs.declared.answers.ScanReply.{ScanReply}
 use Rattle.thp_node.specs.declared.answers.Tried.{Tried}
 use Rattle.thp_node.specs.declared.answers.Tried.TheVariants as try
-use Rattle.thp_node.specs.Calls.{Did}
 use Rattle.thp_node.specs.Journals.{counters_of}
 use Rattle.thp_node.specs.NodeState.{NodeState}
-use Rattle.thp_capi.specs.Calls.{Allowed, FailsAt}
-use Rattle.thp_capi.specs.Engines.{EngineState}
-use Rattle.thp_capi.specs.declared.codes.Fault.{Fault}
 use Rattle.thp_capi.specs.declared.replies.ThpBack.{ThpBack}
-use Rattle.thp_capi.specs.declared.replies.ThpDone.{ThpDone}
 use Rattle.thp_capi.specs.declared.replies.ThpScan.{ThpScan}
 use Rattle.thp_capi.specs.declared.replies.ThpTried.{ThpTried}
 use Rattle.thp_capi.specs.declared.stats.ThpStats.{ThpStats}
@@ -36,18 +28,6 @@ outcome_number Freed = 2
 abbrev pub MasksSet : List ℕ → List Bool → Type 0
 MasksSet words set = (i : ℕ) → i < max_subpages → in_words words i ≡ has set i
 
--- a call that removes a mapping or a pin of page p: the event contains the outcome and the frames given back, as defined, and so
--- do the numbers
-abbrev pub LoseCall : ℕ → Call → ℕ → (Outcome → List Bool → What) → EngineState → EngineState → Result ThpDone Fault → Type 0
-LoseCall caller call p what old new answer =
-    let s = old.node.shape in let h = old.node.journal in let k = new.node.journal in
-    (new.batches ≡ old.batches)
-    × OnOk answer (Allowed old call)
-    × OnOk answer (Did old.node new.node caller (by caller (what (outcome s h k p) (released s h k p)) ∷ []))
-    × IfOk answer (λ d. d.outcome ≡ outcome_number (outcome s h k p))
-    × IfOk answer (λ d. MasksSet d.released (released s h k p))
-    × IfErr answer (FailsAt caller call old new)
-
 abbrev pub scan_of : ThpScan → ScanReply
 scan_of r = record { taken = r.taken; split = r.split; pinned = r.pinned; back = r.back; dropped = r.dropped; used = r.used }
 
@@ -60,6 +40,10 @@ tried_of t =
 
 abbrev pub back_of : ThpBack → BackReply
 back_of r = record { back = r.back; dropped = r.dropped }
+
+-- the numbers are those of this result of a try
+abbrev pub IsTried : ThpTried → Tried → Type 0
+IsTried t r = (tried_of t ≡ r) × (t.kind ≤ 3)
 
 -- the number, or the greatest 64-bit number if it is larger
 abbrev pub narrow : ℕ → ℕ

@@ -1,6 +1,6 @@
-//! The results of a node's calls, as numbers.
-ghost use Rattle.std.specs.Prelude.{◌≡◌, Err};
-ghost use Rattle.thp_capi.specs.Codes.{answer_of, IsCode};
+//! The results of calls, as numbers.
+ghost use Rattle.std.specs.Prelude.{◌≡◌, Err, OnErr};
+ghost use Rattle.thp_capi.specs.Codes.{answer_of, answer_with, IsCode};
 
 use thp_model::Refusal;
 
@@ -13,7 +13,7 @@ pub enum Fault {
     Empty,
     /// The handle to be filled is not empty.
     InUse,
-    /// The caller's number is 64 or more.
+    /// The caller's number is 64 or more, or the caller is not one of the pass's.
     BadCaller,
     /// No node has this shape, or no cell has this number of callers.
     BadSize,
@@ -25,6 +25,15 @@ pub enum Fault {
     BatchOpen,
     /// The buffer is too small.
     TooSmall,
+    /// Another pass has the node.
+    Busy,
+    /// The passes belong to different cells or are not adjacent; or the pass does not have all callers, or another pass has a
+    /// share of its cell.
+    BadPass,
+    /// The check is finished and reads no more text.
+    Finished,
+    /// No illegal event was found, or the check is not finished.
+    NoReason,
     /// The node only counts its events.
     NoJournal,
 }
@@ -45,6 +54,10 @@ pub fn code(answer: Result<(), Fault>) -> u32
         Err(Fault::NoBatch) => 17,
         Err(Fault::BatchOpen) => 18,
         Err(Fault::TooSmall) => 19,
+        Err(Fault::Busy) => 30,
+        Err(Fault::BadPass) => 31,
+        Err(Fault::Finished) => 32,
+        Err(Fault::NoReason) => 33,
         Err(Fault::NoJournal) => 34,
     }
 }
@@ -65,5 +78,21 @@ fn code_of_refusal(refusal: Refusal) -> u32
         Refusal::NoBlock => 9,
         Refusal::HasBatch => 10,
         Refusal::OutOfMemory => 11,
+    }
+}
+
+/// Stores the value of a result, if it has one, and returns the result's number.
+#[inline(always)]
+pub fn report<T: Copy>(answer: Result<T, Fault>, place: &mut T) -> u32
+    ensures value { answer_with (answer_of result) place.new ≡ answer }
+    ensures kept { OnErr (answer_of result) (place.new ≡ place.old) }
+    ensures known { IsCode result }
+{
+    match answer {
+        Ok(value) => {
+            *place = value;
+            code(Ok(()))
+        }
+        Err(fault) => code(Err(fault)),
     }
 }

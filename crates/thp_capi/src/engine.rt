@@ -13,12 +13,13 @@ mod readers;
 
 use crate::codes::Fault;
 use crate::open_batches::{is_open, none_open, put_at, take_at};
+use crate::replies::{ThpBack, ThpScan, ThpTried};
 use crate::stats::{ThpStats, narrow};
 use std::alloc::{AllocError, Global};
 use std::marker::Model;
 use thp_journal_writer::{NodeHistory, journal_text};
 use thp_model::{Done, Gain, Loss, MAX_BATCH, MAX_CALLERS, PageId, Shape, What};
-use thp_node::{BackReply, Batch, FullLog, NewFault, Node, Recorder, ScanReply, Tried};
+use thp_node::{Batch, FullLog, NewFault, Node, Recorder};
 
 /// A node and the open batches of its callers. The remaining pages of each batch are a prefix of its caller's flight.
 #[derive(Drop)]
@@ -68,15 +69,15 @@ impl<R: Recorder> Engine<R> {
         self.node = node;
     }
 
-    /// Allocates a page, mapped whole once.
-    pub fn alloc_page(&mut self, caller: u32) -> Result<PageId, Fault>
+    /// Allocates a page, mapped whole once, and returns its number.
+    pub fn alloc_page(&mut self, caller: u32) -> Result<u64, Fault>
         ensures { AllocCall caller self.old self.new result }
     {
         if caller >= MAX_CALLERS {
             return Err(Fault::BadCaller);
         }
         match self.node.alloc_page(caller) {
-            Ok(page) => Ok(page),
+            Ok(page) => Ok(page.0),
             Err(refusal) => Err(Fault::Refused(refusal)),
         }
     }
@@ -134,7 +135,7 @@ impl<R: Recorder> Engine<R> {
     }
 
     /// Takes up to `n` of the oldest queued pages, in order, tries each, and returns the pinned ones.
-    pub fn scan(&mut self, caller: u32, n: u32) -> Result<ScanReply, Fault>
+    pub fn scan(&mut self, caller: u32, n: u32) -> Result<ThpScan, Fault>
         ensures { ScanCall caller n self.old self.new result }
     {
         if caller >= MAX_CALLERS {
@@ -144,7 +145,7 @@ impl<R: Recorder> Engine<R> {
             return Err(Fault::BadCount);
         }
         match self.node.scan(caller, n) {
-            Ok(reply) => Ok(reply),
+            Ok(reply) => Ok(ThpScan::of(&reply)),
             Err(refusal) => Err(Fault::Refused(refusal)),
         }
     }
@@ -188,7 +189,7 @@ impl<R: Recorder> Engine<R> {
     }
 
     /// Tries the next page of the caller's open batch.
-    pub fn split_next(&mut self, caller: u32) -> Result<Tried, Fault>
+    pub fn split_next(&mut self, caller: u32) -> Result<ThpTried, Fault>
         ensures { NextCall caller self.old self.new result }
     {
         let Some(place) = self.place(caller) else {
@@ -198,13 +199,13 @@ impl<R: Recorder> Engine<R> {
             return Err(Fault::NoBatch);
         };
         match self.node.split_next(batch) {
-            Ok(tried) => Ok(tried),
+            Ok(tried) => Ok(ThpTried::of(&tried)),
             Err(refusal) => Err(Fault::Refused(refusal)),
         }
     }
 
     /// Returns the remaining pages of the caller's open batch, and closes the batch.
-    pub fn put_back(&mut self, caller: u32) -> Result<BackReply, Fault>
+    pub fn put_back(&mut self, caller: u32) -> Result<ThpBack, Fault>
         ensures open { OnOk result (IsSome (open_of self.old caller)) }
         ensures shut { OnOk result (open_of self.new caller ≡ None) }
         ensures others { OthersOpen caller self.old self.new }
@@ -219,7 +220,7 @@ impl<R: Recorder> Engine<R> {
             return Err(Fault::NoBatch);
         };
         match self.node.put_back(batch) {
-            Ok(reply) => Ok(reply),
+            Ok(reply) => Ok(ThpBack::of(&reply)),
             Err((batch, refusal)) => {
                 put_at(&mut self.batches, place, batch);
                 Err(Fault::Refused(refusal))

@@ -59,26 +59,37 @@ pub enum HeldPass {
     Counted(SharedPass<CountOnly>),
 }
 
-// What a call does with an engine, which is the same for both kinds.
-macro_rules! with_engine {
-    ($held:expr, $engine:ident => $call:expr) => {
-        match $held {
-            HeldEngine::Kept($engine) => $call,
-            HeldEngine::Counted($engine) => $call,
-        }
-    };
+/// Does a call on the engine of a node's handle, which is written once for both kinds. Returns what the call returns; where the
+/// handle is empty, the function returns that.
+#[macro_export]
+macro_rules! on_node {
+    ($handle:expr, $alloc:expr, $engine:ident => $call:expr) => {{
+        let Some(mut held) = $handle.take($alloc) else {
+            return $crate::code(Err($crate::Fault::Empty));
+        };
+        let answer = match &mut *held {
+            $crate::HeldEngine::Kept($engine) => $call,
+            $crate::HeldEngine::Counted($engine) => $call,
+        };
+        $handle.store(held);
+        answer
+    }};
 }
 
-pub(crate) use with_engine;
-
-// What a call does with a pass, which is the same for both kinds.
-macro_rules! with_pass {
-    ($held:expr, $pass:ident => $call:expr) => {
-        match $held {
-            HeldPass::Kept($pass) => $call,
-            HeldPass::Counted($pass) => $call,
-        }
-    };
+/// Does a call on the pass of a handle, which is written once for both kinds. Returns what the call returns; where the handle is
+/// empty, the function returns that.
+#[macro_export]
+macro_rules! on_pass {
+    ($handle:expr, $alloc:expr, $pass:ident => $call:expr) => {{
+        let Some(mut room) = $handle.lend($alloc) else {
+            return $crate::code(Err($crate::Fault::Empty));
+        };
+        let answer = match &mut room.value {
+            Some($crate::HeldPass::Kept($pass)) => $call,
+            Some($crate::HeldPass::Counted($pass)) => $call,
+            None => unreachable!(),
+        };
+        $handle.restore(room);
+        answer
+    }};
 }
-
-pub(crate) use with_pass;

@@ -8,7 +8,6 @@ ghost use Rattle.thp_capi.specs.Sharing.{HasOpen, IsShut};
 use crate::codes::Fault;
 use crate::engine::Engine;
 use crate::held::{Events, HeldEngine, HeldPass};
-use crate::pass_codes::PassFault;
 use crate::shared_pass::SharedPass;
 use std::alloc::Global;
 use thp_model::{Refusal, Shape};
@@ -103,12 +102,12 @@ impl HeldPass {
     }
 
     /// Dismantles the cell, and puts its node in an engine of the same kind. Otherwise returns the pass and the reason.
-    pub fn finish(self, engine: &mut HeldEngine) -> Result<(), (HeldPass, PassFault)>
+    pub fn finish(self, engine: &mut HeldEngine) -> Result<(), (HeldPass, Fault)>
         requires alike { events_in engine.old ≡ pass_events self }
         requires none_open { NoneOpen (engine_in engine.old) }
         ensures done { OnOk result (Finished (Some self) (Some engine.new)) }
         ensures same { IfErr result (λ e. e.0 ≡ self) }
-        ensures why { IfErr result (λ e. ((e.1 ≡ PassFault.Plain Fault.BatchOpen) × HasOpen (pass_in self)) ⊎ (e.1 ≡ PassFault.BadPass)) }
+        ensures why { IfErr result (λ e. ((e.1 ≡ Fault.BatchOpen) × HasOpen (pass_in self)) ⊎ (e.1 ≡ Fault.BadPass)) }
     {
         match (self, engine) {
             (HeldPass::Kept(pass), HeldEngine::Kept(engine)) => match finish_in(pass, engine) {
@@ -130,11 +129,11 @@ impl HeldPass {
 fn finish_in<R: Recorder>(
     pass: SharedPass<R>,
     engine: &mut Engine<R>,
-) -> Result<(), (SharedPass<R>, PassFault)>
+) -> Result<(), (SharedPass<R>, Fault)>
     requires { NoneOpen engine.old }
     ensures done { OnOk result (Dismantled pass engine.new) }
     ensures same { IfErr result (λ e. e.0 ≡ pass) }
-    ensures why { IfErr result (λ e. ((e.1 ≡ PassFault.Plain Fault.BatchOpen) × HasOpen pass) ⊎ (e.1 ≡ PassFault.BadPass)) }
+    ensures why { IfErr result (λ e. ((e.1 ≡ Fault.BatchOpen) × HasOpen pass) ⊎ (e.1 ≡ Fault.BadPass)) }
 {
     match pass.finish() {
         Ok(node) => {

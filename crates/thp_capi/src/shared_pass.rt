@@ -14,13 +14,13 @@ mod batch_calls;
 
 use crate::codes::Fault;
 use crate::open_batches::{cut, joined, none_open, some_open};
-use crate::pass_codes::PassFault;
+use crate::replies::ThpScan;
 use std::alloc::Global;
 use std::marker::Model;
 use std::sync::Arc;
 use thp_cell::{CellFault, NodeCell, Pass};
 use thp_model::{Done, Gain, Loss, MAX_BATCH, PageId, Refusal, Shape, What};
-use thp_node::{Batch, NewFault, Node, Recorder, ScanReply};
+use thp_node::{Batch, NewFault, Node, Recorder};
 
 /// A pass, its share of the cell, and the mark that distinguishes it from passes of other cells.
 #[derive(Drop)]
@@ -92,41 +92,41 @@ impl<R: Recorder> SharedPass<R> {
         first <= caller && caller < end
     }
 
-    /// Allocates a page, mapped whole once.
-    pub fn alloc_page(&mut self, caller: u32) -> Result<PageId, PassFault>
+    /// Allocates a page, mapped whole once, and returns its number.
+    pub fn alloc_page(&mut self, caller: u32) -> Result<u64, Fault>
         ensures { PassAlloc caller self.old self.new result }
     {
         if !self.has(caller) {
-            return Err(PassFault::Plain(Fault::BadCaller));
+            return Err(Fault::BadCaller);
         }
         match self.cell.alloc_page(&mut self.pass, caller) {
-            Ok(page) => Ok(page),
-            Err(CellFault::Busy) => Err(PassFault::Busy),
-            Err(CellFault::Refused(refusal)) => Err(PassFault::Plain(Fault::Refused(refusal))),
+            Ok(page) => Ok(page.0),
+            Err(CellFault::Busy) => Err(Fault::Busy),
+            Err(CellFault::Refused(refusal)) => Err(Fault::Refused(refusal)),
         }
     }
 
     /// Adds mappings or a pin, or fills subpages of the page.
     #[inline(always)]
-    pub fn gain(&mut self, caller: u32, page: PageId, gain: Gain) -> Result<(), PassFault>
+    pub fn gain(&mut self, caller: u32, page: PageId, gain: Gain) -> Result<(), Fault>
         ensures did { PassOne caller (gain_call gain page) (gain_what gain page) self.old self.new result }
         ensures low { self.old.pass.shape.order ≤ max_order }
     {
         // Shows the proof the greatest order of the pages.
         let _ = self.pass.callers();
         if !self.has(caller) {
-            return Err(PassFault::Plain(Fault::BadCaller));
+            return Err(Fault::BadCaller);
         }
         match self.cell.gain(&mut self.pass, caller, page, gain) {
             Ok(()) => Ok(()),
-            Err(CellFault::Busy) => Err(PassFault::Busy),
-            Err(CellFault::Refused(refusal)) => Err(PassFault::Plain(Fault::Refused(refusal))),
+            Err(CellFault::Busy) => Err(Fault::Busy),
+            Err(CellFault::Refused(refusal)) => Err(Fault::Refused(refusal)),
         }
     }
 
     /// Removes mappings or a pin of the page, which can queue or free it.
     #[inline(always)]
-    pub fn lose(&mut self, caller: u32, page: PageId, loss: Loss) -> Result<Done, PassFault>
+    pub fn lose(&mut self, caller: u32, page: PageId, loss: Loss) -> Result<Done, Fault>
         ensures front { OnlyFront self.old self.new }
         ensures recorded { IfOk result (λ d. Called self.old.pass self.new.pass caller (DidLose self.old.pass.shape (loss_call loss page) caller page (loss_what loss page) d)) }
         ensures failed { IfErr result (PassFails caller (refusal self.new.pass.shape self.new.pass.front (loss_call loss page)) 1 self.old.pass self.new.pass) }
@@ -135,43 +135,43 @@ impl<R: Recorder> SharedPass<R> {
         // Shows the proof the greatest order of the pages.
         let _ = self.pass.callers();
         if !self.has(caller) {
-            return Err(PassFault::Plain(Fault::BadCaller));
+            return Err(Fault::BadCaller);
         }
         match self.cell.lose(&mut self.pass, caller, page, loss) {
             Ok(done) => Ok(done),
-            Err(CellFault::Busy) => Err(PassFault::Busy),
-            Err(CellFault::Refused(refusal)) => Err(PassFault::Plain(Fault::Refused(refusal))),
+            Err(CellFault::Busy) => Err(Fault::Busy),
+            Err(CellFault::Refused(refusal)) => Err(Fault::Refused(refusal)),
         }
     }
 
     /// Closes the node: no page is queued or allocated afterwards.
-    pub fn close(&mut self, caller: u32) -> Result<(), PassFault>
+    pub fn close(&mut self, caller: u32) -> Result<(), Fault>
         ensures { PassOne caller call.close What.Close self.old self.new result }
     {
         if !self.has(caller) {
-            return Err(PassFault::Plain(Fault::BadCaller));
+            return Err(Fault::BadCaller);
         }
         match self.cell.close(&mut self.pass, caller) {
             Ok(()) => Ok(()),
-            Err(CellFault::Busy) => Err(PassFault::Busy),
-            Err(CellFault::Refused(refusal)) => Err(PassFault::Plain(Fault::Refused(refusal))),
+            Err(CellFault::Busy) => Err(Fault::Busy),
+            Err(CellFault::Refused(refusal)) => Err(Fault::Refused(refusal)),
         }
     }
 
     /// Takes up to `n` of the oldest queued pages, in order, tries each, and returns the pinned ones.
-    pub fn scan(&mut self, caller: u32, n: u32) -> Result<ScanReply, PassFault>
+    pub fn scan(&mut self, caller: u32, n: u32) -> Result<ThpScan, Fault>
         ensures { PassScan caller n self.old self.new result }
     {
         if !self.has(caller) {
-            return Err(PassFault::Plain(Fault::BadCaller));
+            return Err(Fault::BadCaller);
         }
         if n as usize > MAX_BATCH {
-            return Err(PassFault::Plain(Fault::BadCount));
+            return Err(Fault::BadCount);
         }
         match self.cell.scan(&mut self.pass, caller, n) {
-            Ok(reply) => Ok(reply),
-            Err(CellFault::Busy) => Err(PassFault::Busy),
-            Err(CellFault::Refused(refusal)) => Err(PassFault::Plain(Fault::Refused(refusal))),
+            Ok(reply) => Ok(ThpScan::of(&reply)),
+            Err(CellFault::Busy) => Err(Fault::Busy),
+            Err(CellFault::Refused(refusal)) => Err(Fault::Refused(refusal)),
         }
     }
 
@@ -292,20 +292,20 @@ impl<R: Recorder> SharedPass<R> {
 
     /// Dismantles the cell and returns its node, if the pass has all callers, none of them has an open batch, and no other handle
     /// has a share of the cell. Otherwise returns the pass and the reason.
-    pub fn finish(self) -> Result<Node<R>, (SharedPass<R>, PassFault)>
+    pub fn finish(self) -> Result<Node<R>, (SharedPass<R>, Fault)>
         ensures all { IfOk result (λ node. HasAll self.pass) }
         ensures shut { IfOk result (λ node. IsShut self) }
         ensures shape { IfOk result (λ node. node.shape ≡ self.pass.shape) }
         ensures journal { IfOk result (λ node. node.journal ≡ self.pass.front) }
         ensures same { IfErr result (λ e. e.0 ≡ self) }
-        ensures why { IfErr result (λ e. ((e.1 ≡ PassFault.Plain Fault.BatchOpen) × HasOpen self) ⊎ (e.1 ≡ PassFault.BadPass)) }
+        ensures why { IfErr result (λ e. ((e.1 ≡ Fault.BatchOpen) × HasOpen self) ⊎ (e.1 ≡ Fault.BadPass)) }
     {
         let (first, end) = self.pass.callers();
         if first != 0 || end != self.callers {
-            return Err((self, PassFault::BadPass));
+            return Err((self, Fault::BadPass));
         }
         if some_open(&self.batches) {
-            return Err((self, PassFault::Plain(Fault::BatchOpen)));
+            return Err((self, Fault::BatchOpen));
         }
         let SharedPass {
             cell,
@@ -324,7 +324,7 @@ impl<R: Recorder> SharedPass<R> {
                     callers,
                     mark,
                 };
-                Err((same, PassFault::BadPass))
+                Err((same, Fault::BadPass))
             }
         }
     }

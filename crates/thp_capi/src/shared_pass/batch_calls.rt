@@ -5,11 +5,11 @@ ghost use Rattle.thp_capi.specs.PassBatches.{fault_in, PassTake, PassNext, PassB
 
 use crate::codes::Fault;
 use crate::open_batches::{is_open, put_at, take_at};
-use crate::pass_codes::PassFault;
+use crate::replies::{ThpBack, ThpTried};
 use crate::shared_pass::SharedPass;
 use thp_cell::CellFault;
 use thp_model::MAX_BATCH;
-use thp_node::{BackReply, Recorder, Tried};
+use thp_node::Recorder;
 
 impl<R: Recorder> SharedPass<R> {
     // The caller's index, if it is one of the pass's.
@@ -28,17 +28,17 @@ impl<R: Recorder> SharedPass<R> {
 
     /// Takes up to `n` of the oldest queued pages, in order, into the caller's batch, which is open afterwards. Returns the
     /// number of pages taken.
-    pub fn take(&mut self, caller: u32, n: u32) -> Result<u32, PassFault>
+    pub fn take(&mut self, caller: u32, n: u32) -> Result<u32, Fault>
         ensures { PassTake caller n self.old self.new result }
     {
         let Some(place) = self.place(caller) else {
-            return Err(PassFault::Plain(Fault::BadCaller));
+            return Err(Fault::BadCaller);
         };
         if n as usize > MAX_BATCH {
-            return Err(PassFault::Plain(Fault::BadCount));
+            return Err(Fault::BadCount);
         }
         if is_open(&self.batches, place) {
-            return Err(PassFault::Plain(Fault::BatchOpen));
+            return Err(Fault::BatchOpen);
         }
         match self.cell.take(&mut self.pass, caller, n) {
             Ok(batch) => {
@@ -51,33 +51,33 @@ impl<R: Recorder> SharedPass<R> {
     }
 
     /// Tries the next page of the caller's open batch.
-    pub fn split_next(&mut self, caller: u32) -> Result<Tried, PassFault>
+    pub fn split_next(&mut self, caller: u32) -> Result<ThpTried, Fault>
         ensures { PassNext caller self.old self.new result }
     {
         let Some(place) = self.place(caller) else {
-            return Err(PassFault::Plain(Fault::BadCaller));
+            return Err(Fault::BadCaller);
         };
         let Some(batch) = &mut self.batches[place] else {
-            return Err(PassFault::Plain(Fault::NoBatch));
+            return Err(Fault::NoBatch);
         };
         match self.cell.split_next(&mut self.pass, batch) {
-            Ok(tried) => Ok(tried),
+            Ok(tried) => Ok(ThpTried::of(&tried)),
             Err(fault) => Err(fault_of(fault)),
         }
     }
 
     /// Returns the remaining pages of the caller's open batch, and closes the batch.
-    pub fn put_back(&mut self, caller: u32) -> Result<BackReply, PassFault>
+    pub fn put_back(&mut self, caller: u32) -> Result<ThpBack, Fault>
         ensures { PassBack caller self.old self.new result }
     {
         let Some(place) = self.place(caller) else {
-            return Err(PassFault::Plain(Fault::BadCaller));
+            return Err(Fault::BadCaller);
         };
         let Some(batch) = take_at(&mut self.batches, place) else {
-            return Err(PassFault::Plain(Fault::NoBatch));
+            return Err(Fault::NoBatch);
         };
         match self.cell.put_back(&mut self.pass, batch) {
-            Ok(back) => Ok(back),
+            Ok(back) => Ok(ThpBack::of(&back)),
             Err((batch, fault)) => {
                 put_at(&mut self.batches, place, batch);
                 Err(fault_of(fault))
@@ -86,14 +86,14 @@ impl<R: Recorder> SharedPass<R> {
     }
 
     /// Discards the caller's open batch: its pages stay in the caller's flight, out of the queue.
-    pub fn abandon(&mut self, caller: u32) -> Result<(), PassFault>
+    pub fn abandon(&mut self, caller: u32) -> Result<(), Fault>
         ensures { PassAbandon caller self.old self.new result }
     {
         let Some(place) = self.place(caller) else {
-            return Err(PassFault::Plain(Fault::BadCaller));
+            return Err(Fault::BadCaller);
         };
         let Some(batch) = take_at(&mut self.batches, place) else {
-            return Err(PassFault::Plain(Fault::NoBatch));
+            return Err(Fault::NoBatch);
         };
         batch.abandon();
         Ok(())
@@ -101,11 +101,11 @@ impl<R: Recorder> SharedPass<R> {
 }
 
 // Why the cell's call had no effect.
-fn fault_of(fault: CellFault) -> PassFault
+fn fault_of(fault: CellFault) -> Fault
     ensures { result ≡ fault_in fault }
 {
     match fault {
-        CellFault::Busy => PassFault::Busy,
-        CellFault::Refused(refusal) => PassFault::Plain(Fault::Refused(refusal)),
+        CellFault::Busy => Fault::Busy,
+        CellFault::Refused(refusal) => Fault::Refused(refusal),
     }
 }

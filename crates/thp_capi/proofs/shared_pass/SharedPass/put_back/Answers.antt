@@ -1,6 +1,8 @@
 -- The other open batches stay in front of their flights; what the cell's call did is told.
 use Rattle.std.proofs.Common.{◌≡◌, ◌∙◌, ◌+◌, ◌<◌, Some, None, Ok, Err, ap, arith, get_or, length, set, sym, subst}
 use Rattle.std.proofs.lemmas.List.{set-set}
+use Rattle.thp_cell.specs.Calls.{Called}
+use Rattle.thp_cell.specs.Says.{DidPutBack}
 use Rattle.thp_cell.specs.Views.{HasCaller}
 use Rattle.thp_capi.specs.PassBatches.{PassBack, fault_in}
 use Rattle.thp_capi.proofs.Opened.{shared_closed, shared_again, back_done, back_failed, own_at}
@@ -34,8 +36,9 @@ returns-in-Ok g c =
     let b = c.in-Some-take_at.batch in
     let is : get_or c.self.inside.batches.items c.in-Some.place None ≡ Some b = sym c.take_at.ensures.was ∙ c.in-Some-take_at.is in
     let own : b.caller ≡ c.args.caller = omega (arith, (c.self.invariant.each c.in-Some.place b lt is).0, at) in
-    subst (λ x. PassBack c.args.caller x (record { mark = c.self.inside.mark; pass = c.put_back.new.pass; batches = c.take_at.new.places.items }) (Ok c.in-Ok.back)) c.self.view_is
-    (back_done c.self.inside.mark p c.put_back.new.pass _ _ c.args.caller c.in-Some.place c.put_back.ensures.same at lt b c.in-Ok.back is own c.take_at.ensures.now c.in-Ok.ensures.recorded)
+    subst (λ x. PassBack c.args.caller x (record { mark = c.self.inside.mark; pass = c.put_back.new.pass; batches = c.take_at.new.places.items }) (Ok c.of.result)) c.self.view_is
+    (back_done c.self.inside.mark p c.put_back.new.pass _ _ c.args.caller c.in-Some.place c.put_back.ensures.same at lt b c.of.result is own c.take_at.ensures.now
+    (subst (λ r. Called p c.put_back.new.pass b.caller (DidPutBack p.shape b r)) (sym c.of.ensures) c.in-Ok.ensures.recorded))
 
 pub returns-in-Err : goal.returns-in-Err
 returns-in-Err g c =

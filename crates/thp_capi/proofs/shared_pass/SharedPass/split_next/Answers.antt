@@ -1,6 +1,8 @@
 -- The batch and the others stay in front of their flights; what the cell's call did is told.
 use Rattle.std.proofs.Common.{◌≡◌, ◌∙◌, ◌+◌, ◌<◌, Some, None, arith, get_or, length, refl, set, sym, subst}
 use Rattle.std.proofs.lemmas.List.{get_or_default}
+use Rattle.thp_cell.specs.Calls.{Called}
+use Rattle.thp_cell.specs.Says.{DidTry}
 use Rattle.thp_capi.specs.PassBatches.{PassNext}
 use Rattle.thp_capi.proofs.Opened.{others_stay, own_at, shared_took, next_done, next_failed}
 use Rattle.thp_capi.proofs.shared_pass.SharedPass.split_next.Goals.{in-Ok, in-Err}
@@ -48,6 +50,7 @@ returns g c =
     let new = set bs place (Some b') in
     subst (λ x. PassNext c.args.caller x (record { mark = mark; pass = q; batches = new }) c.match-split_next.result) c.self.view_is
     (elim c.match-split_next.branch [
-      | in-Ok w ↦ rw w.result-is (next_done mark p q bs new c.args.caller place e.same at lt b b' w.in-Ok.tried is own refl e.same_caller e.same_pages w.in-Ok.ensures.recorded)
+      | in-Ok w ↦ rw w.result-is (next_done mark p q bs new c.args.caller place e.same at lt b b' w.of.result w.of.ensures.kind is own refl e.same_caller e.same_pages
+          (subst (λ t. Called p q b.caller (DidTry p.shape b b' t)) (sym w.of.ensures.value) w.in-Ok.ensures.recorded))
       | in-Err w ↦ rw (w.result-is, w.fault_of.ensures) (next_failed mark p q bs new c.args.caller place e.same at lt b b' w.in-Err.fault is own refl w.in-Err.ensures.kept w.in-Err.ensures.failed)
     ])
