@@ -1,4 +1,4 @@
--- What is known of nodes that are followed line by line. Public clauses cite this module through `Parts` only.
+-- What is known of nodes that are followed line by line, and what is kept of each (this project's profile).
 use Rattle.std.specs.Prelude.{◌≡◌, ◌≤◌, ◌+◌, ◌⊎◌, ⊤, ℕ, Bool, true, All, List, [], ◌∷◌, ◌++◌, length, not, ◌&&◌, Option, Some, None, IfSome, is_some}
 use Rattle.std.specs.List.{fold, AllZip}
 use Rattle.thp_model.specs.declared.shape.Shape.{Shape}
@@ -94,6 +94,14 @@ HasRoomIn next_line replay = (length replay.history ≤ next_line) × (next_line
 
 abbrev pub HasRoom : {F K : Type 0} → (F → Replayed) → Follower F K → Type 0
 HasRoom replayed follower = IfSome follower.at_hand (λ node. HasRoomIn follower.next_line (replayed node))
+
+-- the first illegal event so far
+abbrev pub illegal_so_far : {F K : Type 0} → FollowedNodes F K → Option Illegal
+illegal_so_far followed = followed.follower.illegal
+
+-- what is known of these nodes is right
+abbrev pub KnowsNodes : {F K : Type 0} → (F → Replayed) → (Shape → History → Option Illegal → K → Type 0) → Bool → List NodeJournal → FollowedNodes F K → Type 0
+KnowsNodes replayed keeps follows_all nodes followed = Follows replayed keeps follows_all nodes followed.follower
 
 -- what is known is right for the nodes in the lines, which are before the line of this number
 pub record FollowsLines {F K : Type 0} (replayed : F → Replayed) (keeps : Shape → History → Option Illegal → K → Type 0) (follows_all : Bool) (number : ℕ) (nodes : FollowedNodes F K) : Type 0 where

@@ -1,7 +1,7 @@
 //! Follows the nodes of a journal as its lines are read: replays their events without storing them, and keeps data of each node.
 ghost use Rattle.std.specs.Prelude.{◌≡◌, ◌≤◌, ◌∷◌, ◌++◌, ℕ, [], List, None, IfOk, OnOk};
 ghost use Rattle.thp_check.specs.Replays.{Replayed};
-ghost use Rattle.thp_journal_reader.specs.Following.{first_of, has_stopped, nodes_told, Follows, FollowsLines, FollowsWith, HasEnded, HasRoom, HasRoomIn, StopsWith};
+ghost use Rattle.thp_journal_reader.specs.Following.{first_of, has_stopped, illegal_so_far, nodes_told, Follows, FollowsLines, FollowsWith, HasEnded, HasRoom, HasRoomIn, KnowsNodes, StopsWith};
 ghost use Rattle.thp_journal_reader.specs.Later.{follows_later};
 ghost use Rattle.thp_journal_reader.specs.LineRanges.{IsInRange};
 ghost use Rattle.thp_journal_reader.specs.Reading.{began, on_last, with_event, with_line};
@@ -192,14 +192,14 @@ impl<K: Drop, F: FollowsNode<Kept = K>> FollowedNodes<F, K> {
 
     /// Returns the first illegal event, if there is one.
     pub fn illegal(&self) -> Option<Illegal>
-        ensures { result ≡ self.now.follower.illegal }
+        ensures { result ≡ illegal_so_far self.now }
     {
         self.follower.illegal
     }
 
     /// Returns the first illegal event, if there is one, and the kept data of each node, after the last line.
     pub fn finish(self) -> Result<(Option<Illegal>, Vec<K>), AllocError>
-        ensures { IfOk result (λ found. (nodes : List NodeJournal) → Follows F.replayed F.keeps F.follows_all nodes self.follower → HasEnded F.keeps F.follows_all nodes found.0 found.1.items) }
+        ensures { IfOk result (λ found. (nodes : List NodeJournal) → KnowsNodes F.replayed F.keeps F.follows_all nodes self → HasEnded F.keeps F.follows_all nodes found.0 found.1.items) }
     {
         let mut follower = self.follower;
         follower.end()?;

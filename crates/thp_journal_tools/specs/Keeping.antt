@@ -1,4 +1,4 @@
--- What each check keeps of a node, and what it is made of where an event is illegal. No public clause cites this module.
+-- What is kept of a node, and what it is made of where an event is illegal.
 use Rattle.std.specs.Prelude.{◌≡◌, Option}
 use Rattle.thp_model.specs.History.{History}
 use Rattle.thp_model.specs.declared.shape.Shape.{Shape}
