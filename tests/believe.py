@@ -25,6 +25,9 @@ CLAIMED = (
 )
 """The functions whose numbers docs/PROVED.md lists."""
 
+BESIDE = {"thp_c": ["thp_c", "thp_capi"]}
+"""Where the types are declared that a crate's contracts name, if not in the crate alone."""
+
 NAME = re.compile(r"[A-Za-z_][A-Za-z0-9_]*")
 IMPORT = re.compile(r"(?:ghost )?use Rattle\.(\w+)\.specs\.([\w.]+?)\.?(?:\{([^}]*)\}| as (\w+))")
 DEFINED = re.compile(r"^(?:(?:pub|abbrev|unfoldable|irreducible|record|data) )+([A-Za-z_]\w*)")
@@ -176,7 +179,7 @@ def believed(function: str) -> dict[tuple[Path, str], Definition]:
     crate = path.relative_to(CRATES).parts[0]
     for name in dict.fromkeys(NAME.findall("\n".join(lines))):
         reader.follow(name, inside, path)
-        for other in sorted(it for own in {crate, crate.replace("thp_c", "thp_capi")} for it in (CRATES / own / "src").rglob("*.rt")):
+        for other in sorted(it for own in BESIDE.get(crate, [crate]) for it in (CRATES / own / "src").rglob("*.rt")):
             if name in source(other).definitions:
                 reader.meet(source(other).definitions[name], other)
     return reader.met
