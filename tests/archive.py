@@ -19,7 +19,7 @@ from pathlib import Path
 ROOT = Path(__file__).resolve().parent.parent
 sys.path.insert(0, str(ROOT))
 
-from prove import below, is_built, keep_verdict, library, listed, sources, stands  # noqa: E402
+from prove import below, files, is_built, keep_verdict, library, listed, sources, stands  # noqa: E402
 from tally import Missing, Tally  # noqa: E402
 
 NAME = "thp_c"
@@ -46,12 +46,19 @@ def words(kit: Path, to: Path) -> list[str]:
     return [*found, "--jobs", str(min(4, len(os.sched_getaffinity(0)))), "-o", str(to)]
 
 
+def is_placed(name: str) -> bool:
+    """Whether a library was put here after the last change of its sources and of those below it: `rt ci` prints no verdict line of a
+    proof that it kept from an earlier run, but puts the library of the same sources in its place."""
+    built = library(name)
+    return built.is_dir() and all(it.stat().st_mtime <= built.stat().st_ctime for own in (*below(name), name) for it in files(own))
+
+
 def build(to: Path) -> str | None:
     """Proves and builds the archive; returns the compiler's output if that fails."""
     rt = shutil.which("rt")
     if rt is None:
         raise Missing("rt isn't on the path")
-    others = [name for name in below(NAME) if not (is_built(name, library(name)) or stands(name))]
+    others = [name for name in below(NAME) if not (is_built(name, library(name)) or stands(name) or is_placed(name))]
     if others:
         return f"no library of the present sources: {', '.join(others)}"
     kit = Path(rt).resolve().parent.parent
