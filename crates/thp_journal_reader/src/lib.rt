@@ -1,4 +1,4 @@
-//! Reads and checks journals, and writes scripts that repeat them.
+//! Reads and checks journals.
 //!
 //! - The grammar: `line_of`, `journals_of` (`JournalLines`, `Journals`, `EventLines`, `EventWords`, `SetTexts`); code in `line`,
 //!   `event_line`, `event_word`, `set_text`, `version`, `place`, `journals`. Texts have no blocks: each page gets its least
@@ -8,18 +8,9 @@
 //!   (`event_told`). Proofs `PlainWords`, `PlainLines`: a line whose words parse needs no second look at its bytes.
 //! - Checks: `checking` (`ReportsIllegal`, `CanBeLegal` of `Answers`), `journal_check` (16 MiB), `long_check` (any length),
 //!   `illegal` (the event and why).
-//! - `summed_check`, `summed` (`Summaries`): totals up to the first illegal event; `series_check`, `numbered` (`Numbered`): the
-//!   numbers after each event, in columns.
-//! - Used by `long_check`, `summed_check`, `series_check` and `script_check`: `follower` (`Following`, proof `FollowLaws`), generic
-//!   in `follows_node`: what follows a node, and what is kept of it (`Keeping`): nothing, totals (`summed_node`), numbers
-//!   (`series_node`).
-//! - `script_check`, `scripted_nodes`, `scripted` (`JournalScripts`): the script that repeats the legal events. `journal_script`
-//!   (`NodeScripts`), `text_trace`: the script of all nodes, as text. `turns` (`Turns`): tries in another order than the takes.
-//!   `folding`: the commands that repeat a node's events, given one event at a time (`Folds`, `WholeScans`). `event_kind`
-//!   (`Repeating`): the kinds of events, and what each command repeats. `script_batch` (`ScriptBatches`): the batch that the
-//!   script has open, or whose commands are not written yet. `open_flights`, `waiting_flights`: pages in flight, and flights that
-//!   wait for the batch before them. `moved` (`Moving`): what a script does in another order than the history. `command_text`,
-//!   `options_text` (`ScriptTexts`): a command's line, and the options of `thpsplit` for a script.
+//! - `follower` (`Following`, proof `FollowLaws`), generic in `follows_node`: what follows a node line by line, and what is kept of
+//!   it. `long_check` keeps nothing (`Keeping`); `thp_journal_tools` keeps totals or numbers, `thp_journal_scripts` writes scripts.
+//!   `past_lines` (`LineTrace`): the lines so far, for contracts.
 #![tactic(auto)]
 
 mod checking;
