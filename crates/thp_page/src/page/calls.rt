@@ -182,7 +182,7 @@ impl Page {
         match self.refusal_map_whole() {
             Some(refusal) => Err(refusal),
             None => {
-                self.do_map_whole();
+                self.whole += 1;
                 Ok(())
             }
         }
@@ -202,14 +202,6 @@ impl Page {
         }
     }
 
-    // Does `map_whole`, which is not refused.
-    fn do_map_whole(&mut self)
-        requires { page_refusal self.old (call.map_whole 0) ≡ None }
-        ensures { WholeMapped self.old self.new }
-    {
-        self.whole += 1;
-    }
-
     // Does `unmap_whole`, or returns why it is refused.
     #[inline(always)]
     fn try_unmap_whole(&mut self, change: &mut Change) -> Result<(), Refusal>
@@ -218,13 +210,19 @@ impl Page {
         ensures change { OnOk result (IsChange self.old self.new change.new) }
         ensures kept { OnErr result (self.new ≡ self.old) }
     {
-        match self.refusal_unmap_whole() {
-            Some(refusal) => Err(refusal),
-            None => {
-                *change = self.do_unmap_whole();
-                Ok(())
-            }
+        if let Some(refusal) = self.refusal_unmap_whole() {
+            return Err(refusal);
         }
+        let unused = self.whole == 1 && self.own.has_unmapped(0, self.subpages());
+        self.whole -= 1;
+        let used_left = self.has_use();
+        self.partly |= unused && used_left;
+        *change = Change {
+            unused,
+            used_left,
+            released: SubSet::empty(),
+        };
+        Ok(())
     }
 
     // Why `unmap_whole` would be refused, if it would.
@@ -241,23 +239,6 @@ impl Page {
         }
     }
 
-    // Does `unmap_whole`, which is not refused.
-    fn do_unmap_whole(&mut self) -> Change
-        requires { page_refusal self.old (call.unmap_whole 0) ≡ None }
-        ensures counts { WholeUnmapped self.old self.new }
-        ensures change { IsChange self.old self.new result }
-    {
-        let unused = self.whole == 1 && self.own.has_unmapped(0, self.subpages());
-        self.whole -= 1;
-        let used_left = self.has_use();
-        self.partly |= unused && used_left;
-        Change {
-            unused,
-            used_left,
-            released: SubSet::empty(),
-        }
-    }
-
     // Does `map_sub`, or returns why it is refused.
     #[inline(always)]
     fn try_map_sub(&mut self, first: u16, count: u16) -> Result<(), Refusal>
@@ -268,7 +249,7 @@ impl Page {
         match self.refusal_map_sub(first, count) {
             Some(refusal) => Err(refusal),
             None => {
-                self.do_map_sub(first, count);
+                self.own.map(first as usize, count as usize);
                 Ok(())
             }
         }
@@ -293,15 +274,6 @@ impl Page {
         }
     }
 
-    // Does `map_sub`, which is not refused.
-    #[inline(always)]
-    fn do_map_sub(&mut self, first: u16, count: u16)
-        requires { page_refusal self.old (call.map_sub 0 first count) ≡ None }
-        ensures { RangeMapped first count self.old self.new }
-    {
-        self.own.map(first as usize, count as usize);
-    }
-
     // Does `unmap_sub`, or returns why it is refused.
     #[inline(always)]
     fn try_unmap_sub(&mut self, first: u16, count: u16, change: &mut Change) -> Result<(), Refusal>
@@ -310,13 +282,27 @@ impl Page {
         ensures change { OnOk result (IsChange self.old self.new change.new) }
         ensures kept { OnErr result (self.new ≡ self.old) }
     {
-        match self.refusal_unmap_sub(first, count) {
-            Some(refusal) => Err(refusal),
-            None => {
-                *change = self.do_unmap_sub(first, count);
-                Ok(())
-            }
+        if let Some(refusal) = self.refusal_unmap_sub(first, count) {
+            return Err(refusal);
         }
+        let (first, count) = (first as usize, count as usize);
+        let mapped = self.own.mapped();
+        let unmapped = self.own.unmap(first, count);
+        let unused = self.whole == 0 && unmapped;
+        let used_left = self.has_use();
+        let released = if self.split {
+            // the subpages of the range that are not mapped afterwards
+            self.without_given(mapped.difference(self.own.mapped()))
+        } else {
+            SubSet::empty()
+        };
+        self.partly |= unused && used_left;
+        *change = Change {
+            unused,
+            used_left,
+            released,
+        };
+        Ok(())
     }
 
     // Why `unmap_sub` would be refused, if it would.
@@ -334,32 +320,6 @@ impl Page {
         }
     }
 
-    // Does `unmap_sub`, which is not refused.
-    #[inline(always)]
-    fn do_unmap_sub(&mut self, first: u16, count: u16) -> Change
-        requires { page_refusal self.old (call.unmap_sub 0 first count) ≡ None }
-        ensures counts { RangeUnmapped first count self.old self.new }
-        ensures change { IsChange self.old self.new result }
-    {
-        let (first, count) = (first as usize, count as usize);
-        let mapped = self.own.mapped();
-        let unmapped = self.own.unmap(first, count);
-        let unused = self.whole == 0 && unmapped;
-        let used_left = self.has_use();
-        let released = if self.split {
-            // the subpages of the range that are not mapped afterwards
-            self.without_given(mapped.difference(self.own.mapped()))
-        } else {
-            SubSet::empty()
-        };
-        self.partly |= unused && used_left;
-        Change {
-            unused,
-            used_left,
-            released,
-        }
-    }
-
     // Does `split_pmd`, or returns why it is refused.
     #[inline(always)]
     fn try_split_pmd(&mut self) -> Result<(), Refusal>
@@ -370,7 +330,9 @@ impl Page {
         match self.refusal_split_pmd() {
             Some(refusal) => Err(refusal),
             None => {
-                self.do_split_pmd();
+                let subpages = self.subpages();
+                self.whole -= 1;
+                self.own.map(0, subpages);
                 Ok(())
             }
         }
@@ -385,16 +347,6 @@ impl Page {
         self.refusal_unmap_whole()
     }
 
-    // Does `split_pmd`, which is not refused.
-    fn do_split_pmd(&mut self)
-        requires { page_refusal self.old (call.split_pmd 0) ≡ None }
-        ensures { PmdSplit self.old self.new }
-    {
-        let subpages = self.subpages();
-        self.whole -= 1;
-        self.own.map(0, subpages);
-    }
-
     // Does `pin`, or returns why it is refused.
     #[inline(always)]
     fn try_pin(&mut self) -> Result<(), Refusal>
@@ -405,7 +357,7 @@ impl Page {
         match self.refusal_pin() {
             Some(refusal) => Err(refusal),
             None => {
-                self.do_pin();
+                self.pins += 1;
                 Ok(())
             }
         }
@@ -426,15 +378,6 @@ impl Page {
         }
     }
 
-    // Does `pin`, which is not refused.
-    #[inline(always)]
-    fn do_pin(&mut self)
-        requires { page_refusal self.old (call.pin 0) ≡ None }
-        ensures { Pinned self.old self.new }
-    {
-        self.pins += 1;
-    }
-
     // Does `unpin`, or returns why it is refused.
     #[inline(always)]
     fn try_unpin(&mut self, change: &mut Change) -> Result<(), Refusal>
@@ -446,7 +389,7 @@ impl Page {
         match self.refusal_unpin() {
             Some(refusal) => Err(refusal),
             None => {
-                self.do_unpin();
+                self.pins -= 1;
                 change.unused = false;
                 change.used_left = self.has_use();
                 change.released = SubSet::empty();
@@ -470,15 +413,6 @@ impl Page {
         }
     }
 
-    // Does `unpin`, which is not refused.
-    #[inline(always)]
-    fn do_unpin(&mut self)
-        requires { page_refusal self.old (call.unpin 0) ≡ None }
-        ensures { Pinned self.new self.old }
-    {
-        self.pins -= 1;
-    }
-
     // Does `write`, or returns why it is refused.
     #[inline(always)]
     fn try_write(&mut self, first: u16, count: u16) -> Result<(), Refusal>
@@ -489,7 +423,9 @@ impl Page {
         match self.refusal_write(first, count) {
             Some(refusal) => Err(refusal),
             None => {
-                self.do_write(first, count);
+                self.zero = self
+                    .zero
+                    .difference(SubSet::range(first as u32, count as u32));
                 Ok(())
             }
         }
@@ -511,16 +447,6 @@ impl Page {
         }
     }
 
-    // Does `write`, which is not refused.
-    fn do_write(&mut self, first: u16, count: u16)
-        requires { page_refusal self.old (call.write 0 first count) ≡ None }
-        ensures { RangeWritten first count self.old self.new }
-    {
-        self.zero = self
-            .zero
-            .difference(SubSet::range(first as u32, count as u32));
-    }
-
     // Does `zero`, or returns why it is refused.
     #[inline(always)]
     fn try_zero(&mut self, first: u16, count: u16) -> Result<(), Refusal>
@@ -531,7 +457,7 @@ impl Page {
         match self.refusal_zero(first, count) {
             Some(refusal) => Err(refusal),
             None => {
-                self.do_zero(first, count);
+                self.zero = self.zero.union(SubSet::range(first as u32, count as u32));
                 Ok(())
             }
         }
@@ -544,13 +470,5 @@ impl Page {
     {
         // A write of zeros is refused as a write of data is.
         self.refusal_write(first, count)
-    }
-
-    // Does `zero`, which is not refused.
-    fn do_zero(&mut self, first: u16, count: u16)
-        requires { page_refusal self.old (call.zero_fill 0 first count) ≡ None }
-        ensures { RangeZeroed first count self.old self.new }
-    {
-        self.zero = self.zero.union(SubSet::range(first as u32, count as u32));
     }
 }

@@ -1,4 +1,4 @@
-use Rattle.std.proofs.Common.{List, Bool, arith, subst, refl}
+use Rattle.std.proofs.Common.{List, Bool, arith, subst, refl, sym, ◌∙◌}
 use Rattle.thp_model.specs.Refusals as call
 use Rattle.thp_model.specs.Pages.{PageState, RangeWritten}
 use Rattle.thp_page.specs.PageView.{state_of}
@@ -7,12 +7,12 @@ use Rattle.thp_page.proofs.PageRefusals.{allowed_as, write_allowed}
 use Rattle.thp_page.proofs.Trailing.{behind-same}
 use Rattle.thp_page.proofs.PageChanges.{IsPage-counts}
 use Rattle.thp_page.proofs.ZeroSets.{written, written_inside}
-use Rattle.thp_page.proofs.page.Page.do_write.Goals as goal
+use Rattle.thp_page.proofs.page.Page.try_write.Goals as goal
 
 pub range-requires : goal.range-requires
 range-requires c =
     let s : PageState = state_of c.self.inside in
-    omega (arith, write_allowed s 0 c.args.first c.args.count (allowed_as s _ (call.write 0 c.args.first c.args.count) c.self.view_is c.requires), size_most s c.self.invariant.page.most_order)
+    omega (arith, write_allowed s 0 c.args.first c.args.count (allowed_as s _ (call.write 0 c.args.first c.args.count) c.self.view_is (sym (c.refusal_write.ensures 0) ∙ c.in-None.is)), size_most s c.self.invariant.page.most_order)
 
 pub invariant_of-self : goal.invariant_of-self
 invariant_of-self c =
@@ -25,8 +25,8 @@ invariant_of-self c =
       zero_inside = written_inside s c.range.result new c.self.invariant.zero_inside c.difference-self-inside.ensures;
     }
 
-pub returns : goal.returns
-returns c =
+pub returns-in-None-clause-written : goal.returns-in-None-clause-written
+returns-in-None-clause-written c =
     let s : PageState = state_of c.self.inside in
     let new : List Bool = c.difference-self-inside.result in
     subst (λ (t : PageState). RangeWritten c.args.first c.args.count t (record s { zero = new })) c.self.view_is

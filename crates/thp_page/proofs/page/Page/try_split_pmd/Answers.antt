@@ -8,7 +8,7 @@ use Rattle.thp_page.proofs.PageSizes.{size_most}
 use Rattle.thp_page.proofs.PageRefusals.{allowed_as, split_pmd_allowed}
 use Rattle.thp_page.proofs.Trailing.{behind-map}
 use Rattle.thp_page.proofs.PageChanges.{IsPage-split_pmd, zero_inside-same}
-use Rattle.thp_page.proofs.page.Page.do_split_pmd.Goals as goal
+use Rattle.thp_page.proofs.page.Page.try_split_pmd.Goals as goal
 
 -- the page with a whole mapping less, and other own counts
 remade : PageState → List ℕ → PageState
@@ -29,12 +29,12 @@ made s own n most mapped long added = record {
 pub overflow_sub-self : goal.overflow_sub-self
 overflow_sub-self c =
     let s : PageState = state_of c.self.inside in
-    (split_pmd_allowed s 0 (allowed_as s _ (call.split_pmd 0) c.self.view_is c.requires)).1
+    (split_pmd_allowed s 0 (allowed_as s _ (call.split_pmd 0) c.self.view_is (sym (c.refusal_split_pmd.ensures 0) ∙ c.in-None.is))).1
 
 pub map-requires-clause-small : goal.map-requires-clause-small
 map-requires-clause-small c =
     let s : PageState = state_of c.self.inside in
-    let facts = split_pmd_allowed s 0 (allowed_as s _ (call.split_pmd 0) c.self.view_is c.requires) in
+    let facts = split_pmd_allowed s 0 (allowed_as s _ (call.split_pmd 0) c.self.view_is (sym (c.refusal_split_pmd.ensures 0) ∙ c.in-None.is)) in
     λ i covered. let at = covers_true 0 c.subpages-subpages.result i covered in
     omega (arith, facts.1, c.self.invariant.page.bounded i (omega (arith, at.1, c.subpages-subpages.ensures.size, ap size c.self.view_is)))
 
@@ -42,7 +42,7 @@ pub invariant_of-self : goal.invariant_of-self
 unfolding remade
 invariant_of-self c =
     let s : PageState = state_of c.self.inside in
-    let allowed = allowed_as s _ (call.split_pmd 0) c.self.view_is c.requires in
+    let allowed = allowed_as s _ (call.split_pmd 0) c.self.view_is (sym (c.refusal_split_pmd.ensures 0) ∙ c.in-None.is) in
     let long = c.subpages-subpages.ensures.size ∙ ap size (sym c.self.view_is) in
     record {
       page =
@@ -52,11 +52,11 @@ invariant_of-self c =
       zero_inside = zero_inside-same s (remade s c.map.new.self) refl refl c.self.invariant.zero_inside;
     }
 
-pub returns : goal.returns
+pub returns-in-None-clause-counts : goal.returns-in-None-clause-counts
 unfolding remade
-returns c =
+returns-in-None-clause-counts c =
     let s : PageState = state_of c.self.inside in
-    let allowed = allowed_as s _ (call.split_pmd 0) c.self.view_is c.requires in
+    let allowed = allowed_as s _ (call.split_pmd 0) c.self.view_is (sym (c.refusal_split_pmd.ensures 0) ∙ c.in-None.is) in
     let P : PageState → Type 0 = λ t. PmdSplit t (remade s c.map.new.self) in
     subst P c.self.view_is
     (made s c.map.new.self _ c.self.invariant.page.most_order (split_pmd_allowed s 0 allowed).1 (c.subpages-subpages.ensures.size ∙ ap size (sym c.self.view_is)) c.map.ensures)

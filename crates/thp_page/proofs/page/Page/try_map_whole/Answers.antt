@@ -1,4 +1,4 @@
-use Rattle.std.proofs.Common.{refl, ◌+◌, arith}
+use Rattle.std.proofs.Common.{refl, ◌+◌, arith, sym, ◌∙◌}
 use Rattle.thp_model.specs.Refusals as call
 use Rattle.thp_model.specs.Pages.{PageState}
 use Rattle.thp_page.specs.PageView.{state_of}
@@ -6,12 +6,12 @@ use Rattle.thp_page.proofs.PageSizes.{size_least}
 use Rattle.thp_page.proofs.PageRefusals.{allowed_as, map_whole_allowed}
 use Rattle.thp_page.proofs.Trailing.{behind-same}
 use Rattle.thp_page.proofs.PageChanges.{IsPage-map_whole, zero_inside-same}
-use Rattle.thp_page.proofs.page.Page.do_map_whole.Goals as goal
+use Rattle.thp_page.proofs.page.Page.try_map_whole.Goals as goal
 
 pub overflow_add-self : goal.overflow_add-self
 overflow_add-self c =
     let s : PageState = state_of c.self.inside in
-    let fits = (map_whole_allowed s 0 c.self.invariant.page (allowed_as s _ (call.map_whole 0) c.self.view_is c.requires)).1 0 (omega (arith, size_least s c.self.invariant.page.least_order)) in
+    let fits = (map_whole_allowed s 0 c.self.invariant.page (allowed_as s _ (call.map_whole 0) c.self.view_is (sym (c.refusal_map_whole.ensures 0) ∙ c.in-None.is))).1 0 (omega (arith, size_least s c.self.invariant.page.least_order)) in
     omega (arith, fits)
 
 pub invariant_of-self : goal.invariant_of-self
@@ -20,7 +20,7 @@ invariant_of-self c =
     let t : PageState = record s { whole = s.whole + 1 } in
     record {
       page =
-          IsPage-map_whole s t 0 c.self.invariant.page (allowed_as s _ (call.map_whole 0) c.self.view_is c.requires)
+          IsPage-map_whole s t 0 c.self.invariant.page (allowed_as s _ (call.map_whole 0) c.self.view_is (sym (c.refusal_map_whole.ensures 0) ∙ c.in-None.is))
           (record { order = refl; whole = refl; own = λ i below. refl; pins = refl; split = refl; partly = refl; kept = record { zero = refl; freed_zero_frames = refl } });
       behind = behind-same s t refl (λ i. refl) c.self.invariant.behind;
       zero_inside = zero_inside-same s t refl refl c.self.invariant.zero_inside;

@@ -1,5 +1,6 @@
 use Rattle.std.proofs.Common.{◌≡◌, ◌≢◌, ◌-◌, ◌<◌, ◌≤◌, ◌&&◌, ◌||◌, ℕ, Bool, false, nat_eq, None, refl, ap, ap₂, sym, ◌∙◌, arith, subst, ne_eqb}
 use Rattle.thp_model.specs.Sets.{covers, some_below}
+use Rattle.thp_model.proofs.Options.{not_there}
 use Rattle.thp_model.specs.Refusals as call
 use Rattle.thp_model.specs.Pages.{PageState, size, own_at, has_use, drops_use, partly_after, page_refusal, WholeUnmapped}
 use Rattle.thp_page.specs.declared.page.Page.TheInside.{Inside}
@@ -10,8 +11,8 @@ use Rattle.thp_page.proofs.PageRefusals.{allowed_as, unmap_whole_allowed}
 use Rattle.thp_page.proofs.Trailing.{behind-same}
 use Rattle.thp_page.proofs.PageChanges.{IsPage-unmap_whole, IsPage-partly, has_use-partly, partly_after-partly, kept_partly, zero_inside-same}
 use Rattle.thp_page.proofs.PageUse.{drops_use-last, drops_use-mapped, gives_frames-unsplit}
-use Rattle.thp_page.proofs.page.Page.do_unmap_whole.Goals.{then-self-eq1, else-self-eq1, then-unused, else-unused}
-use Rattle.thp_page.proofs.page.Page.do_unmap_whole.Goals as goal
+use Rattle.thp_page.proofs.page.Page.try_unmap_whole.Goals.{then-self-eq1, else-self-eq1, then-unused, else-unused}
+use Rattle.thp_page.proofs.page.Page.try_unmap_whole.Goals as goal
 
 -- the page with one whole mapping less, before it is known whether it is partly mapped then
 less : PageState → PageState
@@ -47,15 +48,15 @@ kept p k allowed =
 pub overflow_sub-self : goal.overflow_sub-self
 overflow_sub-self c =
     let s : PageState = state_of c.self.inside in
-    (unmap_whole_allowed s 0 (allowed_as s _ (call.unmap_whole 0) c.self.view_is c.requires)).1
+    (unmap_whole_allowed s 0 (allowed_as s _ (call.unmap_whole 0) c.self.view_is (sym (c.refusal_unmap_whole.ensures 0) ∙ not_there c.refusal_unmap_whole.result c.in_default.not-Some))).1
 
 pub invariant_of-self : goal.invariant_of-self
-invariant_of-self c = kept c.self.inside c.self.invariant (allowed_as (state_of c.self.inside) _ (call.unmap_whole 0) c.self.view_is c.requires)
+invariant_of-self c = kept c.self.inside c.self.invariant (allowed_as (state_of c.self.inside) _ (call.unmap_whole 0) c.self.view_is (sym (c.refusal_unmap_whole.ensures 0) ∙ not_there c.refusal_unmap_whole.result c.in_default.not-Some))
 
 pub invariant_of-self-2 : goal.invariant_of-self-2
 invariant_of-self-2 c =
     kept_partly (record c.self.inside { whole = c.self.inside.whole - 1 }) (c.self.inside.partly || c.if-unused.self)
-    (kept c.self.inside c.self.invariant (allowed_as (state_of c.self.inside) _ (call.unmap_whole 0) c.self.view_is c.requires))
+    (kept c.self.inside c.self.invariant (allowed_as (state_of c.self.inside) _ (call.unmap_whole 0) c.self.view_is (sym (c.refusal_unmap_whole.ensures 0) ∙ not_there c.refusal_unmap_whole.result c.in_default.not-Some)))
 
 not_both : (a b : Bool) → a ≡ false → a ≡ (a && b)
 not_both a b e = cc
@@ -68,7 +69,7 @@ pub returns : goal.returns
 unfolding less after
 returns c =
     let s : PageState = state_of c.self.inside in
-    let facts = unmap_whole_allowed s 0 (allowed_as s _ (call.unmap_whole 0) c.self.view_is c.requires) in
+    let facts = unmap_whole_allowed s 0 (allowed_as s _ (call.unmap_whole 0) c.self.view_is (sym (c.refusal_unmap_whole.ensures 0) ∙ not_there c.refusal_unmap_whole.result c.in_default.not-Some)) in
     let partly : Bool = s.partly || c.if-unused.self in
     let unused : c.if-self-eq1.unused ≡ drops_use s (less s) =
     elim c.if-self-eq1.branch [
@@ -88,12 +89,14 @@ returns c =
     let Q : PageState → Type 0 = λ t. WholeUnmapped t (after s partly) in
     let P : PageState → Type 0 = λ t. IsChange t (after s partly) (record { unused = c.if-self-eq1.unused; used_left = c.has_use-used_left.result; released = c.empty.result }) in
     record {
+      refusal = λ p. sym (not_there c.refusal_unmap_whole.result c.in_default.not-Some) ∙ c.refusal_unmap_whole.ensures p;
       counts = subst Q c.self.view_is r;
       change = subst P c.self.view_is (record {
         unused = unused;
         used_left = c.has_use-used_left.ensures ∙ sym (has_use-partly (less s) partly);
         released = c.empty.ensures ∙ sym (gives_frames-unsplit s (after s partly) refl facts.0 facts.0);
       });
+      kept = tt;
     } where
       more : (n : ℕ) → 1 ≤ n → n ≢ 1 → 0 < n - 1
       more n h f = omega arith
