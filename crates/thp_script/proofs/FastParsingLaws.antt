@@ -19,9 +19,7 @@ use Rattle.thp_script.specs.declared.script.BatchCall.TheVariants as batch
 use Rattle.thp_script.specs.declared.script.CommandWord.{CommandWord}
 use Rattle.thp_script.specs.declared.script.CommandWord.TheVariants.{OfNode, OfPage, OfRange, OfBatch}
 use Rattle.thp_script.specs.declared.script.RangeCall.TheVariants as range
-use Rattle.thp_model.specs.declared.page_call.Gain.TheVariants as gain
-use Rattle.thp_model.specs.declared.page_call.Loss.TheVariants as loss
-use Rattle.thp_model.specs.declared.page_call.PageCall.TheVariants.{Gain, Loss}
+use Rattle.thp_script.specs.declared.script.WholePageCall.TheVariants as whole
 use Rattle.thp_script.specs.declared.settings.Settings.{Settings}
 use Rattle.thp_script.specs.declared.statement.Statement.TheVariants.{Call}
 use Rattle.thp_script.specs.FastParsing.{FastCommand, FastLine, FastOperands}
@@ -226,11 +224,11 @@ module _ (s : Settings) where
   unfolding section_or_call command_of
   alloc_is = record { one_word = refl; one_line = refl; says = λ line. refl; reads = λ words. refl }
 
-  pub mapwhole_is : IsName s (codes "mapwhole") (reading_of (OfPage (Gain gain.MapWhole)))
+  pub mapwhole_is : IsName s (codes "mapwhole") (reading_of (OfPage whole.Map))
   unfolding section_or_call command_of
   mapwhole_is = record { one_word = refl; one_line = refl; says = λ line. refl; reads = λ words. refl }
 
-  pub unmapwhole_is : IsName s (codes "unmapwhole") (reading_of (OfPage (Loss loss.UnmapWhole)))
+  pub unmapwhole_is : IsName s (codes "unmapwhole") (reading_of (OfPage whole.Unmap))
   unfolding section_or_call command_of
   unmapwhole_is = record { one_word = refl; one_line = refl; says = λ line. refl; reads = λ words. refl }
 
@@ -242,15 +240,15 @@ module _ (s : Settings) where
   unfolding section_or_call command_of
   unmap_is = record { one_word = refl; one_line = refl; says = λ line. refl; reads = λ words. refl }
 
-  pub splitpmd_is : IsName s (codes "splitpmd") (reading_of (OfPage (Gain gain.SplitPmd)))
+  pub splitpmd_is : IsName s (codes "splitpmd") (reading_of (OfPage whole.SplitPmd))
   unfolding section_or_call command_of
   splitpmd_is = record { one_word = refl; one_line = refl; says = λ line. refl; reads = λ words. refl }
 
-  pub pin_is : IsName s (codes "pin") (reading_of (OfPage (Gain gain.Pin)))
+  pub pin_is : IsName s (codes "pin") (reading_of (OfPage whole.Pin))
   unfolding section_or_call command_of
   pin_is = record { one_word = refl; one_line = refl; says = λ line. refl; reads = λ words. refl }
 
-  pub unpin_is : IsName s (codes "unpin") (reading_of (OfPage (Loss loss.Unpin)))
+  pub unpin_is : IsName s (codes "unpin") (reading_of (OfPage whole.Unpin))
   unfolding section_or_call command_of
   unpin_is = record { one_word = refl; one_line = refl; says = λ line. refl; reads = λ words. refl }
 

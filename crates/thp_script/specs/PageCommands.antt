@@ -19,15 +19,3 @@ page_call_of (op.SplitPmd page) = Some (page, Gain gain.SplitPmd)
 page_call_of (op.Pin page) = Some (page, Gain gain.Pin)
 page_call_of (op.Unpin page) = Some (page, Loss loss.Unpin)
 page_call_of o = None
-
--- the command of a page and a call
-abbrev pub op_on : ℕ → PageCall → Op
-op_on page (Gain gain.MapWhole) = op.MapWhole page
-op_on page (Gain (gain.MapSub first count)) = op.Map first count page
-op_on page (Gain gain.SplitPmd) = op.SplitPmd page
-op_on page (Gain gain.Pin) = op.Pin page
-op_on page (Gain (gain.Write first count)) = op.Write first count page
-op_on page (Gain (gain.Zero first count)) = op.Zero first count page
-op_on page (Loss loss.UnmapWhole) = op.UnmapWhole page
-op_on page (Loss (loss.UnmapSub first count)) = op.Unmap first count page
-op_on page (Loss loss.Unpin) = op.Unpin page

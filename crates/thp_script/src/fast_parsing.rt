@@ -3,17 +3,16 @@
 ghost use Rattle.std.specs.Prelude.{IfSome};
 ghost use Rattle.thp_script.specs.FastParsing.{FastOperands};
 ghost use Rattle.thp_script.specs.Commands.{batch_command, node_command, page_command, range_command};
-ghost use Rattle.thp_script.specs.Operands.{batch_op, call_on, reading_of};
-ghost use Rattle.thp_script.specs.PageCommands.{op_on};
+ghost use Rattle.thp_script.specs.Operands.{batch_op, range_op, whole_page_op};
 
 use crate::fast_words::parse_number_fast;
-use crate::script::{BatchCall, Command, CommandWord, Op, RangeCall};
+use crate::script::{BatchCall, Command, Op, RangeCall, WholePageCall};
 use crate::settings::Settings;
-use thp_model::{MAX_BATCH, PageCall};
+use thp_model::MAX_BATCH;
 
 /// Parses the operands of a command on a whole node: `NODE`
 #[inline(always)]
-fn parse_node_command_fast<'t>(
+pub(crate) fn parse_node_command_fast<'t>(
     settings: &Settings,
     op: Op,
     text: &'t [u8],
@@ -27,41 +26,41 @@ fn parse_node_command_fast<'t>(
 
 /// Parses the operands of a command on a page: `NODE PAGE`
 #[inline(always)]
-fn parse_page_command_fast<'t>(
+pub(crate) fn parse_page_command_fast<'t>(
     settings: &Settings,
-    call: PageCall,
+    call: WholePageCall,
     text: &'t [u8],
 ) -> Option<(Command, &'t [u8])>
-    ensures { IfSome result (λ read. FastOperands (page_command (λ page. op_on page call) settings.now) text.now read.0 read.1.now) }
+    ensures { IfSome result (λ read. FastOperands (page_command (whole_page_op call) settings.now) text.now read.0 read.1.now) }
 {
     let (node, rest) = parse_number_fast(b' ', u64::from(settings.nodes - 1), text)?;
     let (page, rest) = parse_number_fast(b'\n', u64::MAX, rest)?;
     let node = node as u32;
-    let op = Op::on_page(page, call);
+    let op = call.op(page);
     Some((Command { node, op }, rest))
 }
 
 /// Parses the operands of a command on a range of a page's subpages: `NODE PAGE FIRST COUNT`
 #[inline(always)]
-fn parse_range_command_fast<'t>(
+pub(crate) fn parse_range_command_fast<'t>(
     settings: &Settings,
     call: RangeCall,
     text: &'t [u8],
 ) -> Option<(Command, &'t [u8])>
-    ensures { IfSome result (λ read. FastOperands (range_command (λ page first count. op_on page (call_on call first count)) settings.now) text.now read.0 read.1.now) }
+    ensures { IfSome result (λ read. FastOperands (range_command (range_op call) settings.now) text.now read.0 read.1.now) }
 {
     let (node, rest) = parse_number_fast(b' ', u64::from(settings.nodes - 1), text)?;
     let (page, rest) = parse_number_fast(b' ', u64::MAX, rest)?;
     let (first, rest) = parse_number_fast(b' ', u64::from(u16::MAX), rest)?;
     let (count, rest) = parse_number_fast(b'\n', u64::from(u16::MAX), rest)?;
     let node = node as u32;
-    let op = Op::on_page(page, call.on(first as u16, count as u16));
+    let op = call.op(page, first as u16, count as u16);
     Some((Command { node, op }, rest))
 }
 
 /// Parses the operands of a scan or a take: `NODE COUNT`
 #[inline(always)]
-fn parse_batch_command_fast<'t>(
+pub(crate) fn parse_batch_command_fast<'t>(
     settings: &Settings,
     call: BatchCall,
     text: &'t [u8],
@@ -73,21 +72,4 @@ fn parse_batch_command_fast<'t>(
     let node = node as u32;
     let op = call.op(count as u16);
     Some((Command { node, op }, rest))
-}
-
-/// Parses the operands that a command's word requires. `None` implies nothing about the line.
-#[inline(always)]
-pub(crate) fn parse_operands_fast<'t>(
-    settings: &Settings,
-    word: CommandWord,
-    text: &'t [u8],
-) -> Option<(Command, &'t [u8])>
-    ensures { IfSome result (λ read. FastOperands (reading_of word settings.now) text.now read.0 read.1.now) }
-{
-    match word {
-        CommandWord::OfNode(op) => parse_node_command_fast(settings, op, text),
-        CommandWord::OfPage(call) => parse_page_command_fast(settings, call, text),
-        CommandWord::OfRange(call) => parse_range_command_fast(settings, call, text),
-        CommandWord::OfBatch(call) => parse_batch_command_fast(settings, call, text),
-    }
 }

@@ -1,14 +1,13 @@
 //! Parses commands from the words of a line.
 ghost use Rattle.std.specs.Prelude.{◌≡◌, ◌≤◌, ◌<◌, Err, IfErr, IfOk, Ok};
 ghost use Rattle.thp_script.specs.Commands.{batch_command, command_of, four_words, node_command, node_number, number_up_to, page_command, range_command};
-ghost use Rattle.thp_script.specs.Operands.{batch_op, call_on};
-ghost use Rattle.thp_script.specs.PageCommands.{op_on};
+ghost use Rattle.thp_script.specs.Operands.{batch_op, range_op, whole_page_op};
 
 use crate::fault::TextKind;
-use crate::script::{BatchCall, Command, CommandWord, Op, RangeCall, command_word};
+use crate::script::{BatchCall, Command, CommandWord, Op, RangeCall, WholePageCall, command_word};
 use crate::settings::Settings;
 use crate::words::{Words, number};
-use thp_model::{MAX_BATCH, PageCall};
+use thp_model::MAX_BATCH;
 
 #[inline(always)]
 pub(crate) fn number_up_to(most: u64, word: &[u8]) -> Result<u64, TextKind>
@@ -53,8 +52,8 @@ fn node_command(settings: &Settings, op: Op, mut words: Words) -> Result<Command
 /// Parses a command on a page: `NODE PAGE`
 #[tactic(auto, unfolding(crate::specs::Commands::page_command))]
 #[inline(always)]
-fn page_command(settings: &Settings, call: PageCall, mut words: Words) -> Result<Command, TextKind>
-    ensures { result ≡ page_command (λ page. op_on page call) settings.now words.entry }
+fn page_command(settings: &Settings, call: WholePageCall, mut words: Words) -> Result<Command, TextKind>
+    ensures { result ≡ page_command (whole_page_op call) settings.now words.entry }
 {
     let (Some(node), Some(page), None) = (words.next(), words.next(), words.next()) else {
         return Err(TextKind::BadCount);
@@ -63,7 +62,7 @@ fn page_command(settings: &Settings, call: PageCall, mut words: Words) -> Result
     let page = number_up_to(u64::MAX, page)?;
     Ok(Command {
         node,
-        op: Op::on_page(page, call),
+        op: call.op(page),
     })
 }
 
@@ -89,7 +88,7 @@ fn four_words<'w>(
 #[tactic(auto, unfolding(crate::specs::Commands::range_command))]
 #[inline(always)]
 fn range_command(settings: &Settings, call: RangeCall, words: Words) -> Result<Command, TextKind>
-    ensures { result ≡ range_command (λ page first count. op_on page (call_on call first count)) settings.now words.entry }
+    ensures { result ≡ range_command (range_op call) settings.now words.entry }
 {
     let (node, page, first, count) = four_words(words)?;
     let node = node_number(settings, node)?;
@@ -98,7 +97,7 @@ fn range_command(settings: &Settings, call: RangeCall, words: Words) -> Result<C
     let count = small_number_up_to(u16::MAX, count)?;
     Ok(Command {
         node,
-        op: Op::on_page(page, call.on(first, count)),
+        op: call.op(page, first, count),
     })
 }
 

@@ -1,10 +1,13 @@
 //! Scripts as values, and the words of their commands.
-ghost use Rattle.std.specs.Prelude.{◌≡◌, IfSome, Some};
+ghost use Rattle.std.specs.Prelude.{◌≡◌, IfSome};
 ghost use Rattle.thp_script.specs.FastParsing.{FastCommand};
-ghost use Rattle.thp_script.specs.Operands.{batch_op, call_on, Names};
-ghost use Rattle.thp_script.specs.PageCommands.{op_on, page_call_of};
+ghost use Rattle.thp_script.specs.Operands.{batch_op, range_op, whole_page_op, Names};
+ghost use Rattle.thp_script.specs.PageCommands.{page_call_of};
 
-use crate::fast_parsing::parse_operands_fast;
+use crate::fast_parsing::{
+    parse_batch_command_fast, parse_node_command_fast, parse_page_command_fast,
+    parse_range_command_fast,
+};
 use crate::fast_words::after_name;
 use crate::fault::TextKind;
 use crate::sequence::Sequence;
@@ -76,23 +79,29 @@ impl Op {
         };
         Some((page, call))
     }
+}
 
-    /// Returns the command of a call about a page.
+/// The calls on a whole page.
+#[derive(Clone, Copy)]
+pub(crate) enum WholePageCall {
+    Map,
+    Unmap,
+    SplitPmd,
+    Pin,
+    Unpin,
+}
+
+impl WholePageCall {
     #[inline(always)]
-    pub fn on_page(page: u64, call: PageCall) -> Op
-        ensures call { page_call_of result ≡ Some (page, call) }
-        ensures made { result ≡ op_on page call }
+    pub(crate) fn op(self, page: u64) -> Op
+        ensures { result ≡ whole_page_op self page }
     {
-        match call {
-            PageCall::Gain(Gain::MapWhole) => Op::MapWhole { page },
-            PageCall::Gain(Gain::MapSub { first, count }) => Op::Map { first, count, page },
-            PageCall::Gain(Gain::SplitPmd) => Op::SplitPmd { page },
-            PageCall::Gain(Gain::Pin) => Op::Pin { page },
-            PageCall::Gain(Gain::Write { first, count }) => Op::Write { first, count, page },
-            PageCall::Gain(Gain::Zero { first, count }) => Op::Zero { first, count, page },
-            PageCall::Loss(Loss::UnmapWhole) => Op::UnmapWhole { page },
-            PageCall::Loss(Loss::UnmapSub { first, count }) => Op::Unmap { first, count, page },
-            PageCall::Loss(Loss::Unpin) => Op::Unpin { page },
+        match self {
+            WholePageCall::Map => Op::MapWhole { page },
+            WholePageCall::Unmap => Op::UnmapWhole { page },
+            WholePageCall::SplitPmd => Op::SplitPmd { page },
+            WholePageCall::Pin => Op::Pin { page },
+            WholePageCall::Unpin => Op::Unpin { page },
         }
     }
 }
@@ -108,14 +117,14 @@ pub(crate) enum RangeCall {
 
 impl RangeCall {
     #[inline(always)]
-    pub(crate) fn on(self, first: u16, count: u16) -> PageCall
-        ensures { result ≡ call_on self first count }
+    pub(crate) fn op(self, page: u64, first: u16, count: u16) -> Op
+        ensures { result ≡ range_op self page first count }
     {
         match self {
-            RangeCall::Map => PageCall::Gain(Gain::MapSub { first, count }),
-            RangeCall::Unmap => PageCall::Loss(Loss::UnmapSub { first, count }),
-            RangeCall::Write => PageCall::Gain(Gain::Write { first, count }),
-            RangeCall::Zero => PageCall::Gain(Gain::Zero { first, count }),
+            RangeCall::Map => Op::Map { first, count, page },
+            RangeCall::Unmap => Op::Unmap { first, count, page },
+            RangeCall::Write => Op::Write { first, count, page },
+            RangeCall::Zero => Op::Zero { first, count, page },
         }
     }
 }
@@ -145,7 +154,7 @@ pub(crate) enum CommandWord {
     /// `NODE`
     OfNode(Op),
     /// `NODE PAGE`
-    OfPage(PageCall),
+    OfPage(WholePageCall),
     /// `NODE PAGE FIRST COUNT`
     OfRange(RangeCall),
     /// `NODE COUNT`
@@ -159,13 +168,13 @@ pub(crate) fn command_word(name: &[u8]) -> Result<CommandWord, TextKind>
 {
     match name {
         b"alloc" => Ok(CommandWord::OfNode(Op::Alloc)),
-        b"mapwhole" => Ok(CommandWord::OfPage(PageCall::Gain(Gain::MapWhole))),
-        b"unmapwhole" => Ok(CommandWord::OfPage(PageCall::Loss(Loss::UnmapWhole))),
+        b"mapwhole" => Ok(CommandWord::OfPage(WholePageCall::Map)),
+        b"unmapwhole" => Ok(CommandWord::OfPage(WholePageCall::Unmap)),
         b"map" => Ok(CommandWord::OfRange(RangeCall::Map)),
         b"unmap" => Ok(CommandWord::OfRange(RangeCall::Unmap)),
-        b"splitpmd" => Ok(CommandWord::OfPage(PageCall::Gain(Gain::SplitPmd))),
-        b"pin" => Ok(CommandWord::OfPage(PageCall::Gain(Gain::Pin))),
-        b"unpin" => Ok(CommandWord::OfPage(PageCall::Loss(Loss::Unpin))),
+        b"splitpmd" => Ok(CommandWord::OfPage(WholePageCall::SplitPmd)),
+        b"pin" => Ok(CommandWord::OfPage(WholePageCall::Pin)),
+        b"unpin" => Ok(CommandWord::OfPage(WholePageCall::Unpin)),
         b"write" => Ok(CommandWord::OfRange(RangeCall::Write)),
         b"zero" => Ok(CommandWord::OfRange(RangeCall::Zero)),
         b"close" => Ok(CommandWord::OfNode(Op::Close)),
@@ -183,15 +192,10 @@ fn parse_map_fast<'t>(settings: &Settings, text: &'t [u8]) -> Option<(Command, &
     ensures { IfSome result (λ read. FastCommand settings.now text.now read.0 read.1.now) }
 {
     if let Some(operands) = after_name(b"map", text) {
-        let word = CommandWord::OfRange(RangeCall::Map);
-        return parse_operands_fast(settings, word, operands);
+        return parse_range_command_fast(settings, RangeCall::Map, operands);
     }
     let operands = after_name(b"mapwhole", text)?;
-    parse_operands_fast(
-        settings,
-        CommandWord::OfPage(PageCall::Gain(Gain::MapWhole)),
-        operands,
-    )
+    parse_page_command_fast(settings, WholePageCall::Map, operands)
 }
 
 #[inline(always)]
@@ -199,19 +203,13 @@ fn parse_unmap_fast<'t>(settings: &Settings, text: &'t [u8]) -> Option<(Command,
     ensures { IfSome result (λ read. FastCommand settings.now text.now read.0 read.1.now) }
 {
     if let Some(operands) = after_name(b"unmap", text) {
-        let word = CommandWord::OfRange(RangeCall::Unmap);
-        return parse_operands_fast(settings, word, operands);
+        return parse_range_command_fast(settings, RangeCall::Unmap, operands);
     }
     if let Some(operands) = after_name(b"unpin", text) {
-        let word = CommandWord::OfPage(PageCall::Loss(Loss::Unpin));
-        return parse_operands_fast(settings, word, operands);
+        return parse_page_command_fast(settings, WholePageCall::Unpin, operands);
     }
     let operands = after_name(b"unmapwhole", text)?;
-    parse_operands_fast(
-        settings,
-        CommandWord::OfPage(PageCall::Loss(Loss::UnmapWhole)),
-        operands,
-    )
+    parse_page_command_fast(settings, WholePageCall::Unmap, operands)
 }
 
 #[inline(always)]
@@ -219,15 +217,13 @@ fn parse_split_or_scan_fast<'t>(settings: &Settings, text: &'t [u8]) -> Option<(
     ensures { IfSome result (λ read. FastCommand settings.now text.now read.0 read.1.now) }
 {
     if let Some(operands) = after_name(b"splitpmd", text) {
-        let word = CommandWord::OfPage(PageCall::Gain(Gain::SplitPmd));
-        return parse_operands_fast(settings, word, operands);
+        return parse_page_command_fast(settings, WholePageCall::SplitPmd, operands);
     }
     if let Some(operands) = after_name(b"scan", text) {
-        let word = CommandWord::OfBatch(BatchCall::Scan);
-        return parse_operands_fast(settings, word, operands);
+        return parse_batch_command_fast(settings, BatchCall::Scan, operands);
     }
     let operands = after_name(b"splitnext", text)?;
-    parse_operands_fast(settings, CommandWord::OfNode(Op::SplitNext), operands)
+    parse_node_command_fast(settings, Op::SplitNext, operands)
 }
 
 #[inline(always)]
@@ -238,11 +234,10 @@ fn parse_pin_or_put_back_fast<'t>(
     ensures { IfSome result (λ read. FastCommand settings.now text.now read.0 read.1.now) }
 {
     if let Some(operands) = after_name(b"pin", text) {
-        let word = CommandWord::OfPage(PageCall::Gain(Gain::Pin));
-        return parse_operands_fast(settings, word, operands);
+        return parse_page_command_fast(settings, WholePageCall::Pin, operands);
     }
     let operands = after_name(b"putback", text)?;
-    parse_operands_fast(settings, CommandWord::OfNode(Op::PutBack), operands)
+    parse_node_command_fast(settings, Op::PutBack, operands)
 }
 
 #[inline(always)]
@@ -250,11 +245,10 @@ fn parse_count_or_close_fast<'t>(settings: &Settings, text: &'t [u8]) -> Option<
     ensures { IfSome result (λ read. FastCommand settings.now text.now read.0 read.1.now) }
 {
     if let Some(operands) = after_name(b"count", text) {
-        let word = CommandWord::OfNode(Op::Count);
-        return parse_operands_fast(settings, word, operands);
+        return parse_node_command_fast(settings, Op::Count, operands);
     }
     let operands = after_name(b"close", text)?;
-    parse_operands_fast(settings, CommandWord::OfNode(Op::Close), operands)
+    parse_node_command_fast(settings, Op::Close, operands)
 }
 
 /// Parses the command of the line that a text begins with, and returns it with the text after the line. `None` implies nothing
@@ -268,31 +262,15 @@ pub(crate) fn parse_command_fast<'t>(
     ensures { IfSome result (λ read. FastCommand settings.now text.now read.0 read.1.now) }
 {
     match *text.first()? {
-        b'a' => parse_operands_fast(
-            settings,
-            CommandWord::OfNode(Op::Alloc),
-            after_name(b"alloc", text)?,
-        ),
+        b'a' => parse_node_command_fast(settings, Op::Alloc, after_name(b"alloc", text)?),
         b'm' => parse_map_fast(settings, text),
         b'u' => parse_unmap_fast(settings, text),
         b's' => parse_split_or_scan_fast(settings, text),
         b'p' => parse_pin_or_put_back_fast(settings, text),
         b'c' => parse_count_or_close_fast(settings, text),
-        b't' => parse_operands_fast(
-            settings,
-            CommandWord::OfBatch(BatchCall::Take),
-            after_name(b"take", text)?,
-        ),
-        b'w' => parse_operands_fast(
-            settings,
-            CommandWord::OfRange(RangeCall::Write),
-            after_name(b"write", text)?,
-        ),
-        b'z' => parse_operands_fast(
-            settings,
-            CommandWord::OfRange(RangeCall::Zero),
-            after_name(b"zero", text)?,
-        ),
+        b't' => parse_batch_command_fast(settings, BatchCall::Take, after_name(b"take", text)?),
+        b'w' => parse_range_command_fast(settings, RangeCall::Write, after_name(b"write", text)?),
+        b'z' => parse_range_command_fast(settings, RangeCall::Zero, after_name(b"zero", text)?),
         _ => None,
     }
 }

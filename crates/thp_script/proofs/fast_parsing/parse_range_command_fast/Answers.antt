@@ -1,11 +1,10 @@
-use Rattle.thp_script.specs.Operands.{call_on}
-use Rattle.thp_script.specs.PageCommands.{op_on}
+use Rattle.thp_script.specs.Operands.{range_op}
 use Rattle.thp_script.proofs.FastParsingLaws.{parse_range_fast}
 use Rattle.thp_script.proofs.fast_parsing.parse_range_command_fast.Goals as goal
 
 pub returns : goal.returns
 returns c =
-    rw (c.on_page-op.ensures.made, c.on.ensures)
-    (parse_range_fast c.args.settings.now (λ page first count. op_on page (call_on c.args.call first count)) c.args.text.now c.in_ok-node.rest.now c.in_ok-page.rest.now c.in_ok-first.rest.now c.in_ok-count.rest.now
+    rw c.op-op.ensures
+    (parse_range_fast c.args.settings.now (range_op c.args.call) c.args.text.now c.in_ok-node.rest.now c.in_ok-page.rest.now c.in_ok-first.rest.now c.in_ok-count.rest.now
     c.in_ok-node.node c.in_ok-page.page c.in_ok-first.first c.in_ok-count.count
     (rw c.from.ensures at c.in_ok-node.ensures.number) c.in_ok-page.ensures.number (rw c.from-2.ensures at c.in_ok-first.ensures.number) (rw c.from-3.ensures at c.in_ok-count.ensures.number))
