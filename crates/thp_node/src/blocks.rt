@@ -1,22 +1,20 @@
 //! The blocks of a node: the pages in them, and the chain of free blocks.
-ghost use Rattle.std.specs.Prelude.{◌≡◌, ◌≢◌, ℕ, ◌<◌, [], ◌∷◌, ◌++◌, false, length, ◌↔◌, IsTrue, Option, Some, None, IsSome, IfOk, OnOk, OnErr, MatchOption};
+ghost use Rattle.std.specs.Prelude.{◌≡◌, ◌≢◌, ℕ, ◌<◌, [], ◌∷◌, ◌++◌, false, length, Option, Some, None, IsSome, IfOk, OnOk, OnErr};
 ghost use Rattle.std.specs.Bool.{OnTrue, OnFalse};
 ghost use Rattle.std.specs.Result.{result_err};
-ghost use Rattle.thp_links.specs.Standing.{Stands};
 ghost use Rattle.thp_model.specs.Shapes.{IsShape};
-ghost use Rattle.thp_model.specs.Pages.{page_refusal, gives_frames, is_split_candidate, PageState, PageSplit};
+ghost use Rattle.thp_model.specs.Pages.{page_refusal, gives_frames, PageState, PageSplit};
 ghost use Rattle.thp_page.specs.Slots.{slot_at, HoldsPage};
-ghost use Rattle.thp_page.specs.Table.{Slot};
-ghost use Rattle.thp_model.specs.PageCalls.{gain_call, loss_call, page_call, Gains};
+ghost use Rattle.thp_model.specs.PageCalls.{gain_call, loss_call, Gains};
 ghost use Rattle.thp_live_pages.specs.PageStoreState.{AtSlot, Edits, TakesFirst, HasFree};
 ghost use Rattle.thp_node.specs.Chaining.{LostChained, StoresFresh};
 
 use std::alloc::{AllocError, Global};
 use std::marker::Model;
-use thp_links::{FreeChain, Queue};
+use thp_links::FreeChain;
 use thp_live_pages::PageStore;
-use thp_model::{Done, Gain, Loss, Outcome, PageCall, PageId, Refusal, Shape, SubSet};
-use thp_page::{PageTable, Standing};
+use thp_model::{Done, Gain, Loss, Outcome, PageId, Refusal, Shape, SubSet};
+use thp_page::Standing;
 
 // The pages of a node by block, with its queue, and the chain of its free blocks, which shares the queue's links.
 //
@@ -55,21 +53,12 @@ impl Blocks {
         Ok(Blocks { places, free })
     }
 
-    // The block of a page.
+    // The pages with their queue, to be read.
     #[inline(always)]
-    pub(crate) fn find(&self, page: PageId) -> Option<u32>
-        ensures { MatchOption result ((b : ℕ) → HoldsPage (slot_at self.now.table b) page → ⊥) (λ b. HoldsPage (slot_at self.now.table b) page) }
+    pub(crate) fn store(&self) -> &PageStore
+        ensures { result.now ≡ self.now }
     {
-        self.places.find(page)
-    }
-
-    // Why the page of a block would refuse a call, if it would.
-    #[inline(always)]
-    pub(crate) fn refusal(&self, block: u32, call: PageCall) -> Option<Refusal>
-        requires { IsSome (slot_at self.now.table block) }
-        ensures { AtSlot self.now.table block (λ x. (p : ℕ) → result ≡ page_refusal x.page (page_call call p)) }
-    {
-        self.places.refusal(block, call)
+        &self.places
     }
 
     // Adds mappings or a pin, or fills subpages of the page of a block, unless the page refuses that.
@@ -115,51 +104,6 @@ impl Blocks {
         ensures { TakesFirst self.old self.new caller result }
     {
         self.places.take_first(caller)
-    }
-
-    // Whether the page of a block is in a caller's batch.
-    pub(crate) fn is_in_batch(&self, block: u32, caller: u32) -> bool
-        requires { IsSome (slot_at self.now.table block) }
-        ensures { AtSlot self.now.table block (λ x. IsTrue result ↔ (x.standing ≡ Standing.Batch caller)) }
-    {
-        self.places.is_in_batch(block, caller)
-    }
-
-    // The number of the page of a block, its pins, and its whole map count.
-    pub(crate) fn number(&self, block: u32) -> PageId
-        requires { IsSome (slot_at self.now.table block) }
-        ensures { AtSlot self.now.table block (λ x. result ≡ x.id) }
-    {
-        self.places.number(block)
-    }
-
-    pub(crate) fn pins(&self, block: u32) -> u32
-        requires { IsSome (slot_at self.now.table block) }
-        ensures { AtSlot self.now.table block (λ x. result ≡ x.page.pins) }
-    {
-        self.places.pins(block)
-    }
-
-    pub(crate) fn whole(&self, block: u32) -> u32
-        requires { IsSome (slot_at self.now.table block) }
-        ensures { AtSlot self.now.table block (λ x. result ≡ x.page.whole) }
-    {
-        self.places.whole(block)
-    }
-
-    // Whether the page of a block is partly mapped, and whether it is worth a split.
-    pub(crate) fn is_partly(&self, block: u32) -> bool
-        requires { IsSome (slot_at self.now.table block) }
-        ensures { AtSlot self.now.table block (λ x. result ≡ x.page.partly) }
-    {
-        self.places.is_partly(block)
-    }
-
-    pub(crate) fn is_split_candidate(&self, block: u32, threshold: Option<u32>) -> bool
-        requires { IsSome (slot_at self.now.table block) }
-        ensures { AtSlot self.now.table block (λ x. result ≡ is_split_candidate threshold x.page) }
-    {
-        self.places.is_split_candidate(block, threshold)
     }
 
     // Splits the page of a block, which is in a batch, and removes it from the batch. Returns the frames given back, which
@@ -216,20 +160,5 @@ impl Blocks {
             }
             None => unreachable!(),
         }
-    }
-
-    // The table of pages.
-    pub(crate) fn table(&self) -> &PageTable
-        ensures { result.now ≡ self.now.table }
-    {
-        self.places.table()
-    }
-
-    // The queue.
-    pub(crate) fn queue(&self) -> &Queue
-        ensures value { result.now ≡ self.now.queue }
-        ensures stands { Stands self.now.queue self.now.table.links }
-    {
-        self.places.queue()
     }
 }

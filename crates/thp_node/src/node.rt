@@ -133,7 +133,7 @@ impl<R: Recorder> Node<R> {
         ensures live { (p : ℕ) → is_live self.now.journal p ≡ true → HasBlock self.now.table p }
         ensures homes { LiesWherePlaced self.now.journal }
     {
-        self.blocks.table()
+        self.blocks.store().table()
     }
 
     /// Returns the deferred split queue: the blocks of the queued pages, oldest first.
@@ -142,7 +142,7 @@ impl<R: Recorder> Node<R> {
         ensures stands { Stands self.now.queue self.now.table.links }
         ensures pages { map (block_of self.now.journal) (queue self.now.shape self.now.journal) ≡ map (λ b. Some b) self.now.queue }
     {
-        self.blocks.queue()
+        self.blocks.store().queue()
     }
 
     /// Returns the number of pages ever allocated, including those that were freed.
@@ -156,7 +156,7 @@ impl<R: Recorder> Node<R> {
     pub fn queue_len(&self) -> u32
         ensures { result ≡ length (queue self.now.shape self.now.journal) }
     {
-        self.blocks.queue().len()
+        self.blocks.store().queue().len()
     }
 
     /// Returns the number of frames given back.

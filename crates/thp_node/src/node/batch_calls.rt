@@ -84,7 +84,7 @@ impl<R: Recorder> Node<R> {
         if self.journal.flying(caller) != 0 {
             return Err(Refusal::HasBatch);
         }
-        let count = n.min(self.blocks.queue().len());
+        let count = n.min(self.blocks.store().queue().len());
         if let Err(_) = self.journal.reserve((each * count) as usize) {
             return Err(Refusal::OutOfMemory);
         }
@@ -186,9 +186,9 @@ impl<R: Recorder> Node<R> {
         ensures block { IfSome result (IsFlyingAt self.now.table caller page) }
         ensures home { IfSome result (λ b. block_of self.now.journal page ≡ Some b) }
     {
-        match self.blocks.find(page) {
+        match self.blocks.store().find(page) {
             Some(block) => {
-                if self.blocks.is_in_batch(block, caller) {
+                if self.blocks.store().is_in_batch(block, caller) {
                     Some(block)
                 } else {
                     None
@@ -205,6 +205,7 @@ impl<R: Recorder> Node<R> {
         ensures worth { (c p : ℕ) → IsFlyingAt self.now.table c p block → result ≡ is_worth_split self.now.shape self.now.journal p }
     {
         self.blocks
+            .store()
             .is_split_candidate(block, self.journal.shape().underused)
     }
 
@@ -219,7 +220,7 @@ impl<R: Recorder> Node<R> {
         if !self.is_split_candidate(block) {
             self.let_go(caller, block, page);
             Tried::Used(page)
-        } else if self.blocks.pins(block) == 0 {
+        } else if self.blocks.store().pins(block) == 0 {
             self.split_page(caller, block, page);
             Tried::Split(page)
         } else {
@@ -252,8 +253,8 @@ impl<R: Recorder> Node<R> {
         ensures did { Did self.old self.new caller (try_event self.old.shape self.old.journal caller page ∷ []) }
     {
         let unsaid = EventContext::OfSplit {
-            mappings: self.blocks.whole(block),
-            partly: self.blocks.is_partly(block),
+            mappings: self.blocks.store().whole(block),
+            partly: self.blocks.store().is_partly(block),
         };
         let give_zero = self.journal.shape().shrinks_underused();
         let released = self.blocks.split(block, give_zero);

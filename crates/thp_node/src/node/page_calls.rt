@@ -219,7 +219,7 @@ impl<R: Recorder> Node<R> {
         ensures same { self.new ≡ record self.old { room = self.new.room } }
         ensures refused { IfErr result (Refused self.old self.new (refusal self.old.shape self.old.journal (page_call call page)) 1) }
     {
-        let block = match self.blocks.find(page) {
+        let block = match self.blocks.store().find(page) {
             Some(block) => block,
             None => return Err(Refusal::NoPage),
         };
@@ -240,7 +240,7 @@ impl<R: Recorder> Node<R> {
         ensures same { self.new ≡ record self.old { room = self.new.room } }
         ensures refused { IfErr result (Refused self.old self.new (refusal self.old.shape self.old.journal (page_call call page)) 1) }
     {
-        if let Some(refusal) = self.blocks.refusal(block, call) {
+        if let Some(refusal) = self.blocks.store().refusal(block, call) {
             return Err(refusal);
         }
         match self.journal.reserve(1) {

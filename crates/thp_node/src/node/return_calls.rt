@@ -106,7 +106,7 @@ impl<R: Recorder> Node<R> {
         ensures back { OneBack self.old.shape self.old.journal caller result }
         ensures did { Did self.old self.new caller (return_first self.old.shape self.old.journal caller 1) }
     {
-        let page = self.blocks.number(block);
+        let page = self.blocks.store().number(block);
         self.return_page(caller, block, page)
     }
 
@@ -120,7 +120,7 @@ impl<R: Recorder> Node<R> {
         ensures did { Did self.old self.new caller (return_event self.old.shape self.old.journal caller page ∷ []) }
     {
         let closed = self.journal.is_closed();
-        let partly = self.blocks.is_partly(block);
+        let partly = self.blocks.store().is_partly(block);
         let is_back = joins_queue(closed, partly);
         if is_back {
             self.blocks.enqueue(block);

@@ -12,5 +12,5 @@ returns-in-None-clause-refused g c =
     record {
       same = refl;
       cause = inl (ap (λ (n : NodeState). refusal n.shape n.journal (page_call c.args.call c.args.page)) (sym c.self.view_is)
-          ∙ refused_gone_page j.shape j.events b.table b.queue c.args.page c.args.call c.self.invariant c.in-None.ensures);
+          ∙ refused_gone_page j.shape j.events b.table b.queue c.args.page c.args.call c.self.invariant (rw c.store.ensures at c.in-None.ensures));
     }

@@ -32,7 +32,7 @@ returns-clause-count g c =
     let j = c.self.inside.journal in
     let b = c.self.inside.blocks in
     c.min-count.ensures ∙ ap (min c.args.n)
-    (c.len.ensures ∙ ap length c.queue.ensures.value ∙ sym (queue_length j.shape j.events b.table b.queue c.self.invariant) ∙ ap (λ (n : NodeState). length (queue n.shape n.journal)) c.self.view_is)
+    (c.len.ensures ∙ ap length (rw c.store.ensures at c.queue.ensures.value) ∙ sym (queue_length j.shape j.events b.table b.queue c.self.invariant) ∙ ap (λ (n : NodeState). length (queue n.shape n.journal)) c.self.view_is)
 
 pub returns-in-Err-clause-refused : goal.returns-in-Err-clause-refused
 returns-in-Err-clause-refused g c =
@@ -43,7 +43,7 @@ returns-in-Err-clause-refused g c =
       arith,
       c.min-count.ensures,
       c.len.ensures,
-      ap length c.queue.ensures.value,
+      ap length (rw c.store.ensures at c.queue.ensures.value),
       take_length c.args.self.now.shape c.args.self.now.journal c.args.caller c.args.n,
       ap (λ (n : NodeState). length (queue n.shape n.journal)) c.self.view_is,
       queue_length j.shape j.events b.table b.queue c.self.invariant,

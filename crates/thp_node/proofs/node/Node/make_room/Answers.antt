@@ -18,7 +18,7 @@ returns-in-Some-clause-refused g c =
     record {
       same = refl;
       cause = inl (ap (λ (n : NodeState). refusal n.shape n.journal (page_call c.args.call c.args.page)) (sym c.self.view_is)
-          ∙ refused_by_page j.shape j.events b.table c.args.page c.args.block c.args.call w ∙ sym (c.refusal.ensures w.slot w.at c.args.page) ∙ c.in-Some.is);
+          ∙ refused_by_page j.shape j.events b.table c.args.page c.args.block c.args.call w ∙ sym ((rw c.store.ensures at c.refusal.ensures) w.slot w.at c.args.page) ∙ c.in-Some.is);
     }
 
 -- the call isn't refused once the page's test has passed
@@ -28,7 +28,7 @@ allowed g c =
     let b = c.self.inside.blocks in
     let w : Found j.shape j.events b.table c.args.page c.args.block = found j.shape j.events b.table b.queue c.args.page c.args.block c.self.invariant (subst (λ (n : NodeState). HoldsPage (slot_at n.table c.args.block) c.args.page) (sym c.self.view_is) c.requires) in
     ap (λ (n : NodeState). refusal n.shape n.journal (page_call c.args.call c.args.page)) (sym c.self.view_is)
-    ∙ refused_by_page j.shape j.events b.table c.args.page c.args.block c.args.call w ∙ sym (c.refusal.ensures w.slot w.at c.args.page) ∙ c.in_default.is
+    ∙ refused_by_page j.shape j.events b.table c.args.page c.args.block c.args.call w ∙ sym ((rw c.store.ensures at c.refusal.ensures) w.slot w.at c.args.page) ∙ c.in_default.is
 
 pub returns-clause-allowed : goal.returns-clause-allowed
 returns-clause-allowed g c = elim c.match-reserve.branch [

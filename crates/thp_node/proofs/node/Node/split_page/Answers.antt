@@ -37,8 +37,8 @@ pub record-requires-clause-unsaid : goal.record-requires-clause-unsaid
 record-requires-clause-unsaid g c =
     let j = c.self.inside.journal in
     let w = flies_inside _ c.args.self.now c.args.caller c.args.page c.args.block c.self.view_is c.requires.flies in
-    ap₂ (λ n z. OfSplit n z) (c.whole.ensures w.slot w.at ∙ sym (whole_there j.shape j.events c.args.caller c.args.page c.args.block c.self.inside.blocks c.self.invariant w))
-    (c.is_partly.ensures w.slot w.at ∙ sym (partly_there j.shape j.events c.args.caller c.args.page c.args.block c.self.inside.blocks c.self.invariant w))
+    ap₂ (λ n z. OfSplit n z) ((rw c.store.ensures at c.whole.ensures) w.slot w.at ∙ sym (whole_there j.shape j.events c.args.caller c.args.page c.args.block c.self.inside.blocks c.self.invariant w))
+    ((rw c.store-2.ensures at c.is_partly.ensures) w.slot w.at ∙ sym (partly_there j.shape j.events c.args.caller c.args.page c.args.block c.self.inside.blocks c.self.invariant w))
 
 pub invariant_of-self : goal.invariant_of-self
 invariant_of-self g c =

@@ -20,7 +20,7 @@ pinned g c =
     let w = flies_inside _ c.args.self.now c.args.caller c.args.page c.args.block c.self.view_is c.requires.flies in
     found_pinned j.shape j.events c.args.caller c.args.page c.args.block c.self.inside.blocks c.self.invariant w
     (sym (slot_inside _ c.args.self.now c.args.block (λ s x. c.is_split_candidate.result ≡ is_split_candidate s.underused x.page) c.self.view_is c.is_split_candidate.ensures.page w.slot w.at) ∙ c.if-not-is_split_candidate.false)
-    (omega (arith, c.pins.ensures w.slot w.at, c.if-pins-eq0.false))
+    (omega (arith, (rw c.store.ensures at c.pins.ensures) w.slot w.at, c.if-pins-eq0.false))
 
 pub record-requires-clause-fits : goal.record-requires-clause-fits
 record-requires-clause-fits g c = (pinned g (goal.at.record-requires-clause-fits g c).Else-pins-eq0).fits
@@ -41,14 +41,14 @@ returns-then-pins-eq0-clause-tried g c =
     let w = flies_inside _ c.args.self.now c.args.caller c.args.page c.args.block c.self.view_is c.requires.flies in
     let there : pins j.events c.args.page ≡ w.slot.page.pins = pins_there j.shape j.events c.args.caller c.args.page c.args.block c.self.inside.blocks c.self.invariant w in
     tried_split c.args.self.now.shape c.args.self.now.journal c.args.page (sym (c.is_split_candidate.ensures.worth c.args.caller c.args.page c.requires.flies) ∙ c.if-not-is_split_candidate.false)
-    (omega (arith, there, c.pins.ensures w.slot w.at, c.if-pins-eq0.true, ap (λ (n : NodeState). pins n.journal c.args.page) c.self.view_is))
+    (omega (arith, there, (rw c.store.ensures at c.pins.ensures) w.slot w.at, c.if-pins-eq0.true, ap (λ (n : NodeState). pins n.journal c.args.page) c.self.view_is))
 
 pub returns-else-pins-eq0-clause-tried : goal.returns-else-pins-eq0-clause-tried
 returns-else-pins-eq0-clause-tried g c =
     let j = c.self.inside.journal in
     let w = flies_inside _ c.args.self.now c.args.caller c.args.page c.args.block c.self.view_is c.requires.flies in
     let there : pins j.events c.args.page ≡ w.slot.page.pins = pins_there j.shape j.events c.args.caller c.args.page c.args.block c.self.inside.blocks c.self.invariant w in
-    tried_pinned c.args.self.now.shape c.args.self.now.journal c.args.page (sym (c.is_split_candidate.ensures.worth c.args.caller c.args.page c.requires.flies) ∙ c.if-not-is_split_candidate.false) (omega (arith, there, c.pins.ensures w.slot w.at, c.if-pins-eq0.false, ap (λ (n : NodeState). pins n.journal c.args.page) c.self.view_is))
+    tried_pinned c.args.self.now.shape c.args.self.now.journal c.args.page (sym (c.is_split_candidate.ensures.worth c.args.caller c.args.page c.requires.flies) ∙ c.if-not-is_split_candidate.false) (omega (arith, there, (rw c.store.ensures at c.pins.ensures) w.slot w.at, c.if-pins-eq0.false, ap (λ (n : NodeState). pins n.journal c.args.page) c.self.view_is))
 
 pub returns-else-pins-eq0-clause-did : goal.returns-else-pins-eq0-clause-did
 returns-else-pins-eq0-clause-did g c =
