@@ -126,13 +126,7 @@ refused_comes begun P why.Closed not p = p
 refused_comes begun P why.NoBlock not p = p
 refused_comes begun P why.HasBatch not p = p
 
--- what didn't stay busy and had memory is answered
-pub ended_comes : (begun : CommandProgress) (P : CommandState → Type 0) (called : Result (Unit {0}) CellFault) (reply : Reply) → (called ≡ Err Busy → ⊥) → (called ≡ Err (Refused why.OutOfMemory) → ⊥) → Comes begun (answer_of called reply) P → (answer : Reaction) × P (Ended answer)
-ended_comes begun P (Ok x) reply free room p = (Ok reply, p)
-ended_comes begun P (Err Busy) reply free room p = absurd (free refl)
-ended_comes begun P (Err (Refused r)) reply free room p = (Err r, refused_comes begun P r (λ e. room (ap (λ x. Err (Refused x)) e)) p)
-
--- and so is what a cell answered
+-- what a cell answered, if it had memory, is answered
 pub cell_comes : (begun : CommandProgress) (P : CommandState → Type 0) (called : Result (Unit {0}) CellFault) (said : Result (Unit {0}) Refusal) (reply : Reply) → called ≡ by_cell said → (called ≡ Err (Refused why.OutOfMemory) → ⊥) → Comes begun (answer_of called reply) P → P (Ended (answer_of said reply))
 cell_comes begun P called (Ok x) reply is room p = subst (λ r. Comes begun (answer_of r reply) P) is p
 cell_comes begun P called (Err refusal) reply is room p = refused_comes begun P refusal (λ e. room (is ∙ ap (λ x. Err (Refused x)) e)) (subst (λ r. Comes begun (answer_of r reply) P) is p)

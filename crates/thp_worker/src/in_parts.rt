@@ -10,7 +10,7 @@ use crate::answer_log::{AnswerLog, Answers};
 use crate::command::do_whole_command;
 use crate::open_batches::{mark, none_open};
 use crate::reply::{Reply, SectionOutcome};
-use crate::steps::{Steps, is_busy, lacks_memory, told};
+use crate::steps::{Steps, told};
 use crate::working::close;
 use std::alloc::{AllocError, Global};
 use thp_script::Command;
@@ -73,13 +73,9 @@ pub fn do_commands<S: Steps>(
     for index in 0..commands.len() {
         let command = &commands[index];
         let called = do_whole_command(command, worker, steps, &mut reply);
-        if lacks_memory(called) {
-            return Err(AllocError);
-        }
-        if is_busy(called) {
+        let Some(said) = told(called)? else {
             unreachable!();
-        }
-        let said = told(called);
+        };
         mark(&mut opened, *command, said);
         answers.push((first + index) as u32, command.node, said, &reply);
     }

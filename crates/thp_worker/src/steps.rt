@@ -1,12 +1,12 @@
 //! Steps of callers on nodes, for any implementation of the nodes.
-ghost use Rattle.std.specs.Bool.{OnTrue, OnFalse};
-ghost use Rattle.std.specs.Prelude.{◌≡◌, ◌≢◌, ◌<◌, Err};
+ghost use Rattle.std.specs.Prelude.{◌≡◌, ◌≢◌, ◌<◌, Err, IfNone, IfOk, IfSome};
 ghost use Rattle.thp_worker.specs.Does.{answer_of, node_call_of, IsStep};
 ghost use Rattle.thp_worker.specs.Fronts.{Fronts, Goes, HoldsCaller, StepDone};
 ghost use Rattle.thp_worker.specs.Turns.{by_cell};
 
 use crate::limits::MAX_TRIES;
 use crate::reply::Reply;
+use std::alloc::AllocError;
 use std::hint::spin_loop;
 use thp_cell::CellFault;
 use thp_model::{PageCall, Refusal};
@@ -105,42 +105,25 @@ pub(crate) fn try_step<S: Steps>(
     ensures done { StepDone caller node step (S.fronts steps.old) (S.fronts steps.new) (answer_of result reply.new) }
 {
     for _ in 0..MAX_TRIES - 1 {
-        let called = steps.step_into(caller, node, step, reply);
-        if !is_busy(called) {
-            return called;
+        match steps.step_into(caller, node, step, reply) {
+            Err(CellFault::Busy) => spin_loop(),
+            called => return called,
         }
-        spin_loop();
     }
     steps.step_into(caller, node, step, reply)
 }
 
-/// Returns whether the node was busy.
+/// Returns the result of a call, or `None` if the node was busy. Fails if memory for the events could not be allocated.
 #[inline(always)]
-pub(crate) fn is_busy(called: Result<(), CellFault>) -> bool
-    ensures busy { OnTrue result (called ≡ Err CellFault.Busy) }
-    ensures free { OnFalse result (called ≢ Err CellFault.Busy) }
-{
-    matches!(called, Err(CellFault::Busy))
-}
-
-/// Returns whether memory for the events could not be allocated.
-#[inline(always)]
-pub(crate) fn lacks_memory(called: Result<(), CellFault>) -> bool
-    ensures none { OnTrue result (called ≡ Err (CellFault.Refused Refusal.OutOfMemory)) }
-    ensures some { OnFalse result (called ≢ Err (CellFault.Refused Refusal.OutOfMemory)) }
-{
-    matches!(called, Err(CellFault::Refused(Refusal::OutOfMemory)))
-}
-
-/// Returns the result of a call whose node was not busy.
-#[inline(always)]
-pub(crate) fn told(called: Result<(), CellFault>) -> Result<(), Refusal>
-    requires { called ≢ Err CellFault.Busy }
-    ensures { called ≡ by_cell result }
+pub(crate) fn told(called: Result<(), CellFault>) -> Result<Option<Result<(), Refusal>>, AllocError>
+    ensures some { IfOk result (λ told. IfSome told (λ said. called ≡ by_cell said)) }
+    ensures memory { IfOk result (λ told. IfSome told (λ said. called ≢ Err (CellFault.Refused Refusal.OutOfMemory))) }
+    ensures busy { IfOk result (λ told. IfNone told (called ≡ Err CellFault.Busy)) }
 {
     match called {
-        Ok(()) => Ok(()),
-        Err(CellFault::Refused(refusal)) => Err(refusal),
-        Err(CellFault::Busy) => unreachable!(),
+        Ok(()) => Ok(Some(Ok(()))),
+        Err(CellFault::Busy) => Ok(None),
+        Err(CellFault::Refused(Refusal::OutOfMemory)) => Err(AllocError),
+        Err(CellFault::Refused(refusal)) => Ok(Some(Err(refusal))),
     }
 }

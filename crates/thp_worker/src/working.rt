@@ -13,7 +13,7 @@ use crate::gate::{Gate, NoGate};
 use crate::open_batches::{is_marked, mark, none_open, shut};
 use crate::reply::{Reply, Rest, SectionOutcome};
 use crate::scanning::{CommandProgress, no_progress};
-use crate::steps::{Steps, is_busy, lacks_memory, told};
+use crate::steps::{Steps, told};
 use std::alloc::{AllocError, Global};
 use thp_cell::CellFault;
 use thp_script::{Command, Op};
@@ -113,10 +113,7 @@ fn go_on<S: Steps, G: Gate>(
         let command = commands[index];
         let node = command.node;
         let called = do_command(command, worker, &mut begun, steps, &mut reply);
-        if lacks_memory(called) {
-            return Err(AllocError);
-        }
-        if is_busy(called) {
+        let Some(said) = told(called)? else {
             let rest = Rest {
                 command: number,
                 steps: begun.steps,
@@ -127,8 +124,7 @@ fn go_on<S: Steps, G: Gate>(
                 rest: Some(rest),
                 opened,
             });
-        }
-        let said = told(called);
+        };
         mark(&mut opened, command, said);
         answers.push(number, node, said, &reply);
         begun = no_progress();
@@ -163,10 +159,7 @@ pub(crate) fn close<S: Steps>(
     for node in 0..nodes {
         if is_marked(&opened, node) {
             let called = put_back(worker, node, steps, &mut reply);
-            if lacks_memory(called) {
-                return Err(AllocError);
-            }
-            if is_busy(called) {
+            let Some(_) = told(called)? else {
                 let rest = Rest {
                     command: count,
                     steps: closed,
@@ -177,7 +170,7 @@ pub(crate) fn close<S: Steps>(
                     rest: Some(rest),
                     opened,
                 });
-            }
+            };
             shut(&mut opened, node);
             closed += 1;
         }

@@ -27,8 +27,8 @@ loop-index-init g c =
       room = search rules;
     }
 
-pub returns-then-lacks_memory-clause-goes : goal.returns-then-lacks_memory-clause-goes
-returns-then-lacks_memory-clause-goes g c =
+pub returns-in_err-said-clause-goes : goal.returns-in_err-said-clause-goes
+returns-in_err-said-clause-goes g c =
     let fronts = g.S.Steps.fronts in
     goes_trans c.args.worker (fronts c.args.steps.now) (fronts c.loop-index.steps) (fronts c.do_whole_command-called.new.steps) c.loop-index.invariant.goes c.do_whole_command-called.ensures.goes
 
@@ -56,12 +56,12 @@ loop-index-preserved g c =
     let command = get_or commands i (record { node = 0; op = Alloc }) in
     let here : slice_get commands i ≡ Some command = slice_get-get_or commands i (record { node = 0; op = Alloc }) c.loop-index-test.true in
     let whole = c.do_whole_command-called.ensures.proceeds in
-    let p = cell_comes whole.0 (Proceeds c.args.worker command no_progress mid new) c.do_whole_command-called.result c.told-said.result c.do_whole_command-called.new.reply c.told-said.ensures c.if-lacks_memory.ensures.some whole.1 in
-    let answer : Reaction = answer_of c.told-said.result c.do_whole_command-called.new.reply in
+    let p = cell_comes whole.0 (Proceeds c.args.worker command no_progress mid new) c.do_whole_command-called.result c.in-Some.said c.do_whole_command-called.new.reply (rw c.in-Some.is at c.in_ok-said.ensures.some) (rw c.in-Some.is at c.in_ok-said.ensures.memory) whole.1 in
+    let answer : Reaction = answer_of c.in-Some.said c.do_whole_command-called.new.reply in
     let opened = c.loop-index.opened.items in
     let now : List Bool = marked opened command answer in
     let many : length c.mark.new.opened.items ≡ length opened = ap length c.mark.ensures ∙ length-set opened command.node _ in
-    let told : c.mark.new.opened.items ≡ now = c.mark.ensures ∙ marked_alike opened command c.told-said.result c.do_whole_command-called.new.reply in
+    let told : c.mark.new.opened.items ≡ now = c.mark.ensures ∙ marked_alike opened command c.in-Some.said c.do_whole_command-called.new.reply in
     let number : length answers ≡ c.len-first.result + i = omega (arith, inv.count, inv.first) in
     record {
       goes = goes_trans c.args.worker f0 mid new inv.goes c.do_whole_command-called.ensures.goes;

@@ -1,15 +1,17 @@
 use Rattle.std.proofs.Common.{◌∙◌, ◌<◌, arith, sym, refl, false}
 use Rattle.std.proofs.lemmas.List.{length-set}
-use Rattle.thp_worker.specs.Turns.{no_progress}
+use Rattle.thp_model.proofs.Options.{not_there}
+use Rattle.thp_worker.specs.Does.{Reaction, answer_of}
+use Rattle.thp_worker.specs.Turns.{Ended, no_progress}
 use Rattle.thp_worker.specs.Sections.{PutsBack}
 use Rattle.thp_worker.proofs.StepLaws.{goes_trans}
-use Rattle.thp_worker.proofs.CommandLaws.{ended_comes}
+use Rattle.thp_worker.proofs.CommandLaws.{cell_comes}
 use Rattle.thp_worker.proofs.SectionLaws.{room_for_one, ends_more, ends_stop, shut_more, shut_put, not_open, works_end, works_closing}
-use Rattle.thp_worker.proofs.working.close.Goals.{then-is_marked+else-lacks_memory+else-is_busy, else-is_marked}
+use Rattle.thp_worker.proofs.working.close.Goals.{then-is_marked+in_ok-told+in-Some, else-is_marked}
 use Rattle.thp_worker.proofs.working.close.Goals as goal
 
-pub returns-then-lacks_memory-clause-goes : goal.returns-then-lacks_memory-clause-goes
-returns-then-lacks_memory-clause-goes g c =
+pub returns-in_err-told-clause-goes : goal.returns-in_err-told-clause-goes
+returns-in_err-told-clause-goes g c =
     let fronts = g.S.Steps.fronts in
     goes_trans c.args.worker (fronts c.args.steps.now) (fronts c.loop-node.steps) (fronts c.put_back-called.new.steps) c.loop-node.invariant.goes c.put_back-called.ensures.goes
 
@@ -25,15 +27,15 @@ overflow_add-closed g c =
     let room = room_for_one c.args.worker c.loop-node.node old (fronts c.loop-node.steps) commands c.args.answers.items c.loop-node.opened.items c.loop-node.closed e lt inv.shut (sym (e.known.each c.loop-node.node lt) ∙ sym c.is_marked.ensures ∙ c.if-is_marked.true) in
     omega (arith, room, nodes, c.nodes-nodes.ensures, c.nodes-nodes.type_inv)
 
-pub returns-then-is_busy-clause-goes : goal.returns-then-is_busy-clause-goes
-returns-then-is_busy-clause-goes g c =
+pub returns-in_default-clause-goes : goal.returns-in_default-clause-goes
+returns-in_default-clause-goes g c =
     let fronts = g.S.Steps.fronts in
     goes_trans c.args.worker (fronts c.args.steps.now) (fronts c.loop-node.steps) (fronts c.put_back-called.new.steps) c.loop-node.invariant.goes c.put_back-called.ensures.goes
 
-pub returns-then-is_busy-clause-works : goal.returns-then-is_busy-clause-works
-returns-then-is_busy-clause-works g c =
+pub returns-in_default-clause-works : goal.returns-in_default-clause-works
+returns-in_default-clause-works g c =
     let fronts = g.S.Steps.fronts in
-    let back = rw c.if-is_busy.ensures.busy at c.put_back-called.ensures.back in
+    let back = rw (rw (not_there _ c.in_default.not-Some) at c.in_ok-told.ensures.busy) at c.put_back-called.ensures.back in
     λ old commands count e. rw c.loop-node.invariant.same (works_closing c.args.worker old (fronts c.put_back-called.new.steps) commands c.args.answers c.loop-node.opened c.loop-node.closed _ (rw count c.requires.room)
     (ends_stop c.args.worker c.loop-node.node old (fronts c.loop-node.steps) (fronts c.put_back-called.new.steps) commands c.args.answers.items c.loop-node.opened.items c.loop-node.closed no_progress (c.loop-node.invariant.ends old commands e) c.put_back-called.ensures.goes back) (sym count) refl)
 
@@ -46,9 +48,10 @@ loop-node-preserved g c =
     let who = c.args.worker in
     let node = c.loop-node.node in
     elim c.if-is_marked.branch [
-      | then-is_marked+else-lacks_memory+else-is_busy w ↦
+      | then-is_marked+in_ok-told+in-Some w ↦
           let new = fronts w.put_back-called.new.steps in
-          let back = ended_comes no_progress (PutsBack who node mid new) w.put_back-called.result w.put_back-called.new.reply w.if-is_busy.ensures.free w.if-lacks_memory.ensures.some w.put_back-called.ensures.back in
+          let said = w.in-Some.field-0 in
+          let back : (answer : Reaction) × PutsBack who node mid new (Ended answer) = (answer_of said w.put_back-called.new.reply, cell_comes no_progress (PutsBack who node mid new) w.put_back-called.result said w.put_back-called.new.reply (rw w.in-Some.is at w.in_ok-told.ensures.some) (rw w.in-Some.is at w.in_ok-told.ensures.memory) w.put_back-called.ensures.back) in
           rw (w.steps-is, w.closed-is, w.opened-is, w.shut.ensures) (record {
             goes = goes_trans who f0 mid new inv.goes w.put_back-called.ensures.goes;
             ends = λ old commands e.

@@ -2,6 +2,7 @@ use Rattle.std.proofs.Common.{◌≡◌, ◌<◌, ◌≤◌, ◌∙◌, ◌++◌
 use Rattle.std.specs.Prelude.{slice_get}
 use Rattle.std.proofs.lemmas.List.{length-set}
 use Rattle.std.proofs.lemmas.Option.{slice_get-get_or}
+use Rattle.thp_model.proofs.Options.{not_there}
 use Rattle.thp_script.specs.declared.script.Op.TheVariants.{Alloc}
 use Rattle.thp_worker.specs.Does.{Reaction, answer_of}
 use Rattle.thp_worker.specs.OpenBatches.{marked}
@@ -24,18 +25,18 @@ do_command-called-requires-clause-ready g c =
     let at : slice_get commands (length c.loop-index.answers.items) ≡ Some command = ap (slice_get commands) len ∙ slice_get-get_or commands i (record { node = 0; op = Alloc }) c.loop-index-test.true in
     (begun_on c.args.worker c.requires.begun.0 (fronts c.loop-index.steps) commands c.loop-index.answers.items c.loop-index.opened.items c.loop-index.begun command at (inv.begins c.requires.begun.0 c.requires.begun.1)).ready
 
-pub returns-then-lacks_memory-clause-goes : goal.returns-then-lacks_memory-clause-goes
-returns-then-lacks_memory-clause-goes g c =
+pub returns-in_err-said-clause-goes : goal.returns-in_err-said-clause-goes
+returns-in_err-said-clause-goes g c =
     let fronts = g.S.Steps.fronts in
     goes_trans c.args.worker (fronts c.args.steps.now) (fronts c.loop-index.steps) (fronts c.do_command-called.new.steps) c.loop-index.invariant.goes c.do_command-called.ensures.goes
 
-pub returns-then-is_busy-clause-goes : goal.returns-then-is_busy-clause-goes
-returns-then-is_busy-clause-goes g c =
+pub returns-in_default-clause-goes : goal.returns-in_default-clause-goes
+returns-in_default-clause-goes g c =
     let fronts = g.S.Steps.fronts in
     goes_trans c.args.worker (fronts c.args.steps.now) (fronts c.loop-index.steps) (fronts c.do_command-called.new.steps) c.loop-index.invariant.goes c.do_command-called.ensures.goes
 
-pub returns-then-is_busy-clause-works : goal.returns-then-is_busy-clause-works
-returns-then-is_busy-clause-works g c =
+pub returns-in_default-clause-works : goal.returns-in_default-clause-works
+returns-in_default-clause-works g c =
     let fronts = g.S.Steps.fronts in
     let inv = c.loop-index.invariant in
     let commands = c.args.commands.now in
@@ -43,7 +44,7 @@ returns-then-is_busy-clause-works g c =
     let command = get_or commands i (record { node = 0; op = Alloc }) in
     let len : length c.loop-index.answers.items ≡ i = inv.count in
     let at : slice_get commands (length c.loop-index.answers.items) ≡ Some command = ap (slice_get commands) len ∙ slice_get-get_or commands i (record { node = 0; op = Alloc }) c.loop-index-test.true in
-    let p = rw c.if-is_busy.ensures.busy at c.do_command-called.ensures.proceeds in
+    let p = rw (rw (not_there _ c.in_default.not-Some) at c.in_ok-said.ensures.busy) at c.do_command-called.ensures.proceeds in
     λ old b. works_stop c.args.worker old (fronts c.do_command-called.new.steps) commands c.loop-index.answers c.loop-index.opened _ inv.room
     (begins_stop c.args.worker old (fronts c.loop-index.steps) (fronts c.do_command-called.new.steps) commands c.loop-index.answers.items c.loop-index.opened.items c.loop-index.begun command at (inv.begins old b) c.do_command-called.ensures.goes c.do_command-called.new.begun p)
     (sym len) c.loop-index-test.true
@@ -61,12 +62,12 @@ loop-index-preserved g c =
     let command = get_or commands i (record { node = 0; op = Alloc }) in
     let len : length answers ≡ i = inv.count in
     let at : slice_get commands (length answers) ≡ Some command = ap (slice_get commands) len ∙ slice_get-get_or commands i (record { node = 0; op = Alloc }) c.loop-index-test.true in
-    let p = cell_comes c.do_command-called.new.begun (Proceeds c.args.worker command c.loop-index.begun mid new) c.do_command-called.result c.told-said.result c.do_command-called.new.reply c.told-said.ensures c.if-lacks_memory.ensures.some c.do_command-called.ensures.proceeds in
-    let answer : Reaction = answer_of c.told-said.result c.do_command-called.new.reply in
+    let p = cell_comes c.do_command-called.new.begun (Proceeds c.args.worker command c.loop-index.begun mid new) c.do_command-called.result c.in-Some.said c.do_command-called.new.reply (rw c.in-Some.is at c.in_ok-said.ensures.some) (rw c.in-Some.is at c.in_ok-said.ensures.memory) c.do_command-called.ensures.proceeds in
+    let answer : Reaction = answer_of c.in-Some.said c.do_command-called.new.reply in
     let opened = c.loop-index.opened.items in
     let now : List Bool = marked opened command answer in
     let many : length c.mark.new.opened.items ≡ length opened = ap length c.mark.ensures ∙ length-set opened command.node _ in
-    let told : c.mark.new.opened.items ≡ now = c.mark.ensures ∙ marked_alike opened command c.told-said.result c.do_command-called.new.reply in
+    let told : c.mark.new.opened.items ≡ now = c.mark.ensures ∙ marked_alike opened command c.in-Some.said c.do_command-called.new.reply in
     record {
       goes = goes_trans c.args.worker f0 mid new inv.goes c.do_command-called.ensures.goes;
       begins = λ old b.
