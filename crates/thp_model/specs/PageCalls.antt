@@ -62,11 +62,6 @@ Loses loss.UnmapWhole old new = WholeUnmapped old new
 Loses (loss.UnmapSub first count) old new = RangeUnmapped first count old new
 Loses loss.Unpin old new = Pinned new old
 
--- the number of PMD mappings that it splits
-abbrev pub gain_splits : Gain → ℕ
-gain_splits gain.SplitPmd = 1
-gain_splits g = 0
-
 -- an event is about page p and changes it, or its state by the history
 abbrev pub is_about : ℕ → What → Bool
 is_about p (what.Alloc q block) = nat_eq p q

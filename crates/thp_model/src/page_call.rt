@@ -1,7 +1,7 @@
 //! A call about one page as a value, and the event that it records.
 ghost use Rattle.std.specs.Prelude.{◌≡◌, false, min};
 ghost use Rattle.thp_model.specs.Sets.{set_of};
-ghost use Rattle.thp_model.specs.PageCalls.{gain_splits, gain_what, loss_what};
+ghost use Rattle.thp_model.specs.PageCalls.{gain_what, loss_what};
 
 use crate::events::{Outcome, PageId, What};
 use crate::sub_set::SubSet;
@@ -103,16 +103,6 @@ impl Gain {
                 first: u32::from(first),
                 count: u32::from(count),
             },
-        }
-    }
-
-    /// Returns the number of PMD mappings that this call splits.
-    pub fn split_pmds(self) -> u32
-        ensures { result ≡ gain_splits self }
-    {
-        match self {
-            Gain::SplitPmd => 1,
-            _ => 0,
         }
     }
 }

@@ -43,5 +43,4 @@ pub use thp_script::{
 };
 pub use thp_worker::{
     Answer, Gate, NoGate, NodePass, NodePasses, Passes, Reply, Rest, Step, Steps, run_range,
-    run_workers,
 };

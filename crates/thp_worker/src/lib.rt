@@ -5,7 +5,7 @@
 //! - `command`, `scanning` (`Turns`): the steps of a command. A scan is a take, tries and a put-back.
 //! - `working` (`Sections`): the commands of a section in order, then the put-backs of open batches; where a node stays busy the
 //!   rest is postponed. `open_batches` (`OpenBatches`): on which nodes a batch is open, by the answers.
-//! - `in_parts` (`InParts`): a section whose commands arrive in parts. `halves`, `workers` (`Halves`): workers side by side.
+//! - `in_parts` (`InParts`): a section whose commands arrive in parts. `halves` (`Halves`): workers side by side.
 //! - `answer_log`, `kept_answers`, `kept_section` (`Logs`, `Kept`, `KeptSections`): answers, stored in little room or only
 //!   counted.
 //! - `Fronts`: what the holder of some callers knows of all nodes. `gate`: a hook for tests. `reply`, `limits` (`Limits`).
@@ -26,7 +26,6 @@ mod open_batches;
 mod reply;
 mod scanning;
 mod steps;
-mod workers;
 mod working;
 
 pub use answer_log::{AnswerLog, Answers};
@@ -41,5 +40,4 @@ pub use node_passes::NodePasses;
 pub use reply::{Answer, Reply, Rest, SectionLog, SectionOutcome};
 pub use steps::{Step, Steps};
 pub use thp_script::{Command, Op};
-pub use workers::run_workers;
 pub use working::{work, work_rest};
