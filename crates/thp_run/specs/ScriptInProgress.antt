@@ -45,6 +45,15 @@ pub record RunsOnRest (old : List PassState) (read : Result Script Fault) (befor
   pub is : read ≡ Ok rest
   pub runs : RunsOn old new (after_setup before rest) sections
 
+-- the input's script was run by these passes
+pub record RunsInput (s : Settings) (input : Option (List ℕ)) (old new : List PassState) (sections : List SectionLog) : Type 0 where
+  pub bytes : List ℕ
+  pub read : IfSome input (IsInputOf bytes)
+  pub script : Script
+  pub spelled : script_of s bytes ≡ Ok script
+  pub runs : RunsOn old new script sections
+  pub kept : s.report ≡ Answers → All (SectionAnswersAre Kept) sections
+
 -- the input's script was run on nodes as the settings describe
 pub record HasRun (s : Settings) (input : Option (List ℕ)) (nodes : List NodeState) (sections : List SectionLog) : Type 0 where
   pub bytes : List ℕ

@@ -4,7 +4,7 @@ ghost use Rattle.atomic_table.specs.Seated.{TableId};
 ghost use Rattle.thp_cell.specs.Views.{PassState};
 ghost use Rattle.thp_script.specs.Limits.{max_input};
 ghost use Rattle.thp_cli.specs.Calls.{ReadsOn};
-ghost use Rattle.thp_run.specs.ScriptInProgress.{HasRead, HasRun, IsScriptInProgress, EndsBeforeRun, RunsOnRest};
+ghost use Rattle.thp_run.specs.ScriptInProgress.{HasRead, HasRun, IsScriptInProgress, EndsBeforeRun, RunsInput, RunsOnRest};
 ghost use Rattle.thp_run.specs.ScriptInProgressLaws.{nothing_read, more_read};
 ghost use Rattle.thp_run.specs.InParts.{AreNew, HasBegun};
 ghost use Rattle.thp_worker.specs.Fronts.{Fronts};
@@ -126,8 +126,31 @@ pub(crate) fn run_as_read<T: Threads + Sync, R: Read, N: Recorder + Send, G: Gat
     ensures calls { ReadsOn max_input reader.new.failed reader.old.calls reader.new.calls }
 {
     let (cells, passes) = new_cells::<N>(alloc, settings)?;
-    let script_in_progress = ScriptInProgress::new(alloc, settings, cells.as_slice(), passes)?;
+    let (passes, sections) =
+        run_in_cells(rt, alloc, settings, cells.as_slice(), passes, reader, gate)?;
+    Ok(take_apart(alloc, settings, cells, passes, sections)?)
+}
+
+// Runs the script from a reader while reading it, on new nodes in cells. A separate function, since the proof of one that also
+// makes the cells and takes them apart takes several times as long.
+fn run_in_cells<T: Threads + Sync, R: Read, N: Recorder + Send, G: Gate + Sync>(
+    rt: &T,
+    alloc: Global,
+    settings: &Settings,
+    cells: &[NodeCell<N>],
+    passes: Vec<Pass<N>>,
+    reader: &mut Watched<R>,
+    gate: &G,
+) -> Result<(Vec<Pass<N>>, Vec<SectionLog>), RunFault>
+    requires new { AreNew settings.now cells.now passes.items }
+    requires reader { reader.old.failed ≡ false }
+    ensures ran { IfOk result (λ r. RunsInput settings.now (R.remaining reader.old.device) passes.items r.0.items r.1.items) }
+    ensures flag { IfOk result (λ _. reader.new.failed ≡ false) }
+    ensures fault { IfErr result (EndsBeforeRun settings.now (R.remaining reader.old.device) reader.new.failed) }
+    ensures calls { ReadsOn max_input reader.new.failed reader.old.calls reader.new.calls }
+{
+    let script_in_progress = ScriptInProgress::new(alloc, settings, cells, passes)?;
     let script_in_progress = read_parts(script_in_progress, MAX_INPUT, reader)?;
     let (passes, sections) = script_in_progress.finish(rt, alloc, settings, gate)?;
-    Ok(take_apart(alloc, settings, cells, passes, sections)?)
+    Ok((passes, sections))
 }
