@@ -24,11 +24,3 @@ pub returns-then-n-gt0 : goal.returns-then-n-gt0
 returns-then-n-gt0 c = λ i below.
     count_at c.add_number.new.self.sets c.add_number.new.self.used i below ∙ c.add_number.ensures.counts i below
     ∙ ap (λ m. m + cond (has c.args.subpages i) c.args.n 0) (sym (seen_at c.self.inside.planes.sets c.self.inside.planes.used i c.args.self.now c.self.view_is below))
-
--- no more of each
-none_more : (b : Bool) (n m : ℕ) → n ≡ 0 → m ≡ m + cond b n 0
-none_more true n m none = omega (arith, none)
-none_more false n m none = omega arith
-
-pub returns-else-n-gt0 : goal.returns-else-n-gt0
-returns-else-n-gt0 c = λ i below. none_more (has c.args.subpages i) c.args.n _ (omega arith)

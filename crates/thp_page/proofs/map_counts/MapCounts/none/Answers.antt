@@ -3,8 +3,5 @@ use Rattle.thp_page.specs.Planes.{counts_in}
 use Rattle.thp_page.proofs.Seen.{none_counted, none_mapped_in}
 use Rattle.thp_page.proofs.map_counts.MapCounts.none.Goals as goal
 
-pub invariant_of-result : goal.invariant_of-result
-invariant_of-result c = record { most = omega (arith, c.none.ensures.used); mapped = c.empty.ensures ∙ none_mapped_in c.none.result.sets c.none.result.used c.none.ensures.used }
-
 pub returns : goal.returns
 returns c = ap (λ n. counts_in c.none.result.sets n) c.none.ensures.used ∙ none_counted c.none.result.sets

@@ -9,9 +9,6 @@ pub take-requires-clause-positive : goal.take-requires-clause-positive
 take-requires-clause-positive g c = λ i below chosen.
     omega (arith, seen_at c.self.inside.planes.sets c.self.inside.planes.used i c.args.self.now c.self.view_is below, c.requires i below chosen)
 
-pub with_count-unmapped-requires-clause-fits : goal.with_count-unmapped-requires-clause-fits
-with_count-unmapped-requires-clause-fits g c = omega (arith, one-le-pow c.take.new.self.used 2 (omega arith))
-
 pub invariant_of-self : goal.invariant_of-self
 invariant_of-self g c = record {
   most = omega (arith, c.self.invariant.most, c.take.ensures.used);

@@ -5,16 +5,6 @@ use Rattle.thp_model.specs.Pages.{PageState, size, own_at, total_at}
 use Rattle.thp_model.proofs.Below.{some_below-ext, some_no}
 use Rattle.thp_page.proofs.page.Page.has_unused.Goals as goal
 
-pub returns-then-self-eq0 : goal.returns-then-self-eq0
-returns-then-self-eq0 c =
-    let t : PageState = c.args.self.now in
-    let unmapped : t.whole ≡ 0 = sym (ap (λ (u : PageState). u.whole) c.self.view_is) ∙ c.if-self-eq0.true in
-    c.has_unmapped.ensures
-    ∙ some_below-ext (size t) (λ i. covers c.args.first c.args.count i && nat_eq (own_at t i) 0) (λ i. covers c.args.first c.args.count i && nat_eq (total_at t i) 0)
-    (λ i below. ap (λ b. covers c.args.first c.args.count i && b) (alone t.whole (own_at t i) unmapped)) where
-      alone : (w x : ℕ) → w ≡ 0 → nat_eq x 0 ≡ nat_eq (w + x) 0
-      alone w x e = grind (arith, nat_tests)
-
 pub returns-else-self-eq0 : goal.returns-else-self-eq0
 returns-else-self-eq0 c =
     let t : PageState = c.args.self.now in

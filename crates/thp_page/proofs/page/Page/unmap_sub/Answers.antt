@@ -15,11 +15,3 @@ returns-in-Err-clause-refusal c = λ p.
     let t = c.args.self.now in
     c.in-Err.ensures.refusal p ∙ ap₂ (λ f n. page_refusal t (call.unmap_sub p f n)) c.operands-first.ensures.first c.operands-first.ensures.count
     ∙ page_unmap_sub t p c.args.first c.args.count c.operands-first.ensures.few
-
-pub returns-in-Ok-clause-counts : goal.returns-in-Ok-clause-counts
-returns-in-Ok-clause-counts c =
-    let t = c.args.self.now in
-    let u = c.lose.new.self in
-    let whole = page_unmap_sub-whole t 0 c.args.first c.args.count c.operands-first.ensures.few (sym (returns-in-Ok-clause-refusal c 0)) in
-    subst (λ n. RangeUnmapped c.args.first n t u) (c.operands-first.ensures.count ∙ whole.1)
-    (subst (λ f. RangeUnmapped f c.operands-first.result.1 t u) (c.operands-first.ensures.first ∙ whole.0) c.in-Ok.ensures.counts)

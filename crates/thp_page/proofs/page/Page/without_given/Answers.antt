@@ -5,14 +5,6 @@ use Rattle.thp_page.specs.PageView.{state_of}
 use Rattle.thp_page.proofs.SubSets.{is_set_of, set_of-ext}
 use Rattle.thp_page.proofs.page.Page.without_given.Goals as goal
 
-pub returns-then-self : goal.returns-then-self
-returns-then-self c =
-    let s : PageState = state_of c.self.inside in
-    c.difference.ensures
-    ∙ set_of-ext (λ i. has c.args.subpages i && not (zero_at s i)) (λ i. has c.args.subpages i && not (s.freed_zero_frames && zero_at s i))
-    (λ i short. ap (λ b. has c.args.subpages i && not (b && zero_at s i)) (sym c.if-self.true))
-    ∙ ap (λ t. set_of (λ i. has c.args.subpages i && not (t.freed_zero_frames && zero_at t i))) c.self.view_is
-
 pub returns-else-self : goal.returns-else-self
 returns-else-self c =
     let s : PageState = state_of c.self.inside in

@@ -17,8 +17,3 @@ returns-clause-table c =
     (record { link = d.link; standing = Nowhere; page = c.renew.new.self }) _ c.self.view_is c.place.ensures c.index_mut-descriptor.ensures.value refl
     ∙ ap (λ (p : PageState). with_slot c.args.self.now c.args.block (Some (record { id = c.args.id; page = p; standing = Nowhere })))
     (c.renew.ensures.state ∙ ap (λ (u : Table). fresh_page u.order) c.self.view_is)
-
-pub returns-clause-fresh : goal.returns-clause-fresh
-returns-clause-fresh c =
-    subst (λ (u : Table). IsFresh u.order (fresh_page u.order)) c.self.view_is
-    (subst (λ (p : PageState). IsFresh c.self.inside.order p) c.renew.ensures.state c.renew.ensures.fresh)

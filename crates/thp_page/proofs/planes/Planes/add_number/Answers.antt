@@ -28,9 +28,3 @@ loop-k-preserved c = record {
             (ap (λ s. tally s i) w.self-is ∙ nothing _ (has c.args.subpages i) ∙ sym (ap (λ b. tally c.loop-k.self i + cond (has c.args.subpages i) (cond b (2 ^ c.loop-k.k) 0) 0) (sym (bit_read c.args.n c.loop-k.k) ∙ ne_eqb _ 1 w.if-n-k-eq1.false)))
       ];
 }
-
-pub returns-clause-counts : goal.returns-clause-counts
-returns-clause-counts c = λ i below.
-    let last : c.loop-k.k ≡ 16 = omega arith in
-    c.loop-k.invariant.counts i below
-    ∙ ap (λ m. tally c.args.self.now i + cond (has c.args.subpages i) m 0) (ap (λ k. c.args.n % 2 ^ k) last ∙ mod-eq_of_lt {n = c.args.n} {m = 2 ^ 16} (omega arith))
