@@ -12,9 +12,3 @@ loop-block-init c = record {
       ∙ sym (le-ltb b 0 (omega arith));
   size = omega (arith, c.in_ok-words.ensures.len, c.div_ceil.ensures);
 }
-
-pub loop-block-preserved : goal.loop-block-preserved
-loop-block-preserved c = record {
-  marked = λ b. c.insert.ensures.with_it b ∙ one_more c.loop-block.block b _ (c.loop-block.invariant.marked b);
-  size = omega (arith, c.insert.ensures.size, c.loop-block.invariant.size);
-}

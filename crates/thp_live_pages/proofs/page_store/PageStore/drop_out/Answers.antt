@@ -17,16 +17,3 @@ invariant_of-self c =
     (slot_at-inside t c.args.block w.0 at) (c.requires.outside w.0 w.1) (λ e. cc)
     (ap (λ (u : Table). u.slots) c.set_standing.ensures ∙ ap (λ (o : Option Slot). slice_set t.slots c.args.block (stood o Nowhere)) at)
     (ap (λ (u : Table). u.links) c.set_standing.ensures)
-
-pub returns : goal.returns
-returns c = λ x e.
-    let t = c.self.inside.table in
-    let b = c.args.block in
-    let at : slot_at t b ≡ Some x = ap (λ (n : PageStoreState). slot_at n.table b) c.self.view_is ∙ e in
-    record {
-      slots = stood_slots t c.set_standing.new.self b x Nowhere at c.set_standing.ensures ∙ ap (λ (n : PageStoreState). slice_set n.table.slots b (Some (record x { standing = Nowhere }))) c.self.view_is;
-      order = ap (λ (v : Table). v.order) c.set_standing.ensures ∙ ap (λ (n : PageStoreState). n.table.order) c.self.view_is;
-      queue_is = ap (λ (n : PageStoreState). n.queue) c.self.view_is;
-      links = links_seen c.args.self.now t c.set_standing.new.self c.self.inside.queue b c.self.view_is (links_same t c.set_standing.new.self b (ap (λ (v : Table). v.links) c.set_standing.ensures));
-      work = omega (arith, ap (λ (v : Table). v.accesses) c.set_standing.ensures, ap (λ (n : PageStoreState). n.table.accesses) c.self.view_is);
-    }

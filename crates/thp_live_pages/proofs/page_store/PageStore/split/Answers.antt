@@ -27,17 +27,6 @@ split-requires-clause-unpinned c =
     ap (λ (p : PageState). p.pins) (page_there c.set_standing.new.self b (record w.0 { standing = Nowhere }) c.in-Some.page.now (stood_slot t c.set_standing.new.self b w.0 Nowhere at c.set_standing.ensures) c.in-Some.ensures.value)
     ∙ (c.requires.allowed w.0 w.1).1
 
-pub invariant_of-self : goal.invariant_of-self
-invariant_of-self c =
-    let t = c.self.inside.table in
-    let b = c.args.block in
-    let w = taken _ c.requires.occupied in
-    let at : slot_at t b ≡ Some w.0 = ap (λ (n : PageStoreState). slot_at n.table b) c.self.view_is ∙ w.1 in
-    linked_outside t _ c.self.inside.queue b (Some w.0) (Some (record w.0 { page = c.split.new.self; standing = Nowhere })) c.self.invariant at
-    (slot_at-inside t b w.0 at) (c.requires.allowed w.0 w.1).2 (λ e. cc)
-    (stood_paged t c.set_standing.new.self b w.0 Nowhere c.split.new.self at c.set_standing.ensures)
-    (ap (λ (u : Table). u.links) c.set_standing.ensures)
-
 pub returns : goal.returns
 returns c = λ x e.
     let t = c.self.inside.table in

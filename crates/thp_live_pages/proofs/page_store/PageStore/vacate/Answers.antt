@@ -15,14 +15,3 @@ invariant_of-self c =
     let at : slot_at t b ≡ Some w.0 = ap (λ (n : PageStoreState). slot_at n.table b) c.self.view_is ∙ w.1 in
     linked_outside t c.clear.new.self c.self.inside.queue b (Some w.0) None c.self.invariant at (slot_at-inside t b w.0 at) (c.requires.outside w.0 w.1) (λ e. e)
     (ap (λ (v : Table). v.slots) c.clear.ensures) (ap (λ (v : Table). v.links) c.clear.ensures)
-
-pub returns : goal.returns
-returns c =
-    let t = c.self.inside.table in
-    record {
-      slots = ap (λ (v : Table). v.slots) c.clear.ensures ∙ ap (λ (n : PageStoreState). slice_set n.table.slots c.args.block None) c.self.view_is;
-      order = ap (λ (v : Table). v.order) c.clear.ensures ∙ ap (λ (n : PageStoreState). n.table.order) c.self.view_is;
-      queue_is = ap (λ (n : PageStoreState). n.queue) c.self.view_is;
-      links = links_seen c.args.self.now t c.clear.new.self c.self.inside.queue c.args.block c.self.view_is (links_same t c.clear.new.self c.args.block (ap (λ (v : Table). v.links) c.clear.ensures));
-      work = omega (arith, ap (λ (v : Table). v.accesses) c.clear.ensures, ap (λ (n : PageStoreState). n.table.accesses) c.self.view_is);
-    }
