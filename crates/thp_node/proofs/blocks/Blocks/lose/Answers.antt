@@ -24,11 +24,6 @@ push_free-requires-clause-empty c =
     let w = freed_there c.args.loss c.args.closed c.args.self.now c.self.inside.places c.lose.new.self c.args.block c.lose.new.done c.in-Ok.left c.self.view_is c.requires.occupied c.in-Ok.ensures.lost c.in-Freed.is in
     edited_slot c.self.inside.places c.lose.new.self c.args.block w.slot None w.queue 6 w.at w.edits
 
-pub push_free-requires-clause-absent : goal.push_free-requires-clause-absent
-push_free-requires-clause-absent c =
-    let w = freed_there c.args.loss c.args.closed c.args.self.now c.self.inside.places c.lose.new.self c.args.block c.lose.new.done c.in-Ok.left c.self.view_is c.requires.occupied c.in-Ok.ensures.lost c.in-Freed.is in
-    not_free c.self.inside.places.table c.self.inside.free c.args.block w.slot c.self.invariant.chain w.at
-
 pub invariant_of-self-in-Freed : goal.invariant_of-self-in-Freed
 invariant_of-self-in-Freed c =
     let w = freed_there c.args.loss c.args.closed c.args.self.now c.self.inside.places c.lose.new.self c.args.block c.lose.new.done c.in-Ok.left c.self.view_is c.requires.occupied c.in-Ok.ensures.lost c.in-Freed.is in

@@ -5,26 +5,6 @@ use Rattle.thp_links.proofs.Members.{Contains-nil, Contains-head, Contains-behin
 use Rattle.thp_page.specs.Table.{Slot}
 use Rattle.thp_node.proofs.blocks.Blocks.new.Goals as goal
 
-pub loop-block-init : goal.loop-block-init
-loop-block-init c =
-    let none = λ (b : ℕ) (i : Contains c.new-free.result b). Contains-nil b (subst (λ xs. Contains xs b) c.new-free.ensures i) in
-    record {
-      chain = record { stands = search rules; empty = λ b i. absurd (none b i) };
-      above = λ b i. absurd (none b i);
-      all = λ b l m. absurd (omega arith);
-      order = refl;
-      slots = refl;
-      queue = refl;
-    }
-
-pub push_free-requires-clause-inside : goal.push_free-requires-clause-inside
-push_free-requires-clause-inside c =
-    omega (arith, c.loop-block-test.true, c.loop-block.auto.block, ap length c.loop-block.invariant.slots, c.in_ok-places.ensures.size)
-
-pub push_free-requires-clause-empty : goal.push_free-requires-clause-empty
-push_free-requires-clause-empty c =
-    ap (λ (xs : List (Option Slot)). get_or xs (c.loop-block.block - 1) None) c.loop-block.invariant.slots ∙ c.in_ok-places.ensures.empty (c.loop-block.block - 1)
-
 pub push_free-requires-clause-absent : goal.push_free-requires-clause-absent
 push_free-requires-clause-absent c = λ m. let low = (c.loop-block.invariant.above (c.loop-block.block - 1) m).0 in omega arith
 

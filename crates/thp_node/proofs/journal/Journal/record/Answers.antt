@@ -21,11 +21,6 @@ count-requires-clause-room g c =
     let k = c.record.ensures.history in
     count_room c.self.inside.shape h c.self.inside.tally c.self.invariant (omega (arith, c.count-events.ensures, ap length k, length_push h (by c.args.caller c.args.what)))
 
-pub count-requires-clause-joins : goal.count-requires-clause-joins
-count-requires-clause-joins g c =
-    let few = subst (λ (j : JournalState). HasFlightRoom j.events c.args.caller c.args.what) (sym c.self.view_is) c.requires.flight in
-    may_join (g.R.Recorder.history c.self.inside.events) c.args.caller c.args.what c.self.inside.tally.flying c.requires.caller few c.self.invariant.flying_are
-
 pub count-requires-clause-leaves : goal.count-requires-clause-leaves
 count-requires-clause-leaves g c =
     let said = unsaid_inside _ _ c.args.what _ c.self.view_is c.requires.unsaid in

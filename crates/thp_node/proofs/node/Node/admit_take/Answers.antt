@@ -23,17 +23,6 @@ returns-clause-allowed g c =
     let j = c.self.inside.journal in
     ap (λ (n : NodeState). refusal n.shape n.journal (call.take c.args.caller)) (sym c.self.view_is) ∙ unrefused_take j.shape j.events c.args.caller (omega (arith, c.flying.ensures))
 
-pub returns-clause-free : goal.returns-clause-free
-returns-clause-free g c =
-    ap (λ (n : NodeState). no_pages (flight n.journal c.args.caller)) (sym c.self.view_is) ∙ none_flies (flight c.self.inside.journal.events c.args.caller) (omega (arith, c.flying.ensures))
-
-pub returns-clause-count : goal.returns-clause-count
-returns-clause-count g c =
-    let j = c.self.inside.journal in
-    let b = c.self.inside.blocks in
-    c.min-count.ensures ∙ ap (min c.args.n)
-    (c.len.ensures ∙ ap length (rw c.store.ensures at c.queue.ensures.value) ∙ sym (queue_length j.shape j.events b.table b.queue c.self.invariant) ∙ ap (λ (n : NodeState). length (queue n.shape n.journal)) c.self.view_is)
-
 pub returns-in-Err-clause-refused : goal.returns-in-Err-clause-refused
 returns-in-Err-clause-refused g c =
     let j = c.self.inside.journal in

@@ -13,15 +13,6 @@ seen g c =
     node_seen c.args.self.now j.shape j.events b.table b.queue (ap (λ (n : NodeState). n.shape) is) (ap (λ (n : NodeState). n.journal) is) (ap (λ (n : NodeState). n.table) is)
     (ap (λ (n : NodeState). n.queue) is) c.self.invariant
 
-pub returns-clause-size : goal.returns-clause-size
-returns-clause-size g c = (seen g c).size
-
-pub returns-clause-order : goal.returns-clause-order
-returns-clause-order g c = (seen g c).order
-
-pub returns-clause-slots : goal.returns-clause-slots
-returns-clause-slots g c = (seen g c).fills
-
 pub returns-clause-live : goal.returns-clause-live
 returns-clause-live g c = let n = c.args.self.now in live_has_block n.shape n.journal n.table n.queue (seen g c)
 
