@@ -3,10 +3,6 @@ use Rattle.std.proofs.lemmas.Slice.Eq.{text_from_reads}
 use Rattle.thp_script.specs.Commands.{command_of}
 use Rattle.thp_script.proofs.script.command_word.Goals as goal
 
-pub returns-in-alloc : goal.returns-in-alloc
-unfolding command_of
-returns-in-alloc c = λ s words. rw (text_from_reads c.args.name.now (codes "alloc") (search rules) (search rules)) refl
-
 pub returns-in-mapwhole : goal.returns-in-mapwhole
 unfolding command_of
 returns-in-mapwhole c = λ s words. rw (text_from_reads c.args.name.now (codes "mapwhole") (search rules) (search rules)) refl
@@ -14,10 +10,6 @@ returns-in-mapwhole c = λ s words. rw (text_from_reads c.args.name.now (codes "
 pub returns-in-unmapwhole : goal.returns-in-unmapwhole
 unfolding command_of
 returns-in-unmapwhole c = λ s words. rw (text_from_reads c.args.name.now (codes "unmapwhole") (search rules) (search rules)) refl
-
-pub returns-in-map : goal.returns-in-map
-unfolding command_of
-returns-in-map c = λ s words. rw (text_from_reads c.args.name.now (codes "map") (search rules) (search rules)) refl
 
 pub returns-in-unmap : goal.returns-in-unmap
 unfolding command_of
@@ -27,10 +19,6 @@ pub returns-in-splitpmd : goal.returns-in-splitpmd
 unfolding command_of
 returns-in-splitpmd c = λ s words. rw (text_from_reads c.args.name.now (codes "splitpmd") (search rules) (search rules)) refl
 
-pub returns-in-pin : goal.returns-in-pin
-unfolding command_of
-returns-in-pin c = λ s words. rw (text_from_reads c.args.name.now (codes "pin") (search rules) (search rules)) refl
-
 pub returns-in-unpin : goal.returns-in-unpin
 unfolding command_of
 returns-in-unpin c = λ s words. rw (text_from_reads c.args.name.now (codes "unpin") (search rules) (search rules)) refl
@@ -39,25 +27,13 @@ pub returns-in-write : goal.returns-in-write
 unfolding command_of
 returns-in-write c = λ s words. rw (text_from_reads c.args.name.now (codes "write") (search rules) (search rules)) refl
 
-pub returns-in-zero : goal.returns-in-zero
-unfolding command_of
-returns-in-zero c = λ s words. rw (text_from_reads c.args.name.now (codes "zero") (search rules) (search rules)) refl
-
 pub returns-in-close : goal.returns-in-close
 unfolding command_of
 returns-in-close c = λ s words. rw (text_from_reads c.args.name.now (codes "close") (search rules) (search rules)) refl
 
-pub returns-in-scan : goal.returns-in-scan
-unfolding command_of
-returns-in-scan c = λ s words. rw (text_from_reads c.args.name.now (codes "scan") (search rules) (search rules)) refl
-
 pub returns-in-count : goal.returns-in-count
 unfolding command_of
 returns-in-count c = λ s words. rw (text_from_reads c.args.name.now (codes "count") (search rules) (search rules)) refl
-
-pub returns-in-take : goal.returns-in-take
-unfolding command_of
-returns-in-take c = λ s words. rw (text_from_reads c.args.name.now (codes "take") (search rules) (search rules)) refl
 
 pub returns-in-splitnext : goal.returns-in-splitnext
 unfolding command_of
