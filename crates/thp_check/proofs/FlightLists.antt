@@ -366,11 +366,3 @@ empty_at (suc n) (suc k) = empty_at n k
 pub empty_in : (cs : List ℕ) (n d : ℕ) → blocks_in (record { callers = cs; lists = replicate n no_blocks }) d ≡ []
 unfolding blocks_in
 empty_in cs n d = ap (filter (λ x. nat_eq (caller_at cs x) d)) (empty_at n (d % 64))
-
-pub empty_linked : (cs : List ℕ) (links : List Link) → length cs ≡ length links → AreLinked cs (replicate 64 no_blocks) links
-empty_linked cs links sizes = record {
-  sizes = sizes;
-  count = length-replicate 64 no_blocks;
-  each_stands = λ k. let P : List ℕ → Type 0 = λ xs. Stands xs links in subst P (sym (empty_at 64 k)) (Stands-nil links);
-  own = λ k x i. let P : List ℕ → Type 0 = λ xs. Contains xs x in absurd (Contains-nil x (subst P (empty_at 64 k) i));
-}

@@ -179,16 +179,6 @@ held_split t used filled e f g k =
       go a b true y z s v d e g k = rw (d, e, g, k) refl
       go a b false y z s v d e g k = rw d refl
 
-pub held_used : (t : PageState) (used : List Bool) → used ≡ used_set t → t.split ≡ true → t.freed_zero_frames ≡ false → used ≡ set_of (holds t)
-held_used t used e g k =
-    e
-    ∙ set_of-ext (λ i. nat_lt i (size t) && nat_lt 0 (total_at t i)) (holds t)
-    (λ i l. go _ _ _ _ _ g k) where
-      go : (x y z s v : Bool) → s ≡ true → v ≡ false → (x && y) ≡ (x && (not s || (y && not (v && z))))
-      go true true z s v g k = rw (g, k) refl
-      go true false z s v g k = rw g refl
-      go false y z s v g k = refl
-
 -- ---- one block more
 
 range_more : (n : ℕ) → range_with_len 0 (n + 1) ≡ range_with_len 0 n ++ n ∷ []

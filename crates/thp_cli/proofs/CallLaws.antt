@@ -65,9 +65,6 @@ pub record Writing (n left : ℕ) (old new : List DeviceCall) : Type 0 where
   pub sum_is : sum taken + left ≡ n
   pub grown : new ≡ old ++ writes_of n taken
 
-pub writing_none : (n : ℕ) (old : List DeviceCall) → Writing n n old old
-writing_none n old = record { taken = []; sum_is = omega (arith, sum_none); grown = sym (append-nil old) }
-
 -- one write more is the last one
 writes_more : (n k : ℕ) (taken : List ℕ) → writes_of n (taken ++ k ∷ []) ≡ writes_of n taken ++ call.Write (n - sum taken) (Some k) ∷ []
 writes_more n k [] = ap (λ (m : ℕ). call.Write m (Some k) ∷ []) (omega (arith, sum_none))

@@ -41,9 +41,6 @@ appends_nothing : (old : Option (List ℕ)) → Appends old old []
 appends_nothing None = tt
 appends_nothing (Some xs) = sym (append-nil xs)
 
-pub written_none : (old : Option (List ℕ)) (text : List ℕ) → Written old old text text
-written_none old text = record { front = []; parts = refl; written = appends_nothing old }
-
 appends_more : (a b c : Option (List ℕ)) (front piece : List ℕ) → Appends a b front → Appends b c piece → Appends a c (front ++ piece)
 appends_more None b c front piece h k = tt
 appends_more (Some xs) None c front piece h k = absurd h
@@ -72,13 +69,6 @@ keeps_appends (Some xs) (Some ys) k = k ∙ sym (append-nil xs)
 
 pub flush_stops : (a b c : Option (List ℕ)) (text rest : List ℕ) → Written a b text rest → Keeps b c → WritesFront a c text
 flush_stops a b c text rest w k = write_stops a b c text rest w (keeps_appends b c k)
-
-pub flush_ends : (a b c : Option (List ℕ)) (text rest : List ℕ) → Written a b text rest → length rest ≡ 0 → Keeps b c → Appends a c text
-flush_ends None b c text rest w e k = tt
-flush_ends (Some xs) None c text rest w e k = absurd w.written
-flush_ends (Some xs) (Some ys) None text rest w e k = absurd k
-flush_ends (Some xs) (Some ys) (Some zs) text [] w e k = k ∙ w.written ∙ ap (λ (t : List ℕ). xs ++ t) (sym (w.parts ∙ append-nil w.front))
-flush_ends (Some xs) (Some ys) (Some zs) text (r ∷ rest) w e k = absurd (omega arith)
 
 -- the bytes were taken, and nothing is left of them
 pub written_all : (a b : Option (List ℕ)) (text : List ℕ) → Appends a b text → Written a b text []

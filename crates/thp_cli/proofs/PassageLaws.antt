@@ -62,13 +62,6 @@ module _ (most : ℕ) {A : Type 0} (IsAnswer : List ℕ → A → List ℕ → T
 
 -- ---- calls of the writer
 
--- none was made where the reading failed
-pub none_at_reading : {A : Type 0} (r : Result A RunFault) (reader_failed writer_failed : Bool) (fault : RunFault) (calls : List DeviceCall) → IsReadingFault reader_failed fault → r ≡ Err fault → WritesAnswer r writer_failed calls calls
-none_at_reading r rf wf Read calls reading is = rw is refl
-none_at_reading r rf wf OutOfMemory calls reading is = rw is refl
-none_at_reading r rf wf Write calls reading is = absurd reading
-none_at_reading r rf wf (Text line kind) calls reading is = absurd reading
-
 -- none was made where the text was at fault
 pub none_at_fault : {A : Type 0} (r : Result A RunFault) (writer_failed : Bool) (fault : ReadFault) (calls : List DeviceCall) → r ≡ Err (run_fault fault) → WritesAnswer r writer_failed calls calls
 none_at_fault r wf (reading.Text line kind) calls is = rw is refl

@@ -45,15 +45,6 @@ legal_more nodes place node inside is before legal = λ k other lt here.
           subst P same legal
     ]
 
-pub illegal_here : (nodes : List NodeJournal) (place : ℕ) (node : NodeJournal) (line : ℕ) → place < length nodes → node ≡ get_or nodes place node → AreLegalBefore place nodes → IsFirstIllegal node line → IsFirstIllegalLine nodes line
-illegal_here nodes place node line inside is before first = record {
-  place = place;
-  node = node;
-  here = slice_get-get_or nodes place node inside ∙ ap (λ (n : NodeJournal). Some n) (sym is);
-  legal_before = before;
-  first = first;
-}
-
 -- ---- any choice of blocks
 
 -- the node's blocks are the least ones

@@ -123,11 +123,6 @@ pub first_before : (nodes : List NodeJournal) (illegal : Option Illegal) (number
 first_before nodes None number most told each le = tt
 first_before nodes (Some illegal) number most told each le = omega (arith, illegal_before nodes illegal number told each)
 
--- the line of what is answered is that of the first illegal event
-pub line_of_first : (nodes : List NodeJournal) (illegal : Option Illegal) → ReportsFirst nodes illegal → ReportsIllegal nodes (option_map (λ i. i.line) illegal)
-line_of_first nodes None told = told
-line_of_first nodes (Some illegal) told = told.line
-
 -- ---- the last node has an illegal event
 
 -- one behind others

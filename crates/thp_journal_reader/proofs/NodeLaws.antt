@@ -126,12 +126,6 @@ nodes_of-push number (Node n shape ∷ lines) (Happened event) =
       | inr t ↦ event_there (number + 1) shape lines event (nodes_of (number + 1) lines) _ t.node t.nodes _ t.some (nodes_of-push (number + 1) lines (Happened event)) t.there
     ]
 
--- the same for nodes that were read, by the number of the line
-pub nodes_step : (lines : List Line) (line : Line) (number : ℕ) (old new : List NodeJournal) → new ≡ with_line number old line → old ≡ nodes_of 1 lines → number ≡ length lines + 1 → new ≡ nodes_of 1 (lines ++ line ∷ [])
-nodes_step lines line number old new is so-far at =
-    let same : number ≡ 1 + length lines = omega arith in
-    is ∙ ap (λ (ns : List NodeJournal). with_line number ns line) so-far ∙ ap (λ (n : ℕ). with_line n (nodes_of 1 lines) line) same ∙ sym (nodes_of-push 1 lines line)
-
 -- the last of some nodes that another stands behind is that one
 pub on_last-push : (f : NodeJournal → NodeJournal) (nodes : List NodeJournal) (node : NodeJournal) → on_last f (nodes ++ node ∷ []) ≡ nodes ++ f node ∷ []
 on_last-push f [] node = refl

@@ -173,19 +173,6 @@ module _ (old new : JournalScript) (f : Folding) (p : List Op) (held : old.node 
           },
         )
 
--- no node has begun
-pub goes_on_idle : (e : Event) (s : JournalScript) → s.node ≡ None → GoesOnWith e s s
-goes_on_idle e s none = λ ended now w. by_node ended now w (subst (λ x. IsBegun now x) none w.begun_is) where
-  by_node : (ended : List EndedNode) (now : Option NodeScript) → IsWriting ended now s → IsBegun now None → (after : Option NodeScript) × GoesOnAs e now after × IsWriting ended after s
-  by_node ended None w is = (None, refl, w)
-  by_node ended (Some n) w is = absurd is
-
-pub ends_idle : (s : JournalScript) → s.node ≡ None → EndsNode s s
-ends_idle s none = λ ended now w. by_node ended now w (subst (λ x. IsBegun now x) none w.begun_is) where
-  by_node : (ended : List EndedNode) (now : Option NodeScript) → IsWriting ended now s → IsBegun now None → (after : List EndedNode) × EndsAs ended now after × IsWriting after None s
-  by_node ended None w is = (ended, refl, w)
-  by_node ended (Some n) w is = absurd is
-
 one_more_number : (count length next : ℕ) → count ≡ min length (2 ^ 32 - 1) → next ≡ min (count + 1) (2 ^ 32 - 1) → next ≡ min (length + 1) (2 ^ 32 - 1)
 one_more_number count length next is more = omega (arith, is, more)
 

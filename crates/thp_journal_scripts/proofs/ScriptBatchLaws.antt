@@ -359,14 +359,6 @@ scans h past b n k some f = record {
 
 -- ---- the end
 
-pub settled_shut : (b : ScriptBatch) → IsShut (settled b) → settled b ≡ Idle
-settled_shut Idle is = refl
-settled_shut (Taking c n) is = absurd is
-settled_shut (Trying c n k) is = absurd is
-settled_shut (Scanned c n) is = refl
-settled_shut (Open c) is = absurd is
-settled_shut (Closing c) is = refl
-
 all_repeated : (h : History) (past : List Op) → RepeatsUpTo h past Idle → Repeats None past h None
 all_repeated h past r = subst (λ g. Repeats None past g None) (sym (r.parts ∙ ap (λ g. r.done ++ g) r.pending_is ∙ append-nil r.done)) r.repeats
 

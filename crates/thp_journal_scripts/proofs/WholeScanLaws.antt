@@ -255,9 +255,6 @@ join_flying : (n p : ℕ) (ps : List ℕ) → map (flying n) ps ++ flying n p �
 join_flying n p [] = refl
 join_flying n p (q ∷ ps) = ap (λ qs. flying n q ∷ qs) (join_flying n p ps)
 
-pub flying_none : (n : ℕ) → list_any (λ (f : FlyingPage). nat_eq f.flight n) (map (flying n) []) ≡ false
-flying_none n = refl
-
 pub flying_some : (n q : ℕ) (ps : List ℕ) → list_any (λ (f : FlyingPage). nat_eq f.flight n) (map (flying n) (q ∷ ps)) ≡ true
 flying_some n q ps = ap (λ b. b || list_any (λ (f : FlyingPage). nat_eq f.flight n) (map (flying n) ps)) (eq-eqb n n refl)
 

@@ -118,16 +118,6 @@ run_ends_after set first after small low here out =
 abbrev pub joined : List Run → List ℕ
 joined runs = join_with_byte 44 (map run_text runs)
 
--- a run, then a comma and the next one, behind a text
-pub joined_more : (t old : List ℕ) (last run : Run) (runs : List Run) → t ++ joined (last ∷ run ∷ runs) ≡ old → (t ++ run_text last ++ 44 ∷ []) ++ joined (run ∷ runs) ≡ old
-joined_more t old last run runs e = go (run_text last) (joined (run ∷ runs)) e where
-  go : (a b : List ℕ) → t ++ (a ++ 44 ∷ b) ≡ old → (t ++ a ++ 44 ∷ []) ++ b ≡ old
-  go a b e = simp append_assoc e
-
--- the last run, behind a text
-pub joined_last : (t old set : List ℕ) (last : Run) (after : ℕ) → t ++ joined (last ∷ []) ≡ old ++ set → t ++ run_text last ++ after ∷ [] ≡ old ++ set ++ after ∷ []
-joined_last t old set last after e = ap (λ s. s ++ after ∷ []) e
-
 -- the text of a set that has runs
 pub set_text-runs : (set : List Bool) (run : Run) (runs : List Run) → runs_from 0 set ≡ run ∷ runs → set_text set ≡ joined (run ∷ runs)
 unfolding set_text

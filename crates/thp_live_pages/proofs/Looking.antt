@@ -10,14 +10,6 @@ use Rattle.thp_live_pages.specs.Holding.{Fills, IsNode}
 use Rattle.thp_live_pages.specs.Linking.{IsListed, IsLinked}
 use Rattle.thp_live_pages.specs.PageStoreState.{PageStoreState}
 
--- the queue stands as it did
-pub linked_read : (t u : Table) (q : List ℕ) → IsLinked t q → u.slots ≡ t.slots → u.links ≡ t.links → IsLinked u q
-linked_read t u q m e f = record {
-  sizes = ap (λ (xs : List (Option Slot)). length xs) e ∙ m.sizes ∙ sym (ap (λ (ls : List Link). length ls) f);
-  queue_stands = let P : List Link → Type 0 = λ ls. Stands q ls in subst P (sym f) m.queue_stands;
-  listed = λ b. let P : List (Option Slot) → Type 0 = λ xs. IsListed (get_or xs b None) q b in subst P (sym e) (m.listed b);
-}
-
 -- and the table and the queue are still what the history says
 pub node_read : (s : Shape) (h : History) (old new : PageStoreState) (most : ℕ) → IsNode s h old.table old.queue → Relinks old new most → IsNode s h new.table new.queue
 node_read s h old new most m r = record {

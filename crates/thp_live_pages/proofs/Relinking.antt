@@ -17,7 +17,7 @@ use Rattle.thp_page.specs.declared.standing.Standing.{Standing}
 use Rattle.thp_page.specs.declared.standing.Standing.TheVariants.{Nowhere, Queued}
 use Rattle.thp_page.specs.Table.{Slot, Table}
 use Rattle.thp_page.specs.Slots.{slot_at, with_slot, stood, paged, page_in}
-use Rattle.thp_page.proofs.TableSlots.{slot_at-with_slot-same, slot_at-inside, slot_at-new}
+use Rattle.thp_page.proofs.TableSlots.{slot_at-with_slot-same, slot_at-inside}
 use Rattle.thp_live_pages.specs.PageStoreState.{PageStoreState, Edits, EmptyLinksStay, Placed, slot_after, queue_after}
 use Rattle.thp_live_pages.specs.Linking.{IsQueued, IsListed, IsLinked}
 
@@ -90,15 +90,6 @@ relinked t u q r b o m slots inside links queue same at = record {
 listed_at : (t : Table) (q : List ℕ) (b : ℕ) (o : Option Slot) → IsLinked t q → slot_at t b ≡ o → IsListed o q b
 listed_at t q b o m at = let P : Option Slot → Type 0 = λ z. IsListed z q b in subst P at (m.listed b)
 
--- a slot's page changes: what stands there stands as before
-pub linked_paged : (t u : Table) (q : List ℕ) (b : ℕ) (x y : Slot) → IsLinked t q → slot_at t b ≡ Some x → b < length t.slots → y.standing ≡ x.standing →
-    u.slots ≡ slice_set t.slots b (Some y) → u.links ≡ t.links → IsLinked u q
-linked_paged t u q b x y m at inside same slots links =
-    let S : List Link → Type 0 = λ ls. Stands q ls in
-    let old = listed_at t q b (Some x) m at in
-    relinked t u q q b (Some y) m slots inside (ap length links) (subst S (sym links) m.queue_stands) (same_list q b)
-    (record { queued = λ i. same ∙ old.queued i; in_queue = λ i. old.in_queue (sym same ∙ i) })
-
 -- what isn't in the queue becomes something else that isn't
 pub linked_outside : (t u : Table) (q : List ℕ) (b : ℕ) (o p : Option Slot) → IsLinked t q → slot_at t b ≡ o → b < length t.slots → (IsQueued o → ⊥) → (IsQueued p → ⊥) →
     u.slots ≡ slice_set t.slots b p → u.links ≡ t.links → IsLinked u q
@@ -144,17 +135,6 @@ queued_slot t q b m i = go (slot_at t b) ((m.listed b).queued i) where
 -- a page that doesn't stand in the queue isn't taken out of it
 pub not_listed : (t : Table) (q : List ℕ) (b : ℕ) (x : Slot) → IsLinked t q → slot_at t b ≡ Some x → x.standing ≢ Queued → without b q ≡ q
 not_listed t q b x m at n = without_absent b q (λ i. n ((listed_at t q b (Some x) m at).queued i))
-
--- a table with no page and an empty queue
-pub linked_new : (t : Table) (q : List ℕ) (n : ℕ) → q ≡ [] → t.slots ≡ replicate n None → length t.links ≡ n → IsLinked t q
-linked_new t q n none slots links = record {
-  sizes = ap length slots ∙ length-replicate n None ∙ sym links;
-  queue_stands = let P : List ℕ → Type 0 = λ xs. Stands xs t.links in subst P (sym none) (Stands-nil t.links);
-  listed = λ b. record {
-    queued = λ i. absurd (let P : List ℕ → Type 0 = λ xs. Contains xs b in Contains-nil b (subst P none i));
-    in_queue = λ i. absurd (queued_none (slot_at t b) i (slot_at-new t n b slots));
-  };
-}
 
 -- a block without a page isn't in the queue
 pub not_queued : (t : Table) (q : List ℕ) (b : ℕ) → IsLinked t q → slot_at t b ≡ None → Contains q b → ⊥

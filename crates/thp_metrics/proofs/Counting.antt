@@ -77,10 +77,6 @@ callers_set counts c n size low =
 pub callers_enter : (counts : List ℕ) (c : ℕ) → length counts ≡ 64 → c < 64 → count_at counts c ≡ 0 → callers_in (set counts c 1) ≡ callers_in counts + 2 ^ c
 callers_enter counts c size low none = omega (arith, callers_set counts c 1 size low, ap (bit c) none, no_bit c, a_bit c 1 (omega arith))
 
--- one more page comes, or one goes and others stay
-pub callers_keep : (counts : List ℕ) (c n : ℕ) → length counts ≡ 64 → c < 64 → 0 < count_at counts c → 0 < n → callers_in (set counts c n) ≡ callers_in counts
-callers_keep counts c n size low some more = omega (arith, callers_set counts c n size low, a_bit c (count_at counts c) some, a_bit c n more)
-
 -- the last page goes
 pub callers_leave : (counts : List ℕ) (c : ℕ) → length counts ≡ 64 → c < 64 → 0 < count_at counts c → callers_in (set counts c 0) + 2 ^ c ≡ callers_in counts
 callers_leave counts c size low some = omega (arith, callers_set counts c 0 size low, a_bit c (count_at counts c) some, no_bit c)

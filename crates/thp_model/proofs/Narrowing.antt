@@ -82,11 +82,6 @@ pub zero_fill : (s : Shape) (h : History) (p first count : ℕ) → s.order ≤ 
 unfolding refusal unknown
 zero_fill s h p first count low = alike (subpages s) (λ f c. refusal s h (call.zero_fill p f c)) (unknown h p) (few_subpages s low) (λ f c y. at_second _ _ _ _ _ y) first count
 
--- a range that isn't refused is kept as it is
-good_page : (b : Bool) (r : Refusal) (rest : Option Refusal) → cond b (Some r) rest ≡ None → b ≡ false
-good_page true r rest e = absurd (cc)
-good_page false r rest e = refl
-
 good_node : (a b : Bool) (q r : Refusal) (rest : Option Refusal) → cond a (Some q) (cond b (Some r) rest) ≡ None → b ≡ false
 good_node true b q r rest e = absurd (cc)
 good_node false true q r rest e = absurd (cc)
@@ -95,22 +90,6 @@ good_node false false q r rest e = refl
 -- both operands are kept as they are
 abbrev pub Whole : ℕ → ℕ → Type 0
 Whole first count = (kept first ≡ first) × (kept count ≡ count)
-
-pub page_map_sub-whole : (t : PageState) (p first count : ℕ) → size t ≤ 512 → page_refusal t (call.map_sub p first count) ≡ None → Whole first count
-unfolding page_refusal
-page_map_sub-whole t p first count few e = kept_same (size t) first count few (good_page _ _ _ e)
-
-pub page_unmap_sub-whole : (t : PageState) (p first count : ℕ) → size t ≤ 512 → page_refusal t (call.unmap_sub p first count) ≡ None → Whole first count
-unfolding page_refusal
-page_unmap_sub-whole t p first count few e = kept_same (size t) first count few (good_page _ _ _ e)
-
-pub page_write-whole : (t : PageState) (p first count : ℕ) → size t ≤ 512 → page_refusal t (call.write p first count) ≡ None → Whole first count
-unfolding page_refusal
-page_write-whole t p first count few e = kept_same (size t) first count few (good_page _ _ _ e)
-
-pub page_zero-whole : (t : PageState) (p first count : ℕ) → size t ≤ 512 → page_refusal t (call.zero_fill p first count) ≡ None → Whole first count
-unfolding page_refusal
-page_zero-whole t p first count few e = kept_same (size t) first count few (good_page _ _ _ e)
 
 pub map_sub-whole : (s : Shape) (h : History) (p first count : ℕ) → s.order ≤ 9 → refusal s h (call.map_sub p first count) ≡ None → Whole first count
 unfolding refusal

@@ -89,12 +89,6 @@ frames_counted h c w n m e f = rw (frames_given_push h (by c w)) (omega (arith, 
   go (Split p r) = refl
   go w = refl
 
--- the count of the caller whose flight a page joins has room for it
-pub may_join : (h : History) (c : ℕ) (w : What) (flying : List ℕ) → c < 64 → HasFlightRoom h c w → ((d : ℕ) → slice_index_or flying d 0 ≡ length (flight h d)) →
-    IfSome (joins_of c w) (CanJoin flying)
-may_join h c (Taken p) flying below few f = (below, omega (arith, f c, few))
-may_join h c w flying below few f = tt
-
 -- the count of the caller whose flight a page leaves isn't 0
 pub may_leave : (shape : Shape) (h : History) (c : ℕ) (w : What) (flying : List ℕ) (o : Option ℕ) → IsLegal shape h → Fits shape h (by c w) →
     o ≡ leaves_of h c w → ((d : ℕ) → slice_index_or flying d 0 ≡ length (flight h d)) → IfSome o (CanLeave flying)

@@ -32,9 +32,6 @@ none_counted planes =
 pub none_mapped : (planes : List (List Bool)) → set_of (λ i. false) ≡ set_of (λ i. nat_lt 0 (count_in planes 0 i))
 none_mapped planes = set_of-ext _ _ (λ i below. sym (ap (λ m. nat_lt 0 m) (no_planes planes i)))
 
-pub none_mapped_in : (planes : List (List Bool)) (n : ℕ) → n ≡ 0 → set_of (λ i. false) ≡ set_of (λ i. nat_lt 0 (count_in planes n i))
-none_mapped_in planes n e = none_mapped planes ∙ set_of-ext _ _ (λ i below. ap (λ m. nat_lt 0 (count_in planes m i)) (sym e))
-
 -- whether a subpage is in the set beside the planes
 pub mapped_at : (planes : List (List Bool)) (n i : ℕ) (mapped : List Bool) → mapped ≡ set_of (λ j. nat_lt 0 (count_in planes n j)) → i < 512 → has mapped i ≡ nat_lt 0 (count_in planes n i)
 mapped_at planes n i mapped e below = ap (λ s. has s i) e ∙ get_or-set_of (λ j. nat_lt 0 (count_in planes n j)) i below

@@ -19,11 +19,3 @@ slot_at-inside t b x is = elim (cases_lt b (length t.slots)) [
   | inl inside ↦ inside
   | inr past ↦ (let none : slot_at t b ≡ None = get_or_past t.slots b None past in absurd (cc (is, none)))
 ]
-
--- a new table has nothing in any block
-pub slot_at-new : (t : Table) (n b : ℕ) → t.slots ≡ replicate n None → slot_at t b ≡ None
-slot_at-new t n b empty = ap (λ (os : List (Option Slot)). get_or os b None) empty ∙ go n b where
-  go : (k i : ℕ) → ◌≡◌ {A = Option Slot} (get_or (replicate k None) i None) None
-  go zero i = refl
-  go (suc k) zero = refl
-  go (suc k) (suc i) = go k i

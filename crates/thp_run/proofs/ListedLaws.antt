@@ -13,10 +13,6 @@ use Rattle.thp_worker.specs.Sections.{Works}
 use Rattle.thp_script.specs.declared.script.Command.{Command}
 use Rattle.thp_run.specs.Listed.{WorkedList, WorksOn}
 
--- a log by what contracts see of it
-pub log_is : (log : LogState) (items : List Answer) (are : Answers) (room : ℕ) → log.items ≡ items → log.are ≡ are → log.room ≡ room → log ≡ record { items = items; are = are; room = room }
-log_is log items are room a b c = rw (← a, ← b, ← c) refl
-
 -- one answer more behind those that were had
 pub one_more : (front all : List Answer) (place : ℕ) (answer : Answer) → front ++ drop place all ≡ all → slice_get all place ≡ Some answer → (front ++ answer ∷ []) ++ drop (place + 1) all ≡ all
 one_more front all place answer had is =

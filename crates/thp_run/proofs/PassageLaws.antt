@@ -91,9 +91,3 @@ not_run_ends s known old rf wf (Text line kind) r n f is =
 not_run_ends s known old rf wf OutOfMemory r n f is = rw is (keeps_same old, n, f)
 not_run_ends s known old rf wf Read r n f is = rw is (keeps_same old, n, f)
 not_run_ends s known old rf wf Write r n f is = absurd n
-
-pub not_run_writes : (s : Settings) (known : Option (List ℕ)) (reader_failed writer_failed : Bool) (fault : RunFault) (calls : List DeviceCall) (r : Result (Unit {0}) RunFault) → EndsBeforeRun s known reader_failed fault → r ≡ Err fault → WritesAnswer r writer_failed calls calls
-not_run_writes s known rf wf (Text line kind) calls r n is = rw is refl
-not_run_writes s known rf wf OutOfMemory calls r n is = rw is refl
-not_run_writes s known rf wf Read calls r n is = rw is refl
-not_run_writes s known rf wf Write calls r n is = absurd n

@@ -161,10 +161,6 @@ module _ (first f g : Fronts) (workers : List (Vec Command Global)) (v : Vec Com
           let has = has_worker first f (length workers) k r.goes all callers hi in
           works_from k old old f g commands x (record { cells = refl; nodes = refl; shape = refl; callers = refl }) (λ n. refl) (λ n. refl) (same_nodes f g goes.same) goes.grown (record { part = λ n. goes.others k n has other; batches = λ n. goes.others_batches k n other }) was
 
-pub rest_end : (first f : Fronts) (workers : List (Vec Command Global)) (started done rest : List SectionOutcome) → RestDone first f workers started done rest → length rest ≡ 0 → (old : Fronts) → AllWork 1 old first workers started → AllWork 1 old f workers done
-rest_end first f workers started done [] r none old a = subst (AllWork 1 old f workers) (append-nil done) (r.work old a)
-rest_end first f workers started done (w ∷ rest) r none old a = absurd (omega (arith, none))
-
 pub rest_ordered : (first f : Fronts) (workers : List (Vec Command Global)) (started done rest : List SectionOutcome) → RestDone first f workers started done rest → length rest ≡ 0 → InOrder 1 first f workers started done
 unfolding InOrder
 rest_ordered first f workers started done [] r none =

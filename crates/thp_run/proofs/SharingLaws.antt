@@ -35,10 +35,6 @@ use Rattle.thp_run.proofs.RunLaws.{run_of}
 all_at : {A : Type 0} (P : A → Type 0) (xs : List A) (n : ℕ) (x : A) → All P xs → slice_get xs n ≡ Some x → P x
 all_at P xs n x all at = subst P (get_or_from_slice_get xs n x x at) (all n x (slice_get_within xs n x at))
 
--- a new pass of all callers
-pub root_new : (callers : ℕ) (node : NodeState) (p : PassState) → p.callers ≡ callers → HasAll p → p.shape ≡ node.shape → p.front ≡ node.journal → IsRoot callers node p
-root_new callers node p count all shape front = record { whole = record { callers_are = count; first_is = all.from; end_is = all.to ∙ count }; shape = shape; front = front }
-
 -- passes of nodes on which nothing happened
 pub roots_fresh : (callers : ℕ) (nodes : List NodeState) (ps : List PassState) → Pairs (IsRoot callers) nodes ps → All (λ (node : NodeState). node.journal ≡ []) nodes → All (IsFresh callers) ps
 unfolding Pairs
@@ -127,9 +123,6 @@ runs_on callers ps held q script sections pairs fresh count agree r =
             end_is = of.end_is ∙ same.end ∙ start.end ∙ count;
           });
     }
-
-pub whole_all : (callers : ℕ) (ps : List PassState) → All (IsWhole callers) ps → All HasAll ps
-whole_all callers ps whole = λ k d lt. let one = whole k d lt in record { from = one.first_is; to = one.end_is ∙ sym one.callers_are }
 
 -- ---- scripts
 

@@ -43,17 +43,6 @@ pub first_is : (text : Text) (b : ℕ) → 1 ≤ length text → get_or text 0 0
 first_is [] b some e = absurd (omega arith)
 first_is (byte ∷ text) b some e = let rest : suc (length text) - 1 ≡ length text = omega arith in rw (rest, take-length text, e) refl
 
--- a name that is read byte by byte, and a space behind it
-pub name_stands : (name text : Text) → length name < length text → ((i : ℕ) → i < length name → get_or text i 0 ≡ get_or name i 0) → get_or text (length name) 0 ≡ 32
-    → text ≡ name ++ 32 ∷ take (length text - (length name + 1)) (drop (length name + 1) text)
-name_stands name text lt reads space =
-    let behind : drop (length name) text ≡ 32 ∷ drop (suc (length name)) text = rw (drop-cons text (length name) 0 lt, space) refl in
-    let more : length name + 1 ≡ suc (length name) = omega arith in
-    let whole : take (length text - suc (length name)) (drop (suc (length name)) text) ≡ drop (suc (length name)) text =
-    rw (← length-drop (suc (length name)) text) (take-length (drop (suc (length name)) text))
-    in
-    front_from_reads 0 text name (omega arith) reads ∙ rw (more, whole, behind) refl
-
 -- ---- numbers
 
 -- the text begins with digits that write this value, a zero not first, and goes on with `rest`
@@ -64,16 +53,6 @@ pub record FastDigits (text : Text) (value : ℕ) (rest : Text) : Type 0 where
   pub digits : list_all is_ascii_digit (first ∷ others) ≡ true
   pub no_zero : (first == 48) ≡ false
   pub value_is : value ≡ digits_value 10 (first ∷ others)
-
-pub digits_begin : (text : Text) (first value : ℕ) (rest : Text) → text ≡ first ∷ rest → (first == 48) ≡ false → is_ascii_digit first ≡ true → value ≡ digit_value first → FastDigits text value rest
-digits_begin text first value rest e no-zero digit is = record {
-  first = first;
-  others = [];
-  stands = e;
-  digits = and_from (is_ascii_digit first) true digit refl;
-  no_zero = no-zero;
-  value_is = is ∙ omega arith;
-}
 
 pub digits_go_on : (text rest after : Text) (before value byte : ℕ) → FastDigits text before rest → rest ≡ byte ∷ after → is_ascii_digit byte ≡ true → value ≡ before * 10 + digit_value byte → FastDigits text value after
 digits_go_on text rest after before value byte d e digit is = record {

@@ -25,14 +25,6 @@ abbrev pub behind : {A : Type 0} → List A → Option (List A) → Option (List
 behind before None = None
 behind before (Some xs) = Some (before ++ xs)
 
-pub after_nothing : {A : Type 0} (read : Option (List A)) → read ≡ behind [] read
-after_nothing None = refl
-after_nothing (Some xs) = refl
-
-pub after_item : {A : Type 0} (before : List A) (x : A) (read : Option (List A)) → behind before (in_front (Some x) read) ≡ behind (before ++ x ∷ []) read
-after_item before x None = refl
-after_item before x (Some xs) = ap (λ ys. Some ys) (sym (append_assoc before (x ∷ []) xs))
-
 module _ {A : Type 0} (read : Text → Option A) (text : Text) where
   pub list_fails : all_read read (items_of text) ≡ None → list_in read text ≡ None
   unfolding list_in

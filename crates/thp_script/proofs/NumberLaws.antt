@@ -77,10 +77,6 @@ no_value word i n d lt whole none has =
     let digit : is_ascii_digit (get_or word i d) ≡ true = true_from_ne_false _ (λ other. let bad : false ≡ true = sym (list_all_at is_ascii_digit word i d lt other) ∙ has.0 in absurd cc) in
     none (digit, omega (arith, le, has.1))
 
--- and without digits that are left it is the whole
-pub value_at_end : (word : Text) (i n : ℕ) → length word ≤ i → digits_value_after 10 n (drop i word) ≡ digits_value 10 word → n ≡ digits_value 10 word
-value_at_end word i n le whole = rw (drop_of_length-le word le) at whole
-
 -- a number's decimal text is read as that number
 pub number_of-decimal : (most n : ℕ) → n ≤ most → most < 2 ^ 64 → number_of most (decimal n) ≡ Some n
 number_of-decimal most n le lt =

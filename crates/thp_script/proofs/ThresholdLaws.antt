@@ -6,12 +6,6 @@ use Rattle.std.proofs.lemmas.List.{get_or-append_right, get_or-drop, length-appe
 use Rattle.std.proofs.Math.ListN.{get_or-append}
 use Rattle.thp_script.specs.Settings.{is_order, AreLow}
 
--- where each order fits, so does the one at a place
-pub order_at : (orders : List ℕ) (k : ℕ) → list_all is_order orders ≡ true → k < length orders → is_order (get_or orders k 0) ≡ true
-order_at [] k fit lt = absurd (omega arith)
-order_at (order ∷ orders) zero fit lt = (and_parts (is_order order) (list_all is_order orders) fit).0
-order_at (order ∷ orders) (suc k) fit lt = order_at orders k (and_parts (is_order order) (list_all is_order orders) fit).1 (omega arith)
-
 -- orders that are left fit, too
 pub orders_left : (n : ℕ) (orders : List ℕ) → list_all is_order orders ≡ true → list_all is_order (drop n orders) ≡ true
 orders_left zero orders fit = fit

@@ -1,6 +1,6 @@
 use Rattle.std.proofs.Common.{◌∙◌, ap, arith}
 use Rattle.thp_page.specs.Planes.{counts_in}
-use Rattle.thp_page.proofs.Seen.{none_counted, none_mapped_in}
+use Rattle.thp_page.proofs.Seen.{none_counted}
 use Rattle.thp_page.proofs.map_counts.MapCounts.none.Goals as goal
 
 pub returns : goal.returns

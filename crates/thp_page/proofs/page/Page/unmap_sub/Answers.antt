@@ -1,7 +1,7 @@
 use Rattle.std.proofs.Common.{ap₂, sym, ◌∙◌, subst}
 use Rattle.thp_model.specs.Refusals as call
 use Rattle.thp_model.specs.Pages.{page_refusal, RangeUnmapped}
-use Rattle.thp_model.proofs.Narrowing.{page_unmap_sub, page_unmap_sub-whole}
+use Rattle.thp_model.proofs.Narrowing.{page_unmap_sub}
 use Rattle.thp_page.proofs.page.Page.unmap_sub.Goals as goal
 
 pub returns-in-Ok-clause-refusal : goal.returns-in-Ok-clause-refusal
