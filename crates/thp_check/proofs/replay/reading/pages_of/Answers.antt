@@ -2,9 +2,6 @@ use Rattle.std.proofs.Common.{◌∙◌}
 use Rattle.thp_check.proofs.Showing.{got, number_is, pages_more}
 use Rattle.thp_check.proofs.replay.reading.pages_of.Goals as goal
 
-pub number-requires : goal.number-requires
-number-requires c = c.requires c.loop-block.block-index _ (got c.args.blocks.now c.loop-block.block-index 0 c.loop-block-test.true)
-
 pub loop-block-preserved : goal.loop-block-preserved
 loop-block-preserved c =
     c.in_ok-push.ensures.items
