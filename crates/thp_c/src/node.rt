@@ -11,8 +11,8 @@ ghost use Rattle.thp_journal_writer.specs.Journals.{journal_text};
 
 use std::alloc::Global;
 use thp_capi::{
-    Events, Fault, HeldEngine, ThpBack, ThpNode, ThpScan, ThpStats, ThpTried, code, on_node,
-    put_text, report,
+    Events, Fault, Held, ThpBack, ThpNode, ThpScan, ThpStats, ThpTried, code, on_node, put_text,
+    report,
 };
 use thp_model::{Refusal, What};
 
@@ -221,8 +221,8 @@ pub extern "C" fn thp_c_node_journal(
         return code(Err(Fault::Empty));
     };
     let text = match &*engine {
-        HeldEngine::Kept(engine) => Some(engine.text(alloc)),
-        HeldEngine::Counted(_) => None,
+        Held::Kept(engine) => Some(engine.text(alloc)),
+        Held::Counted(_) => None,
     };
     handle.store(engine);
     match text {

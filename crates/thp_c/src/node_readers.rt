@@ -5,7 +5,7 @@ ghost use Rattle.thp_capi.specs.Held.{Does, DoesIfKept};
 ghost use Rattle.thp_capi.specs.Reading.{MapcountCall, PageCall, QueueCall};
 
 use std::alloc::Global;
-use thp_capi::{Fault, HeldEngine, ThpNode, ThpPageState, code, on_node, report};
+use thp_capi::{Fault, Held, ThpNode, ThpPageState, code, on_node, report};
 use thp_model::PageId;
 
 /// Stores the state of a live page in `state`.
@@ -62,8 +62,8 @@ pub extern "C" fn thp_c_node_queue(
         return code(Err(Fault::Empty));
     };
     let length = match &*engine {
-        HeldEngine::Kept(engine) => Ok(engine.queue(pages)),
-        HeldEngine::Counted(_) => Err(Fault::NoJournal),
+        Held::Kept(engine) => Ok(engine.queue(pages)),
+        Held::Counted(_) => Err(Fault::NoJournal),
     };
     handle.store(engine);
     report(length, count)

@@ -5,7 +5,7 @@ ghost use Rattle.thp_capi.specs.Calls.{LoseCall, OneCall};
 ghost use Rattle.thp_capi.specs.Codes.{answer_of, answer_with, IsCode};
 ghost use Rattle.thp_capi.specs.Held.{Does};
 ghost use Rattle.thp_capi.specs.Rooms.{value_of};
-ghost use Rattle.thp_capi.specs.Passes.{PassDoes, PassOne, PassLost};
+ghost use Rattle.thp_capi.specs.Passes.{PassOne, PassLost};
 
 use std::alloc::Global;
 use thp_capi::{ThpDone, ThpNode, ThpPass};
@@ -166,7 +166,7 @@ pub extern "C" fn thp_c_pass_map_whole(
     caller: u32,
     page: u64,
 ) -> u32
-    ensures does { PassDoes (value_of handle.old.held) (value_of handle.new.held) (answer_of result) (PassOne caller (call.map_whole page) (What.MapWhole page)) }
+    ensures does { Does (value_of handle.old.held) (value_of handle.new.held) (answer_of result) (PassOne caller (call.map_whole page) (What.MapWhole page)) }
     ensures known { IsCode result }
 {
     thp_capi::pass_gain(handle, alloc, caller, page, Gain::MapWhole)
@@ -182,7 +182,7 @@ pub extern "C" fn thp_c_pass_map_sub(
     first: u32,
     count: u32,
 ) -> u32
-    ensures does { PassDoes (value_of handle.old.held) (value_of handle.new.held) (answer_of result) (PassOne caller (call.map_sub page first count) (What.MapSub page first count)) }
+    ensures does { Does (value_of handle.old.held) (value_of handle.new.held) (answer_of result) (PassOne caller (call.map_sub page first count) (What.MapSub page first count)) }
     ensures known { IsCode result }
 {
     let first = narrowed(first);
@@ -199,7 +199,7 @@ pub extern "C" fn thp_c_pass_split_pmd(
     caller: u32,
     page: u64,
 ) -> u32
-    ensures does { PassDoes (value_of handle.old.held) (value_of handle.new.held) (answer_of result) (PassOne caller (call.split_pmd page) (What.SplitPmd page)) }
+    ensures does { Does (value_of handle.old.held) (value_of handle.new.held) (answer_of result) (PassOne caller (call.split_pmd page) (What.SplitPmd page)) }
     ensures known { IsCode result }
 {
     thp_capi::pass_gain(handle, alloc, caller, page, Gain::SplitPmd)
@@ -208,7 +208,7 @@ pub extern "C" fn thp_c_pass_split_pmd(
 /// Adds a pin to the page.
 #[unsafe(no_mangle)]
 pub extern "C" fn thp_c_pass_pin(handle: &mut ThpPass, alloc: Global, caller: u32, page: u64) -> u32
-    ensures does { PassDoes (value_of handle.old.held) (value_of handle.new.held) (answer_of result) (PassOne caller (call.pin page) (What.Pin page)) }
+    ensures does { Does (value_of handle.old.held) (value_of handle.new.held) (answer_of result) (PassOne caller (call.pin page) (What.Pin page)) }
     ensures known { IsCode result }
 {
     thp_capi::pass_gain(handle, alloc, caller, page, Gain::Pin)
@@ -224,7 +224,7 @@ pub extern "C" fn thp_c_pass_write(
     first: u32,
     count: u32,
 ) -> u32
-    ensures does { PassDoes (value_of handle.old.held) (value_of handle.new.held) (answer_of result) (PassOne caller (call.write page first count) (What.Write page first count)) }
+    ensures does { Does (value_of handle.old.held) (value_of handle.new.held) (answer_of result) (PassOne caller (call.write page first count) (What.Write page first count)) }
     ensures known { IsCode result }
 {
     let first = narrowed(first);
@@ -243,7 +243,7 @@ pub extern "C" fn thp_c_pass_zero(
     first: u32,
     count: u32,
 ) -> u32
-    ensures does { PassDoes (value_of handle.old.held) (value_of handle.new.held) (answer_of result) (PassOne caller (call.zero_fill page first count) (What.Zero page first count)) }
+    ensures does { Does (value_of handle.old.held) (value_of handle.new.held) (answer_of result) (PassOne caller (call.zero_fill page first count) (What.Zero page first count)) }
     ensures known { IsCode result }
 {
     let first = narrowed(first);
@@ -261,7 +261,7 @@ pub extern "C" fn thp_c_pass_unmap_whole(
     page: u64,
     done: &mut ThpDone,
 ) -> u32
-    ensures does { PassDoes (value_of handle.old.held) (value_of handle.new.held) (answer_of result) (λ old new answer. PassLost caller (call.unmap_whole page) page (λ o released. What.UnmapWhole o page released) old new (answer_with answer done.new)) }
+    ensures does { Does (value_of handle.old.held) (value_of handle.new.held) (answer_of result) (λ old new answer. PassLost caller (call.unmap_whole page) page (λ o released. What.UnmapWhole o page released) old new (answer_with answer done.new)) }
     ensures known { IsCode result }
     ensures kept { OnErr (answer_of result) (done.new ≡ done.old) }
 {
@@ -279,7 +279,7 @@ pub extern "C" fn thp_c_pass_unmap_sub(
     count: u32,
     done: &mut ThpDone,
 ) -> u32
-    ensures does { PassDoes (value_of handle.old.held) (value_of handle.new.held) (answer_of result) (λ old new answer. PassLost caller (call.unmap_sub page first count) page (λ o released. What.UnmapSub o page first count released) old new (answer_with answer done.new)) }
+    ensures does { Does (value_of handle.old.held) (value_of handle.new.held) (answer_of result) (λ old new answer. PassLost caller (call.unmap_sub page first count) page (λ o released. What.UnmapSub o page first count released) old new (answer_with answer done.new)) }
     ensures known { IsCode result }
     ensures kept { OnErr (answer_of result) (done.new ≡ done.old) }
 {
@@ -298,7 +298,7 @@ pub extern "C" fn thp_c_pass_unpin(
     page: u64,
     done: &mut ThpDone,
 ) -> u32
-    ensures does { PassDoes (value_of handle.old.held) (value_of handle.new.held) (answer_of result) (λ old new answer. PassLost caller (call.unpin page) page (λ o released. What.Unpin o page released) old new (answer_with answer done.new)) }
+    ensures does { Does (value_of handle.old.held) (value_of handle.new.held) (answer_of result) (λ old new answer. PassLost caller (call.unpin page) page (λ o released. What.Unpin o page released) old new (answer_with answer done.new)) }
     ensures known { IsCode result }
     ensures kept { OnErr (answer_of result) (done.new ≡ done.old) }
 {

@@ -3,9 +3,9 @@ ghost use Rattle.std.specs.Prelude.{◌≡◌, None, OnOk, OnErr, IfErr, Ok};
 ghost use Rattle.thp_model.specs.Refusals as call;
 ghost use Rattle.thp_capi.specs.Codes.{answer_of, answer_with, IsCode};
 ghost use Rattle.thp_capi.specs.Engines.{shape_of};
-ghost use Rattle.thp_capi.specs.Held.{Emptied};
+ghost use Rattle.thp_capi.specs.Held.{Does, Emptied};
 ghost use Rattle.thp_capi.specs.Rooms.{value_of};
-ghost use Rattle.thp_capi.specs.Passes.{PassDoes, PassOne, PassAlloc, PassScan, PassCount, CellMade, Divided, WhyUndivided, Joined, WhyApart, OneCellHeld, Finished, WhyUnfinished};
+ghost use Rattle.thp_capi.specs.Passes.{PassOne, PassAlloc, PassScan, PassCount, CellMade, Divided, WhyUndivided, Joined, WhyApart, OneCellHeld, Finished, WhyUnfinished};
 
 use std::alloc::Global;
 use thp_capi::{
@@ -190,7 +190,7 @@ pub extern "C" fn thp_c_pass_alloc(
     caller: u32,
     page: &mut u64,
 ) -> u32
-    ensures does { PassDoes (value_of handle.old.held) (value_of handle.new.held) (answer_of result) (λ old new answer. PassAlloc caller old new (answer_with answer page.new)) }
+    ensures does { Does (value_of handle.old.held) (value_of handle.new.held) (answer_of result) (λ old new answer. PassAlloc caller old new (answer_with answer page.new)) }
     ensures known { IsCode result }
     ensures kept { OnErr (answer_of result) (page.new ≡ page.old) }
 {
@@ -203,7 +203,7 @@ pub extern "C" fn thp_c_pass_alloc(
 /// Closes the node: no page is queued or allocated afterwards.
 #[unsafe(no_mangle)]
 pub extern "C" fn thp_c_pass_close(handle: &mut ThpPass, alloc: Global, caller: u32) -> u32
-    ensures does { PassDoes (value_of handle.old.held) (value_of handle.new.held) (answer_of result) (PassOne caller call.close What.Close) }
+    ensures does { Does (value_of handle.old.held) (value_of handle.new.held) (answer_of result) (PassOne caller call.close What.Close) }
     ensures known { IsCode result }
 {
     code(on_pass!(handle, alloc, pass => pass.close(caller)))
@@ -218,7 +218,7 @@ pub extern "C" fn thp_c_pass_scan(
     n: u32,
     scan: &mut ThpScan,
 ) -> u32
-    ensures does { PassDoes (value_of handle.old.held) (value_of handle.new.held) (answer_of result) (λ old new answer. PassScan caller n old new (answer_with answer scan.new)) }
+    ensures does { Does (value_of handle.old.held) (value_of handle.new.held) (answer_of result) (λ old new answer. PassScan caller n old new (answer_with answer scan.new)) }
     ensures known { IsCode result }
     ensures kept { OnErr (answer_of result) (scan.new ≡ scan.old) }
 {
@@ -228,7 +228,7 @@ pub extern "C" fn thp_c_pass_scan(
 /// Stores in `pages` the number of queued pages, even while another pass has the node.
 #[unsafe(no_mangle)]
 pub extern "C" fn thp_c_pass_count(handle: &mut ThpPass, alloc: Global, pages: &mut u32) -> u32
-    ensures does { PassDoes (value_of handle.old.held) (value_of handle.new.held) (answer_of result) (λ old new answer. (answer ≡ Ok tt) × PassCount pages.new old new) }
+    ensures does { Does (value_of handle.old.held) (value_of handle.new.held) (answer_of result) (λ old new answer. (answer ≡ Ok tt) × PassCount pages.new old new) }
     ensures known { IsCode result }
     ensures kept { OnErr (answer_of result) (pages.new ≡ pages.old) }
 {
@@ -244,7 +244,7 @@ pub extern "C" fn thp_c_pass_callers(
     first: &mut u32,
     end: &mut u32,
 ) -> u32
-    ensures does { PassDoes (value_of handle.old.held) (value_of handle.new.held) (answer_of result) (λ old new answer. (new ≡ old) × (answer ≡ Ok tt) × (first.new ≡ old.pass.first) × (end.new ≡ old.pass.end)) }
+    ensures does { Does (value_of handle.old.held) (value_of handle.new.held) (answer_of result) (λ old new answer. (new ≡ old) × (answer ≡ Ok tt) × (first.new ≡ old.pass.first) × (end.new ≡ old.pass.end)) }
     ensures known { IsCode result }
     ensures kept_first { OnErr (answer_of result) (first.new ≡ first.old) }
     ensures kept_end { OnErr (answer_of result) (end.new ≡ end.old) }

@@ -2,8 +2,8 @@
 ghost use Rattle.std.specs.Prelude.{◌≡◌, OnErr};
 ghost use Rattle.thp_capi.specs.PassBatches.{PassTake, PassNext, PassBack, PassAbandon};
 ghost use Rattle.thp_capi.specs.Codes.{answer_of, answer_with, IsCode};
+ghost use Rattle.thp_capi.specs.Held.{Does};
 ghost use Rattle.thp_capi.specs.Rooms.{value_of};
-ghost use Rattle.thp_capi.specs.Passes.{PassDoes};
 
 use std::alloc::Global;
 use thp_capi::{ThpBack, ThpPass, ThpTried, code, on_pass, report};
@@ -18,7 +18,7 @@ pub extern "C" fn thp_c_pass_take(
     n: u32,
     count: &mut u32,
 ) -> u32
-    ensures does { PassDoes (value_of handle.old.held) (value_of handle.new.held) (answer_of result) (λ old new answer. PassTake caller n old new (answer_with answer count.new)) }
+    ensures does { Does (value_of handle.old.held) (value_of handle.new.held) (answer_of result) (λ old new answer. PassTake caller n old new (answer_with answer count.new)) }
     ensures known { IsCode result }
     ensures kept { OnErr (answer_of result) (count.new ≡ count.old) }
 {
@@ -33,7 +33,7 @@ pub extern "C" fn thp_c_pass_split_next(
     caller: u32,
     tried: &mut ThpTried,
 ) -> u32
-    ensures does { PassDoes (value_of handle.old.held) (value_of handle.new.held) (answer_of result) (λ old new answer. PassNext caller old new (answer_with answer tried.new)) }
+    ensures does { Does (value_of handle.old.held) (value_of handle.new.held) (answer_of result) (λ old new answer. PassNext caller old new (answer_with answer tried.new)) }
     ensures known { IsCode result }
     ensures kept { OnErr (answer_of result) (tried.new ≡ tried.old) }
 {
@@ -51,7 +51,7 @@ pub extern "C" fn thp_c_pass_put_back(
     caller: u32,
     back: &mut ThpBack,
 ) -> u32
-    ensures does { PassDoes (value_of handle.old.held) (value_of handle.new.held) (answer_of result) (λ old new answer. PassBack caller old new (answer_with answer back.new)) }
+    ensures does { Does (value_of handle.old.held) (value_of handle.new.held) (answer_of result) (λ old new answer. PassBack caller old new (answer_with answer back.new)) }
     ensures known { IsCode result }
     ensures kept { OnErr (answer_of result) (back.new ≡ back.old) }
 {
@@ -61,7 +61,7 @@ pub extern "C" fn thp_c_pass_put_back(
 /// Discards the caller's open batch: its pages stay in the caller's flight, out of the queue.
 #[unsafe(no_mangle)]
 pub extern "C" fn thp_c_pass_abandon(handle: &mut ThpPass, alloc: Global, caller: u32) -> u32
-    ensures does { PassDoes (value_of handle.old.held) (value_of handle.new.held) (answer_of result) (PassAbandon caller) }
+    ensures does { Does (value_of handle.old.held) (value_of handle.new.held) (answer_of result) (PassAbandon caller) }
     ensures known { IsCode result }
 {
     code(on_pass!(handle, alloc, pass => pass.abandon(caller)))

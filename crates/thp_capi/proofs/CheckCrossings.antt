@@ -2,7 +2,6 @@
 use denote.Plain.{Nothing}
 use denote.Param.Send.{IsSend, view_send, owning_send, struct_send, sendable}
 use denote.Param.SendFields.{declared_send, variants_send}
-use denote.RattleType.{RattleType}
 use denote.Struct.Struct.{exits_of}
 use denote.Struct.Owning.{shape, fields, to}
 use Rattle.std.proofs.Crossing.{Box-send, Vec-send, crosses, send}
@@ -31,10 +30,11 @@ use Rattle.thp_journal_reader.specs.contracts.long_check.LongCheck as LongCheck
 use Rattle.thp_journal_reader.specs.contracts.long_check.LongCheck.TheInside as in_check
 use Rattle.thp_script.specs.contracts.text_in_parts.TextInParts as TextInParts
 use Rattle.thp_script.specs.contracts.text_in_parts.TextInParts.TheInside as in_text
-use Rattle.thp_capi.specs.contracts.room.Room as Room
+use Rattle.thp_capi.specs.Rows.{check_row}
 use Rattle.thp_capi.specs.contracts.check_handle.ThpCheck.{the_row, the_type}
 use Rattle.thp_capi.specs.contracts.check_stage.CheckStage as CheckStage
-use Rattle.thp_capi.proofs.Crossings.{boxed_send, past_send, places_send, words_send}
+use Rattle.thp_cell.proofs.Crossings.{places_send}
+use Rattle.thp_capi.proofs.Crossings.{boxed_send, past_send, room_send, words_send}
 
 free_send : IsSend FreeBlocks.the_row
 free_send = view_send in_free.the_row _ _ _ _ (declared_send in_free.the_type (search (sendable, crosses) depth 30, tt))
@@ -72,12 +72,6 @@ check_send = view_send in_check.the_row _ _ _ _ (declared_send in_check.the_type
 stage_send : IsSend CheckStage.the_row
 stage_send = variants_send CheckStage.enum ((check_send, tt), ((result.the_send _ _ (option.the_send _ illegal.the_send) fault.the_send, tt), tt))
 
-abbrev R : RattleType
-R = Room.the_row CheckStage.the_row
-
-room_send : IsSend R
-room_send = declared_send (Room.the_type CheckStage.the_row) (option.the_send _ stage_send, tt)
-
 -- a handle of a check may go to another thread
 pub check_handle_send : IsSend the_row
-check_handle_send = owning_send the_type words_send (λ d. (tt, boxed_send R room_send d.at d.held)) (λ k. quiet (to the_type) (exits_of k (fields the_type)) ((struct_send (shape the_type) words_send).leaving k))
+check_handle_send = owning_send the_type words_send (λ d. (tt, boxed_send check_row (room_send _ stage_send) d.at d.held)) (λ k. quiet (to the_type) (exits_of k (fields the_type)) ((struct_send (shape the_type) words_send).leaving k))

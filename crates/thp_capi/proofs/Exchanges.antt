@@ -4,9 +4,8 @@ use seplogic.Ra.Ura.{Ura}
 use mir.Syntax.{Body, Callee, Fn, Place, Step, Sym, Ty, assign, aggregate, copy, deref, field, local, mut, named, place, return, rv_opd, seq, tcons, tnil, ty_int, ty_named, ty_ptr, ty_ref, ty_struct, value_local, w32}
 use mir.Val.{Val, vptr}
 use base.Logic.{SProp, ent, emp, id⊢, sep}
-use base.Fml.{Fml, Lft, ftrue, flft}
+use base.Fml.{ftrue, flft}
 use base.Fraction.{full_share}
-use base.Stored.{Coded}
 use prog.Model.{Model}
 use prog.Wp.{WpFn, Closed}
 use types.Logic.{Logic}
@@ -17,14 +16,14 @@ use types.Part.{agg, sub, whole, look_in, store_in}
 use contract.Monad.{fact, fact_i}
 use contract.Running.{Running, tables}
 use denote.Builtin.{RefMutOf}
-use denote.Exit.{Exit, Kept, yes}
+use denote.Exit.{yes}
 use denote.Memory.{cell_at}
 use denote.RattleType.{RattleType, owns}
 use denote.RawPtr.{Ptr}
 use denote.Signature.{types_at, plain}
 use denote.Steps.{nothing, opens, closes}
 use denote.Struct.Field.{RawPtr-field, u32-field}
-use denote.Struct.Owning.{row}
+use denote.Struct.Owning.{Owning, row}
 use denote.Triple.Clauses.{Clauses, Ended, closing}
 use denote.Triple.Spec.{Meets}
 use denote.Triple.Walked.{Stays, stay_dropped, stay_ref, walk_of, Goes-dropped, Goes-ref}
@@ -38,22 +37,18 @@ use Rattle.thp_capi.proofs.Handles.{words, words_good, handle_at, handle_out, ha
 -- a handle that C sees: a struct of a pointer and a mark, which holds a value of R or nothing
 pub record Seen : Type 2 where
   pub R : RattleType
-  pub name : Sym
-  pub D : Type 0
-  pub at : D → Ptr
-  pub live : D → ℕ
-  pub held : D → Option R.Denot
-  pub make : Ptr → ℕ → Option R.Denot → D
+  pub type : Owning
+  pub at : type.D → Ptr
+  pub live : type.D → ℕ
+  pub held : type.D → Option R.Denot
+  pub make : Ptr → ℕ → Option R.Denot → type.D
   pub at_is : (p : Ptr) (n : ℕ) (v : Option R.Denot) → p ≡ at (make p n v)
   pub live_is : (p : Ptr) (n : ℕ) (v : Option R.Denot) → n ≡ live (make p n v)
   pub held_is : (p : Ptr) (n : ℕ) (v : Option R.Denot) → v ≡ held (make p n v)
-  pub coded : Coded D
-  pub exit : Kept → Exit D
-  pub shr_at : D → ℕ → ℕ → Lft → Fml
 
 module _ (X : Seen) where
   abbrev S : RattleType
-  S = row (record { name = X.name; args = []; types = []; parts = RawPtr-field ∷ u32-field ∷ []; D = X.D; as_values = λ d. (X.at d, (X.live d, tt)); coded = X.coded; heap = λ d. handle_owns X.R (X.at d) (X.live d) (X.held d); exit = X.exit; shr_at = X.shr_at })
+  S = row (record { name = X.type.name; args = []; types = []; parts = RawPtr-field ∷ u32-field ∷ []; D = X.type.D; as_values = λ d. (X.at d, (X.live d, tt)); coded = X.type.coded; heap = λ d. handle_owns X.R (X.at d) (X.live d) (X.held d); exit = X.type.exit; shr_at = X.type.shr_at })
 
   abbrev C : RattleType
   C = handle.the_row X.R
@@ -66,7 +61,7 @@ module _ (X : Seen) where
   own = laid (handle.the_type X.R).name
 
   abbrev behind : Step → Place
-  behind s = place 1 (deref (laid X.name) ∷ s ∷ [])
+  behind s = place 1 (deref (laid X.type.name) ∷ s ∷ [])
 
   abbrev sets_to : Place → Place → Body
   sets_to to from = assign to (rv_opd (copy from))
@@ -78,7 +73,7 @@ module _ (X : Seen) where
     ty_params = [];
     givens = 0;
     params = 2;
-    locals = local own value_local ∷ local (ty_ref (named 0) mut (ty_named (X.name, []) tnil)) value_local ∷ local own value_local ∷ local ty_ptr value_local ∷ local (ty_int w32) value_local
+    locals = local own value_local ∷ local (ty_ref (named 0) mut (ty_named (X.type.name, []) tnil)) value_local ∷ local own value_local ∷ local ty_ptr value_local ∷ local (ty_int w32) value_local
         ∷ local own value_local ∷ local ty_ptr value_local ∷ local ty_ptr value_local ∷ local (ty_int w32) value_local ∷ [];
     body = seq (sets_to (place 3 []) (place 2 (field 0 ∷ []))) (seq (sets_to (place 4 []) (place 2 (field 1 ∷ [])))
         (seq (sets_to (place 6 []) (behind (field 0))) (seq (sets_to (place 7 []) (place 6 [])) (seq (sets_to (place 8 []) (behind (field 1)))
@@ -102,7 +97,7 @@ module _ (X : Seen) where
       let κs = z.0.0 in let qs = z.0.1 in let r = z.0.3.0 in let b = r.ref_ptr.0 in let o = r.ref_ptr.1 in let old = r.now in let new = z.0.3.1.0 in
       let Post : Val → SProp 𝓤 = (walk_of 𝓛 ended hs c).post z in let Run : List Val → SProp 𝓤 = λ ws. WpFn 𝓤 H 𝓣.C 𝓣.Λ function ws Post in
       let w : Val = words new.at new.live in let out : Val = words (X.at old) (X.live old) in
-      let now : X.D = X.make new.at new.live new.held in let was : C.Denot = record { at = X.at old; live = X.live old; held = X.held old } in let kept : X.held now ≡ new.held = sym (X.held_is new.at new.live new.held) in
+      let now : X.type.D = X.make new.at new.live new.held in let was : C.Denot = record { at = X.at old; live = X.live old; held = X.held old } in let kept : X.held now ≡ new.held = sym (X.held_is new.at new.live new.held) in
       qed 𝓛 (((‵ (flft κs.0 qs.0) ⊛ ‵ ftrue) ⊛ ‵ (owns (types_at ended.signature.params κs) z.0.3 z.0.4)) ∷ raw ((c κs z.0.3).requires z.1) ∷ []) ∵
       split ! $ split ! $ move ! (2 ∷ []) $ fsplit3 ! $ fsplit3 ! $ feq_l ! (λ e. move ! (2 ∷ []) $ handle_out R ! new.at new.live new.held z.0.4.1.0 (λ ws small flagged.
       -- [what the new one owns; two parts of self; true; the token]

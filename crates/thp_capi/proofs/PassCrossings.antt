@@ -1,6 +1,6 @@
 -- A handle of a pass may go to another thread, as what it leads to may: a pass, a share of its cell, and open batches.
 use denote.Param.Send.{IsSend, view_send, owning_send, struct_send, sendable}
-use denote.Param.SendFields.{declared_send, variants_send}
+use denote.Param.SendFields.{declared_send}
 use denote.RattleType.{RattleType}
 use mir.Syntax.{Dict}
 use denote.Struct.Struct.{exits_of}
@@ -21,13 +21,13 @@ use Rattle.thp_cell.specs.contracts.rule.SeatKnowledge as SeatKnowledge
 use Rattle.thp_cell.specs.contracts.rule.Key as Key
 use Rattle.thp_cell.specs.contracts.rule.CellRule as CellRule
 use Rattle.thp_cell.specs.contracts.rule.CellRuleTableRuleNodeSeatKnowledgeKey.TheImpl as rule
-use Rattle.thp_cell.proofs.Crossings.{batch_send, cell_sync, pass_send}
+use Rattle.thp_cell.proofs.Crossings.{batch_send, cell_sync, kept_send, node_send, pass_send}
+use Rattle.thp_capi.specs.Rows.{counted_pass, kept_pass, pass_row}
 use Rattle.thp_capi.specs.contracts.shared_pass.SharedPass as SharedPass
 use Rattle.thp_capi.specs.contracts.shared_pass.SharedPass.TheInside as in_shared
-use Rattle.thp_capi.specs.contracts.held.HeldPass as HeldPass
-use Rattle.thp_capi.specs.contracts.room.Room as Room
+use Rattle.thp_capi.specs.contracts.held.Held as held
 use Rattle.thp_capi.specs.contracts.pass_handle.ThpPass.{the_row, the_type}
-use Rattle.thp_capi.proofs.Crossings.{boxed_send, counted_send, kept_send, node_send, words_send}
+use Rattle.thp_capi.proofs.Crossings.{boxed_send, counted_send, held_send, room_send, words_send}
 
 -- where a recorder may go to another thread, a pass of a cell of its node may
 module _ (d e : Dict) (T : RattleType) (R : Ghosts T.Denot) (recorder_send : IsSend T) where
@@ -37,15 +37,9 @@ module _ (d e : Dict) (T : RattleType) (R : Ghosts T.Denot) (recorder_send : IsS
   shared_send : IsSend (SharedPass.the_row T R)
   shared_send = view_send (in_shared.the_row T R) _ _ _ _ (declared_send (in_shared.the_type T R) (Arc-send _ cell_send (cell_sync d e T R recorder_send), (pass_send d e T R recorder_send, (Vec-send _ (option.the_send _ batch_send), (search sendable, (search sendable, tt))))))
 
-held_send : IsSend HeldPass.the_row
-held_send = variants_send HeldPass.enum ((shared_send keeps.dict keeps.dict _ _ kept_send, tt), ((shared_send counts.dict counts.dict _ _ counted_send, tt), tt))
-
-abbrev R : RattleType
-R = Room.the_row HeldPass.the_row
-
-room_send : IsSend R
-room_send = declared_send (Room.the_type HeldPass.the_row) (option.the_send _ held_send, tt)
+content_send : IsSend pass_row
+content_send = room_send (held.the_row kept_pass counted_pass) (held_send kept_pass counted_pass (shared_send keeps.dict keeps.dict _ _ kept_send) (shared_send counts.dict counts.dict _ _ counted_send))
 
 -- a handle of a pass may go to another thread
 pub pass_handle_send : IsSend the_row
-pass_handle_send = owning_send the_type words_send (λ d. (tt, boxed_send R room_send d.at d.held)) (λ k. quiet (to the_type) (exits_of k (fields the_type)) ((struct_send (shape the_type) words_send).leaving k))
+pass_handle_send = owning_send the_type words_send (λ d. (tt, boxed_send pass_row content_send d.at d.held)) (λ k. quiet (to the_type) (exits_of k (fields the_type)) ((struct_send (shape the_type) words_send).leaving k))

@@ -9,6 +9,7 @@ pub mod Reading
 pub mod Joining
 pub mod Handles
 pub mod Rooms
+pub mod Rows
 pub mod Sharing
 pub mod Passes
 pub mod PassBatches

@@ -16,14 +16,11 @@ use Rattle.thp_cell.specs.Says.{DidOne, DidAlloc, DidLose, DidScan}
 use Rattle.thp_cell.specs.Views.{PassState, HasCaller, HasAll}
 use Rattle.thp_capi.specs.Codes.{Answer}
 use Rattle.thp_capi.specs.Engines.{EngineState, NoneOpen}
+use Rattle.thp_capi.specs.Held.{Filled, HeldEngine, HeldPass, events_in, held_value}
 use Rattle.thp_capi.specs.Replies.{MasksSet, outcome_number, scan_of}
 use Rattle.thp_capi.specs.Sharing.{SharedState, OnlyFront, IsPart, IsShut, HasOpen, OpenStay}
 use Rattle.thp_capi.specs.declared.held.Events.{Events}
-use Rattle.thp_capi.specs.declared.held.Events.TheVariants as events
-use Rattle.thp_capi.specs.declared.held.HeldEngine.{HeldEngine}
-use Rattle.thp_capi.specs.declared.held.HeldEngine.TheVariants as engine
-use Rattle.thp_capi.specs.declared.held.HeldPass.{HeldPass}
-use Rattle.thp_capi.specs.declared.held.HeldPass.TheVariants.{Kept, Counted}
+use Rattle.thp_capi.specs.declared.held.Held.TheVariants.{Kept, Counted}
 use Rattle.thp_capi.specs.declared.codes.Fault.{Fault}
 use Rattle.thp_capi.specs.declared.codes.Fault.TheVariants.{Refused as RefusedWith, BadCaller, BadCount, BadPass, BadSize, BatchOpen, Busy, Empty, InUse}
 use Rattle.thp_capi.specs.declared.replies.ThpDone.{ThpDone}
@@ -79,24 +76,9 @@ PassCount pages old new =
     × Follows old.pass new.pass
     × (pages ≡ length (queue new.pass.shape new.pass.front))
 
--- ---- what a handle holds
-
--- the pass, whatever becomes of the events of its cell's node
-abbrev pub pass_in : HeldPass → SharedState
-pass_in (Kept s) = s
-pass_in (Counted s) = s
-
--- what becomes of the events of its cell's node
-abbrev pub pass_events : HeldPass → Events
-pass_events (Kept s) = events.Kept
-pass_events (Counted s) = events.Counted
-
 -- the node's pages have an order within the limits
 abbrev pub IsLowShared : SharedState → Type 0
 IsLowShared s = s.pass.shape.order ≤ max_order
-
-abbrev pub IsLowPass : HeldPass → Type 0
-IsLowPass held = IsLowShared (pass_in held)
 
 -- ---- passes that are divided and joined, and the end of a cell
 
@@ -134,20 +116,10 @@ AdjoinHeld _ _ = ⊥
 
 -- ---- the contents of the handles, before and after a call
 
--- a call on a handle that is not empty has the effect P; on an empty handle it reports that
-abbrev pub PassDoes : Option HeldPass → Option HeldPass → Answer → (SharedState → SharedState → Answer → Type 0) → Type 0
-PassDoes None None answer P = answer ≡ Err Empty
-PassDoes (Some (Kept old)) (Some (Kept new)) answer P = P old new answer
-PassDoes (Some (Counted old)) (Some (Counted new)) answer P = P old new answer
-PassDoes _ _ answer P = ⊥
-
--- the pass of all callers of a new cell, with this mark and no open batch; or the reason why the handle stays empty; or the
--- handle was not empty
+-- the pass of all callers of a new cell, with this mark and no open batch
 abbrev pub CellMade : Option HeldPass → Option HeldPass → Shape → Events → ℕ → ℕ → Answer → Type 0
-CellMade None (Some new) s are callers mark answer = (answer ≡ Ok tt) × (pass_events new ≡ are) × IsNewPass s callers (pass_in new).pass × IsShut (pass_in new) × ((pass_in new).mark ≡ mark) × IsCellSize s callers
-CellMade None None s are callers mark answer = ((answer ≡ Err BadSize) × (IsCellSize s callers → ⊥)) ⊎ (answer ≡ Err (RefusedWith OutOfMemory))
-CellMade (Some old) (Some new) s are callers mark answer = (new ≡ old) × (answer ≡ Err InUse)
-CellMade (Some old) None s are callers mark answer = ⊥
+CellMade old new s are callers mark answer =
+    Filled old new (λ held. (events_in held ≡ are) × IsNewPass s callers (held_value held).pass × IsShut (held_value held) × ((held_value held).mark ≡ mark)) (IsCellSize s callers) answer
 
 -- the callers below `at` stay, and those from `at` on are another pass's, each with its open batch
 abbrev pub Parts : ℕ → SharedState → SharedState → SharedState → Type 0
@@ -162,7 +134,7 @@ Divided at _ _ _ = ⊥
 abbrev pub WhyUndivided : ℕ → Option HeldPass → Option HeldPass → Fault → Type 0
 WhyUndivided at pass other Empty = pass ≡ None
 WhyUndivided at pass other InUse = IsSome other
-WhyUndivided at pass other BadCaller = IfSome pass (λ held. Divides at (pass_in held).pass → ⊥)
+WhyUndivided at pass other BadCaller = IfSome pass (λ held. Divides at (held_value held).pass → ⊥)
 WhyUndivided at pass other (RefusedWith OutOfMemory) = ⊤
 WhyUndivided at pass other _ = ⊥
 
@@ -196,15 +168,15 @@ abbrev pub Dismantled : SharedState → EngineState → Type 0
 Dismantled s e = HasAll s.pass × IsShut s × (e.node.shape ≡ s.pass.shape) × (e.node.journal ≡ s.pass.front) × NoneOpen e
 
 abbrev pub Finished : Option HeldPass → Option HeldEngine → Type 0
-Finished (Some (Kept s)) (Some (engine.Kept e)) = Dismantled s e
-Finished (Some (Counted s)) (Some (engine.Counted e)) = Dismantled s e
+Finished (Some (Kept s)) (Some (Kept e)) = Dismantled s e
+Finished (Some (Counted s)) (Some (Counted e)) = Dismantled s e
 Finished _ _ = ⊥
 
 -- why a cell was not dismantled
 abbrev pub WhyUnfinished : Option HeldPass → Option HeldEngine → Fault → Type 0
 WhyUnfinished pass into Empty = pass ≡ None
 WhyUnfinished pass into InUse = IsSome into
-WhyUnfinished pass into BatchOpen = IfSome pass (λ held. HasOpen (pass_in held))
+WhyUnfinished pass into BatchOpen = IfSome pass (λ held. HasOpen (held_value held))
 WhyUnfinished pass into (RefusedWith OutOfMemory) = ⊤
 WhyUnfinished pass into BadPass = ⊤
 WhyUnfinished pass into _ = ⊥

@@ -22,10 +22,9 @@ pub struct ThpCheck {
 
 impl Model for ThpCheck {
     ghost use Rattle.thp_capi.specs.Handles.{handle_owns};
-    ghost use Rattle.thp_capi.specs.contracts.check_stage.CheckStage as stage;
-    ghost use Rattle.thp_capi.specs.contracts.room.Room as room;
+    ghost use Rattle.thp_capi.specs.Rows.{check_row};
 
-    ghost also_owns = { λ h. handle_owns (room.the_row stage.the_row) h.at h.live h.held };
+    ghost also_owns = { λ h. handle_owns check_row h.at h.live h.held };
 }
 
 impl ThpCheck {

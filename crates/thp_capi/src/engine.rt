@@ -21,6 +21,19 @@ use thp_journal_writer::{NodeHistory, journal_text};
 use thp_model::{Done, Gain, Loss, MAX_BATCH, MAX_CALLERS, PageId, Shape, What};
 use thp_node::{Batch, FullLog, NewFault, Node, Recorder};
 
+// Asks the node for a call of this caller, if the number is a caller's, and converts what it returns.
+macro_rules! asked {
+    ($caller:ident, $call:expr, $value:pat => $reply:expr) => {{
+        if $caller >= MAX_CALLERS {
+            return Err(Fault::BadCaller);
+        }
+        match $call {
+            Ok($value) => Ok($reply),
+            Err(refusal) => Err(Fault::Refused(refusal)),
+        }
+    }};
+}
+
 /// A node and the open batches of its callers. The remaining pages of each batch are a prefix of its caller's flight.
 #[derive(Drop)]
 pub struct Engine<R: Recorder> {
@@ -73,13 +86,7 @@ impl<R: Recorder> Engine<R> {
     pub fn alloc_page(&mut self, caller: u32) -> Result<u64, Fault>
         ensures { AllocCall caller self.old self.new result }
     {
-        if caller >= MAX_CALLERS {
-            return Err(Fault::BadCaller);
-        }
-        match self.node.alloc_page(caller) {
-            Ok(page) => Ok(page.0),
-            Err(refusal) => Err(Fault::Refused(refusal)),
-        }
+        asked!(caller, self.node.alloc_page(caller), page => page.0)
     }
 
     /// Adds mappings or a pin, or fills subpages of the page.
@@ -90,26 +97,14 @@ impl<R: Recorder> Engine<R> {
     {
         // Shows the proof the greatest order of the pages.
         let _ = self.node.shape();
-        if caller >= MAX_CALLERS {
-            return Err(Fault::BadCaller);
-        }
-        match self.node.gain(caller, page, gain) {
-            Ok(()) => Ok(()),
-            Err(refusal) => Err(Fault::Refused(refusal)),
-        }
+        asked!(caller, self.node.gain(caller, page, gain), () => ())
     }
 
     /// Closes the node: no page is queued or allocated afterwards.
     pub fn close(&mut self, caller: u32) -> Result<(), Fault>
         ensures { OneCall caller call.close What.Close self.old self.new result }
     {
-        if caller >= MAX_CALLERS {
-            return Err(Fault::BadCaller);
-        }
-        match self.node.close(caller) {
-            Ok(()) => Ok(()),
-            Err(refusal) => Err(Fault::Refused(refusal)),
-        }
+        asked!(caller, self.node.close(caller), () => ())
     }
 
     /// Removes mappings or a pin of the page, which can queue or free it.
@@ -125,13 +120,7 @@ impl<R: Recorder> Engine<R> {
     {
         // Shows the proof the greatest order of the pages.
         let _ = self.node.shape();
-        if caller >= MAX_CALLERS {
-            return Err(Fault::BadCaller);
-        }
-        match self.node.lose(caller, page, loss) {
-            Ok(done) => Ok(done),
-            Err(refusal) => Err(Fault::Refused(refusal)),
-        }
+        asked!(caller, self.node.lose(caller, page, loss), done => done)
     }
 
     /// Takes up to `n` of the oldest queued pages, in order, tries each, and returns the pinned ones.

@@ -2,7 +2,7 @@
 ghost use Rattle.std.specs.Prelude.{◌≡◌, ◌↔◌, [], Err, IfOk};
 ghost use Rattle.thp_model.specs.Shapes.{IsShape};
 ghost use Rattle.thp_capi.specs.Engines.{NoneOpen};
-ghost use Rattle.thp_capi.specs.Held.{engine_in, events_in};
+ghost use Rattle.thp_capi.specs.Held.{events_in, held_value};
 
 use crate::engine::Engine;
 use crate::shared_pass::SharedPass;
@@ -19,44 +19,41 @@ pub enum Events {
     Counted,
 }
 
-/// An engine, by what becomes of its node's events.
+/// An engine or a pass, by what becomes of its node's events.
 #[derive(Drop)]
-pub enum HeldEngine {
+pub enum Held<K, C> {
     /// The events are stored.
-    Kept(Engine<FullLog>),
+    Kept(K),
     /// The events are only counted.
-    Counted(Engine<CountOnly>),
+    Counted(C),
 }
 
-impl HeldEngine {
+/// What the handle of a node holds.
+pub type HeldEngine = Held<Engine<FullLog>, Engine<CountOnly>>;
+
+/// What the handle of a pass holds.
+pub type HeldPass = Held<SharedPass<FullLog>, SharedPass<CountOnly>>;
+
+impl Held<Engine<FullLog>, Engine<CountOnly>> {
     /// Creates the engine of a node with no page.
     pub fn new(alloc: Global, shape: Shape, are: Events) -> Result<HeldEngine, NewFault>
         ensures bad_size { (result ≡ Err NewFault.BadSize) ↔ ¬ IsShape shape }
         ensures are { IfOk result (λ held. events_in held ≡ are) }
-        ensures shape { IfOk result (λ held. (engine_in held).node.shape ≡ shape) }
-        ensures journal { IfOk result (λ held. (engine_in held).node.journal ≡ []) }
-        ensures none_open { IfOk result (λ held. NoneOpen (engine_in held)) }
+        ensures shape { IfOk result (λ held. (held_value held).node.shape ≡ shape) }
+        ensures journal { IfOk result (λ held. (held_value held).node.journal ≡ []) }
+        ensures none_open { IfOk result (λ held. NoneOpen (held_value held)) }
     {
         match are {
             Events::Kept => match Engine::new(alloc, shape) {
-                Ok(engine) => Ok(HeldEngine::Kept(engine)),
+                Ok(engine) => Ok(Held::Kept(engine)),
                 Err(fault) => Err(fault),
             },
             Events::Counted => match Engine::new(alloc, shape) {
-                Ok(engine) => Ok(HeldEngine::Counted(engine)),
+                Ok(engine) => Ok(Held::Counted(engine)),
                 Err(fault) => Err(fault),
             },
         }
     }
-}
-
-/// A pass with a share of its cell, by what becomes of the events of the cell's node.
-#[derive(Drop)]
-pub enum HeldPass {
-    /// The events are stored.
-    Kept(SharedPass<FullLog>),
-    /// The events are only counted.
-    Counted(SharedPass<CountOnly>),
 }
 
 /// Does a call on the engine of a node's handle, which is written once for both kinds. Returns what the call returns; where the
@@ -68,8 +65,8 @@ macro_rules! on_node {
             return $crate::code(Err($crate::Fault::Empty));
         };
         let answer = match &mut *held {
-            $crate::HeldEngine::Kept($engine) => $call,
-            $crate::HeldEngine::Counted($engine) => $call,
+            $crate::Held::Kept($engine) => $call,
+            $crate::Held::Counted($engine) => $call,
         };
         $handle.store(held);
         answer
@@ -85,8 +82,8 @@ macro_rules! on_pass {
             return $crate::code(Err($crate::Fault::Empty));
         };
         let answer = match &mut room.value {
-            Some($crate::HeldPass::Kept($pass)) => $call,
-            Some($crate::HeldPass::Counted($pass)) => $call,
+            Some($crate::Held::Kept($pass)) => $call,
+            Some($crate::Held::Counted($pass)) => $call,
             None => unreachable!(),
         };
         $handle.restore(room);

@@ -43,7 +43,7 @@ pub use check_stage::CheckStage;
 pub use checks::check_text;
 pub use codes::{Fault, code, report};
 pub use engine::Engine;
-pub use held::{Events, HeldEngine, HeldPass};
+pub use held::{Events, Held, HeldEngine, HeldPass};
 pub use node_calls::{node_create, node_gain, node_lose, put_text};
 pub use node_handle::ThpNode;
 pub use page_state::ThpPageState;

@@ -1,6 +1,6 @@
 //! The handle of a node, as a C program holds it.
 ghost use Rattle.std.specs.Prelude.{◌≡◌, Option, None, Some, IfSome, IfNone};
-ghost use Rattle.thp_capi.specs.declared.held.HeldEngine.{HeldEngine};
+ghost use Rattle.thp_capi.specs.Held.{HeldEngine};
 
 use crate::handle::Handle;
 use crate::held::HeldEngine;
@@ -19,9 +19,9 @@ pub struct ThpNode {
 
 impl Model for ThpNode {
     ghost use Rattle.thp_capi.specs.Handles.{handle_owns};
-    ghost use Rattle.thp_capi.specs.contracts.held.HeldEngine.{the_row};
+    ghost use Rattle.thp_capi.specs.Rows.{engine_row};
 
-    ghost also_owns = { λ h. handle_owns the_row h.at h.live h.held };
+    ghost also_owns = { λ h. handle_owns engine_row h.at h.live h.held };
 }
 
 impl ThpNode {

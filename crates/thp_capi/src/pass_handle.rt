@@ -1,7 +1,7 @@
 //! The handle of a pass, as a C program holds it.
 ghost use Rattle.std.specs.Prelude.{◌≡◌, Option, None, Some, IfSome, IfNone, IsSome};
 ghost use Rattle.thp_capi.specs.Rooms.{value_of};
-ghost use Rattle.thp_capi.specs.declared.held.HeldPass.{HeldPass};
+ghost use Rattle.thp_capi.specs.Held.{HeldPass};
 ghost use Rattle.thp_capi.specs.declared.room.Room.{Room};
 
 use crate::handle::Handle;
@@ -22,10 +22,9 @@ pub struct ThpPass {
 
 impl Model for ThpPass {
     ghost use Rattle.thp_capi.specs.Handles.{handle_owns};
-    ghost use Rattle.thp_capi.specs.contracts.room.Room as room;
-    ghost use Rattle.thp_capi.specs.contracts.held.HeldPass as pass;
+    ghost use Rattle.thp_capi.specs.Rows.{pass_row};
 
-    ghost also_owns = { λ h. handle_owns (room.the_row pass.the_row) h.at h.live h.held };
+    ghost also_owns = { λ h. handle_owns pass_row h.at h.live h.held };
 }
 
 impl ThpPass {

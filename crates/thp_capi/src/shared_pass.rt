@@ -22,6 +22,20 @@ use thp_cell::{CellFault, NodeCell, Pass};
 use thp_model::{Done, Gain, Loss, MAX_BATCH, PageId, Refusal, Shape, What};
 use thp_node::{Batch, NewFault, Node, Recorder};
 
+// Asks the cell for a call of this caller, if it is one of the pass's, and converts what it returns.
+macro_rules! asked {
+    ($pass:ident, $caller:ident, $call:expr, $value:pat => $reply:expr) => {{
+        if !$pass.has($caller) {
+            return Err(Fault::BadCaller);
+        }
+        match $call {
+            Ok($value) => Ok($reply),
+            Err(CellFault::Busy) => Err(Fault::Busy),
+            Err(CellFault::Refused(refusal)) => Err(Fault::Refused(refusal)),
+        }
+    }};
+}
+
 /// A pass, its share of the cell, and the mark that distinguishes it from passes of other cells.
 #[derive(Drop)]
 pub struct SharedPass<R: Recorder> {
@@ -96,14 +110,7 @@ impl<R: Recorder> SharedPass<R> {
     pub fn alloc_page(&mut self, caller: u32) -> Result<u64, Fault>
         ensures { PassAlloc caller self.old self.new result }
     {
-        if !self.has(caller) {
-            return Err(Fault::BadCaller);
-        }
-        match self.cell.alloc_page(&mut self.pass, caller) {
-            Ok(page) => Ok(page.0),
-            Err(CellFault::Busy) => Err(Fault::Busy),
-            Err(CellFault::Refused(refusal)) => Err(Fault::Refused(refusal)),
-        }
+        asked!(self, caller, self.cell.alloc_page(&mut self.pass, caller), page => page.0)
     }
 
     /// Adds mappings or a pin, or fills subpages of the page.
@@ -114,14 +121,7 @@ impl<R: Recorder> SharedPass<R> {
     {
         // Shows the proof the greatest order of the pages.
         let _ = self.pass.callers();
-        if !self.has(caller) {
-            return Err(Fault::BadCaller);
-        }
-        match self.cell.gain(&mut self.pass, caller, page, gain) {
-            Ok(()) => Ok(()),
-            Err(CellFault::Busy) => Err(Fault::Busy),
-            Err(CellFault::Refused(refusal)) => Err(Fault::Refused(refusal)),
-        }
+        asked!(self, caller, self.cell.gain(&mut self.pass, caller, page, gain), () => ())
     }
 
     /// Removes mappings or a pin of the page, which can queue or free it.
@@ -134,28 +134,14 @@ impl<R: Recorder> SharedPass<R> {
     {
         // Shows the proof the greatest order of the pages.
         let _ = self.pass.callers();
-        if !self.has(caller) {
-            return Err(Fault::BadCaller);
-        }
-        match self.cell.lose(&mut self.pass, caller, page, loss) {
-            Ok(done) => Ok(done),
-            Err(CellFault::Busy) => Err(Fault::Busy),
-            Err(CellFault::Refused(refusal)) => Err(Fault::Refused(refusal)),
-        }
+        asked!(self, caller, self.cell.lose(&mut self.pass, caller, page, loss), done => done)
     }
 
     /// Closes the node: no page is queued or allocated afterwards.
     pub fn close(&mut self, caller: u32) -> Result<(), Fault>
         ensures { PassOne caller call.close What.Close self.old self.new result }
     {
-        if !self.has(caller) {
-            return Err(Fault::BadCaller);
-        }
-        match self.cell.close(&mut self.pass, caller) {
-            Ok(()) => Ok(()),
-            Err(CellFault::Busy) => Err(Fault::Busy),
-            Err(CellFault::Refused(refusal)) => Err(Fault::Refused(refusal)),
-        }
+        asked!(self, caller, self.cell.close(&mut self.pass, caller), () => ())
     }
 
     /// Takes up to `n` of the oldest queued pages, in order, tries each, and returns the pinned ones.

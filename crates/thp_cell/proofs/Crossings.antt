@@ -40,7 +40,7 @@ table_send : IsSend PageTable.the_row
 table_send = view_send in_table.the_row _ _ _ _ (declared_send in_table.the_type (search (sendable, crosses) depth 30, (search (sendable, crosses) depth 30, (Vec-send _ descriptor.the_send, (search (sendable, crosses) depth 30, tt)))))
 
 -- the places of pages may go to another thread
-places_send : IsSend PageStore.the_row
+pub places_send : IsSend PageStore.the_row
 places_send = view_send in_places.the_row _ _ _ _ (declared_send in_places.the_type (table_send, (search (sendable, crosses) depth 30, tt)))
 
 -- the blocks of a node may go to another thread
@@ -52,25 +52,26 @@ pub batch_send : IsSend Batch.the_row
 batch_send = view_send in_batch.the_row _ _ _ _ (declared_send in_batch.the_type (search sendable, (search (sendable, crosses) depth 30, (search sendable, tt))))
 
 -- where a recorder may go to another thread, what is made over it may
-module _ (d e : Dict) (T : RattleType) (R : Ghosts T.Denot) (recorder_send : IsSend T) where
+module _ (T : RattleType) (R : Ghosts T.Denot) (recorder_send : IsSend T) where
   -- a journal may go to another thread
   journal_send : IsSend (Journal.the_row T R)
   journal_send = view_send (in_journal.the_row T R) _ _ _ _ (declared_send (in_journal.the_type T R) (search (sendable, crosses) depth 30, (search (sendable, recorder_send), (search (sendable, crosses) depth 30, tt))))
 
   -- a node may go to another thread
-  node_send : IsSend (Node.the_row T R)
+  pub node_send : IsSend (Node.the_row T R)
   node_send = view_send (in_node.the_row T R) _ _ _ _ (declared_send (in_node.the_type T R) (journal_send, (blocks_send, tt)))
 
+module _ (d e : Dict) (T : RattleType) (R : Ghosts T.Denot) (recorder_send : IsSend T) where
   -- a cell is shared by threads
   pub cell_sync : IsSync (NodeCell.the_row T R)
-  cell_sync = view_sync (in_cell.the_row T R) _ _ _ _ (declared_sync (in_cell.the_type T R) (table.the_sync (Node.the_row T R) SeatKnowledge.the_row (Key.the_row T R) CellRule.the_row Global.the_row (rule.ghosts T R d e) heap.ghosts node_send send sync frees, tt))
+  cell_sync = view_sync (in_cell.the_row T R) _ _ _ _ (declared_sync (in_cell.the_type T R) (table.the_sync (Node.the_row T R) SeatKnowledge.the_row (Key.the_row T R) CellRule.the_row Global.the_row (rule.ghosts T R d e) heap.ghosts (node_send T R recorder_send) send sync frees, tt))
 
   -- a pass may go to another thread
   pub pass_send : IsSend (Pass.the_row T R)
-  pass_send = view_send (in_pass.the_row T R) _ _ _ _ (declared_send (in_pass.the_type T R) (search sendable, (search sendable, (search sendable, (search (sendable, seat.the_send, node_send), tt)))))
+  pass_send = view_send (in_pass.the_row T R) _ _ _ _ (declared_send (in_pass.the_type T R) (search sendable, (search sendable, (search sendable, (search (sendable, seat.the_send, node_send T R recorder_send), tt)))))
 
 -- kept events may go to another thread
-kept_send : IsSend FullLog.the_row
+pub kept_send : IsSend FullLog.the_row
 kept_send = view_send in_kept.the_row _ _ _ _ (declared_send in_kept.the_type (Vec-send _ event.the_send, tt))
 
 -- and so may passes of cells whose nodes keep their events

@@ -1,7 +1,6 @@
 -- `exchange` is the walk that all handles share.
 use Rattle.std.proofs.Common.{refl}
-use Rattle.thp_capi.specs.contracts.held.HeldEngine as content
-use Rattle.thp_capi.specs.declared.node_handle.ThpNode.{ThpNode}
+use Rattle.thp_capi.specs.Rows.{engine_row}
 use Rattle.thp_capi.specs.contracts.node_handle.ThpNode.{the_type}
 use Rattle.thp_capi.specs.contracts.node_handle.ThpNode.exchange.Key.{name as #self}
 use Rattle.thp_capi.proofs.Exchanges.{Seen, exchanged}
@@ -10,9 +9,8 @@ use Rattle.thp_capi.proofs.node_handle.ThpNode.exchange.Code as code
 
 abbrev seen : Seen
 seen = record {
-  R = content.the_row;
-  name = the_type.name;
-  D = ThpNode;
+  R = engine_row;
+  type = the_type;
   at = λ d. d.at;
   live = λ d. d.live;
   held = λ d. d.held;
@@ -20,9 +18,6 @@ seen = record {
   at_is = λ p n v. refl;
   live_is = λ p n v. refl;
   held_is = λ p n v. refl;
-  coded = the_type.coded;
-  exit = the_type.exit;
-  shr_at = the_type.shr_at;
 }
 
 pub exchange_spec : {M : Type 1} → statement M

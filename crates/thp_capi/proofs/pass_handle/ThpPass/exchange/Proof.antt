@@ -1,8 +1,6 @@
 -- `exchange` is the walk that all handles share.
 use Rattle.std.proofs.Common.{refl}
-use Rattle.thp_capi.specs.contracts.held.HeldPass as content
-use Rattle.thp_capi.specs.contracts.room.Room as room
-use Rattle.thp_capi.specs.declared.pass_handle.ThpPass.{ThpPass}
+use Rattle.thp_capi.specs.Rows.{pass_row}
 use Rattle.thp_capi.specs.contracts.pass_handle.ThpPass.{the_type}
 use Rattle.thp_capi.specs.contracts.pass_handle.ThpPass.exchange.Key.{name as #self}
 use Rattle.thp_capi.proofs.Exchanges.{Seen, exchanged}
@@ -11,9 +9,8 @@ use Rattle.thp_capi.proofs.pass_handle.ThpPass.exchange.Code as code
 
 abbrev seen : Seen
 seen = record {
-  R = room.the_row content.the_row;
-  name = the_type.name;
-  D = ThpPass;
+  R = pass_row;
+  type = the_type;
   at = λ d. d.at;
   live = λ d. d.live;
   held = λ d. d.held;
@@ -21,9 +18,6 @@ seen = record {
   at_is = λ p n v. refl;
   live_is = λ p n v. refl;
   held_is = λ p n v. refl;
-  coded = the_type.coded;
-  exit = the_type.exit;
-  shr_at = the_type.shr_at;
 }
 
 pub exchange_spec : {M : Type 1} → statement M
