@@ -20,7 +20,7 @@ PICTURE = ROOT / "docs/pictures/layers.svg"
 
 COLUMNS = {
     0: ["thpsplit", "thp_run", "thp_worker", "thp_cell", "thp_node", "thp_live_pages", "thp_page", "thp_model"],
-    1: ["thpcheck", "thp_report", "thp_cli", "thp_metrics", "thp_script", "thp_links"],
+    1: ["thpcheck", "thp_cli", "thp_metrics", "thp_script", "thp_links"],
     2: ["thpdraw", "thp_journal_tools", "thp_journal_scripts", "thp_journal_reader", "thp_check", "thp_journal_writer"],
     3: ["thp_laws", "thp_c", "thp_capi"],
     4: ["thp_drawing"],

@@ -6,7 +6,7 @@
 //!   lines add up to a journal. `put_fault`: why a line wasn't written.
 //! - `events` (`EventLines`), `sets` (`SetTexts`), `numbers`: the words of a line. `node_history` (`Histories`).
 //! - `totals`, `totals_lines` (`Totals`): nine lines for each node, or ten where underused pages are split. A new number also
-//!   needs `totals_of`, and the two callers that compute totals: `thp_report` and `summed_node` of `thp_journal_tools`.
+//!   needs `totals_of`, and the two callers that compute totals: `totals` of `thp_run` and `summed_node` of `thp_journal_tools`.
 //! - `Room`: how many bytes a line takes at most.
 #![tactic(auto)]
 

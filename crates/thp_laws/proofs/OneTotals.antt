@@ -6,8 +6,8 @@ use Rattle.thp_model.specs.History.{History}
 use Rattle.thp_journal_writer.specs.Journals.{Journal}
 use Rattle.thp_laws.specs.SameTotals.{IsSameJournal}
 use Rattle.thp_laws.proofs.TotalsAlike.{one_run}
-use Rattle.thp_report.specs.Laws.{bare}
-use Rattle.thp_report.proofs.TotalsLaws.{totals_blind}
+use Rattle.thp_run.specs.Laws.{bare}
+use Rattle.thp_run.proofs.TotalsLaws.{totals_blind}
 use Rattle.thp_laws.specs.OneText.{OneJournalHasOneTotals}
 
 -- two nodes that are the same but for their blocks

@@ -9,9 +9,9 @@ use Rattle.thp_journal_writer.specs.Journals.{Journal}
 use Rattle.thp_laws.specs.SameTotals.{IsSameJournal}
 use Rattle.thp_laws.proofs.WithoutBlocks.{one_text}
 use Rattle.thp_node.specs.NodeState.{NodeState}
-use Rattle.thp_report.specs.Answers.{answer_line, answers_text, section_text}
-use Rattle.thp_report.specs.Reports.{report_of, shape_in, told_of}
-use Rattle.thp_report.proofs.TotalsLaws.{totals_blind}
+use Rattle.thp_run.specs.Answers.{answer_line, answers_text, section_text}
+use Rattle.thp_run.specs.Reports.{report_of, shape_in, told_of}
+use Rattle.thp_run.proofs.TotalsLaws.{totals_blind}
 use Rattle.thp_laws.proofs.OneTotals.{all_bare}
 use Rattle.thp_script.specs.declared.script.Script.{Script}
 use Rattle.thp_script.specs.declared.settings.Report.{Report}

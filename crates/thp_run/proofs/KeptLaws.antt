@@ -3,8 +3,8 @@ use Rattle.std.proofs.Common.{◌≡◌, ℕ, List, [], ◌∷◌, ◌∙◌, ap
 use Rattle.std.specs.Prelude.{All, filter}
 use Rattle.std.proofs.lemmas.List.Elements.{All-head, All-tail}
 use Rattle.thp_node.specs.NodeState.{NodeState}
-use Rattle.thp_report.specs.Answers.{answers_text}
-use Rattle.thp_report.specs.Reports.{report_of, shape_in, told_of}
+use Rattle.thp_run.specs.Answers.{answers_text}
+use Rattle.thp_run.specs.Reports.{report_of, shape_in, told_of}
 use Rattle.thp_run.specs.NewNodes.{histories_of, shapes_of, AreNodesFor}
 use Rattle.thp_run.specs.Runs.{IsRun}
 use Rattle.thp_run.specs.Sections.{SectionAnswersAre}

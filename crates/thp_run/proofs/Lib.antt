@@ -1,3 +1,7 @@
+pub mod AnswerLaws
+pub mod PartLaws
+pub mod ReportLaws
+pub mod TotalsLaws
 pub mod RunLaws
 pub mod RestLaws
 pub mod NodeLaws

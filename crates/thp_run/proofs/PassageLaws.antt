@@ -17,7 +17,7 @@ use Rattle.thp_cli.specs.declared.calls.DeviceCall.{DeviceCall}
 use Rattle.thp_cli.specs.Passages.{WritesAnswer}
 use Rattle.thp_cli.proofs.PassageLaws.{ends_early, keeps_same}
 use Rattle.thp_node.specs.NodeState.{NodeState}
-use Rattle.thp_report.specs.Reports.{report_of, told_of}
+use Rattle.thp_run.specs.Reports.{report_of, told_of}
 use Rattle.thp_worker.specs.declared.reply.SectionLog.{SectionLog}
 use Rattle.thp_worker.specs.KeptSections.{has_kept}
 use Rattle.thp_run.specs.Programs.{IsReport, RunEnds}

@@ -1,3 +1,7 @@
+pub mod Reports
+pub mod Answers
+pub mod Parts
+pub mod Laws
 pub mod NewNodes
 pub mod Runs
 pub mod Sections

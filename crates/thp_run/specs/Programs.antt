@@ -1,7 +1,7 @@
 -- The input and the output of a run.
 use Rattle.std.specs.Prelude.{◌≡◌, ℕ, Bool, List, map, Option, Result, Ok, Err}
 use Rattle.thp_node.specs.NodeState.{NodeState}
-use Rattle.thp_report.specs.Reports.{report_of, told_of}
+use Rattle.thp_run.specs.Reports.{report_of, told_of}
 use Rattle.thp_run.specs.NewNodes.{histories_of, shapes_of, AreNodesFor}
 use Rattle.thp_run.specs.Runs.{IsRun}
 use Rattle.thp_worker.specs.declared.reply.SectionLog.{SectionLog}

@@ -8,26 +8,39 @@
 //!   its nodes and answers. `script_run`: the same for a script in memory. `sections` (`do_rest`: postponed commands, workers
 //!   ascending). `nodes` (`NewNodes`): new nodes. `sharing` (`Sharing`): cells, and passes with all callers.
 //! - `script_in_progress` (`ScriptInProgress`): `setup` is done as it is read.
+//! - `report`, `totals`, `answers`: a report as text, a function of the nodes' shapes and histories and of the sections' answers:
+//!   `report_of` (`Reports`), over `Answers`, and `Totals` and `Journals` of `thp_journal_writer`. No block appears in it.
+//!   `answer_parts` (`Parts`, proof `PartLaws`): the answers part by part from one buffer; `line_room` bounds a line. `laws`
+//!   (`Laws`): totals do not depend on blocks.
 //! - `writing` (`Written`): reports, whole or part by part. `listed` (`Listed`): sections with their answers in vectors.
 //!
 //! It re-exports what a library user of scripts, journals and reports needs.
 #![tactic(auto)]
 
+mod answer_parts;
+mod answers;
 mod choice;
 mod in_parts;
+mod laws;
 mod listed;
 mod nodes;
 mod program;
+mod report;
 mod run_result;
 mod running;
 mod script_in_progress;
 mod script_run;
 mod sections;
 mod sharing;
+mod totals;
 mod writing;
 
+pub use answer_parts::AnswerParts;
+pub use answers::answers_text;
+pub use laws::totals_tell_no_block;
 pub use listed::{Section, Worked, report_text, work, work_rest};
 pub use program::run_program;
+pub use report::{journals_text, report_of_logs};
 pub use run_result::RunResult;
 pub use running::run;
 pub use script_run::run_script;
@@ -44,3 +57,4 @@ pub use thp_script::{
 pub use thp_worker::{
     Answer, Gate, NoGate, NodePass, NodePasses, Passes, Reply, Rest, Step, Steps, run_range,
 };
+pub use totals::totals_text;

@@ -1,7 +1,7 @@
-//! Sections whose answers are stored in vectors: the calls of `thp_worker` and `thp_report`, whose logs store answers in less
-//! memory or only count them, for callers that need all answers as values.
+//! Sections whose answers are stored in vectors: the calls of `thp_worker` and of `report`, whose logs store answers in less memory
+//! or only count them, for callers that need all answers as values.
 ghost use Rattle.std.specs.Prelude.{◌≡◌, ◌+◌, ◌<◌, ◌≤◌, ◌^◌, ◌++◌, ◌∷◌, [], All, IfOk, OnOk, Some, length, map, slice_get};
-ghost use Rattle.thp_report.specs.Reports.{report_of, told_of};
+ghost use Rattle.thp_run.specs.Reports.{report_of, told_of};
 ghost use Rattle.thp_run.specs.Listed.{section_of, sections_of, IsWhole, WorksOn};
 ghost use Rattle.thp_worker.specs.Fronts.{Fronts, Goes, HoldsAllCallers, HoldsCaller};
 ghost use Rattle.thp_worker.specs.OpenBatches.{HasNoBatch};
@@ -9,6 +9,7 @@ ghost use Rattle.thp_worker.specs.Sections.{IsCommandFor};
 ghost use Rattle.thp_worker.specs.declared.answer_log.Answers.TheVariants.{Kept};
 ghost use Rattle.thp_worker.specs.declared.reply.Answer.{Answer as KeptAnswer};
 
+use crate::report::report_of_logs;
 use std::alloc::{AllocError, Global};
 use std::marker::Model;
 use thp_model::Refusal;
@@ -158,7 +159,7 @@ pub fn report_text(
     for section in sections {
         kept.push(to_kept(alloc, section)?)?;
     }
-    thp_report::report_text(alloc, settings, nodes, kept.as_slice())
+    report_of_logs(alloc, settings, nodes, kept.as_slice())
 }
 
 /// Copies the content of a log to a vector that has none yet. Allocates nothing if that vector has room.

@@ -126,8 +126,15 @@ pub(crate) fn run_as_read<T: Threads + Sync, R: Read, N: Recorder + Send, G: Gat
     ensures calls { ReadsOn max_input reader.new.failed reader.old.calls reader.new.calls }
 {
     let (cells, passes) = new_cells::<N>(alloc, settings)?;
-    let (passes, sections) =
-        run_in_cells(rt, alloc, settings, cells.as_slice(), passes, reader, gate)?;
+    let (passes, sections) = run_in_cells(
+        rt,
+        alloc,
+        settings,
+        cells.as_slice(),
+        passes,
+        reader,
+        gate,
+    )?;
     Ok(take_apart(alloc, settings, cells, passes, sections)?)
 }
 

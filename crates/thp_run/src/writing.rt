@@ -4,19 +4,21 @@ ghost use Rattle.std.specs.Io.KnownBytes.{Appends};
 ghost use Rattle.thp_cli.specs.Calls.{WritesOn};
 ghost use Rattle.thp_cli.specs.Devices.{WritesFront};
 ghost use Rattle.thp_cli.specs.Passages.{WritesAnswer};
-ghost use Rattle.thp_report.specs.Answers.{answers_text};
-ghost use Rattle.thp_report.specs.Reports.{shape_of, told_of};
+ghost use Rattle.thp_run.specs.Answers.{answers_text};
+ghost use Rattle.thp_run.specs.Reports.{shape_of, told_of};
 ghost use Rattle.thp_journal_writer.specs.Journals.{journal_text as journals_told};
 ghost use Rattle.thp_journal_writer.specs.Totals.{totals_text as totals_told};
 ghost use Rattle.thp_worker.specs.KeptSections.{has_kept};
 ghost use Rattle.thp_run.specs.Written.{Wrote};
 
+use crate::answer_parts::AnswerParts;
+use crate::report::journals_text;
 use crate::run_result::RunResult;
+use crate::totals::totals_text;
 use std::alloc::Global;
 use std::io::Write;
 use thp_cli::{RunFault, Watched, write_all, write_text};
 use thp_node::Recorder;
-use thp_report::{AnswerParts, journals_text, totals_text};
 use thp_worker::kept_sections;
 
 /// Writes the totals of a run's nodes and flushes once.

@@ -5,7 +5,7 @@ use std::alloc::{AllocError, Global};
 use thp_journal_reader::{NodeJournal, check_text, read_journal};
 use thp_model::{Event, Outcome, PageId, Refusal, SubSet};
 use thp_node::{BackReply, Node, ScanReply, Tried};
-use thp_report::report_text;
+use thp_run::report_of_logs;
 use thp_script::{Report, Settings};
 use thp_worker::{KeptSection, Reply};
 
@@ -19,7 +19,7 @@ fn report_of(
 ) -> Option<Vec<u8>> {
     let mut settings = *settings;
     settings.report = report;
-    report_text(alloc, &settings, nodes, sections).ok()
+    report_of_logs(alloc, &settings, nodes, sections).ok()
 }
 
 // Whether the report `totals` has the sums of the journals.

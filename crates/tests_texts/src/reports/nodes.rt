@@ -3,7 +3,7 @@ use std::alloc::Global;
 use std::process::Abort;
 use thp_model::{PageId, Shape};
 use thp_node::Node;
-use thp_report::report_text;
+use thp_run::report_of_logs;
 use thp_script::{Report, Settings};
 use thp_worker::KeptSection;
 
@@ -100,7 +100,7 @@ pub(crate) fn expect(
 ) {
     let count = u32::try_from(nodes.len()).expect(rt, "a few nodes");
     let settings = Settings::new(count, 16, 63, report).expect(rt, "settings of these nodes");
-    let text = report_text(alloc, &settings, nodes, sections).expect(rt, "memory for a report");
+    let text = report_of_logs(alloc, &settings, nodes, sections).expect(rt, "memory for a report");
     let told = str::from_utf8(text.as_slice()).expect(rt, "a report of text");
     assert!(rt; told == want);
 }

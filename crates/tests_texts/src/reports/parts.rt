@@ -5,7 +5,7 @@ use std::alloc::Global;
 use std::process::Abort;
 use thp_model::{Outcome, PageId, Refusal, SubSet};
 use thp_node::Node;
-use thp_report::{AnswerParts, answers_text};
+use thp_run::{AnswerParts, answers_text};
 use thp_worker::{KeptSection, Reply};
 
 // A part isn't full before it has so many bytes, and no line is longer than the room after them.

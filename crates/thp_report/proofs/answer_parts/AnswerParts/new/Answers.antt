@@ -1,7 +1,0 @@
-use Rattle.std.proofs.Common.{map}
-use Rattle.thp_report.specs.Reports.{shape_of}
-use Rattle.thp_report.proofs.PartLaws.{from_start}
-use Rattle.thp_report.proofs.answer_parts.AnswerParts.new.Goals as goal
-
-pub returns : goal.returns
-returns g c = from_start (map shape_of c.args.nodes.now) c.args.sections.now

@@ -1,7 +1,0 @@
-use Rattle.std.proofs.Common.{◌≡◌, ◌++◌, drop, map}
-use Rattle.thp_report.specs.Answers.{answers_text}
-use Rattle.thp_report.specs.Reports.{shape_of}
-use Rattle.thp_report.proofs.answers.answers_text.Given as goal
-
-abbrev pub invariant-loop-section : goal.invariant-loop-section
-invariant-loop-section g l = l.text.items ++ answers_text (map shape_of l.nodes) (drop l.section-index l.sections) ≡ answers_text (map shape_of l.nodes) l.sections

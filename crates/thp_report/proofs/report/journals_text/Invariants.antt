@@ -1,7 +1,0 @@
-use Rattle.std.proofs.Common.{◌≡◌, ◌++◌, drop, map}
-use Rattle.thp_journal_writer.specs.Histories.{journal_of}
-use Rattle.thp_report.specs.Reports.{told_of}
-use Rattle.thp_report.proofs.report.journals_text.Given as goal
-
-abbrev pub invariant-loop-node : goal.invariant-loop-node
-invariant-loop-node l = map journal_of l.histories.items ++ map told_of (drop l.node-index l.nodes) ≡ map told_of l.nodes

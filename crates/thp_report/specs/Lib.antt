@@ -1,4 +1,0 @@
-pub mod Answers
-pub mod Laws
-pub mod Parts
-pub mod Reports

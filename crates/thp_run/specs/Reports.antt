@@ -1,0 +1,27 @@
+-- The report of a run as text.
+use Rattle.std.specs.Prelude.{ℕ, List, map}
+use Rattle.thp_journal_writer.specs.Journals.{Journal, journal_text}
+use Rattle.thp_model.specs.declared.shape.Shape.{Shape}
+use Rattle.thp_node.specs.NodeState.{NodeState}
+use Rattle.thp_run.specs.Answers.{answers_text}
+use Rattle.thp_journal_writer.specs.Totals.{totals_text}
+use Rattle.thp_script.specs.declared.settings.Report.{Report}
+use Rattle.thp_script.specs.declared.settings.Report.TheVariants as report
+use Rattle.thp_worker.specs.declared.reply.SectionLog.{SectionLog}
+
+-- the data about a node in reports: its shape, and its events
+abbrev pub told_of : NodeState → Journal
+told_of n = (n.shape, n.journal)
+
+abbrev pub shape_of : NodeState → Shape
+shape_of n = n.shape
+
+-- the shape of such a node
+abbrev pub shape_in : Journal → Shape
+shape_in node = node.0
+
+-- the output at the end of a run, from its nodes and the answers of its sections
+abbrev pub report_of : Report → List Journal → List SectionLog → List ℕ
+report_of report.Totals nodes sections = totals_text nodes
+report_of report.Journal nodes sections = journal_text nodes
+report_of report.Answers nodes sections = answers_text (map shape_in nodes) sections

@@ -1,0 +1,176 @@
+//! The answers to commands, as text.
+ghost use Rattle.std.specs.Prelude.{◌≡◌, ◌+◌, ◌++◌, ◌≤◌, ◌∷◌, [], OnOk, IfOk, codes, length, map};
+ghost use Rattle.std.specs.Fmt.{decimal};
+ghost use Rattle.thp_journal_writer.specs.EventLines.{line_of};
+ghost use Rattle.thp_journal_writer.specs.Journals.{ended};
+ghost use Rattle.thp_journal_writer.specs.Room.{number_room, outcome_room, Takes};
+ghost use Rattle.thp_run.specs.Answers.{refusal_word, tried_words, back_words, scan_words, used_words, reply_words, looks, answer_line, section_text, answers_text as text_of};
+ghost use Rattle.thp_run.specs.Parts.{line_room};
+ghost use Rattle.thp_run.specs.Reports.{shape_of};
+ghost use Rattle.thp_worker.specs.Logs.{kept_log};
+
+use std::alloc::{AllocError, Global};
+use thp_journal_writer::{put, put_number, put_outcome};
+use thp_model::Refusal;
+use thp_node::{Node, Recorder, ScanReply, Tried};
+use thp_worker::{Answer, KeptAnswers, KeptSection, Reply};
+
+/// Returns the answers of the sections, in order, one line each. The nodes need not store their events.
+#[tactic(auto, unfolding(crate::specs::Answers::answers_text))]
+pub fn answers_text<R: Recorder>(
+    alloc: Global,
+    nodes: &[Node<R>],
+    sections: &[KeptSection],
+) -> Result<Vec<u8>, AllocError>
+    ensures { IfOk result (λ text. text.items ≡ text_of (map shape_of nodes.now) sections.now) }
+{
+    let mut text = Vec::new(alloc);
+    for section in sections {
+        put_section(&mut text, nodes, section.worker, &section.answers)?;
+    }
+    Ok(text)
+}
+
+// the answers of a worker's section
+#[tactic(auto, unfolding(crate::specs::Answers::section_text))]
+fn put_section<R: Recorder>(
+    text: &mut Vec<u8>,
+    nodes: &[Node<R>],
+    worker: u32,
+    answers: &KeptAnswers,
+) -> Result<(), AllocError>
+    ensures { OnOk result (text.new.items ≡ text.old.items ++ section_text (map shape_of nodes.now) (record { worker = worker; answers = kept_log answers.now })) }
+{
+    for place in 0..answers.len() {
+        let Some(answer) = answers.get(place) else {
+            unreachable!();
+        };
+        put_answer(text, nodes, worker, &answer)?;
+    }
+    Ok(())
+}
+
+/// Appends an answer, after its section and its index there.
+pub(crate) fn put_answer<R: Recorder>(
+    text: &mut Vec<u8>,
+    nodes: &[Node<R>],
+    section: u32,
+    answer: &Answer,
+) -> Result<(), AllocError>
+    ensures text { OnOk result (text.new.items ≡ text.old.items ++ answer_line (map shape_of nodes.now) section answer.now) }
+    ensures room { Takes line_room text.old text.new result }
+{
+    put_number(text, u64::from(section), b' ')?;
+    put_number(text, u64::from(answer.command) + 1, b' ')?;
+    match &answer.reply {
+        Ok(reply) => put_reply(text, looks_on(nodes, answer.node), reply),
+        Err(refusal) => put_refusal(text, *refusal),
+    }
+}
+
+// the reply to a command that was not refused, on a node whose shrinker looks for underused pages or not
+fn put_reply(text: &mut Vec<u8>, looks: bool, reply: &Reply) -> Result<(), AllocError>
+    ensures text { OnOk result (text.new.items ≡ text.old.items ++ ended (line_of (reply_words looks reply.now))) }
+    ensures room { Takes outcome_room text.old text.new result }
+{
+    match reply {
+        Reply::Page(page) => put_named(text, b"page ", page.0, b'\n'),
+        Reply::Unit => put(text, b"ok\n"),
+        Reply::Done(done) => put_outcome(text, done.outcome, &done.released),
+        Reply::Scan(counted) => put_scan(text, looks, *counted),
+        Reply::Count(queued) => put_named(text, b"count ", u64::from(*queued), b'\n'),
+        Reply::Taken(taken) => put_named(text, b"taken ", u64::from(*taken), b'\n'),
+        Reply::Tried(tried) => put_tried(text, *tried),
+        Reply::Back(reply) => put_back(text, reply.back, reply.dropped, b'\n'),
+        Reply::NoBatch => put(text, b"no-batch\n"),
+    }
+}
+
+// the result of a try
+fn put_tried(text: &mut Vec<u8>, tried: Tried) -> Result<(), AllocError>
+    ensures text { OnOk result (text.new.items ≡ text.old.items ++ ended (line_of (tried_words tried))) }
+    ensures room { Takes 28 text.old text.new result }
+{
+    match tried {
+        Tried::Split(page) => put_named(text, b"split ", page.0, b'\n'),
+        Tried::Pinned(page) => put_named(text, b"pinned ", page.0, b'\n'),
+        Tried::Used(page) => put_named(text, b"used ", page.0, b'\n'),
+        Tried::Done => put(text, b"done\n"),
+    }
+}
+
+// the counts of a scan
+fn put_scan(text: &mut Vec<u8>, looks: bool, counted: ScanReply) -> Result<(), AllocError>
+    ensures text { OnOk result (text.new.items ≡ text.old.items ++ ended (line_of (scan_words counted ++ used_words looks counted))) }
+    ensures room { Takes 163 text.old text.new result }
+{
+    put_named(text, b"taken ", u64::from(counted.taken), b' ')?;
+    put_named(text, b"split ", u64::from(counted.split), b' ')?;
+    put_named(text, b"pinned ", u64::from(counted.pinned), b' ')?;
+    if looks {
+        put_back(text, counted.back, counted.dropped, b' ')?;
+        put_named(text, b"used ", u64::from(counted.used), b'\n')
+    } else {
+        put_back(text, counted.back, counted.dropped, b'\n')
+    }
+}
+
+// the numbers of pages put back and dropped, and the byte `after`
+#[inline]
+fn put_back(text: &mut Vec<u8>, back: u32, dropped: u32, after: u8) -> Result<(), AllocError>
+    ensures text { OnOk result (text.new.items ≡ text.old.items ++ (line_of (back_words back dropped) ++ after ∷ [])) }
+    ensures room { Takes 55 text.old text.new result }
+{
+    put_named(text, b"back ", u64::from(back), b' ')?;
+    put_named(text, b"dropped ", u64::from(dropped), after)
+}
+
+// why a command was refused
+fn put_refusal(text: &mut Vec<u8>, refusal: Refusal) -> Result<(), AllocError>
+    ensures text { OnOk result (text.new.items ≡ text.old.items ++ ended (line_of (codes "refused" ∷ refusal_word refusal ∷ []))) }
+    ensures room { Takes 19 text.old text.new result }
+{
+    put(text, b"refused ")?;
+    put(text, word_of(refusal).as_bytes())?;
+    put(text, b"\n")
+}
+
+// the word of a refusal
+fn word_of(refusal: Refusal) -> &'static str
+    ensures word { result.now ≡ refusal_word refusal }
+    ensures short { length result.now ≤ 10 }
+{
+    match refusal {
+        Refusal::NoPage => "no-page",
+        Refusal::BadRange => "bad-range",
+        Refusal::IsSplit => "is-split",
+        Refusal::NotMapped => "not-mapped",
+        Refusal::Gone => "gone",
+        Refusal::NotPinned => "not-pinned",
+        Refusal::TooMany => "too-many",
+        Refusal::Closed => "closed",
+        Refusal::NoBlock => "no-block",
+        Refusal::HasBatch => "has-batch",
+        Refusal::OutOfMemory => "",
+    }
+}
+
+// a name, a number, and the byte `after`
+#[inline]
+fn put_named(text: &mut Vec<u8>, name: &[u8], number: u64, after: u8) -> Result<(), AllocError>
+    ensures text { OnOk result (text.new.items ≡ text.old.items ++ (name.now ++ (decimal number ++ after ∷ []))) }
+    ensures room { Takes (length name.now + number_room) text.old text.new result }
+{
+    put(text, name)?;
+    put_number(text, number, after)
+}
+
+// whether the shrinker of a node looks for underused pages
+fn looks_on<R: Recorder>(nodes: &[Node<R>], node: u32) -> bool
+    ensures { result ≡ looks (map shape_of nodes.now) node }
+{
+    match nodes.get(node as usize) {
+        Some(node) => node.shape().shrinks_underused(),
+        None => false,
+    }
+}
