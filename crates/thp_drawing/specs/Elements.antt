@@ -6,12 +6,17 @@ use Rattle.thp_drawing.specs.Escapes.{escaped}
 use Rattle.thp_drawing.specs.Grouped.{grouped, many}
 use Rattle.thp_drawing.specs.Scales.{plus}
 use Rattle.thp_drawing.specs.declared.element.Piece.{Piece}
-use Rattle.thp_drawing.specs.declared.element.Piece.TheVariants.{Bytes, Escaped, Decimal, Grouped, Many}
+use Rattle.thp_drawing.specs.declared.element.Piece.TheVariants.{Bytes, Escaped, Decimal, Field, Grouped, Many}
+
+-- a number of a table, after a tab
+abbrev pub field : ℕ → List ℕ
+field n = codes "\t" ++ decimal n
 
 abbrev pub piece_text : Piece → List ℕ
 piece_text (Bytes bytes) = bytes.now
 piece_text (Escaped words) = escaped words.now
 piece_text (Decimal n) = decimal n
+piece_text (Field n) = field n
 piece_text (Grouped n) = grouped n
 piece_text (Many n word) = many n word.now
 

@@ -16,19 +16,18 @@ use Rattle.thp_drawing.specs.declared.panel.Panel.{Panel}
 use Rattle.thp_drawing.specs.declared.panel.Panel.TheVariants.{Pages, Waits, Frames, Tries, Underused}
 
 -- the quantity that a panel draws upwards, and the one that it draws downwards
+abbrev pub quantities_of : Panel → Quantity × Quantity
+quantities_of Pages = (Queue, InBatches)
+quantities_of Waits = (Wait, Nothing)
+quantities_of Frames = (Held, Given)
+quantities_of Tries = (Splits, PinnedTries)
+quantities_of Underused = (UnderusedSplits, Nothing)
+
 abbrev pub up_of : Panel → Quantity
-up_of Pages = Queue
-up_of Waits = Wait
-up_of Frames = Held
-up_of Tries = Splits
-up_of Underused = UnderusedSplits
+up_of p = (quantities_of p).0
 
 abbrev pub down_of : Panel → Quantity
-down_of Pages = InBatches
-down_of Waits = Nothing
-down_of Frames = Given
-down_of Tries = PinnedTries
-down_of Underused = Nothing
+down_of p = (quantities_of p).1
 
 -- what its numbers count
 abbrev pub unit_of : Panel → List ℕ
@@ -40,11 +39,8 @@ unit_of Underused = codes "tries"
 
 -- the step of its numbers up to n
 abbrev pub panel_step : Panel → ℕ → ℕ
-panel_step Pages n = round_step n
-panel_step Waits n = round_step n
 panel_step Frames n = doubled_step n
-panel_step Tries n = round_step n
-panel_step Underused n = round_step n
+panel_step _ n = round_step n
 
 -- the sum of the greatest numbers of both quantities: a panel is left out if it is 0
 abbrev pub panel_most : Panel → DrawnNode → ℕ

@@ -14,6 +14,7 @@ use Rattle.thp_drawing.specs.Styles.{style}
 use Rattle.thp_drawing.specs.Titles.{illegal_text, node_words}
 use Rattle.thp_drawing.specs.declared.illegal_event.IllegalEvent.{IllegalEvent}
 use Rattle.thp_drawing.specs.declared.node.DrawnNode.{DrawnNode}
+use Rattle.thp_drawing.specs.declared.panel.Panel.{Panel}
 use Rattle.thp_drawing.specs.declared.panel.Panel.TheVariants.{Pages, Waits, Frames, Tries, Underused}
 
 -- the height of a panel whose greatest number is this
@@ -29,23 +30,27 @@ stuck_top (Some illegal) = 460
 abbrev pub pages_top : DrawnNode → ℕ
 pages_top d = plus (stuck_top d.illegal) (stuck_height d)
 
+-- the lower end of a panel that begins at this height
+abbrev pub below : ℕ → Panel → DrawnNode → ℕ
+below y p d = plus y (height_of (panel_most p d))
+
 abbrev pub lanes_top : DrawnNode → ℕ
-lanes_top d = plus (pages_top d) (height_of (panel_most Pages d))
+lanes_top d = below (pages_top d) Pages d
 
 abbrev pub waits_top : DrawnNode → ℕ
 waits_top d = plus (lanes_top d) (lanes_height d)
 
 abbrev pub frames_top : DrawnNode → ℕ
-frames_top d = plus (waits_top d) (height_of (panel_most Waits d))
+frames_top d = below (waits_top d) Waits d
 
 abbrev pub tries_top : DrawnNode → ℕ
-tries_top d = plus (frames_top d) (height_of (panel_most Frames d))
+tries_top d = below (frames_top d) Frames d
 
 abbrev pub underused_top : DrawnNode → ℕ
-underused_top d = plus (tries_top d) (height_of (panel_most Tries d))
+underused_top d = below (tries_top d) Tries d
 
 abbrev pub lives_top : DrawnNode → ℕ
-lives_top d = plus (underused_top d) (height_of (panel_most Underused d))
+lives_top d = below (underused_top d) Underused d
 
 -- the pages' stages: a row for each page, or the number of pages in each stage
 abbrev pub lives_drawn : ℕ → DrawnNode → List ℕ

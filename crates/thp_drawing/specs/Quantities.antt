@@ -11,29 +11,23 @@ use Rattle.thp_drawing.specs.declared.node.DrawnNode.{DrawnNode}
 use Rattle.thp_drawing.specs.declared.quantity.Quantity.{Quantity}
 use Rattle.thp_drawing.specs.declared.quantity.Quantity.TheVariants.{Queue, InBatches, Held, Given, Splits, PinnedTries, UnderusedSplits, Wait, Nothing}
 
--- the name of a quantity
-abbrev pub quantity_name : Quantity → List ℕ
-quantity_name Queue = codes "queue"
-quantity_name InBatches = codes "in batches"
-quantity_name Held = codes "held"
-quantity_name Given = codes "given back"
-quantity_name Splits = codes "split"
-quantity_name PinnedTries = codes "found pinned"
-quantity_name UnderusedSplits = codes "split as underused"
-quantity_name Wait = codes "the oldest page has waited"
-quantity_name Nothing = []
+-- the name of a quantity, and its class; some have the colours of stages
+abbrev pub quantity_row : Quantity → List ℕ × List ℕ
+quantity_row Queue = (codes "queue", codes "s2")
+quantity_row InBatches = (codes "in batches", codes "s3")
+quantity_row Held = (codes "held", codes "held")
+quantity_row Given = (codes "given back", codes "given")
+quantity_row Splits = (codes "split", codes "s4")
+quantity_row PinnedTries = (codes "found pinned", codes "pin")
+quantity_row UnderusedSplits = (codes "split as underused", codes "s1")
+quantity_row Wait = (codes "the oldest page has waited", codes "wait")
+quantity_row Nothing = ([], [])
 
--- its class; some have the colours of stages
+abbrev pub quantity_name : Quantity → List ℕ
+quantity_name q = (quantity_row q).0
+
 abbrev pub quantity_class : Quantity → List ℕ
-quantity_class Queue = codes "s2"
-quantity_class InBatches = codes "s3"
-quantity_class Held = codes "held"
-quantity_class Given = codes "given"
-quantity_class Splits = codes "s4"
-quantity_class PinnedTries = codes "pin"
-quantity_class UnderusedSplits = codes "s1"
-quantity_class Wait = codes "wait"
-quantity_class Nothing = []
+quantity_class q = (quantity_row q).1
 
 -- its least and its greatest number in a column
 abbrev pub span_in : Quantity → Column → Span
@@ -64,21 +58,19 @@ abbrev pub most_of : Quantity → List Column → ℕ
 most_of q [] = 0
 most_of q (c ∷ more) = max (span_in q c).greatest (most_of q more)
 
--- the name of a stage
-abbrev pub stage_name : Stage → List ℕ
-stage_name Allocated = codes "allocated"
-stage_name PartlyMapped = codes "partly mapped"
-stage_name Queued = codes "queued"
-stage_name InBatch = codes "in a batch"
-stage_name Split = codes "split"
+-- the name of a stage, and its class
+abbrev pub stage_row : Stage → List ℕ × List ℕ
+stage_row Allocated = (codes "allocated", codes "s0")
+stage_row PartlyMapped = (codes "partly mapped", codes "s1")
+stage_row Queued = (codes "queued", codes "s2")
+stage_row InBatch = (codes "in a batch", codes "s3")
+stage_row Split = (codes "split", codes "s4")
 
--- its class
+abbrev pub stage_name : Stage → List ℕ
+stage_name x = (stage_row x).0
+
 abbrev pub stage_class : Stage → List ℕ
-stage_class Allocated = codes "s0"
-stage_class PartlyMapped = codes "s1"
-stage_class Queued = codes "s2"
-stage_class InBatch = codes "s3"
-stage_class Split = codes "s4"
+stage_class x = (stage_row x).1
 
 -- the number of pages in a stage, summed over a column's prefixes
 abbrev pub sum_in : Stage → PageSums → ℕ

@@ -10,26 +10,23 @@ use Rattle.thp_metrics.specs.declared.stage.Stage.TheVariants.{Allocated, Partly
 use Rattle.thp_metrics.specs.declared.stuck_page.StuckPage.{StuckPage}
 use Rattle.thp_metrics.specs.Waits.{shown_callers}
 use Rattle.thp_drawing.specs.Bars.{is_among}
+use Rattle.thp_drawing.specs.Elements.{field}
 use Rattle.thp_drawing.specs.declared.node.DrawnNode.{DrawnNode}
-
--- numbers, each after a tab
-abbrev pub fields : List ℕ → List ℕ
-fields [] = []
-fields (n ∷ ns) = codes "\t" ++ decimal n ++ fields ns
 
 -- the threshold of a shape, or that it has none
 abbrev pub threshold_field : Option ℕ → List ℕ
 threshold_field None = codes "\toff"
-threshold_field (Some threshold) = codes "\t" ++ decimal threshold
+threshold_field (Some threshold) = field threshold
 
 -- the numbers of a column: the least and the greatest of each series, the sum of each stage
 unfoldable pub column_numbers : Column → List ℕ
 column_numbers c =
-    c.queue.least ∷ c.queue.greatest ∷ c.in_batches.least ∷ c.in_batches.greatest
-    ∷ c.held.least ∷ c.held.greatest ∷ c.given.least ∷ c.given.greatest
-    ∷ c.splits.least ∷ c.splits.greatest ∷ c.underused_splits.least ∷ c.underused_splits.greatest
-    ∷ c.pinned_tries.least ∷ c.pinned_tries.greatest ∷ c.wait.least ∷ c.wait.greatest
-    ∷ c.pages.allocated ∷ c.pages.partly_mapped ∷ c.pages.queued ∷ c.pages.in_batch ∷ c.pages.split ∷ []
+    field c.queue.least ++ field c.queue.greatest ++ field c.in_batches.least ++ field c.in_batches.greatest
+    ++ field c.held.least ++ field c.held.greatest ++ field c.given.least ++ field c.given.greatest
+    ++ field c.splits.least ++ field c.splits.greatest ++ field c.underused_splits.least
+    ++ field c.underused_splits.greatest ++ field c.pinned_tries.least ++ field c.pinned_tries.greatest
+    ++ field c.wait.least ++ field c.wait.greatest ++ field c.pages.allocated ++ field c.pages.partly_mapped
+    ++ field c.pages.queued ++ field c.pages.in_batch ++ field c.pages.split
 
 -- a page's stage as a letter; a page that is not live has none
 abbrev pub stage_letter : Option Stage → List ℕ
@@ -65,7 +62,7 @@ caller_words callers = if nat_eq callers 0 then codes "-" else callers_joined ca
 -- allocated, and the callers that had pages in their batches
 unfoldable pub column_line : ℕ → ℕ → ℕ → Column → List ℕ
 column_line n first last c =
-    codes "column" ++ fields (n ∷ first ∷ last ∷ []) ++ fields (column_numbers c) ++ codes "\t" ++ stage_letters c.stages
+    (codes "column" ++ field n ++ field first ++ field last) ++ column_numbers c ++ codes "\t" ++ stage_letters c.stages
     ++ codes "\t" ++ caller_words c.callers ++ codes "\n"
 
 -- the lines of columns from column j on, w prefixes each of so many in all
@@ -77,24 +74,26 @@ column_lines n w prefixes j (c ∷ more) =
 -- the numbers of a node after its shape: its events, the width of a column, and the numbers after the last event
 unfoldable pub node_numbers : DrawnNode → List ℕ
 node_numbers d =
-    (d.prefixes - 1) ∷ d.width ∷ d.last.queue ∷ d.last.in_batches ∷ d.last.held ∷ d.last.given
-    ∷ d.last.splits ∷ d.last.underused_splits ∷ d.last.pinned_tries ∷ d.last.wait
-    ∷ d.last.pages.allocated ∷ d.last.pages.partly_mapped ∷ d.last.pages.queued ∷ d.last.pages.in_batch ∷ d.last.pages.split ∷ []
+    field (d.prefixes - 1) ++ field d.width ++ field d.last.queue ++ field d.last.in_batches
+    ++ field d.last.held ++ field d.last.given ++ field d.last.splits ++ field d.last.underused_splits
+    ++ field d.last.pinned_tries ++ field d.last.wait ++ field d.last.pages.allocated
+    ++ field d.last.pages.partly_mapped ++ field d.last.pages.queued ++ field d.last.pages.in_batch
+    ++ field d.last.pages.split
 
 -- the number of the line with the first illegal event in the journal's text, and that line, whose end ends the node's own
 abbrev pub illegal_fields : Option IllegalEvent → List ℕ
 illegal_fields None = codes "\t-\t-\n"
-illegal_fields (Some illegal) = codes "\t" ++ decimal illegal.line ++ codes "\t" ++ ended (event_line illegal.event)
+illegal_fields (Some illegal) = field illegal.line ++ codes "\t" ++ ended (event_line illegal.event)
 
 -- the line of node n
 unfoldable pub node_line : ℕ → DrawnNode → List ℕ
 node_line n d =
-    codes "node" ++ fields (n ∷ d.shape.blocks ∷ d.shape.order ∷ []) ++ threshold_field d.shape.underused
-    ++ fields (node_numbers d) ++ illegal_fields d.illegal
+    (codes "node" ++ field n ++ field d.shape.blocks ++ field d.shape.order) ++ threshold_field d.shape.underused
+    ++ node_numbers d ++ illegal_fields d.illegal
 
 -- the line of a stuck page of node n: the number of times it was found pinned, and the event since which it waits
 abbrev pub stuck_line : ℕ → StuckPage → List ℕ
-stuck_line n x = codes "stuck" ++ fields (n ∷ x.page ∷ x.finds ∷ x.since ∷ []) ++ codes "\n"
+stuck_line n x = codes "stuck" ++ field n ++ field x.page ++ field x.finds ++ field x.since ++ codes "\n"
 
 abbrev pub stuck_lines : ℕ → List StuckPage → List ℕ
 stuck_lines n [] = []

@@ -2,12 +2,11 @@
 ghost use Rattle.std.specs.Prelude.{◌≡◌, ◌<◌, ◌^◌, ◌++◌, length, codes, OnOk};
 ghost use Rattle.thp_drawing.specs.Areas.{area, column_width, height_at, outline, quantity_areas, stage_area, step_to};
 
-use crate::element::{Piece, put_pieces};
+use crate::element::{PutResult, draw};
 use crate::node::DrawnNode;
 use crate::quantity::{Edge, Quantity};
 use crate::scale::{scaled, times};
-use crate::stages::{most_in, pages_most, prefixes_of, stage_class, sum_up_to};
-use std::alloc::AllocError;
+use crate::stages::{most_in, pages_most, prefixes_of, stage_words, sum_up_to};
 use thp_journal_writer::put;
 use thp_metrics::{Column, Stage};
 
@@ -41,10 +40,11 @@ pub(crate) fn put_quantity_areas(
     quantity: Quantity,
     most: u128,
     node: &DrawnNode,
-) -> Result<(), AllocError>
+) -> PutResult
     ensures { OnOk result (text.new.items ≡ text.old.items ++ quantity_areas sign.now quantity most node.now) }
 {
-    let (kind, columns) = (quantity.class(), node.columns.as_slice());
+    let (_, kind) = quantity.words();
+    let columns = node.columns.as_slice();
     let greatest = Height::Of(quantity, Edge::Greatest, most);
     if node.width != 1 {
         put_area(text, kind, b" pale", sign, greatest, columns)?;
@@ -62,28 +62,15 @@ fn put_area<'a>(
     sign: &[u8],
     height: Height,
     columns: &[Column],
-) -> Result<(), AllocError>
+) -> PutResult
     ensures { OnOk result (text.new.items ≡ text.old.items ++ area kind.now shade.now sign.now height columns.now) }
 {
-    put_pieces(
-        text,
-        &[
-            Piece::Bytes(b"<path class=\""),
-            Piece::Bytes(kind),
-            Piece::Bytes(shade),
-            Piece::Bytes(b"\" d=\"M0 0"),
-        ],
-    )?;
+    draw!(text; Bytes(b"<path class=\"") Bytes(kind) Bytes(shade) Bytes(b"\" d=\"M0 0"))?;
     put_outline(text, sign, height, columns)?;
     put(text, b"V0z\"/>\n")
 }
 
-fn put_outline(
-    text: &mut Vec<u8>,
-    sign: &[u8],
-    height: Height,
-    columns: &[Column],
-) -> Result<(), AllocError>
+fn put_outline(text: &mut Vec<u8>, sign: &[u8], height: Height, columns: &[Column]) -> PutResult
     ensures { OnOk result (text.new.items ≡ text.old.items ++ outline sign.now height (length columns.now) 0 columns.now) }
 {
     let count = columns.len() as u128;
@@ -104,27 +91,14 @@ fn column_width(count: u128, place: u128) -> u128
 
 // A step to this height, and this far to the right.
 #[tactic(auto, unfolding(crate::specs::Areas::step_to))]
-fn put_step(text: &mut Vec<u8>, sign: &[u8], high: u128, wide: u128) -> Result<(), AllocError>
+fn put_step(text: &mut Vec<u8>, sign: &[u8], high: u128, wide: u128) -> PutResult
     ensures { OnOk result (text.new.items ≡ text.old.items ++ step_to sign.now high wide) }
 {
-    put_pieces(
-        text,
-        &[
-            Piece::Bytes(b"V"),
-            Piece::Bytes(sign),
-            Piece::Decimal(high),
-            Piece::Bytes(b"h"),
-            Piece::Decimal(wide),
-        ],
-    )
+    draw!(text; Bytes(b"V") Bytes(sign) Decimal(high) Bytes(b"h") Decimal(wide))
 }
 
 /// Appends the area of a stage, if any page was ever in it.
-pub(crate) fn put_stage_area(
-    text: &mut Vec<u8>,
-    stage: Stage,
-    node: &DrawnNode,
-) -> Result<(), AllocError>
+pub(crate) fn put_stage_area(text: &mut Vec<u8>, stage: Stage, node: &DrawnNode) -> PutResult
     ensures { OnOk result (text.new.items ≡ text.old.items ++ stage_area stage node.now) }
 {
     let columns = node.columns.as_slice();
@@ -132,5 +106,5 @@ pub(crate) fn put_stage_area(
         return Ok(());
     }
     let height = Height::UpTo(stage, node.width, node.prefixes, pages_most(node));
-    put_area(text, stage_class(stage), b"", b"-", height, columns)
+    put_area(text, stage_words(stage).1, b"", b"-", height, columns)
 }

@@ -3,10 +3,9 @@ ghost use Rattle.std.specs.Prelude.{◌≡◌, ◌++◌, OnOk};
 ghost use Rattle.thp_drawing.specs.Axes.{event_axis, event_marks, event_numbers, event_rules, event_step, room_of, tick};
 ghost use Rattle.thp_drawing.specs.Axes.{ticks, upright, uprights};
 
-use crate::element::{GROUP_END, Piece, put_group, put_pieces, put_words};
+use crate::element::{GROUP_END, PutResult, draw, pieces, put_group, put_words};
 use crate::node::DrawnNode;
 use crate::scale::{plus, round_step, scaled, steps_in, times};
-use std::alloc::AllocError;
 use thp_journal_writer::put;
 
 /// The line from which areas extend upwards and downwards.
@@ -20,7 +19,7 @@ pub(crate) fn put_ticks(
     step: u128,
     most: u128,
     count: u128,
-) -> Result<(), AllocError>
+) -> PutResult
     ensures { OnOk result (text.new.items ≡ text.old.items ++ ticks sign.now step most count) }
 {
     for before in 0..count {
@@ -32,27 +31,13 @@ pub(crate) fn put_ticks(
 
 /// Appends a number of an axis, and a line at its height.
 #[tactic(auto, unfolding(crate::specs::Axes::tick))]
-pub(crate) fn put_tick(
-    text: &mut Vec<u8>,
-    sign: &[u8],
-    number: u128,
-    high: u128,
-) -> Result<(), AllocError>
+pub(crate) fn put_tick(text: &mut Vec<u8>, sign: &[u8], number: u128, high: u128) -> PutResult
     ensures { OnOk result (text.new.items ≡ text.old.items ++ tick sign.now number high) }
 {
-    put_pieces(
-        text,
-        &[
-            Piece::Bytes(b"<path class=\"rule\" d=\"M0 "),
-            Piece::Bytes(sign),
-            Piece::Decimal(high),
-            Piece::Bytes(b"h6000\"/>\n<text class=\"soft e\" x=\"-60\" y=\""),
-            Piece::Bytes(sign),
-            Piece::Decimal(high),
-            Piece::Bytes(b"\" dy=\"40\">"),
-            Piece::Grouped(number),
-            Piece::Bytes(b"</text>\n"),
-        ],
+    draw!(text;
+        Bytes(b"<path class=\"rule\" d=\"M0 ") Bytes(sign) Decimal(high)
+        Bytes(b"h6000\"/>\n<text class=\"soft e\" x=\"-60\" y=\"") Bytes(sign) Decimal(high)
+        Bytes(b"\" dy=\"40\">") Grouped(number) Bytes(b"</text>\n")
     )
 }
 
@@ -82,11 +67,7 @@ fn event_marks(node: &DrawnNode) -> u128
 
 /// Appends the vertical lines of a panel of this height.
 #[tactic(auto, using(crate::proofs::Pieces::three), unfolding(crate::specs::Axes::event_rules))]
-pub(crate) fn put_event_rules(
-    text: &mut Vec<u8>,
-    high: u128,
-    node: &DrawnNode,
-) -> Result<(), AllocError>
+pub(crate) fn put_event_rules(text: &mut Vec<u8>, high: u128, node: &DrawnNode) -> PutResult
     ensures { OnOk result (text.new.items ≡ text.old.items ++ event_rules high node.now) }
 {
     put(text, b"<path class=\"rule\" d=\"")?;
@@ -100,13 +81,7 @@ pub(crate) fn put_event_rules(
     put(text, b"\"/>\n")
 }
 
-fn put_uprights(
-    text: &mut Vec<u8>,
-    high: u128,
-    step: u128,
-    room: u128,
-    count: u128,
-) -> Result<(), AllocError>
+fn put_uprights(text: &mut Vec<u8>, high: u128, step: u128, room: u128, count: u128) -> PutResult
     ensures { OnOk result (text.new.items ≡ text.old.items ++ uprights high step room count) }
 {
     for before in 0..count {
@@ -116,27 +91,15 @@ fn put_uprights(
 }
 
 #[tactic(auto, unfolding(crate::specs::Axes::upright))]
-fn put_upright(text: &mut Vec<u8>, high: u128, x: u128) -> Result<(), AllocError>
+fn put_upright(text: &mut Vec<u8>, high: u128, x: u128) -> PutResult
     ensures { OnOk result (text.new.items ≡ text.old.items ++ upright high x) }
 {
-    put_pieces(
-        text,
-        &[
-            Piece::Bytes(b"M"),
-            Piece::Decimal(x),
-            Piece::Bytes(b" 0v"),
-            Piece::Decimal(high),
-        ],
-    )
+    draw!(text; Bytes(b"M") Decimal(x) Bytes(b" 0v") Decimal(high))
 }
 
 /// Appends the numbers of events at this height.
 #[tactic(auto, using(crate::proofs::Pieces::four), unfolding(crate::specs::Axes::event_axis))]
-pub(crate) fn put_event_axis(
-    text: &mut Vec<u8>,
-    y: u128,
-    node: &DrawnNode,
-) -> Result<(), AllocError>
+pub(crate) fn put_event_axis(text: &mut Vec<u8>, y: u128, node: &DrawnNode) -> PutResult
     ensures { OnOk result (text.new.items ≡ text.old.items ++ event_axis y node.now) }
 {
     put_group(text, 900, y)?;
@@ -148,18 +111,13 @@ pub(crate) fn put_event_axis(
     put(text, GROUP_END)
 }
 
-fn put_event_numbers(
-    text: &mut Vec<u8>,
-    step: u128,
-    room: u128,
-    count: u128,
-) -> Result<(), AllocError>
+fn put_event_numbers(text: &mut Vec<u8>, step: u128, room: u128, count: u128) -> PutResult
     ensures { OnOk result (text.new.items ≡ text.old.items ++ event_numbers step room count) }
 {
     for before in 0..count {
         let event = times(step, before);
         let x = scaled(6000, event, room);
-        put_words(text, b"soft c", x, 0, &[Piece::Grouped(event)])?;
+        put_words(text, b"soft c", x, 0, &pieces!(Grouped(event)))?;
     }
     Ok(())
 }

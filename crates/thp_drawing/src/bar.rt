@@ -2,9 +2,8 @@
 ghost use Rattle.std.specs.Prelude.{◌≡◌, ◌≤◌, ◌++◌, false, length, OnOk};
 ghost use Rattle.thp_drawing.specs.Bars.{bar_at, bar_turns, covers, is_among, line_turn, stage_in, stage_number, turn_count};
 
-use crate::element::{Piece, put_pieces};
+use crate::element::{PutResult, draw};
 use crate::scale::scaled;
-use std::alloc::AllocError;
 use thp_metrics::{Column, SHOWN_CALLERS, Stage};
 
 /// The content of a bar.
@@ -86,12 +85,7 @@ fn stage_number(stage: Option<Stage>) -> u8
 }
 
 /// Appends the lines of a bar at this height.
-pub(crate) fn put_bar(
-    text: &mut Vec<u8>,
-    bar: Bar,
-    y: u128,
-    columns: &[Column],
-) -> Result<(), AllocError>
+pub(crate) fn put_bar(text: &mut Vec<u8>, bar: Bar, y: u128, columns: &[Column]) -> PutResult
     ensures { OnOk result (text.new.items ≡ text.old.items ++ bar_at bar y columns.now) }
 {
     let count = columns.len() as u128;
@@ -105,20 +99,12 @@ pub(crate) fn put_bar(
 }
 
 // The start or end of a line, where the bar starts or ends.
-fn put_turn(text: &mut Vec<u8>, y: u128, x: u128, before: bool, now: bool) -> Result<(), AllocError>
+fn put_turn(text: &mut Vec<u8>, y: u128, x: u128, before: bool, now: bool) -> PutResult
     ensures { OnOk result (text.new.items ≡ text.old.items ++ line_turn y x before now) }
 {
     match (before, now) {
-        (false, true) => put_pieces(
-            text,
-            &[
-                Piece::Bytes(b"M"),
-                Piece::Decimal(x),
-                Piece::Bytes(b" "),
-                Piece::Decimal(y),
-            ],
-        ),
-        (true, false) => put_pieces(text, &[Piece::Bytes(b"H"), Piece::Decimal(x)]),
+        (false, true) => draw!(text; Bytes(b"M") Decimal(x) Bytes(b" ") Decimal(y)),
+        (true, false) => draw!(text; Bytes(b"H") Decimal(x)),
         (false, false) | (true, true) => Ok(()),
     }
 }

@@ -5,8 +5,12 @@ ghost use Rattle.thp_drawing.specs.Elements.{group_start, item_at, piece_text, p
 use crate::escaping::put_escaped;
 use crate::grouped::{put_decimal, put_grouped, put_many};
 use crate::scale::plus;
+use crate::table::put_field;
 use std::alloc::AllocError;
 use thp_journal_writer::put;
+
+/// The result of appending to a text, which fails if memory can't be allocated.
+pub(crate) type PutResult = Result<(), AllocError>;
 
 /// The text that ends a group.
 pub(crate) const GROUP_END: &[u8] = b"</g>\n";
@@ -20,14 +24,33 @@ pub(crate) enum Piece<'a> {
     Escaped(&'a [u8]),
     /// A number in decimal.
     Decimal(u128),
+    /// A tab, and a number in decimal.
+    Field(u128),
     /// A number whose digits are in groups of three.
     Grouped(u128),
     /// A number and a word, with an `s` unless the number is 1.
     Many(u128, &'a [u8]),
 }
 
+/// Pieces of a text, each as its kind and its value.
+macro_rules! pieces {
+    ($($kind:ident $value:tt)*) => {
+        [$($crate::element::Piece::$kind $value),*]
+    };
+}
+
+/// Appends pieces, each given as its kind and its value, to a text.
+macro_rules! draw {
+    ($text:expr; $($kind:ident $value:tt)*) => {
+        $crate::element::put_pieces($text, &$crate::element::pieces!($($kind $value)*))
+    };
+}
+
+pub(crate) use draw;
+pub(crate) use pieces;
+
 /// Appends pieces to a text.
-pub(crate) fn put_pieces(text: &mut Vec<u8>, pieces: &[Piece<'_>]) -> Result<(), AllocError>
+pub(crate) fn put_pieces(text: &mut Vec<u8>, pieces: &[Piece<'_>]) -> PutResult
     ensures { OnOk result (text.new.items ≡ text.old.items ++ pieces_text pieces.now) }
 {
     for piece in pieces {
@@ -36,13 +59,14 @@ pub(crate) fn put_pieces(text: &mut Vec<u8>, pieces: &[Piece<'_>]) -> Result<(),
     Ok(())
 }
 
-fn put_piece(text: &mut Vec<u8>, piece: &Piece<'_>) -> Result<(), AllocError>
+fn put_piece(text: &mut Vec<u8>, piece: &Piece<'_>) -> PutResult
     ensures { OnOk result (text.new.items ≡ text.old.items ++ piece_text piece.now) }
 {
     match piece {
         Piece::Bytes(bytes) => put(text, *bytes),
         Piece::Escaped(words) => put_escaped(text, *words),
         Piece::Decimal(number) => put_decimal(text, *number),
+        Piece::Field(number) => put_field(text, *number),
         Piece::Grouped(number) => put_grouped(text, *number),
         Piece::Many(number, word) => put_many(text, *number, *word),
     }
@@ -56,22 +80,12 @@ pub(crate) fn put_text<'a>(
     x: u128,
     y: u128,
     words: &'a [u8],
-) -> Result<(), AllocError>
+) -> PutResult
     ensures { OnOk result (text.new.items ≡ text.old.items ++ text_at kind.now x y words.now) }
 {
-    put_pieces(
-        text,
-        &[
-            Piece::Bytes(b"<text class=\""),
-            Piece::Bytes(kind),
-            Piece::Bytes(b"\" x=\""),
-            Piece::Decimal(x),
-            Piece::Bytes(b"\" y=\""),
-            Piece::Decimal(y),
-            Piece::Bytes(b"\">"),
-            Piece::Escaped(words),
-            Piece::Bytes(b"</text>\n"),
-        ],
+    draw!(text;
+        Bytes(b"<text class=\"") Bytes(kind) Bytes(b"\" x=\"") Decimal(x) Bytes(b"\" y=\"")
+        Decimal(y) Bytes(b"\">") Escaped(words) Bytes(b"</text>\n")
     )
 }
 
@@ -82,7 +96,7 @@ pub(crate) fn put_words(
     x: u128,
     y: u128,
     pieces: &[Piece<'_>],
-) -> Result<(), AllocError>
+) -> PutResult
     ensures { OnOk result (text.new.items ≡ text.old.items ++ text_at kind.now x y (pieces_text pieces.now)) }
 {
     let mut words = Vec::new(*text.allocator());
@@ -92,12 +106,7 @@ pub(crate) fn put_words(
 
 /// Appends words in a panel's title, after a square of this class.
 #[tactic(auto, using(crate::proofs::Pieces::two), unfolding(crate::specs::Elements::item_at))]
-pub(crate) fn put_item(
-    text: &mut Vec<u8>,
-    kind: &[u8],
-    x: u128,
-    pieces: &[Piece<'_>],
-) -> Result<(), AllocError>
+pub(crate) fn put_item(text: &mut Vec<u8>, kind: &[u8], x: u128, pieces: &[Piece<'_>]) -> PutResult
     ensures { OnOk result (text.new.items ≡ text.old.items ++ item_at kind.now x (pieces_text pieces.now)) }
 {
     put_square(text, kind, x)?;
@@ -105,34 +114,21 @@ pub(crate) fn put_item(
 }
 
 #[tactic(auto, unfolding(crate::specs::Elements::square_at))]
-fn put_square(text: &mut Vec<u8>, kind: &[u8], x: u128) -> Result<(), AllocError>
+fn put_square(text: &mut Vec<u8>, kind: &[u8], x: u128) -> PutResult
     ensures { OnOk result (text.new.items ≡ text.old.items ++ square_at kind.now x) }
 {
-    put_pieces(
-        text,
-        &[
-            Piece::Bytes(b"<rect class=\""),
-            Piece::Bytes(kind),
-            Piece::Bytes(b"\" x=\""),
-            Piece::Decimal(x),
-            Piece::Bytes(b"\" y=\"72\" width=\"80\" height=\"80\"/>\n"),
-        ],
+    draw!(text;
+        Bytes(b"<rect class=\"") Bytes(kind) Bytes(b"\" x=\"") Decimal(x)
+        Bytes(b"\" y=\"72\" width=\"80\" height=\"80\"/>\n")
     )
 }
 
 /// Begins a group whose origin is this position.
 #[tactic(auto, unfolding(crate::specs::Elements::group_start))]
-pub(crate) fn put_group(text: &mut Vec<u8>, x: u128, y: u128) -> Result<(), AllocError>
+pub(crate) fn put_group(text: &mut Vec<u8>, x: u128, y: u128) -> PutResult
     ensures { OnOk result (text.new.items ≡ text.old.items ++ group_start x y) }
 {
-    put_pieces(
-        text,
-        &[
-            Piece::Bytes(b"<g transform=\"translate("),
-            Piece::Decimal(x),
-            Piece::Bytes(b" "),
-            Piece::Decimal(y),
-            Piece::Bytes(b")\">\n"),
-        ],
+    draw!(text;
+        Bytes(b"<g transform=\"translate(") Decimal(x) Bytes(b" ") Decimal(y) Bytes(b")\">\n")
     )
 }

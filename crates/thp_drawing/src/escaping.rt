@@ -2,6 +2,7 @@
 ghost use Rattle.std.specs.Prelude.{◌≡◌, ◌++◌, OnOk};
 ghost use Rattle.thp_drawing.specs.Escapes.{escaped, escaped_byte, EscapedStaysWithin};
 
+use crate::element::PutResult;
 use std::alloc::AllocError;
 use thp_journal_writer::put;
 
@@ -15,7 +16,7 @@ pub fn put_escaped(text: &mut Vec<u8>, words: &[u8]) -> Result<(), AllocError>
     Ok(())
 }
 
-fn put_byte(text: &mut Vec<u8>, byte: u8) -> Result<(), AllocError>
+fn put_byte(text: &mut Vec<u8>, byte: u8) -> PutResult
     ensures { OnOk result (text.new.items ≡ text.old.items ++ escaped_byte byte) }
 {
     if byte == b'&' {

@@ -2,17 +2,16 @@
 ghost use Rattle.std.specs.Prelude.{◌≡◌, ◌≤◌, ◌++◌, [], length, if◌then◌else◌, OnOk};
 ghost use Rattle.thp_drawing.specs.Axes.{tick};
 ghost use Rattle.thp_drawing.specs.Lanes.{all_lanes, all_turns, has_lane, has_lanes, lane_at, lane_count, lane_drawn};
-ghost use Rattle.thp_drawing.specs.Lanes.{lane_height, lanes_drawn, lanes_height, lanes_panel, lanes_title};
+ghost use Rattle.thp_drawing.specs.Lanes.{lane_height, lanes_height, lanes_panel, lanes_title};
 ghost use Rattle.thp_drawing.specs.Scales.{times};
 
 use crate::axis::put_tick;
 use crate::bar::{Bar, put_bar};
-use crate::element::{Piece, put_item};
+use crate::element::{PutResult, pieces, put_item};
 use crate::node::DrawnNode;
 use crate::panel::{put_graph_start, put_panel_end, put_panel_start};
 use crate::rows::{MAX_TURNS, row_middle};
 use crate::scale::{plus, times};
-use std::alloc::AllocError;
 use thp_journal_writer::put;
 use thp_metrics::{Column, SHOWN_CALLERS};
 
@@ -84,24 +83,13 @@ pub(crate) fn lanes_height(node: &DrawnNode) -> u128
 }
 
 /// Appends the panel of a node's callers from this height on: a lane for each caller that ever had pages in its batch.
-pub(crate) fn put_lanes_panel(
-    text: &mut Vec<u8>,
-    y: u128,
-    node: &DrawnNode,
-) -> Result<(), AllocError>
+#[tactic(auto, using(crate::proofs::Pieces::five), unfolding(crate::specs::Lanes::lanes_drawn))]
+pub(crate) fn put_lanes_panel(text: &mut Vec<u8>, y: u128, node: &DrawnNode) -> PutResult
     ensures { OnOk result (text.new.items ≡ text.old.items ++ lanes_panel y node.now) }
 {
-    if has_lanes(node) {
-        put_lanes_drawn(text, y, node)
-    } else {
-        Ok(())
+    if !has_lanes(node) {
+        return Ok(());
     }
-}
-
-#[tactic(auto, using(crate::proofs::Pieces::five), unfolding(crate::specs::Lanes::lanes_drawn))]
-fn put_lanes_drawn(text: &mut Vec<u8>, y: u128, node: &DrawnNode) -> Result<(), AllocError>
-    ensures { OnOk result (text.new.items ≡ text.old.items ++ lanes_drawn y node.now) }
-{
     put_panel_start(text, y, b"caller")?;
     put_lanes_title(text)?;
     put_graph_start(text, graph_height(node), node)?;
@@ -110,14 +98,14 @@ fn put_lanes_drawn(text: &mut Vec<u8>, y: u128, node: &DrawnNode) -> Result<(), 
 }
 
 #[tactic(auto, unfolding(crate::specs::Lanes::lanes_title))]
-fn put_lanes_title(text: &mut Vec<u8>) -> Result<(), AllocError>
+fn put_lanes_title(text: &mut Vec<u8>) -> PutResult
     ensures { OnOk result (text.new.items ≡ text.old.items ++ lanes_title) }
 {
-    let words = Piece::Bytes(b"pages in its batch at least once in a column");
-    put_item(text, b"s3", 0, &[words])
+    let words = pieces!(Bytes(b"pages in its batch at least once in a column"));
+    put_item(text, b"s3", 0, &words)
 }
 
-fn put_lanes(text: &mut Vec<u8>, columns: &[Column]) -> Result<(), AllocError>
+fn put_lanes(text: &mut Vec<u8>, columns: &[Column]) -> PutResult
     ensures { OnOk result (text.new.items ≡ text.old.items ++ all_lanes columns.now) }
 {
     let mut lane = 0;
@@ -129,12 +117,7 @@ fn put_lanes(text: &mut Vec<u8>, columns: &[Column]) -> Result<(), AllocError>
 }
 
 // The lane of a caller, if it ever had pages in its batch.
-fn put_lane(
-    text: &mut Vec<u8>,
-    columns: &[Column],
-    lane: u128,
-    caller: u32,
-) -> Result<(), AllocError>
+fn put_lane(text: &mut Vec<u8>, columns: &[Column], lane: u128, caller: u32) -> PutResult
     ensures { OnOk result (text.new.items ≡ text.old.items ++ lane_at columns.now lane caller) }
 {
     if has_lane(columns, caller) {
@@ -144,12 +127,7 @@ fn put_lane(
     }
 }
 
-fn put_lane_drawn(
-    text: &mut Vec<u8>,
-    columns: &[Column],
-    y: u128,
-    caller: u32,
-) -> Result<(), AllocError>
+fn put_lane_drawn(text: &mut Vec<u8>, columns: &[Column], y: u128, caller: u32) -> PutResult
     ensures { OnOk result (text.new.items ≡ text.old.items ++ lane_drawn columns.now y caller) }
 {
     put_lane_number(text, y, caller)?;
@@ -158,7 +136,7 @@ fn put_lane_drawn(
     put(text, b"\"/>\n")
 }
 
-fn put_lane_number(text: &mut Vec<u8>, y: u128, caller: u32) -> Result<(), AllocError>
+fn put_lane_number(text: &mut Vec<u8>, y: u128, caller: u32) -> PutResult
     ensures { OnOk result (text.new.items ≡ text.old.items ++ tick [] caller y) }
 {
     put_tick(text, b"", u128::from(caller), y)

@@ -3,12 +3,11 @@ ghost use Rattle.std.specs.Prelude.{◌≡◌, ◌++◌, OnOk};
 ghost use Rattle.thp_drawing.specs.Overviews.{illegal_mark, live_pages, number_cell, overview, overview_foot};
 ghost use Rattle.thp_drawing.specs.Overviews.{overview_heads, overview_line, overview_lines};
 
-use crate::element::{GROUP_END, Piece, put_group, put_text, put_words};
+use crate::element::{GROUP_END, PutResult, pieces, put_group, put_text, put_words};
 use crate::illegal_event::IllegalEvent;
 use crate::node::DrawnNode;
 use crate::quantity::Quantity;
 use crate::scale::{plus, times};
-use std::alloc::AllocError;
 use thp_journal_writer::put;
 use thp_metrics::Pages;
 
@@ -28,7 +27,7 @@ pub(crate) fn overview_foot(nodes: &[DrawnNode]) -> u128
 
 /// Appends the overview of several nodes.
 #[tactic(auto, using(crate::proofs::Pieces::two), unfolding(crate::specs::Overviews::overview))]
-pub(crate) fn put_overview(text: &mut Vec<u8>, nodes: &[DrawnNode]) -> Result<(), AllocError>
+pub(crate) fn put_overview(text: &mut Vec<u8>, nodes: &[DrawnNode]) -> PutResult
     ensures { OnOk result (text.new.items ≡ text.old.items ++ overview nodes.now) }
 {
     if nodes.len() <= 1 {
@@ -39,7 +38,7 @@ pub(crate) fn put_overview(text: &mut Vec<u8>, nodes: &[DrawnNode]) -> Result<()
 }
 
 #[tactic(auto, using(crate::proofs::Pieces::five), unfolding(crate::specs::Overviews::overview_heads))]
-fn put_overview_heads(text: &mut Vec<u8>) -> Result<(), AllocError>
+fn put_overview_heads(text: &mut Vec<u8>) -> PutResult
     ensures { OnOk result (text.new.items ≡ text.old.items ++ overview_heads) }
 {
     put_text(text, b"soft", 150, 895, b"node")?;
@@ -49,7 +48,7 @@ fn put_overview_heads(text: &mut Vec<u8>) -> Result<(), AllocError>
     put_text(text, b"soft e", 6900, 895, b"given back")
 }
 
-fn put_overview_lines(text: &mut Vec<u8>, nodes: &[DrawnNode]) -> Result<(), AllocError>
+fn put_overview_lines(text: &mut Vec<u8>, nodes: &[DrawnNode]) -> PutResult
     ensures { OnOk result (text.new.items ≡ text.old.items ++ overview_lines 1060 0 nodes.now) }
 {
     for (number, node) in nodes.iter().enumerate() {
@@ -60,25 +59,12 @@ fn put_overview_lines(text: &mut Vec<u8>, nodes: &[DrawnNode]) -> Result<(), All
 }
 
 #[tactic(auto, using(crate::proofs::Pieces::seven), unfolding(crate::specs::Overviews::overview_line))]
-fn put_overview_line(
-    text: &mut Vec<u8>,
-    y: u128,
-    number: usize,
-    node: &DrawnNode,
-) -> Result<(), AllocError>
+fn put_overview_line(text: &mut Vec<u8>, y: u128, number: usize, node: &DrawnNode) -> PutResult
     ensures { OnOk result (text.new.items ≡ text.old.items ++ overview_line y number node.now) }
 {
     put_group(text, 0, y)?;
-    put_words(
-        text,
-        b"ink",
-        150,
-        0,
-        &[
-            Piece::Decimal(number as u128),
-            Piece::Bytes(illegal_mark(&node.illegal)),
-        ],
-    )?;
+    let words = pieces!(Decimal(number as u128) Bytes(illegal_mark(&node.illegal)));
+    put_words(text, b"ink", 150, 0, &words)?;
     put_number(text, 2400, live_pages(&node.last.pages))?;
     put_number(text, 3900, Quantity::Queue.most(node.columns.as_slice()))?;
     put_number(text, 5400, node.last.held)?;
@@ -97,10 +83,10 @@ fn illegal_mark(illegal: &Option<IllegalEvent>) -> &'static [u8]
 }
 
 // A right-aligned number that ends at this position.
-fn put_number(text: &mut Vec<u8>, x: u128, number: u128) -> Result<(), AllocError>
+fn put_number(text: &mut Vec<u8>, x: u128, number: u128) -> PutResult
     ensures { OnOk result (text.new.items ≡ text.old.items ++ number_cell x number) }
 {
-    put_words(text, b"ink e", x, 0, &[Piece::Grouped(number)])
+    put_words(text, b"ink e", x, 0, &pieces!(Grouped(number)))
 }
 
 // The number of live pages in all stages.

@@ -1,36 +1,9 @@
 //! The picture of nodes, as SVG.
 ghost use Rattle.std.specs.Prelude.{◌≡◌, ◌++◌, OnOk};
-ghost use Rattle.thp_drawing.specs.Pictures.{
-  axis_top,
-  column_words,
-  foot_of,
-  frames_top,
-  ground,
-  head,
-  height_of,
-  lanes_top,
-  lives_drawn,
-  lives_height,
-  lives_top,
-  node_drawn,
-  node_height,
-  node_picture,
-  nodes_drawn,
-  order_words,
-  pages_top,
-  panels_drawn,
-  picture_text,
-  stuck_top,
-  svg_start,
-  title,
-  title_words,
-  tries_top,
-  underused_top,
-  waits_top,
-};
+ghost use Rattle.thp_drawing.specs.Pictures.{axis_top, below, column_words, foot_of, ground, head, height_of, lives_drawn, lives_height, node_drawn, node_height, node_picture, nodes_drawn, order_words, pages_top, panels_drawn, picture_text, stuck_top, svg_start, title, title_words};
 
 use crate::axis::put_event_axis;
-use crate::element::{GROUP_END, Piece, put_group, put_pieces, put_text};
+use crate::element::{GROUP_END, PutResult, draw, put_group, put_text};
 use crate::illegal_event::IllegalEvent;
 use crate::lanes::{lanes_height, put_lanes_panel};
 use crate::node::DrawnNode;
@@ -83,7 +56,7 @@ pub fn put_node_picture(
 }
 
 #[tactic(auto, using(crate::proofs::Pieces::three), unfolding(crate::specs::Pictures::head))]
-fn put_head(text: &mut Vec<u8>, high: u128) -> Result<(), AllocError>
+fn put_head(text: &mut Vec<u8>, high: u128) -> PutResult
     ensures { OnOk result (text.new.items ≡ text.old.items ++ head high) }
 {
     put_svg_start(text, high)?;
@@ -91,32 +64,22 @@ fn put_head(text: &mut Vec<u8>, high: u128) -> Result<(), AllocError>
     put_ground(text, high)
 }
 
-fn put_svg_start(text: &mut Vec<u8>, high: u128) -> Result<(), AllocError>
+fn put_svg_start(text: &mut Vec<u8>, high: u128) -> PutResult
     ensures { OnOk result (text.new.items ≡ text.old.items ++ svg_start high) }
 {
-    put_pieces(
-        text,
-        &[
-            Piece::Bytes(b"<svg xmlns=\"http://www.w3.org/2000/svg\" viewBox=\"0 0 7200 "),
-            Piece::Decimal(high),
-            Piece::Bytes(b"\" role=\"img\" aria-labelledby=\"title desc\">\n"),
-            Piece::Bytes(NAME),
-            Piece::Bytes(DESCRIPTION),
-        ],
+    draw!(text;
+        Bytes(b"<svg xmlns=\"http://www.w3.org/2000/svg\" viewBox=\"0 0 7200 ") Decimal(high)
+        Bytes(b"\" role=\"img\" aria-labelledby=\"title desc\">\n") Bytes(NAME) Bytes(DESCRIPTION)
     )
 }
 
 #[tactic(auto, unfolding(crate::specs::Pictures::ground))]
-fn put_ground(text: &mut Vec<u8>, high: u128) -> Result<(), AllocError>
+fn put_ground(text: &mut Vec<u8>, high: u128) -> PutResult
     ensures { OnOk result (text.new.items ≡ text.old.items ++ ground high) }
 {
-    put_pieces(
-        text,
-        &[
-            Piece::Bytes(b"<rect class=\"bg\" x=\"0\" y=\"0\" width=\"7200\" height=\""),
-            Piece::Decimal(high),
-            Piece::Bytes(b"\"/>\n"),
-        ],
+    draw!(text;
+        Bytes(b"<rect class=\"bg\" x=\"0\" y=\"0\" width=\"7200\" height=\"") Decimal(high)
+        Bytes(b"\"/>\n")
     )
 }
 
@@ -144,7 +107,7 @@ fn column_words() -> &'static [u8]
 }
 
 #[tactic(auto, using(crate::proofs::Pieces::three), unfolding(crate::specs::Pictures::title))]
-fn put_title(text: &mut Vec<u8>) -> Result<(), AllocError>
+fn put_title(text: &mut Vec<u8>) -> PutResult
     ensures { OnOk result (text.new.items ≡ text.old.items ++ title) }
 {
     put_text(text, b"ink hh", 150, 300, title_words())?;
@@ -163,7 +126,7 @@ fn foot_of(top: u128, nodes: &[DrawnNode]) -> u128
     y
 }
 
-fn put_nodes(text: &mut Vec<u8>, top: u128, nodes: &[DrawnNode]) -> Result<(), AllocError>
+fn put_nodes(text: &mut Vec<u8>, top: u128, nodes: &[DrawnNode]) -> PutResult
     ensures { OnOk result (text.new.items ≡ text.old.items ++ nodes_drawn top 0 nodes.now) }
 {
     let mut y = top;
@@ -175,7 +138,7 @@ fn put_nodes(text: &mut Vec<u8>, top: u128, nodes: &[DrawnNode]) -> Result<(), A
 }
 
 #[tactic(auto, using(crate::proofs::Pieces::seven), unfolding(crate::specs::Pictures::node_drawn))]
-fn put_node(text: &mut Vec<u8>, y: u128, number: usize, node: &DrawnNode) -> Result<(), AllocError>
+fn put_node(text: &mut Vec<u8>, y: u128, number: usize, node: &DrawnNode) -> PutResult
     ensures { OnOk result (text.new.items ≡ text.old.items ++ node_drawn y number node.now) }
 {
     let mut words = Vec::new(*text.allocator());
@@ -190,20 +153,26 @@ fn put_node(text: &mut Vec<u8>, y: u128, number: usize, node: &DrawnNode) -> Res
 }
 
 #[tactic(auto, using(crate::proofs::Pieces::seven), unfolding(crate::specs::Pictures::panels_drawn))]
-fn put_panels(text: &mut Vec<u8>, node: &DrawnNode) -> Result<(), AllocError>
+fn put_panels(text: &mut Vec<u8>, node: &DrawnNode) -> PutResult
     ensures { OnOk result (text.new.items ≡ text.old.items ++ panels_drawn node.now) }
 {
-    put_panel(text, Panel::Pages, pages_top(node), node)?;
-    put_lanes_panel(text, lanes_top(node), node)?;
-    put_panel(text, Panel::Waits, waits_top(node), node)?;
-    put_panel(text, Panel::Frames, frames_top(node), node)?;
-    put_panel(text, Panel::Tries, tries_top(node), node)?;
-    put_panel(text, Panel::Underused, underused_top(node), node)?;
-    put_lives(text, lives_top(node), node)
+    let y = pages_top(node);
+    put_panel(text, Panel::Pages, y, node)?;
+    let y = below(y, Panel::Pages, node);
+    put_lanes_panel(text, y, node)?;
+    let y = plus(y, lanes_height(node));
+    put_panel(text, Panel::Waits, y, node)?;
+    let y = below(y, Panel::Waits, node);
+    put_panel(text, Panel::Frames, y, node)?;
+    let y = below(y, Panel::Frames, node);
+    put_panel(text, Panel::Tries, y, node)?;
+    let y = below(y, Panel::Tries, node);
+    put_panel(text, Panel::Underused, y, node)?;
+    put_lives(text, below(y, Panel::Underused, node), node)
 }
 
 // The pages' stages: a row for each page, or the number of pages in each stage.
-fn put_lives(text: &mut Vec<u8>, y: u128, node: &DrawnNode) -> Result<(), AllocError>
+fn put_lives(text: &mut Vec<u8>, y: u128, node: &DrawnNode) -> PutResult
     ensures { OnOk result (text.new.items ≡ text.old.items ++ lives_drawn y node.now) }
 {
     if has_rows(node) {
@@ -235,40 +204,11 @@ fn pages_top(node: &DrawnNode) -> u128
     plus(stuck_top(&node.illegal), stuck_height(node))
 }
 
-fn lanes_top(node: &DrawnNode) -> u128
-    ensures { result ≡ lanes_top node.now }
+// The lower end of a panel that begins at this height.
+fn below(y: u128, panel: Panel, node: &DrawnNode) -> u128
+    ensures { result ≡ below y panel node.now }
 {
-    plus(pages_top(node), height_of(Panel::Pages.most(node)))
-}
-
-fn waits_top(node: &DrawnNode) -> u128
-    ensures { result ≡ waits_top node.now }
-{
-    plus(lanes_top(node), lanes_height(node))
-}
-
-fn frames_top(node: &DrawnNode) -> u128
-    ensures { result ≡ frames_top node.now }
-{
-    plus(waits_top(node), height_of(Panel::Waits.most(node)))
-}
-
-fn tries_top(node: &DrawnNode) -> u128
-    ensures { result ≡ tries_top node.now }
-{
-    plus(frames_top(node), height_of(Panel::Frames.most(node)))
-}
-
-fn underused_top(node: &DrawnNode) -> u128
-    ensures { result ≡ underused_top node.now }
-{
-    plus(tries_top(node), height_of(Panel::Tries.most(node)))
-}
-
-fn lives_top(node: &DrawnNode) -> u128
-    ensures { result ≡ lives_top node.now }
-{
-    plus(underused_top(node), height_of(Panel::Underused.most(node)))
+    plus(y, height_of(panel.most(node)))
 }
 
 fn lives_height(node: &DrawnNode) -> u128
@@ -284,7 +224,10 @@ fn lives_height(node: &DrawnNode) -> u128
 fn axis_top(node: &DrawnNode) -> u128
     ensures { result ≡ axis_top node.now }
 {
-    plus(lives_top(node), lives_height(node))
+    let y = below(pages_top(node), Panel::Pages, node);
+    let y = below(plus(y, lanes_height(node)), Panel::Waits, node);
+    let y = below(below(y, Panel::Frames, node), Panel::Tries, node);
+    plus(below(y, Panel::Underused, node), lives_height(node))
 }
 
 fn node_height(node: &DrawnNode) -> u128

@@ -36,37 +36,21 @@ pub(crate) enum Edge {
 }
 
 impl Quantity {
-    /// Returns the name.
-    pub(crate) fn name(self) -> &'static [u8]
-        ensures { result.now ≡ quantity_name self }
+    /// Returns the name, and the class with the quantity's colour.
+    pub(crate) fn words(self) -> (&'static [u8], &'static [u8])
+        ensures name { result.0.now ≡ quantity_name self }
+        ensures class { result.1.now ≡ quantity_class self }
     {
         match self {
-            Quantity::Queue => b"queue",
-            Quantity::InBatches => b"in batches",
-            Quantity::Held => b"held",
-            Quantity::Given => b"given back",
-            Quantity::Splits => b"split",
-            Quantity::PinnedTries => b"found pinned",
-            Quantity::UnderusedSplits => b"split as underused",
-            Quantity::Wait => b"the oldest page has waited",
-            Quantity::Nothing => b"",
-        }
-    }
-
-    /// Returns the class with the quantity's colour.
-    pub(crate) fn class(self) -> &'static [u8]
-        ensures { result.now ≡ quantity_class self }
-    {
-        match self {
-            Quantity::Queue => b"s2",
-            Quantity::InBatches => b"s3",
-            Quantity::Held => b"held",
-            Quantity::Given => b"given",
-            Quantity::Splits => b"s4",
-            Quantity::PinnedTries => b"pin",
-            Quantity::UnderusedSplits => b"s1",
-            Quantity::Wait => b"wait",
-            Quantity::Nothing => b"",
+            Quantity::Queue => (b"queue", b"s2"),
+            Quantity::InBatches => (b"in batches", b"s3"),
+            Quantity::Held => (b"held", b"held"),
+            Quantity::Given => (b"given back", b"given"),
+            Quantity::Splits => (b"split", b"s4"),
+            Quantity::PinnedTries => (b"found pinned", b"pin"),
+            Quantity::UnderusedSplits => (b"split as underused", b"s1"),
+            Quantity::Wait => (b"the oldest page has waited", b"wait"),
+            Quantity::Nothing => (b"", b""),
         }
     }
 

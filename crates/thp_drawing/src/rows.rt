@@ -1,17 +1,6 @@
 //! The rows of a node's pages: whether there are any, and their positions.
 ghost use Rattle.std.specs.Prelude.{◌≡◌, ◌≤◌, ◌*◌, length};
-ghost use Rattle.thp_drawing.specs.Rows.{
-  allocated_pages,
-  has_rows,
-  number_step,
-  numbers_of,
-  page_turns,
-  row_class,
-  row_height,
-  row_middle,
-  row_turns,
-  rows_height,
-};
+ghost use Rattle.thp_drawing.specs.Rows.{allocated_pages, has_rows, number_step, numbers_of, page_turns, row_class, row_height, row_middle, row_turns, rows_height};
 
 use crate::bar::Bar;
 use crate::node::DrawnNode;

@@ -4,26 +4,21 @@ ghost use Rattle.thp_drawing.specs.Rows.{bars, row_numbers, rows_panel, stage_ba
 
 use crate::axis::put_tick;
 use crate::bar::{Bar, put_bar};
-use crate::element::{Piece, put_pieces};
+use crate::element::{PutResult, draw};
 use crate::node::DrawnNode;
 use crate::panel::{put_graph_start, put_panel_end, put_panel_start};
 use crate::rows::{
     allocated_pages, number_step, numbers_of, row_class, row_height, row_middle, rows_height,
 };
 use crate::scale::times;
-use crate::stages::{most_in, stage_class};
+use crate::stages::{most_in, stage_words};
 use crate::stages_panel::put_stage_items;
-use std::alloc::AllocError;
 use thp_journal_writer::put;
 use thp_metrics::{Column, Stage};
 
 /// Appends the panel of a node's pages from this height on, with a row for each.
 #[tactic(auto, using(crate::proofs::Pieces::six), unfolding(crate::specs::Rows::rows_panel))]
-pub(crate) fn put_rows_panel(
-    text: &mut Vec<u8>,
-    y: u128,
-    node: &DrawnNode,
-) -> Result<(), AllocError>
+pub(crate) fn put_rows_panel(text: &mut Vec<u8>, y: u128, node: &DrawnNode) -> PutResult
     ensures { OnOk result (text.new.items ≡ text.old.items ++ rows_panel y node.now) }
 {
     let count = allocated_pages(node);
@@ -41,12 +36,7 @@ pub(crate) fn put_rows_panel(
 }
 
 // The first `count` numbers of rows, and thin lines through them.
-fn put_row_numbers(
-    text: &mut Vec<u8>,
-    high: u128,
-    step: u128,
-    count: u128,
-) -> Result<(), AllocError>
+fn put_row_numbers(text: &mut Vec<u8>, high: u128, step: u128, count: u128) -> PutResult
     ensures { OnOk result (text.new.items ≡ text.old.items ++ row_numbers high step count) }
 {
     for before in 0..count {
@@ -57,7 +47,7 @@ fn put_row_numbers(
 }
 
 #[tactic(auto, using(crate::proofs::Pieces::five), unfolding(crate::specs::Rows::bars))]
-fn put_bars(text: &mut Vec<u8>, count: u128, node: &DrawnNode) -> Result<(), AllocError>
+fn put_bars(text: &mut Vec<u8>, count: u128, node: &DrawnNode) -> PutResult
     ensures { OnOk result (text.new.items ≡ text.old.items ++ bars count node.now) }
 {
     put_stage_bars(text, Stage::Allocated, count, node)?;
@@ -69,26 +59,15 @@ fn put_bars(text: &mut Vec<u8>, count: u128, node: &DrawnNode) -> Result<(), All
 
 // The bars of the first `count` pages in a stage, if any page was ever in it.
 #[tactic(auto, using(crate::proofs::Pieces::three), unfolding(crate::specs::Rows::stage_bars))]
-fn put_stage_bars(
-    text: &mut Vec<u8>,
-    stage: Stage,
-    count: u128,
-    node: &DrawnNode,
-) -> Result<(), AllocError>
+fn put_stage_bars(text: &mut Vec<u8>, stage: Stage, count: u128, node: &DrawnNode) -> PutResult
     ensures { OnOk result (text.new.items ≡ text.old.items ++ stage_bars stage count node.now) }
 {
     let columns = node.columns.as_slice();
     if most_in(stage, columns) == 0 {
         return Ok(());
     }
-    put_pieces(
-        text,
-        &[
-            Piece::Bytes(b"<path class=\""),
-            Piece::Bytes(row_class(count)),
-            Piece::Bytes(stage_class(stage)),
-            Piece::Bytes(b"\" d=\""),
-        ],
+    draw!(text;
+        Bytes(b"<path class=\"") Bytes(row_class(count)) Bytes(stage_words(stage).1) Bytes(b"\" d=\"")
     )?;
     put_stage_rows(text, stage, row_height(count), columns, count)?;
     put(text, b"\"/>\n")
@@ -100,7 +79,7 @@ fn put_stage_rows(
     high: u128,
     columns: &[Column],
     count: u128,
-) -> Result<(), AllocError>
+) -> PutResult
     ensures { OnOk result (text.new.items ≡ text.old.items ++ stage_rows stage high columns.now count) }
 {
     for page in 0..count {

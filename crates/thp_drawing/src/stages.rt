@@ -7,29 +7,17 @@ use crate::node::DrawnNode;
 use crate::scale::{plus, times};
 use thp_metrics::{Column, PageSums, Stage};
 
-/// Returns the name of a stage.
-pub(crate) fn stage_name(stage: Stage) -> &'static [u8]
-    ensures { result.now ≡ stage_name stage }
+/// Returns the name of a stage, and the class with its colour.
+pub(crate) fn stage_words(stage: Stage) -> (&'static [u8], &'static [u8])
+    ensures name { result.0.now ≡ stage_name stage }
+    ensures class { result.1.now ≡ stage_class stage }
 {
     match stage {
-        Stage::Allocated => b"allocated",
-        Stage::PartlyMapped => b"partly mapped",
-        Stage::Queued => b"queued",
-        Stage::InBatch => b"in a batch",
-        Stage::Split => b"split",
-    }
-}
-
-/// Returns the class with the stage's colour.
-pub(crate) fn stage_class(stage: Stage) -> &'static [u8]
-    ensures { result.now ≡ stage_class stage }
-{
-    match stage {
-        Stage::Allocated => b"s0",
-        Stage::PartlyMapped => b"s1",
-        Stage::Queued => b"s2",
-        Stage::InBatch => b"s3",
-        Stage::Split => b"s4",
+        Stage::Allocated => (b"allocated", b"s0"),
+        Stage::PartlyMapped => (b"partly mapped", b"s1"),
+        Stage::Queued => (b"queued", b"s2"),
+        Stage::InBatch => (b"in a batch", b"s3"),
+        Stage::Split => (b"split", b"s4"),
     }
 }
 

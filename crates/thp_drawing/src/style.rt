@@ -2,7 +2,7 @@
 ghost use Rattle.std.specs.Prelude.{◌≡◌, ◌++◌, OnOk};
 ghost use Rattle.thp_drawing.specs.Styles.{style};
 
-use std::alloc::AllocError;
+use crate::element::PutResult;
 use thp_journal_writer::put;
 
 const STYLE: &[u8] = b"<style>
@@ -23,7 +23,7 @@ svg{background:#14171c}.bg{fill:#14171c}.ink{fill:#e8ebf0}.soft{fill:#a3acb9}.ba
 
 /// Appends the rules of the classes.
 #[tactic(auto, unfolding(crate::specs::Styles::style))]
-pub(crate) fn put_style(text: &mut Vec<u8>) -> Result<(), AllocError>
+pub(crate) fn put_style(text: &mut Vec<u8>) -> PutResult
     ensures { OnOk result (text.new.items ≡ text.old.items ++ style) }
 {
     put(text, STYLE)

@@ -1,9 +1,11 @@
 //! The numbers of nodes as a table.
 ghost use Rattle.std.specs.Prelude.{◌≡◌, ◌≤◌, ◌++◌, ◌+◌, ◌*◌, ◌-◌, List, [], ◌∷◌, length, min, OnOk, codes};
-ghost use Rattle.std.specs.Fmt.{decimal};
-ghost use Rattle.thp_drawing.specs.Tables.{caller_item, caller_words, callers_joined, column_line, column_lines, column_numbers, fields, heads, illegal_fields, lines_from, node_line, node_lines, node_numbers, node_table, stage_letter, stage_letters, stuck_line, stuck_lines, table_text, threshold_field};
+ghost use Rattle.thp_drawing.specs.Elements.{field};
+ghost use Rattle.thp_drawing.specs.Tables.{caller_item, caller_words, callers_joined, column_line, column_lines, column_numbers, heads, illegal_fields, lines_from, node_line, node_lines, node_numbers, node_table, stage_letter, stage_letters, stuck_line, stuck_lines, table_text, threshold_field};
 
 use crate::bar::is_among;
+use crate::element::{PutResult, draw};
+use crate::grouped::put_decimal;
 use crate::illegal_event::IllegalEvent;
 use crate::node::DrawnNode;
 use itoa::Buffer;
@@ -41,7 +43,7 @@ pub fn put_node_table(text: &mut Vec<u8>, number: usize, node: &DrawnNode) -> Re
 }
 
 #[tactic(auto, using(crate::proofs::Pieces::three), unfolding(crate::specs::Tables::heads))]
-fn put_heads(text: &mut Vec<u8>) -> Result<(), AllocError>
+fn put_heads(text: &mut Vec<u8>) -> PutResult
     ensures { OnOk result (text.new.items ≡ text.old.items ++ heads) }
 {
     put(text, NODE_HEADS)?;
@@ -49,7 +51,7 @@ fn put_heads(text: &mut Vec<u8>) -> Result<(), AllocError>
     put(text, STUCK_HEADS)
 }
 
-fn put_nodes(text: &mut Vec<u8>, nodes: &[DrawnNode]) -> Result<(), AllocError>
+fn put_nodes(text: &mut Vec<u8>, nodes: &[DrawnNode]) -> PutResult
     ensures { OnOk result (text.new.items ≡ text.old.items ++ lines_from 0 nodes.now) }
 {
     for (number, node) in nodes.iter().enumerate() {
@@ -59,7 +61,7 @@ fn put_nodes(text: &mut Vec<u8>, nodes: &[DrawnNode]) -> Result<(), AllocError>
 }
 
 #[tactic(auto, using(crate::proofs::Pieces::three), unfolding(crate::specs::Tables::node_lines))]
-fn put_node(text: &mut Vec<u8>, number: usize, node: &DrawnNode) -> Result<(), AllocError>
+fn put_node(text: &mut Vec<u8>, number: usize, node: &DrawnNode) -> PutResult
     ensures { OnOk result (text.new.items ≡ text.old.items ++ node_lines number node.now) }
 {
     put_node_line(text, number, node)?;
@@ -73,7 +75,7 @@ fn put_node(text: &mut Vec<u8>, number: usize, node: &DrawnNode) -> Result<(), A
     put_stuck_lines(text, number, node.stuck.as_slice())
 }
 
-fn put_stuck_lines(text: &mut Vec<u8>, number: usize, pages: &[StuckPage]) -> Result<(), AllocError>
+fn put_stuck_lines(text: &mut Vec<u8>, number: usize, pages: &[StuckPage]) -> PutResult
     ensures { OnOk result (text.new.items ≡ text.old.items ++ stuck_lines number pages.now) }
 {
     for page in pages {
@@ -83,36 +85,23 @@ fn put_stuck_lines(text: &mut Vec<u8>, number: usize, pages: &[StuckPage]) -> Re
 }
 
 // The number of times a page was found pinned, and the event since which it waits.
-#[tactic(auto, using(crate::proofs::Pieces::three))]
-fn put_stuck_line(text: &mut Vec<u8>, number: usize, page: &StuckPage) -> Result<(), AllocError>
+fn put_stuck_line(text: &mut Vec<u8>, number: usize, page: &StuckPage) -> PutResult
     ensures { OnOk result (text.new.items ≡ text.old.items ++ stuck_line number page.now) }
 {
-    put(text, b"stuck")?;
-    put_fields(
-        text,
-        &[
-            number as u128,
-            u128::from(page.page.0),
-            u128::from(page.finds),
-            u128::from(page.since),
-        ],
-    )?;
-    put(text, b"\n")
+    draw!(text;
+        Bytes(b"stuck") Field(number as u128) Field(u128::from(page.page.0))
+        Field(u128::from(page.finds)) Field(u128::from(page.since)) Bytes(b"\n")
+    )
 }
 
-#[tactic(auto, using(crate::proofs::Pieces::five), unfolding(crate::specs::Tables::node_line))]
-fn put_node_line(text: &mut Vec<u8>, number: usize, node: &DrawnNode) -> Result<(), AllocError>
+#[tactic(auto, using(crate::proofs::Pieces::four), unfolding(crate::specs::Tables::node_line))]
+fn put_node_line(text: &mut Vec<u8>, number: usize, node: &DrawnNode) -> PutResult
     ensures { OnOk result (text.new.items ≡ text.old.items ++ node_line number node.now) }
 {
     let shape = &node.shape;
-    put(text, b"node")?;
-    put_fields(
-        text,
-        &[
-            number as u128,
-            u128::from(shape.blocks),
-            u128::from(shape.order),
-        ],
+    draw!(text;
+        Bytes(b"node") Field(number as u128) Field(u128::from(shape.blocks))
+        Field(u128::from(shape.order))
     )?;
     put_threshold(text, shape.underused)?;
     put_node_numbers(text, node)?;
@@ -121,7 +110,7 @@ fn put_node_line(text: &mut Vec<u8>, number: usize, node: &DrawnNode) -> Result<
 
 // The last fields of a node's line, and its end.
 #[tactic(auto, using(crate::proofs::Pieces::three))]
-fn put_illegal(text: &mut Vec<u8>, illegal: &Option<IllegalEvent>) -> Result<(), AllocError>
+fn put_illegal(text: &mut Vec<u8>, illegal: &Option<IllegalEvent>) -> PutResult
     ensures { OnOk result (text.new.items ≡ text.old.items ++ illegal_fields illegal.now) }
 {
     match illegal {
@@ -135,44 +124,22 @@ fn put_illegal(text: &mut Vec<u8>, illegal: &Option<IllegalEvent>) -> Result<(),
 }
 
 #[tactic(auto, unfolding(crate::specs::Tables::node_numbers))]
-fn put_node_numbers(text: &mut Vec<u8>, node: &DrawnNode) -> Result<(), AllocError>
-    ensures { OnOk result (text.new.items ≡ text.old.items ++ fields (node_numbers node.now)) }
+fn put_node_numbers(text: &mut Vec<u8>, node: &DrawnNode) -> PutResult
+    ensures { OnOk result (text.new.items ≡ text.old.items ++ node_numbers node.now) }
 {
-    let Numbers {
-        queue,
-        in_batches,
-        held,
-        given,
-        splits,
-        underused_splits,
-        pinned_tries,
-        wait,
-        pages,
-        ..
-    } = node.last;
-    put_fields(
-        text,
-        &[
-            node.prefixes.saturating_sub(1),
-            u128::from(node.width),
-            u128::from(queue),
-            u128::from(in_batches),
-            held,
-            given,
-            u128::from(splits),
-            u128::from(underused_splits),
-            u128::from(pinned_tries),
-            u128::from(wait),
-            u128::from(pages.allocated),
-            u128::from(pages.partly_mapped),
-            u128::from(pages.queued),
-            u128::from(pages.in_batch),
-            u128::from(pages.split),
-        ],
+    let last = &node.last;
+    draw!(text;
+        Field(node.prefixes.saturating_sub(1)) Field(u128::from(node.width))
+        Field(u128::from(last.queue)) Field(u128::from(last.in_batches)) Field(last.held)
+        Field(last.given) Field(u128::from(last.splits)) Field(u128::from(last.underused_splits))
+        Field(u128::from(last.pinned_tries)) Field(u128::from(last.wait))
+        Field(u128::from(last.pages.allocated)) Field(u128::from(last.pages.partly_mapped))
+        Field(u128::from(last.pages.queued)) Field(u128::from(last.pages.in_batch))
+        Field(u128::from(last.pages.split))
     )
 }
 
-fn put_threshold(text: &mut Vec<u8>, threshold: Option<u32>) -> Result<(), AllocError>
+fn put_threshold(text: &mut Vec<u8>, threshold: Option<u32>) -> PutResult
     ensures { OnOk result (text.new.items ≡ text.old.items ++ threshold_field threshold) }
 {
     match threshold {
@@ -187,7 +154,7 @@ fn put_columns(
     width: u64,
     prefixes: u128,
     columns: &[Column],
-) -> Result<(), AllocError>
+) -> PutResult
     ensures { OnOk result (text.new.items ≡ text.old.items ++ column_lines number width prefixes 0 columns.now) }
 {
     for (place, column) in columns.iter().enumerate() {
@@ -198,18 +165,17 @@ fn put_columns(
     Ok(())
 }
 
-#[tactic(auto, using(crate::proofs::Pieces::eight), unfolding(crate::specs::Tables::column_line))]
+#[tactic(auto, using(crate::proofs::Pieces::seven), unfolding(crate::specs::Tables::column_line))]
 fn put_column(
     text: &mut Vec<u8>,
     number: usize,
     first: u128,
     last: u128,
     column: &Column,
-) -> Result<(), AllocError>
+) -> PutResult
     ensures { OnOk result (text.new.items ≡ text.old.items ++ column_line number first last column.now) }
 {
-    put(text, b"column")?;
-    put_fields(text, &[number as u128, first, last])?;
+    draw!(text; Bytes(b"column") Field(number as u128) Field(first) Field(last))?;
     put_column_numbers(text, column)?;
     put(text, b"\t")?;
     put_stages(text, &column.stages)?;
@@ -219,7 +185,7 @@ fn put_column(
 }
 
 // A set of callers, given as bits: their numbers, separated by commas.
-fn put_callers(text: &mut Vec<u8>, callers: u64) -> Result<(), AllocError>
+fn put_callers(text: &mut Vec<u8>, callers: u64) -> PutResult
     ensures { OnOk result (text.new.items ≡ text.old.items ++ caller_words callers) }
 {
     if callers == 0 {
@@ -229,7 +195,7 @@ fn put_callers(text: &mut Vec<u8>, callers: u64) -> Result<(), AllocError>
     }
 }
 
-fn put_caller_items(text: &mut Vec<u8>, callers: u64) -> Result<(), AllocError>
+fn put_caller_items(text: &mut Vec<u8>, callers: u64) -> PutResult
     ensures { OnOk result (text.new.items ≡ text.old.items ++ callers_joined callers) }
 {
     for caller in 0..SHOWN_CALLERS {
@@ -240,7 +206,7 @@ fn put_caller_items(text: &mut Vec<u8>, callers: u64) -> Result<(), AllocError>
 
 // A caller, if it is in this set, after a comma if a lower one is.
 #[tactic(auto, using(crate::proofs::Pieces::two))]
-fn put_caller_item(text: &mut Vec<u8>, callers: u64, caller: u32) -> Result<(), AllocError>
+fn put_caller_item(text: &mut Vec<u8>, callers: u64, caller: u32) -> PutResult
     ensures { OnOk result (text.new.items ≡ text.old.items ++ caller_item callers caller) }
 {
     if !is_among(caller, callers) {
@@ -252,7 +218,7 @@ fn put_caller_item(text: &mut Vec<u8>, callers: u64, caller: u32) -> Result<(), 
     put(text, Buffer::new().format(caller).as_bytes())
 }
 
-fn put_stages(text: &mut Vec<u8>, stages: &[Option<Stage>]) -> Result<(), AllocError>
+fn put_stages(text: &mut Vec<u8>, stages: &[Option<Stage>]) -> PutResult
     ensures { OnOk result (text.new.items ≡ text.old.items ++ stage_letters stages.now) }
 {
     for stage in stages {
@@ -275,62 +241,26 @@ fn letter_of(stage: Option<Stage>) -> &'static [u8]
 }
 
 #[tactic(auto, unfolding(crate::specs::Tables::column_numbers))]
-fn put_column_numbers(text: &mut Vec<u8>, column: &Column) -> Result<(), AllocError>
-    ensures { OnOk result (text.new.items ≡ text.old.items ++ fields (column_numbers column.now)) }
+fn put_column_numbers(text: &mut Vec<u8>, column: &Column) -> PutResult
+    ensures { OnOk result (text.new.items ≡ text.old.items ++ column_numbers column.now) }
 {
-    let Column {
-        queue,
-        in_batches,
-        held,
-        given,
-        splits,
-        underused_splits,
-        pinned_tries,
-        wait,
-        pages,
-        ..
-    } = *column;
-    put_fields(
-        text,
-        &[
-            queue.least,
-            queue.greatest,
-            in_batches.least,
-            in_batches.greatest,
-            held.least,
-            held.greatest,
-            given.least,
-            given.greatest,
-            splits.least,
-            splits.greatest,
-            underused_splits.least,
-            underused_splits.greatest,
-            pinned_tries.least,
-            pinned_tries.greatest,
-            wait.least,
-            wait.greatest,
-            pages.allocated,
-            pages.partly_mapped,
-            pages.queued,
-            pages.in_batch,
-            pages.split,
-        ],
+    draw!(text;
+        Field(column.queue.least) Field(column.queue.greatest) Field(column.in_batches.least)
+        Field(column.in_batches.greatest) Field(column.held.least) Field(column.held.greatest)
+        Field(column.given.least) Field(column.given.greatest) Field(column.splits.least)
+        Field(column.splits.greatest) Field(column.underused_splits.least)
+        Field(column.underused_splits.greatest) Field(column.pinned_tries.least)
+        Field(column.pinned_tries.greatest) Field(column.wait.least) Field(column.wait.greatest)
+        Field(column.pages.allocated) Field(column.pages.partly_mapped) Field(column.pages.queued)
+        Field(column.pages.in_batch) Field(column.pages.split)
     )
 }
 
-fn put_fields(text: &mut Vec<u8>, numbers: &[u128]) -> Result<(), AllocError>
-    ensures { OnOk result (text.new.items ≡ text.old.items ++ fields numbers.now) }
-{
-    for number in numbers {
-        put_field(text, *number)?;
-    }
-    Ok(())
-}
-
+/// Appends a tab and a number.
 #[tactic(auto, using(crate::proofs::Pieces::two))]
-fn put_field(text: &mut Vec<u8>, number: u128) -> Result<(), AllocError>
-    ensures { OnOk result (text.new.items ≡ text.old.items ++ codes "\t" ++ decimal number) }
+pub(crate) fn put_field(text: &mut Vec<u8>, number: u128) -> PutResult
+    ensures { OnOk result (text.new.items ≡ text.old.items ++ field number) }
 {
     put(text, b"\t")?;
-    put(text, Buffer::new().format(number).as_bytes())
+    put_decimal(text, number)
 }

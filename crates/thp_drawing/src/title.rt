@@ -4,10 +4,9 @@ ghost use Rattle.thp_journal_writer.specs.EventLines.{event_line};
 ghost use Rattle.thp_drawing.specs.Titles.{events_words, illegal_text, illegal_words, node_words};
 ghost use Rattle.thp_drawing.specs.Titles.{shape_words, shortened, threshold_words};
 
-use crate::element::{Piece, put_pieces, put_text};
+use crate::element::{PutResult, draw, put_text};
 use crate::illegal_event::IllegalEvent;
 use crate::node::DrawnNode;
-use std::alloc::AllocError;
 use thp_journal_writer::{put, put_event_line};
 use thp_model::Event;
 
@@ -16,22 +15,11 @@ const MAX_LETTERS: usize = 70;
 
 /// Appends the words of a node's title.
 #[tactic(auto, using(crate::proofs::Pieces::three), unfolding(crate::specs::Titles::node_words))]
-pub(crate) fn put_node_words(
-    text: &mut Vec<u8>,
-    number: usize,
-    node: &DrawnNode,
-) -> Result<(), AllocError>
+pub(crate) fn put_node_words(text: &mut Vec<u8>, number: usize, node: &DrawnNode) -> PutResult
     ensures { OnOk result (text.new.items ≡ text.old.items ++ node_words number node.now) }
 {
     let shape = &node.shape;
-    put_pieces(
-        text,
-        &[
-            Piece::Bytes(b"node "),
-            Piece::Decimal(number as u128),
-            Piece::Bytes(b": "),
-        ],
-    )?;
+    draw!(text; Bytes(b"node ") Decimal(number as u128) Bytes(b": "))?;
     put_shape_words(
         text,
         u128::from(shape.blocks),
@@ -43,14 +31,11 @@ pub(crate) fn put_node_words(
 
 // The number of events drawn.
 #[tactic(auto, unfolding(crate::specs::Titles::events_words))]
-fn put_events_words(text: &mut Vec<u8>, node: &DrawnNode) -> Result<(), AllocError>
+fn put_events_words(text: &mut Vec<u8>, node: &DrawnNode) -> PutResult
     ensures { OnOk result (text.new.items ≡ text.old.items ++ events_words node.now) }
 {
     let events = node.prefixes.saturating_sub(1);
-    put_pieces(
-        text,
-        &[Piece::Bytes(b", "), Piece::Many(events, b"legal event")],
-    )
+    draw!(text; Bytes(b", ") Many(events, b"legal event"))
 }
 
 // The size of a node, and its threshold for underused pages.
@@ -59,38 +44,29 @@ fn put_shape_words(
     blocks: u128,
     order: u128,
     threshold: Option<u32>,
-) -> Result<(), AllocError>
+) -> PutResult
     ensures { OnOk result (text.new.items ≡ text.old.items ++ shape_words blocks order threshold) }
 {
-    put_pieces(
-        text,
-        &[
-            Piece::Many(blocks, b"block"),
-            Piece::Bytes(b" of 2^"),
-            Piece::Decimal(order),
-            Piece::Bytes(b" frames, underused "),
-        ],
+    draw!(text;
+        Many(blocks, b"block") Bytes(b" of 2^") Decimal(order) Bytes(b" frames, underused ")
     )?;
     put_threshold_words(text, threshold)
 }
 
-fn put_threshold_words(text: &mut Vec<u8>, threshold: Option<u32>) -> Result<(), AllocError>
+fn put_threshold_words(text: &mut Vec<u8>, threshold: Option<u32>) -> PutResult
     ensures { OnOk result (text.new.items ≡ text.old.items ++ threshold_words threshold) }
 {
     match threshold {
         None => put(text, b"off"),
         Some(threshold) => {
             let number = u128::from(threshold);
-            put_pieces(text, &[Piece::Bytes(b"above "), Piece::Decimal(number)])
+            draw!(text; Bytes(b"above ") Decimal(number))
         }
     }
 }
 
 /// Appends the text about a node's first illegal event.
-pub(crate) fn put_illegal_text(
-    text: &mut Vec<u8>,
-    illegal: &Option<IllegalEvent>,
-) -> Result<(), AllocError>
+pub(crate) fn put_illegal_text(text: &mut Vec<u8>, illegal: &Option<IllegalEvent>) -> PutResult
     ensures { OnOk result (text.new.items ≡ text.old.items ++ illegal_text illegal.now) }
 {
     match illegal {
@@ -103,22 +79,15 @@ pub(crate) fn put_illegal_text(
     }
 }
 
-fn put_illegal_words(text: &mut Vec<u8>, line: u128, event: &Event) -> Result<(), AllocError>
+fn put_illegal_words(text: &mut Vec<u8>, line: u128, event: &Event) -> PutResult
     ensures { OnOk result (text.new.items ≡ text.old.items ++ illegal_words line event.now) }
 {
-    put_pieces(
-        text,
-        &[
-            Piece::Bytes(b"illegal line "),
-            Piece::Decimal(line),
-            Piece::Bytes(b": "),
-        ],
-    )?;
+    draw!(text; Bytes(b"illegal line ") Decimal(line) Bytes(b": "))?;
     put_event_words(text, event)
 }
 
 // The line of an event, or the beginning of a long one.
-fn put_event_words(text: &mut Vec<u8>, event: &Event) -> Result<(), AllocError>
+fn put_event_words(text: &mut Vec<u8>, event: &Event) -> PutResult
     ensures { OnOk result (text.new.items ≡ text.old.items ++ shortened (event_line event.now)) }
 {
     let mut line = Vec::new(*text.allocator());
@@ -128,12 +97,12 @@ fn put_event_words(text: &mut Vec<u8>, event: &Event) -> Result<(), AllocError>
 }
 
 #[tactic(auto, unfolding(crate::specs::Titles::shortened))]
-fn put_shortened(text: &mut Vec<u8>, line: &[u8]) -> Result<(), AllocError>
+fn put_shortened(text: &mut Vec<u8>, line: &[u8]) -> PutResult
     ensures { OnOk result (text.new.items ≡ text.old.items ++ shortened line.now) }
 {
     if line.len() <= MAX_LETTERS {
         return put(text, line);
     }
     let (front, _) = line.split_at(67);
-    put_pieces(text, &[Piece::Bytes(front), Piece::Bytes(b" ..")])
+    draw!(text; Bytes(front) Bytes(b" .."))
 }
