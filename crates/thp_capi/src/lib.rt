@@ -3,8 +3,8 @@
 //! A C program holds a handle, a struct in its own memory: a pointer and a mark. What the handle owns is its ghost value; the
 //! contract of each call states what it did to that. `thp_c` has the calls; docs/C.md has what is proved, call by call.
 //!
-//! - Handles: `handle` (one for all; `Handles`), `raw_box` (a box as its pointer), `room` (`Rooms`), and what C sees of them:
-//!   `node_handle`, `pass_handle`, `check_handle`.
+//! - Handles: `handle` (one for all; `Handles`, `Rows`), `raw_box` (a box as its pointer), `room` (`Rooms`), and what C sees of
+//!   them: `node_handle`, `pass_handle`, `check_handle`.
 //! - Nodes: `engine` (a node and its open batches), `node_calls` (what calls share), `replies`, `page_state`, `stats`; `Calls`,
 //!   `Reading`, `Replies`, `Engines`. `held`, `held_passes`: what handles hold, of nodes that store their events or only count
 //!   them (`Held`), and the calls on it (`on_node`, `on_pass`).
