@@ -100,14 +100,16 @@ pub fn answer_of<R: Recorder>(node: &mut Node<R>, caller: u32, call: Call) -> An
     }
 }
 
-fn done(reply: Result<(), Refusal>) -> Answer {
+/// The result of a call that returns nothing else.
+pub fn done(reply: Result<(), Refusal>) -> Answer {
     match reply {
         Ok(()) => Answer::Done,
         Err(refusal) => Answer::Refused(refusal),
     }
 }
 
-fn outcome(reply: Result<Done, Refusal>) -> Answer {
+/// The result of an unmap or an unpin.
+pub fn outcome(reply: Result<Done, Refusal>) -> Answer {
     match reply {
         Ok(Done { outcome, released }) => match run_of(released) {
             Some((first, count)) => Answer::Changed(outcome, first, count),

@@ -6,6 +6,6 @@
 mod calls;
 
 pub use calls::{
-    Answer, Call, FREED, QUEUED, STAYS, answer_of, first_wrong, queued_node, queueing, scanned,
-    shape_of,
+    Answer, Call, FREED, QUEUED, STAYS, answer_of, done, first_wrong, outcome, queued_node,
+    queueing, scanned, shape_of,
 };

@@ -4,7 +4,6 @@ ghost use Rattle.thp_cell.specs.Views.{HasCaller};
 ghost use Rattle.thp_cell.specs.Calls.{at_front};
 
 use crate::steps::{cell_of, is_allocation};
-use std::process::Abort;
 use std::thread;
 use thp_cell::{NodeCell, Pass};
 use thp_model::{Event, PageId};
@@ -29,16 +28,22 @@ fn allocate_20(cell: &NodeCell, pass: Pass, caller: u32) -> (Pass, u32)
 }
 
 // The events are 40 allocations, in the order of the pages' numbers, and 20 of them by caller 1.
-fn are_40_allocations(rt: &impl Abort, events: &[Event]) {
-    assert!(rt; events.len() == 40);
+fn are_40_allocations(events: &[Event]) -> bool {
     let mut by_caller_1 = 0u32;
     for (number, event) in events.iter().enumerate() {
-        assert!(rt; is_allocation(event, event.caller, PageId(number as u64)));
+        if !is_allocation(event, event.caller, PageId(number as u64)) {
+            return false;
+        }
         if event.caller == 1 {
             by_caller_1 = by_caller_1.wrapping_add(1);
         }
     }
-    assert!(rt; by_caller_1 == 20);
+    events.len() == 40 && by_caller_1 == 20
+}
+
+// Each of both threads has allocated its pages.
+fn are_done(of_a: u32, of_b: u32) -> bool {
+    of_a == 20 && of_b == 20
 }
 
 #[test]
@@ -51,8 +56,8 @@ fn two_threads_allocate(rt: HostRuntime) {
         move || allocate_20(shared, a, 0),
         move || allocate_20(shared, b, 1),
     );
-    assert!(rt; (pages_of_a, pages_of_b) == (20, 20));
+    assert!(rt; are_done(pages_of_a, pages_of_b));
     let pass = cell.join(a, b);
     let node = cell.finish(pass);
-    are_40_allocations(&rt, node.journal());
+    assert!(rt; are_40_allocations(node.journal()));
 }

@@ -14,7 +14,7 @@ use std::thread::Threads;
 use thp_cell::{NodeCell, Pass};
 use thp_check::check;
 use thp_model::{Event, Outcome, PageId, What};
-use thp_node::{BackReply, Batch, Tried};
+use thp_node::{BackReply, Batch, Node, Tried};
 
 // The pass of a thread that has finished, and the results of its calls.
 type Logged = (Pass, Vec<Answer>);
@@ -326,6 +326,17 @@ fn work_in_fours<R: Threads + Sync>(
     )
 }
 
+// The journal is legal, and all of its events are of the callers 0 to 3.
+fn is_legal(alloc: Global, node: &Node) -> bool {
+    let events = node.journal();
+    check(alloc, node.shape(), events) == Ok(()) && events.iter().all(|event| event.caller < 4)
+}
+
+// The events of a caller are those of its log.
+fn is_log(node: &Node, caller: u32, answers: &[Answer]) -> bool {
+    is_part(node.journal(), caller, answers)
+}
+
 #[test]
 fn four_threads_mix_calls(rt: HostRuntime) {
     let (cell, pass) = cell_of(&rt, rt.alloc(), 64, 4);
@@ -343,11 +354,9 @@ fn four_threads_mix_calls(rt: HostRuntime) {
     let high = cell.join(c, d);
     let pass = cell.join(low, high);
     let node = cell.finish(pass);
-    let events = node.journal();
-    assert!(rt; check(rt.alloc(), node.shape(), events) == Ok(()));
-    assert!(rt; is_part(events, 0, &of_a));
-    assert!(rt; is_part(events, 1, &of_b));
-    assert!(rt; is_part(events, 2, &of_c));
-    assert!(rt; is_part(events, 3, &of_d));
-    assert!(rt; events.iter().all(|event| event.caller < 4));
+    assert!(rt; is_legal(rt.alloc(), &node));
+    assert!(rt; is_log(&node, 0, &of_a));
+    assert!(rt; is_log(&node, 1, &of_b));
+    assert!(rt; is_log(&node, 2, &of_c));
+    assert!(rt; is_log(&node, 3, &of_d));
 }
