@@ -1,5 +1,5 @@
 -- The view that contracts have of the pass of a handle, and the effect of the calls on it.
-use Rattle.std.specs.Prelude.{◌≡◌, ℕ, ◌<◌, ◌≤◌, ◌⊎◌, ◌*◌, [], List, Bool, false, length, ⊤, Option, None, Some, IsSome, IfSome, Result, Ok, Err, OnOk, IfOk, IfErr}
+use Rattle.std.specs.Prelude.{◌≡◌, ℕ, ◌<◌, ◌≤◌, ◌⊎◌, ◌*◌, [], List, Bool, false, length, ⊤, Option, None, Some, IsSome, IfSome, Result, OnOk, IfOk, IfErr}
 use Rattle.thp_model.specs.declared.events.Outcome.{Outcome}
 use Rattle.thp_model.specs.declared.events.What.{What}
 use Rattle.thp_model.specs.declared.page_call.Done.{Done}
@@ -22,7 +22,7 @@ use Rattle.thp_capi.specs.Sharing.{SharedState, OnlyFront, IsPart, IsShut, HasOp
 use Rattle.thp_capi.specs.declared.held.Events.{Events}
 use Rattle.thp_capi.specs.declared.held.Held.TheVariants.{Kept, Counted}
 use Rattle.thp_capi.specs.declared.codes.Fault.{Fault}
-use Rattle.thp_capi.specs.declared.codes.Fault.TheVariants.{Refused as RefusedWith, BadCaller, BadCount, BadPass, BadSize, BatchOpen, Busy, Empty, InUse}
+use Rattle.thp_capi.specs.declared.codes.Fault.TheVariants.{Refused as RefusedWith, BadCaller, BadCount, BadPass, BatchOpen, Busy, Empty, InUse}
 use Rattle.thp_capi.specs.declared.replies.ThpDone.{ThpDone}
 use Rattle.thp_capi.specs.declared.replies.ThpScan.{ThpScan}
 

@@ -10,12 +10,12 @@ use Rattle.thp_script.specs.Scripts.{Fault, ReportsFault}
 use Rattle.thp_script.specs.declared.fault.TextKind.TheVariants.{TooLong}
 use Rattle.thp_journal_reader.specs.Journals.{journals_within}
 use Rattle.thp_cli.specs.declared.fault.RunFault.{RunFault}
-use Rattle.thp_cli.specs.declared.fault.RunFault.TheVariants.{Text, OutOfMemory, Read, Write}
+use Rattle.thp_cli.specs.declared.fault.RunFault.TheVariants.{Text, OutOfMemory, Write}
 use Rattle.thp_cli.specs.Devices.{IsFrontOf, WritesFront}
 use Rattle.thp_cli.specs.Calls.{WritesOn}
 use Rattle.thp_cli.specs.declared.calls.DeviceCall.{DeviceCall}
 use Rattle.thp_cli.specs.Passages.{Ends, WritesAnswer}
-use Rattle.thp_cli.specs.RunFaults.{run_fault, IsReadingFault}
+use Rattle.thp_cli.specs.RunFaults.{run_fault}
 use Rattle.thp_cli.specs.Verdicts.{is_legal, CheckEndsWithin, IsVerdictWithin}
 
 pub keeps_same : (known : Option (List ℕ)) → Keeps known known

@@ -18,7 +18,7 @@ use Rattle.thp_journal_reader.specs.declared.journals.NodeJournal.{NodeJournal}
 use Rattle.thp_journal_reader.specs.declared.line.Line.{Line}
 use Rattle.thp_journal_reader.specs.declared.line.Line.TheVariants.{Head, Node, Happened, End}
 use Rattle.thp_journal_reader.specs.declared.place.Place.TheVariants.{Start}
-use Rattle.thp_journal_reader.specs.Answers.{AreLegalBefore, CanBeLegal, IsFirstIllegal, IsFirstIllegalLine, IsLegalNode, ReportsIllegal}
+use Rattle.thp_journal_reader.specs.Answers.{AreLegalBefore, CanBeLegal, IsLegalNode, ReportsIllegal}
 use Rattle.thp_journal_reader.specs.Journals.{events_of, journals_with, journals_within, lines_from, node_journal, nodes_of}
 
 -- the first misfit is one of the events

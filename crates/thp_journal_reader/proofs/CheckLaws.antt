@@ -1,6 +1,6 @@
 -- What is known of legal nodes and of the first illegal event, as one more node begins and as one more event is read.
 use Rattle.std.proofs.Common.{◌≡◌, ℕ, ◌+◌, ◌<◌, ◌≤◌, List, [], ◌∷◌, ◌++◌, length, take, Option, Some, None, refl, sym, ap, subst, ◌∙◌, ◌⊎◌, arith, inl, inr, suc, zero}
-use Rattle.std.specs.Prelude.{All, IfSome, option_map, slice_get}
+use Rattle.std.specs.Prelude.{All, IfSome, slice_get}
 use Rattle.std.proofs.lemmas.List.{take-append-le, take_at}
 use Rattle.std.proofs.lemmas.List.Sums.{fold_push}
 use Rattle.std.proofs.lemmas.Option.{slice_get_within}
@@ -14,7 +14,7 @@ use Rattle.thp_model.proofs.ListPlaces.{get_push, get-append_left, get_middle, g
 use Rattle.thp_check.specs.declared.misfit.Misfit.{Misfit}
 use Rattle.thp_check.specs.Reasons.{Explains}
 use Rattle.thp_journal_reader.specs.declared.journals.NodeJournal.{NodeJournal}
-use Rattle.thp_journal_reader.specs.Answers.{AreLegalBefore, IsFirstIllegalEvent, IsLegalNode, ReportsFirst, ReportsIllegal}
+use Rattle.thp_journal_reader.specs.Answers.{AreLegalBefore, IsFirstIllegalEvent, IsLegalNode, ReportsFirst}
 use Rattle.thp_journal_reader.specs.Following.{first_of, nodes_told, LastIsIllegal}
 use Rattle.thp_journal_reader.specs.Reading.{began, on_last, with_event, with_line, IsNodeBefore}
 use Rattle.thp_journal_reader.specs.declared.illegal.Illegal.{Illegal}

@@ -11,7 +11,7 @@ use Rattle.thp_journal_scripts.specs.declared.event_kind.EventKind.{EventKind}
 use Rattle.thp_journal_scripts.specs.declared.event_kind.EventKind.TheVariants.{Call, Take, Try, Put}
 use Rattle.thp_journal_scripts.specs.declared.script_batch.ScriptBatch.{ScriptBatch}
 use Rattle.thp_journal_scripts.specs.declared.script_batch.ScriptBatch.TheVariants.{Idle, Taking, Trying, Scanned, Open, Closing}
-use Rattle.thp_journal_scripts.specs.ScriptBatches.{open_by, pending_ops, settled, Completes, IsPending, IsShut, PutsMore, RepeatsUpTo, TakesMore, TriesMore}
+use Rattle.thp_journal_scripts.specs.ScriptBatches.{open_by, pending_ops, settled, Completes, IsPending, PutsMore, RepeatsUpTo, TakesMore, TriesMore}
 use Rattle.thp_journal_scripts.specs.Folds.{nothing_moved, IsFoldedTo, IsScript}
 use Rattle.thp_journal_scripts.specs.declared.moved.Moved.{Moved}
 use Rattle.thp_journal_scripts.specs.WholeScans.{IsCallOrScan, IsWholeScans}

@@ -19,7 +19,7 @@ use Rattle.thp_script.specs.declared.settings.Report.TheVariants as report
 use Rattle.thp_script.specs.declared.settings.Settings.{Settings}
 use Rattle.thp_script.specs.Scripts.{script_of}
 use Rattle.thp_worker.specs.declared.reply.SectionLog.{SectionLog}
-use Rattle.thp_run.specs.NewNodes.{AreNodesFor, histories_of, journal_in, shapes_of}
+use Rattle.thp_run.specs.NewNodes.{AreNodesFor, histories_of, shapes_of}
 use Rattle.thp_run.specs.NewNodes as nodes
 use Rattle.thp_run.specs.Runs.{IsRun}
 use Rattle.thp_laws.specs.OneRun.{IsSameRun, IsSameSection}

@@ -1,13 +1,10 @@
 -- What stays where link pairs are only read: all but the count of accesses.
-use Rattle.std.proofs.Common.{◌≡◌, ℕ, List, Option, Some, None, length, map, get_or, ap, sym, ◌∙◌, subst}
-use Rattle.thp_links.specs.declared.link.Link.{Link}
-use Rattle.thp_links.specs.Standing.{Stands}
+use Rattle.std.proofs.Common.{ℕ, List, Option, Some, None, length, map, get_or, ap, sym, ◌∙◌, subst}
 use Rattle.thp_model.specs.declared.shape.Shape.{Shape}
 use Rattle.thp_model.specs.History.{History}
-use Rattle.thp_page.specs.Table.{Slot, Table}
+use Rattle.thp_page.specs.Table.{Slot}
 use Rattle.thp_live_pages.specs.FreeChains.{Relinks}
 use Rattle.thp_live_pages.specs.Holding.{Fills, IsNode}
-use Rattle.thp_live_pages.specs.Linking.{IsListed, IsLinked}
 use Rattle.thp_live_pages.specs.PageStoreState.{PageStoreState}
 
 -- and the table and the queue are still what the history says

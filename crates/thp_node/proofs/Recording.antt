@@ -4,7 +4,7 @@ use Rattle.std.specs.Int.{from_bool}
 use Rattle.std.proofs.lemmas.List.{length_push}
 use Rattle.thp_model.specs.declared.events.Event.{Event}
 use Rattle.thp_model.specs.declared.events.What.{What}
-use Rattle.thp_model.specs.declared.events.What.TheVariants.{UnmapWhole, UnmapSub, SplitPmd, Unpin, Taken, Split, Used, Back, Dropped}
+use Rattle.thp_model.specs.declared.events.What.TheVariants.{UnmapWhole, UnmapSub, SplitPmd, Unpin, Split, Used, Back, Dropped}
 use Rattle.thp_model.specs.declared.events.Outcome.{Outcome}
 use Rattle.thp_model.specs.declared.page_call.Loss.{Loss}
 use Rattle.thp_model.specs.declared.page_call.Loss.TheVariants as loss
@@ -26,7 +26,7 @@ use Rattle.thp_node.specs.declared.answers.Counters.{Counters}
 use Rattle.thp_node.specs.declared.journal.Tally.{Tally}
 use Rattle.thp_node.specs.declared.journal.EventContext.{EventContext}
 use Rattle.thp_node.specs.declared.journal.EventContext.TheVariants.{FreedFrom}
-use Rattle.thp_node.specs.Journals.{HasFlightRoom, IsJournal, leaves_of, context_of, leaves_by, pmds_by, splits_as_underused, joins_of, freed_from, one_for, frames_of, CanJoin, CanLeave, HasCountRoom, Moves, Counts}
+use Rattle.thp_node.specs.Journals.{IsJournal, leaves_of, context_of, leaves_by, pmds_by, splits_as_underused, joins_of, freed_from, one_for, frames_of, CanLeave, HasCountRoom, Moves, Counts}
 use Rattle.thp_node.proofs.JournalLemmas.{few_frames_given, flight_moves, leaves_one}
 use Rattle.thp_live_pages.proofs.Starting.{few_events}
 

@@ -1,5 +1,5 @@
 -- Slots of a table before and after its calls, for the proofs of callers.
-use Rattle.std.proofs.Common.{◌≡◌, ◌∙◌, ◌<◌, ℕ, zero, suc, List, length, get_or, replicate, Option, Some, None, ap, refl, get_or-set_same, inl, inr}
+use Rattle.std.proofs.Common.{◌≡◌, ◌<◌, ℕ, List, length, get_or, Option, Some, None, ap, get_or-set_same, inl, inr}
 use Rattle.std.proofs.lemmas.Bool.{cases_lt}
 use Rattle.std.proofs.lemmas.List.{get_or_past}
 use Rattle.thp_page.specs.Table.{Slot, Table, SameSlots}

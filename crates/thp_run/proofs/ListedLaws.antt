@@ -1,10 +1,9 @@
 -- Answers between logs and vectors.
-use Rattle.std.proofs.Common.{◌≡◌, ◌≤◌, ◌+◌, ◌++◌, ◌∷◌, [], ◌∙◌, ℕ, List, ap, append_assoc, drop, length, Some, Ok, Err, refl, sym}
+use Rattle.std.proofs.Common.{◌≡◌, ◌≤◌, ◌+◌, ◌++◌, ◌∷◌, [], ◌∙◌, ℕ, List, ap, append_assoc, drop, length, Some, Ok, Err, sym}
 use Rattle.std.specs.Prelude.{slice_get, Bool, IfOk, Result, Vec}
 use Rattle.std.specs.declared.alloc.Global.{Global}
 use Rattle.std.specs.declared.alloc.AllocError.{AllocError}
 use Rattle.thp_run.proofs.AnswerLaws.{drop_at_get}
-use Rattle.thp_worker.specs.declared.answer_log.Answers.{Answers}
 use Rattle.thp_worker.specs.declared.reply.Answer.{Answer}
 use Rattle.thp_worker.specs.declared.reply.SectionOutcome.{SectionOutcome}
 use Rattle.thp_worker.specs.Fronts.{Fronts}

@@ -13,8 +13,6 @@ use Rattle.thp_script.proofs.ScriptLaws.{too_long}
 use Rattle.thp_cli.specs.declared.fault.RunFault.{RunFault}
 use Rattle.thp_cli.specs.declared.fault.RunFault.TheVariants.{Text, OutOfMemory, Read, Write}
 use Rattle.thp_cli.specs.Devices.{IsInputOf, WritesFront}
-use Rattle.thp_cli.specs.declared.calls.DeviceCall.{DeviceCall}
-use Rattle.thp_cli.specs.Passages.{WritesAnswer}
 use Rattle.thp_cli.proofs.PassageLaws.{ends_early, keeps_same}
 use Rattle.thp_node.specs.NodeState.{NodeState}
 use Rattle.thp_run.specs.Reports.{report_of, told_of}

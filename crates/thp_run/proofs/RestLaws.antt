@@ -12,7 +12,7 @@ use Rattle.thp_worker.specs.declared.answer_log.Answers.{Answers}
 use Rattle.thp_worker.specs.declared.reply.SectionLog.{SectionLog}
 use Rattle.thp_worker.specs.declared.reply.SectionOutcome.{SectionOutcome}
 use Rattle.thp_worker.specs.Fronts.{Fronts, Goes, HoldsAllCallers, HoldsCaller}
-use Rattle.thp_worker.specs.Halves.{AllWork, CanRun, KnowsOf, RangeDone}
+use Rattle.thp_worker.specs.Halves.{AllWork, CanRun, RangeDone}
 use Rattle.thp_worker.specs.Halves as halves
 use Rattle.thp_worker.specs.Sections.{AnswersAre, IsDoneFor, Works}
 use Rattle.thp_worker.proofs.HalvesLaws.{works_from, all_work_as}

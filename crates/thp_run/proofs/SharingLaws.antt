@@ -7,7 +7,7 @@ use Rattle.std.proofs.lemmas.Option.{get_or_from_slice_get, slice_get-get_or, sl
 use Rattle.thp_model.specs.declared.events.Event.{Event}
 use Rattle.thp_node.specs.NodeState.{NodeState}
 use Rattle.thp_cell.specs.Rule.{AllBelow}
-use Rattle.thp_cell.specs.Views.{PassState, HasAll}
+use Rattle.thp_cell.specs.Views.{PassState}
 use Rattle.thp_script.specs.declared.script.Command.{Command}
 use Rattle.thp_script.specs.declared.script.Op.{Op}
 use Rattle.thp_script.specs.declared.script.Op.TheVariants as op
@@ -23,7 +23,7 @@ use Rattle.thp_worker.specs.Fronts.{Fronts}
 use Rattle.thp_worker.specs.Holdings.{Held}
 use Rattle.thp_worker.specs.Passes.{Agree, Passes, batch_in, cell_in, front_in, fronts_in, fronts_of, shape_in}
 use Rattle.thp_worker.specs.Sections.{IsCommandFor}
-use Rattle.thp_run.specs.NewNodes.{AreNodesFor, histories_of, journal_in, shape_of, shapes_of}
+use Rattle.thp_run.specs.NewNodes.{AreNodesFor, histories_of, journal_in, shapes_of}
 use Rattle.thp_run.specs.NewNodes as new
 use Rattle.thp_run.specs.Runs.{IsRun}
 use Rattle.thp_run.specs.Sections.{IsFitScript, IsNew, RunsTo}

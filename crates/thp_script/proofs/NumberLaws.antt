@@ -1,6 +1,5 @@
 -- Words as numbers: a word is read as a number exactly where it is that number's decimal text.
 use Rattle.std.proofs.Common.{◌≡◌, ℕ, ◌^◌, ◌<◌, ◌≤◌, true, false, leb, eqb, not, ◌||◌, length, get_or, drop, List, [], ◌∷◌, ◌+◌, ◌*◌, suc, Some, None, refl, sym, arith, rules, inl, inr, ◌∙◌}
-use Rattle.std.proofs.Math.ListN.{drop_of_length-le}
 use Rattle.std.proofs.Math.Seq.{drop-cons}
 use Rattle.std.specs.Fmt.{decimal}
 use Rattle.std.specs.List.{list_all}

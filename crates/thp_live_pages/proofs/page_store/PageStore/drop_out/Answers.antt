@@ -1,11 +1,11 @@
-use Rattle.std.proofs.Common.{◌≡◌, Option, Some, ap, ◌∙◌, arith}
+use Rattle.std.proofs.Common.{◌≡◌, Option, Some, ap, ◌∙◌}
 use Rattle.std.specs.Prelude.{slice_set}
 use Rattle.thp_page.proofs.TableSlots.{slot_at-inside}
 use Rattle.thp_page.specs.Slots.{slot_at, stood}
 use Rattle.thp_page.specs.Table.{Slot, Table}
 use Rattle.thp_page.specs.declared.standing.Standing.TheVariants.{Nowhere}
 use Rattle.thp_live_pages.specs.PageStoreState.{PageStoreState}
-use Rattle.thp_live_pages.proofs.Relinking.{linked_outside, links_same, links_seen, stood_slots, taken}
+use Rattle.thp_live_pages.proofs.Relinking.{linked_outside, taken}
 use Rattle.thp_live_pages.proofs.page_store.PageStore.drop_out.Goals as goal
 
 pub invariant_of-self : goal.invariant_of-self

@@ -1,7 +1,6 @@
-use Rattle.std.proofs.Common.{Some, None, ap, sym, ◌∙◌, arith}
+use Rattle.std.proofs.Common.{Some, None, arith}
 use Rattle.thp_links.specs.Indices.{without}
-use Rattle.thp_page.specs.Table.{Slot}
-use Rattle.thp_live_pages.proofs.Relinking.{edited_slot, edits_as, edits_then, same_slot, some_of, taken}
+use Rattle.thp_live_pages.proofs.Relinking.{edits_as, edits_then}
 use Rattle.thp_live_pages.proofs.page_store.PageStore.release.Goals as goal
 
 pub returns : goal.returns

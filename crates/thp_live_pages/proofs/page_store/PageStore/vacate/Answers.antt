@@ -1,10 +1,9 @@
-use Rattle.std.proofs.Common.{◌≡◌, Some, None, ap, ◌∙◌, arith}
-use Rattle.std.specs.Prelude.{slice_set}
+use Rattle.std.proofs.Common.{◌≡◌, Some, None, ap, ◌∙◌}
 use Rattle.thp_page.proofs.TableSlots.{slot_at-inside}
 use Rattle.thp_page.specs.Slots.{slot_at}
 use Rattle.thp_page.specs.Table.{Table}
 use Rattle.thp_live_pages.specs.PageStoreState.{PageStoreState}
-use Rattle.thp_live_pages.proofs.Relinking.{linked_outside, links_same, links_seen, taken}
+use Rattle.thp_live_pages.proofs.Relinking.{linked_outside, taken}
 use Rattle.thp_live_pages.proofs.page_store.PageStore.vacate.Goals as goal
 
 pub invariant_of-self : goal.invariant_of-self

@@ -1,8 +1,7 @@
-use Rattle.std.proofs.Common.{ℕ, ◌-◌, List, Option, None, ◌∷◌, get_or, length, refl, ap, sym, ◌∙◌, subst, arith, inl, inr, rules}
+use Rattle.std.proofs.Common.{ℕ, ◌-◌, ◌∷◌, length, ap, sym, ◌∙◌, subst, arith, inl, inr}
 use Rattle.std.specs.List.{Contains}
 use Rattle.std.proofs.lemmas.Bool.Decides.{eqb_tells}
-use Rattle.thp_links.proofs.Members.{Contains-nil, Contains-head, Contains-behind, Contains-cons_cases}
-use Rattle.thp_page.specs.Table.{Slot}
+use Rattle.thp_links.proofs.Members.{Contains-head, Contains-behind, Contains-cons_cases}
 use Rattle.thp_node.proofs.blocks.Blocks.new.Goals as goal
 
 pub push_free-requires-clause-absent : goal.push_free-requires-clause-absent

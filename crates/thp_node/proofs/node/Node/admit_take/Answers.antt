@@ -1,9 +1,8 @@
-use Rattle.std.proofs.Common.{◌≡◌, ◌*◌, min, length, refl, ap, sym, ◌∙◌, inl, inr, arith}
-use Rattle.thp_model.specs.Places.{queue, flight, no_pages}
+use Rattle.std.proofs.Common.{◌≡◌, ◌*◌, length, refl, ap, sym, ◌∙◌, inl, inr, arith}
+use Rattle.thp_model.specs.Places.{queue}
 use Rattle.thp_model.specs.Refusals.{refusal}
 use Rattle.thp_model.specs.Refusals as call
 use Rattle.thp_model.specs.Runs.{take_events}
-use Rattle.thp_model.proofs.TakeRuns.{none_flies}
 use Rattle.thp_node.specs.Journals.{JournalState}
 use Rattle.thp_node.specs.NodeState.{NodeState}
 use Rattle.thp_node.proofs.CallLemmas.{node_of}

@@ -2,7 +2,7 @@ use Rattle.std.proofs.Common.{◌≡◌, ◌≢◌, ◌+◌, ◌&&◌, ℕ, Bool
 use Rattle.std.proofs.lemmas.Bool.Decides.{nat_tests}
 use Rattle.thp_model.specs.Sets.{covers}
 use Rattle.thp_model.specs.Pages.{PageState, size, own_at, total_at}
-use Rattle.thp_model.proofs.Below.{some_below-ext, some_no}
+use Rattle.thp_model.proofs.Below.{some_no}
 use Rattle.thp_page.proofs.page.Page.has_unused.Goals as goal
 
 pub returns-else-self-eq0 : goal.returns-else-self-eq0

@@ -2,7 +2,7 @@ use Rattle.std.proofs.Common.{◌≡◌, Bool, true, false, ◌&&◌, not, refl,
 use Rattle.thp_model.specs.Sets.{has, set_of}
 use Rattle.thp_model.specs.Pages.{PageState, zero_at}
 use Rattle.thp_page.specs.PageView.{state_of}
-use Rattle.thp_page.proofs.SubSets.{is_set_of, set_of-ext}
+use Rattle.thp_page.proofs.SubSets.{is_set_of}
 use Rattle.thp_page.proofs.page.Page.without_given.Goals as goal
 
 pub returns-else-self : goal.returns-else-self

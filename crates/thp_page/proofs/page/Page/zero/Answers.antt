@@ -1,7 +1,7 @@
-use Rattle.std.proofs.Common.{ap₂, sym, ◌∙◌, subst}
+use Rattle.std.proofs.Common.{ap₂, ◌∙◌}
 use Rattle.thp_model.specs.Refusals as call
-use Rattle.thp_model.specs.Pages.{page_refusal, RangeZeroed}
-use Rattle.thp_model.proofs.Narrowing.{page_zero, on_ok}
+use Rattle.thp_model.specs.Pages.{page_refusal}
+use Rattle.thp_model.proofs.Narrowing.{page_zero}
 use Rattle.thp_page.proofs.page.Page.zero.Goals as goal
 
 pub returns-clause-refusal : goal.returns-clause-refusal

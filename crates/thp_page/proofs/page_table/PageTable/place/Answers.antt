@@ -1,5 +1,5 @@
-use Rattle.std.proofs.Common.{ap, ◌∙◌, refl, subst, Some}
-use Rattle.thp_model.specs.Pages.{IsFresh, PageState}
+use Rattle.std.proofs.Common.{ap, ◌∙◌, refl, Some}
+use Rattle.thp_model.specs.Pages.{PageState}
 use Rattle.thp_page.specs.declared.standing.Standing.TheVariants.{Nowhere}
 use Rattle.thp_page.specs.Fresh.{fresh_page}
 use Rattle.thp_page.specs.Table.{Table}

@@ -1,5 +1,4 @@
-use Rattle.std.proofs.Common.{◌≡◌, ◌∙◌, ◌+◌, ◌^◌, ◌%◌, ap, sym, arith, cond, eq-eqb, ne_eqb}
-use Rattle.std.proofs.Math.Nat.{mod-eq_of_lt}
+use Rattle.std.proofs.Common.{◌∙◌, ◌+◌, ◌^◌, ap, sym, arith, cond, eq-eqb, ne_eqb}
 use Rattle.thp_model.specs.Sets.{has}
 use Rattle.thp_page.specs.declared.planes.Planes.{Planes}
 use Rattle.thp_page.specs.Tallies.{tally}
