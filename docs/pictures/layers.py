@@ -62,10 +62,11 @@ def walk() -> list[str]:
 
 
 def caption(crate: str) -> list[str]:
-    """The first line of a crate's head comment, in lines that fit its box."""
+    """The first line of a crate's head comment, in lines that fit its box: up to its colon if it is too long."""
     path = ROOT / f"crates/{crate}/src/lib.rt"
     text = path.read_text().split("\n")[0][4:].replace("`", "") if path.exists() else "A program: its words and streams."
-    return textwrap.wrap(text, 32)
+    lines = textwrap.wrap(text, 32)
+    return lines if len(lines) <= 2 else textwrap.wrap(f"{text.split(':')[0]}.", 32)
 
 
 def corner(crate: str) -> tuple[int, int]:
