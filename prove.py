@@ -10,9 +10,9 @@ proves the crate again from scratch.
 
 `rt` proves one library after the other, and allows only one run in a crate and the crates below it. This program therefore
 runs `rt lib` for each library in a folder of its own, with the built libraries that it uses next to it, and then moves the
-result to the tree, where the next `rt` finds it. The library with the longest chain of remaining work goes first, with all processors
-that memory suffices for. Others get half of these each, at a lower priority, and so use the rest of the machine. Libraries that are
-already proved are left alone: `rt` itself checks them at the end.
+result to the tree, where the next `rt` finds it. The library with the longest chain of remaining work goes first, with as many
+processes as `rt` chooses. Others get half of the processors each, at a lower priority, and so use the rest of the machine. Libraries
+that are already proved are left alone: `rt` itself checks them at the end.
 
 The line in which `rt` reports that a crate is proved, its verdict line, is stored in the crate's out/, with the sum of the sources
 that it is for, and the hashes of what was built from them (`verdict`). Where `rt` takes a proof from another checkout, the line of
@@ -238,8 +238,7 @@ def prove(name: str, is_first: bool, started: list[subprocess.Popen[str]]) -> st
     with tempfile.TemporaryDirectory(prefix="thp-prove-") as top:
         set_up(Path(top), name)
         home = Path(top) / "crates" / name
-        most = lanes()
-        words = ["rt", "lib", "--jobs", str(most)] if is_first else ["nice", "rt", "lib", "--jobs", str(max(1, most // 2))]
+        words = ["rt", "lib"] if is_first else ["nice", "rt", "lib", "--jobs", str(max(1, lanes() // 2))]
         child = subprocess.Popen(words, cwd=home, text=True, errors="replace", stdin=subprocess.DEVNULL,
                                  stdout=subprocess.PIPE, stderr=subprocess.STDOUT)
         started.append(child)
@@ -280,7 +279,7 @@ def prove_lacking(part: str) -> bool:
 
 
 def lanes() -> int:
-    """The number of processors of this machine that memory suffices for: of proofs at once, and of the processes of one."""
+    """The number of processors of this machine that memory suffices for, which is that of concurrent proofs."""
     found = re.search(r"MemAvailable:\s+(\d+)", Path("/proc/meminfo").read_text())
     free = int(found[1]) >> 20 if found else EACH
     return max(1, min(AT_ONCE, len(os.sched_getaffinity(0)), free // EACH))
