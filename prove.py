@@ -11,8 +11,8 @@ proves the crate again from scratch.
 `rt` proves one library after the other, and allows only one run in a crate and the crates below it. This program therefore
 runs `rt lib` for each library in a folder of its own, with the built libraries that it uses next to it, and then moves the
 result to the tree, where the next `rt` finds it. The library with the longest chain of remaining work goes first, with as many
-processes as `rt` chooses. Others get half of the processors each, at a lower priority, and so use the rest of the machine. Libraries
-that are already proved are left alone: `rt` itself checks them at the end.
+processes as `rt` chooses. Each other one gets its share of the processors, at a lower priority. Libraries that are already proved are
+left alone: `rt` itself checks them at the end.
 
 The line in which `rt` reports that a crate is proved, its verdict line, is stored in the crate's out/, with the sum of the sources
 that it is for, and the hashes of what was built from them (`verdict`). Where `rt` takes a proof from another checkout, the line of
@@ -232,13 +232,13 @@ def hand_in(made: Path, name: str) -> None:
         os.close(folder)
 
 
-def prove(name: str, is_first: bool, started: list[subprocess.Popen[str]]) -> str | None:
-    """Proves a library, and returns the output of `rt` if it is not proved."""
+def prove(name: str, jobs: int | None, started: list[subprocess.Popen[str]]) -> str | None:
+    """Proves a library in so many processes, or first and in as many as `rt` chooses. Returns the output of `rt` if it is not proved."""
     began, before = time.monotonic(), sources(name)
     with tempfile.TemporaryDirectory(prefix="thp-prove-") as top:
         set_up(Path(top), name)
         home = Path(top) / "crates" / name
-        words = ["rt", "lib"] if is_first else ["nice", "rt", "lib", "--jobs", str(max(1, lanes() // 2))]
+        words = ["nice", "rt", "lib", "--jobs", str(jobs)] if jobs else ["rt", "lib"]
         child = subprocess.Popen(words, cwd=home, text=True, errors="replace", stdin=subprocess.DEVNULL,
                                  stdout=subprocess.PIPE, stderr=subprocess.STDOUT)
         started.append(child)
@@ -279,7 +279,7 @@ def prove_lacking(part: str) -> bool:
 
 
 def lanes() -> int:
-    """The number of processors of this machine that memory suffices for, which is that of concurrent proofs."""
+    """The number of libraries to prove concurrently on this machine."""
     found = re.search(r"MemAvailable:\s+(\d+)", Path("/proc/meminfo").read_text())
     free = int(found[1]) >> 20 if found else EACH
     return max(1, min(AT_ONCE, len(os.sched_getaffinity(0)), free // EACH))
@@ -298,9 +298,11 @@ def prove_all(target: str, most: int, started: list[subprocess.Popen[str]]) -> b
         while left or running:
             missing = {*left, *running.values()}
             ready = [it for it in left if not missing & {*below(it)}]
-            for name in ready[: most - len(running)]:
+            starting = ready[: most - len(running)]
+            share = max(1, most // max(1, len(running) + len(starting)))
+            for name in starting:
                 is_first = behind[name] == max(behind[it] for it in missing)
-                running[pool.submit(prove, name, is_first, started)] = name
+                running[pool.submit(prove, name, None if is_first else share, started)] = name
                 left.remove(name)
             for ended in wait(running, return_when=FIRST_COMPLETED).done:
                 name, said = running.pop(ended), ended.result()
