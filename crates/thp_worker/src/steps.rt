@@ -1,5 +1,5 @@
 //! Steps of callers on nodes, for any implementation of the nodes.
-ghost use Rattle.std.specs.Prelude.{◌≡◌, ◌≢◌, ◌<◌, Err, IfNone, IfOk, IfSome};
+ghost use Rattle.std.specs.Prelude.{◌≡◌, ◌≢◌, ◌<◌, Err, IfErr, IfNone, IfOk, IfSome};
 ghost use Rattle.thp_worker.specs.Does.{answer_of, node_call_of, IsStep};
 ghost use Rattle.thp_worker.specs.Fronts.{Fronts, Goes, HoldsCaller, StepDone};
 ghost use Rattle.thp_worker.specs.Turns.{by_cell};
@@ -119,6 +119,7 @@ pub(crate) fn told(called: Result<(), CellFault>) -> Result<Option<Result<(), Re
     ensures some { IfOk result (λ told. IfSome told (λ said. called ≡ by_cell said)) }
     ensures memory { IfOk result (λ told. IfSome told (λ said. called ≢ Err (CellFault.Refused Refusal.OutOfMemory))) }
     ensures busy { IfOk result (λ told. IfNone told (called ≡ Err CellFault.Busy)) }
+    ensures lacking { IfErr result (λ _. called ≡ Err (CellFault.Refused Refusal.OutOfMemory)) }
 {
     match called {
         Ok(()) => Ok(Some(Ok(()))),
