@@ -2,7 +2,7 @@
 use Rattle.std.proofs.Common.{◌≡◌, ◌≢◌, ℕ, ◌+◌, ◌<◌, List, [], ◌∷◌, ◌++◌, Contains, subst, sym, inl, inr, arith}
 use Rattle.std.proofs.lemmas.Bool.{cases_eq}
 use Rattle.std.proofs.lemmas.List.Elements.{Contains-append_left, Contains-push, Contains-push_cases}
-use Rattle.thp_links.specs.Indices.{without}
+use Rattle.thp_links.specs.Prelude.{without}
 use Rattle.thp_links.proofs.Members.{Contains-without}
 
 -- after a push of n to blocks below n all are below n + 1

@@ -1,6 +1,6 @@
 //! Nodes for rounds.
 ghost use Rattle.std.specs.Prelude.{◌≡◌, [], IfSome};
-ghost use Rattle.thp_cell.specs.Views.{HasAll};
+ghost use Rattle.thp_cell.specs.Prelude.{HasAll};
 
 use std::alloc::Global;
 use thp_cell::{NodeCell, Pass};

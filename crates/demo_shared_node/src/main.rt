@@ -7,8 +7,7 @@
 #![tactic(auto)]
 
 ghost use Rattle.std.specs.Prelude.{◌≡◌, []};
-ghost use Rattle.thp_cell.specs.Calls.{at_front};
-ghost use Rattle.thp_cell.specs.Views.{HasCaller};
+ghost use Rattle.thp_cell.specs.Prelude.{at_front, HasCaller};
 
 use anyhow::{Context, Result};
 use std::thread::{self, Threads};

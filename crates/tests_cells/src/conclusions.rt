@@ -1,8 +1,7 @@
 //! Conclusions that callers can draw from the contracts of a cell without proofs of their own.
 ghost use Rattle.std.specs.Prelude.{◌≡◌, ◌≤◌, ◌++◌, true, false, [], ◌∷◌, Err, IfOk, OnOk};
-ghost use Rattle.thp_model.specs.History.{by};
-ghost use Rattle.thp_model.specs.Underused.{shrinks_underused};
-ghost use Rattle.thp_cell.specs.Views.{HasCaller, HasAll};
+ghost use Rattle.thp_model.specs.Prelude.{by, shrinks_underused};
+ghost use Rattle.thp_cell.specs.Prelude.{HasCaller, HasAll};
 
 use thp_cell::{CellFault, NodeCell, Pass};
 use thp_model::{PageId, What};

@@ -1,6 +1,6 @@
 //! Worked rows on a shared node, with results known beforehand.
 ghost use Rattle.std.specs.Prelude.{◌≡◌};
-ghost use Rattle.thp_cell.specs.Calls.{at_front, returning_node};
+ghost use Rattle.thp_cell.specs.Prelude.{at_front, returning_node};
 
 use crate::steps::{
     Step, cell_of, expect_steps, has_frames, is_allocation, node_of_one, node_of_two,

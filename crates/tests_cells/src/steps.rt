@@ -1,8 +1,7 @@
 //! Rows as tables of steps: calls through passes of a shared node, each with its result.
 ghost use Rattle.std.specs.Prelude.{◌≡◌, ◌<◌, IfSome};
-ghost use Rattle.thp_node.specs.Batches.{IsInFront};
-ghost use Rattle.thp_cell.specs.Views.{HasCaller, HasAll};
-ghost use Rattle.thp_cell.specs.Calls.{at_front, BatchesStay};
+ghost use Rattle.thp_node.specs.Prelude.{IsInFront};
+ghost use Rattle.thp_cell.specs.Prelude.{HasCaller, HasAll, at_front, BatchesStay};
 ghost use Rattle.tests_cells.specs.Passes.{Stays};
 
 use std::alloc::Global;

@@ -1,6 +1,6 @@
 //! Nodes for rows, calls with their results, and queries of a node.
 ghost use Rattle.std.specs.Prelude.{◌<◌};
-ghost use Rattle.thp_node.specs.Batches.{FrontsStay};
+ghost use Rattle.thp_node.specs.Prelude.{FrontsStay};
 
 use std::alloc::Global;
 use std::process::Abort;

@@ -1,6 +1,6 @@
 //! Tables that count their accesses when they run.
 ghost use Rattle.std.specs.Prelude.{◌≡◌, ℕ, ◌<◌, length, Contains};
-ghost use Rattle.thp_links.specs.Standing.{Stands};
+ghost use Rattle.thp_links.specs.Prelude.{Stands};
 
 use std::process::Abort;
 use thp_links::{Link, LinkTable, Queue};

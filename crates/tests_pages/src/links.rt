@@ -1,7 +1,6 @@
 //! Lists in a table of pairs, with expected values written out, and two lists in one table.
 ghost use Rattle.std.specs.Prelude.{◌≡◌, ◌+◌, ◌≤◌, ⊤, [], ◌∷◌, ◌++◌, length, slice_get, vec_len, Contains, IfOk, IfSome};
-ghost use Rattle.thp_links.specs.Indices.{Apart, without};
-ghost use Rattle.thp_links.specs.Standing.{Stands, ChainStands};
+ghost use Rattle.thp_links.specs.Prelude.{Apart, without, Stands, ChainStands};
 
 use crate::counting::calls_counted;
 use std::alloc::{AllocError, Global};

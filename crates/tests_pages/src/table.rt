@@ -1,8 +1,8 @@
 //! The table of page descriptors in the hands of callers, by its calls and by its links.
 ghost use Rattle.std.specs.Prelude.{◌≡◌, ◌<◌, ℕ, ◌+◌, length, IsSome, OnOk, OnErr, Some, None};
-ghost use Rattle.thp_model.specs.Pages.{PageState, Pinned};
-ghost use Rattle.thp_page.specs.Table.{Slot};
-ghost use Rattle.thp_page.specs.Slots.{slot_at, with_slot, fresh_slot};
+ghost use Rattle.thp_model.specs.Prelude.{PageState};
+ghost use Rattle.thp_model.specs.Pages.{Pinned};
+ghost use Rattle.thp_page.specs.Prelude.{Slot, slot_at, with_slot, fresh_slot};
 
 use crate::counting::calls_counted;
 use std::process::Abort;

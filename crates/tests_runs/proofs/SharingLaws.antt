@@ -11,9 +11,7 @@ use Rattle.thp_worker.specs.declared.reply.Rest.{Rest}
 use Rattle.thp_run.specs.Listed.{WorkedList, WorksOn}
 use Rattle.thp_worker.specs.declared.scanning.CommandProgress.{CommandProgress}
 use Rattle.thp_worker.specs.declared.steps.Step.{Step}
-use Rattle.thp_worker.specs.Does.{Open, Reaction}
-use Rattle.thp_worker.specs.Fronts.{Fronts, SameHolding, Moves, Answered, OutOf, IsStepBusy, StepDone, Goes, Grows}
-use Rattle.thp_worker.specs.Sections.{Made, Steps, Begins, Ends, WorksTo}
+use Rattle.thp_worker.specs.Prelude.{Open, Reaction, Fronts, SameHolding, Moves, Answered, OutOf, IsStepBusy, StepDone, Goes, Grows, Made, Steps, Begins, Ends, WorksTo}
 use Rattle.tests_runs.specs.Sharing.{shared, WasWorked}
 
 module _ (old new : Fronts) where

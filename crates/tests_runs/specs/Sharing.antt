@@ -1,7 +1,7 @@
 -- Nodes that are busy at chosen calls count as shared with one more caller.
 use Rattle.std.specs.Prelude.{◌≡◌, ℕ, ◌+◌, List}
 use Rattle.thp_script.specs.declared.script.Command.{Command}
-use Rattle.thp_worker.specs.Fronts.{Fronts}
+use Rattle.thp_worker.specs.Prelude.{Fronts}
 use Rattle.thp_run.specs.Listed.{WorkedList, WorksOn}
 
 -- more callers than the holder has, so that it never has all

@@ -1,7 +1,7 @@
 //! Calls about one page or the node as values, so that a row is a table of calls and results. Pages are plain numbers, since a
 //! constant can lend no `PageId`.
 ghost use Rattle.std.specs.Prelude.{◌<◌};
-ghost use Rattle.thp_node.specs.Batches.{FrontsStay};
+ghost use Rattle.thp_node.specs.Prelude.{FrontsStay};
 
 use std::alloc::Global;
 use thp_model::{Outcome, PageId, Refusal, Shape, SubSet};

@@ -1,7 +1,6 @@
 //! A shared node.
 ghost use Rattle.std.specs.Prelude.{◌≡◌};
-ghost use Rattle.thp_cell.specs.Calls.{at_front, returning_node};
-ghost use Rattle.thp_cell.specs.Views.{HasAll, HasCaller};
+ghost use Rattle.thp_cell.specs.Prelude.{at_front, returning_node, HasAll, HasCaller};
 
 use crate::sets::SMALL;
 use std::alloc::Global;

@@ -1,6 +1,6 @@
 //! Pages and their table.
 ghost use Rattle.std.specs.Prelude.{◌≡◌, ◌<◌, Some, length};
-ghost use Rattle.thp_page.specs.Slots.{fresh_slot, with_slot};
+ghost use Rattle.thp_page.specs.Prelude.{fresh_slot, with_slot};
 
 use std::process::Abort;
 use std::test::Fail;

@@ -1,9 +1,7 @@
 //! A section of a holder of callers, and the report of its answers.
 ghost use Rattle.std.specs.Prelude.{◌<◌, ◌^◌, All, length};
 ghost use Rattle.thp_run.specs.Listed.{WorksOn};
-ghost use Rattle.thp_worker.specs.Fronts.{Fronts, HoldsCaller};
-ghost use Rattle.thp_worker.specs.OpenBatches.{HasNoBatch};
-ghost use Rattle.thp_worker.specs.Sections.{IsCommandFor};
+ghost use Rattle.thp_worker.specs.Prelude.{Fronts, HoldsCaller, HasNoBatch, IsCommandFor};
 
 use std::alloc::{AllocError, Global};
 use std::process::Abort;

@@ -1,13 +1,13 @@
 //! The calls of a node.
 ghost use Rattle.std.specs.Prelude.{◌≡◌, ◌∷◌, [], Ok, Err, OnErr, length};
-ghost use Rattle.thp_model.specs.Places.{queue};
+ghost use Rattle.thp_model.specs.Prelude.{queue};
 ghost use Rattle.thp_model.specs.Refusals as call;
 ghost use Rattle.thp_capi.specs.Calls.{OneCall, AllocCall, ScanCall, TakeCall, NextCall, BackCall, AbandonCall, ReserveCall, Written};
 ghost use Rattle.thp_capi.specs.Codes.{answer_of, answer_with, IsCode};
 ghost use Rattle.thp_capi.specs.Engines.{shape_of};
 ghost use Rattle.thp_capi.specs.Held.{Does, DoesIfKept, Made, Emptied};
 ghost use Rattle.thp_capi.specs.Replies.{stats_of};
-ghost use Rattle.thp_journal_writer.specs.Journals.{journal_text};
+ghost use Rattle.thp_journal_writer.specs.Prelude.{journal_text};
 
 use std::alloc::Global;
 use thp_capi::{

@@ -11,7 +11,7 @@ use denote.Param.SendFields.{declared_send, variants_send}
 use denote.Struct.Field.{row_field}
 use denote.Struct.Struct.{exits_of}
 use denote.Struct.Owning.{shape, fields, to}
-use Rattle.std.specs.Prelude.{Option, None, Some, [], ◌∷◌}
+use Rattle.std.proofs.Common.{Option, None, Some, [], ◌∷◌}
 use Rattle.std.proofs.Crossing.{crosses, frees}
 use Rattle.std.proofs.option.Option.TheSendSync as option
 use Rattle.std_alloc.proofs.SendSync.{lies, quiet}

@@ -1,5 +1,5 @@
 -- The walk of `exchange`, once for all handles that C sees. They differ in the struct's name, in the record of its values, and in what they hold. Assumes `Logic`.
-use Rattle.std.proofs.Common.{◌≡◌, ℕ, List, [], ◌∷◌, ◌++◌, refl, sym, subst}
+use Rattle.std.proofs.Common.{◌≡◌, ℕ, List, [], ◌∷◌, ◌++◌, refl, sym, subst, Option}
 use seplogic.Ra.Ura.{Ura}
 use mir.Syntax.{Body, Callee, Fn, Place, Step, Sym, Ty, assign, aggregate, copy, deref, field, local, mut, named, place, return, rv_opd, seq, tcons, tnil, ty_int, ty_named, ty_ptr, ty_ref, ty_struct, value_local, w32}
 use mir.Val.{Val, vptr}
@@ -27,7 +27,6 @@ use denote.Struct.Owning.{Owning, row}
 use denote.Triple.Clauses.{Clauses, Ended, closing}
 use denote.Triple.Spec.{Meets}
 use denote.Triple.Walked.{Stays, stay_dropped, stay_ref, walk_of, Goes-dropped, Goes-ref}
-use Rattle.std.specs.Prelude.{Option}
 use Rattle.std.proofs.raw_atomic.Walks.{proved_at, leaves}
 use Rattle.std_alloc.proofs.RcSteps.{Ptr-Good}
 use Rattle.thp_capi.specs.Handles.{handle_owns}

@@ -1,5 +1,5 @@
 -- The machine values of a handle: what is owned of one, taken apart and put together. Assumes `Logic`.
-use Rattle.std.proofs.Common.{◌≡◌, ℕ, ◌<◌, ◌^◌, List, [], ◌∷◌, ◌++◌, refl, true≢false}
+use Rattle.std.proofs.Common.{◌≡◌, ℕ, ◌<◌, ◌^◌, List, [], ◌∷◌, ◌++◌, refl, true≢false, Option, None, Some, IsSome, is_some, eqb}
 use mathlib.Core.Path.{◌∙◌, sym}
 use seplogic.Ra.Ura.{Ura}
 use mir.Syntax.{Sym, ty_int, ty_ptr, ty_struct, w32}
@@ -15,7 +15,6 @@ use denote.RawPtr.{Ptr, ptr_val}
 use denote.Steps.{nothing, owned, facts}
 use denote.Struct.Struct.{Shape, Struct, within, to_tys, as_fields}
 use Rattle.std.proofs.cell.Inside.{Good}
-use Rattle.std.specs.Prelude.{Option, None, Some, IsSome, is_some, eqb}
 use Rattle.std_alloc.proofs.RcSteps.{Ptr-Good}
 use Rattle.thp_capi.specs.Handles.{flag, boxed_at, handle_owns}
 use Rattle.thp_capi.proofs.Values.{both}

@@ -1,14 +1,11 @@
 -- Passes and the open batches of their callers: what calls keep, and where a caller's batch is found.
-use Rattle.std.proofs.Common.{◌≡◌, ◌∙◌, ◌≢◌, ◌++◌, ◌+◌, ◌-◌, ◌<◌, ◌≤◌, ap, ℕ, Bool, true, false, length, refl, sym, subst, arith, length-append, length-drop, Option, Some, None, Ok, Err, set, get_or, take, drop}
-use Rattle.std.specs.Prelude.{nat_le}
+use Rattle.std.proofs.Common.{◌≡◌, ◌∙◌, ◌≢◌, ◌++◌, ◌+◌, ◌-◌, ◌<◌, ◌≤◌, ap, ℕ, Bool, true, false, length, refl, sym, subst, arith, length-append, length-drop, Option, Some, None, Ok, Err, set, get_or, take, drop, nat_le}
 use Rattle.std.proofs.lemmas.Bool.Decides.{nat_tests}
 use Rattle.std.proofs.lemmas.List.{set-set, length-take, length-set, get_or-take, get_or-drop, get_or-set_same, get_or-set_other, get_or_append_left, get_or-append-add}
 use Rattle.atomic_table.specs.Seated.{TableId}
-use Rattle.thp_node.specs.Batches.{BatchState, IsInFront, rest}
-use Rattle.thp_model.specs.Runs.{put_back_events, split_next_events}
-use Rattle.thp_cell.specs.Calls.{at_front, BatchesStay, OtherBatchesStay, Called, Failed, IsJoined, below, from}
-use Rattle.thp_cell.specs.Says.{DidPutBack, DidTry}
-use Rattle.thp_cell.specs.Views.{PassState, HasCaller}
+use Rattle.thp_node.specs.Prelude.{BatchState, IsInFront, rest}
+use Rattle.thp_model.specs.Prelude.{put_back_events, split_next_events}
+use Rattle.thp_cell.specs.Prelude.{at_front, BatchesStay, OtherBatchesStay, Called, Failed, IsJoined, below, from, DidPutBack, DidTry, PassState, HasCaller}
 use Rattle.thp_cell.specs.declared.fault.CellFault.{CellFault}
 use Rattle.thp_cell.specs.declared.fault.CellFault.TheVariants.{Busy, Refused}
 use Rattle.thp_capi.specs.PassBatches.{PassNext, PassBack, PassFailsOnBatch, fault_in}

@@ -3,11 +3,8 @@ use Rattle.std.proofs.Common.{◌≡◌, ◌∙◌, ◌≢◌, ◌+◌, ◌<◌,
 use Rattle.std.proofs.lemmas.Bool.{eqb-true, eqb-false}
 use Rattle.std.proofs.lemmas.List.{length-set, get_or-set_same, get_or-set_other, set-get_or}
 use Rattle.thp_model.specs.declared.refusal.Refusal.{Refusal}
-use Rattle.thp_model.specs.History.{History}
-use Rattle.thp_model.specs.Runs.{put_back_events}
-use Rattle.thp_node.specs.Batches.{BatchState, IsInFront, FrontsStay, OtherFrontsStay}
-use Rattle.thp_node.specs.Calls.{Refused}
-use Rattle.thp_node.specs.NodeState.{NodeState}
+use Rattle.thp_model.specs.Prelude.{History, put_back_events}
+use Rattle.thp_node.specs.Prelude.{BatchState, IsInFront, FrontsStay, OtherFrontsStay, Refused, NodeState}
 use Rattle.thp_capi.specs.Calls.{BackFails}
 use Rattle.thp_capi.specs.Engines.{IsEngine}
 use Rattle.thp_capi.specs.OpenBatches.{EachOpen}

@@ -1,6 +1,5 @@
 -- The order of a queue, read from its history backwards: the event that queued a page last is the page's place.
-use Rattle.std.proofs.Common.{◌≡◌, ◌∙◌, ℕ, zero, suc, ◌+◌, ◌-◌, ◌<◌, ◌≤◌, Bool, true, false, cond, not, ◌||◌, List, [], ◌∷◌, ◌++◌, Some, None, length, take, drop, get_or, refl, ap, sym, subst, arith, nat_eq, eq-eqb, eqb-true}
-use Rattle.std.specs.List.{filter}
+use Rattle.std.proofs.Common.{◌≡◌, ◌∙◌, ℕ, zero, suc, ◌+◌, ◌-◌, ◌<◌, ◌≤◌, Bool, true, false, cond, not, ◌||◌, List, [], ◌∷◌, ◌++◌, Some, None, length, take, drop, get_or, refl, ap, sym, subst, arith, nat_eq, eq-eqb, eqb-true, filter}
 use Rattle.std.proofs.lemmas.List.{take_more, take_all, length-take}
 use Rattle.std.proofs.lemmas.List.Elements.{filter-append}
 use Rattle.thp_model.specs.declared.events.Event.{Event}
@@ -9,10 +8,7 @@ use Rattle.thp_model.specs.declared.events.Outcome.TheVariants.{Stays, Queued, F
 use Rattle.thp_model.specs.declared.events.What.{What}
 use Rattle.thp_model.specs.declared.events.What.TheVariants.{Alloc, UnmapWhole, UnmapSub, Unpin, Taken, Back}
 use Rattle.thp_model.specs.declared.shape.Shape.{Shape}
-use Rattle.thp_model.specs.History.{History}
-use Rattle.thp_model.specs.Legal.{IsLegal}
-use Rattle.thp_model.specs.Places.{queue, queue_after, queue_by, has_page, without}
-use Rattle.thp_model.specs.Underused.{shrinks_underused}
+use Rattle.thp_model.specs.Prelude.{History, IsLegal, queue, queue_after, queue_by, has_page, without, shrinks_underused}
 use Rattle.thp_model.proofs.Bools.{by_bool, or_first, or_second}
 use Rattle.thp_model.proofs.LegalSteps.{legal_take}
 use Rattle.thp_model.proofs.ListPlaces.{append_none}

@@ -4,15 +4,13 @@ use Rattle.std.proofs.lemmas.Bool.Decides.{eqb_tells}
 use Rattle.std.proofs.lemmas.List.{take_more, take_all, length-set, get_or-set_same, get_or-set_other, take-append-drop, drop_more, length-replicate}
 use Rattle.thp_model.specs.declared.events.Event.{Event}
 use Rattle.thp_model.specs.declared.shape.Shape.{Shape}
-use Rattle.thp_model.specs.History.{History}
-use Rattle.thp_model.specs.Legal.{IsLegal}
-use Rattle.thp_model.specs.Places.{queue, has_page}
+use Rattle.thp_model.specs.Prelude.{History, IsLegal, queue, has_page}
 use Rattle.thp_model.proofs.Bools.{by_bool}
 use Rattle.thp_model.proofs.OnePlace.{once_queued, not_before}
 use Rattle.thp_model.proofs.Standing.{times}
-use Rattle.thp_live_pages.specs.Homes.{block_of}
+use Rattle.thp_live_pages.specs.Prelude.{block_of}
 use Rattle.thp_live_pages.proofs.Homing.{legal_homed}
-use Rattle.thp_node.specs.NodeState.{NodeState}
+use Rattle.thp_node.specs.Prelude.{NodeState}
 use Rattle.thp_capi.specs.Engines.{EngineState}
 use Rattle.thp_capi.specs.Joining.{joins}
 use Rattle.thp_capi.specs.Reading.{filled_with}

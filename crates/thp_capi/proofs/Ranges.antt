@@ -1,6 +1,5 @@
 -- A call of a range whose operands were kept in 16 bits does what the call of the range itself does.
-use Rattle.std.proofs.Common.{◌≡◌, ℕ, ◌≤◌, List, Bool, ◌∷◌, [], Option, Some, None, Ok, Err, ap₂, sym, ◌∙◌, subst}
-use Rattle.std.specs.Prelude.{IfSome}
+use Rattle.std.proofs.Common.{◌≡◌, ℕ, ◌≤◌, List, Bool, ◌∷◌, [], Option, Some, None, Ok, Err, ap₂, sym, ◌∙◌, subst, IfSome}
 use Rattle.thp_model.specs.declared.events.Outcome.{Outcome}
 use Rattle.thp_model.specs.declared.events.Outcome.TheVariants.{Stays}
 use Rattle.thp_model.specs.declared.events.What.{What}
@@ -8,12 +7,10 @@ use Rattle.thp_model.specs.declared.events.What.TheVariants as what
 use Rattle.thp_model.specs.declared.page_call.Done.{Done}
 use Rattle.thp_model.specs.declared.refusal.Refusal.{Refusal}
 use Rattle.thp_model.specs.declared.shape.Shape.{Shape}
-use Rattle.thp_model.specs.History.{History, by}
-use Rattle.thp_model.specs.Limits.{max_order}
-use Rattle.thp_model.specs.Refusals.{Call, refusal}
+use Rattle.thp_model.specs.Prelude.{History, by, max_order, Call, refusal}
 use Rattle.thp_model.specs.Refusals as call
 use Rattle.thp_model.proofs.Narrowing.{kept, map_sub, map_sub-whole, unmap_sub, unmap_sub-whole, write, write-whole, zero_fill, zero_fill-whole}
-use Rattle.thp_node.specs.Calls.{Did}
+use Rattle.thp_node.specs.Prelude.{Did}
 use Rattle.thp_cell.proofs.Narrowed.{one_as, lose_as}
 use Rattle.thp_capi.specs.Calls.{OneCall, LoseCall, Fails}
 use Rattle.thp_capi.specs.Codes.{Answer, answer_with}

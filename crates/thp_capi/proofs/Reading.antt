@@ -1,22 +1,15 @@
 -- What a node's table reports of a page is what the journal determines.
-use Rattle.std.proofs.Common.{◌≡◌, ◌∙◌, ℕ, true, false, Option, Some, None, ap, sym, subst, refl}
-use Rattle.std.specs.Prelude.{IfSome}
+use Rattle.std.proofs.Common.{◌≡◌, ◌∙◌, ℕ, true, false, Option, Some, None, ap, sym, subst, refl, IfSome}
 use Rattle.std.specs.Int.{from_bool}
-use Rattle.thp_model.specs.Counts.{is_live, is_split, pins, whole}
-use Rattle.thp_model.specs.Pages.{PageState, Tallies}
-use Rattle.thp_model.specs.Places.{has_page, queue, stands}
-use Rattle.thp_model.specs.Underused.{is_partly_mapped}
+use Rattle.thp_model.specs.Prelude.{is_live, is_split, pins, whole, PageState, Tallies, has_page, queue, stands, is_partly_mapped}
 use Rattle.thp_model.proofs.Bools.{by_bool, or_first}
 use Rattle.thp_model.proofs.Tallying.{pins_is, whole_is}
 use Rattle.thp_page.specs.declared.standing.Standing.{Standing}
 use Rattle.thp_page.specs.declared.standing.Standing.TheVariants.{Queued}
-use Rattle.thp_page.specs.Slots.{slot_at, page_in, HoldsPage}
-use Rattle.thp_page.specs.Table.{Slot, Table}
-use Rattle.thp_live_pages.specs.Holding.{Fills, HasBlock}
-use Rattle.thp_live_pages.specs.Homes.{block_of, standing_of, LiesWherePlaced}
+use Rattle.thp_page.specs.Prelude.{slot_at, page_in, HoldsPage, Slot, Table}
+use Rattle.thp_live_pages.specs.Prelude.{Fills, HasBlock, block_of, standing_of, LiesWherePlaced}
 use Rattle.thp_live_pages.proofs.Standings.{standing_queued}
-use Rattle.thp_node.specs.JournalLaws.{StandsWhole}
-use Rattle.thp_node.specs.NodeState.{NodeState}
+use Rattle.thp_node.specs.Prelude.{StandsWhole, NodeState}
 use Rattle.thp_capi.specs.Reading.{flight_caller, list_number, page_state_of}
 use Rattle.thp_capi.specs.declared.page_state.ThpPageState.{ThpPageState}
 use Rattle.thp_capi.proofs.QueueOrder.{has-append}

@@ -1,13 +1,8 @@
 -- What the text that came to a check, and a part behind it, have its verdict be.
-use Rattle.std.proofs.Common.{◌≡◌, ◌∙◌, ◌++◌, ap, sym, [], Ok, Err, append_assoc}
-use Rattle.std.proofs.lemmas.List.{append-nil}
-use Rattle.std.specs.Prelude.{IfOk, IfErr, Result}
+use Rattle.std.proofs.Common.{◌≡◌, ◌∙◌, ◌++◌, ap, sym, [], Ok, Err, append_assoc, append-nil, IfOk, IfErr, Result}
 use Rattle.thp_journal_reader.specs.declared.journals.Journals.{Journals}
-use Rattle.thp_journal_reader.specs.Answers.{ReportsFirst}
-use Rattle.thp_journal_reader.specs.Journals.{journals_within}
-use Rattle.thp_journal_reader.specs.Parts.{ReadSoFar, told_with}
-use Rattle.thp_script.specs.Limits.{max_counted}
-use Rattle.thp_script.specs.Words.{Text}
+use Rattle.thp_journal_reader.specs.Prelude.{ReportsFirst, journals_within, ReadSoFar, told_with}
+use Rattle.thp_script.specs.Prelude.{max_counted, Text}
 use Rattle.thp_capi.specs.LongChecks.{HasRead, IsVerdictOn, ReadsOn, Verdict}
 
 -- a part more

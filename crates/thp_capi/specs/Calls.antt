@@ -5,16 +5,8 @@ use Rattle.thp_model.specs.declared.events.What.{What}
 use Rattle.thp_model.specs.declared.page_call.Done.{Done}
 use Rattle.thp_model.specs.declared.refusal.Refusal.{Refusal}
 use Rattle.thp_model.specs.declared.refusal.Refusal.TheVariants.{OutOfMemory}
-use Rattle.thp_model.specs.Counts.{allocations}
-use Rattle.thp_model.specs.Frames.{outcome, released}
-use Rattle.thp_model.specs.History.{by}
-use Rattle.thp_model.specs.Limits.{max_batch, max_callers}
-use Rattle.thp_model.specs.Places.{queue}
-use Rattle.thp_model.specs.Refusals.{Call, refusal, alloc_page, scan, take as take_call}
-use Rattle.thp_model.specs.Runs.{take_events, split_next_events, put_back_events, scan_events, next_page, rest_after, still_flying}
-use Rattle.thp_node.specs.Batches.{BatchState, rest, tried, back_reply, scan_reply}
-use Rattle.thp_node.specs.Calls.{Did, DidAlloc, Refused}
-use Rattle.thp_node.specs.NodeState.{NodeState}
+use Rattle.thp_model.specs.Prelude.{allocations, outcome, released, by, max_batch, max_callers, queue, Call, refusal, alloc_page, scan, take as take_call, take_events, split_next_events, put_back_events, scan_events, next_page, rest_after, still_flying}
+use Rattle.thp_node.specs.Prelude.{BatchState, rest, tried, back_reply, scan_reply, Did, DidAlloc, Refused, NodeState}
 use Rattle.thp_capi.specs.Codes.{Answer}
 use Rattle.thp_capi.specs.Engines.{EngineState, OthersOpen, open_of}
 use Rattle.thp_capi.specs.Replies.{IsTried, MasksSet, back_of, outcome_number, scan_of}

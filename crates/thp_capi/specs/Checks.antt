@@ -1,15 +1,12 @@
 -- The result of the check of a text, as numbers.
-use Rattle.std.specs.Prelude.{◌≡◌, ℕ, Option, None, Some, Result, Ok, Err, IfOk, IfErr}
-use Rattle.std.specs.List.{All}
+use Rattle.std.specs.Prelude.{◌≡◌, ℕ, Option, None, Some, Result, Ok, Err, IfOk, IfErr, All}
 use Rattle.thp_journal_reader.specs.declared.journals.Journals.{Journals}
-use Rattle.thp_journal_reader.specs.Answers.{CanBeLegal, ReportsIllegal}
-use Rattle.thp_journal_reader.specs.Journals.{journals_of}
+use Rattle.thp_journal_reader.specs.Prelude.{CanBeLegal, ReportsIllegal, journals_of}
 use Rattle.thp_script.specs.declared.fault.ReadFault.{ReadFault}
 use Rattle.thp_script.specs.declared.fault.ReadFault.TheVariants.{Text as TextFault, OutOfMemory}
 use Rattle.thp_script.specs.declared.fault.TextKind.{TextKind}
 use Rattle.thp_script.specs.declared.fault.TextKind.TheVariants.{TooLong, BadByte, Cut, BadWord, BadCount, BadNumber, BadSet, BadOrder}
-use Rattle.thp_script.specs.Scripts.{ReportsFault}
-use Rattle.thp_script.specs.Words.{Text}
+use Rattle.thp_script.specs.Prelude.{ReportsFault, Text}
 
 -- the line of the first illegal event, if there is one, or why the text could not be read
 abbrev pub CheckAnswer : Type 0

@@ -1,9 +1,8 @@
 -- The view that contracts have of the engine of a node's handle.
 use Rattle.std.specs.Prelude.{◌≡◌, ◌≢◌, ℕ, ◌≤◌, List, Option, None, Some, length, get_or, if◌then◌else◌, nat_eq}
 use Rattle.thp_model.specs.declared.shape.Shape.{Shape}
-use Rattle.thp_model.specs.Limits.{max_callers, max_order}
-use Rattle.thp_node.specs.Batches.{BatchState}
-use Rattle.thp_node.specs.NodeState.{NodeState}
+use Rattle.thp_model.specs.Prelude.{max_callers, max_order}
+use Rattle.thp_node.specs.Prelude.{BatchState, NodeState}
 use Rattle.thp_capi.specs.OpenBatches.{EachOpen}
 
 -- the node, and the open batch of each caller

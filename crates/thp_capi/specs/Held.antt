@@ -2,7 +2,7 @@
 use Rattle.std.specs.Prelude.{◌≡◌, ◌⊎◌, [], Option, None, Some, Ok, Err}
 use Rattle.thp_model.specs.declared.refusal.Refusal.TheVariants.{OutOfMemory}
 use Rattle.thp_model.specs.declared.shape.Shape.{Shape}
-use Rattle.thp_model.specs.Shapes.{IsShape}
+use Rattle.thp_model.specs.Prelude.{IsShape}
 use Rattle.thp_capi.specs.Codes.{Answer}
 use Rattle.thp_capi.specs.Engines.{EngineState, NoneOpen}
 use Rattle.thp_capi.specs.Sharing.{SharedState}

@@ -5,7 +5,7 @@ use Rattle.thp_model.specs.declared.events.Outcome.TheVariants.{Stays, Queued, F
 use Rattle.thp_model.specs.declared.events.What.{What}
 use Rattle.thp_model.specs.declared.events.What.TheVariants.{Alloc, UnmapWhole, UnmapSub, Unpin, Back}
 use Rattle.thp_model.specs.declared.shape.Shape.{Shape}
-use Rattle.thp_model.specs.Underused.{shrinks_underused}
+use Rattle.thp_model.specs.Prelude.{shrinks_underused}
 
 -- page p joins the queue by an outcome, or none does
 abbrev pub joins_by : ℕ → Outcome → Option ℕ

@@ -1,15 +1,12 @@
 -- The view that contracts have of the check of a handle: the text read so far, or the verdict on it.
 use Rattle.std.specs.Prelude.{◌≡◌, ◌++◌, ℕ, List, [], Option, Some, None, Result, Ok, Err, ⊤}
-use Rattle.thp_check.specs.Explanations.{explanation}
+use Rattle.thp_check.specs.Prelude.{explanation}
 use Rattle.thp_journal_reader.specs.declared.illegal.Illegal.{Illegal}
 use Rattle.thp_journal_reader.specs.declared.illegal.TextFault.{TextFault}
 use Rattle.thp_journal_reader.specs.declared.journals.Journals.{Journals}
-use Rattle.thp_journal_reader.specs.Answers.{ReportsFirst}
-use Rattle.thp_journal_reader.specs.Journals.{journals_within}
-use Rattle.thp_journal_reader.specs.Parts.{ReadSoFar, told_with}
+use Rattle.thp_journal_reader.specs.Prelude.{ReportsFirst, journals_within, ReadSoFar, told_with}
 use Rattle.thp_model.specs.declared.refusal.Refusal.TheVariants.{OutOfMemory}
-use Rattle.thp_script.specs.Limits.{max_counted}
-use Rattle.thp_script.specs.Words.{Text}
+use Rattle.thp_script.specs.Prelude.{max_counted, Text}
 use Rattle.thp_capi.specs.Calls.{Written}
 use Rattle.thp_capi.specs.Checks.{text_code}
 use Rattle.thp_capi.specs.Codes.{Answer}

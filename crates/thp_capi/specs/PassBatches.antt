@@ -1,13 +1,10 @@
 -- The effect of the calls about open batches on the pass of a handle.
 use Rattle.std.specs.Prelude.{◌≡◌, ℕ, ◌≤◌, None, IsSome, IfSome, Result, OnOk, IfOk, IfErr, length}
-use Rattle.thp_model.specs.Refusals.{refusal, take as take_call}
-use Rattle.thp_model.specs.Runs.{take_events, split_next_events, put_back_events}
-use Rattle.thp_node.specs.Batches.{BatchState, rest}
+use Rattle.thp_model.specs.Prelude.{refusal, take as take_call, take_events, split_next_events, put_back_events}
+use Rattle.thp_node.specs.Prelude.{BatchState, rest}
 use Rattle.thp_cell.specs.declared.fault.CellFault.{CellFault}
 use Rattle.thp_cell.specs.declared.fault.CellFault.TheVariants as cell_fault
-use Rattle.thp_cell.specs.Calls.{Called}
-use Rattle.thp_cell.specs.Says.{DidTake, DidTry, DidPutBack}
-use Rattle.thp_cell.specs.Views.{HasCaller}
+use Rattle.thp_cell.specs.Prelude.{Called, DidTake, DidTry, DidPutBack, HasCaller}
 use Rattle.thp_capi.specs.Calls.{Batched}
 use Rattle.thp_capi.specs.Codes.{Answer}
 use Rattle.thp_capi.specs.Passes.{PassFails, PassFailsAsking}

@@ -6,14 +6,8 @@ use Rattle.thp_model.specs.declared.page_call.Done.{Done}
 use Rattle.thp_model.specs.declared.refusal.Refusal.{Refusal}
 use Rattle.thp_model.specs.declared.refusal.Refusal.TheVariants.{OutOfMemory}
 use Rattle.thp_model.specs.declared.shape.Shape.{Shape}
-use Rattle.thp_model.specs.Limits.{max_batch, max_callers, max_order}
-use Rattle.thp_model.specs.Places.{queue}
-use Rattle.thp_model.specs.Refusals.{Call, refusal, alloc_page, scan}
-use Rattle.thp_model.specs.Runs.{take_events}
-use Rattle.thp_model.specs.Shapes.{IsShape}
-use Rattle.thp_cell.specs.Calls.{Called, Follows, IsBusy, IsRefused, IsJoined, below, from}
-use Rattle.thp_cell.specs.Says.{DidOne, DidAlloc, DidLose, DidScan}
-use Rattle.thp_cell.specs.Views.{PassState, HasCaller, HasAll}
+use Rattle.thp_model.specs.Prelude.{max_batch, max_callers, max_order, queue, Call, refusal, alloc_page, scan, take_events, IsShape}
+use Rattle.thp_cell.specs.Prelude.{Called, Follows, IsBusy, IsRefused, IsJoined, below, from, DidOne, DidAlloc, DidLose, DidScan, PassState, HasCaller, HasAll}
 use Rattle.thp_capi.specs.Codes.{Answer}
 use Rattle.thp_capi.specs.Engines.{EngineState, NoneOpen}
 use Rattle.thp_capi.specs.Held.{Filled, HeldEngine, HeldPass, events_in, held_value}

@@ -2,14 +2,11 @@
 use Rattle.std.specs.Prelude.{◌≡◌, ℕ, ◌≤◌, ◌<◌, true, false, List, ◌++◌, drop, length, take, Result, Ok, OnOk, IfOk, IfErr}
 use Rattle.std.specs.Int.{from_bool}
 use Rattle.thp_model.specs.declared.refusal.Refusal.TheVariants.{NoPage, BadRange}
-use Rattle.thp_model.specs.Counts.{is_live, is_split, own, pins, whole}
-use Rattle.thp_model.specs.Places.{queue}
-use Rattle.thp_model.specs.Shapes.{subpages}
-use Rattle.thp_model.specs.Underused.{is_partly_mapped}
+use Rattle.thp_model.specs.Prelude.{is_live, is_split, own, pins, whole, queue, subpages, is_partly_mapped}
 use Rattle.thp_page.specs.declared.standing.Standing.{Standing}
 use Rattle.thp_page.specs.declared.standing.Standing.TheVariants.{Nowhere, Queued, Batch}
-use Rattle.thp_live_pages.specs.Homes.{standing_of}
-use Rattle.thp_node.specs.NodeState.{NodeState}
+use Rattle.thp_live_pages.specs.Prelude.{standing_of}
+use Rattle.thp_node.specs.Prelude.{NodeState}
 use Rattle.thp_capi.specs.Codes.{Answer}
 use Rattle.thp_capi.specs.Engines.{EngineState}
 use Rattle.thp_capi.specs.declared.codes.Fault.{Fault}

@@ -2,18 +2,12 @@
 use Rattle.std.specs.Prelude.{◌≡◌, ℕ, ◌<◌, ◌≤◌, ◌-◌, ◌^◌, min, Bool, List, length, if◌then◌else◌, nat_eq}
 use Rattle.thp_model.specs.declared.events.Outcome.{Outcome}
 use Rattle.thp_model.specs.declared.events.Outcome.TheVariants.{Stays, Queued, Freed}
-use Rattle.thp_model.specs.Counts.{allocations}
-use Rattle.thp_model.specs.Frames.{frames_given, frames_held}
-use Rattle.thp_model.specs.Limits.{max_subpages}
-use Rattle.thp_model.specs.Places.{queue}
-use Rattle.thp_model.specs.Sets.{has}
-use Rattle.thp_model.specs.Words.{in_words}
+use Rattle.thp_model.specs.Prelude.{allocations, frames_given, frames_held, max_subpages, queue, has, in_words}
 use Rattle.thp_node.specs.declared.answers.BackReply.{BackReply}
 use Rattle.thp_node.specs.declared.answers.ScanReply.{ScanReply}
 use Rattle.thp_node.specs.declared.answers.Tried.{Tried}
 use Rattle.thp_node.specs.declared.answers.Tried.TheVariants as try
-use Rattle.thp_node.specs.Journals.{counters_of}
-use Rattle.thp_node.specs.NodeState.{NodeState}
+use Rattle.thp_node.specs.Prelude.{counters_of, NodeState}
 use Rattle.thp_capi.specs.declared.replies.ThpBack.{ThpBack}
 use Rattle.thp_capi.specs.declared.replies.ThpScan.{ThpScan}
 use Rattle.thp_capi.specs.declared.replies.ThpTried.{ThpTried}

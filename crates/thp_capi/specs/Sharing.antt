@@ -1,9 +1,8 @@
 -- The view that contracts have of the pass of a handle: a pass, and the open batches of its callers.
 use Rattle.std.specs.Prelude.{◌≡◌, ◌≢◌, ℕ, ◌≤◌, ◌+◌, ◌-◌, nat_le, List, Option, None, IsSome, length, get_or, if◌then◌else◌}
 use Rattle.atomic_table.specs.Seated.{TableId}
-use Rattle.thp_node.specs.Batches.{BatchState}
-use Rattle.thp_cell.specs.Calls.{at_front}
-use Rattle.thp_cell.specs.Views.{PassState, HasCaller}
+use Rattle.thp_node.specs.Prelude.{BatchState}
+use Rattle.thp_cell.specs.Prelude.{at_front, PassState, HasCaller}
 use Rattle.thp_capi.specs.OpenBatches.{EachOpen}
 
 -- a pass, the mark of its cell, and the open batch of each of its callers

@@ -1,6 +1,6 @@
 //! What the calls of a check share, for C: the text arrives in parts.
 ghost use Rattle.std.specs.Prelude.{◌≡◌, [], IfErr, IfOk, Some};
-ghost use Rattle.thp_check.specs.Explanations.{explanation};
+ghost use Rattle.thp_check.specs.Prelude.{explanation};
 ghost use Rattle.thp_capi.specs.LongChecks.{HasRead, Judges, ReadsOn, WhyNoReason, reason_of, verdict_numbers};
 
 use crate::check_stage::CheckStage;

@@ -1,8 +1,6 @@
 //! The engine that a node's handle owns: a node, and the open batches of its callers.
 ghost use Rattle.std.specs.Prelude.{◌≡◌, ◌<◌, ◌≤◌, None, IsSome, IfSome, IfNone, IfOk, IfErr, OnOk, length};
-ghost use Rattle.thp_model.specs.Limits.{max_order};
-ghost use Rattle.thp_model.specs.PageCalls.{gain_call, gain_what, loss_call, loss_what};
-ghost use Rattle.thp_model.specs.Places.{queue};
+ghost use Rattle.thp_model.specs.Prelude.{max_order, gain_call, gain_what, loss_call, loss_what, queue};
 ghost use Rattle.thp_model.specs.Refusals as call;
 ghost use Rattle.thp_capi.specs.Calls.{OneCall, Allowed, Loses, ReportsOutcome, ReportsReleased, FailsAt, AllocCall, ScanCall, TakeCall, NextCall, BackReplies, BackRecords, BackFails, ReserveCall, AbandonCall};
 ghost use Rattle.thp_capi.specs.Engines.{NoneOpen, OthersOpen, open_of};
@@ -54,7 +52,7 @@ impl<R: Recorder> Model for Engine<R> {
 
 impl<R: Recorder> Engine<R> {
     ghost use Rattle.std.specs.Prelude.{[], ◌∷◌, ◌↔◌, Err};
-    ghost use Rattle.thp_model.specs.Shapes.{IsShape};
+    ghost use Rattle.thp_model.specs.Prelude.{IsShape};
 
     /// Creates an engine of a node with no page.
     pub fn new(alloc: Global, shape: Shape) -> Result<Engine<R>, NewFault>
@@ -270,7 +268,7 @@ impl<R: Recorder> Engine<R> {
 
 impl Engine<FullLog> {
     ghost use Rattle.std.specs.Prelude.{[], ◌∷◌};
-    ghost use Rattle.thp_journal_writer.specs.Journals.{journal_text as text_of};
+    ghost use Rattle.thp_journal_writer.specs.Prelude.{journal_text as text_of};
 
     /// Returns the node's journal as text.
     pub fn text(&self, alloc: Global) -> Result<Vec<u8>, AllocError>

@@ -1,6 +1,6 @@
 //! What the handles of nodes and of passes hold: a node's events are stored, or only counted.
 ghost use Rattle.std.specs.Prelude.{◌≡◌, ◌↔◌, [], Err, IfOk};
-ghost use Rattle.thp_model.specs.Shapes.{IsShape};
+ghost use Rattle.thp_model.specs.Prelude.{IsShape};
 ghost use Rattle.thp_capi.specs.Engines.{NoneOpen};
 ghost use Rattle.thp_capi.specs.Held.{events_in, held_value};
 

@@ -1,6 +1,6 @@
 //! What the calls of a shared node share, for C.
 ghost use Rattle.std.specs.Prelude.{◌≡◌, OnErr, IfSome};
-ghost use Rattle.thp_model.specs.PageCalls.{gain_call, gain_what, loss_call, loss_what};
+ghost use Rattle.thp_model.specs.Prelude.{gain_call, gain_what, loss_call, loss_what};
 ghost use Rattle.thp_capi.specs.Codes.{answer_of, answer_with, IsCode};
 ghost use Rattle.thp_capi.specs.Engines.{NoneOpen, shape_of};
 ghost use Rattle.thp_capi.specs.Held.{Does, Holds, events_in, held_value};

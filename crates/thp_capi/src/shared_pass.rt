@@ -1,12 +1,8 @@
 //! A pass with a share of its cell.
 ghost use Rattle.std.specs.Prelude.{◌≡◌, ◌≤◌, true, false, IfOk, IfErr, ◌⊎◌};
-ghost use Rattle.thp_model.specs.Limits.{max_order};
-ghost use Rattle.thp_model.specs.PageCalls.{gain_call, gain_what, loss_call, loss_what};
-ghost use Rattle.thp_model.specs.Refusals.{refusal};
+ghost use Rattle.thp_model.specs.Prelude.{max_order, gain_call, gain_what, loss_call, loss_what, refusal};
 ghost use Rattle.thp_model.specs.Refusals as call;
-ghost use Rattle.thp_cell.specs.Calls.{Called, below, from, IsJoined};
-ghost use Rattle.thp_cell.specs.Says.{DidLose};
-ghost use Rattle.thp_cell.specs.Views.{HasCaller, HasAll};
+ghost use Rattle.thp_cell.specs.Prelude.{Called, below, from, IsJoined, DidLose, HasCaller, HasAll};
 ghost use Rattle.thp_capi.specs.Passes.{PassOne, PassAlloc, PassFails, PassScan, PassCount, IsNewPass, IsCellSize, Divides, Adjoin};
 ghost use Rattle.thp_capi.specs.Sharing.{OnlyFront, IsPart, IsShut, HasOpen, OpenStay};
 

@@ -1,23 +1,15 @@
 -- One call of the node within a hold.
-use Rattle.std.proofs.Common.{◌≡◌, ◌⊎◌, inl, inr, ⊎_elim, arith, ℕ, ◌<◌, ◌≤◌, Bool, true, List, [], ◌∷◌, ◌++◌, refl, sym, ap, ◌∙◌, subst, Option, Some, None, Result, Ok, Err}
-use Rattle.std.specs.Prelude.{IfOk, IfErr}
-use Rattle.std.proofs.lemmas.List.{append-nil}
+use Rattle.std.proofs.Common.{◌≡◌, ◌⊎◌, inl, inr, ⊎_elim, arith, ℕ, ◌<◌, ◌≤◌, Bool, true, List, [], ◌∷◌, ◌++◌, refl, sym, ap, ◌∙◌, subst, Option, Some, None, Result, Ok, Err, IfOk, IfErr, append-nil}
 use Rattle.std.proofs.lemmas.List.Elements.{All-append, All-weaker}
 use Rattle.thp_model.specs.declared.events.Event.{Event}
 use Rattle.thp_model.specs.declared.refusal.Refusal.{Refusal}
 use Rattle.thp_model.specs.declared.refusal.Refusal.TheVariants.{OutOfMemory}
 use Rattle.thp_model.specs.declared.shape.Shape.{Shape}
-use Rattle.thp_model.specs.History.{History, events_of}
-use Rattle.thp_model.specs.Legal.{IsLegal}
-use Rattle.thp_node.specs.Batches.{BatchState, IsInFront}
-use Rattle.thp_node.specs.NodeState.{NodeState}
-use Rattle.thp_node.specs.Calls.{Did, DidAlloc, Refused}
-use Rattle.thp_cell.specs.Rule.{AllBelow, Since, Adds}
+use Rattle.thp_model.specs.Prelude.{History, events_of, IsLegal}
+use Rattle.thp_node.specs.Prelude.{BatchState, IsInFront, NodeState, Did, DidAlloc, Refused}
+use Rattle.thp_cell.specs.Prelude.{AllBelow, Since, Adds, Place, pass_state, known_state, HasTaken, IsKept, PassState, HasCaller, part, at_front, Called, Follows, IsRefused}
 use Rattle.atomic_table.specs.Table.{rest}
 use Rattle.atomic_table.specs.Lent.{seat_with}
-use Rattle.thp_cell.specs.Seats.{Place, pass_state, known_state, HasTaken, IsKept}
-use Rattle.thp_cell.specs.Views.{PassState, HasCaller, part}
-use Rattle.thp_cell.specs.Calls.{at_front, Called, Follows, IsRefused}
 use Rattle.thp_cell.proofs.Fronts.{adds_none, adds_by, adds_more, known_more, whole_front}
 use Rattle.thp_cell.proofs.Storing.{same_node}
 use Rattle.thp_cell.proofs.Passes.{events_of-append, events_of_all, events_of_none, part_stays, flights_last, batch_stays, follows}

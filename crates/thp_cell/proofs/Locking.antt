@@ -1,6 +1,5 @@
 -- The steps that end no hold keep the rule: the lock step, and the two loads.
-use Rattle.std.proofs.Common.{◌≡◌, inl, ℕ, ◌+◌, ◌*◌, ◌/◌, ◌<◌, Bool, true, false, List, [], ◌∷◌, set, get_or, length, refl, sym, ap, ◌∙◌, subst, arith, true≢false}
-use Rattle.std.specs.Prelude.{bit_or, cond, sum_by}
+use Rattle.std.proofs.Common.{◌≡◌, inl, ℕ, ◌+◌, ◌*◌, ◌/◌, ◌<◌, Bool, true, false, List, [], ◌∷◌, set, get_or, length, refl, sym, ap, ◌∙◌, subst, arith, true≢false, bit_or, cond, sum_by}
 use Rattle.std.proofs.lemmas.List.Elements.{All-nil, All-weaker}
 use mathlib.Core.Logic.{dite}
 use mathlib.Core.Option.{some, none}
@@ -8,15 +7,10 @@ use native.Mathlib.Decide.{ℕ_discrete}
 use lib.ListN.{get_elem?}
 use Rattle.atomic_table.specs.Table.{keeps, takes, step, stepped, Allows}
 use Rattle.thp_model.specs.declared.shape.Shape.{Shape}
-use Rattle.thp_model.specs.History.{History}
-use Rattle.thp_model.specs.Legal.{IsLegal}
-use Rattle.thp_model.specs.Places.{queue}
+use Rattle.thp_model.specs.Prelude.{History, IsLegal, queue}
 use Rattle.thp_model.proofs.LegalSteps.{legal_front}
-use Rattle.thp_node.specs.NodeState.{NodeState}
-use Rattle.thp_cell.specs.declared.rule.OldFront.{OldFront}
-use Rattle.thp_cell.specs.declared.rule.SeatKnowledge.{SeatKnowledge}
-use Rattle.thp_cell.specs.Rule.{Since, AllBelow, holding, OldFrontAgrees, SeatAgrees, SeatsAgree, Home, RuleHolds}
-use Rattle.thp_cell.specs.Steps.{SeatValue, seat_with_front, Took, Locked, Counted, Looked}
+use Rattle.thp_node.specs.Prelude.{NodeState}
+use Rattle.thp_cell.specs.Prelude.{OldFront, SeatKnowledge, Since, AllBelow, holding, OldFrontAgrees, SeatAgrees, SeatsAgree, Home, RuleHolds, SeatValue, seat_with_front, Took, Locked, Counted, Looked}
 use Rattle.thp_cell.proofs.Fronts.{since_same, between, below_end}
 use Rattle.thp_cell.proofs.Sums.{sum_set, bit_set}
 use Rattle.thp_cell.proofs.Seating.{Cell, reseated, stays, nobody}

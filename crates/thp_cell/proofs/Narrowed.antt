@@ -1,16 +1,11 @@
 -- A call of a range whose operands were kept in 16 bits says what the call of the range itself does.
-use Rattle.std.proofs.Common.{◌≡◌, ℕ, Bool, List, ◌∷◌, [], None, ap, sym, ◌∙◌}
-use Rattle.std.specs.Prelude.{Result, OnOk, IfOk, Ok, Err}
+use Rattle.std.proofs.Common.{◌≡◌, ℕ, Bool, List, ◌∷◌, [], None, ap, sym, ◌∙◌, Result, OnOk, IfOk, Ok, Err}
 use Rattle.thp_model.specs.declared.events.Event.{Event}
 use Rattle.thp_model.specs.declared.events.Outcome.{Outcome}
 use Rattle.thp_model.specs.declared.events.What.{What}
 use Rattle.thp_model.specs.declared.page_call.Done.{Done}
-use Rattle.thp_model.specs.History.{History, by}
-use Rattle.thp_model.specs.Refusals.{Call, refusal}
-use Rattle.thp_cell.specs.declared.fault.CellFault.{CellFault}
-use Rattle.thp_cell.specs.Calls.{Called}
-use Rattle.thp_cell.specs.Says.{DidOne, DidLose}
-use Rattle.thp_cell.specs.Views.{PassState}
+use Rattle.thp_model.specs.Prelude.{History, by, Call, refusal}
+use Rattle.thp_cell.specs.Prelude.{CellFault, Called, DidOne, DidLose, PassState}
 
 pub ok_then : {A : Type 0} (r : Result A CellFault) (P Q : Type 0) → OnOk r P → (P → Q) → OnOk r Q
 ok_then (Ok x) P Q h f = f h

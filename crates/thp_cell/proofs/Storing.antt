@@ -1,17 +1,12 @@
 -- The store that ends a hold keeps the rule: the node is in the slot again, with the events of the hold.
-use Rattle.std.proofs.Common.{◌≡◌, inr, ℕ, ◌*◌, ◌^◌, ◌<◌, ◌≤◌, true, false, List, [], ◌∷◌, set, length, refl, sym, ap, ◌∙◌, subst, arith, true≢false}
-use Rattle.std.specs.Prelude.{cond, sum_by}
+use Rattle.std.proofs.Common.{◌≡◌, inr, ℕ, ◌*◌, ◌^◌, ◌<◌, ◌≤◌, true, false, List, [], ◌∷◌, set, length, refl, sym, ap, ◌∙◌, subst, arith, true≢false, cond, sum_by}
 use Rattle.std.proofs.lemmas.List.Elements.{All-nil}
 use mathlib.Core.Option.{some, none}
 use Rattle.atomic_table.specs.Table.{gives, rest, step, Allows}
 use Rattle.thp_model.specs.declared.shape.Shape.{Shape}
-use Rattle.thp_model.specs.Legal.{IsLegal}
-use Rattle.thp_model.specs.Places.{queue}
-use Rattle.thp_node.specs.NodeState.{NodeState}
-use Rattle.thp_cell.specs.declared.rule.SeatKnowledge.{SeatKnowledge}
-use Rattle.thp_cell.specs.Rule.{Adds, holding, RuleHolds}
-use Rattle.thp_cell.specs.Seats.{Place, IsFree, IsLent, HasSlot}
-use Rattle.thp_cell.specs.Steps.{SeatValue, seat_with_front, Stored}
+use Rattle.thp_model.specs.Prelude.{IsLegal, queue}
+use Rattle.thp_node.specs.Prelude.{NodeState}
+use Rattle.thp_cell.specs.Prelude.{SeatKnowledge, Adds, holding, RuleHolds, Place, IsFree, IsLent, HasSlot, SeatValue, seat_with_front, Stored}
 use Rattle.thp_cell.proofs.Fronts.{since_same}
 use Rattle.thp_cell.proofs.Sums.{sum_set, share_of_one}
 use Rattle.thp_cell.proofs.Seating.{reseated}

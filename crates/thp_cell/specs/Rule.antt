@@ -5,10 +5,8 @@ use lib.ListN.{get_elem?}
 use Rattle.atomic_table.specs.Table.{State}
 use Rattle.thp_model.specs.declared.events.Event.{Event}
 use Rattle.thp_model.specs.declared.shape.Shape.{Shape}
-use Rattle.thp_model.specs.History.{History}
-use Rattle.thp_model.specs.Legal.{IsLegal}
-use Rattle.thp_model.specs.Places.{queue}
-use Rattle.thp_node.specs.NodeState.{NodeState}
+use Rattle.thp_model.specs.Prelude.{History, IsLegal, queue}
+use Rattle.thp_node.specs.Prelude.{NodeState}
 use Rattle.thp_cell.specs.declared.rule.OldFront.{OldFront}
 use Rattle.thp_cell.specs.declared.rule.SeatKnowledge.{SeatKnowledge}
 

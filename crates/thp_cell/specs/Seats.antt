@@ -1,10 +1,8 @@
 -- The invariants of the seats of a pass and of a hold. No public clause cites this module.
 use Rattle.std.specs.Prelude.{◌≡◌, ℕ, ◌<◌, ◌≤◌, Bool, true, false, List, [], ◌∷◌}
 use Rattle.atomic_table.specs.declared.shared.Seat.{Seat}
-use Rattle.thp_model.specs.Limits.{max_callers, max_order}
-use Rattle.thp_model.specs.History.{History}
-use Rattle.thp_model.specs.Legal.{IsLegal}
-use Rattle.thp_node.specs.NodeState.{NodeState}
+use Rattle.thp_model.specs.Prelude.{max_callers, max_order, History, IsLegal}
+use Rattle.thp_node.specs.Prelude.{NodeState}
 use Rattle.thp_cell.specs.declared.rule.SeatKnowledge.{SeatKnowledge}
 use Rattle.thp_cell.specs.Calls.{at_front}
 use Rattle.thp_cell.specs.Rule.{Adds, AllBelow, Since}

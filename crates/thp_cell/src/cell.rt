@@ -1,10 +1,7 @@
 //! A node that threads share: creating it, locking it, dividing its passes among threads, and dismantling it.
 ghost use Rattle.std.specs.Prelude.{◌≡◌, ℕ, ◌<◌, ◌≤◌, ◌⊎◌, ◌↔◌, [], ◌∷◌, length, true, false, Err, All, IfOk, IfErr, OnOk, OnErr};
-ghost use Rattle.thp_model.specs.Limits.{max_callers};
-ghost use Rattle.thp_model.specs.History.{events_of};
-ghost use Rattle.thp_model.specs.Legal.{IsLegal};
-ghost use Rattle.thp_model.specs.Places.{queue};
-ghost use Rattle.thp_node.specs.JournalLaws.{StandsOnce, StandsWhole, TakesOldest, LeavesFreedAlone, NothingEnters, HasFramesOnce, KeepsFrames};
+ghost use Rattle.thp_model.specs.Prelude.{max_callers, events_of, IsLegal, queue};
+ghost use Rattle.thp_node.specs.Prelude.{StandsOnce, StandsWhole, TakesOldest, LeavesFreedAlone, NothingEnters, HasFramesOnce, KeepsFrames};
 ghost use Rattle.thp_cell.specs.Views.{HasCaller, HasAll, part};
 ghost use Rattle.thp_cell.specs.Calls.{Follows, PartsStay, BatchesStay, IsBusy, IsJoined, below, from, keeping, returning_node};
 
@@ -48,7 +45,7 @@ impl<R: Recorder> Model for NodeCell<R> {
 
 impl<R: Recorder> NodeCell<R> {
     ghost use Rattle.std.specs.Borrow.{sem};
-    ghost use Rattle.thp_node.specs.NodeState.{NodeState};
+    ghost use Rattle.thp_node.specs.Prelude.{NodeState};
     ghost use Rattle.thp_cell.specs.Steps.{seat_with_front, left_of, right_of, Took, WasBusy};
     ghost use Rattle.thp_cell.specs.Seats.{front_in, known_state, IsFree, IsIn, IsKept, IsLent, HasSlot, HasTaken, FoundBusy};
     ghost use Rattle.thp_cell.specs.Lending.{lends_node};

@@ -1,7 +1,6 @@
 //! The passes with which threads call a node.
 ghost use Rattle.std.specs.Prelude.{◌≡◌, ◌<◌, ◌≤◌, min};
-ghost use Rattle.thp_model.specs.Limits.{max_order};
-ghost use Rattle.thp_model.specs.Legal.{IsLegal};
+ghost use Rattle.thp_model.specs.Prelude.{max_order, IsLegal};
 
 use crate::rule::SeatKnowledge;
 use atomic_table::Seat;

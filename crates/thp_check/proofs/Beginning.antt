@@ -1,21 +1,15 @@
 -- A replay with no event yet, and after each event.
-use Rattle.std.proofs.Common.{◌≡◌, ℕ, ◌≤◌, false, [], ◌∷◌, ◌++◌, Some, None, length, map, take, refl, ap, sym, ◌∙◌, arith}
-use Rattle.std.proofs.lemmas.List.{length-take}
+use Rattle.std.proofs.Common.{◌≡◌, ℕ, ◌≤◌, false, [], ◌∷◌, ◌++◌, Some, None, length, map, take, refl, ap, sym, ◌∙◌, arith, length-take}
 use Rattle.thp_model.specs.declared.events.Event.{Event}
 use Rattle.thp_model.specs.declared.shape.Shape.{Shape}
-use Rattle.thp_model.specs.Limits.{max_order}
-use Rattle.thp_model.specs.History.{History, count_of, some_event}
-use Rattle.thp_model.specs.Counts.{allocations, is_alloc, is_closed}
-use Rattle.thp_model.specs.Places.{is_taking, takes_by}
+use Rattle.thp_model.specs.Prelude.{max_order, History, count_of, some_event, allocations, is_alloc, is_closed, is_taking, takes_by}
 use Rattle.thp_model.proofs.FlightLaws.{flight_none}
 use Rattle.thp_model.proofs.Pushes.{is_taking_push}
-use Rattle.thp_page.specs.Slots.{slot_at}
-use Rattle.thp_live_pages.specs.Homes.{block_of}
+use Rattle.thp_page.specs.Prelude.{slot_at}
+use Rattle.thp_live_pages.specs.Prelude.{block_of}
 use Rattle.thp_live_pages.proofs.Starting.{few_events}
 use Rattle.thp_live_pages.proofs.Starting.{node_none}
-use Rattle.thp_check.specs.declared.node_state.NodeState.{NodeState}
-use Rattle.thp_check.specs.Flights.{FlightsState, blocks_in}
-use Rattle.thp_check.specs.Meanings.{Keeps, Means, is_taker}
+use Rattle.thp_check.specs.Prelude.{NodeState, FlightsState, blocks_in, Keeps, Means, is_taker}
 
 no_allocations : allocations [] ≡ 0
 unfolding count_of

@@ -1,7 +1,5 @@
 -- Steps whose answer is a test.
-use Rattle.std.proofs.Common.{◌≡◌, ℕ, Bool, true, false, not, nat_eq, eq-eqb, eqb-true, refl}
-use Rattle.std.specs.Prelude.{Result, Ok, Err}
-use Rattle.std.specs.Result.{MatchResult}
+use Rattle.std.proofs.Common.{◌≡◌, ℕ, Bool, true, false, not, nat_eq, eq-eqb, eqb-true, refl, Result, Ok, Err, MatchResult}
 
 pub no_both : (z : Bool) → z ≡ false → z ≡ true → ⊥
 no_both z e f = cc

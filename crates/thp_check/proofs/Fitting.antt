@@ -1,20 +1,12 @@
 -- What is told as expected fits.
-use Rattle.std.proofs.Common.{◌≡◌, ◌≢◌, ℕ, ◌<◌, Bool, true, false, not, ◌||◌, List, Some, refl, sym, arith, inl, inr, ◌⊎◌}
-use Rattle.std.specs.Prelude.{slice_get}
+use Rattle.std.proofs.Common.{◌≡◌, ◌≢◌, ℕ, ◌<◌, Bool, true, false, not, ◌||◌, List, Some, refl, sym, arith, inl, inr, ◌⊎◌, slice_get}
 use Rattle.thp_model.specs.declared.events.Outcome.{Outcome}
 use Rattle.thp_model.specs.declared.events.What.{What}
 use Rattle.thp_model.specs.declared.events.What.TheVariants.{Alloc, Split, Pinned, Used, Back, Dropped}
 use Rattle.thp_model.specs.declared.shape.Shape.{Shape}
-use Rattle.thp_model.specs.Counts.{pins, is_closed}
-use Rattle.thp_model.specs.History.{History, by}
-use Rattle.thp_model.specs.Legal.{Fits, is_dropped}
-use Rattle.thp_model.specs.Places.{flight}
-use Rattle.thp_model.specs.Underused.{is_partly_mapped, is_worth_split}
-use Rattle.thp_check.specs.declared.misfit.Misfit.{Misfit}
+use Rattle.thp_model.specs.Prelude.{pins, is_closed, History, by, Fits, is_dropped, flight, is_partly_mapped, is_worth_split}
+use Rattle.thp_check.specs.Prelude.{Misfit, ExplainsBy, with_outcome, with_frames, page_of, FitsInPlace}
 use Rattle.thp_check.specs.declared.misfit.Misfit.TheVariants as misfit
-use Rattle.thp_check.specs.Reasons.{ExplainsBy, with_outcome, with_frames}
-use Rattle.thp_check.specs.Explanations.{page_of}
-use Rattle.thp_check.specs.Fitting.{FitsInPlace}
 
 positive : (n : ℕ) → n ≢ 0 → 0 < n
 positive n other = omega arith

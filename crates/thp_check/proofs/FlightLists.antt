@@ -1,18 +1,14 @@
 -- The lists of flights: a block joins one, or leaves it.
-use Rattle.std.proofs.Common.{◌≡◌, ◌≢◌, ℕ, zero, suc, ◌%◌, ◌<◌, ◌≤◌, Bool, true, false, cond, not, ◌∷◌, ◌++◌, List, [], Option, Some, None, length, take, add-one, ◌+◌, refl, ap, ap₂, sym, ◌∙◌, subst, arith, nat_eq, get_or, eq-eqb, ne_eqb, eqb-true, inl, inr, ◌⊎◌, replicate, Contains, length-set}
-use Rattle.std.specs.Prelude.{slice_get, slice_set, IfSome}
-use Rattle.std.specs.List.{filter}
+use Rattle.std.proofs.Common.{◌≡◌, ◌≢◌, ℕ, zero, suc, ◌%◌, ◌<◌, ◌≤◌, Bool, true, false, cond, not, ◌∷◌, ◌++◌, List, [], Option, Some, None, length, take, add-one, ◌+◌, refl, ap, ap₂, sym, ◌∙◌, subst, arith, nat_eq, get_or, eq-eqb, ne_eqb, eqb-true, inl, inr, ◌⊎◌, replicate, Contains, length-set, slice_get, slice_set, IfSome, filter, get_or-set_same, get_or-set_other}
 use Rattle.std.proofs.lemmas.Bool.Decides.{eqb_tells}
-use Rattle.std.proofs.lemmas.List.{get_or-set_same, get_or-set_other}
 use Rattle.std.proofs.lemmas.List.Elements.{filter-append, Contains-push_cases}
 use Rattle.thp_links.specs.declared.link.Link.{Link}
 use Rattle.thp_links.specs.declared.link.TheConstants.{NIL}
-use Rattle.thp_links.specs.Indices.{without}
-use Rattle.thp_links.specs.Standing.{Stands, SameOutside, between}
+use Rattle.thp_links.specs.Prelude.{without, Stands, SameOutside, between}
 use Rattle.thp_links.proofs.Members.{empty_from_first, Contains-nil, Contains-head, Contains-behind, Contains-cons_cases, Contains-from_without}
 use Rattle.thp_links.proofs.OneTable.{Stands-kept, Stands-inside}
 use Rattle.thp_model.proofs.ListPlaces.{append_none}
-use Rattle.thp_check.specs.Flights.{FlightsState, AreLinked, caller_at, list_at, blocks_in, flight_left}
+use Rattle.thp_check.specs.Prelude.{FlightsState, AreLinked, caller_at, list_at, blocks_in, flight_left}
 use Rattle.thp_live_pages.proofs.Walking.{next_at, there_is, take_all, filter_more}
 
 -- two tests that agree on a list

@@ -1,29 +1,21 @@
 -- The blocks where no live page lies, after one more event.
-use Rattle.std.proofs.Common.{◌≡◌, ◌≢◌, ℕ, ◌*◌, ◌<◌, ◌≤◌, Bool, true, false, cond, not, ◌&&◌, nat_eq, nat_lt, List, [], ◌∷◌, ◌++◌, length, Option, Some, None, refl, ap, sym, ◌∙◌, subst, arith, inl, inr, eq-eqb, eqb-true}
+use Rattle.std.proofs.Common.{◌≡◌, ◌≢◌, ℕ, ◌*◌, ◌<◌, ◌≤◌, Bool, true, false, cond, not, ◌&&◌, nat_eq, nat_lt, List, [], ◌∷◌, ◌++◌, length, Option, Some, None, refl, ap, sym, ◌∙◌, subst, arith, inl, inr, eq-eqb, eqb-true, lt-ltb}
 use Rattle.std.specs.Prelude.{⊤, IfSome, MatchOption}
-use Rattle.std.proofs.lemmas.Bool.{lt-ltb}
 use Rattle.std.proofs.lemmas.Bool.Decides.{eqb_tells}
 use Rattle.thp_model.specs.declared.events.Event.{Event}
 use Rattle.thp_model.specs.declared.events.Outcome.{Outcome}
 use Rattle.thp_model.specs.declared.events.What.{What}
 use Rattle.thp_model.specs.declared.events.What.TheVariants.{Alloc, UnmapWhole, UnmapSub, Unpin}
 use Rattle.thp_model.specs.declared.shape.Shape.{Shape}
-use Rattle.thp_model.specs.BlockLaws.{least_free}
-use Rattle.thp_model.specs.Counts.{allocates, frees, is_freed, is_live}
-use Rattle.thp_model.specs.Frames.{block_in_use}
-use Rattle.thp_model.specs.History.{History, some_event}
-use Rattle.thp_model.specs.Legal.{Fits, FitsAlloc, FitsBy, IsLegal}
-use Rattle.thp_model.specs.Words.{in_words}
+use Rattle.thp_model.specs.Prelude.{least_free, allocates, frees, is_freed, is_live, block_in_use, History, some_event, Fits, FitsAlloc, FitsBy, IsLegal, in_words}
 use Rattle.thp_model.proofs.Bools.{by_bool, and_both, and-true}
 use Rattle.thp_model.proofs.LegalSteps.{legal_push}
-use Rattle.thp_page.specs.Slots.{slot_at, HoldsPage}
-use Rattle.thp_page.specs.Table.{Slot, Table}
-use Rattle.thp_live_pages.specs.Holding.{IsNode}
-use Rattle.thp_live_pages.specs.Homes.{block_of, block_after}
+use Rattle.thp_page.specs.Prelude.{slot_at, HoldsPage, Slot, Table}
+use Rattle.thp_live_pages.specs.Prelude.{IsNode, block_of, block_after}
 use Rattle.thp_live_pages.proofs.Admitting.{found, at_home}
 use Rattle.thp_live_pages.proofs.Homing.{Homed, legal_homed, block_push, block_stays, block_freed, block_free, block_taken}
 use Rattle.thp_live_pages.proofs.Least.{first_found, first_none}
-use Rattle.thp_check.specs.Freeing.{MarksFree, IsFreed, free_after, taken_block}
+use Rattle.thp_check.specs.Prelude.{MarksFree, IsFreed, free_after, taken_block}
 
 no_both : (z : Bool) → z ≡ false → z ≡ true → ⊥
 no_both z e f = cc

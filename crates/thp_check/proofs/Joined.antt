@@ -1,8 +1,7 @@
 -- Texts made piece by piece.
-use Rattle.std.proofs.Common.{◌≡◌, ℕ, List, [], ◌∷◌, ◌++◌, append_assoc, codes}
-use Rattle.std.specs.Fmt.{decimal}
-use Rattle.thp_journal_writer.specs.Journals.{ended}
-use Rattle.thp_check.specs.Explanations.{page_is, caller_is, in_flight_of}
+use Rattle.std.proofs.Common.{◌≡◌, ℕ, List, [], ◌∷◌, ◌++◌, append_assoc, codes, decimal}
+use Rattle.thp_journal_writer.specs.Prelude.{ended}
+use Rattle.thp_check.specs.Prelude.{page_is, caller_is, in_flight_of}
 
 -- two pieces behind a text
 pub two : (t a b : List ℕ) → t ++ a ++ b ≡ t ++ (a ++ b)

@@ -5,34 +5,24 @@ use Rattle.thp_model.specs.declared.events.Outcome.{Outcome}
 use Rattle.thp_model.specs.declared.events.Outcome.TheVariants as outcome
 use Rattle.thp_model.specs.declared.events.What.{What}
 use Rattle.thp_model.specs.declared.shape.Shape.{Shape}
-use Rattle.thp_model.specs.History.{History, by}
-use Rattle.thp_model.specs.Counts.{is_live, is_closed}
-use Rattle.thp_model.specs.FlightSteps.{flight_by}
-use Rattle.thp_model.specs.Legal.{Fits, Gives}
-use Rattle.thp_model.specs.PageChanges.{page_released}
-use Rattle.thp_model.specs.Pages.{Tallies}
-use Rattle.thp_model.specs.Places.{flight, has_page, without}
-use Rattle.thp_model.specs.Refusals.{refusal}
+use Rattle.thp_model.specs.Prelude.{History, by, is_live, is_closed, flight_by, Fits, Gives, page_released, Tallies, flight, has_page, without, refusal, gain_call, loss_call, gain_what, loss_what}
 use Rattle.thp_model.proofs.Bools.{by_bool}
 use Rattle.thp_model.proofs.Narrowing.{Whole}
 use Rattle.thp_model.proofs.Flights.{flight_push}
 use Rattle.thp_model.proofs.OnePlace.{without_none, times_hasnt}
 use Rattle.thp_model.proofs.PageOutcomes.{lives_by, outcome_is, released_is}
 use Rattle.thp_model.proofs.Standing.{Sound}
-use Rattle.thp_page.specs.Table.{Slot}
+use Rattle.thp_page.specs.Prelude.{Slot}
 use Rattle.thp_model.specs.declared.page_call.Done.{Done}
 use Rattle.thp_model.specs.declared.page_call.Gain.{Gain}
 use Rattle.thp_model.specs.declared.page_call.Gain.TheVariants as gain
 use Rattle.thp_model.specs.declared.page_call.Loss.{Loss}
 use Rattle.thp_model.specs.declared.page_call.Loss.TheVariants as loss
-use Rattle.thp_live_pages.specs.Holding.{IsSlot}
-use Rattle.thp_live_pages.specs.Homes.{standing_of}
-use Rattle.thp_model.specs.PageCalls.{gain_call, loss_call, gain_what, loss_what}
-use Rattle.thp_live_pages.specs.PageStoreState.{PageStoreState, Lost, batch_of, left_by}
+use Rattle.thp_live_pages.specs.Prelude.{IsSlot, standing_of, PageStoreState, Lost, batch_of, left_by}
 use Rattle.thp_live_pages.proofs.Homing.{Homed}
 use Rattle.thp_live_pages.proofs.PageEvents.{ByOutcome, by_outcome, tallies_loss, outcome_told}
 use Rattle.thp_live_pages.proofs.Standings.{standing_flying}
-use Rattle.thp_check.specs.Flights.{flight_left}
+use Rattle.thp_check.specs.Prelude.{flight_left}
 
 -- what the fitting event of a gain says
 pub gain_allowed : (s : Shape) (h : History) (c p : ℕ) (g : Gain) → Fits s h (by c (gain_what g p)) → refusal s h (gain_call g p) ≡ None

@@ -1,16 +1,12 @@
 -- What a replay's numbers and lists say of its history.
-use Rattle.std.proofs.Common.{◌≡◌, ℕ, Some, None, length, refl, ap, sym, ◌∙◌}
-use Rattle.std.specs.Prelude.{slice_get, IsSome}
+use Rattle.std.proofs.Common.{◌≡◌, ℕ, Some, None, length, refl, ap, sym, ◌∙◌, slice_get, IsSome}
 use Rattle.std.proofs.lemmas.List.{length-map}
 use Rattle.thp_model.specs.declared.shape.Shape.{Shape}
-use Rattle.thp_model.specs.History.{History}
-use Rattle.thp_model.specs.Places.{queue}
-use Rattle.thp_page.specs.Slots.{slot_at}
-use Rattle.thp_live_pages.specs.Homes.{block_of}
-use Rattle.thp_live_pages.specs.PageStoreState.{AtSlot}
+use Rattle.thp_model.specs.Prelude.{History, queue}
+use Rattle.thp_page.specs.Prelude.{slot_at}
+use Rattle.thp_live_pages.specs.Prelude.{block_of, AtSlot}
 use Rattle.thp_live_pages.proofs.Admitting.{Found, at_home}
-use Rattle.thp_check.specs.declared.node_state.NodeState.{NodeState}
-use Rattle.thp_check.specs.Meanings.{Means}
+use Rattle.thp_check.specs.Prelude.{NodeState, Means}
 use Rattle.thp_check.proofs.FlightBlocks.{first_lies, none_first}
 
 -- the queue is as long as its list of blocks

@@ -5,14 +5,8 @@ use Rattle.thp_model.specs.declared.events.What.TheVariants as what
 use Rattle.thp_model.specs.declared.refusal.Refusal.{Refusal}
 use Rattle.thp_model.specs.declared.refusal.Refusal.TheVariants as reason
 use Rattle.thp_model.specs.declared.shape.Shape.{Shape}
-use Rattle.thp_model.specs.History.{History, by}
-use Rattle.thp_model.specs.Counts.{is_live, is_closed}
-use Rattle.thp_model.specs.Legal.{Fits}
-use Rattle.thp_model.specs.Limits.{max_order}
-use Rattle.thp_model.specs.PageCalls.{gain_call, loss_call, gain_what, loss_what}
-use Rattle.thp_model.specs.Refusals.{refusal}
+use Rattle.thp_model.specs.Prelude.{History, by, is_live, is_closed, Fits, max_order, gain_call, loss_call, gain_what, loss_what, refusal, subpages}
 use Rattle.thp_model.specs.Refusals as call
-use Rattle.thp_model.specs.Shapes.{subpages}
 use Rattle.thp_model.specs.declared.page_call.Gain.{Gain}
 use Rattle.thp_model.specs.declared.page_call.Gain.TheVariants as gain
 use Rattle.thp_model.specs.declared.page_call.Loss.{Loss}
@@ -21,8 +15,7 @@ use Rattle.thp_model.proofs.Bools.{by_bool}
 use Rattle.thp_model.proofs.Narrowing.{is_bad, kept_same}
 use Rattle.thp_model.proofs.Sizes.{few_subpages}
 use Rattle.thp_check.specs.declared.misfit.Misfit.TheVariants as misfit
-use Rattle.thp_check.specs.Meanings.{IsMisfit}
-use Rattle.thp_check.specs.Reasons.{Explains}
+use Rattle.thp_check.specs.Prelude.{IsMisfit, Explains}
 use Rattle.thp_check.proofs.PageEvents.{gain_allowed, loss_allowed, whole_small}
 
 some_none : (r : Refusal) (o : Option Refusal) → o ≡ Some r → o ≡ None → ⊥

@@ -1,6 +1,5 @@
 -- What a replay shows of its pages: their numbers by block, and what its table says of one.
-use Rattle.std.proofs.Common.{◌≡◌, ℕ, zero, suc, ◌<◌, ◌+◌, ◌^◌, Bool, true, false, not, cond, if◌then◌else◌, ◌&&◌, ◌||◌, List, [], ◌∷◌, ◌++◌, Option, Some, None, length, map, take, get_or, refl, ap, ap₂, sym, ◌∙◌, subst, arith, nat_lt}
-use Rattle.std.specs.Prelude.{slice_get, IsSome, is_some, Result, Ok, Err, IfOk}
+use Rattle.std.proofs.Common.{◌≡◌, ℕ, zero, suc, ◌<◌, ◌+◌, ◌^◌, Bool, true, false, not, cond, if◌then◌else◌, ◌&&◌, ◌||◌, List, [], ◌∷◌, ◌++◌, Option, Some, None, length, map, take, get_or, refl, ap, ap₂, sym, ◌∙◌, subst, arith, nat_lt, slice_get, IsSome, is_some, Result, Ok, Err, IfOk}
 use Rattle.std.specs.Int.{from_bool}
 use Rattle.std.specs.List.{filter, range_with_len}
 use Rattle.std.proofs.lemmas.List.{take_more, map-append}
@@ -8,32 +7,18 @@ use Rattle.std.proofs.lemmas.List.Elements.{filter-append}
 use Rattle.std.proofs.lemmas.List.FromFn.{map-range_with_len_more}
 use Rattle.thp_model.specs.declared.events.What.TheVariants.{Split}
 use Rattle.thp_model.specs.declared.shape.Shape.{Shape}
-use Rattle.thp_model.specs.Counts.{is_live, is_used, total, whole}
-use Rattle.thp_model.specs.Frames.{block_in_use, is_held}
-use Rattle.thp_model.specs.History.{History}
-use Rattle.thp_model.specs.Pages.{PageState, Tallies, size, total_at, zero_at, zero_set, used_set, holds}
-use Rattle.thp_model.specs.Sets.{set_of, has}
-use Rattle.thp_model.specs.Shapes.{subpages}
-use Rattle.thp_model.specs.Underused.{is_zero_filled, is_partly_mapped, shrinks_underused}
-use Rattle.thp_model.specs.Words.{get_or-set_of}
+use Rattle.thp_model.specs.Prelude.{is_live, is_used, total, whole, block_in_use, is_held, History, PageState, Tallies, size, total_at, zero_at, zero_set, used_set, holds, set_of, has, subpages, is_zero_filled, is_partly_mapped, shrinks_underused, get_or-set_of}
 use Rattle.thp_model.proofs.ListPlaces.{append_none}
 use Rattle.thp_model.proofs.PageRefusals.{held_is}
 use Rattle.thp_model.proofs.Tallying.{size_is, total_is, whole_is}
 use Rattle.thp_model.proofs.WordLemmas.{set_of-ext}
-use Rattle.thp_page.specs.Slots.{slot_at, page_in, HoldsPage}
-use Rattle.thp_page.specs.Table.{Slot, Table}
-use Rattle.thp_live_pages.specs.Holding.{IsNode, Fills}
-use Rattle.thp_live_pages.specs.Homes.{block_of}
-use Rattle.thp_live_pages.specs.FreeChains.{Relinks}
-use Rattle.thp_live_pages.specs.PageStoreState.{AtSlot, PageStoreState}
+use Rattle.thp_page.specs.Prelude.{slot_at, page_in, HoldsPage, Slot, Table}
+use Rattle.thp_live_pages.specs.Prelude.{IsNode, Fills, block_of, Relinks, AtSlot, PageStoreState}
 use Rattle.thp_live_pages.proofs.Admitting.{Found, found, at_home, not_live}
 use Rattle.thp_live_pages.proofs.Homing.{Homed, legal_homed, block_free, block_taken}
 use Rattle.thp_live_pages.proofs.Looking.{node_read}
 use Rattle.thp_live_pages.proofs.Relinking.{page_there}
-use Rattle.thp_check.specs.declared.node_state.NodeState.{NodeState}
-use Rattle.thp_check.specs.Meanings.{Means}
-use Rattle.thp_check.specs.Showing.{is_taken, page_at, number_or_0}
-use Rattle.thp_check.specs.Totals.{IsContext}
+use Rattle.thp_check.specs.Prelude.{NodeState, Means, is_taken, page_at, number_or_0, IsContext}
 use Rattle.thp_check.proofs.FlightBlocks.{LieIn}
 
 -- two lists that begin alike

@@ -1,30 +1,20 @@
 -- What a replay means after each step: that of the history with the event, where the event fits; and else that it doesn't.
-use Rattle.std.proofs.Common.{◌≡◌, ◌≢◌, ℕ, ◌+◌, ◌<◌, Bool, true, false, not, ◌&&◌, ◌||◌, List, [], ◌∷◌, ◌++◌, Option, Some, None, length, map, refl, ap, sym, ◌∙◌, subst, arith, nat_eq, eqb-true, if◌then◌else◌}
-use Rattle.std.specs.Prelude.{IsSome}
+use Rattle.std.proofs.Common.{◌≡◌, ◌≢◌, ℕ, ◌+◌, ◌<◌, Bool, true, false, not, ◌&&◌, ◌||◌, List, [], ◌∷◌, ◌++◌, Option, Some, None, length, map, refl, ap, sym, ◌∙◌, subst, arith, nat_eq, eqb-true, if◌then◌else◌, IsSome}
 use Rattle.thp_model.specs.declared.events.Event.{Event}
 use Rattle.thp_model.specs.declared.events.Outcome.{Outcome}
 use Rattle.thp_model.specs.declared.events.What.TheVariants as what
 use Rattle.thp_model.specs.declared.refusal.Refusal.{Refusal}
 use Rattle.thp_model.specs.declared.refusal.Refusal.TheVariants as reason
 use Rattle.thp_model.specs.declared.shape.Shape.{Shape}
-use Rattle.thp_model.specs.History.{History, by, some_event}
-use Rattle.thp_model.specs.Counts.{is_alloc, is_live, frees, closes, is_closed, allocations}
-use Rattle.thp_model.specs.Frames.{block_in_use}
-use Rattle.thp_model.specs.Legal.{Fits, IsLegal}
-use Rattle.thp_model.specs.Pages.{PageState, Tallies, page_refusal}
-use Rattle.thp_model.specs.Places.{flight, has_page}
-use Rattle.thp_model.specs.Refusals.{refusal}
-use Rattle.thp_model.specs.Underused.{shrinks_underused}
+use Rattle.thp_model.specs.Prelude.{History, by, some_event, is_alloc, is_live, frees, closes, is_closed, allocations, block_in_use, Fits, IsLegal, PageState, Tallies, page_refusal, flight, has_page, refusal, shrinks_underused, gain_call, loss_call, gain_what, loss_what, Gains}
 use Rattle.thp_model.proofs.Allowed.{allowed_alloc as open_alloc, allowed_close as open_close}
 use Rattle.thp_model.proofs.Bools.{by_bool}
 use Rattle.thp_model.proofs.Flights.{flight_push}
 use Rattle.thp_model.proofs.OnePlace.{flies_live}
 use Rattle.thp_model.proofs.Pushes.{count_same, count_more, some_same, some_event_push}
-use Rattle.thp_page.specs.Slots.{slot_at, HoldsPage}
-use Rattle.thp_page.specs.Table.{Slot}
+use Rattle.thp_page.specs.Prelude.{slot_at, HoldsPage, Slot}
 use Rattle.thp_model.specs.declared.page_call.Done.{Done}
-use Rattle.thp_live_pages.specs.PageStoreState.{PageStoreState, AtSlot, Edits, Lost, Placed}
-use Rattle.thp_live_pages.specs.Holding.{IsNode}
+use Rattle.thp_live_pages.specs.Prelude.{PageStoreState, AtSlot, Edits, Lost, Placed, IsNode}
 use Rattle.thp_live_pages.proofs.Admitting.{Found, found, not_live}
 use Rattle.thp_live_pages.proofs.Closing.{allowed_alloc, allowed_close, next_is_new}
 use Rattle.thp_live_pages.proofs.Homing.{Homed, legal_homed, block_push, block_taken}
@@ -36,11 +26,8 @@ use Rattle.thp_model.specs.declared.page_call.Gain.TheVariants as gain
 use Rattle.thp_model.specs.declared.page_call.Loss.{Loss}
 use Rattle.thp_model.specs.declared.page_call.Loss.TheVariants as loss
 use Rattle.thp_model.specs.declared.page_call.PageCall.TheVariants as either
-use Rattle.thp_check.specs.declared.node_state.NodeState.{NodeState}
-use Rattle.thp_check.specs.Flights.{FlightsState, blocks_in, flight_left}
+use Rattle.thp_check.specs.Prelude.{NodeState, FlightsState, blocks_in, flight_left, Keeps, Means, IsMisfit}
 use Rattle.thp_check.specs.declared.misfit.Misfit.TheVariants as misfit
-use Rattle.thp_check.specs.Meanings.{Keeps, Means, IsMisfit}
-use Rattle.thp_model.specs.PageCalls.{gain_call, loss_call, gain_what, loss_what, Gains}
 use Rattle.thp_check.proofs.FlightBlocks.{LieIn, unmoved, departed, gain_home, loss_flying_home}
 use Rattle.thp_check.proofs.PageEvents.{gain_flight, loss_told, loss_flight}
 use Rattle.thp_check.proofs.Reasons.{gain_misfit, loss_misfit, loss_other, closed_again, range_refusal}

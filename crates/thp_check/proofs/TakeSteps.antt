@@ -1,18 +1,12 @@
 -- What a replay means after a take, a try, a put-back and a drop.
-use Rattle.std.proofs.Common.{◌≡◌, ◌≢◌, ℕ, Bool, true, false, cond, not, nat_eq, ◌||◌, List, [], ◌∷◌, ◌++◌, Option, Some, None, length, map, Contains, refl, ap, ap₂, sym, ◌∙◌, subst, arith, inl, inr}
-use Rattle.std.specs.Prelude.{slice_get}
+use Rattle.std.proofs.Common.{◌≡◌, ◌≢◌, ℕ, Bool, true, false, cond, not, nat_eq, ◌||◌, List, [], ◌∷◌, ◌++◌, Option, Some, None, length, map, Contains, refl, ap, ap₂, sym, ◌∙◌, subst, arith, inl, inr, slice_get}
 use Rattle.thp_model.specs.declared.events.Event.{Event}
 use Rattle.thp_model.specs.declared.events.Outcome.{Outcome}
 use Rattle.thp_model.specs.declared.events.Outcome.TheVariants as outcome
 use Rattle.thp_model.specs.declared.events.What.{What}
 use Rattle.thp_model.specs.declared.events.What.TheVariants as what
 use Rattle.thp_model.specs.declared.shape.Shape.{Shape}
-use Rattle.thp_model.specs.History.{History, by}
-use Rattle.thp_model.specs.Counts.{is_live, pins}
-use Rattle.thp_model.specs.Legal.{Fits, FitsTaken, FitsSplit, IsLegal, is_dropped}
-use Rattle.thp_model.specs.Pages.{PageState, PageSplit, gives_frames, is_split_candidate}
-use Rattle.thp_model.specs.Places.{queue, flight, has_page, no_pages, is_taking}
-use Rattle.thp_model.specs.Underused.{is_worth_split, shrinks_underused}
+use Rattle.thp_model.specs.Prelude.{History, by, is_live, pins, Fits, FitsTaken, FitsSplit, IsLegal, is_dropped, PageState, PageSplit, gives_frames, is_split_candidate, queue, flight, has_page, no_pages, is_taking, is_worth_split, shrinks_underused}
 use Rattle.thp_model.proofs.Flights.{flight_push}
 use Rattle.thp_model.proofs.PageOutcomes.{released_alive}
 use Rattle.thp_model.proofs.Pushes.{live_stays}
@@ -20,12 +14,8 @@ use Rattle.thp_model.proofs.Standing.{first_has}
 use Rattle.thp_model.proofs.Tallying.{tallies_split, pins_is}
 use Rattle.thp_page.specs.declared.standing.Standing.{Standing}
 use Rattle.thp_page.specs.declared.standing.Standing.TheVariants.{Nowhere, Queued, Batch}
-use Rattle.thp_page.specs.Slots.{slot_at, HoldsPage}
-use Rattle.thp_page.specs.Table.{Slot}
-use Rattle.thp_live_pages.specs.PageStoreState.{AtSlot, PageStoreState, Edits, IsElsewhere, Lost, TakesFirst, left_by}
-use Rattle.thp_live_pages.specs.Flying.{IsFlyingAt}
-use Rattle.thp_live_pages.specs.Holding.{IsSlot}
-use Rattle.thp_live_pages.specs.Homes.{block_of, standing_of}
+use Rattle.thp_page.specs.Prelude.{slot_at, HoldsPage, Slot}
+use Rattle.thp_live_pages.specs.Prelude.{AtSlot, PageStoreState, Edits, IsElsewhere, Lost, TakesFirst, left_by, IsFlyingAt, IsSlot, block_of, standing_of}
 use Rattle.thp_live_pages.proofs.Admitting.{Found, found, at_home, flies_not_there, flies_nowhere}
 use Rattle.thp_live_pages.proofs.Homing.{Homed, legal_homed, block_push}
 use Rattle.thp_live_pages.proofs.Keeping.{blocks_same, blocks_pushed}
@@ -35,10 +25,8 @@ use Rattle.thp_live_pages.proofs.PageEvents.{slot_is}
 use Rattle.thp_live_pages.proofs.Standings.{standing_queued, standing_flying}
 use Rattle.thp_model.specs.declared.page_call.Done.{Done}
 use Rattle.thp_model.specs.declared.page_call.Loss.{Loss}
-use Rattle.thp_check.specs.declared.node_state.NodeState.{NodeState}
-use Rattle.thp_check.specs.Flights.{blocks_in, flight_left}
+use Rattle.thp_check.specs.Prelude.{NodeState, blocks_in, flight_left, Keeps, Means, IsMisfit, is_taker}
 use Rattle.thp_check.specs.declared.misfit.Misfit.TheVariants as misfit
-use Rattle.thp_check.specs.Meanings.{Keeps, Means, IsMisfit, is_taker}
 use Rattle.thp_check.proofs.FlightBlocks.{LiesAlone, LieIn, block_there, page_there, first_lies, first_page, none_first, none_there, unmoved, departed}
 use Rattle.thp_check.proofs.Steps.{goes_on}
 

@@ -7,19 +7,12 @@ use Rattle.thp_model.specs.declared.events.Event.{Event}
 use Rattle.thp_model.specs.declared.events.What.{What}
 use Rattle.thp_model.specs.declared.events.What.TheVariants.{UnmapWhole, UnmapSub, SplitPmd, Unpin, Split}
 use Rattle.thp_model.specs.declared.shape.Shape.{Shape}
-use Rattle.thp_model.specs.Counters.{splits_pmds, is_page_split, is_failed_try, queues, thp_split_pmd, splits_underused, thp_underused_split_page}
-use Rattle.thp_model.specs.Counts.{allocations, is_alloc}
-use Rattle.thp_model.specs.Frames.{given, frames_given, frames_held, gives_back}
-use Rattle.thp_model.specs.History.{History, by, count_of}
-use Rattle.thp_model.specs.Legal.{IsLegal}
-use Rattle.thp_model.specs.Shapes.{subpages}
+use Rattle.thp_model.specs.Prelude.{splits_pmds, is_page_split, is_failed_try, queues, thp_split_pmd, splits_underused, thp_underused_split_page, allocations, is_alloc, given, frames_given, frames_held, gives_back, History, by, count_of, IsLegal, subpages}
 use Rattle.thp_model.proofs.Kept.{frames_given_push, frames_kept, size_given}
 use Rattle.thp_model.proofs.Pushes.{count_of_push, thp_split_pmd_push, thp_underused_split_page_push}
 use Rattle.thp_model.proofs.Sizes.{few_subpages}
 use Rattle.thp_live_pages.proofs.Starting.{few_events}
-use Rattle.thp_check.specs.declared.tally.Tally.{Tally}
-use Rattle.thp_check.specs.declared.tally.EventContext.{EventContext}
-use Rattle.thp_check.specs.Totals.{AddsUp, HasRoom, Adds, IsContext, frames_of, pmds_of, underused_of}
+use Rattle.thp_check.specs.Prelude.{Tally, EventContext, AddsUp, HasRoom, Adds, IsContext, frames_of, pmds_of, underused_of}
 
 -- no event adds up to nothing
 pub adds_none : (s : Shape) → AddsUp s [] (record { frames_given = 0; split_page = 0; split_page_failed = 0; deferred_split_page = 0; underused_split_page = 0; split_pmd = 0 })

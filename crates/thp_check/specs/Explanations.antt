@@ -1,8 +1,6 @@
 -- The explanation of an event that does not fit the events before it (this project's format). Events have the words of a
 -- journal's line.
-use Rattle.std.specs.Prelude.{ℕ, List, ◌++◌, Some, None, codes}
-use Rattle.std.specs.Fmt.{decimal}
-use Rattle.std.specs.Option.{unwrap_or}
+use Rattle.std.specs.Prelude.{ℕ, List, ◌++◌, Some, None, codes, decimal, unwrap_or}
 use Rattle.thp_model.specs.declared.events.Event.{Event}
 use Rattle.thp_model.specs.declared.events.Outcome.{Outcome}
 use Rattle.thp_model.specs.declared.events.Outcome.TheVariants.{Stays, Queued, Freed}
@@ -10,12 +8,11 @@ use Rattle.thp_model.specs.declared.events.What.{What}
 use Rattle.thp_model.specs.declared.events.What.TheVariants as event
 use Rattle.thp_model.specs.declared.refusal.Refusal.{Refusal}
 use Rattle.thp_model.specs.declared.refusal.Refusal.TheVariants.{NoPage, BadRange, IsSplit, NotMapped, Gone, NotPinned, TooMany, Closed, NoBlock, HasBatch, OutOfMemory}
-use Rattle.thp_model.specs.History.{by}
+use Rattle.thp_model.specs.Prelude.{by}
 use Rattle.thp_check.specs.declared.misfit.Misfit.{Misfit}
 use Rattle.thp_check.specs.declared.misfit.Misfit.TheVariants as misfit
 use Rattle.thp_check.specs.Reasons.{with_outcome, with_frames}
-use Rattle.thp_journal_writer.specs.EventLines.{event_line, event_page}
-use Rattle.thp_journal_writer.specs.Journals.{ended}
+use Rattle.thp_journal_writer.specs.Prelude.{event_line, event_page, ended}
 
 -- the page of an event; 0 for a close
 abbrev pub page_of : What → ℕ

@@ -3,10 +3,7 @@ use Rattle.std.specs.Prelude.{◌≡◌, ◌≢◌, ◌⊎◌, ⊤, ℕ, false, 
 use Rattle.thp_model.specs.declared.events.What.{What}
 use Rattle.thp_model.specs.declared.events.What.TheVariants as event
 use Rattle.thp_model.specs.declared.shape.Shape.{Shape}
-use Rattle.thp_model.specs.Counts.{pins}
-use Rattle.thp_model.specs.History.{History, by}
-use Rattle.thp_model.specs.Legal.{Fits}
-use Rattle.thp_model.specs.Underused.{is_worth_split}
+use Rattle.thp_model.specs.Prelude.{pins, History, by, Fits, is_worth_split}
 use Rattle.thp_check.specs.declared.misfit.Misfit.{Misfit}
 use Rattle.thp_check.specs.declared.misfit.Misfit.TheVariants as misfit
 use Rattle.thp_check.specs.Reasons.{ExplainsBy, with_outcome, with_frames}

@@ -1,9 +1,7 @@
 -- The view that contracts have of the flights of a replay. No public clause cites this module.
-use Rattle.std.specs.Prelude.{◌≡◌, ℕ, ◌%◌, cond, nat_eq, List, [], length, slice_index_or, Option, Some, None}
-use Rattle.std.specs.List.{filter, Contains}
+use Rattle.std.specs.Prelude.{◌≡◌, ℕ, ◌%◌, cond, nat_eq, List, [], length, slice_index_or, Option, Some, None, filter, Contains}
 use Rattle.thp_links.specs.declared.link.Link.{Link}
-use Rattle.thp_links.specs.Indices.{without}
-use Rattle.thp_links.specs.Standing.{Stands}
+use Rattle.thp_links.specs.Prelude.{without, Stands}
 
 -- the caller of each block, and 64 lists of blocks by caller
 pub record FlightsState : Type 0 where

@@ -3,11 +3,8 @@ use Rattle.std.specs.Prelude.{◌≡◌, ℕ, ◌*◌, ◌≤◌, Bool, true, fa
 use Rattle.thp_model.specs.declared.events.What.{What}
 use Rattle.thp_model.specs.declared.events.What.TheVariants.{Alloc}
 use Rattle.thp_model.specs.declared.shape.Shape.{Shape}
-use Rattle.thp_model.specs.Counts.{frees}
-use Rattle.thp_model.specs.Frames.{block_in_use}
-use Rattle.thp_model.specs.History.{History}
-use Rattle.thp_model.specs.Words.{in_words}
-use Rattle.thp_live_pages.specs.Homes.{block_of}
+use Rattle.thp_model.specs.Prelude.{frees, block_in_use, History, in_words}
+use Rattle.thp_live_pages.specs.Prelude.{block_of}
 
 -- the words are the set of the node's blocks without a live page
 pub record MarksFree (s : Shape) (h : History) (words : List ℕ) : Type 0 where

@@ -7,3 +7,4 @@ pub mod Totals
 pub mod Showing
 pub mod Explanations
 pub mod Fitting
+pub mod Prelude

@@ -1,16 +1,10 @@
 -- The meaning of a replay's state: it is the state after the events replayed so far. No public clause cites this module.
-use Rattle.std.specs.Prelude.{◌≡◌, ◌≤◌, ℕ, Bool, false, nat_eq, [], ◌∷◌, ◌++◌, length, map, slice_get, Option, Some, None, Result}
-use Rattle.std.specs.Result.{MatchResult}
+use Rattle.std.specs.Prelude.{◌≡◌, ◌≤◌, ℕ, Bool, false, nat_eq, [], ◌∷◌, ◌++◌, length, map, slice_get, Option, Some, None, Result, MatchResult}
 use Rattle.thp_model.specs.declared.events.Event.{Event}
 use Rattle.thp_model.specs.declared.events.What.{What}
 use Rattle.thp_model.specs.declared.shape.Shape.{Shape}
-use Rattle.thp_model.specs.Limits.{max_order}
-use Rattle.thp_model.specs.History.{History, by}
-use Rattle.thp_model.specs.Counts.{allocations, is_closed}
-use Rattle.thp_model.specs.Places.{flight, is_taking}
-use Rattle.thp_model.specs.Legal.{Fits}
-use Rattle.thp_live_pages.specs.Holding.{IsNode}
-use Rattle.thp_live_pages.specs.Homes.{block_of}
+use Rattle.thp_model.specs.Prelude.{max_order, History, by, allocations, is_closed, flight, is_taking, Fits}
+use Rattle.thp_live_pages.specs.Prelude.{IsNode, block_of}
 use Rattle.thp_check.specs.Flights.{blocks_in}
 use Rattle.thp_check.specs.Reasons.{Explains}
 use Rattle.thp_check.specs.declared.misfit.Misfit.{Misfit}

@@ -6,13 +6,7 @@ use Rattle.thp_model.specs.declared.events.What.{What}
 use Rattle.thp_model.specs.declared.events.What.TheVariants.{Alloc, UnmapWhole, UnmapSub, Unpin, Taken, Split, Pinned, Used, Back, Dropped}
 use Rattle.thp_model.specs.declared.refusal.Refusal.TheVariants as reason
 use Rattle.thp_model.specs.declared.shape.Shape.{Shape}
-use Rattle.thp_model.specs.Counts.{allocations, is_closed, pins}
-use Rattle.thp_model.specs.Frames.{block_in_use}
-use Rattle.thp_model.specs.History.{History, by}
-use Rattle.thp_model.specs.Legal.{Fits, is_dropped}
-use Rattle.thp_model.specs.Places.{flight, has_page, is_taking, no_pages, queue}
-use Rattle.thp_model.specs.PageCalls.{refusal_of}
-use Rattle.thp_model.specs.Underused.{is_worth_split}
+use Rattle.thp_model.specs.Prelude.{allocations, is_closed, pins, block_in_use, History, by, Fits, is_dropped, flight, has_page, is_taking, no_pages, queue, refusal_of, is_worth_split}
 use Rattle.thp_check.specs.declared.misfit.Misfit.{Misfit}
 use Rattle.thp_check.specs.declared.misfit.Misfit.TheVariants as misfit
 

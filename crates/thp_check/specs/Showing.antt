@@ -1,7 +1,6 @@
 -- The data of a table of pages that a replay shows. No public clause cites this module.
 use Rattle.std.specs.Prelude.{ℕ, Bool, Option, Some, None, is_some}
-use Rattle.thp_page.specs.Slots.{slot_at}
-use Rattle.thp_page.specs.Table.{Slot, Table}
+use Rattle.thp_page.specs.Prelude.{slot_at, Slot, Table}
 
 -- block b has a page
 abbrev pub is_taken : Table → ℕ → Bool

@@ -1,8 +1,6 @@
 //! The check of a whole history.
 ghost use Rattle.std.specs.Prelude.{◌≤◌, OnOk, IfErr};
-ghost use Rattle.thp_model.specs.Limits.{max_order, min_order};
-ghost use Rattle.thp_model.specs.Legal.{IsLegal};
-ghost use Rattle.thp_model.specs.Checks.{IsCheckResult};
+ghost use Rattle.thp_model.specs.Prelude.{max_order, min_order, IsLegal, IsCheckResult};
 
 use crate::node_state::NodeState;
 use std::alloc::Global;

@@ -1,7 +1,6 @@
 //! The state of a live page, as it is shown.
 ghost use Rattle.std.specs.Prelude.{◌≡◌, true, is_some};
-ghost use Rattle.thp_model.specs.Pages.{holds, is_split_candidate, used_set, zero_set};
-ghost use Rattle.thp_model.specs.Sets.{set_of};
+ghost use Rattle.thp_model.specs.Prelude.{holds, is_split_candidate, used_set, zero_set, set_of};
 
 use thp_model::SubSet;
 use thp_page::{Page, Standing};

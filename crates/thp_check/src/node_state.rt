@@ -1,15 +1,9 @@
 //! The state of a node after the events of a history so far.
 ghost use Rattle.std.specs.Prelude.{◌≡◌, ◌<◌, ◌≤◌, ◌+◌, ◌^◌, ℕ, [], ◌||◌, not, slice_get, Some, ◌≢◌, IfErr, IfNone, IfOk, IfSome, IsSome, if◌then◌else◌, Err, IsTrue, ◌↔◌};
-ghost use Rattle.thp_model.specs.Counts.{is_live};
-ghost use Rattle.thp_model.specs.History.{History};
-ghost use Rattle.thp_model.specs.Limits.{max_order, min_order};
-ghost use Rattle.thp_model.specs.Pages.{is_split_candidate};
-ghost use Rattle.thp_model.specs.Places.{no_pages, takes_by};
-ghost use Rattle.thp_page.specs.Slots.{slot_at};
-ghost use Rattle.thp_live_pages.specs.Flying.{IsFlyingAt};
-ghost use Rattle.thp_model.specs.PageCalls.{gain_what, loss_what};
+ghost use Rattle.thp_model.specs.Prelude.{is_live, History, max_order, min_order, is_split_candidate, no_pages, takes_by, gain_what, loss_what};
+ghost use Rattle.thp_page.specs.Prelude.{slot_at};
+ghost use Rattle.thp_live_pages.specs.Prelude.{IsFlyingAt, AtSlot};
 ghost use Rattle.thp_model.specs.declared.shape.Shape.{Shape};
-ghost use Rattle.thp_live_pages.specs.PageStoreState.{AtSlot};
 ghost use Rattle.thp_check.specs.Flights.{blocks_in};
 ghost use Rattle.thp_check.specs.Meanings.{is_taker};
 

@@ -1,7 +1,7 @@
 //! Pieces of the text: words, and numbers among them.
 ghost use Rattle.std.specs.Prelude.{◌≡◌, ◌++◌, codes, OnOk};
 ghost use Rattle.std.specs.Fmt.{decimal};
-ghost use Rattle.thp_journal_writer.specs.Journals.{ended};
+ghost use Rattle.thp_journal_writer.specs.Prelude.{ended};
 ghost use Rattle.thp_check.specs.Explanations.{caller_is, in_flight_of, page_is};
 
 use std::alloc::AllocError;

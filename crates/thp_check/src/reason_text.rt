@@ -1,6 +1,6 @@
 //! Why an event does not fit, as text.
 ghost use Rattle.std.specs.Prelude.{◌≡◌, ◌++◌, OnOk};
-ghost use Rattle.thp_journal_writer.specs.Journals.{ended};
+ghost use Rattle.thp_journal_writer.specs.Prelude.{ended};
 ghost use Rattle.thp_check.specs.Explanations.{becomes, refused, why};
 
 use crate::Misfit;

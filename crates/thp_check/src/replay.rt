@@ -1,12 +1,6 @@
 //! A replay of a history, event by event.
 ghost use Rattle.std.specs.Prelude.{◌≡◌, ◌≤◌, ◌<◌, ◌+◌, ◌*◌, ◌^◌, ℕ, [], ◌∷◌, ◌++◌, length, slice_get, IfOk, IfErr, IfSome};
-ghost use Rattle.thp_model.specs.BlockLaws.{least_free};
-ghost use Rattle.thp_model.specs.Counts.{allocations, is_closed};
-ghost use Rattle.thp_model.specs.History.{History, by};
-ghost use Rattle.thp_model.specs.Legal.{Fits, IsLegal};
-ghost use Rattle.thp_model.specs.Limits.{max_order, min_order};
-ghost use Rattle.thp_model.specs.Places.{queue};
-ghost use Rattle.thp_model.specs.Words.{in_words};
+ghost use Rattle.thp_model.specs.Prelude.{least_free, allocations, is_closed, History, by, Fits, IsLegal, max_order, min_order, queue, in_words};
 ghost use Rattle.thp_model.specs.declared.shape.Shape.{Shape};
 ghost use Rattle.thp_check.specs.Freeing.{free_after, taken_block, IsFreed};
 ghost use Rattle.thp_check.specs.Meanings.{Means};

@@ -1,8 +1,7 @@
 //! The sums of the events of a history.
 ghost use Rattle.std.specs.Prelude.{◌≡◌, ◌+◌, ◌<◌, ◌^◌};
 ghost use Rattle.std.specs.Int.{from_bool};
-ghost use Rattle.thp_model.specs.Counts.{is_queued};
-ghost use Rattle.thp_model.specs.Sets.{set_size};
+ghost use Rattle.thp_model.specs.Prelude.{is_queued, set_size};
 ghost use Rattle.thp_check.specs.Totals.{Adds, HasRoom};
 
 use thp_model::{Outcome, SubSet, What};

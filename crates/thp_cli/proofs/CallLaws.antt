@@ -1,11 +1,9 @@
 -- How the calls of a device grow.
-use Rattle.std.proofs.Common.{◌≡◌, ◌∙◌, ◌++◌, ◌∷◌, ◌+◌, ◌-◌, ◌≤◌, ◌<◌, [], ℕ, Bool, true, false, List, Option, Some, None, ap, append_assoc, arith, inl, inr, is_some, length, refl, sym}
+use Rattle.std.proofs.Common.{◌≡◌, ◌∙◌, ◌++◌, ◌∷◌, ◌+◌, ◌-◌, ◌≤◌, ◌<◌, [], ℕ, Bool, true, false, List, Option, Some, None, ap, append_assoc, arith, inl, inr, is_some, length, refl, sym, All, map, sum, IfNone, IfSome}
 use Rattle.std.proofs.lemmas.List.{append-nil, length-append, length-map, map-append}
 use Rattle.std.proofs.lemmas.List.Elements.{All-append, All-cons, All-nil}
 use Rattle.std.proofs.lemmas.List.Sums.{sum_by-cons, sum_by_from, sum_by_push}
-use Rattle.std.specs.Prelude.{All, map, sum, IfNone, IfSome}
-use Rattle.thp_cli.specs.Calls.{EndsReading, Follow, IsTaken, ReadsOn, WritesAll, WritesOn, read_giving, read_room, writes_of}
-use Rattle.thp_cli.specs.declared.calls.DeviceCall.{DeviceCall}
+use Rattle.thp_cli.specs.Prelude.{EndsReading, Follow, IsTaken, ReadsOn, WritesAll, WritesOn, read_giving, read_room, writes_of, DeviceCall}
 use Rattle.thp_cli.specs.declared.calls.DeviceCall.TheVariants as call
 
 sum_none : sum [] ≡ 0

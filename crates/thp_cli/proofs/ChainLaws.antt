@@ -1,8 +1,5 @@
 -- Options that are added to a command one after another.
-use Rattle.std.proofs.Common.{◌≡◌, ◌⊎◌, ◌∙◌, ◌+◌, ◌++◌, ◌||◌, ◌<◌, ◌≤◌, zero, suc, ap, subst, ℕ, Bool, true, false, cond, List, [], ◌∷◌, length, map, Some, None, codes, refl, sym, inl, inr, arith, ltb-true}
-use Rattle.std.specs.Prelude.{count_by, nat_lt}
-use Rattle.std.specs.List.{slice_index_or}
-use Rattle.std.specs.Str.{bytes_eq}
+use Rattle.std.proofs.Common.{◌≡◌, ◌⊎◌, ◌∙◌, ◌+◌, ◌++◌, ◌||◌, ◌<◌, ◌≤◌, zero, suc, ap, subst, ℕ, Bool, true, false, cond, List, [], ◌∷◌, length, map, Some, None, codes, refl, sym, inl, inr, arith, ltb-true, count_by, nat_lt, slice_index_or, bytes_eq}
 use Rattle.std.proofs.lemmas.List.{append-nil, append_assoc, get_or_default, length-map}
 use Rattle.std.proofs.lemmas.List.Sums.{sum_by-cons}
 use Rattle.std.proofs.lemmas.Bool.{or_left, or_right}
@@ -20,9 +17,7 @@ use Rattle.clap.specs.declared.builder.command.Command.TheViews.{out-Command}
 use Rattle.clap.specs.declared.builder.value_parser.ValueParser.{ValueParser}
 use Rattle.clap.specs.declared.parser.matches.ArgMatches.{ArgMatches}
 use Rattle.clap.proofs.CallerLemmas.{added_plain}
-use Rattle.thp_cli.specs.CommandLine.{with_rules}
-use Rattle.thp_cli.specs.Flags.{IsOption}
-use Rattle.thp_cli.specs.Options.{HasValue}
+use Rattle.thp_cli.specs.Prelude.{with_rules, IsOption, HasValue}
 use Rattle.thp_cli.proofs.OptionLaws.{valued}
 
 -- the arguments are options of these rules, one by one

@@ -1,7 +1,5 @@
 -- The command `thpsplit`: what `clap` makes of its options.
-use Rattle.std.proofs.Common.{◌≡◌, ◌∙◌, ap, arith, codes, inl, map, refl, subst, sym, true, false, List, [], ℕ, Some}
-use Rattle.std.specs.Prelude.{Result, Ok, Err, IsErrAnd, option_map, pos}
-use Rattle.std.specs.Borrow.{Bor}
+use Rattle.std.proofs.Common.{◌≡◌, ◌∙◌, ap, arith, codes, inl, map, refl, subst, sym, true, false, List, [], ℕ, Some, Result, Ok, Err, IsErrAnd, option_map, pos, Bor}
 use Rattle.clap.specs.Built.{IsPlain}
 use Rattle.clap.specs.Facts.{args_of, groups_of}
 use Rattle.clap.specs.Simple.{app_of_fields}
@@ -17,12 +15,9 @@ use Rattle.clap.specs.declared.parser.matches.Found.{Found}
 use Rattle.clap.proofs.OnLiterals.{clap_on_literals}
 use Rattle.clap.proofs.WalkLemmas.{first_value-rows, one_text-rows}
 use Rattle.std.proofs.lemmas.List.Elements.{All-nil}
-use Rattle.thp_cli.specs.Flags.{ReportsFlag, WritesNumber}
-use Rattle.thp_model.specs.Limits.{max_blocks}
-use Rattle.thp_script.specs.Limits.{max_nodes, max_workers}
-use Rattle.thp_cli.specs.CommandLine.{FailsAsWords, HoldsWords, bare, blocks_rule, nodes_rule, own_rules, report_name, report_names, report_rule, with_rules, workers_rule}
-use Rattle.thp_cli.specs.OwnCommand.{IsOwnCommand}
-use Rattle.thp_cli.specs.declared.line.Line.{Line}
+use Rattle.thp_cli.specs.Prelude.{ReportsFlag, WritesNumber, FailsAsWords, HoldsWords, bare, blocks_rule, nodes_rule, own_rules, report_name, report_names, report_rule, with_rules, workers_rule, IsOwnCommand, Line}
+use Rattle.thp_model.specs.Prelude.{max_blocks}
+use Rattle.thp_script.specs.Prelude.{max_nodes, max_workers}
 use Rattle.thp_cli.proofs.ChainLaws.{AreOptions, IsDefaultRule, chained, chained_app, option_value}
 
 abbrev pub ReportNames : Type 0

@@ -1,9 +1,7 @@
 -- Known bytes over several reads and writes.
-use Rattle.std.proofs.Common.{◌≡◌, ℕ, ◌<◌, List, [], ◌∷◌, ◌++◌, length, Option, Some, None, refl, sym, ap, ◌∙◌, arith, append_assoc, take, drop}
-use Rattle.std.proofs.lemmas.List.{append-nil, take-append-drop}
-use Rattle.std.specs.Prelude.{IfSome}
+use Rattle.std.proofs.Common.{◌≡◌, ℕ, ◌<◌, List, [], ◌∷◌, ◌++◌, length, Option, Some, None, refl, sym, ap, ◌∙◌, arith, append_assoc, take, drop, append-nil, take-append-drop, IfSome}
 use Rattle.std.specs.Io.KnownBytes.{Consumes, Appends, Keeps, IsAtEnd}
-use Rattle.thp_cli.specs.Devices.{IsFrontOf, WritesFront}
+use Rattle.thp_cli.specs.Prelude.{IsFrontOf, WritesFront}
 
 -- nothing was read
 pub read_nothing : (a : Option (List ℕ)) → Consumes a a []

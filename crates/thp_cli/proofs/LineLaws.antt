@@ -1,9 +1,6 @@
 -- From the values of a parse to the line that they make.
-use Rattle.std.proofs.Common.{◌≡◌, ◌∙◌, ◌<◌, ◌≤◌, ◌^◌, ap, ℕ, true, false, List, [], ◌∷◌, map, Option, Some, None, Result, Ok, sym}
-use Rattle.std.specs.Prelude.{option_map, pos, slice_get}
-use Rattle.std.specs.Borrow.{Bor}
+use Rattle.std.proofs.Common.{◌≡◌, ◌∙◌, ◌<◌, ◌≤◌, ◌^◌, ap, ℕ, true, false, List, [], ◌∷◌, map, Option, Some, None, Result, Ok, sym, option_map, pos, slice_get, Bor, bytes_eq}
 use Rattle.std.specs.List.{list_any}
-use Rattle.std.specs.Str.{bytes_eq}
 use Rattle.std.specs.Str.Parse.{ParsesUnsigned}
 use Rattle.clap.specs.Lexer.{without_minus}
 use Rattle.clap.specs.Matches.{ReadsOne, first_value, one_text}
@@ -13,8 +10,7 @@ use Rattle.clap.specs.declared.builder.value_parser.ValueParser.TheVariants.{Nam
 use Rattle.clap.specs.declared.parser.matches.Found.{Found}
 use Rattle.clap.proofs.CallerReads.{signed_reads}
 use Rattle.clap.proofs.WalkLemmas.{list_any-map}
-use Rattle.thp_cli.specs.Flags.{WritesNumber}
-use Rattle.thp_cli.specs.Options.{HasValue}
+use Rattle.thp_cli.specs.Prelude.{WritesNumber, HasValue}
 
 head_of_map : {A B : Type 0} (f : A → B) (xs : List A) (y : B) (ys : List B) → map f xs ≡ y ∷ ys → option_map f (slice_get xs 0) ≡ Some y
 head_of_map f [] y ys e = absurd cc

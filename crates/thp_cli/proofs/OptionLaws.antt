@@ -1,9 +1,5 @@
 -- What a parse gives an option that has one value and a default: a value that passed the option's parser.
-use Rattle.std.proofs.Common.{◌≡◌, ◌∙◌, ◌<◌, ◌≤◌, zero, suc, ap, subst, ℕ, Bool, true, false, List, [], ◌∷◌, length, map, is_some, Option, Some, None, refl, sym, inl, inr, arith}
-use Rattle.std.specs.List.{All, slice_index_or}
-use Rattle.std.specs.Str.{bytes_eq}
-use Rattle.std.specs.Prelude.{find, option_map}
-use Rattle.std.specs.Borrow.{Bor}
+use Rattle.std.proofs.Common.{◌≡◌, ◌∙◌, ◌<◌, ◌≤◌, zero, suc, ap, subst, ℕ, Bool, true, false, List, [], ◌∷◌, length, map, is_some, Option, Some, None, refl, sym, inl, inr, arith, All, slice_index_or, bytes_eq, find, option_map, Bor}
 use Rattle.std.proofs.lemmas.Slice.Eq.{bytes_eq-Decides}
 use Rattle.clap.specs.Built.{IsPlain, IsParsedFrom, IsAuto, SameRules}
 use Rattle.clap.specs.Facts.{args_of, groups_of, Entry, EntryPasses, HasIn, HasReading, IsParsed, PassesArg, WantsDefault, least_values, parser_of, parser_of_value}
@@ -18,7 +14,7 @@ use Rattle.clap.specs.declared.builder.value_parser.Reading.{Reading}
 use Rattle.clap.specs.declared.parser.matches.ArgMatches.{ArgMatches}
 use Rattle.clap.specs.declared.parser.matches.MatchedArg.{MatchedArg}
 use Rattle.clap.proofs.CallerLemmas.{default_present, entry_by_id, same_rules_by_id}
-use Rattle.thp_cli.specs.Options.{HasValue}
+use Rattle.thp_cli.specs.Prelude.{HasValue}
 
 -- where an entry has the id, one is found
 found_by_id : (xs : List Entry) (id : List ℕ) → HasIn xs id → is_some (option_map (λ e. e.1) (find (λ e. bytes_eq e.0.now id) xs)) ≡ true

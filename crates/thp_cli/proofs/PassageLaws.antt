@@ -1,22 +1,13 @@
 -- How the program's passages end, from what their parts did.
-use Rattle.std.proofs.Common.{◌≡◌, ◌∙◌, ◌<◌, ℕ, Bool, true, false, List, Option, Some, None, Ok, Err, ap, arith, inl, inr, is_some, length, not, refl, sym}
-use Rattle.std.specs.Prelude.{IfNone, IfSome, Result, ok_or}
+use Rattle.std.proofs.Common.{◌≡◌, ◌∙◌, ◌<◌, ℕ, Bool, true, false, List, Option, Some, None, Ok, Err, ap, arith, inl, inr, is_some, length, not, refl, sym, IfNone, IfSome, Result, ok_or, append-nil, length-append}
 use Rattle.std.specs.Io.KnownBytes.{Keeps, Appends}
 use Rattle.std.proofs.lemmas.Bool.{cases_lt, lt-ltb}
-use Rattle.std.proofs.lemmas.List.{append-nil, length-append}
 use Rattle.thp_script.specs.declared.fault.ReadFault.{ReadFault}
 use Rattle.thp_script.specs.declared.fault.ReadFault.TheVariants as reading
-use Rattle.thp_script.specs.Scripts.{Fault, ReportsFault}
+use Rattle.thp_script.specs.Prelude.{Fault, ReportsFault}
 use Rattle.thp_script.specs.declared.fault.TextKind.TheVariants.{TooLong}
-use Rattle.thp_journal_reader.specs.Journals.{journals_within}
-use Rattle.thp_cli.specs.declared.fault.RunFault.{RunFault}
-use Rattle.thp_cli.specs.declared.fault.RunFault.TheVariants.{Text, OutOfMemory, Write}
-use Rattle.thp_cli.specs.Devices.{IsFrontOf, WritesFront}
-use Rattle.thp_cli.specs.Calls.{WritesOn}
-use Rattle.thp_cli.specs.declared.calls.DeviceCall.{DeviceCall}
-use Rattle.thp_cli.specs.Passages.{Ends, WritesAnswer}
-use Rattle.thp_cli.specs.RunFaults.{run_fault}
-use Rattle.thp_cli.specs.Verdicts.{is_legal, CheckEndsWithin, IsVerdictWithin}
+use Rattle.thp_journal_reader.specs.Prelude.{journals_within}
+use Rattle.thp_cli.specs.Prelude.{RunFault, Text, OutOfMemory, Write, IsFrontOf, WritesFront, WritesOn, DeviceCall, Ends, WritesAnswer, run_fault, is_legal, CheckEndsWithin, IsVerdictWithin}
 
 pub keeps_same : (known : Option (List ℕ)) → Keeps known known
 keeps_same None = tt

@@ -1,7 +1,7 @@
 -- The effect of watched devices on the remaining bytes of a reader and the content of a writer, if those are known.
 use Rattle.std.specs.Prelude.{◌≡◌, ◌≤◌, ◌<◌, ◌++◌, ℕ, List, [], length, take, Option, MatchOption}
 use Rattle.std.specs.Io.KnownBytes.{Keeps, Appends, Consumes, IsAtEnd}
-use Rattle.thp_script.specs.Limits.{max_input}
+use Rattle.thp_script.specs.Prelude.{max_input}
 
 -- a read returned n bytes, which is 0 only at the end or if there was no room; or it returned nothing
 abbrev pub Reads : Option (List ℕ) → Option (List ℕ) → Option ℕ → List ℕ → Type 0

@@ -9,3 +9,4 @@ pub mod CommandLine
 pub mod Flags
 pub mod Options
 pub mod OwnCommand
+pub mod Prelude

@@ -1,7 +1,7 @@
 -- How the program processes its input: it reads all of it, computes the result, and writes that.
 use Rattle.std.specs.Prelude.{◌≡◌, ℕ, Bool, true, false, List, Option, Result, Ok, Err, IfSome}
 use Rattle.std.specs.Io.KnownBytes.{Keeps, Appends}
-use Rattle.thp_script.specs.Scripts.{Fault}
+use Rattle.thp_script.specs.Prelude.{Fault}
 use Rattle.thp_cli.specs.declared.fault.RunFault.{RunFault}
 use Rattle.thp_cli.specs.declared.fault.RunFault.TheVariants.{Text, OutOfMemory, Read, Write}
 use Rattle.thp_cli.specs.Calls.{WritesOn}

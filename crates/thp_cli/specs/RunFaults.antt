@@ -1,7 +1,6 @@
 -- The errors of a run.
-use Rattle.std.specs.Prelude.{◌≡◌, ◌++◌, ℕ, Bool, true, false, List, codes}
-use Rattle.std.specs.Fmt.{decimal}
-use Rattle.thp_script.specs.TextKinds.{kind_word}
+use Rattle.std.specs.Prelude.{◌≡◌, ◌++◌, ℕ, Bool, true, false, List, codes, decimal}
+use Rattle.thp_script.specs.Prelude.{kind_word}
 use Rattle.thp_script.specs.declared.fault.ReadFault.{ReadFault}
 use Rattle.thp_script.specs.declared.fault.ReadFault.TheVariants as reading
 use Rattle.thp_journal_reader.specs.declared.illegal.LongReadFault.{LongReadFault}

@@ -1,10 +1,8 @@
 -- The input and the output of a check of a journal.
-use Rattle.std.specs.Prelude.{◌≡◌, ◌++◌, ℕ, Bool, true, false, All, List, [], ◌∷◌, Option, Some, None, Result, Ok, Err, codes}
-use Rattle.std.specs.Fmt.{decimal}
-use Rattle.thp_script.specs.Limits.{max_input}
+use Rattle.std.specs.Prelude.{◌≡◌, ◌++◌, ℕ, Bool, true, false, All, List, [], ◌∷◌, Option, Some, None, Result, Ok, Err, codes, decimal}
+use Rattle.thp_script.specs.Prelude.{max_input}
 use Rattle.thp_journal_reader.specs.declared.journals.Journals.{Journals}
-use Rattle.thp_journal_reader.specs.Answers.{CanBeLegal, ReportsIllegal}
-use Rattle.thp_journal_reader.specs.Journals.{journals_within}
+use Rattle.thp_journal_reader.specs.Prelude.{CanBeLegal, ReportsIllegal, journals_within}
 use Rattle.thp_cli.specs.declared.fault.RunFault.{RunFault}
 use Rattle.thp_cli.specs.Passages.{Ends}
 

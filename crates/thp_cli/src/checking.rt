@@ -1,6 +1,6 @@
 //! From the bytes of a journal to its verdict.
 ghost use Rattle.std.specs.Prelude.{◌≡◌, IfOk, false};
-ghost use Rattle.thp_script.specs.Limits.{max_input};
+ghost use Rattle.thp_script.specs.Prelude.{max_input};
 ghost use Rattle.thp_cli.specs.Calls.{ReadsOn};
 ghost use Rattle.thp_cli.specs.Passages.{WritesAnswer};
 ghost use Rattle.thp_cli.specs.Verdicts.{verdict_text, CheckEnds};

@@ -5,9 +5,8 @@ ghost use Rattle.std.specs.Io.KnownBytes.{Appends};
 ghost use Rattle.thp_cli.specs.Calls.{ReadsOn, WritesAll, WritesOn};
 ghost use Rattle.thp_cli.specs.Devices.{IsFrontOf, IsInputOf, WritesFront};
 ghost use Rattle.thp_cli.specs.RunFaults.{IsReadingFault};
-ghost use Rattle.thp_journal_reader.specs.Journals.{journals_of};
-ghost use Rattle.thp_journal_reader.specs.Parts.{told_with};
-ghost use Rattle.thp_script.specs.Limits.{max_input};
+ghost use Rattle.thp_journal_reader.specs.Prelude.{journals_of, told_with};
+ghost use Rattle.thp_script.specs.Prelude.{max_input};
 ghost use Rattle.thp_script.specs.declared.fault.ReadFault.TheVariants.{OutOfMemory};
 
 use crate::fault::RunFault;

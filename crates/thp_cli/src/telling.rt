@@ -1,7 +1,7 @@
 //! The program's messages on standard error, and its exit status.
 ghost use Rattle.std.specs.Prelude.{◌≡◌, ◌≤◌, ◌++◌, Err, false, length};
 ghost use Rattle.arrayvec.specs.ArrayString.{array_string_len};
-ghost use Rattle.thp_script.specs.TextKinds.{kind_word};
+ghost use Rattle.thp_script.specs.Prelude.{kind_word};
 ghost use Rattle.thp_cli.specs.Outcomes.{device_of, end_status, fault_line, name_front, no_node_line, status_of, Takes, WritesMessage};
 ghost use Rattle.thp_cli.specs.declared.fault.RunFault.TheVariants as run;
 ghost use Rattle.thp_cli.specs.RunFaults.{fault_text, seen_fault};

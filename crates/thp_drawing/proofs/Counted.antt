@@ -1,7 +1,7 @@
 -- What is made of the first callers, up to the last of them.
 use Rattle.std.proofs.Common.{◌≡◌, ◌++◌, ℕ, List, ap}
 use Rattle.thp_metrics.specs.declared.column.Column.{Column}
-use Rattle.thp_metrics.specs.Waits.{shown_callers}
+use Rattle.thp_metrics.specs.Prelude.{shown_callers}
 use Rattle.thp_drawing.specs.Lanes.{all_lanes, lane_count, lanes, lanes_below}
 use Rattle.thp_drawing.specs.Tables.{caller_items, callers_joined}
 

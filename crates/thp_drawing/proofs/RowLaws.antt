@@ -5,12 +5,7 @@ use Rattle.std.proofs.lemmas.List.Sums.{count_by-le-length}
 use Rattle.std.proofs.lemmas.Nat.{mul-le, shl-shr}
 use Rattle.thp_model.specs.declared.events.Event.{Event}
 use Rattle.thp_model.specs.declared.shape.Shape.{Shape}
-use Rattle.thp_model.specs.Counts.{allocations, is_alloc}
-use Rattle.thp_model.specs.FrameLaws.{FramesAreKept}
-use Rattle.thp_model.specs.Frames.{frames_given, frames_held}
-use Rattle.thp_model.specs.History.{History, count_of}
-use Rattle.thp_model.specs.Legal.{IsLegal}
-use Rattle.thp_model.specs.Shapes.{subpages, IsShape}
+use Rattle.thp_model.specs.Prelude.{allocations, is_alloc, FramesAreKept, frames_given, frames_held, History, count_of, IsLegal, subpages, IsShape}
 use Rattle.thp_drawing.specs.Drawn.{IsDrawn}
 use Rattle.thp_drawing.specs.Rows.{allocated_pages}
 use Rattle.thp_drawing.specs.Scales.{plus}

@@ -1,7 +1,6 @@
 -- Areas over a node's columns, 6,000 wide and at most 1,000 high. The sign determines whether they extend upwards (`-`) or
 -- downwards.
-use Rattle.std.specs.Prelude.{ℕ, ◌+◌, ◌-◌, List, [], ◌∷◌, ◌++◌, length, codes, if◌then◌else◌, nat_eq}
-use Rattle.std.specs.Fmt.{decimal}
+use Rattle.std.specs.Prelude.{ℕ, ◌+◌, ◌-◌, List, [], ◌∷◌, ◌++◌, length, codes, if◌then◌else◌, nat_eq, decimal}
 use Rattle.thp_metrics.specs.declared.column.Column.{Column}
 use Rattle.thp_metrics.specs.declared.span.Span.{Span}
 use Rattle.thp_metrics.specs.declared.stage.Stage.{Stage}

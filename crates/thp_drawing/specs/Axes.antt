@@ -1,6 +1,5 @@
 -- Axes: numbers next to lines.
-use Rattle.std.specs.Prelude.{ℕ, zero, suc, ◌-◌, List, [], ◌++◌, length, codes}
-use Rattle.std.specs.Fmt.{decimal}
+use Rattle.std.specs.Prelude.{ℕ, zero, suc, ◌-◌, List, [], ◌++◌, length, codes, decimal}
 use Rattle.thp_drawing.specs.Elements.{group_end, group_start, text_at}
 use Rattle.thp_drawing.specs.Grouped.{grouped}
 use Rattle.thp_drawing.specs.Scales.{plus, round_step, scaled, steps_in, times}

@@ -1,10 +1,9 @@
 -- Bars: lines over those of a node's columns at which something holds.
-use Rattle.std.specs.Prelude.{ℕ, ◌+◌, ◌/◌, ◌%◌, ◌^◌, ◌&&◌, Bool, true, false, List, [], ◌∷◌, ◌++◌, length, Option, Some, None, codes, nat_eq, nat_lt, slice_index_or}
-use Rattle.std.specs.Fmt.{decimal}
+use Rattle.std.specs.Prelude.{ℕ, ◌+◌, ◌/◌, ◌%◌, ◌^◌, ◌&&◌, Bool, true, false, List, [], ◌∷◌, ◌++◌, length, Option, Some, None, codes, nat_eq, nat_lt, slice_index_or, decimal}
 use Rattle.thp_metrics.specs.declared.column.Column.{Column}
 use Rattle.thp_metrics.specs.declared.stage.Stage.{Stage}
 use Rattle.thp_metrics.specs.declared.stage.Stage.TheVariants.{Allocated, PartlyMapped, Queued, InBatch, Split}
-use Rattle.thp_metrics.specs.Waits.{shown_callers}
+use Rattle.thp_metrics.specs.Prelude.{shown_callers}
 use Rattle.thp_drawing.specs.Scales.{scaled}
 use Rattle.thp_drawing.specs.declared.bar.Bar.{Bar}
 use Rattle.thp_drawing.specs.declared.bar.Bar.TheVariants.{PageIn, BatchOf}

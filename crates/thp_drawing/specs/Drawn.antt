@@ -1,11 +1,9 @@
 -- The data of a node that is drawn.
 use Rattle.std.specs.Prelude.{◌≡◌, List, None, length}
 use Rattle.thp_model.specs.declared.shape.Shape.{Shape}
-use Rattle.thp_model.specs.History.{History}
+use Rattle.thp_model.specs.Prelude.{History}
 use Rattle.thp_metrics.specs.declared.numbers.Numbers.{Numbers}
-use Rattle.thp_metrics.specs.Columns.{columns_of, IsWidth}
-use Rattle.thp_metrics.specs.Series.{numbers_at, series}
-use Rattle.thp_metrics.specs.Stuck.{AreStuck}
+use Rattle.thp_metrics.specs.Prelude.{columns_of, IsWidth, numbers_at, series, AreStuck}
 use Rattle.thp_drawing.specs.declared.node.DrawnNode.{DrawnNode}
 
 -- the columns are those of these prefixes

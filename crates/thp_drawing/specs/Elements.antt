@@ -1,7 +1,6 @@
 -- Texts made of pieces, and the elements of a picture. A class determines the colour of an element, and the appearance of its
 -- letters.
-use Rattle.std.specs.Prelude.{ℕ, List, [], ◌∷◌, ◌++◌, codes}
-use Rattle.std.specs.Fmt.{decimal}
+use Rattle.std.specs.Prelude.{ℕ, List, [], ◌∷◌, ◌++◌, codes, decimal}
 use Rattle.thp_drawing.specs.Escapes.{escaped}
 use Rattle.thp_drawing.specs.Grouped.{grouped, many}
 use Rattle.thp_drawing.specs.Scales.{plus}

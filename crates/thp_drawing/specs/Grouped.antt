@@ -1,7 +1,5 @@
 -- Numbers whose digits are in groups of three, separated by commas.
-use Rattle.std.specs.Prelude.{ℕ, ◌/◌, ◌%◌, max, List, [], ◌++◌, codes, if◌then◌else◌, nat_eq, nat_lt}
-use Rattle.std.specs.Fmt.{decimal}
-use Rattle.std.specs.List.{flat_map}
+use Rattle.std.specs.Prelude.{ℕ, ◌/◌, ◌%◌, max, List, [], ◌++◌, codes, if◌then◌else◌, nat_eq, nat_lt, decimal, flat_map}
 use Rattle.thp_drawing.specs.declared.grouped.TheConstants.{THOUSANDS}
 
 -- the last three digits of a number, after a comma if there are others before them

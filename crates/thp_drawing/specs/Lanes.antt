@@ -1,7 +1,7 @@
 -- The callers of a node: a lane for each that ever had pages in its batch, whose bars show when.
 use Rattle.std.specs.Prelude.{ℕ, zero, suc, Bool, false, ◌+◌, ◌&&◌, List, [], ◌++◌, codes, if◌then◌else◌, nat_le, nat_lt}
 use Rattle.thp_metrics.specs.declared.column.Column.{Column}
-use Rattle.thp_metrics.specs.Waits.{shown_callers}
+use Rattle.thp_metrics.specs.Prelude.{shown_callers}
 use Rattle.thp_drawing.specs.Axes.{tick}
 use Rattle.thp_drawing.specs.Bars.{bar_at, bar_turns}
 use Rattle.thp_drawing.specs.Elements.{item_at}

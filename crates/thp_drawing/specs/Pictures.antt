@@ -1,6 +1,5 @@
 -- The picture of a journal's nodes, as SVG: 7,200 units wide, and as high as its nodes are.
-use Rattle.std.specs.Prelude.{ℕ, ◌+◌, List, [], ◌∷◌, ◌++◌, Option, Some, None, codes, if◌then◌else◌, nat_eq}
-use Rattle.std.specs.Fmt.{decimal}
+use Rattle.std.specs.Prelude.{ℕ, ◌+◌, List, [], ◌∷◌, ◌++◌, Option, Some, None, codes, if◌then◌else◌, nat_eq, decimal}
 use Rattle.thp_drawing.specs.Axes.{event_axis}
 use Rattle.thp_drawing.specs.Elements.{group_end, group_start, text_at}
 use Rattle.thp_drawing.specs.Lanes.{lanes_height, lanes_panel}

@@ -1,10 +1,10 @@
 -- The individual pages of a node, if few were allocated: a row for each, whose bars show its stages.
 use Rattle.std.specs.Prelude.{ℕ, zero, suc, Bool, false, ◌+◌, ◌-◌, ◌/◌, ◌^◌, ◌&&◌, min, List, [], ◌++◌, codes, if◌then◌else◌, nat_eq, nat_le}
-use Rattle.thp_model.specs.Limits.{max_order}
+use Rattle.thp_model.specs.Prelude.{max_order}
 use Rattle.thp_metrics.specs.declared.column.Column.{Column}
 use Rattle.thp_metrics.specs.declared.stage.Stage.{Stage}
 use Rattle.thp_metrics.specs.declared.stage.Stage.TheVariants.{Allocated, PartlyMapped, Queued, InBatch, Split}
-use Rattle.thp_metrics.specs.Stages.{shown_pages}
+use Rattle.thp_metrics.specs.Prelude.{shown_pages}
 use Rattle.thp_drawing.specs.Axes.{tick}
 use Rattle.thp_drawing.specs.Bars.{bar_at, bar_turns}
 use Rattle.thp_drawing.specs.Panels.{graph_start, panel_end, panel_start, stage_items}

@@ -1,14 +1,12 @@
 -- The numbers of nodes as a table: lines of tab-separated fields, the first of which is the kind of line (this project's format).
-use Rattle.std.specs.Prelude.{ℕ, zero, suc, ◌+◌, ◌*◌, ◌-◌, ◌%◌, ◌^◌, min, List, [], ◌∷◌, ◌++◌, Option, Some, None, codes, if◌then◌else◌, nat_eq}
-use Rattle.std.specs.Fmt.{decimal}
-use Rattle.thp_journal_writer.specs.EventLines.{event_line}
-use Rattle.thp_journal_writer.specs.Journals.{ended}
+use Rattle.std.specs.Prelude.{ℕ, zero, suc, ◌+◌, ◌*◌, ◌-◌, ◌%◌, ◌^◌, min, List, [], ◌∷◌, ◌++◌, Option, Some, None, codes, if◌then◌else◌, nat_eq, decimal}
+use Rattle.thp_journal_writer.specs.Prelude.{event_line, ended}
 use Rattle.thp_drawing.specs.declared.illegal_event.IllegalEvent.{IllegalEvent}
 use Rattle.thp_metrics.specs.declared.column.Column.{Column}
 use Rattle.thp_metrics.specs.declared.stage.Stage.{Stage}
 use Rattle.thp_metrics.specs.declared.stage.Stage.TheVariants.{Allocated, PartlyMapped, Queued, InBatch, Split}
 use Rattle.thp_metrics.specs.declared.stuck_page.StuckPage.{StuckPage}
-use Rattle.thp_metrics.specs.Waits.{shown_callers}
+use Rattle.thp_metrics.specs.Prelude.{shown_callers}
 use Rattle.thp_drawing.specs.Bars.{is_among}
 use Rattle.thp_drawing.specs.Elements.{field}
 use Rattle.thp_drawing.specs.declared.node.DrawnNode.{DrawnNode}

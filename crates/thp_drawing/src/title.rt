@@ -1,6 +1,6 @@
 //! The title of a node above its panels.
 ghost use Rattle.std.specs.Prelude.{◌≡◌, ◌++◌, OnOk};
-ghost use Rattle.thp_journal_writer.specs.EventLines.{event_line};
+ghost use Rattle.thp_journal_writer.specs.Prelude.{event_line};
 ghost use Rattle.thp_drawing.specs.Titles.{events_words, illegal_text, illegal_words, node_words};
 ghost use Rattle.thp_drawing.specs.Titles.{shape_words, shortened, threshold_words};
 

@@ -1,25 +1,14 @@
 -- What the check of a journal text answers, node by node, and that no choice of blocks is wronged by it.
-use Rattle.std.proofs.Common.{◌≡◌, ℕ, ◌+◌, ◌<◌, Bool, true, false, cond, List, [], ◌∷◌, length, get_or, Option, Some, None, Result, Ok, Err, refl, sym, ap, subst, ◌∙◌, arith, inl, inr}
-use Rattle.std.specs.Prelude.{All, slice_get, nat_lt}
+use Rattle.std.proofs.Common.{◌≡◌, ℕ, ◌+◌, ◌<◌, Bool, true, false, cond, List, [], ◌∷◌, length, get_or, Option, Some, None, Result, Ok, Err, refl, sym, ap, subst, ◌∙◌, arith, inl, inr, All, slice_get, nat_lt}
 use Rattle.std.proofs.lemmas.Bool.{cases_lt}
 use Rattle.std.proofs.lemmas.List.Elements.{All-cons, All-nil}
 use Rattle.std.proofs.lemmas.Option.{slice_get_within, slice_get-get_or}
 use Rattle.thp_model.specs.declared.shape.Shape.{Shape}
-use Rattle.thp_model.specs.BlockLaws.{with_least_blocks, without_blocks}
-use Rattle.thp_model.specs.History.{History}
-use Rattle.thp_model.specs.Legal.{IsLegal, IsFirstMisfit}
+use Rattle.thp_model.specs.Prelude.{with_least_blocks, without_blocks, History, IsLegal, IsFirstMisfit}
 use Rattle.thp_model.proofs.LeastBlocks.{least_is_legal, least_same}
 use Rattle.thp_script.specs.declared.fault.TextKind.TheVariants.{TooLong}
-use Rattle.thp_script.specs.Readings.{◌>>=◌}
-use Rattle.thp_script.specs.Scripts.{Fault}
-use Rattle.thp_script.specs.Words.{Text, lines_of}
-use Rattle.thp_journal_reader.specs.declared.journals.Journals.{Journals}
-use Rattle.thp_journal_reader.specs.declared.journals.NodeJournal.{NodeJournal}
-use Rattle.thp_journal_reader.specs.declared.line.Line.{Line}
-use Rattle.thp_journal_reader.specs.declared.line.Line.TheVariants.{Head, Node, Happened, End}
-use Rattle.thp_journal_reader.specs.declared.place.Place.TheVariants.{Start}
-use Rattle.thp_journal_reader.specs.Answers.{AreLegalBefore, CanBeLegal, IsLegalNode, ReportsIllegal}
-use Rattle.thp_journal_reader.specs.Journals.{events_of, journals_with, journals_within, lines_from, node_journal, nodes_of}
+use Rattle.thp_script.specs.Prelude.{◌>>=◌, Fault, Text, lines_of}
+use Rattle.thp_journal_reader.specs.Prelude.{Journals, NodeJournal, Line, Head, Node, Happened, End, Start, AreLegalBefore, CanBeLegal, IsLegalNode, ReportsIllegal, events_of, journals_with, journals_within, lines_from, node_journal, nodes_of}
 
 -- the first misfit is one of the events
 pub misfit_inside : (shape : Shape) (h : History) (place : ℕ) → IsFirstMisfit shape h place → place < length h

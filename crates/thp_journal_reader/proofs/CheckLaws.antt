@@ -1,24 +1,16 @@
 -- What is known of legal nodes and of the first illegal event, as one more node begins and as one more event is read.
-use Rattle.std.proofs.Common.{◌≡◌, ℕ, ◌+◌, ◌<◌, ◌≤◌, List, [], ◌∷◌, ◌++◌, length, take, Option, Some, None, refl, sym, ap, subst, ◌∙◌, ◌⊎◌, arith, inl, inr, suc, zero}
-use Rattle.std.specs.Prelude.{All, IfSome, slice_get}
+use Rattle.std.proofs.Common.{◌≡◌, ℕ, ◌+◌, ◌<◌, ◌≤◌, List, [], ◌∷◌, ◌++◌, length, take, Option, Some, None, refl, sym, ap, subst, ◌∙◌, ◌⊎◌, arith, inl, inr, suc, zero, All, IfSome, slice_get}
 use Rattle.std.proofs.lemmas.List.{take-append-le, take_at}
 use Rattle.std.proofs.lemmas.List.Sums.{fold_push}
 use Rattle.std.proofs.lemmas.Option.{slice_get_within}
 use Rattle.thp_model.specs.declared.events.Event.{Event}
 use Rattle.thp_model.specs.declared.shape.Shape.{Shape}
-use Rattle.thp_model.specs.BlockLaws.{event_with, least_free}
-use Rattle.thp_model.specs.History.{History}
-use Rattle.thp_model.specs.Legal.{Fits, IsLegal, IsFirstMisfit}
+use Rattle.thp_model.specs.Prelude.{event_with, least_free, History, Fits, IsLegal, IsFirstMisfit}
 use Rattle.thp_model.proofs.LegalSteps.{legal_none}
 use Rattle.thp_model.proofs.ListPlaces.{get_push, get-append_left, get_middle, get_below}
 use Rattle.thp_check.specs.declared.misfit.Misfit.{Misfit}
-use Rattle.thp_check.specs.Reasons.{Explains}
-use Rattle.thp_journal_reader.specs.declared.journals.NodeJournal.{NodeJournal}
-use Rattle.thp_journal_reader.specs.Answers.{AreLegalBefore, IsFirstIllegalEvent, IsLegalNode, ReportsFirst}
-use Rattle.thp_journal_reader.specs.Following.{first_of, nodes_told, LastIsIllegal}
-use Rattle.thp_journal_reader.specs.Reading.{began, on_last, with_event, with_line, IsNodeBefore}
-use Rattle.thp_journal_reader.specs.declared.illegal.Illegal.{Illegal}
-use Rattle.thp_journal_reader.specs.declared.line.Line.{Line}
+use Rattle.thp_check.specs.Prelude.{Explains}
+use Rattle.thp_journal_reader.specs.Prelude.{NodeJournal, AreLegalBefore, IsFirstIllegalEvent, IsLegalNode, ReportsFirst, first_of, nodes_told, LastIsIllegal, began, on_last, with_event, with_line, IsNodeBefore, Illegal, Line}
 use Rattle.thp_journal_reader.proofs.AnswerLaws.{found_has, misfit_inside, misfit_is_illegal}
 use Rattle.thp_journal_reader.proofs.NodeLaws.{on_last-push}
 

@@ -1,32 +1,17 @@
 -- Events at the front of a text: what was read of its bytes in one walk is what its first line says.
-use Rattle.std.proofs.Common.{◌≡◌, ◌∙◌, ℕ, Bool, true, false, List, [], ◌∷◌, ◌++◌, Option, Some, None, Result, Ok, Err, ap, arith, codes, refl, sym}
-use Rattle.std.specs.Prelude.{IfSome}
+use Rattle.std.proofs.Common.{◌≡◌, ◌∙◌, ℕ, Bool, true, false, List, [], ◌∷◌, ◌++◌, Option, Some, None, Result, Ok, Err, ap, arith, codes, refl, sym, IfSome, bytes_eq, length-append}
 use Rattle.std.specs.Result.{result_ok}
-use Rattle.std.specs.Str.{bytes_eq}
-use Rattle.std.proofs.lemmas.List.{length-append}
 use Rattle.std.proofs.lemmas.Slice.Eq.{bytes_eq-Decides}
 use Rattle.thp_model.specs.declared.events.Event.{Event}
 use Rattle.thp_model.specs.declared.events.Outcome.{Outcome}
 use Rattle.thp_model.specs.declared.events.Outcome.TheVariants.{Stays, Queued, Freed}
 use Rattle.thp_model.specs.declared.events.What.TheVariants as what
-use Rattle.thp_model.specs.History.{by}
-use Rattle.thp_model.specs.Sets.{set_of}
+use Rattle.thp_model.specs.Prelude.{by, set_of}
 use Rattle.thp_script.specs.declared.fault.TextKind.{TextKind}
-use Rattle.thp_script.specs.Words.{Text, number_of, pieces_at}
-use Rattle.thp_script.specs.FastWords.{FastNumber}
+use Rattle.thp_script.specs.Prelude.{Text, number_of, pieces_at, FastNumber}
 use Rattle.thp_script.proofs.FastParsingLaws.{number_whole, of_some, whole_front}
 use Rattle.thp_script.proofs.TextLaws.{pieces-append}
-use Rattle.thp_journal_reader.specs.declared.event_word.EventWord.{EventWord}
-use Rattle.thp_journal_reader.specs.declared.event_word.LossWord.{LossWord}
-use Rattle.thp_journal_reader.specs.declared.event_word.PageWord.{PageWord}
-use Rattle.thp_journal_reader.specs.declared.event_word.RangeWord.{RangeWord}
-use Rattle.thp_journal_reader.specs.declared.line.Line.TheVariants.{Happened}
-use Rattle.thp_journal_reader.specs.declared.version.Version.{Version}
-use Rattle.thp_journal_reader.specs.FastParsing.{FastEvent, FastLine, FastOperands, FastOutcome, FastSet, FastWord}
-use Rattle.thp_journal_reader.specs.EventLines.{event_by, event_of, loss_event, page_event, range_event, split_event, unmap_event, outcome_and_word}
-use Rattle.thp_journal_reader.specs.EventWords.{event_word, loss_what, outcome_of, page_what, range_what}
-use Rattle.thp_journal_reader.specs.JournalLines.{by_words, line_by}
-use Rattle.thp_journal_reader.specs.SetTexts.{set_of_text, set_with}
+use Rattle.thp_journal_reader.specs.Prelude.{EventWord, LossWord, PageWord, RangeWord, Happened, Version, FastEvent, FastLine, FastOperands, FastOutcome, FastSet, FastWord, event_by, event_of, loss_event, page_event, range_event, split_event, unmap_event, outcome_and_word, event_word, loss_what, outcome_of, page_what, range_what, by_words, line_by, set_of_text, set_with}
 use Rattle.thp_journal_reader.proofs.PlainLines.{line_of-read}
 use Rattle.thp_journal_reader.proofs.PlainWords.{event_word_letters, letters_whole}
 

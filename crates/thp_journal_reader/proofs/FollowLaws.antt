@@ -1,28 +1,15 @@
 -- What a follower knows of the nodes, as one more node begins and as one more event is read.
-use Rattle.std.proofs.Common.{◌≡◌, ◌∙◌, ◌⊎◌, ℕ, ◌+◌, ◌≤◌, List, [], ◌∷◌, ◌++◌, length, Option, Some, None, refl, sym, ap, ap₂, subst, arith, inl, inr, length-append}
-use Rattle.std.specs.Prelude.{All, Bool, IfSome, true, false}
-use Rattle.std.proofs.lemmas.List.{take_at}
+use Rattle.std.proofs.Common.{◌≡◌, ◌∙◌, ◌⊎◌, ℕ, ◌+◌, ◌≤◌, List, [], ◌∷◌, ◌++◌, length, Option, Some, None, refl, sym, ap, ap₂, subst, arith, inl, inr, length-append, All, Bool, IfSome, true, false, take_at}
 use Rattle.std.proofs.lemmas.List.Elements.{All-nil}
 use Rattle.thp_model.specs.declared.events.Event.{Event}
 use Rattle.thp_model.specs.declared.shape.Shape.{Shape}
-use Rattle.thp_model.specs.BlockLaws.{event_with, least_free}
-use Rattle.thp_model.specs.History.{History}
-use Rattle.thp_model.specs.Legal.{Fits, IsFirstMisfit}
+use Rattle.thp_model.specs.Prelude.{event_with, least_free, History, Fits, IsFirstMisfit}
 use Rattle.thp_model.proofs.LegalSteps.{legal_push}
 use Rattle.thp_model.proofs.ListPlaces.{get_middle}
 use Rattle.thp_check.specs.declared.misfit.Misfit.{Misfit}
-use Rattle.thp_check.specs.Reasons.{Explains}
-use Rattle.thp_check.specs.Replays.{Replayed, with_event as replayed_with}
-use Rattle.thp_script.specs.Limits.{max_counted}
-use Rattle.thp_journal_reader.specs.declared.follower.FollowedNodes.{FollowedNodes}
-use Rattle.thp_journal_reader.specs.declared.follower.Follower.{Follower}
-use Rattle.thp_journal_reader.specs.declared.illegal.Illegal.{Illegal}
-use Rattle.thp_journal_reader.specs.declared.journals.NodeJournal.{NodeJournal}
-use Rattle.thp_journal_reader.specs.declared.line.Line.{Line}
-use Rattle.thp_journal_reader.specs.Answers.{IsLegalNode, ReportsFirst}
-use Rattle.thp_journal_reader.specs.Following.{first_of, has_stopped, nodes_told, AreKept, EndsAt, Follows, FollowsBy, FollowsLines, HasEnded, HasNone, HasRoom, HasRoomIn, IsKept, LastIsIllegal, StopsWith}
-use Rattle.thp_journal_reader.specs.LineRanges.{IsInRange}
-use Rattle.thp_journal_reader.specs.Reading.{began, on_last, with_event, with_line, IsNodeBefore}
+use Rattle.thp_check.specs.Prelude.{Explains, Replayed, with_event as replayed_with}
+use Rattle.thp_script.specs.Prelude.{max_counted}
+use Rattle.thp_journal_reader.specs.Prelude.{FollowedNodes, Follower, Illegal, NodeJournal, Line, IsLegalNode, ReportsFirst, first_of, has_stopped, nodes_told, AreKept, EndsAt, Follows, FollowsBy, FollowsLines, HasEnded, HasNone, HasRoom, HasRoomIn, IsKept, LastIsIllegal, StopsWith, IsInRange, began, on_last, with_event, with_line, IsNodeBefore}
 use Rattle.thp_journal_reader.proofs.AnswerLaws.{found_has, legal_more, legal_none, misfit_inside, misfit_is_illegal}
 use Rattle.thp_journal_reader.proofs.CheckLaws.{first_grows, first_none, first_stays, first_stops, front_stays, grown, illegal_grows, illegal_push, illegal_stays, last_misfit, misfit_stays, no_events_legal, told_none, told_push}
 use Rattle.thp_journal_reader.proofs.NodeLaws.{each_step}

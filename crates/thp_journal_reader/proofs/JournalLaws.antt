@@ -2,17 +2,9 @@
 use Rattle.std.proofs.Common.{◌≡◌, ℕ, ◌+◌, List, [], ◌∷◌, ◌++◌, Option, Some, None, Result, Ok, Err, refl}
 use Rattle.thp_script.specs.declared.fault.TextKind.{TextKind}
 use Rattle.thp_script.specs.declared.fault.TextKind.TheVariants.{Cut}
-use Rattle.thp_script.specs.Lines.{fault_after}
-use Rattle.thp_script.specs.Readings.{◌>>=◌}
-use Rattle.thp_script.specs.Scripts.{Fault}
-use Rattle.thp_script.specs.Words.{Text, lines_of}
+use Rattle.thp_script.specs.Prelude.{fault_after, ◌>>=◌, Fault, Text, lines_of}
 use Rattle.thp_script.proofs.PieceLaws.{has_first}
-use Rattle.thp_journal_reader.specs.declared.line.Line.{Line}
-use Rattle.thp_journal_reader.specs.declared.place.Place.{Place}
-use Rattle.thp_journal_reader.specs.declared.place.Place.TheVariants.{Start, Inside, Ended}
-use Rattle.thp_journal_reader.specs.JournalLines.{line_in, place_after}
-use Rattle.thp_journal_reader.specs.Journals.{end_of_text, lines_from}
-use Rattle.thp_journal_reader.specs.Reading.{fault_at}
+use Rattle.thp_journal_reader.specs.Prelude.{Line, Place, Start, Inside, Ended, line_in, place_after, end_of_text, lines_from, fault_at}
 
 abbrev pub Read : Type 0
 Read = Result (List Line) Fault

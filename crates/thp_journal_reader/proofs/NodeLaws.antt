@@ -1,22 +1,14 @@
 -- The nodes of a journal, as one more line is read.
-use Rattle.std.proofs.Common.{◌≡◌, ◌⊎◌, ℕ, suc, ◌+◌, ◌≤◌, List, [], ◌∷◌, ◌++◌, length, length-append, Result, Ok, Err, refl, sym, ap, ◌∙◌, arith, inl, inr}
-use Rattle.std.specs.Prelude.{All, IfOk, IfErr}
+use Rattle.std.proofs.Common.{◌≡◌, ◌⊎◌, ℕ, suc, ◌+◌, ◌≤◌, List, [], ◌∷◌, ◌++◌, length, length-append, Result, Ok, Err, refl, sym, ap, ◌∙◌, arith, inl, inr, All, IfOk, IfErr}
 use Rattle.std.proofs.lemmas.List.Elements.{All-cons, All-nil, All-push, All-tail}
 use Rattle.std.proofs.lemmas.List.Sums.{fold_push}
 use Rattle.thp_model.specs.declared.events.Event.{Event}
 use Rattle.thp_model.specs.declared.shape.Shape.{Shape}
-use Rattle.thp_model.specs.BlockLaws.{event_with, least_free, with_least_blocks}
-use Rattle.thp_model.specs.History.{History}
+use Rattle.thp_model.specs.Prelude.{event_with, least_free, with_least_blocks, History}
 use Rattle.thp_script.specs.declared.fault.ReadFault.{ReadFault}
 use Rattle.thp_script.specs.declared.fault.ReadFault.TheVariants.{OutOfMemory}
-use Rattle.thp_script.specs.Scripts.{Fault, ReportsFault}
-use Rattle.thp_journal_reader.specs.declared.journals.Journals.{Journals}
-use Rattle.thp_journal_reader.specs.declared.journals.NodeJournal.{NodeJournal}
-use Rattle.thp_journal_reader.specs.declared.line.Line.{Line}
-use Rattle.thp_journal_reader.specs.declared.line.Line.TheVariants.{Head, Node, Happened, End}
-use Rattle.thp_journal_reader.specs.Journals.{events_of, node_journal, nodes_of, IsNodeJournal}
-use Rattle.thp_journal_reader.specs.LineRanges.{IsInRange}
-use Rattle.thp_journal_reader.specs.Reading.{began, on_last, with_event, with_line, IsNodeBefore}
+use Rattle.thp_script.specs.Prelude.{Fault, ReportsFault}
+use Rattle.thp_journal_reader.specs.Prelude.{Journals, NodeJournal, Line, Head, Node, Happened, End, events_of, node_journal, nodes_of, IsNodeJournal, IsInRange, began, on_last, with_event, with_line, IsNodeBefore}
 
 -- ---- the events of a node
 

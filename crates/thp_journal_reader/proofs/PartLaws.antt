@@ -1,26 +1,10 @@
 -- Journals whose text comes in parts: what was read, with what the text to come says, is what the whole text says.
-use Rattle.std.proofs.Common.{◌≡◌, ◌∙◌, ◌+◌, ◌<◌, ℕ, List, [], ◌∷◌, ◌++◌, length, Some, None, Result, Ok, Err, refl, ap, append_assoc, length-append, arith}
-use Rattle.std.proofs.lemmas.Bool.{lt-ltb}
-use Rattle.std.proofs.lemmas.List.{append-nil}
+use Rattle.std.proofs.Common.{◌≡◌, ◌∙◌, ◌+◌, ◌<◌, ℕ, List, [], ◌∷◌, ◌++◌, length, Some, None, Result, Ok, Err, refl, ap, append_assoc, length-append, arith, lt-ltb, append-nil}
 use Rattle.thp_model.specs.declared.events.Event.{Event}
 use Rattle.thp_script.specs.declared.fault.TextKind.{TextKind}
-use Rattle.thp_script.specs.Lines.{fault_after}
-use Rattle.thp_script.specs.Readings.{◌>>=◌}
-use Rattle.thp_script.specs.Scripts.{Fault}
-use Rattle.thp_script.specs.TextInParts.{nothing_of}
-use Rattle.thp_script.specs.Words.{Text, lines_of}
+use Rattle.thp_script.specs.Prelude.{fault_after, ◌>>=◌, Fault, nothing_of, Text, lines_of}
 use Rattle.thp_script.proofs.TextLaws.{first_line, whole_comes}
-use Rattle.thp_journal_reader.specs.declared.journals.NodeJournal.{NodeJournal}
-use Rattle.thp_journal_reader.specs.declared.line.Line.{Line}
-use Rattle.thp_journal_reader.specs.declared.line.Line.TheVariants.{Happened}
-use Rattle.thp_journal_reader.specs.declared.place.Place.{Place}
-use Rattle.thp_journal_reader.specs.declared.place.Place.TheVariants.{Start, Inside}
-use Rattle.thp_journal_reader.specs.declared.version.Version.{Version}
-use Rattle.thp_journal_reader.specs.FastParsing.{FastEvent}
-use Rattle.thp_journal_reader.specs.JournalLines.{line_in, place_after}
-use Rattle.thp_journal_reader.specs.Journals.{journals_with, journals_within, lines_from, nodes_of}
-use Rattle.thp_journal_reader.specs.Parts.{journals_in, lines_tell, told_with, with_lines}
-use Rattle.thp_journal_reader.specs.Reading.{fault_at, with_line}
+use Rattle.thp_journal_reader.specs.Prelude.{NodeJournal, Line, Happened, Place, Start, Inside, Version, FastEvent, line_in, place_after, journals_with, journals_within, lines_from, nodes_of, journals_in, lines_tell, told_with, with_lines, fault_at, with_line}
 use Rattle.thp_journal_reader.proofs.JournalLaws.{behind, ends_none, ends_some, line_ends, line_fails, line_says}
 use Rattle.thp_journal_reader.proofs.NodeLaws.{nodes_of-push}
 

@@ -1,24 +1,16 @@
 -- Words that read as something are plain: each has a character, and all are printable.
-use Rattle.std.proofs.Common.{◌≡◌, ◌==◌, ◌+◌, ◌<◌, ◌≤◌, ℕ, Bool, true, false, cond, List, [], ◌∷◌, length, Option, Some, None, Result, Ok, arith, ap, subst, refl, sym, inl, inr, codes}
-use Rattle.std.specs.Prelude.{All, nat_le, ok_or}
+use Rattle.std.proofs.Common.{◌≡◌, ◌==◌, ◌+◌, ◌<◌, ◌≤◌, ℕ, Bool, true, false, cond, List, [], ◌∷◌, length, Option, Some, None, Result, Ok, arith, ap, subst, refl, sym, inl, inr, codes, All, nat_le, ok_or, bytes_eq}
 use Rattle.std.specs.Char.{is_ascii_lowercase}
 use Rattle.std.specs.List.{list_all, onto_first}
-use Rattle.std.specs.Str.{bytes_eq}
 use Rattle.std.proofs.lemmas.Bool.{and_from, and_parts, eqb-true, le-leb, leb-true, ne_eqb}
 use Rattle.std.proofs.lemmas.List.Elements.{All-cons, All-head, All-nil, All-tail}
 use Rattle.thp_model.specs.declared.events.Outcome.{Outcome}
 use Rattle.thp_script.specs.declared.fault.TextKind.{TextKind}
 use Rattle.thp_script.specs.declared.fault.TextKind.TheVariants.{BadNumber, BadSet}
-use Rattle.thp_script.specs.Commands.{number_up_to}
-use Rattle.thp_script.specs.Lines.{is_empty, is_printable}
-use Rattle.thp_script.specs.Words.{Text, number_of, pieces_at}
+use Rattle.thp_script.specs.Prelude.{number_up_to, is_empty, is_printable, Text, number_of, pieces_at}
 use Rattle.thp_script.proofs.LineLaws.{IsPlain, bind_ok, number_read, ok_value, read, word_cases}
 use Rattle.thp_script.proofs.PieceLaws.{has_first, HasFirst}
-use Rattle.thp_journal_reader.specs.declared.event_word.EventWord.{EventWord}
-use Rattle.thp_journal_reader.specs.declared.version.Version.{Version}
-use Rattle.thp_journal_reader.specs.declared.version.Version.TheVariants.{Plain, Orders, Underused}
-use Rattle.thp_journal_reader.specs.EventWords.{common_word, event_word, later_word, outcome_of}
-use Rattle.thp_journal_reader.specs.SetTexts.{Run, run_from, run_of, run_of_numbers, runs_of, set_of_runs, set_of_text, subpage_number}
+use Rattle.thp_journal_reader.specs.Prelude.{EventWord, Version, Plain, Orders, Underused, common_word, event_word, later_word, outcome_of, Run, run_from, run_of, run_of_numbers, runs_of, set_of_runs, set_of_text, subpage_number}
 
 -- ---- words that are looked up
 

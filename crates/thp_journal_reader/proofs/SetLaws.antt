@@ -1,20 +1,16 @@
 -- Sets read run by run: what was read, with what the rest says, is what the whole text says.
-use Rattle.std.proofs.Common.{◌≡◌, ℕ, ◌+◌, ◌-◌, ◌≤◌, Bool, true, false, ◌||◌, ◌&&◌, nat_eq, nat_lt, List, [], ◌∷◌, ◌++◌, length, set, Option, Some, None, Result, Ok, Err, refl, sym, ap, ◌∙◌, append_assoc, arith, inl, inr}
-use Rattle.std.specs.Prelude.{nat_le, is_some}
+use Rattle.std.proofs.Common.{◌≡◌, ℕ, ◌+◌, ◌-◌, ◌≤◌, Bool, true, false, ◌||◌, ◌&&◌, nat_eq, nat_lt, List, [], ◌∷◌, ◌++◌, length, set, Option, Some, None, Result, Ok, Err, refl, sym, ap, ◌∙◌, append_assoc, arith, inl, inr, nat_le, is_some, append-nil}
 use Rattle.std.specs.List.{list_any}
 use Rattle.std.proofs.Math.Bool.{or_comm}
 use Rattle.std.proofs.lemmas.Bool.{cases_lt, eq-eqb, ne_eqb, le-leb, lt-leb, le-ltb, lt-ltb}
-use Rattle.std.proofs.lemmas.List.{append-nil}
 use Rattle.std.proofs.lemmas.List.Folds.{list_any-append}
-use Rattle.thp_model.specs.Sets.{covers, has, set_of}
-use Rattle.thp_model.specs.Words.{get_or-set_of, length-set_of}
+use Rattle.thp_model.specs.Prelude.{covers, has, set_of, get_or-set_of, length-set_of}
 use Rattle.thp_model.proofs.WordLemmas.{set_of-ext, set_set_of}
 use Rattle.thp_script.specs.declared.fault.TextKind.{TextKind}
 use Rattle.thp_script.specs.declared.fault.TextKind.TheVariants.{BadSet}
-use Rattle.thp_script.specs.Readings.{◌>>=◌}
-use Rattle.thp_script.specs.Words.{Text, pieces_at, pieces_left}
+use Rattle.thp_script.specs.Prelude.{◌>>=◌, Text, pieces_at, pieces_left}
 use Rattle.thp_script.proofs.PieceLaws.{has_first}
-use Rattle.thp_journal_reader.specs.SetTexts.{Run, covers_number, run_from, run_of, runs_of, set_of_runs, set_with}
+use Rattle.thp_journal_reader.specs.Prelude.{Run, covers_number, run_from, run_of, runs_of, set_of_runs, set_with}
 
 -- ---- sets with one more run
 

@@ -1,10 +1,8 @@
 -- The results of the check of a journal text.
 use Rattle.std.specs.Prelude.{◌≡◌, ◌<◌, ◌+◌, ◌⊎◌, ⊤, ℕ, List, length, slice_get, take, Option, Some, None, Result, Err}
-use Rattle.thp_model.specs.BlockLaws.{SameButBlocks}
-use Rattle.thp_model.specs.History.{History}
-use Rattle.thp_model.specs.Legal.{IsLegal, IsFirstMisfit}
-use Rattle.thp_check.specs.Reasons.{Explains}
-use Rattle.thp_script.specs.Scripts.{Fault}
+use Rattle.thp_model.specs.Prelude.{SameButBlocks, History, IsLegal, IsFirstMisfit}
+use Rattle.thp_check.specs.Prelude.{Explains}
+use Rattle.thp_script.specs.Prelude.{Fault}
 use Rattle.thp_journal_reader.specs.declared.illegal.Illegal.{Illegal}
 use Rattle.thp_journal_reader.specs.declared.illegal.LongReadFault.{LongReadFault}
 use Rattle.thp_journal_reader.specs.declared.illegal.LongReadFault.TheVariants.{Text, OutOfMemory}

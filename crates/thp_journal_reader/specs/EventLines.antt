@@ -3,13 +3,10 @@ use Rattle.std.specs.Prelude.{ℕ, ◌-◌, List, [], ◌∷◌, Result, Ok, Err
 use Rattle.thp_model.specs.declared.events.Event.{Event}
 use Rattle.thp_model.specs.declared.events.Outcome.{Outcome}
 use Rattle.thp_model.specs.declared.events.What.TheVariants as what
-use Rattle.thp_model.specs.History.{by}
-use Rattle.thp_model.specs.Limits.{max_callers}
+use Rattle.thp_model.specs.Prelude.{by, max_callers}
 use Rattle.thp_script.specs.declared.fault.TextKind.{TextKind}
 use Rattle.thp_script.specs.declared.fault.TextKind.TheVariants.{BadWord, BadCount}
-use Rattle.thp_script.specs.Commands.{number_up_to, one_word, two_words}
-use Rattle.thp_script.specs.Readings.{◌>>=◌}
-use Rattle.thp_script.specs.Words.{Text}
+use Rattle.thp_script.specs.Prelude.{number_up_to, one_word, two_words, ◌>>=◌, Text}
 use Rattle.thp_journal_reader.specs.declared.event_word.EventWord.{EventWord}
 use Rattle.thp_journal_reader.specs.declared.event_word.EventWord.TheVariants.{OfPage, OfRange, OfLoss, UnmapSub, Split, Close}
 use Rattle.thp_journal_reader.specs.declared.event_word.LossWord.{LossWord}

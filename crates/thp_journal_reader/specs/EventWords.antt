@@ -1,13 +1,12 @@
 -- The words of events (this project's journal format).
-use Rattle.std.specs.Prelude.{ℕ, Bool, List, Result, Ok, Err, codes, if◌then◌else◌}
-use Rattle.std.specs.Str.{bytes_eq}
+use Rattle.std.specs.Prelude.{ℕ, Bool, List, Result, Ok, Err, codes, if◌then◌else◌, bytes_eq}
 use Rattle.thp_model.specs.declared.events.Outcome.{Outcome}
 use Rattle.thp_model.specs.declared.events.Outcome.TheVariants.{Stays, Queued, Freed}
 use Rattle.thp_model.specs.declared.events.What.{What}
 use Rattle.thp_model.specs.declared.events.What.TheVariants as what
 use Rattle.thp_script.specs.declared.fault.TextKind.{TextKind}
 use Rattle.thp_script.specs.declared.fault.TextKind.TheVariants.{BadWord}
-use Rattle.thp_script.specs.Words.{Text}
+use Rattle.thp_script.specs.Prelude.{Text}
 use Rattle.thp_journal_reader.specs.declared.event_word.EventWord.{EventWord}
 use Rattle.thp_journal_reader.specs.declared.event_word.EventWord.TheVariants.{OfPage, OfRange, OfLoss, UnmapSub, Split, Close}
 use Rattle.thp_journal_reader.specs.declared.event_word.LossWord.{LossWord}

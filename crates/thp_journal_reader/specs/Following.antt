@@ -2,10 +2,9 @@
 use Rattle.std.specs.Prelude.{◌≡◌, ◌≤◌, ◌+◌, ◌⊎◌, ⊤, ℕ, Bool, true, All, List, [], ◌∷◌, ◌++◌, length, not, ◌&&◌, Option, Some, None, IfSome, is_some}
 use Rattle.std.specs.List.{fold, AllZip}
 use Rattle.thp_model.specs.declared.shape.Shape.{Shape}
-use Rattle.thp_model.specs.History.{History}
-use Rattle.thp_model.specs.Legal.{IsFirstMisfit}
-use Rattle.thp_check.specs.Replays.{Replayed}
-use Rattle.thp_script.specs.Limits.{max_counted}
+use Rattle.thp_model.specs.Prelude.{History, IsFirstMisfit}
+use Rattle.thp_check.specs.Prelude.{Replayed}
+use Rattle.thp_script.specs.Prelude.{max_counted}
 use Rattle.thp_journal_reader.specs.declared.follower.FollowedNodes.{FollowedNodes}
 use Rattle.thp_journal_reader.specs.declared.follower.Follower.{Follower}
 use Rattle.thp_journal_reader.specs.declared.illegal.Illegal.{Illegal}

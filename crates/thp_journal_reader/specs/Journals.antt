@@ -1,16 +1,10 @@
 -- Journals as text: the events of each node, or the first error (this project's journal format).
 use Rattle.std.specs.Prelude.{◌≤◌, ◌+◌, ℕ, nat_lt, All, List, [], ◌∷◌, length, Option, Some, None, Result, Ok, Err, if◌then◌else◌}
 use Rattle.thp_model.specs.declared.shape.Shape.{Shape}
-use Rattle.thp_model.specs.BlockLaws.{with_least_blocks}
-use Rattle.thp_model.specs.History.{History}
-use Rattle.thp_model.specs.Shapes.{IsShape}
+use Rattle.thp_model.specs.Prelude.{with_least_blocks, History, IsShape}
 use Rattle.thp_script.specs.declared.fault.TextKind.{TextKind}
 use Rattle.thp_script.specs.declared.fault.TextKind.TheVariants.{TooLong, Cut}
-use Rattle.thp_script.specs.Limits.{max_input}
-use Rattle.thp_script.specs.Lines.{fault_after}
-use Rattle.thp_script.specs.Readings.{◌>>=◌}
-use Rattle.thp_script.specs.Scripts.{Fault, on_line}
-use Rattle.thp_script.specs.Words.{Text, lines_of}
+use Rattle.thp_script.specs.Prelude.{max_input, fault_after, ◌>>=◌, Fault, on_line, Text, lines_of}
 use Rattle.thp_journal_reader.specs.declared.journals.Journals.{Journals}
 use Rattle.thp_journal_reader.specs.declared.journals.NodeJournal.{NodeJournal}
 use Rattle.thp_journal_reader.specs.declared.line.Line.{Line}

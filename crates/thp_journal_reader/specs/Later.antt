@@ -2,8 +2,8 @@
 use Rattle.std.specs.Prelude.{◌+◌, ℕ, Bool, List, Option, All}
 use Rattle.std.proofs.Math.Nat.{le_trans, le-add_right}
 use Rattle.thp_model.specs.declared.shape.Shape.{Shape}
-use Rattle.thp_model.specs.History.{History}
-use Rattle.thp_check.specs.Replays.{Replayed}
+use Rattle.thp_model.specs.Prelude.{History}
+use Rattle.thp_check.specs.Prelude.{Replayed}
 use Rattle.thp_journal_reader.specs.declared.follower.FollowedNodes.{FollowedNodes}
 use Rattle.thp_journal_reader.specs.declared.illegal.Illegal.{Illegal}
 use Rattle.thp_journal_reader.specs.declared.journals.NodeJournal.{NodeJournal}

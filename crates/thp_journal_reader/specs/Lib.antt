@@ -12,3 +12,4 @@ pub mod FastParsing
 pub mod Following
 pub mod Keeping
 pub mod Later
+pub mod Prelude

@@ -1,9 +1,6 @@
 -- Journals whose text arrives in parts (this project's journal format).
 use Rattle.std.specs.Prelude.{ℕ, ◌+◌, List, [], ◌∷◌, ◌++◌, Result, Ok}
-use Rattle.thp_script.specs.Readings.{◌>>=◌}
-use Rattle.thp_script.specs.Scripts.{Fault}
-use Rattle.thp_script.specs.TextInParts.{told_after, TextSoFar}
-use Rattle.thp_script.specs.Words.{Text, lines_of}
+use Rattle.thp_script.specs.Prelude.{◌>>=◌, Fault, told_after, TextSoFar, Text, lines_of}
 use Rattle.thp_journal_reader.specs.declared.journals.Journals.{Journals}
 use Rattle.thp_journal_reader.specs.declared.journals.NodeJournal.{NodeJournal}
 use Rattle.thp_journal_reader.specs.declared.line.Line.{Line}

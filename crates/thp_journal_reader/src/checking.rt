@@ -3,9 +3,7 @@ ghost use Rattle.std.specs.Prelude.{◌≡◌, ◌≤◌, ◌<◌, ◌+◌, All,
 ghost use Rattle.thp_journal_reader.specs.declared.journals.Journals.{Journals};
 ghost use Rattle.thp_journal_reader.specs.Answers.{CanBeLegal, ReportsIllegal, ReportsNode};
 ghost use Rattle.thp_journal_reader.specs.Journals.{journals_of, AreJournals, IsNodeJournal};
-ghost use Rattle.thp_script.specs.Limits.{max_input};
-ghost use Rattle.thp_script.specs.Scripts.{ReportsFault};
-ghost use Rattle.thp_script.specs.Words.{Text};
+ghost use Rattle.thp_script.specs.Prelude.{max_input, ReportsFault, Text};
 
 use crate::journal_check::JournalCheck;
 use crate::journals::{Journals, NodeJournal};

@@ -1,6 +1,6 @@
 //! Parses events from the words of a line.
 ghost use Rattle.std.specs.Prelude.{◌≡◌, ◌≤◌, Ok, Err, IfOk, MatchResult};
-ghost use Rattle.thp_script.specs.Commands.{number_up_to};
+ghost use Rattle.thp_script.specs.Prelude.{number_up_to};
 ghost use Rattle.thp_journal_reader.specs.EventLines.{caller_number, close_event, event_by, event_of, loss_event, outcome_and_word, page_event, page_number, range_event, range_number, split_event, unmap_event};
 
 use crate::event_word::{EventWord, LossWord, PageWord, RangeWord, event_word, outcome_of};

@@ -1,6 +1,6 @@
 //! Parses one event from the bytes of its line.
 ghost use Rattle.std.specs.Prelude.{◌≡◌};
-ghost use Rattle.thp_model.specs.BlockLaws.{event_with};
+ghost use Rattle.thp_model.specs.Prelude.{event_with};
 ghost use Rattle.thp_journal_reader.specs.JournalLines.{event_told};
 
 use crate::line::{Line, line_of};

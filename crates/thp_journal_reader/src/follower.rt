@@ -1,16 +1,15 @@
 //! Follows the nodes of a journal as its lines are read: replays their events without storing them, and keeps data of each node.
 ghost use Rattle.std.specs.Prelude.{◌≡◌, ◌≤◌, ◌∷◌, ◌++◌, ℕ, [], List, None, IfOk, OnOk};
-ghost use Rattle.thp_check.specs.Replays.{Replayed};
+ghost use Rattle.thp_check.specs.Prelude.{Replayed};
 ghost use Rattle.thp_journal_reader.specs.Following.{first_of, has_stopped, illegal_so_far, nodes_told, Follows, FollowsLines, FollowsWith, HasEnded, HasRoom, HasRoomIn, KnowsNodes, StopsWith};
 ghost use Rattle.thp_journal_reader.specs.Later.{follows_later};
 ghost use Rattle.thp_journal_reader.specs.LineRanges.{IsInRange};
 ghost use Rattle.thp_journal_reader.specs.Reading.{began, on_last, with_event, with_line};
 ghost use Rattle.thp_journal_reader.specs.declared.journals.NodeJournal.{NodeJournal};
-ghost use Rattle.thp_model.specs.BlockLaws.{event_with, least_free};
-ghost use Rattle.thp_model.specs.Shapes.{IsShape};
+ghost use Rattle.thp_model.specs.Prelude.{event_with, least_free, IsShape};
 ghost use Rattle.thp_model.specs.declared.events.Event.{Event};
 ghost use Rattle.thp_model.specs.declared.events.What.TheVariants.{Alloc};
-ghost use Rattle.thp_script.specs.Limits.{max_counted};
+ghost use Rattle.thp_script.specs.Prelude.{max_counted};
 
 use crate::follows_node::{FollowsNode, Stopped};
 use crate::illegal::Illegal;

@@ -1,13 +1,9 @@
 //! What follows a node while its events are legal, and what is kept of the node.
 ghost use Rattle.std.specs.Prelude.{◌≡◌, ◌<◌, ◌+◌, ◌^◌, [], Bool, true, false, Option, None, Some, length, IfOk, IfErr};
-ghost use Rattle.thp_check.specs.Reasons.{Explains};
-ghost use Rattle.thp_check.specs.Replays.{with_event, Replayed};
+ghost use Rattle.thp_check.specs.Prelude.{Explains, with_event, Replayed};
 ghost use Rattle.thp_journal_reader.specs.Keeping.{KeepsNothing, LeavesNothing};
 ghost use Rattle.thp_journal_reader.specs.declared.illegal.Illegal.{Illegal};
-ghost use Rattle.thp_model.specs.BlockLaws.{least_free};
-ghost use Rattle.thp_model.specs.History.{History};
-ghost use Rattle.thp_model.specs.Legal.{Fits};
-ghost use Rattle.thp_model.specs.Shapes.{IsShape};
+ghost use Rattle.thp_model.specs.Prelude.{least_free, History, Fits, IsShape};
 ghost use Rattle.thp_model.specs.declared.shape.Shape.{Shape};
 
 use crate::illegal::Illegal;

@@ -4,8 +4,7 @@ ghost use Rattle.thp_journal_reader.specs.declared.journals.Journals.{Journals};
 ghost use Rattle.thp_journal_reader.specs.Answers.{ReportsIllegal};
 ghost use Rattle.thp_journal_reader.specs.Journals.{journals_of};
 ghost use Rattle.thp_journal_reader.specs.Parts.{told_with};
-ghost use Rattle.thp_script.specs.Scripts.{ReportsFault};
-ghost use Rattle.thp_script.specs.Words.{Text};
+ghost use Rattle.thp_script.specs.Prelude.{ReportsFault, Text};
 ghost use Rattle.thp_script.specs.declared.fault.ReadFault.TheVariants.{OutOfMemory};
 
 use crate::long_check::LongCheck;
@@ -25,7 +24,7 @@ pub struct JournalCheck {
 impl Model for JournalCheck {
     ghost use Rattle.std.specs.Prelude.{◌≡◌};
     ghost use Rattle.thp_journal_reader.specs.Parts.{ReadSoFar};
-    ghost use Rattle.thp_script.specs.Limits.{max_input};
+    ghost use Rattle.thp_script.specs.Prelude.{max_input};
 
     ghost Value = { ReadSoFar };
 

@@ -2,8 +2,7 @@
 ghost use Rattle.std.specs.Prelude.{◌≡◌, ◌++◌, Ok, [], IfOk, IfErr};
 ghost use Rattle.thp_journal_reader.specs.Journals.{journals_of, AreJournals};
 ghost use Rattle.thp_journal_reader.specs.Parts.{told_with};
-ghost use Rattle.thp_script.specs.Scripts.{ReportsFault};
-ghost use Rattle.thp_script.specs.Words.{Text};
+ghost use Rattle.thp_script.specs.Prelude.{ReportsFault, Text};
 ghost use Rattle.thp_script.specs.declared.fault.ReadFault.TheVariants.{OutOfMemory};
 
 use crate::journals::Journals;
@@ -25,7 +24,7 @@ impl Model for JournalReader {
     ghost use Rattle.std.specs.Prelude.{◌≡◌};
     ghost use Rattle.thp_journal_reader.specs.Parts.{so_far, ReadSoFar};
     ghost use Rattle.thp_journal_reader.specs.Reading.{nodes_in, IsReading};
-    ghost use Rattle.thp_script.specs.Limits.{max_input};
+    ghost use Rattle.thp_script.specs.Prelude.{max_input};
 
     ghost Value = { ReadSoFar };
 

@@ -1,6 +1,6 @@
 //! Parses lines of a journal.
 ghost use Rattle.std.specs.Prelude.{◌≡◌, ◌≤◌, ◌<◌, ◌^◌, Ok, Err, IfOk, IfSome, MatchResult};
-ghost use Rattle.thp_model.specs.Limits.{max_order, min_order};
+ghost use Rattle.thp_model.specs.Prelude.{max_order, min_order};
 ghost use Rattle.thp_journal_reader.specs.JournalLines.{before, by_words, end_of, event_line, head_of, line_by, line_of, node_of, node_with, number_between, ordered_node, plain_node, threshold_of, underused_node, version_of};
 ghost use Rattle.thp_journal_reader.specs.LineRanges.{IsInRange};
 

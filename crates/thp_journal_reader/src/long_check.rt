@@ -4,9 +4,7 @@ ghost use Rattle.thp_journal_reader.specs.Answers.{ReportsFirst};
 ghost use Rattle.thp_journal_reader.specs.Journals.{journals_within};
 ghost use Rattle.thp_journal_reader.specs.Parts.{told_with};
 ghost use Rattle.thp_journal_reader.specs.declared.journals.Journals.{Journals};
-ghost use Rattle.thp_script.specs.Limits.{max_counted};
-ghost use Rattle.thp_script.specs.TextInParts.{nothing_of};
-ghost use Rattle.thp_script.specs.Words.{Text};
+ghost use Rattle.thp_script.specs.Prelude.{max_counted, nothing_of, Text};
 
 use crate::follower::FollowedNodes;
 use crate::illegal::{Illegal, TextFault};
@@ -31,7 +29,7 @@ impl Model for LongCheck {
     ghost use Rattle.thp_journal_reader.specs.Following.{nodes_told, FollowsLines};
     ghost use Rattle.thp_journal_reader.specs.Keeping.{KeepsNothing};
     ghost use Rattle.thp_journal_reader.specs.Parts.{so_far, ReadSoFar};
-    ghost use Rattle.thp_script.specs.Limits.{max_counted};
+    ghost use Rattle.thp_script.specs.Prelude.{max_counted};
 
     ghost Value = { ReadSoFar };
 

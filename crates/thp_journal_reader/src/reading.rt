@@ -1,10 +1,10 @@
 //! Collects the nodes of a journal as its lines are read.
 ghost use Rattle.std.specs.Prelude.{◌≡◌, ◌≤◌, ◌+◌, ◌++◌, ◌∷◌, [], IfOk, IfErr, OnOk, IfSome};
-ghost use Rattle.thp_model.specs.History.{by};
+ghost use Rattle.thp_model.specs.Prelude.{by};
 ghost use Rattle.thp_journal_reader.specs.Later.{reads_later};
 ghost use Rattle.thp_journal_reader.specs.LineRanges.{IsInRange};
 ghost use Rattle.thp_journal_reader.specs.Reading.{began, journal_so_far, nodes_in, with_event, with_line, on_last, GoesAlong, IsReading};
-ghost use Rattle.thp_script.specs.Limits.{max_input};
+ghost use Rattle.thp_script.specs.Prelude.{max_input};
 ghost use Rattle.thp_script.specs.declared.fault.ReadFault.TheVariants.{OutOfMemory};
 
 use crate::journals::{Journals, NodeJournal};

@@ -3,9 +3,7 @@ ghost use Rattle.std.specs.Prelude.{◌≡◌, ◌≤◌, ◌+◌, ◌++◌, Ok,
 ghost use Rattle.thp_journal_reader.specs.Parts.{journals_in, lines_tell, so_far, told_with};
 ghost use Rattle.thp_journal_reader.specs.Reading.{fault_at};
 ghost use Rattle.thp_journal_reader.specs.declared.place.Place.TheVariants.{Start};
-ghost use Rattle.thp_script.specs.Lines.{fault_after};
-ghost use Rattle.thp_script.specs.TextInParts.{told_after, IsCounted};
-ghost use Rattle.thp_script.specs.Words.{Text};
+ghost use Rattle.thp_script.specs.Prelude.{fault_after, told_after, IsCounted, Text};
 
 use crate::keeps_nodes::KeepsNodes;
 use crate::line::Line;

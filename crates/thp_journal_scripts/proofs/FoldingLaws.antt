@@ -1,26 +1,13 @@
 -- What each step of a script adds.
-use Rattle.std.proofs.Common.{◌≡◌, ◌∙◌, ◌+◌, ℕ, List, [], ◌∷◌, ◌++◌, append_assoc, ap, refl, subst, sym}
-use Rattle.std.specs.Prelude.{All}
-use Rattle.std.proofs.lemmas.List.{append-nil}
+use Rattle.std.proofs.Common.{◌≡◌, ◌∙◌, ◌+◌, ℕ, List, [], ◌∷◌, ◌++◌, append_assoc, ap, refl, subst, sym, All, append-nil}
 use Rattle.std.proofs.lemmas.List.Elements.{All-append, All-cons, All-nil}
 use Rattle.thp_model.specs.declared.events.Event.{Event}
 use Rattle.thp_model.specs.declared.events.What.{What}
 use Rattle.thp_model.specs.declared.events.What.TheVariants as what
-use Rattle.thp_model.specs.BlockLaws.{with_block}
-use Rattle.thp_model.specs.History.{History}
+use Rattle.thp_model.specs.Prelude.{with_block, History}
 use Rattle.thp_script.specs.declared.script.Op.{Op}
 use Rattle.thp_script.specs.declared.script.Op.TheVariants as op
-use Rattle.thp_journal_scripts.specs.declared.event_kind.EventKind.{EventKind}
-use Rattle.thp_journal_scripts.specs.declared.event_kind.EventKind.TheVariants.{Call, Take, Try, Put}
-use Rattle.thp_journal_scripts.specs.declared.folding.Folding.{Folding}
-use Rattle.thp_journal_scripts.specs.declared.script_batch.ScriptBatch.{ScriptBatch}
-use Rattle.thp_journal_scripts.specs.declared.script_batch.ScriptBatch.TheVariants.{Idle, Taking, Open, Closing}
-use Rattle.thp_journal_scripts.specs.ScriptBatches.{pending_ops, settled, Completes, PutsMore, TakesMore, TriesMore}
-use Rattle.thp_journal_scripts.specs.Folds.{nothing_moved, AddsCommands, AddsEvent, AddsPlain, AddsTo, Ends, HasAdded, IsAtPlace, IsFoldedTo}
-use Rattle.thp_journal_scripts.specs.declared.moved.Moved.{Moved}
-use Rattle.thp_journal_scripts.specs.Repeating.{call_in, kind_of, IsBy}
-use Rattle.thp_journal_scripts.specs.Moving.{counted}
-use Rattle.thp_journal_scripts.specs.WholeScans.{scan_place, scan_place_after, Between, Elsewhere, InPuts, InTakes, InTries, IsCallOrScan, ScanPlace}
+use Rattle.thp_journal_scripts.specs.Prelude.{EventKind, Call, Take, Try, Put, Folding, ScriptBatch, Idle, Taking, Open, Closing, pending_ops, settled, Completes, PutsMore, TakesMore, TriesMore, nothing_moved, AddsCommands, AddsEvent, AddsPlain, AddsTo, Ends, HasAdded, IsAtPlace, IsFoldedTo, Moved, call_in, kind_of, IsBy, counted, scan_place, scan_place_after, Between, Elsewhere, InPuts, InTakes, InTries, IsCallOrScan, ScanPlace}
 use Rattle.thp_journal_scripts.proofs.WholeScanLaws.{place_more, scans_more, stays_elsewhere}
 use Rattle.thp_journal_scripts.proofs.ScriptBatchLaws.{completes, first_take, is_script, one_more_call, one_more_put, one_more_take, one_more_try, open_put, open_try, puts_nothing, scans, settles, waits}
 

@@ -1,23 +1,17 @@
 -- The script of a journal, as one more line is read.
-use Rattle.std.proofs.Common.{◌≡◌, ◌∙◌, ◌++◌, ◌+◌, ℕ, List, [], ◌∷◌, Option, Some, None, append_assoc, ap, ap₂, arith, inl, inr, length, map, refl, subst, sym, take}
-use Rattle.std.specs.Prelude.{is_some, slice_get, true, false, OnOk, Result, Ok, Err}
+use Rattle.std.proofs.Common.{◌≡◌, ◌∙◌, ◌++◌, ◌+◌, ℕ, List, [], ◌∷◌, Option, Some, None, append_assoc, ap, ap₂, arith, inl, inr, length, map, refl, subst, sym, take, is_some, slice_get, true, false, OnOk, Result, Ok, Err}
 use Rattle.std.proofs.lemmas.List.{map-append, take-append-le, take_at}
 use Rattle.std.proofs.lemmas.Option.{slice_get_within}
 use Rattle.thp_model.specs.declared.events.Event.{Event}
 use Rattle.thp_model.specs.declared.shape.Shape.{Shape}
-use Rattle.thp_model.specs.BlockLaws.{event_with, least_free}
-use Rattle.thp_model.specs.History.{History}
-use Rattle.thp_model.specs.Legal.{Fits, IsFirstMisfit}
+use Rattle.thp_model.specs.Prelude.{event_with, least_free, History, Fits, IsFirstMisfit}
 use Rattle.thp_model.proofs.ListPlaces.{get_middle, get_push}
 use Rattle.thp_journal_reader.specs.declared.illegal.Illegal.{Illegal}
-use Rattle.thp_journal_scripts.specs.declared.journal_script.JournalScript.{JournalScript}
+use Rattle.thp_journal_scripts.specs.Prelude.{JournalScript, ended_nodes, repeated_of, told_of, AddsLine, IsLegalPart, IsScripting, IsScriptOf, moved_by, nodes_of, out_of_turn_by, taken_of, untaken, BeginsNode, EndedNode, EndsAs, EndsNode, GoesOnWith, IsWriting, NodeScript}
 use Rattle.thp_journal_reader.specs.declared.journals.NodeJournal.{NodeJournal}
 use Rattle.thp_journal_reader.specs.declared.line.Line.{Line}
 use Rattle.thp_journal_reader.specs.declared.line.Line.TheVariants.{Head, Node, Happened, End}
-use Rattle.thp_journal_reader.specs.Answers.{IsFirstIllegalEvent, IsLegalNode, ReportsFirst}
-use Rattle.thp_journal_scripts.specs.JournalScripts.{ended_nodes, repeated_of, told_of, AddsLine, IsLegalPart, IsScripting, IsScriptOf}
-use Rattle.thp_journal_scripts.specs.NodeScripts.{moved_by, nodes_of, out_of_turn_by, taken_of, untaken, BeginsNode, EndedNode, EndsAs, EndsNode, GoesOnWith, IsWriting, NodeScript}
-use Rattle.thp_journal_reader.specs.Reading.{began, on_last, with_event, with_line}
+use Rattle.thp_journal_reader.specs.Prelude.{IsFirstIllegalEvent, IsLegalNode, ReportsFirst, began, on_last, with_event, with_line}
 use Rattle.thp_journal_reader.proofs.AnswerLaws.{misfit_inside, misfit_is_illegal}
 use Rattle.thp_journal_reader.proofs.CheckLaws.{first_begins, first_none, front_stays, misfit_stays, stands, before_legal}
 use Rattle.thp_journal_reader.proofs.NodeLaws.{on_last-push}

@@ -1,23 +1,14 @@
 -- The script of several nodes, as it is written.
-use Rattle.std.proofs.Common.{◌≡◌, ◌∙◌, ◌++◌, ◌+◌, ◌-◌, ◌^◌, ◌<◌, ℕ, List, [], ◌∷◌, Option, Some, None, append_assoc, ap, ap₂, arith, get_or, length, length-append, map, min, refl, subst, sym, take}
-use Rattle.std.specs.Prelude.{if◌then◌else◌}
+use Rattle.std.proofs.Common.{◌≡◌, ◌∙◌, ◌++◌, ◌+◌, ◌-◌, ◌^◌, ◌<◌, ℕ, List, [], ◌∷◌, Option, Some, None, append_assoc, ap, ap₂, arith, get_or, length, length-append, map, min, refl, subst, sym, take, if◌then◌else◌}
 use Rattle.std.proofs.lemmas.Grind.{flat_map-append}
 use Rattle.std.proofs.lemmas.List.{append-nil, map-append, take_more}
 use Rattle.std.proofs.lemmas.List.Elements.{All-append, All-cons, All-nil}
 use Rattle.std.proofs.lemmas.List.Sums.{fold_push, sum_by_push}
 use Rattle.thp_model.specs.declared.events.Event.{Event}
 use Rattle.thp_model.specs.declared.shape.Shape.{Shape}
-use Rattle.thp_model.specs.History.{History}
+use Rattle.thp_model.specs.Prelude.{History}
 use Rattle.thp_script.specs.declared.script.Op.{Op}
-use Rattle.thp_journal_scripts.specs.declared.folding.Folding.{Folding}
-use Rattle.thp_journal_scripts.specs.declared.journal_script.JournalScript.{JournalScript}
-use Rattle.thp_journal_scripts.specs.declared.moved.Moved.{Moved}
-use Rattle.thp_journal_scripts.specs.Folds.{nothing_moved, AddsTo, Ends, HasAdded, IsFolded}
-use Rattle.thp_journal_scripts.specs.Moving.{both_moved, counted}
-use Rattle.thp_journal_scripts.specs.NodeScripts.{head_text, node_after, node_text, nodes_text, out_of_turn_by, out_of_turn_in, shape_of, BeginsNode, EndedNode, EndsAs, EndsNode, GoesOnAs, GoesOnWith, IsBegun, IsEnded, IsWriting, NodeScript}
-use Rattle.thp_journal_scripts.specs.ScriptTexts.{command_line, commands_text}
-use Rattle.thp_journal_scripts.specs.Turns.{is_out_of_turn, out_of_turn, turns_after, turns_of, untried_after, TurnsSoFar}
-use Rattle.thp_journal_scripts.specs.declared.turns.UntriedPage.{UntriedPage}
+use Rattle.thp_journal_scripts.specs.Prelude.{Folding, JournalScript, Moved, nothing_moved, AddsTo, Ends, HasAdded, IsFolded, both_moved, counted, head_text, node_after, node_text, nodes_text, out_of_turn_by, out_of_turn_in, shape_of, BeginsNode, EndedNode, EndsAs, EndsNode, GoesOnAs, GoesOnWith, IsBegun, IsEnded, IsWriting, NodeScript, command_line, commands_text, is_out_of_turn, out_of_turn, turns_after, turns_of, untried_after, TurnsSoFar, UntriedPage}
 
 -- ---- texts
 

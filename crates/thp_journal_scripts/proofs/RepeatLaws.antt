@@ -1,17 +1,13 @@
 -- Commands that repeat a history, one part of it after the other, and the calls among them.
-use Rattle.std.proofs.Common.{◌≡◌, ◌∙◌, ℕ, true, false, cond, List, [], ◌∷◌, ◌++◌, length, zero, suc, Option, Some, append_assoc, ap, refl, subst, sym}
-use Rattle.std.specs.Prelude.{All, replicate}
-use Rattle.std.proofs.lemmas.List.{append-nil}
+use Rattle.std.proofs.Common.{◌≡◌, ◌∙◌, ℕ, true, false, cond, List, [], ◌∷◌, ◌++◌, length, zero, suc, Option, Some, append_assoc, ap, refl, subst, sym, All, replicate, append-nil}
 use Rattle.std.proofs.lemmas.List.Elements.{All-cons, All-head, All-nil, All-tail}
 use Rattle.thp_model.specs.declared.events.Event.{Event}
 use Rattle.thp_model.specs.declared.events.What.{What}
 use Rattle.thp_model.specs.declared.events.What.TheVariants as what
-use Rattle.thp_model.specs.History.{History}
+use Rattle.thp_model.specs.Prelude.{History}
 use Rattle.thp_script.specs.declared.script.Op.{Op}
 use Rattle.thp_script.specs.declared.script.Op.TheVariants.{SplitNext}
-use Rattle.thp_journal_scripts.specs.declared.event_kind.EventKind.{EventKind}
-use Rattle.thp_journal_scripts.specs.declared.event_kind.EventKind.TheVariants.{Call, Try}
-use Rattle.thp_journal_scripts.specs.Repeating.{call_in, calls_in, calls_of, is_call, kind_of, IsBy, IsCall, Repeats, RepeatsBy}
+use Rattle.thp_journal_scripts.specs.Prelude.{EventKind, Call, Try, call_in, calls_in, calls_of, is_call, kind_of, IsBy, IsCall, Repeats, RepeatsBy}
 
 -- one more command repeats one more part
 pub repeats_more : (a : Option ℕ) (ops : List Op) (h : History) (b : Option ℕ) (o : Op) (own : History) (c : Option ℕ) → Repeats a ops h b → RepeatsBy b o own c → Repeats a (ops ++ o ∷ []) (h ++ own) c

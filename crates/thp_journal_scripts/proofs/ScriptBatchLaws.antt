@@ -1,22 +1,11 @@
 -- The script so far, event by event.
-use Rattle.std.proofs.Common.{◌≡◌, ◌∙◌, ◌+◌, ℕ, Option, List, [], ◌∷◌, ◌++◌, cond, length, None, Some, append_assoc, ap, arith, length-append, refl, subst, sym}
-use Rattle.std.specs.Prelude.{All, replicate}
-use Rattle.std.proofs.lemmas.List.{append-nil}
+use Rattle.std.proofs.Common.{◌≡◌, ◌∙◌, ◌+◌, ℕ, Option, List, [], ◌∷◌, ◌++◌, cond, length, None, Some, append_assoc, ap, arith, length-append, refl, subst, sym, All, replicate, append-nil}
 use Rattle.std.proofs.lemmas.List.Elements.{All-append, All-cons, All-nil}
 use Rattle.thp_model.specs.declared.events.Event.{Event}
-use Rattle.thp_model.specs.History.{History}
+use Rattle.thp_model.specs.Prelude.{History}
 use Rattle.thp_script.specs.declared.script.Op.{Op}
 use Rattle.thp_script.specs.declared.script.Op.TheVariants as op
-use Rattle.thp_journal_scripts.specs.declared.event_kind.EventKind.{EventKind}
-use Rattle.thp_journal_scripts.specs.declared.event_kind.EventKind.TheVariants.{Call, Take, Try, Put}
-use Rattle.thp_journal_scripts.specs.declared.script_batch.ScriptBatch.{ScriptBatch}
-use Rattle.thp_journal_scripts.specs.declared.script_batch.ScriptBatch.TheVariants.{Idle, Taking, Trying, Scanned, Open, Closing}
-use Rattle.thp_journal_scripts.specs.ScriptBatches.{open_by, pending_ops, settled, Completes, IsPending, PutsMore, RepeatsUpTo, TakesMore, TriesMore}
-use Rattle.thp_journal_scripts.specs.Folds.{nothing_moved, IsFoldedTo, IsScript}
-use Rattle.thp_journal_scripts.specs.declared.moved.Moved.{Moved}
-use Rattle.thp_journal_scripts.specs.WholeScans.{IsCallOrScan, IsWholeScans}
-use Rattle.thp_journal_scripts.specs.Moving.{counted, Interleaves, IsOfBatch, IsScan, neither, first, second}
-use Rattle.thp_journal_scripts.specs.Repeating.{call_in, calls_in, calls_of, kind_of, AreBy, IsBy, IsScanBy, Repeats, RepeatsBy}
+use Rattle.thp_journal_scripts.specs.Prelude.{EventKind, Call, Take, Try, Put, ScriptBatch, Idle, Taking, Trying, Scanned, Open, Closing, open_by, pending_ops, settled, Completes, IsPending, PutsMore, RepeatsUpTo, TakesMore, TriesMore, nothing_moved, IsFoldedTo, IsScript, Moved, IsCallOrScan, IsWholeScans, counted, Interleaves, IsOfBatch, IsScan, neither, first, second, call_in, calls_in, calls_of, kind_of, AreBy, IsBy, IsScanBy, Repeats, RepeatsBy}
 use Rattle.thp_journal_scripts.proofs.RepeatLaws.{calls_in_both, calls_of_more, is_plain, no_calls_in_tries, repeats_more, repeats_tries, IsPlain}
 
 -- ---- events of one kind

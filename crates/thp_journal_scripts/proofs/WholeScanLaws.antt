@@ -8,20 +8,11 @@ use Rattle.thp_model.specs.declared.events.Outcome.{Outcome}
 use Rattle.thp_model.specs.declared.events.Outcome.TheVariants as outcome
 use Rattle.thp_model.specs.declared.events.What.{What}
 use Rattle.thp_model.specs.declared.events.What.TheVariants as what
-use Rattle.thp_model.specs.History.{History}
-use Rattle.thp_model.specs.Limits.{max_batch}
+use Rattle.thp_model.specs.Prelude.{History, max_batch}
 use Rattle.thp_script.specs.declared.script.Op.{Op}
-use Rattle.thp_journal_scripts.specs.declared.event_kind.EventKind.{EventKind}
+use Rattle.thp_journal_scripts.specs.Prelude.{EventKind, Folding, Moved, FlyingPage, ScriptBatch, settled, Completes, EndsPuts, EndsTakes, EndsTries, IsIncomplete, PutsMore, TakesMore, TakesSome, TriesMore, AddsPlain, flying, flying_after, leave, leave_if_freed, nothing_moved, pages_at, IsAt, IsAtPlace, IsInScan, IsQuiet, KeepsFlights, kind_of, once_ended, pages_after, IsCallOrScan, place_of_call, place_of_put, place_of_take, place_of_try, scan_place, scan_place_after, scan_place_of, without_first, ScanPlace, Between, InTakes, InTries, InPuts, Elsewhere}
 use Rattle.thp_journal_scripts.specs.declared.event_kind.EventKind.TheVariants as kind
-use Rattle.thp_journal_scripts.specs.declared.folding.Folding.{Folding}
-use Rattle.thp_journal_scripts.specs.declared.moved.Moved.{Moved}
-use Rattle.thp_journal_scripts.specs.declared.open_flights.FlyingPage.{FlyingPage}
-use Rattle.thp_journal_scripts.specs.declared.script_batch.ScriptBatch.{ScriptBatch}
 use Rattle.thp_journal_scripts.specs.declared.script_batch.ScriptBatch.TheVariants as batch
-use Rattle.thp_journal_scripts.specs.ScriptBatches.{settled, Completes, EndsPuts, EndsTakes, EndsTries, IsIncomplete, PutsMore, TakesMore, TakesSome, TriesMore}
-use Rattle.thp_journal_scripts.specs.Folds.{AddsPlain, flying, flying_after, leave, leave_if_freed, nothing_moved, pages_at, IsAt, IsAtPlace, IsInScan, IsQuiet, KeepsFlights}
-use Rattle.thp_journal_scripts.specs.Repeating.{kind_of}
-use Rattle.thp_journal_scripts.specs.WholeScans.{once_ended, pages_after, IsCallOrScan, place_of_call, place_of_put, place_of_take, place_of_try, scan_place, scan_place_after, scan_place_of, without_first, ScanPlace, Between, InTakes, InTries, InPuts, Elsewhere}
 
 -- an equal script is at the same place
 pub same_at : (s : ScanPlace) (ps : List ℕ) (a b : Folding) → b ≡ a → IsAt s ps a → IsAt s ps b

@@ -1,9 +1,7 @@
 -- The script of a journal: that of its nodes' legal events, up to the first illegal one (this project's profile).
 use Rattle.std.specs.Prelude.{◌≡◌, ℕ, All, List, [], ◌∷◌, ◌++◌, Option, Some, None, length, map, take}
 use Rattle.thp_model.specs.declared.shape.Shape.{Shape}
-use Rattle.thp_model.specs.BlockLaws.{event_with}
-use Rattle.thp_model.specs.History.{History}
-use Rattle.thp_model.specs.Legal.{IsFirstMisfit}
+use Rattle.thp_model.specs.Prelude.{event_with, History, IsFirstMisfit}
 use Rattle.thp_journal_reader.specs.declared.illegal.Illegal.{Illegal}
 use Rattle.thp_journal_scripts.specs.declared.journal_script.JournalScript.{JournalScript}
 use Rattle.thp_journal_reader.specs.declared.journals.NodeJournal.{NodeJournal}
@@ -11,10 +9,9 @@ use Rattle.thp_journal_reader.specs.declared.line.Line.{Line}
 use Rattle.thp_journal_reader.specs.declared.line.Line.TheVariants.{Node, Happened}
 use Rattle.thp_journal_scripts.specs.declared.moved.Moved.{Moved}
 use Rattle.thp_journal_scripts.specs.declared.scripted.Scripted.{Scripted}
-use Rattle.thp_journal_reader.specs.Answers.{AreLegalBefore, ReportsFirst}
+use Rattle.thp_journal_reader.specs.Prelude.{AreLegalBefore, ReportsFirst, ReadSoFar}
 use Rattle.thp_journal_scripts.specs.Moving.{counted}
 use Rattle.thp_journal_scripts.specs.NodeScripts.{moved_in, nodes_of, nodes_text, out_of_turn_in, BeginsNode, EndedNode, GoesOnWith, IsEnded, IsWriting, NodeScript}
-use Rattle.thp_journal_reader.specs.Parts.{ReadSoFar}
 
 -- the nodes up to the first illegal event, the last of them with the events before it
 pub record IsLegalPart (nodes part : List NodeJournal) : Type 0 where

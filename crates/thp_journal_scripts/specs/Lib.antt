@@ -8,3 +8,4 @@ pub mod Folds
 pub mod ScriptTexts
 pub mod NodeScripts
 pub mod JournalScripts
+pub mod Prelude

@@ -1,10 +1,9 @@
 -- Scripts that repeat a history: which events each command repeats (this project's profile).
-use Rattle.std.specs.Prelude.{◌≡◌, ◌++◌, ℕ, Bool, true, false, All, List, [], ◌∷◌, Option, Some, None, length, nat_lt, if◌then◌else◌}
-use Rattle.std.specs.List.{filter, flat_map}
+use Rattle.std.specs.Prelude.{◌≡◌, ◌++◌, ℕ, Bool, true, false, All, List, [], ◌∷◌, Option, Some, None, length, nat_lt, if◌then◌else◌, filter, flat_map}
 use Rattle.thp_model.specs.declared.events.Event.{Event}
 use Rattle.thp_model.specs.declared.events.What.{What}
 use Rattle.thp_model.specs.declared.events.What.TheVariants.{Alloc, MapWhole, UnmapWhole, MapSub, UnmapSub, SplitPmd, Pin, Unpin, Write, Zero, Taken, Split, Pinned, Used, Back, Dropped, Close}
-use Rattle.thp_model.specs.History.{History}
+use Rattle.thp_model.specs.Prelude.{History}
 use Rattle.thp_script.specs.declared.script.Op.{Op}
 use Rattle.thp_script.specs.declared.script.Op.TheVariants as op
 use Rattle.thp_journal_scripts.specs.declared.event_kind.EventKind.{EventKind}

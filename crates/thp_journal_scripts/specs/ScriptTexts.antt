@@ -1,13 +1,10 @@
 -- Scripts as text: a command's line, and the options of `thpsplit` in a comment (this project's script format).
-use Rattle.std.specs.Prelude.{ℕ, List, [], ◌∷◌, ◌++◌, codes, length, max}
-use Rattle.std.specs.List.{flat_map}
-use Rattle.std.specs.Fmt.{decimal}
+use Rattle.std.specs.Prelude.{ℕ, List, [], ◌∷◌, ◌++◌, codes, length, max, flat_map, decimal}
 use Rattle.thp_model.specs.declared.shape.Shape.{Shape}
 use Rattle.thp_script.specs.declared.script.Command.{Command}
 use Rattle.thp_script.specs.declared.script.Op.{Op}
 use Rattle.thp_script.specs.declared.script.Op.TheVariants as op
-use Rattle.thp_journal_writer.specs.EventLines.{line_of}
-use Rattle.thp_journal_writer.specs.Journals.{ended, underused_word}
+use Rattle.thp_journal_writer.specs.Prelude.{line_of, ended, underused_word}
 
 abbrev pub node_words : List ℕ → ℕ → List (List ℕ)
 node_words name n = name ∷ decimal n ∷ []

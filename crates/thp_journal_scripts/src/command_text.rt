@@ -1,7 +1,7 @@
 //! Appends commands to a text, one line each.
 ghost use Rattle.std.specs.Prelude.{◌≡◌, ◌++◌, [], ◌∷◌, OnOk};
 ghost use Rattle.std.specs.Fmt.{decimal};
-ghost use Rattle.thp_journal_writer.specs.EventLines.{line_of};
+ghost use Rattle.thp_journal_writer.specs.Prelude.{line_of};
 ghost use Rattle.thp_journal_scripts.specs.ScriptTexts.{command_line, commands_text, op_words};
 
 use std::alloc::AllocError;

@@ -1,6 +1,6 @@
 //! The commands that repeat the events of a node.
 ghost use Rattle.std.specs.Prelude.{◌≡◌, ◌++◌, ◌+◌, [], ◌∷◌, ℕ, IfOk, OnOk, true};
-ghost use Rattle.thp_model.specs.BlockLaws.{event_with};
+ghost use Rattle.thp_model.specs.Prelude.{event_with};
 ghost use Rattle.thp_model.specs.declared.events.Event.{Event};
 ghost use Rattle.thp_model.specs.declared.events.What.{What};
 ghost use Rattle.thp_model.specs.declared.events.What.TheVariants.{Taken};

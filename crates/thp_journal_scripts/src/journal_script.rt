@@ -1,6 +1,6 @@
 //! The script of the nodes in a journal.
 ghost use Rattle.std.specs.Prelude.{◌≡◌, ◌++◌, ◌-◌, [], ℕ, None, OnOk};
-ghost use Rattle.thp_model.specs.BlockLaws.{event_with};
+ghost use Rattle.thp_model.specs.Prelude.{event_with};
 ghost use Rattle.thp_journal_scripts.specs.NodeScripts.{head_text, moved_by, out_of_turn_by, taken_of, untaken, BeginsNode, EndsNode, GoesOnWith, IsWriting, StaysWritten};
 ghost use Rattle.thp_journal_scripts.specs.ScriptTexts.{commands_text};
 

@@ -1,6 +1,6 @@
 //! Appends the options of `thpsplit` for a script to a text.
 ghost use Rattle.std.specs.Prelude.{◌≡◌, [], ◌∷◌, ◌++◌, OnOk};
-ghost use Rattle.thp_journal_writer.specs.Journals.{underused_word};
+ghost use Rattle.thp_journal_writer.specs.Prelude.{underused_word};
 ghost use Rattle.thp_journal_scripts.specs.ScriptTexts.{blocks_text, count_text, most_blocks, options_line, orders_text, thresholds_text};
 
 use std::alloc::AllocError;

@@ -1,12 +1,9 @@
 //! The check of journals of any length that also writes the script that repeats them.
 ghost use Rattle.std.specs.Prelude.{◌≡◌, ◌++◌, Ok, Err, [], IfOk, IfErr};
 ghost use Rattle.thp_journal_scripts.specs.JournalScripts.{AreScripted};
-ghost use Rattle.thp_journal_reader.specs.Journals.{journals_within};
-ghost use Rattle.thp_journal_reader.specs.Parts.{told_with};
-ghost use Rattle.thp_journal_reader.specs.Answers.{ReportsLongReadFault};
+ghost use Rattle.thp_journal_reader.specs.Prelude.{journals_within, told_with, ReportsLongReadFault};
 ghost use Rattle.thp_journal_reader.specs.declared.journals.Journals.{Journals};
-ghost use Rattle.thp_script.specs.Limits.{max_counted};
-ghost use Rattle.thp_script.specs.Words.{Text};
+ghost use Rattle.thp_script.specs.Prelude.{max_counted, Text};
 
 use crate::scripted::Scripted;
 use crate::scripted_nodes::ScriptedNodes;
@@ -24,12 +21,10 @@ pub struct ScriptCheck {
 
 impl Model for ScriptCheck {
     ghost use Rattle.std.specs.Prelude.{◌≤◌, false};
-    ghost use Rattle.thp_journal_reader.specs.Following.{nodes_told, FollowsLines};
+    ghost use Rattle.thp_journal_reader.specs.Prelude.{nodes_told, FollowsLines, KeepsNothing, so_far};
     ghost use Rattle.thp_journal_scripts.specs.JournalScripts.{IsScripting, ScriptSoFar};
-    ghost use Rattle.thp_journal_reader.specs.Keeping.{KeepsNothing};
     ghost use Rattle.thp_journal_scripts.specs.NodeScripts.{taken_of, untaken};
-    ghost use Rattle.thp_journal_reader.specs.Parts.{so_far};
-    ghost use Rattle.thp_script.specs.Limits.{max_counted};
+    ghost use Rattle.thp_script.specs.Prelude.{max_counted};
 
     ghost Value = { ScriptSoFar };
 

@@ -1,12 +1,10 @@
 //! Checks nodes as their lines are read, and writes the script that repeats them.
 ghost use Rattle.std.specs.Prelude.{◌≡◌, ◌++◌, ℕ, [], false, List, IfOk, OnOk};
-ghost use Rattle.thp_journal_reader.specs.Following.{nodes_told, FollowsLines};
+ghost use Rattle.thp_journal_reader.specs.Prelude.{nodes_told, FollowsLines, KeepsNothing, follows_later};
 ghost use Rattle.thp_journal_scripts.specs.JournalScripts.{AddsLine, IsScripting, IsScriptOf};
-ghost use Rattle.thp_journal_reader.specs.Keeping.{KeepsNothing};
-ghost use Rattle.thp_journal_reader.specs.Later.{follows_later};
 ghost use Rattle.thp_journal_scripts.specs.NodeScripts.{taken_of, untaken};
 ghost use Rattle.thp_journal_reader.specs.declared.journals.NodeJournal.{NodeJournal};
-ghost use Rattle.thp_script.specs.Limits.{max_counted};
+ghost use Rattle.thp_script.specs.Prelude.{max_counted};
 
 use crate::journal_script::JournalScript;
 use crate::scripted::Scripted;

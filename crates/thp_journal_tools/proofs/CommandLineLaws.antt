@@ -1,6 +1,5 @@
 -- What `clap` makes of the words of a command line.
-use Rattle.std.proofs.Common.{◌≡◌, ◌∙◌, ◌<◌, ◌^◌, ap, refl, subst, sym, true, false, ℕ, List, Option, None, Some, Ok, Err, codes, inl}
-use Rattle.std.specs.Prelude.{Result, Bool, IsErrAnd}
+use Rattle.std.proofs.Common.{◌≡◌, ◌∙◌, ◌<◌, ◌^◌, ap, refl, subst, sym, true, false, ℕ, List, Option, None, Some, Ok, Err, codes, inl, Result, Bool, IsErrAnd}
 use Rattle.std.specs.Str.Parse.{IsNumeral, ParsesUnsigned, digits_value, without_leading_plus}
 use Rattle.clap.specs.Simple.{app_of_fields}
 use Rattle.clap.specs.Words.{App, AddsArg, FailsBy, ReadsOne, Row, Rule, HasKind, HasMatchesOf, app_of, fault_of, found_of, is_simple, is_simple_and_free, kind_of, matches_of, new_app, one_of, one_text, rows_of, with_rule}
@@ -13,7 +12,7 @@ use Rattle.clap.specs.declared.parser.matches.ArgMatches.{ArgMatches}
 use Rattle.clap.specs.declared.parser.matches.Found.{Found}
 use Rattle.clap.proofs.OnLiterals.{clap_on_literals}
 use Rattle.clap.proofs.WalkLemmas.{one_text-rows}
-use Rattle.thp_cli.specs.Flags.{bare_app, IsOption, ReportsFlag, ReportsNumber}
+use Rattle.thp_cli.specs.Prelude.{bare_app, IsOption, ReportsFlag, ReportsNumber}
 use Rattle.thp_journal_tools.specs.CommandLine.{thpcheck}
 use Rattle.thp_journal_tools.specs.DrawCommandLine.{thpdraw}
 use Rattle.thp_journal_tools.specs.Words.{ReadsWords}

@@ -1,7 +1,5 @@
 -- How the events of a text add up.
-use Rattle.std.proofs.Common.{◌≡◌, ◌≤◌, ◌+◌, ◌++◌, ◌∷◌, [], ◌∙◌, ℕ, Bool, true, false, List, add_assoc, ap, arith, drop, length, refl, sym, take}
-use Rattle.std.proofs.lemmas.List.{length-append, take-append-drop}
-use Rattle.std.specs.Prelude.{◌&&◌, eqb, if◌then◌else◌}
+use Rattle.std.proofs.Common.{◌≡◌, ◌≤◌, ◌+◌, ◌++◌, ◌∷◌, [], ◌∙◌, ℕ, Bool, true, false, List, add_assoc, ap, arith, drop, length, refl, sym, take, length-append, take-append-drop, ◌&&◌, eqb, if◌then◌else◌}
 use Rattle.std.specs.Char.{is_ascii_digit}
 use Rattle.thp_journal_tools.specs.Counting.{begins_after, events_from}
 

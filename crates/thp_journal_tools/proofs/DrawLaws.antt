@@ -1,6 +1,5 @@
 -- How the drawing of a journal ends, from what its parts did.
-use Rattle.std.proofs.Common.{◌≡◌, ◌∙◌, ◌≤◌, ◌∷◌, [], ℕ, Bool, List, Option, Some, None, Ok, Err, ap, false, length, refl, subst, suc, sym, true}
-use Rattle.std.specs.Prelude.{IfNone, IfSome, IsErrAnd, Result, ok_or}
+use Rattle.std.proofs.Common.{◌≡◌, ◌∙◌, ◌≤◌, ◌∷◌, [], ℕ, Bool, List, Option, Some, None, Ok, Err, ap, false, length, refl, subst, suc, sym, true, IfNone, IfSome, IsErrAnd, Result, ok_or}
 use Rattle.std.specs.List.{AllZip}
 use Rattle.std.specs.Io.KnownBytes.{Appends}
 use Rattle.thp_drawing.specs.declared.node.DrawnNode.{DrawnNode}
@@ -11,11 +10,9 @@ use Rattle.thp_cli.specs.declared.ending.ProgramFault.TheVariants.{Run, Usage, N
 use Rattle.thp_cli.specs.declared.fault.RunFault.{RunFault}
 use Rattle.thp_cli.specs.declared.fault.RunFault.TheVariants as run
 use Rattle.thp_cli.specs.declared.long_fault.LongRunFault.TheVariants as long
-use Rattle.thp_cli.specs.Calls.{ReadsOn, WritesOn}
-use Rattle.thp_cli.specs.Devices.{IsFrontOf, WritesFront}
-use Rattle.thp_cli.specs.Outcomes.{Device, Source}
+use Rattle.thp_cli.specs.Prelude.{ReadsOn, WritesOn, IsFrontOf, WritesFront, Device, Source}
 use Rattle.thp_journal_reader.specs.declared.journals.NodeJournal.{NodeJournal}
-use Rattle.thp_script.specs.Limits.{max_counted}
+use Rattle.thp_script.specs.Prelude.{max_counted}
 use Rattle.thp_journal_tools.specs.declared.draw_options.DrawOptions.{DrawOptions}
 use Rattle.thp_journal_tools.specs.declared.end_fault.EndFault.{EndFault}
 use Rattle.thp_journal_tools.specs.declared.end_fault.EndFault.TheVariants.{Journal, Words}

@@ -4,8 +4,7 @@ use Rattle.thp_journal_writer.specs.declared.totals.Totals.{Totals}
 use Rattle.thp_journal_reader.specs.declared.illegal.Illegal.{Illegal}
 use Rattle.thp_journal_reader.specs.declared.journals.NodeJournal.{NodeJournal}
 use Rattle.thp_journal_tools.specs.declared.numbered.NumberedNode.{NumberedNode}
-use Rattle.thp_journal_reader.specs.Answers.{ReportsFirst}
-use Rattle.thp_journal_reader.specs.Following.{IsKept}
+use Rattle.thp_journal_reader.specs.Prelude.{ReportsFirst, IsKept}
 use Rattle.thp_journal_tools.specs.Keeping.{KeepsNumbers, KeepsTotals}
 use Rattle.thp_journal_tools.specs.Numbered.{IsNumbered}
 use Rattle.thp_journal_tools.specs.Summaries.{IsSummary}

@@ -1,16 +1,14 @@
 -- From nodes that were numbered to what is drawn of them.
-use Rattle.std.proofs.Common.{◌≡◌, ◌∙◌, ◌++◌, ◌∷◌, [], ℕ, List, Option, Some, None, ap, append_assoc, arith, length, refl, subst, suc, sym, zero}
-use Rattle.std.specs.Prelude.{slice_get}
-use Rattle.std.proofs.lemmas.List.{append-nil}
+use Rattle.std.proofs.Common.{◌≡◌, ◌∙◌, ◌++◌, ◌∷◌, [], ℕ, List, Option, Some, None, ap, append_assoc, arith, length, refl, subst, suc, sym, zero, slice_get, append-nil}
 use Rattle.thp_drawing.specs.Drawn.{AreColumnsOf}
 use Rattle.thp_drawing.specs.declared.illegal_event.IllegalEvent.{IllegalEvent}
 use Rattle.thp_drawing.specs.declared.node.DrawnNode.{DrawnNode}
 use Rattle.thp_journal_reader.specs.declared.illegal.Illegal.{Illegal}
 use Rattle.thp_journal_reader.specs.declared.journals.NodeJournal.{NodeJournal}
 use Rattle.thp_journal_tools.specs.declared.numbered.NumberedNode.{NumberedNode}
-use Rattle.thp_journal_reader.specs.Answers.{IsFirstIllegalEvent, ReportsFirst}
+use Rattle.thp_journal_reader.specs.Prelude.{IsFirstIllegalEvent, ReportsFirst}
 use Rattle.thp_journal_tools.specs.Numbered.{IsNumbered}
-use Rattle.thp_metrics.specs.Stuck.{AreStuck}
+use Rattle.thp_metrics.specs.Prelude.{AreStuck}
 use Rattle.thp_metrics.specs.declared.stuck_page.StuckPage.{StuckPage}
 use Rattle.thp_metrics.specs.declared.numbers.Numbers.{Numbers}
 use Rattle.thp_journal_tools.specs.Making.{told_of, AreMadeOf, IsMadeOf}

@@ -1,15 +1,11 @@
 -- What a screen has taken, line by line.
-use Rattle.std.proofs.Common.{◌≡◌, ◌∙◌, ◌++◌, ◌∷◌, ◌+◌, [], ℕ, Bool, false, List, Option, Some, None, ap, append_assoc, get_or, inl, inr, length, refl, subst, suc, sym, zero, arith, true}
-use Rattle.std.specs.Prelude.{All, map}
+use Rattle.std.proofs.Common.{◌≡◌, ◌∙◌, ◌++◌, ◌∷◌, ◌+◌, [], ℕ, Bool, false, List, Option, Some, None, ap, append_assoc, get_or, inl, inr, length, refl, subst, suc, sym, zero, arith, true, All, map}
 use Rattle.std.specs.Io.KnownBytes.{Appends, Consumes}
 use Rattle.std.specs.List.{concat}
 use Rattle.std.proofs.lemmas.List.{append-nil, length-append, map-append}
 use Rattle.std.proofs.lemmas.List.Elements.{All-append, All-nil}
 use Rattle.std.proofs.lemmas.List.Folds.{concat-append}
-use Rattle.thp_cli.specs.Calls.{Follow, IsTaken, WritesOn}
-use Rattle.thp_cli.specs.Devices.{WritesFront}
-use Rattle.thp_cli.specs.Outcomes.{device_of, Device, Takes}
-use Rattle.thp_cli.specs.Watch.{Watch}
+use Rattle.thp_cli.specs.Prelude.{Follow, IsTaken, WritesOn, WritesFront, device_of, Device, Takes, Watch}
 use Rattle.thp_cli.specs.declared.calls.DeviceCall.{DeviceCall}
 use Rattle.thp_cli.specs.declared.ending.Program.{Program}
 use Rattle.thp_cli.specs.declared.calls.DeviceCall.TheVariants as call

@@ -1,21 +1,17 @@
 -- How the writing of a script ends, from what its parts did.
-use Rattle.std.proofs.Common.{◌≡◌, ◌∙◌, ◌++◌, ℕ, Bool, true, false, List, [], Option, Some, None, Ok, Err, append_assoc, ap, refl, subst, sym}
-use Rattle.std.specs.Prelude.{IfErr, IfNone, IfSome, IsErrAnd, Result, ok_or}
+use Rattle.std.proofs.Common.{◌≡◌, ◌∙◌, ◌++◌, ℕ, Bool, true, false, List, [], Option, Some, None, Ok, Err, append_assoc, ap, refl, subst, sym, IfErr, IfNone, IfSome, IsErrAnd, Result, ok_or, append-nil}
 use Rattle.std.specs.Io.KnownBytes.{Appends, Keeps}
-use Rattle.std.proofs.lemmas.List.{append-nil}
 use Rattle.thp_cli.specs.declared.fault.RunFault.{RunFault}
 use Rattle.thp_cli.specs.declared.fault.RunFault.TheVariants.{Text, OutOfMemory, Read, Write}
 use Rattle.thp_cli.specs.declared.long_fault.LongRunFault.{LongRunFault}
 use Rattle.thp_cli.specs.declared.long_fault.LongRunFault.TheVariants as long
-use Rattle.thp_cli.specs.Devices.{IsFrontOf, WritesFront}
-use Rattle.thp_cli.specs.RunFaults.{fault_of_long_read, seen_fault}
+use Rattle.thp_cli.specs.Prelude.{IsFrontOf, WritesFront, fault_of_long_read, seen_fault}
 use Rattle.thp_journal_tools.specs.Scripting.{script_end, Grows, IsDeviceFault, IsScriptEnd}
 use Rattle.thp_journal_tools.specs.declared.scripting.ScriptFinding.{ScriptFinding}
-use Rattle.thp_script.specs.Limits.{max_counted}
+use Rattle.thp_script.specs.Prelude.{max_counted}
 use Rattle.thp_journal_reader.specs.declared.illegal.LongReadFault.{LongReadFault}
 use Rattle.thp_journal_reader.specs.declared.illegal.LongReadFault.TheVariants as summary
-use Rattle.thp_journal_reader.specs.Journals.{journals_within}
-use Rattle.thp_journal_reader.specs.Answers.{ReportsLongReadFault}
+use Rattle.thp_journal_reader.specs.Prelude.{journals_within, ReportsLongReadFault}
 
 -- ---- a writer that takes texts
 

@@ -3,8 +3,8 @@ use Rattle.std.specs.Prelude.{◌-◌, ℕ, Bool, true, false, pos, List, Some, 
 use Rattle.clap.specs.Words.{App, Row, Rule, one_of, with_rule}
 use Rattle.clap.specs.declared.builder.value_parser.ValueParser.TheVariants.{Signed}
 use Rattle.clap.specs.declared.error.Error.{Error}
-use Rattle.thp_cli.specs.Flags.{bare_app, flag_rule, valued_rule, ReportsFlag, ReportsNumber}
-use Rattle.thp_script.specs.Limits.{max_nodes}
+use Rattle.thp_cli.specs.Prelude.{bare_app, flag_rule, valued_rule, ReportsFlag, ReportsNumber}
+use Rattle.thp_script.specs.Prelude.{max_nodes}
 use Rattle.thp_journal_tools.specs.declared.draw_options.Drawing.{Drawing}
 use Rattle.thp_journal_tools.specs.declared.draw_options.Drawing.TheVariants.{Picture, Table}
 use Rattle.thp_journal_tools.specs.declared.draw_options.DrawOptions.{DrawOptions}

@@ -5,14 +5,12 @@ use Rattle.thp_drawing.specs.Pictures.{node_picture, picture_text}
 use Rattle.thp_drawing.specs.Tables.{node_table, table_text}
 use Rattle.thp_drawing.specs.declared.node.DrawnNode.{DrawnNode}
 use Rattle.thp_journal_reader.specs.declared.journals.Journals.{Journals}
-use Rattle.thp_journal_reader.specs.Journals.{journals_within}
+use Rattle.thp_journal_reader.specs.Prelude.{journals_within}
 use Rattle.thp_cli.specs.declared.ending.Ending.{Ending}
 use Rattle.thp_cli.specs.declared.ending.Ending.TheVariants.{Illegal, Written}
 use Rattle.thp_cli.specs.declared.fault.RunFault.{RunFault}
-use Rattle.thp_cli.specs.Calls.{ReadsOn}
-use Rattle.thp_cli.specs.Outcomes.{Device, IsUntouched, Source}
-use Rattle.thp_cli.specs.Passages.{WritesAnswer}
-use Rattle.thp_script.specs.Limits.{max_counted}
+use Rattle.thp_cli.specs.Prelude.{ReadsOn, Device, IsUntouched, Source, WritesAnswer}
+use Rattle.thp_script.specs.Prelude.{max_counted}
 use Rattle.thp_journal_tools.specs.declared.draw_options.Drawing.{Drawing}
 use Rattle.thp_journal_tools.specs.declared.draw_options.Drawing.TheVariants.{Picture, Table}
 use Rattle.thp_journal_tools.specs.declared.draw_options.DrawOptions.{DrawOptions}

@@ -1,11 +1,10 @@
 -- What is kept of a node, and what it is made of where an event is illegal.
 use Rattle.std.specs.Prelude.{◌≡◌, Option}
-use Rattle.thp_model.specs.History.{History}
+use Rattle.thp_model.specs.Prelude.{History}
 use Rattle.thp_model.specs.declared.shape.Shape.{Shape}
-use Rattle.thp_check.specs.Replays.{Replayed}
-use Rattle.thp_metrics.specs.Series.{numbers_at, series}
-use Rattle.thp_metrics.specs.Stuck.{AreStuck}
-use Rattle.thp_journal_writer.specs.Totals.{totals_of}
+use Rattle.thp_check.specs.Prelude.{Replayed}
+use Rattle.thp_metrics.specs.Prelude.{numbers_at, series, AreStuck}
+use Rattle.thp_journal_writer.specs.Prelude.{totals_of}
 use Rattle.thp_journal_writer.specs.declared.totals.Totals.{Totals}
 use Rattle.thp_journal_reader.specs.declared.illegal.Illegal.{Illegal}
 use Rattle.thp_journal_tools.specs.declared.numbered.NumberedNode.{NumberedNode}

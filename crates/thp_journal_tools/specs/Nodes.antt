@@ -5,10 +5,9 @@ use Rattle.thp_drawing.specs.Drawn.{AreColumnsOf}
 use Rattle.thp_drawing.specs.declared.illegal_event.IllegalEvent.{IllegalEvent}
 use Rattle.thp_drawing.specs.declared.node.DrawnNode.{DrawnNode}
 use Rattle.thp_journal_reader.specs.declared.journals.NodeJournal.{NodeJournal}
-use Rattle.thp_journal_reader.specs.Answers.{IsFirstIllegal, IsLegalNode, IsLegalFront}
-use Rattle.thp_model.specs.History.{History}
-use Rattle.thp_metrics.specs.Series.{numbers_at, series}
-use Rattle.thp_metrics.specs.Stuck.{AreStuck}
+use Rattle.thp_journal_reader.specs.Prelude.{IsFirstIllegal, IsLegalNode, IsLegalFront}
+use Rattle.thp_model.specs.Prelude.{History}
+use Rattle.thp_metrics.specs.Prelude.{numbers_at, series, AreStuck}
 
 -- it is the node's first illegal event, with its line
 pub record IsOwnIllegal (node : NodeJournal) (illegal : IllegalEvent) : Type 0 where

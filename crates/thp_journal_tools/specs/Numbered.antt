@@ -1,12 +1,11 @@
 -- The results of a check that also stores the numbers of nodes over their events.
 use Rattle.std.specs.Prelude.{◌≡◌, List, [], ◌∷◌}
 use Rattle.std.specs.List.{AllZip}
-use Rattle.thp_model.specs.History.{History}
-use Rattle.thp_metrics.specs.Series.{numbers_at, series}
-use Rattle.thp_metrics.specs.Stuck.{AreStuck}
+use Rattle.thp_model.specs.Prelude.{History}
+use Rattle.thp_metrics.specs.Prelude.{numbers_at, series, AreStuck}
 use Rattle.thp_journal_reader.specs.declared.journals.NodeJournal.{NodeJournal}
 use Rattle.thp_journal_tools.specs.declared.numbered.NumberedNode.{NumberedNode}
-use Rattle.thp_journal_reader.specs.Answers.{ReportsFirst, IsLegalFront}
+use Rattle.thp_journal_reader.specs.Prelude.{ReportsFirst, IsLegalFront}
 
 -- the numbers of the node's legal events, all or those before its first illegal event, which it contains
 pub record IsNumbered (node : NodeJournal) (kept : NumberedNode) : Type 0 where

@@ -5,7 +5,7 @@ use Rattle.thp_cli.specs.declared.ending.Ending.{Ending}
 use Rattle.thp_cli.specs.declared.ending.Ending.TheVariants.{Written, Illegal as IsIllegal}
 use Rattle.thp_cli.specs.declared.ending.ProgramFault.{ProgramFault}
 use Rattle.thp_cli.specs.declared.ending.ProgramFault.TheVariants.{Run}
-use Rattle.thp_cli.specs.Outcomes.{Device, Source}
+use Rattle.thp_cli.specs.Prelude.{Device, Source}
 use Rattle.thp_journal_tools.specs.declared.options.CheckOptions.{CheckOptions}
 use Rattle.thp_journal_tools.specs.Checks.{explanation_of, Checks}
 use Rattle.thp_journal_tools.specs.declared.scripting.ScriptFinding.{ScriptFinding}

@@ -1,13 +1,10 @@
 -- The output to a screen while a journal is read: lines that show the progress (this project's profile).
-use Rattle.std.specs.Prelude.{◌≡◌, ◌*◌, ◌/◌, ◌%◌, ◌++◌, ◌∷◌, [], ℕ, Bool, true, false, ◌||◌, All, List, Option, IfSome, MatchBool, codes, length, map}
-use Rattle.std.specs.Fmt.{decimal}
+use Rattle.std.specs.Prelude.{◌≡◌, ◌*◌, ◌/◌, ◌%◌, ◌++◌, ◌∷◌, [], ℕ, Bool, true, false, ◌||◌, All, List, Option, IfSome, MatchBool, codes, length, map, decimal}
 use Rattle.std.specs.Io.KnownBytes.{Appends}
 use Rattle.std.specs.List.{concat}
 use Rattle.thp_cli.specs.declared.calls.DeviceCall.{DeviceCall}
-use Rattle.thp_cli.specs.Calls.{is_answered}
+use Rattle.thp_cli.specs.Prelude.{is_answered, WritesFront, name_front, Device, IsUntouched}
 use Rattle.thp_cli.specs.declared.ending.Program.{Program}
-use Rattle.thp_cli.specs.Devices.{WritesFront}
-use Rattle.thp_cli.specs.Outcomes.{name_front, Device, IsUntouched}
 use Rattle.thp_journal_tools.specs.Counting.{events_in}
 
 -- ---- the progress

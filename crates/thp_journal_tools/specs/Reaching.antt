@@ -1,8 +1,7 @@
 -- The data of a reading that shows its progress.
 use Rattle.std.specs.Prelude.{◌≡◌, ◌⊎◌, ◌++◌, ℕ, Bool, true, false, All, List, [], ◌∷◌, Option, IfSome, length}
 use Rattle.thp_cli.specs.declared.ending.Program.{Program}
-use Rattle.thp_cli.specs.Outcomes.{device_of, Device, Takes}
-use Rattle.thp_cli.specs.Watch.{Watch}
+use Rattle.thp_cli.specs.Prelude.{device_of, Device, Takes, Watch}
 use Rattle.thp_journal_tools.specs.declared.progress.Progress.{Progress}
 use Rattle.thp_journal_tools.specs.Counting.{begins_after, events_in}
 use Rattle.thp_journal_tools.specs.Progress.{progress_line, progress_text, removal, IsReached, Reached, Took}

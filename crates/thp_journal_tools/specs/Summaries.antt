@@ -1,12 +1,12 @@
 -- The results of a check that also sums nodes up.
 use Rattle.std.specs.Prelude.{◌≡◌, List}
 use Rattle.std.specs.List.{AllZip}
-use Rattle.thp_model.specs.History.{History}
-use Rattle.thp_journal_writer.specs.Totals.{totals_of}
+use Rattle.thp_model.specs.Prelude.{History}
+use Rattle.thp_journal_writer.specs.Prelude.{totals_of}
 use Rattle.thp_journal_writer.specs.declared.totals.Totals.{Totals}
 use Rattle.thp_journal_reader.specs.declared.journals.NodeJournal.{NodeJournal}
 use Rattle.thp_journal_tools.specs.declared.summed.Summed.{Summed}
-use Rattle.thp_journal_reader.specs.Answers.{IsLegalFront, ReportsFirst}
+use Rattle.thp_journal_reader.specs.Prelude.{IsLegalFront, ReportsFirst}
 
 -- the totals of the node's legal events
 pub record IsSummary (node : NodeJournal) (totals : Totals) : Type 0 where

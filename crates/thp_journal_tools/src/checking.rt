@@ -1,11 +1,8 @@
 //! From the bytes of a journal of any length to its verdict.
 ghost use Rattle.std.specs.Prelude.{◌≡◌, ◌++◌, IfOk, false, option_map};
-ghost use Rattle.thp_script.specs.Limits.{max_counted};
-ghost use Rattle.thp_cli.specs.Calls.{ReadsOn};
+ghost use Rattle.thp_script.specs.Prelude.{max_counted};
+ghost use Rattle.thp_cli.specs.Prelude.{ReadsOn, device_of, WritesAnswer, verdict_text};
 ghost use Rattle.thp_cli.specs.declared.ending.Program.TheVariants.{Thpcheck};
-ghost use Rattle.thp_cli.specs.Outcomes.{device_of};
-ghost use Rattle.thp_cli.specs.Passages.{WritesAnswer};
-ghost use Rattle.thp_cli.specs.Verdicts.{verdict_text};
 ghost use Rattle.thp_journal_writer.specs.Totals.{lines_from};
 ghost use Rattle.thp_journal_tools.specs.Checks.{explanation_of, found_in, line_of, CheckEnds};
 ghost use Rattle.thp_journal_tools.specs.Progress.{may_show, ShowsProgress};

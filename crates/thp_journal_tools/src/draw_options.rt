@@ -1,7 +1,7 @@
 //! The command line of `thpdraw`.
 ghost use Rattle.std.specs.Prelude.{◌≡◌, IfOk, map};
 ghost use Rattle.clap.specs.Words.{app_of};
-ghost use Rattle.thp_cli.specs.Flags.{IsOption};
+ghost use Rattle.thp_cli.specs.Prelude.{IsOption};
 ghost use Rattle.thp_journal_tools.specs.DrawCommandLine.{is_table, node_rule, thpdraw, AnswersWords};
 
 use crate::draw_help::AFTER_HELP;

@@ -1,7 +1,7 @@
 //! The program `thpdraw`: from the words of its command line to its exit status.
 ghost use Rattle.std.specs.Prelude.{◌≡◌, false};
 ghost use Rattle.thp_cli.specs.declared.ending.Program.TheVariants.{Thpdraw};
-ghost use Rattle.thp_cli.specs.Outcomes.{device_of, given_words, source_of};
+ghost use Rattle.thp_cli.specs.Prelude.{device_of, given_words, source_of};
 ghost use Rattle.thp_journal_tools.specs.DrawCommandLine.{AnswersWords};
 ghost use Rattle.thp_journal_tools.specs.DrawOutcomes.{shows_progress, DoesRequest};
 ghost use Rattle.thp_journal_tools.specs.Requests.{Finishes, ShowsAsAsked};

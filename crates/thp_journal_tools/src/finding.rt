@@ -1,11 +1,8 @@
 //! Reads a journal for its first illegal event and the totals of its nodes.
 ghost use Rattle.std.specs.Prelude.{◌≡◌, ℕ, List, IfOk, IfErr, IfSome, false};
-ghost use Rattle.thp_script.specs.Limits.{max_counted};
-ghost use Rattle.thp_cli.specs.Calls.{ReadsOn};
+ghost use Rattle.thp_script.specs.Prelude.{max_counted};
+ghost use Rattle.thp_cli.specs.Prelude.{ReadsOn, IsFrontOf, device_of, seen_fault};
 ghost use Rattle.thp_cli.specs.declared.ending.Program.TheVariants.{Thpcheck};
-ghost use Rattle.thp_cli.specs.Devices.{IsFrontOf};
-ghost use Rattle.thp_cli.specs.Outcomes.{device_of};
-ghost use Rattle.thp_cli.specs.RunFaults.{seen_fault};
 ghost use Rattle.thp_journal_tools.specs.Checks.{IsFindFault, IsFound};
 ghost use Rattle.thp_journal_tools.specs.Progress.{may_show, ShowsProgress};
 

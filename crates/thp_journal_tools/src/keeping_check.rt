@@ -1,13 +1,9 @@
 //! The check of journals of any length that also keeps data of each node.
 ghost use Rattle.std.specs.Prelude.{◌≡◌, ◌++◌, ℕ, List, Ok, [], IfOk, IfErr, refl};
 ghost use Rattle.std.proofs.Common.{◌∙◌, ap, append_assoc, sym};
-ghost use Rattle.thp_journal_reader.specs.Answers.{ReportsLongReadFault};
-ghost use Rattle.thp_journal_reader.specs.Following.{HasEnded};
-ghost use Rattle.thp_journal_reader.specs.Journals.{journals_within};
-ghost use Rattle.thp_journal_reader.specs.Parts.{told_with};
+ghost use Rattle.thp_journal_reader.specs.Prelude.{ReportsLongReadFault, HasEnded, journals_within, told_with};
 ghost use Rattle.thp_journal_reader.specs.declared.journals.Journals.{Journals};
-ghost use Rattle.thp_script.specs.Limits.{max_counted};
-ghost use Rattle.thp_script.specs.Words.{Text};
+ghost use Rattle.thp_script.specs.Prelude.{max_counted, Text};
 
 use std::alloc::{AllocError, Global};
 use std::marker::Model;
@@ -26,9 +22,8 @@ pub struct KeepingCheck<K: Drop, F: FollowsNode<Kept = K>> {
 
 impl<K: Drop, F: FollowsNode<Kept = K>> Model for KeepingCheck<K, F> {
     ghost use Rattle.std.specs.Prelude.{◌≤◌};
-    ghost use Rattle.thp_journal_reader.specs.Following.{nodes_told, FollowsLines};
-    ghost use Rattle.thp_journal_reader.specs.Parts.{so_far, ReadSoFar};
-    ghost use Rattle.thp_script.specs.Limits.{max_counted};
+    ghost use Rattle.thp_journal_reader.specs.Prelude.{nodes_told, FollowsLines, so_far, ReadSoFar};
+    ghost use Rattle.thp_script.specs.Prelude.{max_counted};
 
     ghost Value = { ReadSoFar };
 

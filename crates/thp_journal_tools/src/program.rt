@@ -1,7 +1,7 @@
 //! The program `thpcheck`: from the words of its command line to its exit status.
 ghost use Rattle.std.specs.Prelude.{◌≡◌, false};
 ghost use Rattle.thp_cli.specs.declared.ending.Program.TheVariants.{Thpcheck};
-ghost use Rattle.thp_cli.specs.Outcomes.{device_of, given_words, source_of};
+ghost use Rattle.thp_cli.specs.Prelude.{device_of, given_words, source_of};
 ghost use Rattle.thp_journal_tools.specs.CommandLine.{AnswersWords};
 ghost use Rattle.thp_journal_tools.specs.Outcomes.{ending_of, shows_progress, Does, DoesRequest, DoesScript};
 ghost use Rattle.thp_journal_tools.specs.Progress.{may_show, ShowsProgress};

@@ -1,10 +1,7 @@
 //! Reads a whole journal in parts, and shows the progress.
 ghost use Rattle.std.specs.Prelude.{◌≡◌, [], ℕ, List, IfErr, IfOk, IfSome, false};
-ghost use Rattle.thp_cli.specs.Calls.{ReadsOn};
-ghost use Rattle.thp_cli.specs.Devices.{IsFrontOf};
-ghost use Rattle.thp_cli.specs.Outcomes.{device_of};
-ghost use Rattle.thp_cli.specs.RunFaults.{IsReadingFault};
-ghost use Rattle.thp_script.specs.Limits.{max_counted};
+ghost use Rattle.thp_cli.specs.Prelude.{ReadsOn, IsFrontOf, device_of, IsReadingFault};
+ghost use Rattle.thp_script.specs.Prelude.{max_counted};
 ghost use Rattle.thp_journal_tools.specs.Progress.{may_show, ShowsLines, ShowsProgress};
 ghost use Rattle.thp_journal_tools.specs.Reaching.{HasCounted, HasShown, IsReadOf};
 

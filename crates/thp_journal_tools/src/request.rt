@@ -4,7 +4,7 @@ ghost use Rattle.clap.specs.declared.error.Error.{Error};
 ghost use Rattle.thp_cli.specs.declared.ending.Ending.{Ending};
 ghost use Rattle.thp_cli.specs.declared.ending.Program.{Program};
 ghost use Rattle.thp_cli.specs.declared.ending.ProgramFault.{ProgramFault};
-ghost use Rattle.thp_cli.specs.Outcomes.{device_of, given_words, source_of, Device, Source};
+ghost use Rattle.thp_cli.specs.Prelude.{device_of, given_words, source_of, Device, Source};
 ghost use Rattle.thp_journal_tools.specs.Progress.{ShowsProgress};
 ghost use Rattle.thp_journal_tools.specs.Requests.{end_of, notes_by, Finishes, Served, ShowsAsAsked, TakesNotes};
 

@@ -25,7 +25,7 @@ pub struct SeriesRest {
 
 impl Model for SeriesNode {
     ghost use Rattle.std.specs.Prelude.{◌≡◌};
-    ghost use Rattle.thp_check.specs.Replays.{Replayed};
+    ghost use Rattle.thp_check.specs.Prelude.{Replayed};
 
     ghost Value = { Replayed };
 

@@ -1,7 +1,7 @@
 //! Follows a node for its totals.
 ghost use Rattle.std.specs.Prelude.{◌≡◌, true};
 ghost use Rattle.thp_journal_tools.specs.Keeping.{KeepsTotals, LeavesTotals};
-ghost use Rattle.thp_journal_writer.specs.Totals.{totals_of};
+ghost use Rattle.thp_journal_writer.specs.Prelude.{totals_of};
 
 use std::alloc::{AllocError, Global};
 use std::marker::Model;
@@ -19,7 +19,7 @@ pub struct SummedNode {
 
 impl Model for SummedNode {
     ghost use Rattle.std.specs.Prelude.{◌≡◌};
-    ghost use Rattle.thp_check.specs.Replays.{Replayed};
+    ghost use Rattle.thp_check.specs.Prelude.{Replayed};
 
     ghost Value = { Replayed };
 

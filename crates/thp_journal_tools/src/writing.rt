@@ -2,7 +2,7 @@
 ghost use Rattle.std.specs.Prelude.{◌≡◌, IfErr, IfOk, false};
 ghost use Rattle.thp_journal_tools.specs.Progress.{may_show, ShowsProgress};
 ghost use Rattle.thp_cli.specs.declared.ending.Program.TheVariants.{Thpdraw};
-ghost use Rattle.thp_cli.specs.Outcomes.{device_of, source_of};
+ghost use Rattle.thp_cli.specs.Prelude.{device_of, source_of};
 ghost use Rattle.thp_journal_tools.specs.Drawings.{drawing_text, ending_if, node_text, some_illegal, Shows};
 ghost use Rattle.thp_journal_tools.specs.DrawOutcomes.{end_of, Does, IsOutputFault};
 

@@ -1,15 +1,11 @@
 -- Whole texts made line by line.
-use Rattle.std.proofs.Common.{◌≡◌, ℕ, suc, ◌+◌, ◌<◌, List, [], ◌∷◌, ◌++◌, length, take, map, get_or, ap, sym, ◌∙◌, arith, append_assoc, add-one, codes}
+use Rattle.std.proofs.Common.{◌≡◌, ℕ, suc, ◌+◌, ◌<◌, List, [], ◌∷◌, ◌++◌, length, take, map, get_or, ap, sym, ◌∙◌, arith, append_assoc, add-one, codes, flat_map}
 use Rattle.std.proofs.Math.Seq.{take-suc}
-use Rattle.std.specs.List.{flat_map}
 use Rattle.std.proofs.lemmas.Grind.{flat_map-append}
 use Rattle.std.proofs.lemmas.List.{append-nil, map-append, length-map, length-take-le}
 use Rattle.thp_model.specs.declared.events.Event.{Event}
-use Rattle.thp_journal_writer.specs.declared.node_history.NodeHistory.{NodeHistory}
-use Rattle.thp_journal_writer.specs.declared.version.Version.{Version}
-use Rattle.thp_journal_writer.specs.EventLines.{event_line}
-use Rattle.thp_journal_writer.specs.Histories.{journal_of}
-use Rattle.thp_journal_writer.specs.Journals.{Journal, ended, version_of, version_line, node_line, lines_of_node, lines_from, journal_lines, journal_text}
+use Rattle.thp_journal_writer.specs.Prelude.{NodeHistory, Version, event_line, journal_of, Journal, ended, version_of, version_line, node_line, lines_of_node, journal_lines, journal_text}
+use Rattle.thp_journal_writer.specs.Journals.{lines_from}
 
 -- the lines of some events
 abbrev pub event_lines : List Event → List ℕ

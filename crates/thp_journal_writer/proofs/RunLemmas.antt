@@ -5,7 +5,7 @@ use Rattle.std.proofs.Math.Seq.{drop-cons}
 use Rattle.std.specs.List.{join_with_byte}
 use Rattle.std.proofs.lemmas.Bool.{cases_lt}
 use Rattle.std.proofs.lemmas.List.{drop_all}
-use Rattle.thp_journal_writer.specs.SetTexts.{Run, with_number, runs_from, run_text, runs_text, set_text}
+use Rattle.thp_journal_writer.specs.Prelude.{Run, with_number, runs_from, run_text, runs_text, set_text}
 
 -- the first run, where there is one, begins at i or behind it
 abbrev pub BeginsFrom : ℕ → List Run → Type 0

@@ -1,15 +1,12 @@
 -- Journals written line by line: what one more line makes of a text.
-use Rattle.std.proofs.Common.{◌≡◌, ℕ, ◌+◌, List, [], ◌∷◌, ◌++◌, length, map, ap, sym, ◌∙◌, arith, append_assoc, codes}
-use Rattle.std.specs.List.{flat_map}
+use Rattle.std.proofs.Common.{◌≡◌, ℕ, ◌+◌, List, [], ◌∷◌, ◌++◌, length, map, ap, sym, ◌∙◌, arith, append_assoc, codes, flat_map}
 use Rattle.std.proofs.lemmas.Grind.{flat_map-append}
 use Rattle.std.proofs.lemmas.List.{append-nil, map-append}
 use Rattle.thp_model.specs.declared.events.Event.{Event}
 use Rattle.thp_model.specs.declared.shape.Shape.{Shape}
-use Rattle.thp_model.specs.History.{History}
-use Rattle.thp_journal_writer.specs.declared.version.Version.{Version}
-use Rattle.thp_journal_writer.specs.EventLines.{event_line}
-use Rattle.thp_journal_writer.specs.Journals.{Journal, ended, journal_lines, journal_text, lines_from, lines_of_node, node_line, version_line, version_of}
-use Rattle.thp_journal_writer.specs.Streams.{text_begun, VersionComesFirst, NodeFollows, EventFollows, LeastVersionIsJournalText}
+use Rattle.thp_model.specs.Prelude.{History}
+use Rattle.thp_journal_writer.specs.Prelude.{Version, event_line, Journal, ended, journal_lines, journal_text, lines_of_node, node_line, version_line, version_of, text_begun, VersionComesFirst, NodeFollows, EventFollows, LeastVersionIsJournalText}
+use Rattle.thp_journal_writer.specs.Journals.{lines_from}
 use Rattle.thp_journal_writer.proofs.JournalLemmas.{lines_from-more}
 
 -- with one more node

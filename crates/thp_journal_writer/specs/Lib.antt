@@ -5,3 +5,4 @@ pub mod Streams
 pub mod Histories
 pub mod Totals
 pub mod Room
+pub mod Prelude

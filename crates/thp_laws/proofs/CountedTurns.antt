@@ -1,23 +1,19 @@
 -- Tries of which none is counted as out of turn come in the order of the takes.
-use Rattle.std.proofs.Common.{◌≡◌, ◌∙◌, ◌+◌, ◌&&◌, ℕ, Bool, true, false, cond, nat_eq, nat_lt, not, List, [], ◌∷◌, ◌++◌, Option, Some, None, ap, ap₂, arith, drop, eq-eqb, length, length-append, map, refl, subst, sym}
+use Rattle.std.proofs.Common.{◌≡◌, ◌∙◌, ◌+◌, ◌&&◌, ℕ, Bool, true, false, cond, nat_eq, nat_lt, not, List, [], ◌∷◌, ◌++◌, Option, Some, None, ap, ap₂, arith, drop, eq-eqb, length, length-append, map, refl, subst, sym, eqb-true, lt-ltb}
 use Rattle.std.specs.Prelude.{⊤, slice_get, All, if◌then◌else◌}
 use Rattle.std.specs.List.{fold, position_or_len, AllByRecursion}
-use Rattle.std.proofs.lemmas.Bool.{eqb-true, lt-ltb}
 use Rattle.std.proofs.lemmas.List.{append-nil, map-append}
 use Rattle.std.proofs.lemmas.List.Elements.{recursion_from_All}
 use Rattle.thp_model.specs.declared.events.Event.{Event}
 use Rattle.thp_model.specs.declared.events.What.{What}
 use Rattle.thp_model.specs.declared.events.What.TheVariants as what
 use Rattle.thp_model.specs.declared.events.What.TheVariants.{Taken, Split, Pinned, Used}
-use Rattle.thp_model.specs.History.{by, History}
-use Rattle.thp_model.specs.Limits.{max_batch}
+use Rattle.thp_model.specs.Prelude.{by, History, max_batch}
 use Rattle.thp_script.specs.declared.script.Op.{Op}
 use Rattle.thp_journal_scripts.specs.declared.event_kind.EventKind.TheVariants.{Call, Put, Try}
 use Rattle.thp_journal_scripts.specs.declared.turns.UntriedPage.{UntriedPage}
-use Rattle.thp_journal_scripts.specs.Repeating.{kind_of}
-use Rattle.thp_journal_scripts.specs.Turns.{done_page, is_other, is_out_of_turn, out_of_turn, taken_by, tried_page, turns_after, unless_done, without, TurnsSoFar}
+use Rattle.thp_journal_scripts.specs.Prelude.{kind_of, done_page, is_other, is_out_of_turn, out_of_turn, taken_by, tried_page, turns_after, unless_done, without, TurnsSoFar, once_ended, pages_after, place_of_call, place_of_put, place_of_try, scan_place_after, scan_place_of, Between, Elsewhere, InPuts, InTakes, InTries, IsWholeScans, ScanPlace}
 use Rattle.thp_journal_scripts.specs.Turns as counted
-use Rattle.thp_journal_scripts.specs.WholeScans.{once_ended, pages_after, place_of_call, place_of_put, place_of_try, scan_place_after, scan_place_of, Between, Elsewhere, InPuts, InTakes, InTries, IsWholeScans, ScanPlace}
 use Rattle.thp_laws.proofs.RepeatedPlaces.{all_elsewhere}
 
 -- ---- tries in the order of the takes

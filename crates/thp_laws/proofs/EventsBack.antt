@@ -1,7 +1,5 @@
 -- The line of an event is read back as that event, but for a new page's block.
-use Rattle.std.proofs.Common.{◌≡◌, ◌<◌, ◌≤◌, ◌^◌, ℕ, Bool, true, false, cond, not, List, [], ◌∷◌, length, Ok, Err, refl, ap, ◌∙◌, arith, codes}
-use Rattle.std.specs.Prelude.{ok_or}
-use Rattle.std.specs.Fmt.{decimal}
+use Rattle.std.proofs.Common.{◌≡◌, ◌<◌, ◌≤◌, ◌^◌, ℕ, Bool, true, false, cond, not, List, [], ◌∷◌, length, Ok, Err, refl, ap, ◌∙◌, arith, codes, ok_or, decimal}
 use Rattle.std.specs.List.{list_all, list_any}
 use Rattle.std.proofs.lemmas.Bool.{and_from}
 use Rattle.thp_model.specs.declared.events.Event.{Event}
@@ -9,17 +7,12 @@ use Rattle.thp_model.specs.declared.events.Outcome.{Outcome}
 use Rattle.thp_model.specs.declared.events.Outcome.TheVariants.{Stays, Queued, Freed}
 use Rattle.thp_model.specs.declared.events.What.{What}
 use Rattle.thp_model.specs.declared.events.What.TheVariants.{Alloc, MapWhole, UnmapWhole, MapSub, UnmapSub, SplitPmd, Pin, Unpin, Write, Zero, Taken, Split, Pinned, Used, Back, Dropped, Close}
-use Rattle.thp_model.specs.BlockLaws.{event_with, with_block}
-use Rattle.thp_model.specs.History.{by}
+use Rattle.thp_model.specs.Prelude.{event_with, with_block, by}
 use Rattle.thp_script.specs.declared.fault.TextKind.TheVariants.{BadByte, BadNumber, BadWord}
-use Rattle.thp_script.specs.Commands.{number_up_to}
-use Rattle.thp_script.specs.Lines.{is_empty, is_printable}
-use Rattle.thp_script.specs.Readings.{◌>>=◌}
-use Rattle.thp_script.specs.Words.{Text, words_of}
+use Rattle.thp_script.specs.Prelude.{number_up_to, is_empty, is_printable, ◌>>=◌, Text, words_of}
 use Rattle.thp_script.proofs.NumberLaws.{number_of-decimal}
 use Rattle.thp_journal_writer.specs.EventLines as written
-use Rattle.thp_journal_writer.specs.EventLines.{event_words, outcome_word, what_words, HasSmallNumbers}
-use Rattle.thp_journal_writer.specs.SetTexts.{set_text}
+use Rattle.thp_journal_writer.specs.Prelude.{event_words, outcome_word, what_words, HasSmallNumbers, set_text}
 use Rattle.thp_journal_reader.specs.declared.event_word.EventWord.{EventWord}
 use Rattle.thp_journal_reader.specs.declared.event_word.EventWord.TheVariants as word
 use Rattle.thp_journal_reader.specs.declared.event_word.LossWord.{LossWord}
@@ -31,10 +24,8 @@ use Rattle.thp_journal_reader.specs.declared.event_word.RangeWord.TheVariants as
 use Rattle.thp_journal_reader.specs.declared.line.Line.TheVariants.{Happened}
 use Rattle.thp_journal_reader.specs.declared.version.Version.{Version}
 use Rattle.thp_journal_reader.specs.declared.version.Version.TheVariants.{Plain, Orders, Underused}
-use Rattle.thp_journal_reader.specs.EventLines.{caller_number, page_number, range_number, page_event, range_event, loss_event, unmap_event, split_event, close_event, outcome_and_word, event_by, event_of}
-use Rattle.thp_journal_reader.specs.EventWords.{common_word, later_word, event_word, outcome_of, page_what, range_what, loss_what}
+use Rattle.thp_journal_reader.specs.Prelude.{caller_number, page_number, range_number, page_event, range_event, loss_event, unmap_event, split_event, close_event, outcome_and_word, event_by, event_of, common_word, later_word, event_word, outcome_of, page_what, range_what, loss_what, line_by, by_words}
 use Rattle.thp_journal_reader.specs.JournalLines as read
-use Rattle.thp_journal_reader.specs.JournalLines.{line_by, by_words}
 use Rattle.thp_laws.specs.Tellable.{IsOfVersion, IsTellable}
 use Rattle.thp_laws.proofs.PlainWords.{decimal_plain, is_plain, line_printable, no_number, none_empty, words_back}
 use Rattle.thp_laws.proofs.SetsBack.{set_back, set_plain}

@@ -1,6 +1,5 @@
 -- A journal text is read as the journals that it was written of, but for their blocks.
-use Rattle.std.proofs.Common.{◌≡◌, ◌<◌, ◌≤◌, ◌+◌, ℕ, suc, true, false, List, [], ◌∷◌, ◌++◌, map, length, Result, Ok, refl, ap, sym, ◌∙◌, arith, append_assoc, codes}
-use Rattle.std.specs.Prelude.{nat_lt}
+use Rattle.std.proofs.Common.{◌≡◌, ◌<◌, ◌≤◌, ◌+◌, ℕ, suc, true, false, List, [], ◌∷◌, ◌++◌, map, length, Result, Ok, refl, ap, sym, ◌∙◌, arith, append_assoc, codes, nat_lt}
 use Rattle.std.specs.List.{list_all, AllByRecursion, fold}
 use Rattle.std.proofs.Math.Nat.{add-zero}
 use Rattle.std.proofs.lemmas.Bool.{and_from, le-ltb}
@@ -8,21 +7,18 @@ use Rattle.thp_model.specs.declared.events.Event.{Event}
 use Rattle.thp_model.specs.declared.events.What.{What}
 use Rattle.thp_model.specs.declared.events.What.TheVariants.{Alloc, MapWhole, UnmapWhole, MapSub, UnmapSub, SplitPmd, Pin, Unpin, Write, Zero, Taken, Split, Pinned, Used, Back, Dropped, Close}
 use Rattle.thp_model.specs.declared.shape.Shape.{Shape}
-use Rattle.thp_model.specs.BlockLaws.{event_with, with_block, with_least_blocks, least_free}
-use Rattle.thp_model.specs.History.{History, by}
-use Rattle.thp_script.specs.Scripts.{Fault}
-use Rattle.thp_script.specs.Words.{lines_of}
+use Rattle.thp_model.specs.Prelude.{event_with, with_block, with_least_blocks, least_free, History, by}
+use Rattle.thp_script.specs.Prelude.{Fault, lines_of}
 use Rattle.thp_journal_writer.specs.declared.version.Version.{Version as Written}
 use Rattle.thp_journal_writer.specs.EventLines as written
-use Rattle.thp_journal_writer.specs.EventLines.{event_words}
+use Rattle.thp_journal_writer.specs.Prelude.{event_words, Journal, version_of, lines_of_node, journal_lines, journal_text}
 use Rattle.thp_journal_writer.specs.Journals as journal
-use Rattle.thp_journal_writer.specs.Journals.{Journal, version_of, lines_of_node, journal_lines, journal_text}
 use Rattle.thp_journal_reader.specs.declared.line.Line.{Line}
 use Rattle.thp_journal_reader.specs.declared.line.Line.TheVariants.{End}
 use Rattle.thp_journal_reader.specs.declared.place.Place.TheVariants.{Start}
 use Rattle.thp_journal_reader.specs.declared.version.Version.{Version}
 use Rattle.thp_journal_reader.specs.Journals as reading
-use Rattle.thp_journal_reader.specs.Journals.{node_journal, nodes_of, journals_with, journals_of, journals_within}
+use Rattle.thp_journal_reader.specs.Prelude.{node_journal, nodes_of, journals_with, journals_of, journals_within}
 use Rattle.thp_laws.specs.Tellable.{read_version, IsTellable, IsToldJournal}
 use Rattle.thp_laws.specs.ReadBack.{nodes_from}
 use Rattle.thp_laws.proofs.EventsBack.{event_plain}

@@ -1,28 +1,20 @@
 -- The numbers of a legal history fit the operands of its lines.
-use Rattle.std.proofs.Common.{◌≡◌, ◌<◌, ◌≤◌, ◌+◌, ◌^◌, ℕ, suc, Bool, true, false, ◌||◌, List, [], ◌∷◌, ◌++◌, length, take, Some, refl, ap, ◌∙◌, arith, nat_eq, nat_lt}
-use Rattle.std.specs.Prelude.{slice_get}
+use Rattle.std.proofs.Common.{◌≡◌, ◌<◌, ◌≤◌, ◌+◌, ◌^◌, ℕ, suc, Bool, true, false, ◌||◌, List, [], ◌∷◌, ◌++◌, length, take, Some, refl, ap, ◌∙◌, arith, nat_eq, nat_lt, slice_get, length-take}
 use Rattle.std.specs.List.{AllByRecursion}
 use Rattle.std.proofs.lemmas.Bool.{eq-eqb, ltb-false, or_parts}
-use Rattle.std.proofs.lemmas.List.{length-take}
 use Rattle.std.proofs.lemmas.List.Sums.{count_by-le-length}
 use Rattle.thp_model.specs.declared.events.Event.{Event}
 use Rattle.thp_model.specs.declared.events.What.{What}
 use Rattle.thp_model.specs.declared.events.What.TheVariants.{Alloc, MapWhole, UnmapWhole, MapSub, UnmapSub, SplitPmd, Pin, Unpin, Write, Zero, Taken, Split, Pinned, Used, Back, Dropped, Close}
 use Rattle.thp_model.specs.declared.shape.Shape.{Shape}
-use Rattle.thp_model.specs.Counts.{allocations, is_alloc, is_live}
-use Rattle.thp_model.specs.Frames.{released}
-use Rattle.thp_model.specs.History.{History, count_of}
-use Rattle.thp_model.specs.Legal.{FitsBy, IsLegal}
-use Rattle.thp_model.specs.PlaceLaws.{acts_on}
-use Rattle.thp_model.specs.Shapes.{IsShape, subpages}
-use Rattle.thp_model.specs.Words.{length-set_of}
+use Rattle.thp_model.specs.Prelude.{allocations, is_alloc, is_live, released, History, count_of, FitsBy, IsLegal, acts_on, IsShape, subpages, length-set_of}
 use Rattle.thp_model.proofs.Alive.{legal_grown}
 use Rattle.thp_model.proofs.Allowed.{allowed_map_sub, allowed_unmap_sub, allowed_write, allowed_zero}
 use Rattle.thp_model.proofs.FlightLaws.{left_alone}
 use Rattle.thp_model.proofs.LegalSteps.{legal_take}
 use Rattle.thp_model.proofs.Numbers.{live_below}
 use Rattle.thp_model.proofs.Sizes.{few_subpages}
-use Rattle.thp_journal_writer.specs.EventLines.{HasSmallNumbers}
+use Rattle.thp_journal_writer.specs.Prelude.{HasSmallNumbers}
 
 -- pages are numbered by the events before them
 few_pages : (h : History) → allocations h ≤ length h

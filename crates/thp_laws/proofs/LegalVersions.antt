@@ -1,20 +1,16 @@
 -- The version of a journal text has a line for each event of its legal histories, and tells their shapes.
-use Rattle.std.proofs.Common.{◌≡◌, ℕ, Bool, true, false, cond, List, [], ◌∷◌, Option, Some, None, refl, sym, ◌∙◌}
-use Rattle.std.specs.Prelude.{slice_get, is_some}
+use Rattle.std.proofs.Common.{◌≡◌, ℕ, Bool, true, false, cond, List, [], ◌∷◌, Option, Some, None, refl, sym, ◌∙◌, slice_get, is_some}
 use Rattle.std.specs.List.{AllByRecursion, list_all, list_any}
 use Rattle.std.proofs.lemmas.Bool.{and_parts, eqb-true, false_from_ne_true, or_parts}
 use Rattle.thp_model.specs.declared.events.Event.{Event}
 use Rattle.thp_model.specs.declared.events.What.{What}
 use Rattle.thp_model.specs.declared.events.What.TheVariants.{Write, Zero, Used}
 use Rattle.thp_model.specs.declared.shape.Shape.{Shape}
-use Rattle.thp_model.specs.History.{some_event}
-use Rattle.thp_model.specs.Legal.{IsLegal}
-use Rattle.thp_model.specs.Underused.{shrinks_underused}
-use Rattle.thp_model.specs.UnderusedLaws.{finds_used}
+use Rattle.thp_model.specs.Prelude.{some_event, IsLegal, shrinks_underused, finds_used}
 use Rattle.thp_model.proofs.PartlyStands.{none_used}
 use Rattle.thp_model.proofs.SomeEvents.{some_passes}
 use Rattle.thp_journal_writer.specs.declared.version.Version.TheVariants as writing
-use Rattle.thp_journal_writer.specs.Journals.{Journal, has_order_9, is_access, tells_underused, version_of}
+use Rattle.thp_journal_writer.specs.Prelude.{Journal, has_order_9, is_access, tells_underused, version_of}
 use Rattle.thp_journal_reader.specs.declared.version.Version.{Version}
 use Rattle.thp_journal_reader.specs.declared.version.Version.TheVariants.{Plain, Orders, Underused}
 use Rattle.thp_laws.specs.Tellable.{read_version, IsOfVersion, IsToldShape}

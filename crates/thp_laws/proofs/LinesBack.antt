@@ -1,26 +1,22 @@
 -- The lines of journals are read back, one after another.
-use Rattle.std.proofs.Common.{◌≡◌, ◌<◌, ◌≤◌, ◌+◌, ℕ, suc, true, List, [], ◌∷◌, ◌++◌, map, length, Ok, refl, ap, sym, subst, ◌∙◌, arith, codes}
+use Rattle.std.proofs.Common.{◌≡◌, ◌<◌, ◌≤◌, ◌+◌, ℕ, suc, true, List, [], ◌∷◌, ◌++◌, map, length, Ok, refl, ap, sym, subst, ◌∙◌, arith, codes, eq-eqb, lt-ltb}
 use Rattle.std.specs.Prelude.{⊤}
 use Rattle.std.specs.List.{AllByRecursion}
-use Rattle.std.proofs.lemmas.Bool.{eq-eqb, lt-ltb}
 use Rattle.std.proofs.Math.Nat.{add-zero}
 use Rattle.thp_model.specs.declared.events.Event.{Event}
-use Rattle.thp_model.specs.BlockLaws.{event_with}
-use Rattle.thp_model.specs.History.{History}
-use Rattle.thp_script.specs.Readings.{◌>>=◌}
-use Rattle.thp_script.specs.Lines.{fault_after}
-use Rattle.thp_script.specs.Words.{Text}
+use Rattle.thp_model.specs.Prelude.{event_with, History}
+use Rattle.thp_script.specs.Prelude.{◌>>=◌, fault_after, Text}
 use Rattle.thp_journal_writer.specs.declared.version.Version.{Version as Written}
 use Rattle.thp_journal_writer.specs.EventLines as written
 use Rattle.thp_journal_writer.specs.Journals as journal
-use Rattle.thp_journal_writer.specs.Journals.{Journal, version_of, lines_of_node, journal_lines}
+use Rattle.thp_journal_writer.specs.Prelude.{Journal, version_of, lines_of_node, journal_lines}
 use Rattle.thp_journal_reader.specs.declared.line.Line.{Line}
 use Rattle.thp_journal_reader.specs.declared.line.Line.TheVariants.{Head, Node, Happened, End}
 use Rattle.thp_journal_reader.specs.declared.place.Place.{Place}
 use Rattle.thp_journal_reader.specs.declared.place.Place.TheVariants.{Start, Inside, Ended}
 use Rattle.thp_journal_reader.specs.declared.version.Version.{Version}
 use Rattle.thp_journal_reader.specs.JournalLines as read
-use Rattle.thp_journal_reader.specs.JournalLines.{line_in, may_stand, place_after, version_at}
+use Rattle.thp_journal_reader.specs.Prelude.{line_in, may_stand, place_after, version_at}
 use Rattle.thp_journal_reader.specs.Journals as reading
 use Rattle.thp_laws.specs.Tellable.{read_version, IsTellable, IsToldJournal}
 use Rattle.thp_laws.proofs.EventsBack.{event_line_back}

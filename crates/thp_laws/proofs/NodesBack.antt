@@ -1,26 +1,23 @@
 -- The first line, the lines of nodes and the last line are read back.
-use Rattle.std.proofs.Common.{◌≡◌, ◌<◌, ◌≤◌, ◌-◌, ◌^◌, ℕ, true, List, [], ◌∷◌, Option, Result, Ok, Some, None, refl, ap, ◌∙◌, arith, codes}
-use Rattle.std.specs.Fmt.{decimal}
+use Rattle.std.proofs.Common.{◌≡◌, ◌<◌, ◌≤◌, ◌-◌, ◌^◌, ℕ, true, List, [], ◌∷◌, Option, Result, Ok, Some, None, refl, ap, ◌∙◌, arith, codes, decimal, le-leb}
 use Rattle.std.specs.List.{list_all}
-use Rattle.std.proofs.lemmas.Bool.{le-leb}
 use Rattle.std.proofs.lemmas.Fmt.{decimal_digit}
 use Rattle.std.proofs.Math.Pow.{pow_mono}
 use Rattle.thp_model.specs.declared.shape.Shape.{Shape}
-use Rattle.thp_model.specs.Shapes.{IsShape, subpages}
+use Rattle.thp_model.specs.Prelude.{IsShape, subpages}
 use Rattle.thp_script.specs.declared.fault.TextKind.{TextKind}
-use Rattle.thp_script.specs.Readings.{◌>>=◌}
-use Rattle.thp_script.specs.Words.{Text}
+use Rattle.thp_script.specs.Prelude.{◌>>=◌, Text}
 use Rattle.thp_journal_writer.specs.declared.version.Version.{Version as Written}
 use Rattle.thp_journal_writer.specs.declared.version.Version.TheVariants as writing
 use Rattle.thp_journal_writer.specs.EventLines as written
 use Rattle.thp_journal_writer.specs.Journals as journal
-use Rattle.thp_journal_writer.specs.Journals.{node_words, underused_word}
+use Rattle.thp_journal_writer.specs.Prelude.{node_words, underused_word}
 use Rattle.thp_journal_reader.specs.declared.line.Line.{Line}
 use Rattle.thp_journal_reader.specs.declared.line.Line.TheVariants.{Head, Node, End}
 use Rattle.thp_journal_reader.specs.declared.version.Version.{Version}
 use Rattle.thp_journal_reader.specs.declared.version.Version.TheVariants.{Plain, Orders, Underused}
 use Rattle.thp_journal_reader.specs.JournalLines as read
-use Rattle.thp_journal_reader.specs.JournalLines.{by_words, line_by, head_of, node_of, end_of, number_between, threshold_of, node_with, plain_node, ordered_node, underused_node}
+use Rattle.thp_journal_reader.specs.Prelude.{by_words, line_by, head_of, node_of, end_of, number_between, threshold_of, node_with, plain_node, ordered_node, underused_node}
 use Rattle.thp_laws.specs.Tellable.{read_version, IsToldShape}
 use Rattle.thp_laws.proofs.PlainWords.{decimal_plain, is_plain, no_number}
 use Rattle.thp_laws.proofs.EventsBack.{line_of_words, number_back}

@@ -2,8 +2,8 @@
 use Rattle.std.proofs.Common.{◌≡◌, List, [], ◌∷◌, map, refl, ap₂}
 use Rattle.std.specs.List.{AllZip}
 use Rattle.thp_model.specs.declared.shape.Shape.{Shape}
-use Rattle.thp_model.specs.History.{History}
-use Rattle.thp_journal_writer.specs.Journals.{Journal}
+use Rattle.thp_model.specs.Prelude.{History}
+use Rattle.thp_journal_writer.specs.Prelude.{Journal}
 use Rattle.thp_laws.specs.SameTotals.{IsSameJournal}
 use Rattle.thp_laws.proofs.TotalsAlike.{one_run}
 use Rattle.thp_run.specs.Laws.{bare}

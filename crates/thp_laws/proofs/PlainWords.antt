@@ -1,15 +1,11 @@
 -- Words of printable characters with no space in them, which a line of them gives back; numbers and names are such words.
-use Rattle.std.proofs.Common.{◌≡◌, ◌==◌, ◌<◌, ◌≤◌, ◌^◌, ℕ, Bool, true, false, not, ◌&&◌, ◌||◌, List, [], ◌∷◌, length, refl, ap, sym, ◌∙◌, arith}
-use Rattle.std.specs.Prelude.{nat_le}
+use Rattle.std.proofs.Common.{◌≡◌, ◌==◌, ◌<◌, ◌≤◌, ◌^◌, ℕ, Bool, true, false, not, ◌&&◌, ◌||◌, List, [], ◌∷◌, length, refl, ap, sym, ◌∙◌, arith, nat_le, decimal, bytes_eq}
 use Rattle.std.specs.Char.{is_ascii_digit}
-use Rattle.std.specs.Fmt.{decimal}
 use Rattle.std.specs.List.{list_all, list_any, join_with_byte}
-use Rattle.std.specs.Str.{bytes_eq}
 use Rattle.std.proofs.lemmas.Bool.{and_parts, and_from, not_from_false, false_from_ne_true, ne_eqb, leb-true, le-leb}
 use Rattle.std.proofs.lemmas.Fmt.{digits_decimal, decimal_nonempty}
 use Rattle.std.proofs.lemmas.Slice.Eq.{bytes_eq-Decides}
-use Rattle.thp_script.specs.Lines.{is_empty, is_printable}
-use Rattle.thp_script.specs.Words.{Text, words_of}
+use Rattle.thp_script.specs.Prelude.{is_empty, is_printable, Text, words_of}
 use Rattle.thp_script.proofs.NumberLaws.{digits}
 use Rattle.thp_laws.proofs.Splitting.{all_wider, is_without, joined, all_joined}
 

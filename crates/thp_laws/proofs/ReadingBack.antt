@@ -1,24 +1,21 @@
 -- Legal journals are read back from their text.
-use Rattle.std.proofs.Common.{◌≡◌, ◌<◌, ◌≤◌, ◌+◌, ◌^◌, ℕ, zero, suc, List, [], ◌∷◌, length, Some, Option, None, refl, ap, sym, subst, ◌∙◌, arith, length-append, codes}
-use Rattle.std.specs.Prelude.{All, slice_get}
+use Rattle.std.proofs.Common.{◌≡◌, ◌<◌, ◌≤◌, ◌+◌, ◌^◌, ℕ, zero, suc, List, [], ◌∷◌, length, Some, Option, None, refl, ap, sym, subst, ◌∙◌, arith, length-append, codes, All, slice_get}
 use Rattle.std.specs.Result.{result_unwrap_or}
 use Rattle.std.specs.List.{AllByRecursion, AllZip, flat_map}
 use Rattle.std.proofs.lemmas.List.{length-map}
 use Rattle.std.proofs.lemmas.List.Elements.{recursion_from_All, All-cons, All-nil}
 use Rattle.thp_model.specs.declared.events.Event.{Event}
-use Rattle.thp_model.specs.History.{History}
-use Rattle.thp_model.specs.Legal.{IsLegal}
+use Rattle.thp_model.specs.Prelude.{History, IsLegal}
 use Rattle.thp_model.proofs.LeastBlocks.{least_same, legal_with_least}
-use Rattle.thp_script.specs.Words.{Text}
+use Rattle.thp_script.specs.Prelude.{Text}
 use Rattle.thp_journal_writer.specs.declared.version.Version.{Version as Written}
 use Rattle.thp_journal_writer.specs.EventLines as written
 use Rattle.thp_journal_writer.specs.Journals as journal
-use Rattle.thp_journal_writer.specs.Journals.{Journal, version_of, lines_of_node, journal_lines, journal_text}
+use Rattle.thp_journal_writer.specs.Prelude.{Journal, version_of, lines_of_node, journal_lines, journal_text}
 use Rattle.thp_journal_reader.specs.declared.journals.Journals.{Journals}
 use Rattle.thp_journal_reader.specs.declared.journals.NodeJournal.{NodeJournal}
-use Rattle.thp_journal_reader.specs.Answers.{IsLegalNode, ReportsIllegal}
+use Rattle.thp_journal_reader.specs.Prelude.{IsLegalNode, ReportsIllegal, node_journal}
 use Rattle.thp_journal_reader.specs.declared.version.Version.{Version}
-use Rattle.thp_journal_reader.specs.Journals.{node_journal}
 use Rattle.thp_laws.specs.ReadBack.{IsJournal, IsSameNode, nodes_from, with_lines, TextsAreReadBack, TextsAreCalledLegal, NothingElseChanges, WhatIsReadIsLegal}
 use Rattle.thp_laws.specs.Tellable.{read_version, IsTellable, IsToldJournal}
 use Rattle.thp_laws.proofs.JournalsBack.{text_back}

@@ -1,25 +1,21 @@
 -- What the command of a call does where the call's event fits.
-use Rattle.std.proofs.Common.{◌≡◌, ◌<◌, ℕ, cond, List, [], ◌∷◌, Option, None, Ok, refl, ap, ap₂, sym, subst}
+use Rattle.std.proofs.Common.{◌≡◌, ◌<◌, ℕ, cond, List, [], ◌∷◌, Option, None, Ok, refl, ap, ap₂, sym, subst, lt-ltb}
 use Rattle.std.specs.Prelude.{⊤}
-use Rattle.std.proofs.lemmas.Bool.{lt-ltb}
 use Rattle.thp_model.specs.declared.events.Event.{Event}
 use Rattle.thp_model.specs.declared.events.What.{What}
 use Rattle.thp_model.specs.declared.events.What.TheVariants as what
 use Rattle.thp_model.specs.declared.refusal.Refusal.{Refusal}
 use Rattle.thp_model.specs.declared.shape.Shape.{Shape}
-use Rattle.thp_model.specs.History.{History, by}
-use Rattle.thp_model.specs.Legal.{Fits}
-use Rattle.thp_model.specs.Shapes.{IsShape}
+use Rattle.thp_model.specs.Prelude.{History, by, Fits, IsShape}
 use Rattle.thp_model.proofs.Allowed.{allowed_map_sub, allowed_unmap_sub, allowed_write, allowed_zero}
 use Rattle.thp_script.specs.declared.script.Op.{Op}
 use Rattle.thp_script.specs.declared.script.Op.TheVariants as op
 use Rattle.thp_journal_scripts.specs.declared.event_kind.EventKind.{EventKind}
 use Rattle.thp_journal_scripts.specs.declared.event_kind.EventKind.TheVariants.{Call}
-use Rattle.thp_journal_scripts.specs.Repeating.{kind_of, operand_of}
+use Rattle.thp_journal_scripts.specs.Prelude.{kind_of, operand_of}
 use Rattle.thp_worker.specs.declared.reply.Reply.TheVariants as reply
 use Rattle.thp_worker.specs.declared.steps.Step.TheVariants.{One}
-use Rattle.thp_worker.specs.Does.{Does, Open, Reaction, Unless}
-use Rattle.thp_worker.specs.Turns.{StepAnswer, TurnsOut}
+use Rattle.thp_worker.specs.Prelude.{Does, Open, Reaction, Unless, StepAnswer, TurnsOut}
 use Rattle.thp_laws.proofs.LegalNumbers.{small_range}
 
 -- what is done where nothing refuses it

@@ -9,11 +9,7 @@ use Rattle.thp_model.specs.declared.events.Outcome.TheVariants as outcome
 use Rattle.thp_model.specs.declared.events.What.{What}
 use Rattle.thp_model.specs.declared.events.What.TheVariants as what
 use Rattle.thp_model.specs.declared.shape.Shape.{Shape}
-use Rattle.thp_model.specs.FlightSteps.{flight_after, flight_by}
-use Rattle.thp_model.specs.History.{History, by}
-use Rattle.thp_model.specs.Legal.{IsLegal}
-use Rattle.thp_model.specs.Limits.{max_batch}
-use Rattle.thp_model.specs.Places.{flight, without}
+use Rattle.thp_model.specs.Prelude.{flight_after, flight_by, History, by, IsLegal, max_batch, flight, without}
 use Rattle.thp_model.proofs.Flights.{flight_push}
 use Rattle.thp_model.proofs.FlightLaws.{flight_none}
 use Rattle.thp_model.proofs.LegalSteps.{legal_front}
@@ -22,9 +18,7 @@ use Rattle.thp_model.proofs.OnePlace.{once_flies, without_none}
 use Rattle.thp_model.proofs.Standing.{times, times-cons}
 use Rattle.thp_journal_scripts.specs.declared.event_kind.EventKind.{EventKind}
 use Rattle.thp_journal_scripts.specs.declared.event_kind.EventKind.TheVariants.{Call, Put, Take, Try}
-use Rattle.thp_journal_scripts.specs.Folds.{pages_at}
-use Rattle.thp_journal_scripts.specs.Repeating.{kind_of}
-use Rattle.thp_journal_scripts.specs.WholeScans.{once_ended, pages_after, place_of_call, place_of_put, place_of_take, place_of_try, scan_place, scan_place_after, scan_place_of, without_first, ScanPlace, Between, InTakes, InTries, InPuts, Elsewhere}
+use Rattle.thp_journal_scripts.specs.Prelude.{pages_at, kind_of, once_ended, pages_after, place_of_call, place_of_put, place_of_take, place_of_try, scan_place, scan_place_after, scan_place_of, without_first, ScanPlace, Between, InTakes, InTries, InPuts, Elsewhere}
 
 -- ---- the pages in flight
 

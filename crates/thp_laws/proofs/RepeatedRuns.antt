@@ -1,17 +1,10 @@
 -- A run of a script that repeats histories records them again, except for blocks.
-use Rattle.std.proofs.Common.{◌≡◌, ◌≤◌, ◌+◌, ◌⊎◌, ℕ, suc, Bool, true, false, cond, nat_eq, List, [], ◌∷◌, ◌++◌, map, take, length, Option, None, inl, inr, refl, ap, sym, subst, ◌∙◌, arith, append_assoc, eq-eqb}
-use Rattle.std.specs.Prelude.{All, slice_get, Some}
+use Rattle.std.proofs.Common.{◌≡◌, ◌≤◌, ◌+◌, ◌⊎◌, ℕ, suc, Bool, true, false, cond, nat_eq, List, [], ◌∷◌, ◌++◌, map, take, length, Option, None, inl, inr, refl, ap, sym, subst, ◌∙◌, arith, append_assoc, eq-eqb, All, slice_get, Some, eqb-true, take_all}
 use Rattle.std.specs.List.{filter, AllByRecursion, range_with_len}
-use Rattle.std.proofs.lemmas.Bool.{eqb-true}
-use Rattle.std.proofs.lemmas.List.{take_all}
 use Rattle.std.proofs.lemmas.List.Elements.{All-nil, recursion_from_All}
 use Rattle.thp_model.specs.declared.events.Event.{Event}
 use Rattle.thp_model.specs.declared.shape.Shape.{Shape}
-use Rattle.thp_model.specs.BlockLaws.{SameButBlocks}
-use Rattle.thp_model.specs.History.{History, by, events_of}
-use Rattle.thp_model.specs.Legal.{Fits, IsLegal}
-use Rattle.thp_model.specs.Places.{flight}
-use Rattle.thp_model.specs.Shapes.{IsShape}
+use Rattle.thp_model.specs.Prelude.{SameButBlocks, History, by, events_of, Fits, IsLegal, flight, IsShape}
 use Rattle.thp_model.proofs.LegalSteps.{legal_at, legal_front}
 use Rattle.thp_model.proofs.ListPlaces.{append_none}
 use Rattle.thp_script.specs.declared.script.Command.{Command}
@@ -19,13 +12,9 @@ use Rattle.thp_script.specs.declared.script.Op.{Op}
 use Rattle.thp_script.specs.declared.script.Op.TheVariants as op
 use Rattle.thp_journal_scripts.specs.declared.moved.Moved.{Moved}
 use Rattle.thp_journal_scripts.specs.declared.event_kind.EventKind.TheVariants.{Call, Put, Take, Try}
-use Rattle.thp_journal_scripts.specs.Repeating.{kind_of, IsBy, IsScanBy, Repeats}
-use Rattle.thp_journal_scripts.specs.WholeScans.{scan_place, Between, IsCallOrScan}
+use Rattle.thp_journal_scripts.specs.Prelude.{kind_of, IsBy, IsScanBy, Repeats, scan_place, Between, IsCallOrScan}
 use Rattle.thp_worker.specs.declared.steps.Step.TheVariants.{One}
-use Rattle.thp_worker.specs.Does.{Does, Open}
-use Rattle.thp_worker.specs.OpenBatches.{is_open}
-use Rattle.thp_worker.specs.Sections.{batches_after, command_of, put_back_on, steps_of, told_by, IsTurn, Made, Turn}
-use Rattle.thp_worker.specs.Turns.{TurnsOut}
+use Rattle.thp_worker.specs.Prelude.{Does, Open, is_open, batches_after, command_of, put_back_on, steps_of, told_by, IsTurn, Made, Turn, TurnsOut}
 use Rattle.thp_worker.proofs.StepLaws.{batches_after-append}
 use Rattle.thp_run.specs.Runs.{no_batches, IsSection}
 use Rattle.thp_laws.specs.Repeated.{ops_on, IsRepeated, ScriptsRepeatHistories}

@@ -1,19 +1,12 @@
 -- The events of a whole scan in a legal history are those of the model's scan.
-use Rattle.std.proofs.Common.{◌≡◌, ◌<◌, ◌+◌, ℕ, Bool, true, false, not, ◌||◌, nat_eq, List, [], ◌∷◌, ◌++◌, map, take, drop, length, Some, refl, ap, ap₂, sym, subst, ◌∙◌, arith, append_assoc, eq-eqb}
-use Rattle.std.specs.Prelude.{slice_get}
+use Rattle.std.proofs.Common.{◌≡◌, ◌<◌, ◌+◌, ℕ, Bool, true, false, not, ◌||◌, nat_eq, List, [], ◌∷◌, ◌++◌, map, take, drop, length, Some, refl, ap, ap₂, sym, subst, ◌∙◌, arith, append_assoc, eq-eqb, slice_get, ne_eqb}
 use Rattle.std.specs.List.{AllByRecursion}
-use Rattle.std.proofs.lemmas.Bool.{ne_eqb}
 use Rattle.std.proofs.lemmas.List.{length-map}
 use Rattle.thp_model.specs.declared.events.Event.{Event}
 use Rattle.thp_model.specs.declared.events.What.{What}
 use Rattle.thp_model.specs.declared.events.What.TheVariants as what
 use Rattle.thp_model.specs.declared.shape.Shape.{Shape}
-use Rattle.thp_model.specs.Counts.{pins}
-use Rattle.thp_model.specs.History.{History, by}
-use Rattle.thp_model.specs.Legal.{Fits, IsLegal, is_dropped}
-use Rattle.thp_model.specs.PlaceLaws.{takes_of}
-use Rattle.thp_model.specs.Places.{flight, has_page, no_pages, queue}
-use Rattle.thp_model.specs.Runs.{put_back_events, return_event, still_flying, take_events, try_event, unused}
+use Rattle.thp_model.specs.Prelude.{pins, History, by, Fits, IsLegal, is_dropped, takes_of, flight, has_page, no_pages, queue, put_back_events, return_event, still_flying, take_events, try_event, unused}
 use Rattle.thp_model.proofs.FlightLaws.{oldest}
 use Rattle.thp_model.proofs.LegalSteps.{legal_at, legal_front}
 use Rattle.thp_model.proofs.ListPlaces.{append_none}
@@ -24,7 +17,7 @@ use Rattle.thp_model.proofs.TakeRuns.{more_taken, take_runs}
 use Rattle.thp_model.proofs.TryRuns.{split_releases, try_as}
 use Rattle.thp_script.specs.declared.script.Op.{Op}
 use Rattle.thp_journal_scripts.specs.declared.event_kind.EventKind.TheVariants.{Call, Put, Take, Try}
-use Rattle.thp_journal_scripts.specs.Repeating.{kind_of, IsBy}
+use Rattle.thp_journal_scripts.specs.Prelude.{kind_of, IsBy}
 use Rattle.thp_node.proofs.ScanLemmas.{all_tried}
 use Rattle.thp_laws.proofs.CountedTurns.{untried_after, AreInTurn, IsInTurn}
 

@@ -1,36 +1,24 @@
 -- A run of a script that repeats histories, step by step: each command records what it repeats.
-use Rattle.std.proofs.Common.{◌≡◌, ◌+◌, ◌⊎◌, ℕ, Bool, true, false, cond, not, nat_eq, List, [], ◌∷◌, ◌++◌, map, take, drop, length, Option, Some, None, Ok, Err, inl, inr, refl, ap, sym, subst, ◌∙◌, append_assoc, eq-eqb}
-use Rattle.std.specs.Prelude.{slice_get}
+use Rattle.std.proofs.Common.{◌≡◌, ◌+◌, ◌⊎◌, ℕ, Bool, true, false, cond, not, nat_eq, List, [], ◌∷◌, ◌++◌, map, take, drop, length, Option, Some, None, Ok, Err, inl, inr, refl, ap, sym, subst, ◌∙◌, append_assoc, eq-eqb, slice_get, ne_eqb, take-append-drop}
 use Rattle.std.specs.List.{after_first, AllByRecursion}
-use Rattle.std.proofs.lemmas.Bool.{ne_eqb}
-use Rattle.std.proofs.lemmas.List.{take-append-drop}
 use Rattle.std.proofs.lemmas.List.Elements.{recursion_from_All}
 use Rattle.thp_model.specs.declared.refusal.Refusal.TheVariants as reason
 use Rattle.thp_model.specs.declared.shape.Shape.{Shape}
-use Rattle.thp_model.specs.BlockLaws.{SameButBlocks}
-use Rattle.thp_model.specs.Counts.{pins}
-use Rattle.thp_model.specs.History.{History}
-use Rattle.thp_model.specs.Legal.{Fits, IsLegal}
-use Rattle.thp_model.specs.Places.{flight, has_page, no_pages, queue}
-use Rattle.thp_model.specs.Refusals.{refusal}
+use Rattle.thp_model.specs.Prelude.{SameButBlocks, pins, History, Fits, IsLegal, flight, has_page, no_pages, queue, refusal, next_page, put_back_events, rest_after, still_flying, take_events, tries_of, try_event, is_worth_split}
 use Rattle.thp_model.specs.Refusals as call
-use Rattle.thp_model.specs.Runs.{next_page, put_back_events, rest_after, still_flying, take_events, tries_of, try_event}
-use Rattle.thp_model.specs.Underused.{is_worth_split}
 use Rattle.thp_model.proofs.LegalSteps.{legal_front, legal_push}
 use Rattle.thp_model.proofs.ListPlaces.{append_none}
 use Rattle.thp_model.proofs.ScanRuns.{NextTry, scan_next_try, scan_taken, scan_tried}
 use Rattle.thp_model.proofs.TakeRuns.{more_taken, take_runs}
 use Rattle.thp_model.proofs.TryRuns.{try_fits}
-use Rattle.thp_node.specs.Batches.{back_reply, tried as answer_to}
+use Rattle.thp_node.specs.Prelude.{back_reply, tried as answer_to}
 use Rattle.thp_node.specs.declared.answers.BackReply.{BackReply}
 use Rattle.thp_node.specs.declared.answers.Tried.{Tried}
 use Rattle.thp_node.specs.declared.answers.Tried.TheVariants as tried
 use Rattle.thp_worker.specs.declared.reply.Reply.TheVariants as reply
 use Rattle.thp_worker.specs.declared.steps.Step.{Step}
 use Rattle.thp_worker.specs.declared.steps.Step.TheVariants.{PutBack, SplitNext, Take}
-use Rattle.thp_worker.specs.Does.{Does, Open, Reaction}
-use Rattle.thp_worker.specs.Sections.{batches_after, told_by, with_batch, Made}
-use Rattle.thp_worker.specs.Turns.{answered_put_back, answered_try, took, IsPage, ScanDone, ScanRefused, StepAnswer}
+use Rattle.thp_worker.specs.Prelude.{Does, Open, Reaction, batches_after, told_by, with_batch, Made, answered_put_back, answered_try, took, IsPage, ScanDone, ScanRefused, StepAnswer}
 use Rattle.thp_laws.specs.OneStep.{IsSameStep}
 use Rattle.thp_laws.proofs.RepeatedCalls.{not_refused}
 use Rattle.thp_laws.proofs.RepeatedScans.{ScansAs}

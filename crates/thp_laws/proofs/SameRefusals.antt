@@ -2,24 +2,17 @@
 use Rattle.std.proofs.Common.{◌≡◌, ℕ, Bool, true, false, cond, not, Some, None, refl, ap, sym, arith}
 use Rattle.thp_model.specs.declared.refusal.Refusal.TheVariants as reason
 use Rattle.thp_model.specs.declared.shape.Shape.{Shape}
-use Rattle.thp_model.specs.BlockLaws.{SameButBlocks}
-use Rattle.thp_model.specs.Frames.{block_in_use}
-use Rattle.thp_model.specs.History.{History}
-use Rattle.thp_model.specs.Legal.{IsLegal}
-use Rattle.thp_model.specs.Places.{no_pages}
-use Rattle.thp_model.specs.Refusals.{refusal, Call}
+use Rattle.thp_model.specs.Prelude.{SameButBlocks, block_in_use, History, IsLegal, no_pages, refusal, Call, each_below, page_call}
 use Rattle.thp_model.specs.Refusals as call
-use Rattle.thp_model.specs.Sets.{each_below}
 use Rattle.thp_model.proofs.Alike.{alike, flight_alike}
 use Rattle.thp_model.proofs.LeastBlocks.{as_many, free_by_number}
-use Rattle.thp_model.specs.PageCalls.{page_call}
 use Rattle.thp_model.specs.declared.page_call.Gain.TheVariants as gain
 use Rattle.thp_model.specs.declared.page_call.Loss.TheVariants as loss
 use Rattle.thp_model.specs.declared.page_call.PageCall.{PageCall}
 use Rattle.thp_model.specs.declared.page_call.PageCall.TheVariants as either
 use Rattle.thp_script.specs.declared.script.Op.{Op}
 use Rattle.thp_script.specs.declared.script.Op.TheVariants as op
-use Rattle.thp_worker.specs.Does.{node_call_of, refusal_of_call}
+use Rattle.thp_worker.specs.Prelude.{node_call_of, refusal_of_call}
 use Rattle.thp_laws.proofs.Atoms.{same_allocated, same_closed, same_freed, same_maps, same_pins, same_split, same_unmapped, same_unmaps, same_unpins, same_whole}
 
 -- a test that fails at both or at neither

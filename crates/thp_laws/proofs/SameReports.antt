@@ -1,14 +1,13 @@
 -- Reports of runs that are the same but for blocks.
-use Rattle.std.proofs.Common.{◌≡◌, ◌<◌, ◌≤◌, ◌⊎◌, inl, inr, ℕ, zero, suc, List, [], ◌∷◌, ◌++◌, map, length, None, Ok, refl, ap, ap₂, sym, subst, ◌∙◌, arith}
-use Rattle.std.specs.Prelude.{slice_get}
+use Rattle.std.proofs.Common.{◌≡◌, ◌<◌, ◌≤◌, ◌⊎◌, inl, inr, ℕ, zero, suc, List, [], ◌∷◌, ◌++◌, map, length, None, Ok, refl, ap, ap₂, sym, subst, ◌∙◌, arith, slice_get}
 use Rattle.std.specs.List.{AllZip, flat_map}
 use Rattle.std.proofs.lemmas.Bool.{cases_lt}
 use Rattle.thp_model.specs.declared.shape.Shape.{Shape}
-use Rattle.thp_model.specs.BlockLaws.{SameButBlocks}
-use Rattle.thp_journal_writer.specs.Journals.{Journal}
+use Rattle.thp_model.specs.Prelude.{SameButBlocks}
+use Rattle.thp_journal_writer.specs.Prelude.{Journal}
 use Rattle.thp_laws.specs.SameTotals.{IsSameJournal}
 use Rattle.thp_laws.proofs.WithoutBlocks.{one_text}
-use Rattle.thp_node.specs.NodeState.{NodeState}
+use Rattle.thp_node.specs.Prelude.{NodeState}
 use Rattle.thp_run.specs.Answers.{answer_line, answers_text, section_text}
 use Rattle.thp_run.specs.Reports.{report_of, shape_in, told_of}
 use Rattle.thp_run.proofs.TotalsLaws.{totals_blind}
@@ -17,7 +16,7 @@ use Rattle.thp_script.specs.declared.script.Script.{Script}
 use Rattle.thp_script.specs.declared.settings.Report.{Report}
 use Rattle.thp_script.specs.declared.settings.Report.TheVariants as report
 use Rattle.thp_script.specs.declared.settings.Settings.{Settings}
-use Rattle.thp_script.specs.Scripts.{script_of}
+use Rattle.thp_script.specs.Prelude.{script_of}
 use Rattle.thp_worker.specs.declared.reply.SectionLog.{SectionLog}
 use Rattle.thp_run.specs.NewNodes.{AreNodesFor, histories_of, shapes_of}
 use Rattle.thp_run.specs.NewNodes as nodes

@@ -8,25 +8,16 @@ use Rattle.thp_model.specs.declared.events.What.{What}
 use Rattle.thp_model.specs.declared.events.What.TheVariants as what
 use Rattle.thp_model.specs.declared.refusal.Refusal.{Refusal}
 use Rattle.thp_model.specs.declared.shape.Shape.{Shape}
-use Rattle.thp_model.specs.BlockLaws.{SameButBlocks, with_block, without_blocks}
-use Rattle.thp_model.specs.Counts.{allocations, pins}
-use Rattle.thp_model.specs.History.{History, by}
-use Rattle.thp_model.specs.Legal.{IsLegal, is_dropped}
-use Rattle.thp_model.specs.Places.{has_page, queue}
-use Rattle.thp_model.specs.Refusals.{refusal}
+use Rattle.thp_model.specs.Prelude.{SameButBlocks, with_block, without_blocks, allocations, pins, History, by, IsLegal, is_dropped, has_page, queue, refusal, asked, goes_back, next_page, put_back_events, rest_after, return_event, still_flying, take_events, tries_of, try_event, unused, is_worth_split, gain_what, loss_what}
 use Rattle.thp_model.specs.Refusals as call
-use Rattle.thp_model.specs.RequestLaws.{asked}
-use Rattle.thp_model.specs.Runs.{goes_back, next_page, put_back_events, rest_after, return_event, still_flying, take_events, tries_of, try_event, unused}
-use Rattle.thp_model.specs.Underused.{is_worth_split}
 use Rattle.thp_model.proofs.Alike.{alike, dropped_alike, flight_alike, worth_alike}
 use Rattle.thp_model.proofs.LegalSteps.{legal_front, legal_last}
 use Rattle.thp_model.proofs.OneAnswer.{one_answer}
-use Rattle.thp_model.specs.PageCalls.{gain_what, loss_what}
 use Rattle.thp_model.specs.declared.page_call.Done.{Done}
 use Rattle.thp_model.specs.declared.page_call.Gain.TheVariants as gain
 use Rattle.thp_model.specs.declared.page_call.Loss.{Loss}
 use Rattle.thp_model.specs.declared.page_call.Loss.TheVariants as loss
-use Rattle.thp_node.specs.Batches.{back_reply, tried}
+use Rattle.thp_node.specs.Prelude.{back_reply, tried}
 use Rattle.thp_node.specs.declared.answers.BackReply.{BackReply}
 use Rattle.thp_node.specs.declared.answers.Tried.TheVariants as try
 use Rattle.thp_script.specs.declared.script.Op.{Op}
@@ -34,7 +25,7 @@ use Rattle.thp_script.specs.declared.script.Op.TheVariants as op
 use Rattle.thp_worker.specs.declared.reply.Reply.{Reply}
 use Rattle.thp_worker.specs.declared.reply.Reply.TheVariants as replied
 use Rattle.thp_worker.specs.declared.steps.Step.TheVariants.{One, Take, SplitNext, PutBack}
-use Rattle.thp_worker.specs.Does.{node_call_of, Does, DoesCall, DoesLoss, DoesOne, Nothing, Open, Reaction, Unless, refusal_of_call}
+use Rattle.thp_worker.specs.Prelude.{node_call_of, Does, DoesCall, DoesLoss, DoesOne, Nothing, Open, Reaction, Unless, refusal_of_call}
 use Rattle.thp_laws.specs.OneStep.{IsSameStep, StepsHaveOneAnswer}
 use Rattle.thp_laws.proofs.SameRefusals.{call_alike, take_alike}
 

@@ -1,10 +1,9 @@
 -- Two runs of one caller's commands, side by side: the same commands are the same steps, and have the same answers.
-use Rattle.std.proofs.Common.{◌≡◌, ◌+◌, ℕ, List, [], ◌∷◌, ◌++◌, map, ◌⊎◌, inl, inr, append_assoc, Option, Ok, Err, refl, ap, ap₂, sym, subst, ◌∙◌}
-use Rattle.std.specs.Prelude.{All}
+use Rattle.std.proofs.Common.{◌≡◌, ◌+◌, ℕ, List, [], ◌∷◌, ◌++◌, map, ◌⊎◌, inl, inr, append_assoc, Option, Ok, Err, refl, ap, ap₂, sym, subst, ◌∙◌, All}
 use Rattle.std.specs.List.{AllByRecursion}
 use Rattle.std.proofs.lemmas.List.Elements.{recursion_from_All}
 use Rattle.thp_model.specs.declared.shape.Shape.{Shape}
-use Rattle.thp_model.specs.History.{History}
+use Rattle.thp_model.specs.Prelude.{History}
 use Rattle.thp_node.specs.declared.answers.BackReply.{BackReply}
 use Rattle.thp_node.specs.declared.answers.Tried.{Tried}
 use Rattle.thp_node.specs.declared.answers.Tried.TheVariants as tried
@@ -14,9 +13,7 @@ use Rattle.thp_script.specs.declared.script.Op.TheVariants as op
 use Rattle.thp_worker.specs.declared.reply.Answer.{Answer}
 use Rattle.thp_worker.specs.declared.reply.Reply.TheVariants as reply
 use Rattle.thp_worker.specs.declared.steps.Step.TheVariants.{Take}
-use Rattle.thp_worker.specs.Does.{Open, Reaction}
-use Rattle.thp_worker.specs.Sections.{IsTurn, Made, Turn, answers_from, batches_after, command_of, steps_of, told_by, with_batch}
-use Rattle.thp_worker.specs.Turns.{IsPage, ScanDone, ScanRefused, StepAnswer, TurnsOut, counted, first_step, answered_put_back, took, answered_try}
+use Rattle.thp_worker.specs.Prelude.{Open, Reaction, IsTurn, Made, Turn, answers_from, batches_after, command_of, steps_of, told_by, with_batch, IsPage, ScanDone, ScanRefused, StepAnswer, TurnsOut, counted, first_step, answered_put_back, took, answered_try}
 use Rattle.thp_worker.proofs.StepLaws.{batches_after-append}
 use Rattle.thp_laws.proofs.SideBySide.{Pair, next_alike, pair_on}
 

@@ -1,21 +1,17 @@
 -- A set of subpages is read back from its text.
-use Rattle.std.proofs.Common.{◌≡◌, ◌==◌, ◌<◌, ◌≤◌, ◌+◌, ℕ, zero, suc, Bool, true, false, cond, not, ◌||◌, List, [], ◌∷◌, ◌++◌, map, length, get_or, Result, Ok, append_assoc, refl, ap, sym, ◌∙◌, arith, inl, inr, codes}
+use Rattle.std.proofs.Common.{◌≡◌, ◌==◌, ◌<◌, ◌≤◌, ◌+◌, ℕ, zero, suc, Bool, true, false, cond, not, ◌||◌, List, [], ◌∷◌, ◌++◌, map, length, get_or, Result, Ok, append_assoc, refl, ap, sym, ◌∙◌, arith, inl, inr, codes, decimal, bytes_eq}
 use Rattle.std.specs.Prelude.{⊤}
-use Rattle.std.specs.Fmt.{decimal}
 use Rattle.std.specs.List.{list_all, list_any, join_with_byte, range_with_len}
-use Rattle.std.specs.Str.{bytes_eq}
 use Rattle.std.proofs.lemmas.Bool.{and_parts, and_from, or_cases, or_left, or_right, eqb-true, eqb-false, eq-eqb, ne_eqb, le-leb, leb-true, lt-ltb, false_from_ne_true, cases_eq, or_from, not_from_false}
 use Rattle.std.proofs.Math.Bool.{or_assoc}
 use Rattle.std.proofs.Math.Nat.{add-zero}
 use Rattle.std.proofs.lemmas.Slice.Eq.{bytes_eq-Decides}
-use Rattle.thp_model.specs.Sets.{set_of}
+use Rattle.thp_model.specs.Prelude.{set_of}
 use Rattle.thp_script.specs.declared.fault.TextKind.{TextKind}
-use Rattle.thp_script.specs.Readings.{◌>>=◌}
-use Rattle.thp_script.specs.Lines.{is_empty}
-use Rattle.thp_script.specs.Words.{Text, number_of, pieces_at}
+use Rattle.thp_script.specs.Prelude.{◌>>=◌, is_empty, Text, number_of, pieces_at}
 use Rattle.thp_script.proofs.NumberLaws.{number_of-decimal}
-use Rattle.thp_journal_writer.specs.SetTexts.{Run, with_number, runs_from, run_text, runs_text, set_text}
-use Rattle.thp_journal_reader.specs.SetTexts.{covers_number, set_with, subpage_number, longer_run, run_of_numbers, run_of, run_from, runs_of, set_of_text}
+use Rattle.thp_journal_writer.specs.Prelude.{Run, with_number, runs_from, run_text, runs_text, set_text}
+use Rattle.thp_journal_reader.specs.Prelude.{covers_number, set_with, subpage_number, longer_run, run_of_numbers, run_of, run_from, runs_of, set_of_text}
 use Rattle.thp_laws.proofs.Splitting.{all_append, all_joined, cut_once, is_without, joined, single}
 use Rattle.thp_laws.proofs.PlainWords.{decimal_plain, decimal_without, is_plain, is_solid, plain_solid}
 

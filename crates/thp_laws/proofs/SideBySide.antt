@@ -2,12 +2,9 @@
 use Rattle.std.proofs.Common.{◌≡◌, ℕ, Bool, true, false, cond, nat_eq, List, ◌∷◌, ◌++◌, Option, ap₂, sym, subst, ◌∙◌}
 use Rattle.std.proofs.lemmas.List.{map-append}
 use Rattle.thp_model.specs.declared.shape.Shape.{Shape}
-use Rattle.thp_model.specs.BlockLaws.{SameButBlocks, event_with, without_blocks}
-use Rattle.thp_model.specs.History.{History}
-use Rattle.thp_model.specs.Legal.{IsLegal}
+use Rattle.thp_model.specs.Prelude.{SameButBlocks, event_with, without_blocks, History, IsLegal}
 use Rattle.thp_worker.specs.declared.steps.Step.{Step}
-use Rattle.thp_worker.specs.Does.{Does, Open}
-use Rattle.thp_worker.specs.Sections.{Made, with_batch}
+use Rattle.thp_worker.specs.Prelude.{Does, Open, Made, with_batch}
 use Rattle.thp_laws.specs.OneStep.{IsSameStep}
 use Rattle.thp_laws.proofs.SameSteps.{one_step}
 use Rattle.thp_laws.proofs.Walks.{Walk, does_next, front_after, legal_after, walk_on}

@@ -1,15 +1,12 @@
 -- How many workers a script has that a text spells.
-use Rattle.std.proofs.Common.{◌≡◌, ℕ, Bool, true, false, cond, List, length, Result, Ok, Err, None, ap, sym, ◌∙◌, arith}
-use Rattle.std.specs.Prelude.{nat_lt}
+use Rattle.std.proofs.Common.{◌≡◌, ℕ, Bool, true, false, cond, List, length, Result, Ok, Err, None, ap, sym, ◌∙◌, arith, nat_lt}
 use Rattle.std.specs.List.{range_with_len}
 use Rattle.std.proofs.lemmas.List.{length-map}
 use Rattle.std.proofs.lemmas.List.FromFn.{length-range_with_len}
 use Rattle.thp_script.specs.declared.fault.TextKind.TheVariants.{TooLong}
 use Rattle.thp_script.specs.declared.script.Script.{Script}
 use Rattle.thp_script.specs.declared.settings.Settings.{Settings}
-use Rattle.thp_script.specs.Readings.{◌>>=◌}
-use Rattle.thp_script.specs.Scripts.{Fault, Placed, commands_from, commands_in, script_of, script_with}
-use Rattle.thp_script.specs.Words.{lines_of}
+use Rattle.thp_script.specs.Prelude.{◌>>=◌, Fault, Placed, commands_from, commands_in, script_of, script_with, lines_of}
 use Rattle.thp_laws.proofs.WorkersApart.{one_is_apart, place_of}
 use Rattle.thp_laws.specs.OneReport.{OneSettingIsApart, OneWorkerIsApart}
 

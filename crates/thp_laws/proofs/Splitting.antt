@@ -4,7 +4,7 @@ use Rattle.std.specs.List.{AllByRecursion, list_all, flat_map, join_with_byte}
 use Rattle.std.proofs.lemmas.Bool.{and_parts, and_from, eq-eqb, not-true}
 use Rattle.std.proofs.lemmas.List.Elements.{All-from_recursion}
 use Rattle.std.proofs.lemmas.List.Splits.{slice_split_at, slice_split_none}
-use Rattle.thp_script.specs.Words.{Text, pieces_at, lines_of}
+use Rattle.thp_script.specs.Prelude.{Text, pieces_at, lines_of}
 
 -- what each element has that passes a test that says it
 pub all_wider : {A : Type 0} (p q : A → Bool) → ((x : A) → p x ≡ true → q x ≡ true) → (xs : List A) → list_all p xs ≡ true → list_all q xs ≡ true

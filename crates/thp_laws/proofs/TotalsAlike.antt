@@ -7,21 +7,15 @@ use Rattle.thp_model.specs.declared.events.Event.{Event}
 use Rattle.thp_model.specs.declared.events.What.{What}
 use Rattle.thp_model.specs.declared.events.What.TheVariants.{Alloc, SplitPmd, Split}
 use Rattle.thp_model.specs.declared.shape.Shape.{Shape}
-use Rattle.thp_model.specs.BlockLaws.{SameButBlocks, event_with, with_block, with_least_blocks, without_blocks}
-use Rattle.thp_model.specs.Counters.{add_split_pmds, add_split_underused, is_failed_try, is_page_split, queues, splits_pmds, splits_underused, thp_split_pmd, thp_underused_split_page}
-use Rattle.thp_model.specs.Counts.{allocations}
-use Rattle.thp_model.specs.Frames.{frames_held, given, gives_back, is_held}
-use Rattle.thp_model.specs.History.{History, by}
-use Rattle.thp_model.specs.Sets.{count_below, set_size, sum_below}
-use Rattle.thp_model.specs.Shapes.{subpages}
+use Rattle.thp_model.specs.Prelude.{SameButBlocks, event_with, with_block, with_least_blocks, without_blocks, add_split_pmds, add_split_underused, is_failed_try, is_page_split, queues, splits_pmds, splits_underused, thp_split_pmd, thp_underused_split_page, allocations, frames_held, given, gives_back, is_held, History, by, count_below, set_size, sum_below, subpages}
 use Rattle.thp_model.proofs.Alike.{Alike, Blind, alike, count_alike, held_alike}
 use Rattle.thp_model.proofs.LeastBlocks.{least_same, without_blocks_push}
 use Rattle.thp_model.proofs.SumsBelow.{sum_below-ext}
-use Rattle.thp_script.specs.Scripts.{Fault}
-use Rattle.thp_journal_writer.specs.Journals.{Journal}
+use Rattle.thp_script.specs.Prelude.{Fault}
+use Rattle.thp_journal_writer.specs.Prelude.{Journal}
 use Rattle.thp_journal_reader.specs.declared.journals.Journals.{Journals}
 use Rattle.thp_journal_reader.specs.declared.journals.NodeJournal.{NodeJournal}
-use Rattle.thp_journal_reader.specs.Journals.{journals_of, node_journal}
+use Rattle.thp_journal_reader.specs.Prelude.{journals_of, node_journal}
 use Rattle.thp_laws.specs.ReadBack.{nodes_from, with_lines}
 use Rattle.thp_laws.specs.SameTotals.{IsSameJournal, HaveSameTotals, OneTextIsOfOneRun, OneTextHasOneTotal}
 use Rattle.thp_laws.proofs.ReadingBack.{all_read_back}

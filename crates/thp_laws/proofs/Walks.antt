@@ -1,17 +1,13 @@
 -- The steps of one caller, one behind another: where nobody else does anything between them, each stands right behind those
 -- before it.
-use Rattle.std.proofs.Common.{◌≡◌, ◌≤◌, ◌+◌, ℕ, Bool, true, false, cond, nat_eq, List, [], ◌∷◌, ◌++◌, drop, take, length, length-append, Option, refl, ap, ap₂, sym, subst, ◌∙◌, arith}
+use Rattle.std.proofs.Common.{◌≡◌, ◌≤◌, ◌+◌, ℕ, Bool, true, false, cond, nat_eq, List, [], ◌∷◌, ◌++◌, drop, take, length, length-append, Option, refl, ap, ap₂, sym, subst, ◌∙◌, arith, eq-eqb, eqb-true, take-append-drop}
 use Rattle.std.specs.Prelude.{⊤}
 use Rattle.std.specs.List.{AllByRecursion, filter, flat_map}
-use Rattle.std.proofs.lemmas.Bool.{eq-eqb, eqb-true}
-use Rattle.std.proofs.lemmas.List.{take-append-drop}
 use Rattle.std.proofs.Math.Seq.{take-append-add}
 use Rattle.thp_model.specs.declared.shape.Shape.{Shape}
-use Rattle.thp_model.specs.History.{History}
-use Rattle.thp_model.specs.Legal.{IsLegal}
+use Rattle.thp_model.specs.Prelude.{History, IsLegal}
 use Rattle.thp_model.proofs.LegalSteps.{legal_take}
-use Rattle.thp_worker.specs.Does.{Does, Open}
-use Rattle.thp_worker.specs.Sections.{Carries, ComesBefore, IsMade, Made, own_events, with_batch}
+use Rattle.thp_worker.specs.Prelude.{Does, Open, Carries, ComesBefore, IsMade, Made, own_events, with_batch}
 
 -- what holds of each holds of each by what follows
 each_wider : (P Q : Made → Type 0) → ((m : Made) → P m → Q m) → (ms : List Made) → AllByRecursion P ms → AllByRecursion Q ms

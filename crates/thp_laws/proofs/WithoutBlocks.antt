@@ -1,20 +1,16 @@
 -- No line of a journal text tells a block.
-use Rattle.std.proofs.Common.{◌≡◌, ◌==◌, ◌+◌, ℕ, cond, ◌&&◌, ◌||◌, List, [], ◌∷◌, ◌++◌, map, refl, ap, ap₂, sym, ◌∙◌, codes}
-use Rattle.std.specs.Prelude.{is_some}
+use Rattle.std.proofs.Common.{◌≡◌, ◌==◌, ◌+◌, ℕ, cond, ◌&&◌, ◌||◌, List, [], ◌∷◌, ◌++◌, map, refl, ap, ap₂, sym, ◌∙◌, codes, is_some, decimal}
 use Rattle.std.specs.List.{AllZip, flat_map, list_all, list_any}
 use Rattle.thp_model.specs.declared.events.Event.{Event}
 use Rattle.thp_model.specs.declared.events.What.{What}
 use Rattle.thp_model.specs.declared.events.What.TheVariants.{Alloc}
 use Rattle.thp_model.specs.declared.shape.Shape.{Shape}
-use Rattle.thp_model.specs.BlockLaws.{event_with, with_block, without_blocks}
-use Rattle.thp_model.specs.History.{History}
+use Rattle.thp_model.specs.Prelude.{event_with, with_block, without_blocks, History}
 use Rattle.thp_model.proofs.Alike.{Blind, some_alike}
 use Rattle.thp_journal_writer.specs.declared.version.Version.{Version as Written}
 use Rattle.thp_journal_writer.specs.declared.version.Version.TheVariants as writing
-use Rattle.thp_journal_writer.specs.EventLines.{event_line, event_words, what_words, line_of}
+use Rattle.thp_journal_writer.specs.Prelude.{event_line, event_words, what_words, line_of, Journal, has_order_9, is_access, journal_lines, journal_text, lines_of_node, tells_underused, version_of}
 use Rattle.thp_journal_writer.specs.Journals as journal
-use Rattle.thp_journal_writer.specs.Journals.{Journal, has_order_9, is_access, journal_lines, journal_text, lines_of_node, tells_underused, version_of}
-use Rattle.std.specs.Fmt.{decimal}
 use Rattle.thp_laws.specs.SameTotals.{IsSameJournal, NoBlockShows}
 
 -- ---- one event, one history

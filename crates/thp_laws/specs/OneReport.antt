@@ -2,7 +2,7 @@
 use Rattle.std.specs.Prelude.{◌≡◌, ◌≤◌, List, ℕ, Some, Ok, false}
 use Rattle.thp_script.specs.declared.script.Script.{Script}
 use Rattle.thp_script.specs.declared.settings.Settings.{Settings}
-use Rattle.thp_script.specs.Scripts.{script_of}
+use Rattle.thp_script.specs.Prelude.{script_of}
 use Rattle.thp_run.specs.Programs.{IsReport, RunEnds}
 use Rattle.thp_laws.specs.OneRun.{AreApart, HasOneWorker}
 

@@ -2,8 +2,7 @@
 use Rattle.std.specs.Prelude.{◌≡◌, ℕ, All, List, [], Some, slice_get}
 use Rattle.std.specs.List.{AllZip}
 use Rattle.thp_model.specs.declared.shape.Shape.{Shape}
-use Rattle.thp_model.specs.BlockLaws.{SameButBlocks}
-use Rattle.thp_model.specs.History.{History}
+use Rattle.thp_model.specs.Prelude.{SameButBlocks, History}
 use Rattle.thp_script.specs.declared.script.Command.{Command}
 use Rattle.thp_script.specs.declared.script.Script.{Script}
 use Rattle.thp_worker.specs.declared.reply.SectionLog.{SectionLog}

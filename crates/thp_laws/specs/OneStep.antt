@@ -2,11 +2,9 @@
 use Rattle.std.specs.Prelude.{◌≡◌, ℕ, List, ◌++◌, Option}
 use Rattle.thp_model.specs.declared.events.Event.{Event}
 use Rattle.thp_model.specs.declared.shape.Shape.{Shape}
-use Rattle.thp_model.specs.BlockLaws.{SameButBlocks}
-use Rattle.thp_model.specs.History.{History}
-use Rattle.thp_model.specs.Legal.{IsLegal}
+use Rattle.thp_model.specs.Prelude.{SameButBlocks, History, IsLegal}
 use Rattle.thp_worker.specs.declared.steps.Step.{Step}
-use Rattle.thp_worker.specs.Does.{Does, Open, Reaction}
+use Rattle.thp_worker.specs.Prelude.{Does, Open, Reaction}
 
 -- two steps had the same effect and result, except for blocks
 pub record IsSameStep (own other : List Event) (answer reply : Reaction) (after later : Option Open) : Type 0 where

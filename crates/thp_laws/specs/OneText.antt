@@ -1,8 +1,7 @@
 -- Journals and totals as texts.
 use Rattle.std.specs.Prelude.{◌≡◌, List}
-use Rattle.thp_journal_writer.specs.Journals.{Journal, journal_text}
+use Rattle.thp_journal_writer.specs.Prelude.{Journal, journal_text, totals_text}
 use Rattle.thp_laws.specs.ReadBack.{AreTellable}
-use Rattle.thp_journal_writer.specs.Totals.{totals_text}
 
 -- nodes whose journals have the same text have the same text of totals
 abbrev pub OneJournalHasOneTotals : Type 0

@@ -2,16 +2,12 @@
 use Rattle.std.specs.Prelude.{◌≡◌, ◌≤◌, ◌<◌, ◌+◌, ℕ, All, List, [], ◌∷◌, length, Option, None, Ok}
 use Rattle.std.specs.List.{AllZip}
 use Rattle.thp_model.specs.declared.events.Event.{Event}
-use Rattle.thp_model.specs.Limits.{max_callers}
-use Rattle.thp_script.specs.Limits.{max_input, max_nodes}
-use Rattle.thp_model.specs.BlockLaws.{SameButBlocks}
-use Rattle.thp_model.specs.Legal.{IsLegal}
-use Rattle.thp_model.specs.Shapes.{IsShape}
-use Rattle.thp_journal_writer.specs.Journals.{Journal, journal_text}
+use Rattle.thp_model.specs.Prelude.{max_callers, SameButBlocks, IsLegal, IsShape}
+use Rattle.thp_script.specs.Prelude.{max_input, max_nodes}
+use Rattle.thp_journal_writer.specs.Prelude.{Journal, journal_text}
 use Rattle.thp_journal_reader.specs.declared.journals.Journals.{Journals}
 use Rattle.thp_journal_reader.specs.declared.journals.NodeJournal.{NodeJournal}
-use Rattle.thp_journal_reader.specs.Answers.{ReportsIllegal}
-use Rattle.thp_journal_reader.specs.Journals.{journals_of, node_journal}
+use Rattle.thp_journal_reader.specs.Prelude.{ReportsIllegal, journals_of, node_journal}
 
 -- the events of a node are legal, and its callers are numbers that a node can have
 pub record IsJournal (journal : Journal) : Type 0 where

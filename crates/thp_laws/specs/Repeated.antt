@@ -1,19 +1,13 @@
 -- Scripts that repeat histories: a run of such a script records the history again, except for its blocks.
-use Rattle.std.specs.Prelude.{◌≡◌, ℕ, nat_eq, List, [], All, map, slice_get, Some}
-use Rattle.std.specs.List.{filter}
+use Rattle.std.specs.Prelude.{◌≡◌, ℕ, nat_eq, List, [], All, map, slice_get, Some, filter}
 use Rattle.thp_model.specs.declared.events.Event.{Event}
 use Rattle.thp_model.specs.declared.shape.Shape.{Shape}
-use Rattle.thp_model.specs.BlockLaws.{SameButBlocks}
-use Rattle.thp_model.specs.History.{History}
-use Rattle.thp_model.specs.Legal.{IsLegal}
-use Rattle.thp_model.specs.Shapes.{IsShape}
+use Rattle.thp_model.specs.Prelude.{SameButBlocks, History, IsLegal, IsShape}
 use Rattle.thp_script.specs.declared.script.Command.{Command}
 use Rattle.thp_script.specs.declared.script.Op.{Op}
 use Rattle.thp_script.specs.declared.script.Script.{Script}
 use Rattle.thp_journal_scripts.specs.declared.moved.Moved.{Moved}
-use Rattle.thp_journal_scripts.specs.Folds.{IsScript}
-use Rattle.thp_journal_scripts.specs.Turns.{out_of_turn}
-use Rattle.thp_journal_scripts.specs.WholeScans.{IsWholeScans}
+use Rattle.thp_journal_scripts.specs.Prelude.{IsScript, out_of_turn, IsWholeScans}
 use Rattle.thp_worker.specs.declared.reply.SectionLog.{SectionLog}
 use Rattle.thp_run.specs.Runs.{IsRun}
 

@@ -1,12 +1,8 @@
 -- Journals with the same text are equal except for their blocks, and have the same totals.
 use Rattle.std.specs.Prelude.{◌≡◌, List, length}
 use Rattle.std.specs.List.{AllZip}
-use Rattle.thp_model.specs.BlockLaws.{SameButBlocks}
-use Rattle.thp_model.specs.Counters.{thp_split_page, thp_split_page_failed, thp_deferred_split_page, thp_split_pmd, thp_underused_split_page}
-use Rattle.thp_model.specs.Counts.{allocations}
-use Rattle.thp_model.specs.Frames.{frames_given, frames_held}
-use Rattle.thp_model.specs.Places.{queue}
-use Rattle.thp_journal_writer.specs.Journals.{Journal, journal_text}
+use Rattle.thp_model.specs.Prelude.{SameButBlocks, thp_split_page, thp_split_page_failed, thp_deferred_split_page, thp_split_pmd, thp_underused_split_page, allocations, frames_given, frames_held, queue}
+use Rattle.thp_journal_writer.specs.Prelude.{Journal, journal_text}
 use Rattle.thp_laws.specs.ReadBack.{AreTellable}
 
 -- the same node, with the same events except for their blocks

@@ -5,10 +5,8 @@ use Rattle.thp_model.specs.declared.events.Event.{Event}
 use Rattle.thp_model.specs.declared.events.What.{What}
 use Rattle.thp_model.specs.declared.events.What.TheVariants.{Write, Zero, Used}
 use Rattle.thp_model.specs.declared.shape.Shape.{Shape}
-use Rattle.thp_model.specs.Limits.{max_callers, max_order}
-use Rattle.thp_model.specs.Shapes.{IsShape}
-use Rattle.thp_journal_writer.specs.EventLines.{HasSmallNumbers}
-use Rattle.thp_journal_writer.specs.Journals.{Journal}
+use Rattle.thp_model.specs.Prelude.{max_callers, max_order, IsShape}
+use Rattle.thp_journal_writer.specs.Prelude.{HasSmallNumbers, Journal}
 use Rattle.thp_journal_writer.specs.declared.version.Version.{Version as Written}
 use Rattle.thp_journal_writer.specs.declared.version.Version.TheVariants as writing
 use Rattle.thp_journal_reader.specs.declared.version.Version.{Version}

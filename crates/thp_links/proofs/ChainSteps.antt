@@ -1,11 +1,7 @@
 -- What each call of a chain does to the links and to the chain's head.
-use Rattle.std.proofs.Common.{◌≡◌, ◌≢◌, ℕ, ◌<◌, List, [], ◌∷◌, length, get_or, set, drop, Some, sym, ap, ◌∙◌, arith, length-set}
-use Rattle.std.specs.List.{Contains, slice_get}
+use Rattle.std.proofs.Common.{◌≡◌, ◌≢◌, ℕ, ◌<◌, List, [], ◌∷◌, length, get_or, set, drop, Some, sym, ap, ◌∙◌, arith, length-set, Contains, slice_get}
 use Rattle.std.proofs.lemmas.Option.{same_Some, none-some}
-use Rattle.thp_links.specs.declared.link.Link.{Link}
-use Rattle.thp_links.specs.declared.link.TheConstants.{NIL}
-use Rattle.thp_links.specs.Standing.{between, Trail, ChainStands, SameOutside}
-use Rattle.thp_links.specs.Ends.{HasHead}
+use Rattle.thp_links.specs.Prelude.{Link, NIL, between, Trail, ChainStands, SameOutside, HasHead}
 use Rattle.thp_links.proofs.Members.{Contains-from_rest, Distinct-cons, Distinct-behind, differ}
 use Rattle.thp_links.proofs.Replacing.{slice_get-set_same, slice_get-set_other}
 use Rattle.thp_links.proofs.Segments.{Trail-kept}

@@ -1,6 +1,5 @@
 -- Members of lists of indices, lists without repeats, and lists that have nothing in common.
-use Rattle.std.proofs.Common.{◌≡◌, ◌≢◌, ℕ, zero, suc, ◌<◌, ◌≤◌, Bool, cond, not, List, [], ◌∷◌, ◌++◌, length, get_or, drop, Some, None, ◌⊎◌, inl, inr, sym, ap, ◌∙◌, refl, subst, arith, eqb}
-use Rattle.std.specs.List.{Contains, slice_get}
+use Rattle.std.proofs.Common.{◌≡◌, ◌≢◌, ℕ, zero, suc, ◌<◌, ◌≤◌, Bool, cond, not, List, [], ◌∷◌, ◌++◌, length, get_or, drop, Some, None, ◌⊎◌, inl, inr, sym, ap, ◌∙◌, refl, subst, arith, eqb, Contains, slice_get, eqb-true}
 use Rattle.std.proofs.lemmas.Bool.Decides.{eqb_tells, Decides-eqb}
 use Rattle.std.proofs.lemmas.List.Elements.{Contains-get_or, Contains-append_left, Contains-append_right, Contains-append_cases, filter-append}
 use Rattle.std.proofs.lemmas.List.Kept.{AllPairs-cons, AllPairs-filter}
@@ -8,8 +7,7 @@ use Rattle.std.proofs.lemmas.Option.{same_Some, none-some}
 use Rattle.std.proofs.lemmas.Map.Made.{IsDistinct-from_AllPairs}
 use Rattle.std.proofs.lemmas.Map.Views.{Contains-from_any}
 use Rattle.std.proofs.lemmas.Map.Steps.{length-le_from_distinct_below}
-use Rattle.std.proofs.lemmas.Bool.{eqb-true}
-use Rattle.thp_links.specs.Indices.{Distinct, Apart, without, last_or}
+use Rattle.thp_links.specs.Prelude.{Distinct, Apart, without, last_or}
 
 -- nothing is in the empty list
 pub Contains-nil : (i : ℕ) → Contains [] i → ⊥

@@ -1,11 +1,7 @@
 -- What a caller needs that keeps several lists in one table: a change of one leaves the others as they were.
-use Rattle.std.proofs.Common.{◌≡◌, ℕ, ◌<◌, List, [], ◌∷◌, ◌++◌, length, drop, Some, inl, inr, refl, subst}
-use Rattle.std.specs.List.{Contains, slice_get}
+use Rattle.std.proofs.Common.{◌≡◌, ℕ, ◌<◌, List, [], ◌∷◌, ◌++◌, length, drop, Some, inl, inr, refl, subst, Contains, slice_get}
 use Rattle.std.proofs.lemmas.List.Elements.{Contains-append_cases}
-use Rattle.thp_links.specs.declared.link.Link.{Link}
-use Rattle.thp_links.specs.declared.link.TheConstants.{NIL}
-use Rattle.thp_links.specs.Indices.{Distinct, Apart, without}
-use Rattle.thp_links.specs.Standing.{Stands, ChainStands, SameOutside}
+use Rattle.thp_links.specs.Prelude.{Link, NIL, Distinct, Apart, without, Stands, ChainStands, SameOutside}
 use Rattle.thp_links.proofs.Members.{Contains-nil, Contains-cons_cases, Contains-from_first, first_and_rest, Contains-from_rest, Contains-from_without, Distinct-nil, Distinct-head}
 use Rattle.thp_links.proofs.Segments.{Segment-kept, Segment-inside, Trail-kept, Trail-inside}
 

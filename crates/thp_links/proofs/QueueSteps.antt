@@ -1,14 +1,8 @@
 -- What each call of a queue does to the links and to the queue's ends.
-use Rattle.std.proofs.Common.{◌≡◌, ◌≢◌, ℕ, ◌+◌, ◌-◌, ◌<◌, ◌≤◌, List, [], ◌∷◌, ◌++◌, length, get_or, set, drop, Some, ◌⊎◌, inl, inr, sym, ap, ◌∙◌, refl, subst, arith, length-set, length-append}
-use Rattle.std.specs.List.{Contains, slice_get}
+use Rattle.std.proofs.Common.{◌≡◌, ◌≢◌, ℕ, ◌+◌, ◌-◌, ◌<◌, ◌≤◌, List, [], ◌∷◌, ◌++◌, length, get_or, set, drop, Some, ◌⊎◌, inl, inr, sym, ap, ◌∙◌, refl, subst, arith, length-set, length-append, Contains, slice_get}
 use Rattle.std.proofs.lemmas.List.Elements.{Contains-append_left, Contains-append_right, Contains-push}
 use Rattle.std.proofs.lemmas.Option.{same_Some, none-some}
-use Rattle.thp_links.specs.declared.link.Link.{Link}
-use Rattle.thp_links.specs.declared.link.TheConstants.{NIL}
-use Rattle.thp_links.specs.Indices.{Distinct, Apart, without, last_or}
-use Rattle.thp_links.specs.Standing.{between, Segment, Stands, SameOutside}
-use Rattle.thp_links.specs.Ends.{HasEnds}
-use Rattle.thp_links.specs.Neighbours.{with_next, with_prev}
+use Rattle.thp_links.specs.Prelude.{Link, NIL, Distinct, Apart, without, last_or, between, Segment, Stands, SameOutside, HasEnds, with_next, with_prev}
 use Rattle.thp_links.proofs.Members.{Contains-head, Contains-behind, Contains-cons_cases, Contains-last, parts_of, Distinct-head, Distinct-behind, Distinct-cons, Distinct-left, Distinct-right, Distinct-without, Distinct-push, Apart-from_distinct, without-middle, first_or-absent, last_or-append, last_or-absent, length-distinct}
 use Rattle.thp_links.proofs.Replacing.{slice_get-set_same, slice_get-set_other, length-with_next, length-with_prev}
 use Rattle.thp_links.proofs.Segments.{Segment-with_next, Segment-with_prev, Segment-set, Segment-inside, Segment-absent, Segment-last, Segment-first, Segment-relast, Segment-refirst, relast-other, refirst-other, Segment-append, Segment-left, Segment-right}

@@ -1,10 +1,7 @@
 -- Links with one pair, or one side of a pair, replaced.
-use Rattle.std.proofs.Common.{◌≡◌, ◌≢◌, ℕ, zero, suc, ◌<◌, ◌≤◌, List, [], ◌∷◌, length, set, Option, Some, None, ap, ◌∙◌, refl, arith, get_or-set_same, length-set}
-use Rattle.std.specs.List.{slice_get}
+use Rattle.std.proofs.Common.{◌≡◌, ◌≢◌, ℕ, zero, suc, ◌<◌, ◌≤◌, List, [], ◌∷◌, length, set, Option, Some, None, ap, ◌∙◌, refl, arith, get_or-set_same, length-set, slice_get}
 use Rattle.std.proofs.lemmas.Option.{slice_get-get_or, slice_get_past, slice_get_within}
-use Rattle.thp_links.specs.declared.link.Link.{Link}
-use Rattle.thp_links.specs.Standing.{between}
-use Rattle.thp_links.specs.Neighbours.{next_replaced, prev_replaced, with_next, with_prev}
+use Rattle.thp_links.specs.Prelude.{Link, between, next_replaced, prev_replaced, with_next, with_prev}
 
 -- the pair that was written is found
 pub slice_get-set_same : (ls : List Link) (i : ℕ) (l : Link) → i < length ls → slice_get (set ls i l) i ≡ Some l

@@ -1,12 +1,7 @@
 -- Segments of links: what keeps them, what their ends are, and how two are joined.
-use Rattle.std.proofs.Common.{◌≡◌, ◌≢◌, ℕ, ◌<◌, ◌≤◌, List, [], ◌∷◌, ◌++◌, length, get_or, set, Some, inl, inr, sym, ap, ◌∙◌, refl, arith}
-use Rattle.std.specs.List.{Contains, slice_get}
+use Rattle.std.proofs.Common.{◌≡◌, ◌≢◌, ℕ, ◌<◌, ◌≤◌, List, [], ◌∷◌, ◌++◌, length, get_or, set, Some, inl, inr, sym, ap, ◌∙◌, refl, arith, Contains, slice_get}
 use Rattle.std.proofs.lemmas.Option.{slice_get_within}
-use Rattle.thp_links.specs.declared.link.Link.{Link}
-use Rattle.thp_links.specs.declared.link.TheConstants.{NIL}
-use Rattle.thp_links.specs.Indices.{Distinct, last_or}
-use Rattle.thp_links.specs.Standing.{between, Segment, Trail}
-use Rattle.thp_links.specs.Neighbours.{with_next, with_prev}
+use Rattle.thp_links.specs.Prelude.{Link, NIL, Distinct, last_or, between, Segment, Trail, with_next, with_prev}
 use Rattle.thp_links.proofs.Members.{Contains-nil, Contains-head, Contains-behind, Contains-cons_cases, Contains-last, Distinct-head, Distinct-behind, differ, first_or-append}
 use Rattle.thp_links.proofs.Replacing.{slice_get-set_other, with_next-same, with_next-other, with_next_none, with_prev-same, with_prev-other, with_prev_none}
 

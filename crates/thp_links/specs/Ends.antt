@@ -1,6 +1,5 @@
 -- The relation between the fields of a queue or a chain and its list. No public clause cites this module.
-use Rattle.std.specs.Prelude.{ℕ, ◌≡◌, List, length, slice_index_or}
-use Rattle.std.specs.List.{Contains}
+use Rattle.std.specs.Prelude.{ℕ, ◌≡◌, List, length, slice_index_or, Contains}
 use Rattle.thp_links.specs.declared.link.TheConstants.{NIL}
 use Rattle.thp_links.specs.Indices.{last_or}
 

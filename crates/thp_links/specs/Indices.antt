@@ -1,6 +1,5 @@
 -- Lists of indices: without repetition, without common elements, and with one index removed.
-use Rattle.std.specs.Prelude.{ℕ, ◌≢◌, ◌==◌, not, List, [], ◌∷◌}
-use Rattle.std.specs.List.{Contains, AllPairs, filter}
+use Rattle.std.specs.Prelude.{ℕ, ◌≢◌, ◌==◌, not, List, [], ◌∷◌, Contains, AllPairs, filter}
 
 -- no index occurs twice
 abbrev pub Distinct : List ℕ → Type 0

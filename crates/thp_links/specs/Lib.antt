@@ -5,3 +5,4 @@ pub mod Neighbours
 pub mod AccessChain
 pub mod Edits
 pub mod LinkVecs
+pub mod Prelude

@@ -1,6 +1,5 @@
 -- When the links of a table hold a list of indices.
-use Rattle.std.specs.Prelude.{ℕ, ◌≡◌, List, [], ◌∷◌, length, slice_get, slice_index_or, Some}
-use Rattle.std.specs.List.{Contains}
+use Rattle.std.specs.Prelude.{ℕ, ◌≡◌, List, [], ◌∷◌, length, slice_get, slice_index_or, Some, Contains}
 use Rattle.thp_links.specs.declared.link.Link.{Link}
 use Rattle.thp_links.specs.declared.link.TheConstants.{NIL}
 use Rattle.thp_links.specs.Indices.{Distinct}

@@ -2,24 +2,16 @@
 use Rattle.std.proofs.Common.{◌≡◌, ℕ, Bool, true, false, List, Option, Some, None, refl, ap, sym, ◌∙◌, subst}
 use Rattle.thp_model.specs.declared.refusal.Refusal.TheVariants as reason
 use Rattle.thp_model.specs.declared.shape.Shape.{Shape}
-use Rattle.thp_model.specs.History.{History}
-use Rattle.thp_model.specs.Counts.{is_live}
-use Rattle.thp_model.specs.Pages.{PageState, page_refusal}
-use Rattle.thp_model.specs.Places.{flight, has_page}
-use Rattle.thp_model.specs.Refusals.{refusal}
+use Rattle.thp_model.specs.Prelude.{History, is_live, PageState, page_refusal, flight, has_page, refusal, page_call}
 use Rattle.thp_model.proofs.Bools.{by_bool}
 use Rattle.thp_model.proofs.OnePlace.{flies_live}
 use Rattle.thp_page.specs.declared.standing.Standing.TheVariants.{Batch}
-use Rattle.thp_page.specs.Table.{Slot}
-use Rattle.thp_page.specs.Table.{Table}
-use Rattle.thp_page.specs.Slots.{slot_at, HoldsPage}
+use Rattle.thp_page.specs.Prelude.{Slot, Table, slot_at, HoldsPage}
 use Rattle.thp_model.specs.declared.page_call.Gain.TheVariants as gain
 use Rattle.thp_model.specs.declared.page_call.Loss.TheVariants as loss
 use Rattle.thp_model.specs.declared.page_call.PageCall.{PageCall}
 use Rattle.thp_model.specs.declared.page_call.PageCall.TheVariants as either
-use Rattle.thp_live_pages.specs.Holding.{IsSlot, Fills, IsNode}
-use Rattle.thp_live_pages.specs.Homes.{block_of}
-use Rattle.thp_model.specs.PageCalls.{page_call}
+use Rattle.thp_live_pages.specs.Prelude.{IsSlot, Fills, IsNode, block_of}
 use Rattle.thp_live_pages.proofs.Homing.{Homed, legal_homed, live_block}
 use Rattle.thp_live_pages.proofs.PageEvents.{slot_is, refusal_is, refusal_gone}
 use Rattle.thp_live_pages.proofs.Standings.{standing_flying}

@@ -1,20 +1,13 @@
 -- When a close and an allocation are refused.
-use Rattle.std.proofs.Common.{◌≡◌, ◌<◌, ℕ, Bool, true, false, not, ◌&&◌, cond, List, length, Option, Some, None, refl, ap, ap₂, ◌∙◌, subst, arith}
-use Rattle.std.specs.Prelude.{IsSome}
+use Rattle.std.proofs.Common.{◌≡◌, ◌<◌, ℕ, Bool, true, false, not, ◌&&◌, cond, List, length, Option, Some, None, refl, ap, ap₂, ◌∙◌, subst, arith, IsSome}
 use Rattle.thp_model.specs.declared.refusal.Refusal.TheVariants as reason
 use Rattle.thp_model.specs.declared.shape.Shape.{Shape}
-use Rattle.thp_model.specs.Sets.{each_below}
-use Rattle.thp_model.specs.History.{History, some_event}
-use Rattle.thp_model.specs.Counts.{is_closed, is_live, allocations, frees}
-use Rattle.thp_model.specs.Frames.{block_in_use}
-use Rattle.thp_model.specs.Refusals.{refusal}
+use Rattle.thp_model.specs.Prelude.{each_below, History, some_event, is_closed, is_live, allocations, frees, block_in_use, refusal}
 use Rattle.thp_model.specs.Refusals as call
 use Rattle.thp_model.proofs.Below.{each_below-ext, each-not, some_yes, some_no}
 use Rattle.thp_model.proofs.Numbers.{Fresh}
-use Rattle.thp_page.specs.Table.{Slot, Table}
-use Rattle.thp_page.specs.Slots.{slot_at, HoldsPage}
-use Rattle.thp_live_pages.specs.PageStoreState.{HasFree}
-use Rattle.thp_live_pages.specs.Holding.{Fills, IsNode}
+use Rattle.thp_page.specs.Prelude.{Slot, Table, slot_at, HoldsPage}
+use Rattle.thp_live_pages.specs.Prelude.{HasFree, Fills, IsNode}
 use Rattle.thp_live_pages.proofs.Admitting.{found}
 use Rattle.thp_live_pages.proofs.Homing.{in_use, block_free, legal_homed}
 use Rattle.thp_live_pages.proofs.PageEvents.{slot_is}

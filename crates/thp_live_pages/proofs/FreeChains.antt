@@ -1,17 +1,11 @@
 -- A chain of blocks without a page, while the table and the queue beside it change.
-use Rattle.std.proofs.Common.{◌≡◌, ◌≢◌, ℕ, List, Option, Some, None, length, ap, sym, ◌∙◌, subst, get_or}
-use Rattle.std.specs.List.{Contains}
-use Rattle.std.proofs.lemmas.List.{get_or-set_other}
-use Rattle.thp_links.specs.Standing.{SameOutside}
-use Rattle.thp_links.specs.Indices.{Apart}
+use Rattle.std.proofs.Common.{◌≡◌, ◌≢◌, ℕ, List, Option, Some, None, length, ap, sym, ◌∙◌, subst, get_or, Contains, get_or-set_other}
+use Rattle.thp_links.specs.Prelude.{SameOutside, Apart}
 use Rattle.thp_links.proofs.OneTable.{Stands-kept}
 use Rattle.thp_links.proofs.Segments.{Trail-kept}
-use Rattle.thp_page.specs.Slots.{slot_at}
-use Rattle.thp_page.specs.Table.{Slot, Table, SameSlots}
+use Rattle.thp_page.specs.Prelude.{slot_at, Slot, Table, SameSlots}
 use Rattle.thp_page.proofs.TableSlots.{slot_at-same}
-use Rattle.thp_live_pages.specs.PageStoreState.{PageStoreState, Edits}
-use Rattle.thp_live_pages.specs.FreeChains.{IsFreeChain}
-use Rattle.thp_live_pages.specs.Linking.{IsListed, IsLinked}
+use Rattle.thp_live_pages.specs.Prelude.{PageStoreState, Edits, IsFreeChain, IsListed, IsLinked}
 use Rattle.thp_live_pages.proofs.Relinking.{not_queued}
 
 -- an edit of a block that isn't in the chain

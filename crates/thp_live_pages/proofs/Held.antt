@@ -1,6 +1,5 @@
 -- How often blocks are held, by the history.
-use Rattle.std.proofs.Common.{◌≡◌, ℕ, ◌+◌, ◌<◌, Bool, true, false, cond, not, ◌&&◌, ◌||◌, List, [], ◌∷◌, ◌++◌, refl, ap, sym, ◌∙◌, arith, inl, inr, nat_eq, eq-eqb, ne_eqb, Option, Some, None}
-use Rattle.std.specs.Prelude.{count_by, IfSome}
+use Rattle.std.proofs.Common.{◌≡◌, ℕ, ◌+◌, ◌<◌, Bool, true, false, cond, not, ◌&&◌, ◌||◌, List, [], ◌∷◌, ◌++◌, refl, ap, sym, ◌∙◌, arith, inl, inr, nat_eq, eq-eqb, ne_eqb, Option, Some, None, count_by, IfSome}
 use Rattle.std.specs.List.{fold, list_any}
 use Rattle.std.proofs.lemmas.List.Sums.{fold_push}
 use Rattle.std.proofs.lemmas.Bool.Decides.{eqb_tells}
@@ -9,14 +8,11 @@ use Rattle.thp_model.specs.declared.events.Outcome.{Outcome}
 use Rattle.thp_model.specs.declared.events.Outcome.TheVariants.{Freed}
 use Rattle.thp_model.specs.declared.events.What.{What}
 use Rattle.thp_model.specs.declared.events.What.TheVariants.{Alloc, UnmapWhole, UnmapSub, Unpin}
-use Rattle.thp_model.specs.Counts.{allocates, frees, is_alloc, is_freed}
-use Rattle.thp_model.specs.Frames.{places, places_live, block_in_use}
-use Rattle.thp_model.specs.History.{History, by, count_of, some_event}
+use Rattle.thp_model.specs.Prelude.{allocates, frees, is_alloc, is_freed, places, places_live, block_in_use, History, by, count_of, some_event}
 use Rattle.thp_model.proofs.Bools.{and-false, and-true, or_first, or_second, or-false}
 use Rattle.thp_model.proofs.Counting.{count-cons, count_any}
 use Rattle.thp_model.proofs.Pushes.{count_of_push, some_event_push}
-use Rattle.thp_live_pages.specs.Freeing.{freed_by, freed_page}
-use Rattle.thp_live_pages.specs.Keeping.{is_unfreed, holds_one, times_held, with_its_block, blocks_of}
+use Rattle.thp_live_pages.specs.Prelude.{freed_by, freed_page, is_unfreed, holds_one, times_held, with_its_block, blocks_of}
 
 -- tests that agree count the same
 count_alike : {X : Type 0} (t u : X → Bool) (xs : List X) → ((x : X) → t x ≡ u x) → count_by t xs ≡ count_by u xs

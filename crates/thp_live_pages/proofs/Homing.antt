@@ -7,15 +7,12 @@ use Rattle.thp_model.specs.declared.events.Outcome.{Outcome}
 use Rattle.thp_model.specs.declared.events.What.{What}
 use Rattle.thp_model.specs.declared.events.What.TheVariants.{Alloc, UnmapWhole, UnmapSub, Unpin}
 use Rattle.thp_model.specs.declared.shape.Shape.{Shape}
-use Rattle.thp_model.specs.History.{History, some_event}
-use Rattle.thp_model.specs.Counts.{is_live, allocates, frees, is_freed}
-use Rattle.thp_model.specs.Frames.{places, places_live, block_in_use}
-use Rattle.thp_model.specs.Legal.{IsLegal, Fits, FitsBy, FitsAlloc}
+use Rattle.thp_model.specs.Prelude.{History, some_event, is_live, allocates, frees, is_freed, places, places_live, block_in_use, IsLegal, Fits, FitsBy, FitsAlloc}
 use Rattle.thp_model.proofs.Alive.{Grown, grown_push, grown_none}
 use Rattle.thp_model.proofs.Bools.{by_bool, and_both, and_yes, or_first, or_second}
 use Rattle.thp_model.proofs.LegalSteps.{legal_all}
 use Rattle.thp_model.proofs.Pushes.{some_event_push, some_same, live_stays}
-use Rattle.thp_live_pages.specs.Homes.{block_of, block_after, block_by}
+use Rattle.thp_live_pages.specs.Prelude.{block_of, block_after, block_by}
 
 -- the last event changes a page's block so
 pub block_push : (h : History) (e : Event) (p : ℕ) → block_of (h ++ e ∷ []) p ≡ block_after p (block_of h p) e.what

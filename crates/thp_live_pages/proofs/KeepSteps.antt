@@ -1,23 +1,12 @@
 -- What is kept of the events stays true with one more event.
-use Rattle.std.proofs.Common.{◌≡◌, ℕ, ◌+◌, ◌<◌, ◌≤◌, Bool, true, false, cond, not, ◌&&◌, List, [], ◌∷◌, ◌++◌, length, set, get_or, refl, ap, sym, ◌∙◌, subst, arith, inl, inr, nat_eq, length-set, length-append, Option, Some, None, replicate}
-use Rattle.std.specs.Prelude.{count_by}
+use Rattle.std.proofs.Common.{◌≡◌, ℕ, ◌+◌, ◌<◌, ◌≤◌, Bool, true, false, cond, not, ◌&&◌, List, [], ◌∷◌, ◌++◌, length, set, get_or, refl, ap, sym, ◌∙◌, subst, arith, inl, inr, nat_eq, length-set, length-append, Option, Some, None, replicate, count_by, get_or-set_same, get_or-set_other}
 use Rattle.std.specs.List.{range_with_len}
-use Rattle.std.proofs.lemmas.List.{get_or-set_same, get_or-set_other}
 use Rattle.std.proofs.lemmas.Bool.Decides.{eqb_tells}
 use Rattle.thp_model.specs.declared.events.Event.{Event}
 use Rattle.thp_model.specs.declared.events.What.TheVariants.{Alloc}
 use Rattle.thp_model.specs.declared.shape.Shape.{Shape}
-use Rattle.thp_model.specs.BlockLaws.{first_that, least_free}
-use Rattle.thp_model.specs.Counts.{is_alloc}
-use Rattle.thp_model.specs.Frames.{block_in_use}
-use Rattle.thp_model.specs.History.{History, by, count_of, some_event}
-use Rattle.thp_live_pages.specs.declared.page_blocks.Allocation.{Allocation}
-use Rattle.thp_live_pages.specs.declared.pages.PageRecord.{PageRecord}
-use Rattle.thp_live_pages.specs.declared.pages.PageRecord.TheVariants.{Freed, Holds}
-use Rattle.thp_live_pages.specs.Chains.{IsChain, IsCovered}
-use Rattle.thp_live_pages.specs.Freeing.{freed_page}
-use Rattle.thp_live_pages.specs.BlockHolders.{least_of}
-use Rattle.thp_live_pages.specs.Keeping.{is_unfreed, times_held, blocks_of, IsKnown, Keeps}
+use Rattle.thp_model.specs.Prelude.{first_that, least_free, is_alloc, block_in_use, History, by, count_of, some_event}
+use Rattle.thp_live_pages.specs.Prelude.{Allocation, PageRecord, Freed, Holds, IsChain, IsCovered, freed_page, least_of, is_unfreed, times_held, blocks_of, IsKnown, Keeps}
 use Rattle.thp_model.proofs.Bools.{and-false, and-true}
 use Rattle.thp_live_pages.proofs.Chaining.{chain_new, chain_kept}
 use Rattle.thp_live_pages.proofs.FreeWords.{zeros-get, zeros-length}

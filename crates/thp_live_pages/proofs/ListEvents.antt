@@ -1,19 +1,11 @@
 -- A node after an allocation, a close, and what becomes of pages in the queue and in batches.
-use Rattle.std.proofs.Common.{◌≡◌, ℕ, zero, suc, ◌<◌, Bool, true, false, cond, not, ◌&&◌, ◌||◌, List, [], ◌∷◌, ◌++◌, Option, Some, None, length, drop, map, refl, ap, ap₂, sym, ◌∙◌, subst, arith, nat_eq, eq-eqb, ne_eqb, eqb-true}
-use Rattle.std.specs.Prelude.{slice_get}
+use Rattle.std.proofs.Common.{◌≡◌, ℕ, zero, suc, ◌<◌, Bool, true, false, cond, not, ◌&&◌, ◌||◌, List, [], ◌∷◌, ◌++◌, Option, Some, None, length, drop, map, refl, ap, ap₂, sym, ◌∙◌, subst, arith, nat_eq, eq-eqb, ne_eqb, eqb-true, slice_get}
 use Rattle.thp_links.proofs.Members.{first_and_rest}
 use Rattle.thp_model.specs.declared.events.Event.{Event}
 use Rattle.thp_model.specs.declared.events.What.TheVariants as what
 use Rattle.thp_model.specs.declared.shape.Shape.{Shape}
-use Rattle.thp_model.specs.History.{History, by, some_event}
-use Rattle.thp_model.specs.Counts.{is_live, is_closed, pins, allocations, frees}
-use Rattle.thp_model.specs.Legal.{Fits}
-use Rattle.thp_model.specs.Pages.{PageState, Tallies, PageSplit, IsFresh, gives_frames, is_split_candidate}
-use Rattle.thp_model.specs.Places.{queue, queue_after, flights, flight, has_page, no_pages, is_taking, leaves}
-use Rattle.thp_model.specs.Refusals.{refusal}
+use Rattle.thp_model.specs.Prelude.{History, by, some_event, is_live, is_closed, pins, allocations, frees, Fits, PageState, Tallies, PageSplit, IsFresh, gives_frames, is_split_candidate, queue, queue_after, flights, flight, has_page, no_pages, is_taking, leaves, refusal, unused, try_event, return_event, shrinks_underused, is_partly_mapped, is_worth_split}
 use Rattle.thp_model.specs.Refusals as call
-use Rattle.thp_model.specs.Runs.{unused, try_event, return_event}
-use Rattle.thp_model.specs.Underused.{shrinks_underused, is_partly_mapped, is_worth_split}
 use Rattle.thp_model.proofs.Alive.{legal_grown}
 use Rattle.thp_model.proofs.Bools.{by_bool}
 use Rattle.thp_model.proofs.Flights.{flight_push}
@@ -26,12 +18,8 @@ use Rattle.thp_model.proofs.Standing.{Sound, stand, times, flying, flying-leaves
 use Rattle.thp_model.proofs.Tallying.{tallies_alloc, tallies_split, tallies_stay, pins_is}
 use Rattle.thp_model.proofs.Untouched.{Untouched, untouched}
 use Rattle.thp_page.specs.declared.standing.Standing.TheVariants.{Nowhere, Queued, Batch}
-use Rattle.thp_page.specs.Table.{Slot}
-use Rattle.thp_page.specs.Table.{Table}
-use Rattle.thp_page.specs.Slots.{slot_at}
-use Rattle.thp_live_pages.specs.PageStoreState.{PageStoreState, Edits, Placed, TakesFirst, new_standing, new_queue}
-use Rattle.thp_live_pages.specs.Holding.{IsSlot, Fills, IsNode}
-use Rattle.thp_live_pages.specs.Homes.{block_of, standing_of}
+use Rattle.thp_page.specs.Prelude.{Slot, Table, slot_at}
+use Rattle.thp_live_pages.specs.Prelude.{PageStoreState, Edits, Placed, TakesFirst, new_standing, new_queue, IsSlot, Fills, IsNode, block_of, standing_of}
 use Rattle.thp_live_pages.proofs.Homing.{Homed, block_push, block_free}
 use Rattle.thp_live_pages.proofs.Keeping.{node_moved, node_stays, blocks_same, blocks_pushed}
 use Rattle.thp_live_pages.proofs.PageEvents.{slot_inside, slot_is, only_in}

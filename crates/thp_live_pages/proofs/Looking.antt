@@ -1,11 +1,9 @@
 -- What stays where link pairs are only read: all but the count of accesses.
 use Rattle.std.proofs.Common.{ℕ, List, Option, Some, None, length, map, get_or, ap, sym, ◌∙◌, subst}
 use Rattle.thp_model.specs.declared.shape.Shape.{Shape}
-use Rattle.thp_model.specs.History.{History}
-use Rattle.thp_page.specs.Table.{Slot}
-use Rattle.thp_live_pages.specs.FreeChains.{Relinks}
-use Rattle.thp_live_pages.specs.Holding.{Fills, IsNode}
-use Rattle.thp_live_pages.specs.PageStoreState.{PageStoreState}
+use Rattle.thp_model.specs.Prelude.{History}
+use Rattle.thp_page.specs.Prelude.{Slot}
+use Rattle.thp_live_pages.specs.Prelude.{Relinks, Fills, IsNode, PageStoreState}
 
 -- and the table and the queue are still what the history says
 pub node_read : (s : Shape) (h : History) (old new : PageStoreState) (most : ℕ) → IsNode s h old.table old.queue → Relinks old new most → IsNode s h new.table new.queue

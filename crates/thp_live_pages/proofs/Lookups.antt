@@ -1,19 +1,13 @@
 -- What is known of each page after a write.
-use Rattle.std.proofs.Common.{◌≡◌, ℕ, suc, zero, ◌<◌, ◌≤◌, Bool, true, false, cond, List, [], ◌∷◌, ◌++◌, length, set, get_or, refl, ap, sym, ◌∙◌, arith, inl, inr, nat_eq, nat_lt, eq-eqb, ne_eqb, Option, Some, None}
-use Rattle.std.specs.Prelude.{slice_get}
+use Rattle.std.proofs.Common.{◌≡◌, ℕ, suc, zero, ◌<◌, ◌≤◌, Bool, true, false, cond, List, [], ◌∷◌, ◌++◌, length, set, get_or, refl, ap, sym, ◌∙◌, arith, inl, inr, nat_eq, nat_lt, eq-eqb, ne_eqb, Option, Some, None, slice_get, nat_cmp, is_eq, ltb-false, ltb-true, eqb-true}
 use Rattle.std.proofs.lemmas.Option.{slice_get_past, slice_get-get_or}
 use Rattle.std.proofs.lemmas.Bool.Decides.{eqb_tells}
-use Rattle.thp_live_pages.specs.declared.pages.PageRecord.{PageRecord}
-use Rattle.std.specs.Ordering.{nat_cmp, is_eq}
+use Rattle.thp_live_pages.specs.Prelude.{PageRecord, Holds, Pages, first_known, known_of}
 use Rattle.std.specs.Cmp.{nat_cmp_is}
 use Rattle.std.specs.declared.cmp.Ordering.TheVariants.{Less, Equal, Greater}
 use Rattle.std.proofs.lemmas.Bool.{cases_lt}
 use Rattle.std.specs.BTreeMap.{get}
 use Rattle.std.specs.Map.{lookup}
-use Rattle.std.proofs.lemmas.Bool.{ltb-false, ltb-true, eqb-true}
-use Rattle.thp_live_pages.specs.declared.pages.PageRecord.TheVariants.{Holds}
-use Rattle.thp_live_pages.specs.declared.pages.Pages.{Pages}
-use Rattle.thp_live_pages.specs.PageRecord.{first_known, known_of}
 
 -- numbers behind one more
 one_on : (q i : ℕ) → nat_eq (suc q) (suc i) ≡ nat_eq q i

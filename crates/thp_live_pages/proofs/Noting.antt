@@ -1,22 +1,12 @@
 -- What is kept after the code noted an event.
-use Rattle.std.proofs.Common.{◌≡◌, ℕ, ◌+◌, ◌<◌, false, cond, List, [], ◌∷◌, ◌++◌, length, set, take, get_or, refl, ap, sym, ◌∙◌, subst, nat_eq, Option, Some, None}
-use Rattle.std.specs.Prelude.{count_by}
+use Rattle.std.proofs.Common.{◌≡◌, ℕ, ◌+◌, ◌<◌, false, cond, List, [], ◌∷◌, ◌++◌, length, set, take, get_or, refl, ap, sym, ◌∙◌, subst, nat_eq, Option, Some, None, count_by}
 use Rattle.std.proofs.lemmas.List.Sums.{fold_push}
 use Rattle.thp_model.specs.declared.events.Event.{Event}
 use Rattle.thp_model.specs.declared.events.What.{What}
 use Rattle.thp_model.specs.declared.events.What.TheVariants.{Alloc}
 use Rattle.thp_model.specs.declared.shape.Shape.{Shape}
-use Rattle.thp_model.specs.BlockLaws.{event_with, least_free, with_least_blocks}
-use Rattle.thp_model.specs.Counts.{is_alloc}
-use Rattle.thp_model.specs.History.{History, by}
-use Rattle.thp_live_pages.specs.declared.page_blocks.Allocation.{Allocation}
-use Rattle.thp_live_pages.specs.declared.pages.PageRecord.{PageRecord}
-use Rattle.thp_live_pages.specs.declared.pages.PageRecord.TheVariants.{Freed, Holds}
-use Rattle.thp_live_pages.specs.Chains.{IsChain, IsCovered}
-use Rattle.thp_live_pages.specs.Freeing.{freed_page}
-use Rattle.thp_live_pages.specs.BlockHolders.{least_of}
-use Rattle.thp_live_pages.specs.Keeping.{Keeps}
-use Rattle.thp_live_pages.specs.State.{BlocksState}
+use Rattle.thp_model.specs.Prelude.{event_with, least_free, with_least_blocks, is_alloc, History, by}
+use Rattle.thp_live_pages.specs.Prelude.{Allocation, PageRecord, Freed, Holds, IsChain, IsCovered, freed_page, least_of, Keeps, BlocksState}
 use Rattle.thp_model.proofs.ListPlaces.{step_of}
 use Rattle.thp_live_pages.proofs.KeepSteps.{least_is, keeps_quiet, keeps_alloc, keeps_alloc_freed, keeps_covered, keeps_free, keeps_free_again}
 

@@ -1,19 +1,13 @@
 -- A node after a call about one page: its slot, its place and the queue are what the history with the event says.
 use Rattle.std.proofs.Common.{◌≡◌, ℕ, ◌<◌, Bool, true, false, cond, not, ◌&&◌, List, [], ◌∷◌, ◌++◌, Option, Some, None, length, map, refl, ap, ap₂, sym, ◌∙◌, subst, arith, nat_eq, if◌then◌else◌, get_or, eq-eqb, eqb-true, zero, suc}
-use Rattle.thp_links.specs.Indices.{without as without_index}
+use Rattle.thp_links.specs.Prelude.{without as without_index}
 use Rattle.thp_model.specs.declared.events.Event.{Event}
 use Rattle.thp_model.specs.declared.events.Outcome.{Outcome}
 use Rattle.thp_model.specs.declared.events.Outcome.TheVariants as outcome
 use Rattle.thp_model.specs.declared.events.What.{What}
 use Rattle.thp_model.specs.declared.refusal.Refusal.TheVariants as reason
 use Rattle.thp_model.specs.declared.shape.Shape.{Shape}
-use Rattle.thp_model.specs.History.{History, by}
-use Rattle.thp_model.specs.Counts.{is_live, is_closed, is_freed, frees, allocates}
-use Rattle.thp_model.specs.Legal.{Fits, Gives}
-use Rattle.thp_model.specs.Pages.{PageState, Tallies, page_refusal}
-use Rattle.thp_model.specs.PageChanges.{page_outcome}
-use Rattle.thp_model.specs.Places.{queue, queue_after, queue_by, flights, flights_after, flights_by, has_page, stands, without}
-use Rattle.thp_model.specs.Refusals.{refusal}
+use Rattle.thp_model.specs.Prelude.{History, by, is_live, is_closed, is_freed, frees, allocates, Fits, Gives, PageState, Tallies, page_refusal, page_outcome, queue, queue_after, queue_by, flights, flights_after, flights_by, has_page, stands, without, refusal, gain_call, loss_call, page_call, gain_what, loss_what, Gains, Loses}
 use Rattle.thp_model.proofs.Allowed.{allowed_map_whole, refused_gone}
 use Rattle.thp_model.proofs.Bools.{by_bool}
 use Rattle.thp_model.proofs.PageOutcomes.{gives_is, lives_by}
@@ -21,9 +15,7 @@ use Rattle.thp_model.proofs.PageRefusals.{refusal_map_whole, refusal_unmap_whole
 use Rattle.thp_model.proofs.Pushes.{queue_push}
 use Rattle.thp_model.proofs.Tallying.{tallies_map_whole, tallies_unmap_whole, tallies_map_sub, tallies_unmap_sub, tallies_split_pmd, tallies_pin, tallies_unpin, tallies_write, tallies_zero}
 use Rattle.thp_page.specs.declared.standing.Standing.TheVariants.{Queued}
-use Rattle.thp_page.specs.Table.{Slot}
-use Rattle.thp_page.specs.Table.{Table}
-use Rattle.thp_page.specs.Slots.{slot_at}
+use Rattle.thp_page.specs.Prelude.{Slot, Table, slot_at}
 use Rattle.thp_model.specs.declared.page_call.Done.{Done}
 use Rattle.thp_model.specs.declared.page_call.Gain.{Gain}
 use Rattle.thp_model.specs.declared.page_call.Gain.TheVariants as gain
@@ -31,11 +23,8 @@ use Rattle.thp_model.specs.declared.page_call.Loss.{Loss}
 use Rattle.thp_model.specs.declared.page_call.Loss.TheVariants as loss
 use Rattle.thp_model.specs.declared.page_call.PageCall.{PageCall}
 use Rattle.thp_model.specs.declared.page_call.PageCall.TheVariants as either
-use Rattle.thp_live_pages.specs.PageStoreState.{PageStoreState, Edits, Lost, slot_after, batch_of, left_by, is_nowhere}
+use Rattle.thp_live_pages.specs.Prelude.{PageStoreState, Edits, Lost, slot_after, batch_of, left_by, is_nowhere, IsSlot, Fills, IsNode, block_of, block_after, block_by, standing_of, flier}
 use Rattle.thp_live_pages.specs.PageStoreState as blocks
-use Rattle.thp_live_pages.specs.Holding.{IsSlot, Fills, IsNode}
-use Rattle.thp_live_pages.specs.Homes.{block_of, block_after, block_by, standing_of, flier}
-use Rattle.thp_model.specs.PageCalls.{gain_call, loss_call, page_call, gain_what, loss_what, Gains, Loses}
 use Rattle.thp_live_pages.proofs.Homing.{Homed, block_push}
 use Rattle.thp_live_pages.proofs.Keeping.{node_moved, OnlyIn, blocks_same, blocks_pushed, blocks_without}
 use Rattle.thp_live_pages.proofs.Standings.{names, standing_same, standing_queued, has_pushed, has_not, batch_is, stands_is}

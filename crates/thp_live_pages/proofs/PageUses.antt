@@ -3,22 +3,17 @@ use Rattle.std.proofs.Common.{◌≡◌, ℕ, ◌<◌, ◌^◌, Bool, true, fals
 use Rattle.std.proofs.lemmas.Bool.Decides.{nat_tests}
 use Rattle.thp_model.specs.declared.events.Outcome.{Outcome}
 use Rattle.thp_model.specs.declared.events.Outcome.TheVariants.{Freed, Queued, Stays}
-use Rattle.thp_model.specs.Counts.{is_freed}
-use Rattle.thp_model.specs.Pages.{PageState, size, total_at, zero_at, holds, has_use, drops_use}
-use Rattle.thp_model.specs.PageChanges.{page_outcome, page_released}
-use Rattle.thp_model.specs.Sets.{set_of}
+use Rattle.thp_model.specs.Prelude.{is_freed, PageState, size, total_at, zero_at, holds, has_use, drops_use, page_outcome, page_released, set_of, Loses}
 use Rattle.thp_model.proofs.Below.{some_none}
 use Rattle.thp_model.proofs.Bools.{by_bool}
 use Rattle.thp_model.proofs.WordLemmas.{set_of-ext}
 use Rattle.thp_page.specs.declared.page.Change.{Change}
-use Rattle.thp_page.specs.Changes.{IsChange}
+use Rattle.thp_page.specs.Prelude.{IsChange}
 use Rattle.thp_page.specs.declared.standing.Standing.{Standing}
 use Rattle.thp_page.specs.declared.standing.Standing.TheVariants as standing
-use Rattle.thp_live_pages.specs.PageStoreState.{is_nowhere}
+use Rattle.thp_live_pages.specs.Prelude.{is_nowhere, outcome_by, released_after}
 use Rattle.thp_model.specs.declared.page_call.Loss.{Loss}
 use Rattle.thp_model.specs.declared.page_call.Loss.TheVariants as loss
-use Rattle.thp_model.specs.PageCalls.{Loses}
-use Rattle.thp_live_pages.specs.Outcomes.{outcome_by, released_after}
 
 same_sizes : (a b : PageState) → a.order ≡ b.order → size a ≡ size b
 unfolding size

@@ -1,24 +1,17 @@
 -- The queue after an edit of one block: it still stands, with the blocks that it should have. What an edit does to one slot.
-use Rattle.std.proofs.Common.{◌≡◌, ◌≢◌, ℕ, true, false, zero, suc, ◌+◌, ◌<◌, ◌≤◌, List, [], ◌∷◌, ◌++◌, Option, Some, None, IsSome, length, drop, refl, ap, ap₂, sym, ◌∙◌, subst, arith, inl, inr, get_or, length-set}
-use Rattle.std.specs.Prelude.{slice_set, slice_get}
-use Rattle.std.specs.List.{Contains}
-use Rattle.std.specs.Option.{IfSome}
-use Rattle.std.proofs.lemmas.List.{get_or-set_same, get_or-set_other}
+use Rattle.std.proofs.Common.{◌≡◌, ◌≢◌, ℕ, true, false, zero, suc, ◌+◌, ◌<◌, ◌≤◌, List, [], ◌∷◌, ◌++◌, Option, Some, None, IsSome, length, drop, refl, ap, ap₂, sym, ◌∙◌, subst, arith, inl, inr, get_or, length-set, slice_set, slice_get, Contains, IfSome, get_or-set_same, get_or-set_other}
 use Rattle.std.proofs.lemmas.List.Elements.{Contains-append_cases}
 use Rattle.std.proofs.lemmas.Bool.Decides.{eqb_tells}
 use Rattle.thp_links.specs.declared.link.Link.{Link}
-use Rattle.thp_links.specs.Indices.{Distinct, without}
-use Rattle.thp_links.specs.Standing.{Stands, SameOutside}
+use Rattle.thp_links.specs.Prelude.{Distinct, without, Stands, SameOutside}
 use Rattle.thp_links.proofs.Members.{Contains-cons_cases, Contains-head, Contains-behind, first_and_rest, Contains-from_without, Contains-without, Contains-from_rest, Distinct-head, without_absent}
 use Rattle.thp_model.specs.declared.events.Outcome.{Outcome}
-use Rattle.thp_model.specs.Pages.{PageState}
+use Rattle.thp_model.specs.Prelude.{PageState}
 use Rattle.thp_page.specs.declared.standing.Standing.{Standing}
 use Rattle.thp_page.specs.declared.standing.Standing.TheVariants.{Nowhere, Queued}
-use Rattle.thp_page.specs.Table.{Slot, Table}
-use Rattle.thp_page.specs.Slots.{slot_at, with_slot, stood, paged, page_in}
+use Rattle.thp_page.specs.Prelude.{Slot, Table, slot_at, with_slot, stood, paged, page_in}
 use Rattle.thp_page.proofs.TableSlots.{slot_at-with_slot-same, slot_at-inside}
-use Rattle.thp_live_pages.specs.PageStoreState.{PageStoreState, Edits, EmptyLinksStay, Placed, slot_after, queue_after}
-use Rattle.thp_live_pages.specs.Linking.{IsQueued, IsListed, IsLinked}
+use Rattle.thp_live_pages.specs.Prelude.{PageStoreState, Edits, EmptyLinksStay, Placed, slot_after, queue_after, IsQueued, IsListed, IsLinked}
 
 queued_none : (o : Option Slot) → IsQueued o → o ≡ None → ⊥
 queued_none None q e = q

@@ -4,13 +4,10 @@ use Rattle.std.proofs.lemmas.List.Sums.{count_by-le-length}
 use Rattle.thp_model.specs.declared.events.Event.{Event}
 use Rattle.thp_model.specs.declared.events.What.{What}
 use Rattle.thp_model.specs.declared.shape.Shape.{Shape}
-use Rattle.thp_model.specs.History.{History, count_of}
-use Rattle.thp_model.specs.Places.{queue}
+use Rattle.thp_model.specs.Prelude.{History, count_of, queue}
 use Rattle.thp_model.proofs.LegalSteps.{legal_none}
-use Rattle.thp_page.specs.Table.{Slot, Table}
-use Rattle.thp_page.specs.Slots.{slot_at}
-use Rattle.thp_live_pages.specs.Holding.{Fills, IsNode}
-use Rattle.thp_live_pages.specs.Homes.{block_of}
+use Rattle.thp_page.specs.Prelude.{Slot, Table, slot_at}
+use Rattle.thp_live_pages.specs.Prelude.{Fills, IsNode, block_of}
 
 lies_nowhere : (p b : ℕ) → block_of [] p ≡ Some b → ⊥
 unfolding block_of

@@ -1,12 +1,10 @@
 -- The walk along a list that stands in links.
-use Rattle.std.proofs.Common.{◌≡◌, ℕ, zero, suc, ◌+◌, ◌<◌, ◌≤◌, Bool, cond, List, [], ◌∷◌, ◌++◌, Option, Some, length, take, get_or, refl, ap, ap₂, sym, ◌∙◌, subst, arith, add-one, Contains}
-use Rattle.std.specs.Prelude.{slice_get, IfSome}
-use Rattle.std.specs.List.{filter}
+use Rattle.std.proofs.Common.{◌≡◌, ℕ, zero, suc, ◌+◌, ◌<◌, ◌≤◌, Bool, cond, List, [], ◌∷◌, ◌++◌, Option, Some, length, take, get_or, refl, ap, ap₂, sym, ◌∙◌, subst, arith, add-one, Contains, slice_get, IfSome, filter}
 use Rattle.std.proofs.lemmas.List.{take_more}
 use Rattle.std.proofs.lemmas.List.Elements.{filter-append}
 use Rattle.thp_links.specs.declared.link.Link.{Link}
 use Rattle.thp_links.specs.declared.link.TheConstants.{NIL}
-use Rattle.thp_links.specs.Standing.{Stands, Segment, between}
+use Rattle.thp_links.specs.Prelude.{Stands, Segment, between}
 use Rattle.thp_links.proofs.Members.{Contains-head, Contains-behind}
 use Rattle.thp_links.proofs.OneTable.{Stands-inside}
 

@@ -1,11 +1,7 @@
 -- Whether a page is worth a split, by its counts.
 use Rattle.std.proofs.Common.{◌≡◌, ℕ, Bool, cond, ◌||◌, ap, ap₂, ◌∙◌}
 use Rattle.thp_model.specs.declared.shape.Shape.{Shape}
-use Rattle.thp_model.specs.History.{History}
-use Rattle.thp_model.specs.Pages.{PageState, Tallies, is_split_candidate, zero_at, zero_count}
-use Rattle.thp_model.specs.Sets.{count_below}
-use Rattle.thp_model.specs.Shapes.{subpages}
-use Rattle.thp_model.specs.Underused.{is_above, is_worth_split, is_zero_filled, zero_filled}
+use Rattle.thp_model.specs.Prelude.{History, PageState, Tallies, is_split_candidate, zero_at, zero_count, count_below, subpages, is_above, is_worth_split, is_zero_filled, zero_filled}
 use Rattle.thp_model.proofs.SumsBelow.{sum_below-ext}
 use Rattle.thp_model.proofs.Tallying.{size_is}
 

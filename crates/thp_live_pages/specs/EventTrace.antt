@@ -1,6 +1,6 @@
 -- The view that contracts have of the events so far. No public clause cites this module.
 use Rattle.std.specs.Prelude.{[], ◌∷◌, ◌++◌}
-use Rattle.thp_model.specs.History.{History}
+use Rattle.thp_model.specs.Prelude.{History}
 use Rattle.thp_live_pages.specs.declared.past.EventChain.{EventChain}
 use Rattle.thp_live_pages.specs.declared.past.EventChain.TheVariants.{Start, Then'}
 

@@ -1,8 +1,7 @@
 -- The block of a page in flight.
 use Rattle.std.specs.Prelude.{◌≡◌, ℕ, Some}
 use Rattle.thp_page.specs.declared.standing.Standing.TheVariants.{Batch}
-use Rattle.thp_page.specs.Table.{Slot, Table}
-use Rattle.thp_page.specs.Slots.{slot_at}
+use Rattle.thp_page.specs.Prelude.{Slot, Table, slot_at}
 
 -- page p is in block b and in a batch of caller c
 pub record IsFlyingAt (t : Table) (c p b : ℕ) : Type 0 where

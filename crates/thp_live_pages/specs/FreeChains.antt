@@ -1,9 +1,7 @@
 -- Chains of blocks without a page, which share the links of a table with its queue.
-use Rattle.std.specs.Prelude.{◌≡◌, ℕ, ◌+◌, ◌≤◌, List, None}
-use Rattle.std.specs.List.{Contains}
-use Rattle.thp_links.specs.Standing.{ChainStands}
-use Rattle.thp_page.specs.Table.{Table}
-use Rattle.thp_page.specs.Slots.{slot_at}
+use Rattle.std.specs.Prelude.{◌≡◌, ℕ, ◌+◌, ◌≤◌, List, None, Contains}
+use Rattle.thp_links.specs.Prelude.{ChainStands}
+use Rattle.thp_page.specs.Prelude.{Table, slot_at}
 use Rattle.thp_live_pages.specs.PageStoreState.{PageStoreState}
 
 -- the table's links hold the list as a chain, and no block of it has a page

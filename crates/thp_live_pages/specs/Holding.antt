@@ -1,13 +1,8 @@
 -- What a node's table and queue represent of its history.
 use Rattle.std.specs.Prelude.{◌≡◌, ℕ, length, map, List, Option, Some, None}
 use Rattle.thp_model.specs.declared.shape.Shape.{Shape}
-use Rattle.thp_model.specs.History.{History}
-use Rattle.thp_model.specs.Legal.{IsLegal}
-use Rattle.thp_model.specs.Pages.{Tallies}
-use Rattle.thp_model.specs.Places.{queue}
-use Rattle.thp_page.specs.Table.{Slot}
-use Rattle.thp_page.specs.Table.{Table}
-use Rattle.thp_page.specs.Slots.{slot_at, HoldsPage}
+use Rattle.thp_model.specs.Prelude.{History, IsLegal, Tallies, queue}
+use Rattle.thp_page.specs.Prelude.{Slot, Table, slot_at, HoldsPage}
 use Rattle.thp_live_pages.specs.Homes.{block_of, standing_of}
 
 -- the content of block b is the state that the history gives its page

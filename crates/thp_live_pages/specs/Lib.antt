@@ -12,3 +12,4 @@ pub mod PageRecord
 pub mod Chains
 pub mod Keeping
 pub mod Freeing
+pub mod Prelude

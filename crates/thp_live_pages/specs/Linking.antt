@@ -1,10 +1,8 @@
 -- The relation between the queue and the table of pages. No public clause cites this module.
-use Rattle.std.specs.Prelude.{◌≡◌, ℕ, length, List, Option, Some, None}
-use Rattle.std.specs.List.{Contains}
-use Rattle.thp_links.specs.Standing.{Stands}
+use Rattle.std.specs.Prelude.{◌≡◌, ℕ, length, List, Option, Some, None, Contains}
+use Rattle.thp_links.specs.Prelude.{Stands}
 use Rattle.thp_page.specs.declared.standing.Standing.TheVariants.{Queued}
-use Rattle.thp_page.specs.Table.{Slot, Table}
-use Rattle.thp_page.specs.Slots.{slot_at}
+use Rattle.thp_page.specs.Prelude.{Slot, Table, slot_at}
 
 -- a page is in the queue
 abbrev pub IsQueued : Option Slot → Type 0

@@ -2,9 +2,7 @@
 use Rattle.std.specs.Prelude.{◌^◌, List, Bool, not, ◌&&◌, nat_eq, nat_lt, if◌then◌else◌}
 use Rattle.thp_model.specs.declared.events.Outcome.{Outcome}
 use Rattle.thp_model.specs.declared.events.Outcome.TheVariants.{Freed, Queued, Stays}
-use Rattle.thp_model.specs.Pages.{PageState}
-use Rattle.thp_model.specs.Counts.{is_freed}
-use Rattle.thp_model.specs.Sets.{set_of}
+use Rattle.thp_model.specs.Prelude.{PageState, is_freed, set_of}
 use Rattle.thp_page.specs.declared.page.Change.{Change}
 
 -- the outcome of a change, computed from the page after it

@@ -2,7 +2,7 @@
 use Rattle.std.specs.Prelude.{[], ◌∷◌, ◌++◌}
 use Rattle.thp_model.specs.declared.events.Event.{Event}
 use Rattle.thp_model.specs.declared.shape.Shape.{Shape}
-use Rattle.thp_model.specs.History.{History}
+use Rattle.thp_model.specs.Prelude.{History}
 
 -- the node's shape, and the events so far with their blocks
 pub record BlocksState : Type 0 where

@@ -1,6 +1,6 @@
 //! The page that an event frees.
 ghost use Rattle.std.specs.Prelude.{◌≡◌, ℕ, true, Some, IfSome};
-ghost use Rattle.thp_model.specs.Counts.{frees};
+ghost use Rattle.thp_model.specs.Prelude.{frees};
 
 use thp_model::{Outcome, PageId, What};
 

@@ -2,7 +2,7 @@
 ghost use Rattle.std.specs.Prelude.{◌≡◌, ◌<◌, ◌≤◌, Some, [], ◌∷◌, ◌++◌, IfOk, OnOk, OnErr};
 ghost use Rattle.thp_live_pages.specs.Freeing.{freed_page, IsInside};
 ghost use Rattle.thp_live_pages.specs.State.{with_event};
-ghost use Rattle.thp_model.specs.BlockLaws.{event_with, least_free};
+ghost use Rattle.thp_model.specs.Prelude.{event_with, least_free};
 
 use crate::freeing::freed_page;
 use crate::holders::BlockHolders;

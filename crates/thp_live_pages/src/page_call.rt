@@ -1,9 +1,7 @@
 //! A call about one page, and its effect on the page.
 ghost use Rattle.std.specs.Prelude.{◌≡◌, ℕ, not, OnOk, OnErr};
 ghost use Rattle.std.specs.Result.{result_err};
-ghost use Rattle.thp_model.specs.PageCalls.{loss_call, Loses};
-ghost use Rattle.thp_model.specs.Pages.{page_refusal};
-ghost use Rattle.thp_model.specs.PageChanges.{page_outcome, page_released};
+ghost use Rattle.thp_model.specs.Prelude.{loss_call, Loses, page_refusal, page_outcome, page_released};
 ghost use Rattle.thp_live_pages.specs.Outcomes.{outcome_by, released_after};
 ghost use Rattle.thp_live_pages.specs.PageStoreState.{is_nowhere};
 

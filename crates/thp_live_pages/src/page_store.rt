@@ -2,15 +2,11 @@
 ghost use Rattle.std.specs.Prelude.{◌≡◌, ◌≢◌, ℕ, ◌+◌, ◌<◌, ◌≤◌, [], ◌∷◌, ◌++◌, length, drop, slice_get, Option, Some, None, IsSome, IfSome, IfNone, IfOk, OnOk, OnErr, MatchOption, IsTrue, ◌↔◌, Contains, false};
 ghost use Rattle.std.specs.Bool.{OnTrue, OnFalse};
 ghost use Rattle.std.specs.Result.{result_err};
-ghost use Rattle.thp_links.specs.Indices.{without};
-ghost use Rattle.thp_links.specs.Standing.{Stands};
-ghost use Rattle.thp_model.specs.Limits.{max_order, min_order};
-ghost use Rattle.thp_model.specs.Pages.{gives_frames, is_split_candidate, page_refusal, PageSplit, PageState};
-ghost use Rattle.thp_page.specs.Slots.{slot_at, HoldsPage};
-ghost use Rattle.thp_page.specs.Table.{Slot};
+ghost use Rattle.thp_links.specs.Prelude.{without, Stands};
+ghost use Rattle.thp_model.specs.Prelude.{max_order, min_order, gives_frames, is_split_candidate, page_refusal, PageSplit, PageState, gain_call, loss_call, page_call, Gains};
+ghost use Rattle.thp_page.specs.Prelude.{slot_at, HoldsPage, Slot};
 ghost use Rattle.thp_live_pages.specs.Flying.{IsFlyingAt};
 ghost use Rattle.thp_live_pages.specs.FreeChains.{IsFreeChain, Relinks};
-ghost use Rattle.thp_model.specs.PageCalls.{gain_call, loss_call, page_call, Gains};
 ghost use Rattle.thp_live_pages.specs.PageStoreState.{AtSlot, Edits, batch_of, IsElsewhere, LeavesQueue, Lost, Placed, Reduced, TakesFirst};
 
 use crate::page_call::lose_by;

@@ -17,7 +17,7 @@ pub struct EventTrace {
 }
 
 impl Model for EventTrace {
-    ghost use Rattle.thp_model.specs.History.{History};
+    ghost use Rattle.thp_model.specs.Prelude.{History};
 
     ghost Value = { History };
 

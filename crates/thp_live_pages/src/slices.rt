@@ -1,6 +1,6 @@
 //! The least free blocks of a whole history.
 ghost use Rattle.std.specs.Prelude.{◌≡◌, ◌≤◌, IfOk};
-ghost use Rattle.thp_model.specs.BlockLaws.{with_least_blocks};
+ghost use Rattle.thp_model.specs.Prelude.{with_least_blocks};
 
 use crate::least_blocks::LeastBlocks;
 use std::alloc::{AllocError, Global};

@@ -1,7 +1,7 @@
 //! The walk along the queue.
 ghost use Rattle.std.specs.Prelude.{◌≡◌, ◌+◌, ◌≤◌, length, IfOk};
-ghost use Rattle.thp_links.specs.Standing.{Stands};
-ghost use Rattle.thp_page.specs.Table.{SameSlots};
+ghost use Rattle.thp_links.specs.Prelude.{Stands};
+ghost use Rattle.thp_page.specs.Prelude.{SameSlots};
 
 use std::alloc::{AllocError, Global};
 use thp_links::{LinkTable, Queue};

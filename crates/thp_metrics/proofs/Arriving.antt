@@ -1,35 +1,24 @@
 -- The pages that wait, with one more event.
-use Rattle.std.proofs.Common.{◌≡◌, ◌≢◌, ℕ, zero, suc, ◌+◌, ◌-◌, ◌^◌, ◌<◌, ◌≤◌, Bool, true, false, not, cond, List, [], ◌∷◌, ◌++◌, Option, Some, None, length, get_or, set, refl, ap, sym, ◌∙◌, subst, arith, inl, inr, ◌⊎◌, nat_eq, eq-eqb, eqb-true, append_assoc, append-nil, length-append, Contains, length-set}
-use Rattle.std.specs.Prelude.{slice_get}
-use Rattle.std.specs.List.{fold}
-use Rattle.std.specs.Option.{option_and_then}
+use Rattle.std.proofs.Common.{◌≡◌, ◌≢◌, ℕ, zero, suc, ◌+◌, ◌-◌, ◌^◌, ◌<◌, ◌≤◌, Bool, true, false, not, cond, List, [], ◌∷◌, ◌++◌, Option, Some, None, length, get_or, set, refl, ap, sym, ◌∙◌, subst, arith, inl, inr, ◌⊎◌, nat_eq, eq-eqb, eqb-true, append_assoc, append-nil, length-append, Contains, length-set, slice_get, fold, option_and_then, get_or-set_same, get_or-set_other}
 use Rattle.std.proofs.lemmas.Bool.{cases_lt}
-use Rattle.std.proofs.lemmas.List.{get_or-set_same, get_or-set_other}
 use Rattle.std.proofs.lemmas.List.Sums.{fold_push}
 use Rattle.std.proofs.lemmas.List.Elements.{Contains-push, Contains-push_cases}
-use Rattle.thp_links.specs.Indices.{without}
+use Rattle.thp_links.specs.Prelude.{without}
 use Rattle.thp_links.proofs.Members.{Contains-behind, Contains-cons_cases, Contains-from_without, Contains-head, Contains-nil, Contains-without}
 use Rattle.thp_model.specs.declared.events.Event.{Event}
 use Rattle.thp_model.specs.declared.events.What.{What}
 use Rattle.thp_model.specs.declared.events.What.TheVariants as what
 use Rattle.thp_model.specs.declared.shape.Shape.{Shape}
-use Rattle.thp_model.specs.Counts.{allocates, allocations, frees, is_live}
-use Rattle.thp_model.specs.History.{History, count_of}
-use Rattle.thp_model.specs.Legal.{Fits, IsLegal}
+use Rattle.thp_model.specs.Prelude.{allocates, allocations, frees, is_live, History, count_of, Fits, IsLegal}
 use Rattle.thp_model.proofs.Alive.{legal_grown}
 use Rattle.thp_model.proofs.LegalSteps.{legal_none, legal_push}
 use Rattle.thp_model.proofs.Numbers.{live_below}
 use Rattle.thp_model.proofs.Untouched.{Untouched, untouched}
-use Rattle.thp_journal_writer.specs.EventLines.{event_page}
-use Rattle.thp_live_pages.specs.Homes.{block_after, block_of}
+use Rattle.thp_journal_writer.specs.Prelude.{event_page}
+use Rattle.thp_live_pages.specs.Prelude.{block_after, block_of}
 use Rattle.thp_live_pages.proofs.Homing.{alloc_of, block_freed, block_push, block_stays, legal_homed, live_block}
 use Rattle.thp_live_pages.proofs.Standings.{names}
-use Rattle.thp_metrics.specs.declared.stage.Stage.{Stage}
-use Rattle.thp_metrics.specs.Arrivals.{Arrived, Ascends, KeepsWaits, first_of, first_since, since_of}
-use Rattle.thp_metrics.specs.Spans.{greatest_below}
-use Rattle.thp_metrics.specs.Spots.{home, home_by}
-use Rattle.thp_metrics.specs.Stages.{stage_of}
-use Rattle.thp_metrics.specs.Waits.{add_wait, longest_wait, waited, waits, waits_in}
+use Rattle.thp_metrics.specs.Prelude.{Stage, Arrived, Ascends, KeepsWaits, first_of, first_since, since_of, greatest_below, home, home_by, stage_of, add_wait, longest_wait, waited, waits, waits_in}
 use Rattle.thp_metrics.proofs.Moving.{none_named, not_about, not_named, stage_stays}
 
 -- the wait goes along the history

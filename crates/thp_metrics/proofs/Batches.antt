@@ -1,30 +1,22 @@
 -- The pages of all batches, counted.
-use Rattle.std.proofs.Common.{◌≡◌, ℕ, ◌+◌, Bool, true, false, not, cond, ◌&&◌, List, [], ◌∷◌, ◌++◌, Option, Some, None, length, refl, ap, sym, ◌∙◌, subst, arith, length-append, nat_eq, eq-eqb}
-use Rattle.std.specs.List.{filter}
+use Rattle.std.proofs.Common.{◌≡◌, ℕ, ◌+◌, Bool, true, false, not, cond, ◌&&◌, List, [], ◌∷◌, ◌++◌, Option, Some, None, length, refl, ap, sym, ◌∙◌, subst, arith, length-append, nat_eq, eq-eqb, filter}
 use Rattle.thp_model.specs.declared.events.Event.{Event}
 use Rattle.thp_model.specs.declared.events.Outcome.{Outcome}
 use Rattle.thp_model.specs.declared.events.Outcome.TheVariants as outcome
 use Rattle.thp_model.specs.declared.events.What.{What}
 use Rattle.thp_model.specs.declared.events.What.TheVariants as what
 use Rattle.thp_model.specs.declared.shape.Shape.{Shape}
-use Rattle.thp_model.specs.Counts.{is_live, is_split}
-use Rattle.thp_model.specs.History.{History, count_of}
-use Rattle.thp_model.specs.Legal.{Fits, IsLegal}
-use Rattle.thp_model.specs.Places.{flight, flights, flights_after, flights_by, leaves}
-use Rattle.thp_model.specs.Sets.{sum_below}
-use Rattle.thp_model.specs.Underused.{is_partly_mapped}
+use Rattle.thp_model.specs.Prelude.{is_live, is_split, History, count_of, Fits, IsLegal, flight, flights, flights_after, flights_by, leaves, sum_below, is_partly_mapped}
 use Rattle.thp_model.proofs.LegalSteps.{legal_all, legal_none, legal_push}
 use Rattle.thp_model.proofs.OnePlace.{flies_stands, has_times, times_flight}
 use Rattle.thp_model.proofs.Pushes.{flights_push}
 use Rattle.thp_model.proofs.Standing.{Sound, flying, flying-cons, flying_push, legal_sound, stands_not}
 use Rattle.thp_page.specs.declared.standing.Standing.{Standing}
 use Rattle.thp_page.specs.declared.standing.Standing.TheVariants as at
-use Rattle.thp_live_pages.specs.Homes.{standing_of}
-use Rattle.thp_live_pages.specs.PageStoreState.{is_nowhere}
+use Rattle.thp_live_pages.specs.Prelude.{standing_of, is_nowhere}
 use Rattle.thp_live_pages.proofs.Standings.{batch_has, queued_has, stands_is}
-use Rattle.thp_metrics.specs.declared.stage.Stage.TheVariants.{InBatch}
-use Rattle.thp_journal_writer.specs.EventLines.{event_page}
-use Rattle.thp_metrics.specs.Stages.{pages_in, stage_by, stage_of}
+use Rattle.thp_metrics.specs.Prelude.{InBatch, pages_in, stage_by, stage_of}
+use Rattle.thp_journal_writer.specs.Prelude.{event_page}
 use Rattle.thp_metrics.proofs.Moving.{count_moves, count_stays, one}
 
 -- what a filter takes out is of page p

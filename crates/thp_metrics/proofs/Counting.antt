@@ -1,18 +1,13 @@
 -- How many pages callers have in their batches, with one more event.
-use Rattle.std.proofs.Common.{◌≡◌, ◌≢◌, ℕ, zero, suc, ◌+◌, ◌-◌, ◌^◌, ◌<◌, ◌≤◌, Bool, true, false, cond, ◌||◌, List, [], ◌∷◌, ◌++◌, Option, Some, None, length, get_or, set, replicate, refl, ap, sym, ◌∙◌, subst, arith, inl, inr, nat_eq, nat_lt, eq-eqb, eqb-true, length-set}
+use Rattle.std.proofs.Common.{◌≡◌, ◌≢◌, ℕ, zero, suc, ◌+◌, ◌-◌, ◌^◌, ◌<◌, ◌≤◌, Bool, true, false, cond, ◌||◌, List, [], ◌∷◌, ◌++◌, Option, Some, None, length, get_or, set, replicate, refl, ap, sym, ◌∙◌, subst, arith, inl, inr, nat_eq, nat_lt, eq-eqb, eqb-true, length-set, option_and_then}
 use Rattle.std.proofs.lemmas.Bool.{cases_lt, lt-ltb, ltb-false, ltb-true}
 use Rattle.std.proofs.lemmas.List.{get_or-set_same, get_or-set_other, length-replicate}
 use Rattle.std.proofs.Math.Nat.{pow-suc}
-use Rattle.std.specs.Option.{option_and_then}
 use Rattle.thp_model.specs.declared.events.Event.{Event}
 use Rattle.thp_model.specs.declared.events.What.{What}
 use Rattle.thp_model.specs.declared.events.What.TheVariants as what
 use Rattle.thp_model.specs.declared.shape.Shape.{Shape}
-use Rattle.thp_model.specs.Counts.{allocations, is_alloc, is_live}
-use Rattle.thp_model.specs.History.{History, count_of}
-use Rattle.thp_model.specs.Legal.{Fits, IsLegal}
-use Rattle.thp_model.specs.Places.{flight, has_page, no_pages}
-use Rattle.thp_model.specs.Sets.{sum_below}
+use Rattle.thp_model.specs.Prelude.{allocations, is_alloc, is_live, History, count_of, Fits, IsLegal, flight, has_page, no_pages, sum_below}
 use Rattle.thp_model.proofs.Alive.{legal_grown}
 use Rattle.thp_model.proofs.Numbers.{live_below}
 use Rattle.thp_model.proofs.OnePlace.{flies_live}
@@ -20,17 +15,14 @@ use Rattle.thp_model.proofs.Pushes as pushes
 use Rattle.thp_model.proofs.Standing.{legal_sound}
 use Rattle.thp_model.proofs.SumsBelow.{sum_below-const, sum_below-ext, sum_below_suc}
 use Rattle.thp_model.proofs.Untouched.{Untouched, untouched}
-use Rattle.thp_journal_writer.specs.EventLines.{event_page}
+use Rattle.thp_journal_writer.specs.Prelude.{event_page}
 use Rattle.thp_page.specs.declared.standing.Standing.{Standing}
 use Rattle.thp_page.specs.declared.standing.Standing.TheVariants as at
-use Rattle.thp_live_pages.specs.Homes.{standing_of}
+use Rattle.thp_live_pages.specs.Prelude.{standing_of}
 use Rattle.thp_live_pages.proofs.Standings.{batch_has, names, standing_flying, standing_other}
 use Rattle.thp_live_pages.proofs.Starting.{few_events}
-use Rattle.thp_check.specs.Replays.{Replayed, with_event}
-use Rattle.thp_metrics.specs.Counting.{callers_in, count_at, count_gone, count_more, MayCount, MayGo}
-use Rattle.thp_metrics.specs.Following.{batched, CountsBatches}
-use Rattle.thp_metrics.specs.Spots.{batch_by, batch_of, is_caller}
-use Rattle.thp_metrics.specs.Waits.{callers_at}
+use Rattle.thp_check.specs.Prelude.{Replayed, with_event}
+use Rattle.thp_metrics.specs.Prelude.{callers_in, count_at, count_gone, count_more, MayCount, MayGo, batched, CountsBatches, batch_by, batch_of, is_caller, callers_at}
 use Rattle.thp_metrics.proofs.Moving.{no_more, no_page, none_named, not_about, not_named, part_of, sums_differ_at, unborn, unborn_still}
 
 -- what a caller with so many pages adds

@@ -1,34 +1,22 @@
 -- How often pages were found pinned, with one more event.
-use Rattle.std.proofs.Common.{◌≡◌, ◌≢◌, ℕ, zero, suc, ◌+◌, ◌<◌, ◌≤◌, ◌^◌, Bool, true, false, cond, List, [], ◌∷◌, ◌++◌, Option, Some, None, length, map, set, refl, ap, sym, ◌∙◌, subst, arith, nat_eq, eq-eqb, eqb-true, length-set}
-use Rattle.std.specs.Prelude.{slice_get}
-use Rattle.std.specs.List.{filter}
-use Rattle.std.specs.Option.{option_and_then}
+use Rattle.std.proofs.Common.{◌≡◌, ◌≢◌, ℕ, zero, suc, ◌+◌, ◌<◌, ◌≤◌, ◌^◌, Bool, true, false, cond, List, [], ◌∷◌, ◌++◌, Option, Some, None, length, map, set, refl, ap, sym, ◌∙◌, subst, arith, nat_eq, eq-eqb, eqb-true, length-set, slice_get, filter, option_and_then}
 use Rattle.thp_model.specs.declared.events.Event.{Event}
 use Rattle.thp_model.specs.declared.events.What.{What}
 use Rattle.thp_model.specs.declared.events.What.TheVariants as what
 use Rattle.thp_model.specs.declared.shape.Shape.{Shape}
-use Rattle.thp_model.specs.Counts.{allocates, allocations, frees, is_alloc, is_split}
-use Rattle.thp_model.specs.History.{History, by, count_of}
-use Rattle.thp_model.specs.Legal.{Fits, IsLegal}
-use Rattle.thp_model.specs.Places.{flight, has_page}
-use Rattle.thp_model.specs.Underused.{is_partly_mapped}
+use Rattle.thp_model.specs.Prelude.{allocates, allocations, frees, is_alloc, is_split, History, by, count_of, Fits, IsLegal, flight, has_page, is_partly_mapped}
 use Rattle.thp_model.proofs.Alive.{legal_grown}
 use Rattle.thp_model.proofs.LegalSteps.{legal_push}
 use Rattle.thp_model.proofs.Numbers.{live_below}
 use Rattle.thp_model.proofs.OnePlace.{flies_live}
 use Rattle.thp_model.proofs.Pushes.{count_of_push, flights_push}
 use Rattle.thp_model.proofs.Standing.{legal_sound}
-use Rattle.thp_journal_writer.specs.EventLines.{event_page}
-use Rattle.thp_live_pages.specs.Homes.{block_after, block_of, standing_of}
+use Rattle.thp_journal_writer.specs.Prelude.{event_page}
+use Rattle.thp_live_pages.specs.Prelude.{block_after, block_of, standing_of}
 use Rattle.thp_live_pages.proofs.Homing.{block_freed, block_push, block_stays, legal_homed}
 use Rattle.thp_live_pages.proofs.Standings.{standing_flying}
 use Rattle.thp_live_pages.proofs.Starting.{few_events}
-use Rattle.thp_metrics.specs.declared.finds.PinCount.{PinCount}
-use Rattle.thp_metrics.specs.Finding.{HasRoom, KeepsFinds, MayNote, counted, noted}
-use Rattle.thp_metrics.specs.Spots.{home}
-use Rattle.thp_metrics.specs.Stages.{stage_by}
-use Rattle.thp_metrics.specs.Stuck.{finds, finds_pinned}
-use Rattle.thp_metrics.specs.Waits.{waits, waits_in}
+use Rattle.thp_metrics.specs.Prelude.{PinCount, HasRoom, KeepsFinds, MayNote, counted, noted, home, stage_by, finds, finds_pinned, waits, waits_in}
 use Rattle.thp_metrics.proofs.Arriving.{home_waits, waits_home}
 
 set_same : (xs : List PinCount) (i : ℕ) (v : PinCount) → i < length xs → slice_get (set xs i v) i ≡ Some v

@@ -3,12 +3,7 @@ use Rattle.std.proofs.Common.{◌≡◌, ◌^◌, ◌⊎◌, ℕ, suc, ◌+◌, 
 use Rattle.std.proofs.Math.Nat.{pow-suc}
 use Rattle.std.proofs.lemmas.List.{map-append, length-map}
 use Rattle.std.proofs.lemmas.List.Concat.{flat_map-append}
-use Rattle.thp_metrics.specs.declared.column.Column.{Column}
-use Rattle.thp_metrics.specs.declared.folded.Folded.{Folded}
-use Rattle.thp_metrics.specs.declared.numbers.Numbers.{Numbers}
-use Rattle.thp_metrics.specs.Columns.{column_of}
-use Rattle.thp_metrics.specs.Folding.{AreFull, AllLow, HasLowSums, all_of, Folds}
-use Rattle.thp_metrics.specs.Joining.{both, in_pairs, AreLow, AreWithin}
+use Rattle.thp_metrics.specs.Prelude.{Column, Folded, Numbers, column_of, AreFull, AllLow, HasLowSums, all_of, Folds, both, in_pairs, AreLow, AreWithin}
 use Rattle.thp_metrics.proofs.Pairs.{in_twos, pairs_are_of_twos, twos_have_all, twos_are_full, length_of_twos, twos_are_low}
 use Rattle.thp_metrics.proofs.Spans.{column_append, low_append}
 

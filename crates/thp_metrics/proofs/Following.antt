@@ -1,36 +1,19 @@
 -- What is kept of a node, with one more event.
-use Rattle.std.proofs.Common.{◌≡◌, ℕ, ◌+◌, ◌^◌, ◌<◌, Bool, true, false, cond, List, [], ◌∷◌, ◌++◌, Option, Some, None, length, map, take, get_or, set, nat_eq, nat_lt, refl, ap, sym, ◌∙◌, subst, arith, length-append}
-use Rattle.std.specs.Prelude.{replicate, ◌≢◌}
-use Rattle.std.proofs.lemmas.Bool.{eq-eqb, eqb-true, ltb-false, ltb-true}
+use Rattle.std.proofs.Common.{◌≡◌, ℕ, ◌+◌, ◌^◌, ◌<◌, Bool, true, false, cond, List, [], ◌∷◌, ◌++◌, Option, Some, None, length, map, take, get_or, set, nat_eq, nat_lt, refl, ap, sym, ◌∙◌, subst, arith, length-append, replicate, ◌≢◌, eq-eqb, eqb-true, ltb-false, ltb-true, option_and_then}
 use Rattle.std.specs.List.{range_with_len}
-use Rattle.std.specs.Option.{option_and_then}
 use Rattle.std.proofs.lemmas.List.{ext_get_or, get_or-set_other, get_or-set_same, length-set, same_lists, take_all, take-append-le}
 use Rattle.std.proofs.lemmas.List.FromFn.{get_or-map-range_with_len, length-map-range_with_len, map-range_with_len_more}
 use Rattle.thp_model.specs.declared.events.Event.{Event}
 use Rattle.thp_model.specs.declared.shape.Shape.{Shape}
-use Rattle.thp_model.specs.Counts.{allocations, is_alloc, is_live, is_split}
-use Rattle.thp_model.specs.Counters.{thp_split_page, thp_split_page_failed, thp_underused_split_page}
-use Rattle.thp_model.specs.Frames.{frames_given, frames_held}
-use Rattle.thp_model.specs.History.{History, count_of, some_event}
-use Rattle.thp_model.specs.Legal.{Fits, IsLegal}
-use Rattle.thp_model.specs.Places.{flights, queue}
-use Rattle.thp_model.specs.Sets.{sum_below}
-use Rattle.thp_model.specs.Underused.{is_partly_mapped}
+use Rattle.thp_model.specs.Prelude.{allocations, is_alloc, is_live, is_split, thp_split_page, thp_split_page_failed, thp_underused_split_page, frames_given, frames_held, History, count_of, some_event, Fits, IsLegal, flights, queue, sum_below, is_partly_mapped}
 use Rattle.thp_model.proofs.Alive.{legal_grown}
 use Rattle.thp_model.proofs.LegalSteps.{legal_none, legal_push}
 use Rattle.thp_model.proofs.Numbers.{live_below}
-use Rattle.thp_live_pages.specs.Homes.{standing_of}
+use Rattle.thp_live_pages.specs.Prelude.{standing_of}
 use Rattle.thp_live_pages.proofs.Starting.{few_events}
-use Rattle.thp_check.specs.Replays.{Replayed, with_event}
-use Rattle.thp_metrics.specs.declared.numbers.Numbers.{Numbers}
-use Rattle.thp_metrics.specs.declared.pages.Pages.{Pages}
-use Rattle.thp_metrics.specs.declared.stage.Stage.{Stage}
-use Rattle.thp_metrics.specs.declared.stage.Stage.TheVariants.{Allocated, PartlyMapped, Queued, InBatch, Split}
-use Rattle.thp_journal_writer.specs.EventLines.{event_page}
-use Rattle.thp_metrics.specs.Following.{count_in, entered, left, staged, GoesAlong, MayEnter, MayLeave}
-use Rattle.thp_metrics.specs.Series.{numbers_at, series}
-use Rattle.thp_metrics.specs.Stages.{is_stage, pages_at, pages_in, stage_by, stage_of, stages_at}
-use Rattle.thp_metrics.specs.Waits.{callers_at, longest_wait}
+use Rattle.thp_check.specs.Prelude.{Replayed, with_event}
+use Rattle.thp_metrics.specs.Prelude.{Numbers, Pages, Stage, Allocated, PartlyMapped, Queued, InBatch, Split, count_in, entered, left, staged, GoesAlong, MayEnter, MayLeave, numbers_at, series, is_stage, pages_at, pages_in, stage_by, stage_of, stages_at, callers_at, longest_wait}
+use Rattle.thp_journal_writer.specs.Prelude.{event_page}
 use Rattle.thp_metrics.proofs.Batches.{in_batches_are}
 use Rattle.thp_metrics.proofs.Moving.{count_moves, count_stays, none_named, not_named, no_more, one, part_of, stage_stays}
 

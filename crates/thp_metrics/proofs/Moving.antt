@@ -5,22 +5,16 @@ use Rattle.thp_model.specs.declared.events.Event.{Event}
 use Rattle.thp_model.specs.declared.events.What.{What}
 use Rattle.thp_model.specs.declared.events.What.TheVariants as what
 use Rattle.thp_model.specs.declared.shape.Shape.{Shape}
-use Rattle.thp_model.specs.Counts.{allocates, allocations, frees, is_alloc, is_live, is_split, splits}
-use Rattle.thp_model.specs.History.{History, some_event, by}
-use Rattle.thp_model.specs.Legal.{Fits, IsLegal}
-use Rattle.thp_model.specs.PageCalls.{is_about}
-use Rattle.thp_model.specs.Sets.{sum_below, count_below}
-use Rattle.thp_model.specs.Underused.{is_partly_mapped}
+use Rattle.thp_model.specs.Prelude.{allocates, allocations, frees, is_alloc, is_live, is_split, splits, History, some_event, by, Fits, IsLegal, is_about, sum_below, count_below, is_partly_mapped}
 use Rattle.thp_model.proofs.Alive.{legal_grown}
 use Rattle.thp_model.proofs.Holding.{live_back}
 use Rattle.thp_model.proofs.Pushes.{count_more, count_same, live_stays, some_same, partly_stays}
 use Rattle.thp_model.proofs.SumsBelow.{sum_below-ext, sum_below-one, sum_below_suc}
 use Rattle.thp_model.proofs.Untouched.{Untouched, untouched}
-use Rattle.thp_live_pages.specs.Homes.{standing_of}
+use Rattle.thp_live_pages.specs.Prelude.{standing_of}
 use Rattle.thp_live_pages.proofs.Standings.{names, standing_other}
-use Rattle.thp_metrics.specs.declared.stage.Stage.{Stage}
-use Rattle.thp_journal_writer.specs.EventLines.{event_page}
-use Rattle.thp_metrics.specs.Stages.{is_stage, pages_in, stage_by, stage_of}
+use Rattle.thp_metrics.specs.Prelude.{Stage, is_stage, pages_in, stage_by, stage_of}
+use Rattle.thp_journal_writer.specs.Prelude.{event_page}
 
 -- sums of two functions that differ at p alone
 pub sums_differ_at : (m : ℕ) (f g : ℕ → ℕ) (p : ℕ) → p < m → ((i : ℕ) → i < m → (i ≢ p) → f i ≡ g i) → sum_below m f + g p ≡ sum_below m g + f p

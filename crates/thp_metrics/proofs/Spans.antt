@@ -2,13 +2,8 @@
 use Rattle.std.proofs.Common.{◌≡◌, ℕ, ◌<◌, min, max, List, [], ◌∷◌, ◌++◌, length, map, refl, ap, subst, sym, ◌^◌, ◌*◌, length-append, ◌∙◌, arith, bit_or}
 use Rattle.std.proofs.lemmas.Nat.Bits.{bit_at_or, same_from_bits}
 use Rattle.std.proofs.lemmas.List.{map-append, length-map}
-use Rattle.thp_metrics.specs.declared.numbers.Numbers.{Numbers}
-use Rattle.thp_metrics.specs.Spans.{least, greatest, span_of, joined}
-use Rattle.thp_metrics.specs.Columns.{all_callers, last_stages, column_of, sums_of}
-use Rattle.thp_metrics.specs.declared.pages.PageSums.{PageSums}
-use Rattle.thp_metrics.specs.Folding.{HasLowSums}
+use Rattle.thp_metrics.specs.Prelude.{Numbers, least, greatest, span_of, joined, all_callers, last_stages, column_of, sums_of, PageSums, HasLowSums, added, both, AreWithin}
 use Rattle.std.proofs.lemmas.List.Sums.{sum_by-append}
-use Rattle.thp_metrics.specs.Joining.{added, both, AreWithin}
 
 least_append : (x : ℕ) (xs : List ℕ) (y : ℕ) (ys : List ℕ) → least ((x ∷ xs) ++ (y ∷ ys)) ≡ min (least (x ∷ xs)) (least (y ∷ ys))
 least_append x [] y ys = refl

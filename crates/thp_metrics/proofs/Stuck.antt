@@ -1,20 +1,13 @@
 -- Which pages wait and were found pinned, by what is kept of them.
-use Rattle.std.proofs.Common.{◌≡◌, ℕ, zero, suc, ◌+◌, ◌<◌, Bool, true, false, cond, List, [], ◌∷◌, ◌++◌, Option, Some, length, get_or, refl, ap, sym, ◌∙◌, subst, arith, inl, inr, ◌⊎◌, nat_lt, Contains, All, AllPairs, append-nil, append_assoc, take, ◌≤◌}
-use Rattle.std.specs.Prelude.{slice_get}
-use Rattle.std.proofs.lemmas.Bool.{le-ltb, lt-ltb, ltb-true}
+use Rattle.std.proofs.Common.{◌≡◌, ℕ, zero, suc, ◌+◌, ◌<◌, Bool, true, false, cond, List, [], ◌∷◌, ◌++◌, Option, Some, length, get_or, refl, ap, sym, ◌∙◌, subst, arith, inl, inr, ◌⊎◌, nat_lt, Contains, All, AllPairs, append-nil, append_assoc, take, ◌≤◌, slice_get, le-ltb, lt-ltb, ltb-true}
 use Rattle.std.proofs.lemmas.List.{take_more}
 use Rattle.std.proofs.lemmas.List.Elements.{All-contains_itself}
 use Rattle.std.proofs.lemmas.List.Kept.{AllPairs-cons}
 use Rattle.thp_links.proofs.Members.{Contains-behind, Contains-cons_cases, Contains-head, Contains-nil}
 use Rattle.thp_model.specs.declared.shape.Shape.{Shape}
-use Rattle.thp_model.specs.History.{History}
+use Rattle.thp_model.specs.Prelude.{History}
 use Rattle.thp_live_pages.proofs.Homing.{legal_homed}
-use Rattle.thp_metrics.specs.declared.finds.PinCount.{PinCount}
-use Rattle.thp_metrics.specs.declared.stuck_page.StuckPage.{StuckPage}
-use Rattle.thp_metrics.specs.Arrivals.{Arrived, Ascends, KeepsWaits, since_of}
-use Rattle.thp_metrics.specs.Finding.{KeepsFinds, stuck_among, stuck_by}
-use Rattle.thp_metrics.specs.Spots.{home}
-use Rattle.thp_metrics.specs.Stuck.{AreStuck, IsStuck, finds}
+use Rattle.thp_metrics.specs.Prelude.{PinCount, StuckPage, Arrived, Ascends, KeepsWaits, since_of, KeepsFinds, stuck_among, stuck_by, home, AreStuck, IsStuck, finds}
 use Rattle.thp_metrics.proofs.Arriving.{home_waits, waits_home}
 
 head_of : (x : StuckPage) (xs : List StuckPage) → Contains (x ∷ xs) x

@@ -1,14 +1,8 @@
 -- How wide the columns are, and that they are the parts of the prefixes.
-use Rattle.std.proofs.Common.{◌≡◌, ◌⊎◌, ℕ, zero, suc, ◌+◌, ◌*◌, ◌^◌, ◌<◌, ◌≤◌, List, [], ◌∷◌, ◌++◌, length, map, drop, refl, ap, sym, ◌∙◌, inl, inr, subst, arith, append_assoc, length-append, take_at, drop_at}
+use Rattle.std.proofs.Common.{◌≡◌, ◌⊎◌, ℕ, zero, suc, ◌+◌, ◌*◌, ◌^◌, ◌<◌, ◌≤◌, List, [], ◌∷◌, ◌++◌, length, map, drop, refl, ap, sym, ◌∙◌, inl, inr, subst, arith, append_assoc, length-append, take_at, drop_at, pow_pos}
 use Rattle.std.proofs.Math.Nat.{pow-suc, mul-le-mul_left, mul-le-mul_right}
 use Rattle.std.proofs.lemmas.List.{take_all, drop_all, length-map, map-append}
-use Rattle.std.proofs.lemmas.Nat.{pow_pos}
-use Rattle.thp_metrics.specs.declared.column.Column.{Column}
-use Rattle.thp_metrics.specs.declared.folded.Folded.{Folded}
-use Rattle.thp_metrics.specs.declared.numbers.Numbers.{Numbers}
-use Rattle.thp_metrics.specs.Columns.{column_of, columns_of, parts, sums_of, IsWidth}
-use Rattle.thp_metrics.specs.Joining.{AreLow, AreWithin}
-use Rattle.thp_metrics.specs.Folding.{AreFull, AllLow, HasLowSums, all_of, Folds, HasRoomForOne}
+use Rattle.thp_metrics.specs.Prelude.{Column, Folded, Numbers, column_of, columns_of, parts, sums_of, IsWidth, AreLow, AreWithin, AreFull, AllLow, HasLowSums, all_of, Folds, HasRoomForOne}
 
 length_of_all : (w : ℕ) (xss : List (List Numbers)) → AreFull w xss → length (all_of xss) ≡ length xss * w
 length_of_all w [] full = omega arith

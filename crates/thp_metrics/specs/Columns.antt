@@ -1,6 +1,5 @@
 -- The columns of a node: their width, and the content of each.
-use Rattle.std.specs.Prelude.{◌≡◌, ℕ, ◌*◌, ◌^◌, ◌≤◌, zero, suc, List, [], ◌∷◌, Option, length, map, take, drop, bit_or}
-use Rattle.std.specs.List.{sum_by}
+use Rattle.std.specs.Prelude.{◌≡◌, ℕ, ◌*◌, ◌^◌, ◌≤◌, zero, suc, List, [], ◌∷◌, Option, length, map, take, drop, bit_or, sum_by}
 use Rattle.thp_metrics.specs.declared.column.Column.{Column}
 use Rattle.thp_metrics.specs.declared.numbers.Numbers.{Numbers}
 use Rattle.thp_metrics.specs.declared.pages.PageSums.{PageSums}

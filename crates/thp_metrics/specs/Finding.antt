@@ -3,9 +3,8 @@ use Rattle.std.specs.Prelude.{◌≡◌, ℕ, ◌+◌, ◌<◌, ◌≤◌, ◌^�
 use Rattle.thp_model.specs.declared.events.What.{What}
 use Rattle.thp_model.specs.declared.events.What.TheVariants.{Alloc, Pinned}
 use Rattle.thp_model.specs.declared.shape.Shape.{Shape}
-use Rattle.thp_model.specs.Counts.{allocations}
-use Rattle.thp_model.specs.History.{History}
-use Rattle.thp_live_pages.specs.Homes.{block_of}
+use Rattle.thp_model.specs.Prelude.{allocations, History}
+use Rattle.thp_live_pages.specs.Prelude.{block_of}
 use Rattle.thp_metrics.specs.declared.finds.PinCount.{PinCount}
 use Rattle.thp_metrics.specs.declared.stuck_page.StuckPage.{StuckPage}
 use Rattle.thp_metrics.specs.Arrivals.{Arrived, since_of}

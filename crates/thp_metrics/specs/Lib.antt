@@ -12,3 +12,4 @@ pub mod Stuck
 pub mod Finding
 pub mod Following
 pub mod NumbersTrace
+pub mod Prelude

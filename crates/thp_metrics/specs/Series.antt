@@ -2,10 +2,7 @@
 use Rattle.std.specs.Prelude.{◌+◌, List, length, map, take}
 use Rattle.std.specs.List.{range_with_len}
 use Rattle.thp_model.specs.declared.shape.Shape.{Shape}
-use Rattle.thp_model.specs.Counters.{thp_split_page, thp_split_page_failed, thp_underused_split_page}
-use Rattle.thp_model.specs.Frames.{frames_given, frames_held}
-use Rattle.thp_model.specs.History.{History}
-use Rattle.thp_model.specs.Places.{queue, flights}
+use Rattle.thp_model.specs.Prelude.{thp_split_page, thp_split_page_failed, thp_underused_split_page, frames_given, frames_held, History, queue, flights}
 use Rattle.thp_metrics.specs.declared.numbers.Numbers.{Numbers}
 use Rattle.thp_metrics.specs.Stages.{pages_at, stages_at}
 use Rattle.thp_metrics.specs.Waits.{callers_at, longest_wait}

@@ -2,13 +2,10 @@
 use Rattle.std.specs.Prelude.{ℕ, Bool, true, false, nat_eq, if◌then◌else◌, Option, Some, None, List, map}
 use Rattle.std.specs.List.{range_with_len}
 use Rattle.thp_model.specs.declared.shape.Shape.{Shape}
-use Rattle.thp_model.specs.Counts.{allocations, is_live, is_split}
-use Rattle.thp_model.specs.History.{History}
-use Rattle.thp_model.specs.Sets.{count_below}
-use Rattle.thp_model.specs.Underused.{is_partly_mapped}
+use Rattle.thp_model.specs.Prelude.{allocations, is_live, is_split, History, count_below, is_partly_mapped}
 use Rattle.thp_page.specs.declared.standing.Standing.{Standing}
 use Rattle.thp_page.specs.declared.standing.Standing.TheVariants as at
-use Rattle.thp_live_pages.specs.Homes.{standing_of}
+use Rattle.thp_live_pages.specs.Prelude.{standing_of}
 use Rattle.thp_metrics.specs.declared.pages.Pages.{Pages}
 use Rattle.thp_metrics.specs.declared.stage.Stage.{Stage}
 use Rattle.thp_metrics.specs.declared.stage.Stage.TheVariants.{Allocated, PartlyMapped, Queued, InBatch, Split}

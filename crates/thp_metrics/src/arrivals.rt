@@ -1,6 +1,6 @@
 //! The order in which pages began to wait, by block.
 ghost use Rattle.std.specs.Prelude.{◌≡◌, ◌<◌, [], ◌∷◌, ◌++◌, length, slice_set, Contains, IfOk};
-ghost use Rattle.thp_links.specs.Indices.{without};
+ghost use Rattle.thp_links.specs.Prelude.{without};
 ghost use Rattle.thp_metrics.specs.Arrivals.{first_since, since_of};
 
 use std::alloc::{AllocError, Global};

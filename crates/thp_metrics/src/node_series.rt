@@ -1,10 +1,7 @@
 //! The numbers of a node, event by event.
 ghost use Rattle.std.specs.Prelude.{◌≡◌, ◌≤◌, ◌<◌, ◌+◌, ◌^◌, [], length, IfOk, IfErr};
-ghost use Rattle.thp_model.specs.BlockLaws.{least_free};
-ghost use Rattle.thp_model.specs.Legal.{Fits, IsLegal};
-ghost use Rattle.thp_model.specs.Limits.{max_order, min_order};
-ghost use Rattle.thp_check.specs.Reasons.{Explains};
-ghost use Rattle.thp_check.specs.Replays.{with_event};
+ghost use Rattle.thp_model.specs.Prelude.{least_free, Fits, IsLegal, max_order, min_order};
+ghost use Rattle.thp_check.specs.Prelude.{Explains, with_event};
 ghost use Rattle.thp_metrics.specs.Following.{staged, CountsBatches};
 ghost use Rattle.thp_metrics.specs.Series.{numbers_at, series};
 ghost use Rattle.thp_metrics.specs.Stages.{pages_at, stages_at};
@@ -51,7 +48,7 @@ pub struct SeriesEnd {
 }
 
 impl Model for NodeSeries {
-    ghost use Rattle.thp_check.specs.Replays.{Replayed};
+    ghost use Rattle.thp_check.specs.Prelude.{Replayed};
     ghost use Rattle.std.specs.Prelude.{◌≡◌};
     ghost use Rattle.thp_metrics.specs.Following.{CountsBatches, GoesAlong};
 

@@ -1,7 +1,7 @@
 //! The position of an event's page.
 ghost use Rattle.std.specs.Prelude.{◌≡◌, Some, None};
 ghost use Rattle.std.specs.Option.{option_and_then};
-ghost use Rattle.thp_journal_writer.specs.EventLines.{event_page};
+ghost use Rattle.thp_journal_writer.specs.Prelude.{event_page};
 ghost use Rattle.thp_metrics.specs.Spots.{batch_by, batch_of, home, home_by};
 ghost use Rattle.thp_metrics.specs.Stages.{stage_by, stage_of};
 

@@ -1,9 +1,9 @@
 //! The pages that wait for a split, in the queue or in a batch, event by event.
 ghost use Rattle.std.specs.Prelude.{◌≡◌, ◌<◌, ◌+◌, ◌^◌, ℕ, [], ◌∷◌, ◌++◌, length, IfOk, Contains};
 ghost use Rattle.std.specs.Option.{option_and_then};
-ghost use Rattle.thp_model.specs.Legal.{Fits};
-ghost use Rattle.thp_journal_writer.specs.EventLines.{event_page};
-ghost use Rattle.thp_check.specs.Replays.{with_event};
+ghost use Rattle.thp_model.specs.Prelude.{Fits};
+ghost use Rattle.thp_journal_writer.specs.Prelude.{event_page};
+ghost use Rattle.thp_check.specs.Prelude.{with_event};
 ghost use Rattle.thp_metrics.specs.Finding.{stuck_among};
 ghost use Rattle.thp_metrics.specs.Spots.{home};
 ghost use Rattle.thp_metrics.specs.Stuck.{AreStuck};
@@ -32,7 +32,7 @@ pub struct Waiting {
 }
 
 impl Model for Waiting {
-    ghost use Rattle.thp_check.specs.Replays.{Replayed};
+    ghost use Rattle.thp_check.specs.Prelude.{Replayed};
     ghost use Rattle.thp_metrics.specs.Arrivals.{KeepsWaits};
     ghost use Rattle.thp_metrics.specs.Finding.{KeepsFinds};
 

@@ -1,27 +1,10 @@
 -- Histories that are equal but for their blocks say the same of all else.
-use Rattle.std.proofs.Common.{◌≡◌, ℕ, ◌+◌, ◌-◌, ◌<◌, Bool, true, false, cond, not, ◌&&◌, ◌||◌, List, [], ◌∷◌, ◌++◌, Option, Some, None, map, refl, ap, ap₂, sym, ◌∙◌, arith, nat_eq, nat_lt}
+use Rattle.std.proofs.Common.{◌≡◌, ℕ, ◌+◌, ◌-◌, ◌<◌, Bool, true, false, cond, not, ◌&&◌, ◌||◌, List, [], ◌∷◌, ◌++◌, Option, Some, None, map, refl, ap, ap₂, sym, ◌∙◌, arith, nat_eq, nat_lt, slice_get}
 use Rattle.std.specs.List.{fold, list_any, filter}
-use Rattle.std.specs.Prelude.{slice_get}
 use Rattle.std.proofs.lemmas.List.{map-append}
-use Rattle.thp_model.specs.declared.events.Event.{Event}
-use Rattle.thp_model.specs.declared.events.Outcome.{Outcome}
-use Rattle.thp_model.specs.declared.events.Outcome.TheVariants.{Freed, Queued, Stays}
-use Rattle.thp_model.specs.declared.events.What.{What}
-use Rattle.thp_model.specs.declared.events.What.TheVariants.{Alloc, MapWhole, UnmapWhole, MapSub, UnmapSub, SplitPmd, Pin, Unpin, Write, Zero, Taken, Split, Pinned, Used, Back, Dropped, Close}
-use Rattle.thp_model.specs.declared.refusal.Refusal.{Refusal}
-use Rattle.thp_model.specs.declared.refusal.Refusal.TheVariants.{NoPage, BadRange, IsSplit, NotMapped, Gone, NotPinned, TooMany, Closed}
-use Rattle.thp_model.specs.declared.shape.Shape.{Shape}
-use Rattle.thp_model.specs.BlockLaws.{with_block, event_with, without_blocks, SameButBlocks}
-use Rattle.thp_model.specs.Counts.{maps, unmaps, maps_whole, unmaps_whole, pins_page, unpins_page, is_alloc, allocates, frees, splits, closes, total, whole, pins, is_live, is_split, is_closed, allocations}
-use Rattle.thp_model.specs.Underused.{shrinks_underused, zero_after, is_zero_filled, unmaps_some, unmaps_part, add_unmap, is_partly_mapped, is_above, is_worth_split}
-use Rattle.thp_model.specs.Frames.{is_held, released, outcome}
-use Rattle.thp_model.specs.History.{History, by, count_of, some_event}
-use Rattle.thp_model.specs.Legal.{FitsBy, Gives, is_dropped}
-use Rattle.thp_model.specs.Places.{queue, queue_after, flights, flights_after, flight, is_taking, takes_by, stands, has_page, no_pages}
-use Rattle.thp_model.specs.Refusals.{refusal, most}
+use Rattle.thp_model.specs.Prelude.{Event, Outcome, Freed, Queued, Stays, What, Alloc, MapWhole, UnmapWhole, MapSub, UnmapSub, SplitPmd, Pin, Unpin, Write, Zero, Taken, Split, Used, Back, Dropped, Close, Refusal, NoPage, BadRange, IsSplit, NotMapped, Gone, NotPinned, TooMany, Closed, Shape, with_block, event_with, without_blocks, SameButBlocks, maps, unmaps, maps_whole, unmaps_whole, pins_page, unpins_page, is_alloc, allocates, frees, splits, closes, total, whole, pins, is_live, is_split, is_closed, allocations, shrinks_underused, zero_after, is_zero_filled, unmaps_some, unmaps_part, add_unmap, is_partly_mapped, is_above, is_worth_split, is_held, released, outcome, History, by, count_of, some_event, FitsBy, Gives, is_dropped, queue, queue_after, flights, flights_after, flight, is_taking, takes_by, stands, has_page, no_pages, refusal, most, covers, subpages}
+use Rattle.thp_model.specs.declared.events.What.TheVariants.{Pinned}
 use Rattle.thp_model.specs.Refusals as call
-use Rattle.thp_model.specs.Sets.{covers}
-use Rattle.thp_model.specs.Shapes.{subpages}
 use Rattle.thp_model.proofs.Below.{some_below-ext}
 use Rattle.thp_model.proofs.Counting.{count-cons}
 use Rattle.thp_model.proofs.SumsBelow.{sum_below-ext}

@@ -1,15 +1,8 @@
 -- What it says that a call isn't refused: none of its tests holds.
 use Rattle.std.proofs.Common.{◌≡◌, ℕ, ◌+◌, Bool, true, false, cond, not, ◌&&◌, ◌||◌, refl, Option, Some, None, nat_eq, nat_lt}
-use Rattle.thp_model.specs.declared.refusal.Refusal.{Refusal}
+use Rattle.thp_model.specs.Prelude.{Refusal, Shape, History, is_live, is_split, is_closed, total, whole, own, pins, is_held, block_in_use, refusal, most, some_of, some_below, each_below, subpages}
 use Rattle.thp_model.specs.declared.refusal.Refusal.TheVariants as reason
-use Rattle.thp_model.specs.declared.shape.Shape.{Shape}
-use Rattle.thp_model.specs.History.{History}
-use Rattle.thp_model.specs.Counts.{is_live, is_split, is_closed, total, whole, own, pins}
-use Rattle.thp_model.specs.Frames.{is_held, block_in_use}
-use Rattle.thp_model.specs.Refusals.{refusal, most, some_of}
 use Rattle.thp_model.specs.Refusals as call
-use Rattle.thp_model.specs.Sets.{some_below, each_below}
-use Rattle.thp_model.specs.Shapes.{subpages}
 
 -- no refusal: none of one test holds
 one : (a : Bool) (x : Refusal) → cond a (Some x) None ≡ None → a ≡ false

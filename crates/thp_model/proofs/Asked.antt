@@ -1,24 +1,11 @@
 -- Definitions and tests of one event more, and of one number more.
-use Rattle.std.proofs.Common.{◌≡◌, ℕ, suc, ◌+◌, ◌<◌, Bool, true, false, cond, not, ◌&&◌, ◌||◌, nat_eq, nat_lt, List, map, [], ◌∷◌, ◌++◌, take, drop, length, get_or, set, Option, Some, None, refl, ap, sym, ◌∙◌, arith, inl, inr, ◌≢◌, eq-eqb, lt-ltb, add-one}
-use Rattle.std.proofs.lemmas.Bool.{le-ltb}
+use Rattle.std.proofs.Common.{◌≡◌, ℕ, suc, ◌+◌, ◌<◌, Bool, true, false, cond, not, ◌&&◌, ◌||◌, nat_eq, nat_lt, List, map, [], ◌∷◌, ◌++◌, take, drop, length, get_or, set, Option, Some, None, refl, ap, sym, ◌∙◌, arith, inl, inr, ◌≢◌, eq-eqb, lt-ltb, add-one, le-ltb, filter, is_some}
 use Rattle.std.proofs.lemmas.Bool.Decides.{eqb_tells}
 use Rattle.std.proofs.lemmas.Bool.{cases_lt}
 use Rattle.std.proofs.Math.Seq.{drop-cons}
-use Rattle.std.specs.List.{filter}
-use Rattle.std.specs.Option.{is_some}
 use Rattle.std.proofs.lemmas.List.{map-append}
 use Rattle.std.proofs.lemmas.List.Elements.{filter-append}
-use Rattle.thp_model.specs.declared.events.Event.{Event}
-use Rattle.thp_model.specs.declared.events.What.{What}
-use Rattle.thp_model.specs.declared.refusal.Refusal.{Refusal}
-use Rattle.thp_model.specs.declared.shape.Shape.{Shape}
-use Rattle.thp_model.specs.History.{History, count_of, some_event}
-use Rattle.thp_model.specs.Counts.{is_mapped, loses_use}
-use Rattle.thp_model.specs.Places.{queue, queue_after, flights, flights_after, is_taking, takes_by}
-use Rattle.thp_model.specs.Refusals.{first_of}
-use Rattle.thp_model.specs.Sets.{set_of, some_below, each_below}
-use Rattle.thp_model.specs.Underused.{is_partly_mapped, unmaps_some}
-use Rattle.thp_model.specs.Words.{get_or-set_of, length-set_of}
+use Rattle.thp_model.specs.Prelude.{Event, What, Refusal, Shape, History, count_of, some_event, is_mapped, loses_use, queue, queue_after, flights, flights_after, is_taking, takes_by, first_of, set_of, some_below, each_below, is_partly_mapped, unmaps_some, get_or-set_of, length-set_of}
 use Rattle.thp_model.proofs.Bools.{and-false}
 use Rattle.thp_model.proofs.WordLemmas.{set_set_of, set_of-ext}
 use Rattle.thp_model.proofs.ListPlaces.{step_of}

@@ -2,7 +2,7 @@
 use Rattle.std.proofs.Common.{◌≡◌, ◌≢◌, ℕ, suc, zero, ◌+◌, ◌<◌, ◌≤◌, Bool, true, false, not, ◌&&◌, ◌||◌, refl, ap, sym, ◌∙◌, arith, inl, inr}
 use Rattle.std.specs.List.{list_any, list_all, range_with_len}
 use Rattle.std.proofs.lemmas.Bool.Decides.{eqb_tells}
-use Rattle.thp_model.specs.Sets.{some_below, each_below}
+use Rattle.thp_model.specs.Prelude.{some_below, each_below}
 use Rattle.thp_model.proofs.Bools.{or_none, by_bool}
 
 -- tests that agree on a range of numbers

@@ -1,6 +1,6 @@
 -- Truth values: cases, and what && and || say of their parts.
 use Rattle.std.proofs.Common.{◌≡◌, ℕ, Bool, true, false, cond, not, ◌&&◌, ◌||◌, refl, Option, Some, None, ap}
-use Rattle.thp_model.specs.declared.refusal.Refusal.{Refusal}
+use Rattle.thp_model.specs.Prelude.{Refusal}
 
 -- by cases on a truth value
 pub by_bool : (b : Bool) (P : Type 0) → (b ≡ true → P) → (b ≡ false → P) → P

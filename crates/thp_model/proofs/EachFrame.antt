@@ -1,19 +1,7 @@
 -- Each frame of each page allocated is held, or was given back once.
 use Rattle.std.proofs.Common.{◌≡◌, ◌≢◌, ℕ, ◌+◌, ◌<◌, ◌≤◌, Bool, true, false, cond, not, ◌&&◌, ◌||◌, List, [], ◌∷◌, ◌++◌, refl, ap, sym, ◌∙◌, subst, arith, nat_eq, nat_lt, inl, inr, lt-ltb}
 use Rattle.std.proofs.lemmas.Bool.Decides.{eqb_tells, nat_tests}
-use Rattle.thp_model.specs.declared.events.Event.{Event}
-use Rattle.thp_model.specs.declared.events.What.{What}
-use Rattle.thp_model.specs.declared.events.What.TheVariants.{Alloc, MapWhole, UnmapWhole, MapSub, UnmapSub, Unpin, Write, Zero, Split}
-use Rattle.thp_model.specs.declared.shape.Shape.{Shape}
-use Rattle.thp_model.specs.History.{History, count_of, some_event, by}
-use Rattle.thp_model.specs.Counts.{is_live, is_split, is_alloc, allocates, frees, splits, allocations}
-use Rattle.thp_model.specs.FrameLaws.{gives_frame}
-use Rattle.thp_model.specs.Frames.{is_held, released}
-use Rattle.thp_model.specs.Legal.{IsLegal, Fits, FitsBy}
-use Rattle.thp_model.specs.Places.{flights}
-use Rattle.thp_model.specs.Sets.{has}
-use Rattle.thp_model.specs.Shapes.{subpages}
-use Rattle.thp_model.specs.Words.{get_or-set_of}
+use Rattle.thp_model.specs.Prelude.{Event, What, Alloc, MapWhole, UnmapWhole, MapSub, UnmapSub, Unpin, Write, Zero, Split, Shape, History, count_of, some_event, by, is_live, is_split, is_alloc, allocates, frees, splits, allocations, gives_frame, is_held, released, IsLegal, Fits, FitsBy, flights, has, subpages, get_or-set_of}
 use Rattle.thp_model.proofs.Allowed.{allowed_map_whole, allowed_write, allowed_zero}
 use Rattle.thp_model.proofs.Bools.{and_no, and_both}
 use Rattle.thp_model.proofs.Holding.{whole_held, held_still, held_falls, unsplit_same, kept_map_sub, still_unmap_whole, still_unmap_sub, still_unpin, still_split}

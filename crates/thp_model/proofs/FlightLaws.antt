@@ -1,23 +1,9 @@
 -- Who stands, what enters, what is left alone, and what others do to a flight.
-use Rattle.std.proofs.Common.{◌≡◌, ℕ, suc, ◌<◌, Bool, true, false, cond, not, ◌&&◌, ◌||◌, List, [], ◌∷◌, ◌++◌, Some, length, take, drop, refl, ap, sym, ◌∙◌, subst, arith, nat_eq, eq-eqb, eqb-true, append_assoc}
-use Rattle.std.specs.Prelude.{slice_get}
-use Rattle.std.specs.List.{filter}
+use Rattle.std.proofs.Common.{◌≡◌, ℕ, suc, ◌<◌, Bool, true, false, cond, not, ◌&&◌, ◌||◌, List, [], ◌∷◌, ◌++◌, Some, length, take, drop, refl, ap, sym, ◌∙◌, subst, arith, nat_eq, eq-eqb, eqb-true, append_assoc, slice_get, filter}
 use Rattle.std.proofs.lemmas.List.Elements.{filter-append}
 use Rattle.std.proofs.lemmas.List.Folds.{list_any-append}
-use Rattle.thp_model.specs.declared.events.Event.{Event}
-use Rattle.thp_model.specs.declared.events.Outcome.{Outcome}
-use Rattle.thp_model.specs.declared.events.Outcome.TheVariants.{Freed, Queued}
-use Rattle.thp_model.specs.declared.events.What.{What}
-use Rattle.thp_model.specs.declared.events.What.TheVariants.{Alloc, MapWhole, UnmapWhole, MapSub, UnmapSub, SplitPmd, Pin, Unpin, Write, Zero, Taken, Split, Pinned, Used, Back, Dropped, Close}
-use Rattle.thp_model.specs.declared.shape.Shape.{Shape}
-use Rattle.thp_model.specs.History.{History, by, some_event}
-use Rattle.thp_model.specs.Counts.{is_live, is_split, is_closed, is_queued, is_freed, allocates, frees}
-use Rattle.thp_model.specs.FlightSteps.{flight_after, flight_by}
-use Rattle.thp_model.specs.Frames.{outcome}
-use Rattle.thp_model.specs.Legal.{IsLegal, FitsBy}
-use Rattle.thp_model.specs.PlaceLaws.{enters, takes_of, is_others, acts_on}
-use Rattle.thp_model.specs.Places.{queue, flight, flights, has_page, stands}
-use Rattle.thp_model.specs.Runs.{still_flying}
+use Rattle.thp_model.specs.Prelude.{Event, Outcome, Freed, Queued, What, Alloc, MapWhole, UnmapWhole, MapSub, UnmapSub, SplitPmd, Pin, Unpin, Write, Zero, Taken, Split, Used, Back, Dropped, Close, Shape, History, by, some_event, is_live, is_split, is_closed, is_queued, is_freed, allocates, frees, flight_after, flight_by, outcome, IsLegal, FitsBy, enters, takes_of, is_others, acts_on, queue, flight, flights, has_page, stands, still_flying}
+use Rattle.thp_model.specs.declared.events.What.TheVariants.{Pinned}
 use Rattle.thp_model.proofs.Alive.{legal_grown}
 use Rattle.thp_model.proofs.Allowed.{allowed_alloc, allowed_map_whole, allowed_unmap_whole, allowed_map_sub, allowed_unmap_sub, allowed_split_pmd, allowed_pin, allowed_unpin, allowed_write, allowed_zero}
 use Rattle.thp_model.proofs.Blocks.{filter-filter}

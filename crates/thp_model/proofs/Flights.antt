@@ -1,13 +1,6 @@
 -- A caller's flight, one event at a time.
-use Rattle.std.proofs.Common.{◌≡◌, ℕ, Bool, true, false, cond, not, ◌&&◌, List, [], ◌∷◌, ◌++◌, map, refl, ap, sym, ◌∙◌, arith, nat_eq, eq-eqb, eqb-true}
-use Rattle.std.specs.List.{filter}
-use Rattle.thp_model.specs.declared.events.Outcome.{Outcome}
-use Rattle.thp_model.specs.declared.events.Outcome.TheVariants.{Freed, Queued, Stays}
-use Rattle.thp_model.specs.declared.events.What.{What}
-use Rattle.thp_model.specs.declared.events.What.TheVariants.{UnmapWhole, UnmapSub, Unpin, Taken, Split, Used, Back, Dropped}
-use Rattle.thp_model.specs.History.{History, by}
-use Rattle.thp_model.specs.FlightSteps.{flight_after, flight_by}
-use Rattle.thp_model.specs.Places.{flights, flight, flights_by, without, leaves}
+use Rattle.std.proofs.Common.{◌≡◌, ℕ, Bool, true, false, cond, not, ◌&&◌, List, [], ◌∷◌, ◌++◌, map, refl, ap, sym, ◌∙◌, arith, nat_eq, eq-eqb, eqb-true, filter}
+use Rattle.thp_model.specs.Prelude.{Outcome, Freed, Queued, Stays, What, UnmapWhole, UnmapSub, Unpin, Taken, Split, Used, Back, Dropped, History, by, flight_after, flight_by, flights, flight, flights_by, without, leaves}
 use Rattle.std.proofs.lemmas.Bool.Decides.{nat_tests}
 use Rattle.thp_model.proofs.Pushes.{flights_push}
 

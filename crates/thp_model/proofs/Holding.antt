@@ -1,19 +1,8 @@
 -- The frames that a page holds, after one more event.
 use Rattle.std.proofs.Common.{◌≡◌, ◌≢◌, ℕ, ◌+◌, ◌-◌, Bool, true, false, cond, not, ◌&&◌, ◌||◌, List, [], ◌∷◌, ◌++◌, refl, ap, sym, ◌∙◌, arith, nat_eq, nat_lt, ltb-true, None}
 use Rattle.std.proofs.lemmas.Bool.Decides.{nat_tests}
-use Rattle.thp_model.specs.declared.events.Event.{Event}
-use Rattle.thp_model.specs.declared.events.Outcome.{Outcome}
-use Rattle.thp_model.specs.declared.events.What.{What}
-use Rattle.thp_model.specs.declared.events.What.TheVariants.{UnmapWhole, MapSub, UnmapSub, Unpin, Split}
-use Rattle.thp_model.specs.declared.shape.Shape.{Shape}
-use Rattle.thp_model.specs.History.{History, count_of, some_event, by}
-use Rattle.thp_model.specs.Counts.{maps, unmaps, total, is_split, is_live, allocates, frees, splits}
-use Rattle.thp_model.specs.Frames.{is_held, keeps_frame}
-use Rattle.thp_model.specs.Underused.{shrinks_underused, is_zero_filled, writes, zeroes}
-use Rattle.thp_model.specs.Refusals.{refusal}
+use Rattle.thp_model.specs.Prelude.{Event, Outcome, What, UnmapWhole, MapSub, UnmapSub, Unpin, Split, Shape, History, count_of, some_event, by, maps, unmaps, total, is_split, is_live, allocates, frees, splits, is_held, keeps_frame, shrinks_underused, is_zero_filled, writes, zeroes, refusal, covers, subpages}
 use Rattle.thp_model.specs.Refusals as call
-use Rattle.thp_model.specs.Sets.{covers}
-use Rattle.thp_model.specs.Shapes.{subpages}
 use Rattle.thp_model.proofs.Allowed.{allowed_map_sub}
 use Rattle.thp_model.proofs.Below.{some_none}
 use Rattle.thp_model.proofs.Bools.{by_bool, and_no}

@@ -1,26 +1,12 @@
 -- The choice of the least free block is legal where some choice is, and no choice is legal for longer.
-use Rattle.std.proofs.Common.{◌≡◌, ℕ, suc, zero, ◌<◌, ◌≤◌, Bool, true, false, cond, not, List, [], ◌∷◌, ◌++◌, Some, None, length, map, take, refl, ap, sym, ◌∙◌, subst, arith, nat_eq, inl, inr, append_assoc}
-use Rattle.std.specs.Prelude.{slice_get}
+use Rattle.std.proofs.Common.{◌≡◌, ℕ, suc, zero, ◌<◌, ◌≤◌, Bool, true, false, cond, not, List, [], ◌∷◌, ◌++◌, Some, None, length, map, take, refl, ap, sym, ◌∙◌, subst, arith, nat_eq, inl, inr, append_assoc, slice_get}
 use Rattle.std.specs.List.{fold, filter, list_any, range_with_len}
 use Rattle.std.proofs.lemmas.Bool.{cases_lt}
 use Rattle.std.proofs.lemmas.List.{map-append, length-map}
 use Rattle.std.proofs.lemmas.List.Folds.{fold_along}
 use Rattle.std.proofs.lemmas.List.Sums.{fold_push}
-use Rattle.thp_model.specs.declared.events.Event.{Event}
-use Rattle.thp_model.specs.declared.events.Outcome.{Outcome}
-use Rattle.thp_model.specs.declared.events.Outcome.TheVariants.{Freed}
-use Rattle.thp_model.specs.declared.events.What.{What}
-use Rattle.thp_model.specs.declared.events.What.TheVariants.{Alloc, UnmapWhole, UnmapSub, Unpin}
-use Rattle.thp_model.specs.declared.refusal.Refusal.TheVariants.{Closed, NoBlock}
-use Rattle.thp_model.specs.declared.shape.Shape.{Shape}
-use Rattle.thp_model.specs.BlockLaws.{with_block, event_with, without_blocks, SameButBlocks, first_that, least_free, with_least_blocks}
-use Rattle.thp_model.specs.Counts.{is_closed}
-use Rattle.thp_model.specs.Frames.{block_in_use}
-use Rattle.thp_model.specs.History.{History, by}
-use Rattle.thp_model.specs.Legal.{IsLegal, Fits, FitsBy, IsFirstMisfit}
-use Rattle.thp_model.specs.Refusals.{refusal}
+use Rattle.thp_model.specs.Prelude.{Event, Outcome, Freed, What, Alloc, UnmapWhole, UnmapSub, Unpin, Closed, NoBlock, Shape, with_block, event_with, without_blocks, SameButBlocks, first_that, least_free, with_least_blocks, is_closed, block_in_use, History, by, IsLegal, Fits, FitsBy, IsFirstMisfit, refusal, each_below}
 use Rattle.thp_model.specs.Refusals as call
-use Rattle.thp_model.specs.Sets.{each_below}
 use Rattle.thp_model.proofs.Alike.{alike, fits_alike, fold_alike, Alike}
 use Rattle.thp_model.proofs.Allowed.{allowed_alloc}
 use Rattle.thp_model.proofs.Below.{each_below-ext}

@@ -4,8 +4,7 @@ use Rattle.std.specs.List.{list_any, range_with_len, IsDistinct}
 use Rattle.std.proofs.lemmas.List.Folds.{list_any-append}
 use Rattle.std.proofs.lemmas.Map.Keys.{IsDistinct-push}
 use Rattle.std.proofs.lemmas.Map.Steps.{length-le_from_distinct_below, le-length_from_below}
-use Rattle.thp_model.specs.BlockLaws.{first_that}
-use Rattle.thp_model.specs.Sets.{some_below, each_below}
+use Rattle.thp_model.specs.Prelude.{first_that, some_below, each_below}
 use Rattle.thp_model.proofs.Below.{some_none, each_below-ext, each-not}
 use Rattle.thp_model.proofs.Blocks.{eqb_laws}
 use Rattle.thp_model.proofs.Bools.{by_bool, or-false}

@@ -1,10 +1,7 @@
 -- Legal histories, one event at a time.
 use Rattle.std.proofs.Common.{◌≡◌, ℕ, suc, zero, ◌<◌, [], ◌∷◌, ◌++◌, length, take, drop, get_or, sym, ◌∙◌, subst, arith, inl, inr}
 use Rattle.std.proofs.lemmas.List.{take-append-le, take_all, take_at, take-append-drop}
-use Rattle.thp_model.specs.declared.events.Event.{Event}
-use Rattle.thp_model.specs.declared.shape.Shape.{Shape}
-use Rattle.thp_model.specs.History.{History}
-use Rattle.thp_model.specs.Legal.{IsLegal, Fits, IsFirstMisfit}
+use Rattle.thp_model.specs.Prelude.{Event, Shape, History, IsLegal, Fits, IsFirstMisfit}
 use Rattle.thp_model.proofs.ListPlaces.{get_push, get-append_left, get_middle, get_below, get_at, take_one}
 
 -- the empty history is legal

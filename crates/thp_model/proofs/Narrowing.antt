@@ -1,17 +1,10 @@
 -- A range of which an operand was kept in 16 bits is refused as the range itself is.
-use Rattle.std.proofs.Common.{◌≡◌, ℕ, ◌+◌, ◌≤◌, min, Bool, true, false, not, ◌||◌, cond, nat_eq, nat_lt, Option, Some, None, refl, ap₂, sym, ◌∙◌, arith}
+use Rattle.std.proofs.Common.{◌≡◌, ℕ, ◌+◌, ◌≤◌, min, Bool, true, false, not, ◌||◌, cond, nat_eq, nat_lt, Option, Some, None, refl, ap₂, sym, ◌∙◌, arith, Result, OnOk, IfOk, Ok, Err}
 use Rattle.std.proofs.lemmas.Bool.Decides.{nat_tests}
-use Rattle.std.specs.Prelude.{Result, OnOk, IfOk, Ok, Err}
 use Rattle.std.specs.Result.{result_err}
-use Rattle.thp_model.specs.declared.refusal.Refusal.{Refusal}
+use Rattle.thp_model.specs.Prelude.{Refusal, Shape, History, is_live, subpages, refusal, PageState, page_refusal, size}
 use Rattle.thp_model.specs.declared.refusal.Refusal.TheVariants as reason
-use Rattle.thp_model.specs.declared.shape.Shape.{Shape}
-use Rattle.thp_model.specs.History.{History}
-use Rattle.thp_model.specs.Counts.{is_live}
-use Rattle.thp_model.specs.Shapes.{subpages}
-use Rattle.thp_model.specs.Refusals.{refusal}
 use Rattle.thp_model.specs.Refusals as call
-use Rattle.thp_model.specs.Pages.{PageState, page_refusal, size}
 use Rattle.thp_model.proofs.Bools.{by_bool}
 use Rattle.thp_model.proofs.Sizes.{few_subpages}
 

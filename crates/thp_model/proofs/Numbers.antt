@@ -1,11 +1,7 @@
 -- Pages are numbered in the order of their allocation: one that isn't allocated yet had no event.
 use Rattle.std.proofs.Common.{◌≡◌, ℕ, ◌<◌, ◌≤◌, Bool, true, false, not, ◌&&◌, [], ◌∷◌, ◌++◌, refl, ◌∙◌, arith, nat_eq, inl, inr, ne_eqb}
 use Rattle.std.proofs.lemmas.Bool.{cases_lt}
-use Rattle.thp_model.specs.declared.events.Event.{Event}
-use Rattle.thp_model.specs.declared.shape.Shape.{Shape}
-use Rattle.thp_model.specs.History.{History, count_of, some_event}
-use Rattle.thp_model.specs.Counts.{maps, unmaps, maps_whole, unmaps_whole, pins_page, unpins_page, is_live, allocates, frees, splits, allocations}
-use Rattle.thp_model.specs.Underused.{is_partly_mapped}
+use Rattle.thp_model.specs.Prelude.{Event, Shape, History, count_of, some_event, maps, unmaps, maps_whole, unmaps_whole, pins_page, unpins_page, is_live, allocates, frees, splits, allocations, is_partly_mapped}
 use Rattle.thp_model.proofs.Pushes.{count_same, some_same, partly_stays, is_partly_mapped_none}
 use Rattle.thp_model.proofs.Untouched.{Untouched}
 

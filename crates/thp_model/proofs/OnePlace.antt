@@ -1,14 +1,8 @@
 -- A page that stands in one place stands in no other: flights and the queue without a page.
-use Rattle.std.proofs.Common.{◌≡◌, ℕ, ◌+◌, ◌<◌, ◌≤◌, Bool, true, false, cond, not, ◌&&◌, List, [], ◌∷◌, ◌++◌, map, refl, ap, ◌∙◌, arith, nat_eq, eq-eqb}
-use Rattle.std.specs.Prelude.{count_by}
-use Rattle.std.specs.List.{filter}
+use Rattle.std.proofs.Common.{◌≡◌, ℕ, ◌+◌, ◌<◌, ◌≤◌, Bool, true, false, cond, not, ◌&&◌, List, [], ◌∷◌, ◌++◌, map, refl, ap, ◌∙◌, arith, nat_eq, eq-eqb, count_by, filter}
 use Rattle.std.proofs.lemmas.List.Sums.{sum_by-append}
 use Rattle.std.proofs.lemmas.Bool.Decides.{nat_tests}
-use Rattle.thp_model.specs.declared.shape.Shape.{Shape}
-use Rattle.thp_model.specs.History.{History}
-use Rattle.thp_model.specs.Counts.{is_live, is_split}
-use Rattle.thp_model.specs.Legal.{IsLegal}
-use Rattle.thp_model.specs.Places.{queue, flights, flight, has_page, without}
+use Rattle.thp_model.specs.Prelude.{Shape, History, is_live, is_split, IsLegal, queue, flights, flight, has_page, without}
 use Rattle.thp_model.proofs.Bools.{by_bool, and_both, or_first, or_second}
 use Rattle.thp_model.proofs.Counting.{count_any, count-le}
 use Rattle.thp_model.proofs.Standing.{Sound, legal_sound, stand, times, flying, times-cons, flying-cons, in_flight}

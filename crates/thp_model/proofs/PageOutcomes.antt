@@ -1,20 +1,6 @@
 -- The outcome of an unmap or an unpin and the frames that an event gives back, by the page's state before and after.
 use Rattle.std.proofs.Common.{◌≡◌, ℕ, ◌<◌, Bool, true, false, cond, not, ◌&&◌, ◌||◌, [], ◌∷◌, ◌++◌, refl, ap, sym, ◌∙◌, arith, nat_eq, nat_lt, ltb-true, eq-eqb}
-use Rattle.thp_model.specs.declared.events.Event.{Event}
-use Rattle.thp_model.specs.declared.events.Outcome.{Outcome}
-use Rattle.thp_model.specs.declared.events.Outcome.TheVariants.{Freed, Queued, Stays}
-use Rattle.thp_model.specs.declared.shape.Shape.{Shape}
-use Rattle.thp_model.specs.Sets.{has}
-use Rattle.thp_model.specs.Shapes.{subpages}
-use Rattle.thp_model.specs.History.{History}
-use Rattle.thp_model.specs.Counts.{is_live, is_closed, is_freed, is_used, is_mapped, loses_use, total, allocates, frees}
-use Rattle.thp_model.specs.Underused.{shrinks_underused}
-use Rattle.thp_model.specs.Places.{stands}
-use Rattle.thp_model.specs.Frames.{is_held, outcome, released}
-use Rattle.thp_model.specs.Legal.{Gives}
-use Rattle.thp_model.specs.Runs.{unused}
-use Rattle.thp_model.specs.Pages.{PageState, size, total_at, has_use, drops_use, holds, gives_frames, Tallies, PageSplit}
-use Rattle.thp_model.specs.PageChanges.{page_outcome, page_released}
+use Rattle.thp_model.specs.Prelude.{Event, Outcome, Freed, Queued, Stays, Shape, has, subpages, History, is_live, is_closed, is_freed, is_used, is_mapped, loses_use, total, allocates, frees, shrinks_underused, stands, is_held, outcome, released, Gives, unused, PageState, size, total_at, has_use, drops_use, holds, gives_frames, Tallies, PageSplit, page_outcome, page_released}
 use Rattle.thp_model.proofs.Bools.{by_bool}
 use Rattle.thp_model.proofs.PageRefusals.{some_is, held_is, held_gone}
 use Rattle.thp_model.proofs.Pushes.{some_same, some_event_push}

@@ -1,17 +1,8 @@
 -- The refusals of the calls about a live page, by the page's state.
 use Rattle.std.proofs.Common.{◌≡◌, ℕ, ◌+◌, ◌<◌, Bool, true, false, cond, not, ◌&&◌, ◌||◌, refl, ap, sym, ◌∙◌, nat_eq, nat_lt, ltb-true, Option, Some, None}
-use Rattle.thp_model.specs.declared.refusal.Refusal.{Refusal}
+use Rattle.thp_model.specs.Prelude.{Refusal, Shape, covers, some_below, subpages, shrinks_underused, History, is_live, total, is_held, refusal, most, some_of, PageState, size, total_at, holds, some_in_range, page_refusal, Tallies}
 use Rattle.thp_model.specs.declared.refusal.Refusal.TheVariants as reason
-use Rattle.thp_model.specs.declared.shape.Shape.{Shape}
-use Rattle.thp_model.specs.Sets.{covers, some_below}
-use Rattle.thp_model.specs.Shapes.{subpages}
-use Rattle.thp_model.specs.Underused.{shrinks_underused}
-use Rattle.thp_model.specs.History.{History}
-use Rattle.thp_model.specs.Counts.{is_live, total}
-use Rattle.thp_model.specs.Frames.{is_held}
-use Rattle.thp_model.specs.Refusals.{refusal, most, some_of}
 use Rattle.thp_model.specs.Refusals as call
-use Rattle.thp_model.specs.Pages.{PageState, size, total_at, holds, some_in_range, page_refusal, Tallies}
 use Rattle.thp_model.proofs.Below.{some_below-ext}
 use Rattle.thp_model.proofs.Tallying.{size_is, total_is, whole_is, own_is, pins_is}
 

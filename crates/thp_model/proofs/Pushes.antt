@@ -1,18 +1,9 @@
 -- Each definition at a history with one more event.
-use Rattle.std.proofs.Common.{◌≡◌, ℕ, ◌+◌, Bool, true, false, cond, not, ◌&&◌, ◌||◌, [], ◌∷◌, ◌++◌, refl, ap, sym, ◌∙◌, arith, append_assoc}
-use Rattle.std.specs.List.{filter_map, fold}
+use Rattle.std.proofs.Common.{◌≡◌, ℕ, ◌+◌, Bool, true, false, cond, not, ◌&&◌, ◌||◌, [], ◌∷◌, ◌++◌, refl, ap, sym, ◌∙◌, arith, append_assoc, filter_map, fold}
 use Rattle.std.proofs.lemmas.List.Elements.{filter_map-append}
 use Rattle.std.proofs.lemmas.List.Sums.{sum_by_push, fold_push}
 use Rattle.std.proofs.lemmas.List.Folds.{list_any-append}
-use Rattle.thp_model.specs.declared.events.Event.{Event}
-use Rattle.thp_model.specs.declared.events.What.{What}
-use Rattle.thp_model.specs.declared.shape.Shape.{Shape}
-use Rattle.thp_model.specs.History.{History, count_of, some_event}
-use Rattle.thp_model.specs.Counts.{is_live, allocates, frees}
-use Rattle.thp_model.specs.Places.{queue, queue_after, flights, flights_after, is_taking, takes_by}
-use Rattle.thp_model.specs.Counters.{thp_split_pmd, add_split_pmds, splits_pmds, thp_underused_split_page, add_split_underused, splits_underused}
-use Rattle.thp_model.specs.Frames.{given, gives_back}
-use Rattle.thp_model.specs.Underused.{zero_after, is_zero_filled, writes, zeroes, unmaps_some, unmaps_part, add_unmap, is_partly_mapped}
+use Rattle.thp_model.specs.Prelude.{Event, What, Shape, History, count_of, some_event, is_live, allocates, frees, queue, queue_after, flights, flights_after, is_taking, takes_by, thp_split_pmd, add_split_pmds, splits_pmds, thp_underused_split_page, add_split_underused, splits_underused, given, gives_back, zero_after, is_zero_filled, writes, zeroes, unmaps_some, unmaps_part, add_unmap, is_partly_mapped}
 use Rattle.thp_model.proofs.Bools.{or-false, and_no}
 use Rattle.thp_model.proofs.ListPlaces.{append_none}
 

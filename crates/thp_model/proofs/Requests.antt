@@ -1,11 +1,6 @@
 -- Legal histories of the same requests are equal but for the blocks.
 use Rattle.std.proofs.Common.{◌≡◌, ℕ, [], ◌∷◌, ◌++◌, refl, ap, sym, ◌∙◌, subst, append_assoc}
-use Rattle.thp_model.specs.declared.events.Event.{Event}
-use Rattle.thp_model.specs.declared.shape.Shape.{Shape}
-use Rattle.thp_model.specs.BlockLaws.{with_block, event_with, without_blocks, SameButBlocks}
-use Rattle.thp_model.specs.History.{History, by}
-use Rattle.thp_model.specs.Legal.{IsLegal, Fits, FitsBy}
-use Rattle.thp_model.specs.RequestLaws.{asked, requests}
+use Rattle.thp_model.specs.Prelude.{Event, Shape, with_block, event_with, without_blocks, SameButBlocks, History, by, IsLegal, Fits, FitsBy, asked, requests}
 use Rattle.thp_model.proofs.LeastBlocks.{without_blocks_push}
 use Rattle.thp_model.proofs.LegalSteps.{legal_at}
 use Rattle.thp_model.proofs.ListPlaces.{append_none}

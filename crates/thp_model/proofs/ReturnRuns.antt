@@ -1,16 +1,6 @@
 -- Returns of pages in flight, one at a time: each goes to the tail of the queue, or nowhere where it is dropped.
-use Rattle.std.proofs.Common.{◌≡◌, ℕ, ◌≤◌, Bool, true, false, cond, not, List, [], ◌∷◌, ◌++◌, Some, map, refl, ap, ap₂, sym, ◌∙◌, subst, eq-eqb, append_assoc}
-use Rattle.std.specs.Prelude.{slice_get}
-use Rattle.std.specs.List.{filter}
-use Rattle.thp_model.specs.declared.events.Event.{Event}
-use Rattle.thp_model.specs.declared.events.What.TheVariants.{Back, Dropped}
-use Rattle.thp_model.specs.declared.shape.Shape.{Shape}
-use Rattle.thp_model.specs.History.{History, by}
-use Rattle.thp_model.specs.Counts.{is_closed, closes}
-use Rattle.thp_model.specs.Places.{queue, flight, without}
-use Rattle.thp_model.specs.Legal.{IsLegal, Fits, is_dropped}
-use Rattle.thp_model.specs.Runs.{return_event, goes_back, still_flying, put_back_events}
-use Rattle.thp_model.specs.Underused.{unmaps_some, is_partly_mapped}
+use Rattle.std.proofs.Common.{◌≡◌, ℕ, ◌≤◌, Bool, true, false, cond, not, List, [], ◌∷◌, ◌++◌, Some, map, refl, ap, ap₂, sym, ◌∙◌, subst, eq-eqb, append_assoc, slice_get, filter}
+use Rattle.thp_model.specs.Prelude.{Event, Back, Dropped, Shape, History, by, is_closed, closes, queue, flight, without, IsLegal, Fits, is_dropped, return_event, goes_back, still_flying, put_back_events, unmaps_some, is_partly_mapped}
 use Rattle.thp_model.proofs.Bools.{or_none, not_false}
 use Rattle.thp_model.proofs.Flights.{flight_push}
 use Rattle.thp_model.proofs.LegalSteps.{legal_push}

@@ -1,17 +1,7 @@
 -- A scan: a take, a try of each page taken, and the return of those that were pinned.
-use Rattle.std.proofs.Common.{◌≡◌, ℕ, ◌+◌, ◌≤◌, Bool, true, false, cond, not, List, [], ◌∷◌, ◌++◌, Some, map, take, drop, refl, ap, ap₂, sym, ◌∙◌, subst, arith, nat_eq, eq-eqb, append_assoc}
-use Rattle.std.specs.Prelude.{slice_get}
-use Rattle.std.specs.List.{filter}
+use Rattle.std.proofs.Common.{◌≡◌, ℕ, ◌+◌, ◌≤◌, Bool, true, false, cond, not, List, [], ◌∷◌, ◌++◌, Some, map, take, drop, refl, ap, ap₂, sym, ◌∙◌, subst, arith, nat_eq, eq-eqb, append_assoc, slice_get, filter}
 use Rattle.std.proofs.lemmas.List.{map-append, take-append-drop}
-use Rattle.thp_model.specs.declared.events.Event.{Event}
-use Rattle.thp_model.specs.declared.events.What.TheVariants.{Taken}
-use Rattle.thp_model.specs.declared.shape.Shape.{Shape}
-use Rattle.thp_model.specs.History.{History, by}
-use Rattle.thp_model.specs.Counts.{is_closed, closes}
-use Rattle.thp_model.specs.Places.{queue, flight, has_page, no_pages}
-use Rattle.thp_model.specs.Legal.{IsLegal, is_dropped}
-use Rattle.thp_model.specs.PlaceLaws.{takes_of}
-use Rattle.thp_model.specs.Runs.{take_events, try_event, return_event, goes_back, is_pinned, scan_events}
+use Rattle.thp_model.specs.Prelude.{Event, Taken, Shape, History, by, is_closed, closes, queue, flight, has_page, no_pages, IsLegal, is_dropped, takes_of, take_events, try_event, return_event, goes_back, is_pinned, scan_events}
 use Rattle.thp_model.proofs.Bools.{or_first, or_second}
 use Rattle.thp_model.proofs.ListPlaces.{append_none}
 use Rattle.thp_model.proofs.OnePlace.{once_queued, times-append, not_before}

@@ -1,8 +1,7 @@
 -- How many subpages a page has.
 use Rattle.std.proofs.Common.{◌<◌, ◌≤◌, arith}
 use Rattle.std.proofs.Math.Pow.{pow_mono}
-use Rattle.thp_model.specs.declared.shape.Shape.{Shape}
-use Rattle.thp_model.specs.Shapes.{subpages}
+use Rattle.thp_model.specs.Prelude.{Shape, subpages}
 
 -- a page has a subpage
 pub some_subpages : (shape : Shape) → 0 < subpages shape

@@ -1,9 +1,6 @@
 -- Some event of a history passes a test: which one, and the tests that follow.
-use Rattle.std.proofs.Common.{◌≡◌, ℕ, suc, zero, Bool, true, false, ◌||◌, [], ◌∷◌, Some, refl, ap, ◌∙◌}
-use Rattle.std.specs.Prelude.{slice_get}
-use Rattle.thp_model.specs.declared.events.Event.{Event}
-use Rattle.thp_model.specs.declared.events.What.{What}
-use Rattle.thp_model.specs.History.{History, some_event}
+use Rattle.std.proofs.Common.{◌≡◌, ℕ, suc, zero, Bool, true, false, ◌||◌, [], ◌∷◌, Some, refl, ap, ◌∙◌, slice_get}
+use Rattle.thp_model.specs.Prelude.{Event, What, History, some_event}
 use Rattle.thp_model.proofs.Bools.{or_first, or_second}
 
 -- an event that passes, with its place

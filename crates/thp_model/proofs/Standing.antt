@@ -1,24 +1,11 @@
 -- No page stands twice in the queue and the flights joined, and each that stands there is live and not split.
-use Rattle.std.proofs.Common.{◌≡◌, ℕ, suc, zero, ◌+◌, ◌<◌, ◌≤◌, Bool, true, false, cond, not, ◌&&◌, ◌||◌, List, [], ◌∷◌, ◌++◌, Some, drop, map, refl, ap, sym, ◌∙◌, subst, arith, eq-eqb, ne_eqb, inl, inr}
-use Rattle.std.specs.Prelude.{slice_get, count_by, nat_eq, nat_lt}
+use Rattle.std.proofs.Common.{◌≡◌, ℕ, suc, zero, ◌+◌, ◌<◌, ◌≤◌, Bool, true, false, cond, not, ◌&&◌, ◌||◌, List, [], ◌∷◌, ◌++◌, Some, drop, map, refl, ap, sym, ◌∙◌, subst, arith, eq-eqb, ne_eqb, inl, inr, slice_get, count_by, nat_eq, nat_lt}
 use Rattle.std.specs.List.{filter, list_any}
 use Rattle.std.proofs.lemmas.List.Sums.{sum_by_push, sum_by-cons, sum_by-append}
 use Rattle.std.proofs.lemmas.List.Folds.{list_any-append}
 use Rattle.std.proofs.lemmas.Bool.Decides.{eqb_tells}
-use Rattle.thp_model.specs.declared.events.Event.{Event}
-use Rattle.thp_model.specs.declared.events.Outcome.{Outcome}
-use Rattle.thp_model.specs.declared.events.Outcome.TheVariants.{Freed, Queued, Stays}
-use Rattle.thp_model.specs.declared.events.What.{What}
-use Rattle.thp_model.specs.declared.events.What.TheVariants.{Alloc, MapWhole, UnmapWhole, MapSub, UnmapSub, SplitPmd, Pin, Unpin, Write, Zero, Taken, Split, Pinned, Used, Back, Dropped, Close}
-use Rattle.thp_model.specs.declared.shape.Shape.{Shape}
-use Rattle.thp_model.specs.History.{History, some_event, by}
-use Rattle.thp_model.specs.Counts.{total, pins, is_closed, is_freed, is_live, is_split, frees, splits, allocates, is_alloc, allocations}
-use Rattle.thp_model.specs.Places.{standing, stands, queue, flights, queue_after, flights_after, queue_by, flights_by, without, leaves, has_page, flight}
-use Rattle.thp_model.specs.Legal.{IsLegal, Fits, FitsBy}
-use Rattle.thp_model.specs.Frames.{outcome}
-use Rattle.thp_model.specs.Sets.{some_below}
-use Rattle.thp_model.specs.Shapes.{subpages}
-use Rattle.thp_model.specs.Underused.{shrinks_underused}
+use Rattle.thp_model.specs.Prelude.{Event, Outcome, Freed, Queued, Stays, What, Alloc, MapWhole, UnmapWhole, MapSub, UnmapSub, SplitPmd, Pin, Unpin, Write, Zero, Taken, Split, Used, Back, Dropped, Close, Shape, History, some_event, by, total, pins, is_closed, is_freed, is_live, is_split, frees, splits, allocates, is_alloc, allocations, standing, stands, queue, flights, queue_after, flights_after, queue_by, flights_by, without, leaves, has_page, flight, IsLegal, Fits, FitsBy, outcome, some_below, subpages, shrinks_underused, is_about}
+use Rattle.thp_model.specs.declared.events.What.TheVariants.{Pinned}
 use Rattle.thp_model.proofs.Allowed.{allowed_map_whole, allowed_unmap_whole, allowed_map_sub, allowed_unmap_sub, allowed_split_pmd, allowed_pin, allowed_unpin, allowed_write, allowed_zero}
 use Rattle.thp_model.proofs.Bools.{or_none, and-false, one_if, none_if}
 use Rattle.thp_model.proofs.Counting.{count-filter, count-le, count_any, count-cons}
@@ -26,7 +13,6 @@ use Rattle.thp_model.proofs.LegalSteps.{legal_all}
 use Rattle.thp_model.proofs.Numbers.{Fresh, Numbered, live_below, beyond, fresh_push, numbered_none}
 use Rattle.thp_model.proofs.Pushes.{queue_push, flights_push, some_event_push, some_same, count_of_push, count_same, count_more}
 use Rattle.thp_model.proofs.Untouched.{untouched}
-use Rattle.thp_model.specs.PageCalls.{is_about}
 
 -- how often page p stands in the queue, and in the flights
 unfoldable pub times : ℕ → List ℕ → ℕ

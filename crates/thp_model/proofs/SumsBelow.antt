@@ -3,7 +3,7 @@ use Rattle.std.proofs.Common.{◌≡◌, ◌≢◌, ℕ, suc, zero, ◌+◌, ◌
 use Rattle.std.specs.List.{range_with_len}
 use Rattle.std.proofs.lemmas.Bool.Decides.{eqb_tells}
 use Rattle.std.proofs.lemmas.List.FromFn.{map-range_with_len_more}
-use Rattle.thp_model.specs.Sets.{set_of, set_size, sum_below, count_below}
+use Rattle.thp_model.specs.Prelude.{set_of, set_size, sum_below, count_below}
 use Rattle.thp_model.proofs.Counting.{count_push}
 
 -- functions that agree below m

@@ -1,15 +1,7 @@
 -- Takes, one page at a time: the oldest pages move from the queue to the end of the caller's flight.
-use Rattle.std.proofs.Common.{◌≡◌, ℕ, suc, zero, ◌+◌, true, cond, ◌||◌, List, [], ◌∷◌, ◌++◌, Some, length, take, drop, refl, ap, sym, ◌∙◌, subst, arith, eq-eqb, append_assoc, take-append-drop}
-use Rattle.std.specs.Prelude.{slice_get}
+use Rattle.std.proofs.Common.{◌≡◌, ℕ, suc, zero, ◌+◌, true, cond, ◌||◌, List, [], ◌∷◌, ◌++◌, Some, length, take, drop, refl, ap, sym, ◌∙◌, subst, arith, eq-eqb, append_assoc, take-append-drop, slice_get}
 use Rattle.std.proofs.lemmas.List.{map-append}
-use Rattle.thp_model.specs.declared.events.Event.{Event}
-use Rattle.thp_model.specs.declared.events.What.TheVariants.{Taken}
-use Rattle.thp_model.specs.declared.shape.Shape.{Shape}
-use Rattle.thp_model.specs.History.{History, by}
-use Rattle.thp_model.specs.Legal.{IsLegal}
-use Rattle.thp_model.specs.Places.{queue, flight, is_taking, no_pages}
-use Rattle.thp_model.specs.PlaceLaws.{takes_of}
-use Rattle.thp_model.specs.Runs.{take_events}
+use Rattle.thp_model.specs.Prelude.{Event, Taken, Shape, History, by, IsLegal, queue, flight, is_taking, no_pages, takes_of, take_events}
 use Rattle.thp_model.proofs.Bools.{or_first, or_second}
 use Rattle.thp_model.proofs.Flights.{flight_push}
 use Rattle.thp_model.proofs.LegalSteps.{legal_push}

@@ -1,19 +1,9 @@
 -- Tries of pages in flight, one at a time: each is split, or stays in its flight where it has pins.
-use Rattle.std.proofs.Common.{◌≡◌, ℕ, ◌-◌, ◌<◌, ◌≤◌, Bool, true, false, cond, not, ◌&&◌, ◌||◌, List, [], ◌∷◌, ◌++◌, map, refl, ap, ap₂, sym, ◌∙◌, subst, arith, nat_eq, nat_lt, eq-eqb, eqb-true, append_assoc}
-use Rattle.std.specs.List.{filter}
+use Rattle.std.proofs.Common.{◌≡◌, ℕ, ◌-◌, ◌<◌, ◌≤◌, Bool, true, false, cond, not, ◌&&◌, ◌||◌, List, [], ◌∷◌, ◌++◌, map, refl, ap, ap₂, sym, ◌∙◌, subst, arith, nat_eq, nat_lt, eq-eqb, eqb-true, append_assoc, filter}
 use Rattle.std.proofs.lemmas.Bool.{eqb-false}
 use Rattle.std.proofs.lemmas.Bool.Decides.{nat_tests}
-use Rattle.thp_model.specs.declared.events.Event.{Event}
-use Rattle.thp_model.specs.declared.events.What.TheVariants.{Split, Pinned, Used}
-use Rattle.thp_model.specs.declared.shape.Shape.{Shape}
-use Rattle.thp_model.specs.Shapes.{subpages}
-use Rattle.thp_model.specs.History.{History, by}
-use Rattle.thp_model.specs.Counts.{is_live, is_split, is_closed, closes, pins, pins_page, unpins_page, maps, unmaps, splits}
-use Rattle.thp_model.specs.Places.{queue, flight, has_page, without}
-use Rattle.thp_model.specs.Frames.{is_held, released}
-use Rattle.thp_model.specs.Legal.{IsLegal, Fits, is_dropped}
-use Rattle.thp_model.specs.Runs.{unused, try_event, is_pinned}
-use Rattle.thp_model.specs.Underused.{shrinks_underused, unmaps_some, is_above, is_worth_split}
+use Rattle.thp_model.specs.Prelude.{Event, Split, Used, Shape, subpages, History, by, is_live, is_split, is_closed, closes, pins, pins_page, unpins_page, maps, unmaps, splits, queue, flight, has_page, without, is_held, released, IsLegal, Fits, is_dropped, unused, try_event, is_pinned, shrinks_underused, unmaps_some, is_above, is_worth_split}
+use Rattle.thp_model.specs.declared.events.What.TheVariants.{Pinned}
 use Rattle.thp_model.proofs.Bools.{by_bool, or_none, or_second, or-true}
 use Rattle.thp_model.proofs.Flights.{flight_push}
 use Rattle.thp_model.proofs.Holding.{whole_held}

@@ -1,7 +1,6 @@
 -- Sets as words.
-use Rattle.std.proofs.Common.{rules, ◌≡◌, ◌≢◌, ℕ, suc, zero, ◌+◌, ◌-◌, ◌*◌, ◌/◌, ◌%◌, ◌^◌, ◌<◌, ◌≤◌, max, min, Bool, true, false, cond, not, ◌&&◌, ◌||◌, List, [], ◌∷◌, ◌++◌, length, map, set, get_or, refl, ap, sym, ◌∙◌, subst, arith, inl, inr, nat_eq, nat_lt, All, eq-eqb, ne_eqb, lt-ltb}
+use Rattle.std.proofs.Common.{rules, ◌≡◌, ◌≢◌, ℕ, suc, zero, ◌+◌, ◌-◌, ◌*◌, ◌/◌, ◌%◌, ◌^◌, ◌<◌, ◌≤◌, max, min, Bool, true, false, cond, not, ◌&&◌, ◌||◌, List, [], ◌∷◌, ◌++◌, length, map, set, get_or, refl, ap, sym, ◌∙◌, subst, arith, inl, inr, nat_eq, nat_lt, All, eq-eqb, ne_eqb, lt-ltb, bit_and, bit_or, bit_xor, count_ones, count_by, sum_by, if◌then◌else◌, Decides}
 use Rattle.std.specs.Int.{bit_at, w64}
-use Rattle.std.specs.Prelude.{bit_and, bit_or, bit_xor, count_ones, count_by, sum_by, if◌then◌else◌}
 use Rattle.std.specs.List.{range_with_len}
 use Rattle.std.proofs.lemmas.List.{same_lists, length-append, get_or_append_left, get_or-append_right, length-set, get_or-set_same, get_or-set_other, get_or_default}
 use Rattle.std.proofs.lemmas.List.FromFn.{get_or-map-range_with_len}
@@ -13,12 +12,10 @@ use Rattle.std.proofs.lemmas.List.Sums.{sum_by-append, sum_by-cons}
 use Rattle.std.proofs.Math.Nat.{pow-suc}
 use Rattle.thp_model.proofs.Counting.{count-cons}
 use Rattle.std.proofs.lemmas.Bool.{cases_lt}
-use Rattle.std.specs.Bool.{Decides}
 use Rattle.std.specs.Cmp.{booleans_Decides}
 use Rattle.std.proofs.lemmas.Slice.Eq.{slice_eq-Decides}
-use Rattle.thp_model.specs.Sets.{set_of, has, set_size, one_alone, some_below, same_set}
+use Rattle.thp_model.specs.Prelude.{set_of, has, set_size, one_alone, some_below, same_set, in_words, words_of, words_are, AreWords, get_or-set_of, length-set_of}
 use Rattle.thp_model.proofs.Below.{some_no, some_none}
-use Rattle.thp_model.specs.Words.{in_words, words_of, words_are, AreWords, get_or-set_of, length-set_of}
 
 -- a list of 512 truths is the set of a test that agrees with it
 pub set_of_is : (t : List Bool) (test : ℕ → Bool) → length t ≡ 512 → ((i : ℕ) → i < 512 → get_or t i false ≡ test i) → t ≡ set_of test

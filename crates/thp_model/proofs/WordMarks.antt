@@ -1,12 +1,10 @@
 -- The first number from a place on that is in a set, or that isn't: word by word, as the code looks for it.
-use Rattle.std.proofs.Common.{◌≡◌, ℕ, ◌+◌, ◌-◌, ◌/◌, ◌%◌, ◌^◌, ◌<◌, ◌≤◌, Bool, true, false, cond, not, List, length, get_or, ap, sym, ◌∙◌, subst, arith, nat_eq, eq-eqb, ne_eqb, inl, inr}
+use Rattle.std.proofs.Common.{◌≡◌, ℕ, ◌+◌, ◌-◌, ◌/◌, ◌%◌, ◌^◌, ◌<◌, ◌≤◌, Bool, true, false, cond, not, List, length, get_or, ap, sym, ◌∙◌, subst, arith, nat_eq, eq-eqb, ne_eqb, inl, inr, pow-add}
 use Rattle.std.specs.Int.{bit_at, trailing_zeros, w64}
 use Rattle.std.proofs.lemmas.Bool.{cases_lt}
 use Rattle.std.proofs.lemmas.Nat.Bits.{bit_at-zero, bit_at-lt, bit_at_not, bit_at_above, bit_at-trailing_zeros}
 use Rattle.std.proofs.Math.Nat.{div-div-eq-div-mul, div-le_self}
-use Rattle.std.proofs.lemmas.Nat.{pow-add}
-use Rattle.thp_model.specs.Sets.{has, set_of}
-use Rattle.thp_model.specs.Words.{in_words, AreWords, get_or-set_of, length-set_of}
+use Rattle.thp_model.specs.Prelude.{has, set_of, in_words, AreWords, get_or-set_of, length-set_of}
 
 -- a bit of a number that was shifted
 bit_at-shifted : (n r j : ℕ) → bit_at (n / 2 ^ r) j ≡ bit_at n (r + j)

@@ -1,13 +1,10 @@
 -- The words of a range: full ones, of which the first and the last are cut.
-use Rattle.std.proofs.Common.{◌≡◌, ◌≢◌, ℕ, ◌+◌, ◌-◌, ◌*◌, ◌/◌, ◌%◌, ◌^◌, ◌<◌, ◌≤◌, Bool, true, false, not, ◌&&◌, ◌||◌, min, List, [], ◌∷◌, set, get_or, refl, ap, ap₂, sym, ◌∙◌, arith, nat_eq, nat_le, nat_lt, inl, inr}
+use Rattle.std.proofs.Common.{◌≡◌, ◌≢◌, ℕ, ◌+◌, ◌-◌, ◌*◌, ◌/◌, ◌%◌, ◌^◌, ◌<◌, ◌≤◌, Bool, true, false, not, ◌&&◌, ◌||◌, min, List, [], ◌∷◌, set, get_or, refl, ap, ap₂, sym, ◌∙◌, arith, nat_eq, nat_le, nat_lt, inl, inr, bit_and, get_or-set_same, get_or-set_other}
 use Rattle.std.specs.Int.{bit_at, w64}
-use Rattle.std.specs.Prelude.{bit_and}
-use Rattle.std.proofs.lemmas.List.{get_or-set_same, get_or-set_other}
 use Rattle.std.proofs.lemmas.Nat.{and_le_l}
 use Rattle.std.proofs.lemmas.Nat.Bits.{bit_at_and, bit_at_not, bit_at-lt, bit_at-zero}
 use Rattle.std.proofs.lemmas.Bool.Decides.{eqb_tells, nat_tests}
-use Rattle.thp_model.specs.Sets.{set_of, has, covers}
-use Rattle.thp_model.specs.Words.{in_words, AreWords, get_or-set_of}
+use Rattle.thp_model.specs.Prelude.{set_of, has, covers, in_words, AreWords, get_or-set_of}
 use Rattle.thp_model.proofs.WordLemmas.{set_of-ext, all_set, ones_below, below_bit, AreWords-set}
 
 -- the words have the numbers from one place up to another

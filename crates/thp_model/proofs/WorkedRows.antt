@@ -1,16 +1,6 @@
 -- Histories whose events are computed to fit, one after another.
 use Rattle.std.proofs.Common.{[], ◌∷◌, ◌++◌, refl, lit<, subst, sym, append_assoc}
-use Rattle.thp_model.specs.declared.shape.Shape.{Shape}
-use Rattle.thp_model.specs.History.{History, count_of, some_event}
-use Rattle.thp_model.specs.Places.{queue, flights, is_taking}
-use Rattle.thp_model.specs.Frames.{given}
-use Rattle.thp_model.specs.Legal.{Fits, IsLegal}
-use Rattle.thp_model.specs.Refusals.{refusal}
-use Rattle.thp_model.specs.Sets.{set_of, some_below, each_below, sum_below}
-use Rattle.thp_model.specs.Shapes.{subpages}
-use Rattle.thp_model.specs.Counters.{thp_split_pmd, thp_underused_split_page}
-use Rattle.thp_model.specs.Underused.{is_zero_filled, is_partly_mapped}
-use Rattle.thp_model.specs.Rows.{HasTotals, large_pages, small_pages, few_used, first_run, pinned_goes_to_the_tail, small_page_split, underused_scan, underused_pinned}
+use Rattle.thp_model.specs.Prelude.{Shape, History, count_of, some_event, queue, flights, is_taking, given, Fits, IsLegal, refusal, set_of, some_below, each_below, sum_below, subpages, thp_split_pmd, thp_underused_split_page, is_zero_filled, is_partly_mapped, HasTotals, large_pages, small_pages, few_used, first_run, pinned_goes_to_the_tail, small_page_split, underused_scan, underused_pinned}
 use Rattle.thp_model.proofs.LegalSteps.{legal_none, legal_push}
 use Rattle.thp_model.proofs.ListPlaces.{append_none}
 

@@ -1,7 +1,6 @@
 -- Which frames a page holds, which an event gives back, and the outcome of an unmap or an unpin.
 -- (mm/transhuge.rst, "Partial unmap and deferred_split_huge_page()"; the record of frames is this project's profile)
-use Rattle.std.specs.Prelude.{ℕ, Bool, false, not, ◌&&◌, ◌||◌, nat_eq, nat_lt, if◌then◌else◌, List, IsTrue, Option, Some, None}
-use Rattle.std.specs.List.{filter_map, sum_by}
+use Rattle.std.specs.Prelude.{ℕ, Bool, false, not, ◌&&◌, ◌||◌, nat_eq, nat_lt, if◌then◌else◌, List, IsTrue, Option, Some, None, filter_map, sum_by}
 use Rattle.thp_model.specs.declared.events.Event.{Event}
 use Rattle.thp_model.specs.declared.events.Outcome.{Outcome}
 use Rattle.thp_model.specs.declared.events.Outcome.TheVariants.{Freed, Queued, Stays}

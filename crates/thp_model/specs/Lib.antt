@@ -23,3 +23,4 @@ pub mod FrameLaws
 pub mod BlockLaws
 pub mod RequestLaws
 pub mod UnderusedLaws
+pub mod Prelude

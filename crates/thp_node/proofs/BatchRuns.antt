@@ -1,39 +1,23 @@
 -- Takes and tries of a batch, over plain lists and histories.
-use Rattle.std.proofs.Common.{◌≡◌, ◌≢◌, ℕ, min, suc, ◌+◌, ◌<◌, ◌≤◌, Bool, true, false, cond, not, List, [], ◌∷◌, ◌++◌, Option, Some, None, length, take, drop, refl, ap, ap₂, sym, ◌∙◌, subst, arith, nat_eq, eq-eqb, ne_eqb, if◌then◌else◌}
+use Rattle.std.proofs.Common.{◌≡◌, ◌≢◌, ℕ, min, suc, ◌+◌, ◌<◌, ◌≤◌, Bool, true, false, cond, not, List, [], ◌∷◌, ◌++◌, Option, Some, None, length, take, drop, refl, ap, ap₂, sym, ◌∙◌, subst, arith, nat_eq, eq-eqb, ne_eqb, if◌then◌else◌, slice_get}
 use Rattle.std.proofs.lemmas.List.{length-map, length-take, length-drop}
-use Rattle.std.specs.Prelude.{slice_get}
 use Rattle.std.specs.List.{position_or_len}
 use Rattle.thp_model.specs.declared.events.Event.{Event}
 use Rattle.thp_model.specs.declared.events.What.TheVariants as what
 use Rattle.thp_model.specs.declared.refusal.Refusal.TheVariants as reason
 use Rattle.thp_model.specs.declared.shape.Shape.{Shape}
-use Rattle.thp_model.specs.History.{History, by}
-use Rattle.thp_model.specs.Legal.{IsLegal, Fits}
-use Rattle.thp_model.specs.Counts.{pins, whole}
-use Rattle.thp_model.specs.Pages.{PageState, PageSplit, gives_frames, is_split_candidate}
-use Rattle.thp_model.specs.Underused.{is_worth_split, is_partly_mapped, shrinks_underused}
-use Rattle.thp_model.specs.Places.{queue, flight, no_pages, is_taking, has_page}
-use Rattle.thp_model.specs.Refusals.{refusal}
+use Rattle.thp_model.specs.Prelude.{History, by, IsLegal, Fits, pins, whole, PageState, PageSplit, gives_frames, is_split_candidate, is_worth_split, is_partly_mapped, shrinks_underused, queue, flight, no_pages, is_taking, has_page, refusal, take_events, next_page, rest_after, tries_of, try_event}
 use Rattle.thp_model.specs.Refusals as call
-use Rattle.thp_model.specs.Runs.{take_events, next_page, rest_after, tries_of, try_event}
 use Rattle.thp_model.proofs.Bools.{or_first, or_second}
 use Rattle.thp_model.proofs.Tallying.{pins_is, whole_is, worth_is}
 use Rattle.thp_model.proofs.Pushes.{queue_push, is_taking_push}
 use Rattle.thp_model.proofs.TakeRuns.{more_taken, take_events_more}
-use Rattle.thp_node.specs.declared.answers.Tried.{Tried}
+use Rattle.thp_node.specs.Prelude.{Tried, tried, Did, NodeState, Took}
 use Rattle.thp_node.specs.declared.answers.Tried.TheVariants as answer
-use Rattle.thp_node.specs.Batches.{tried}
-use Rattle.thp_live_pages.specs.PageStoreState.{PageStoreState, AtSlot, Edits}
-use Rattle.thp_node.specs.Calls.{Did}
-use Rattle.thp_live_pages.specs.Flying.{IsFlyingAt, IsUnpinnedAt}
-use Rattle.thp_live_pages.specs.Holding.{IsNode, IsSlot}
-use Rattle.thp_live_pages.specs.Homes.{block_of}
-use Rattle.thp_node.specs.NodeState.{NodeState}
-use Rattle.thp_node.specs.Takings.{Took}
+use Rattle.thp_live_pages.specs.Prelude.{PageStoreState, AtSlot, Edits, IsFlyingAt, IsUnpinnedAt, IsNode, IsSlot, block_of}
 use Rattle.thp_page.specs.declared.standing.Standing.{Standing}
 use Rattle.thp_page.specs.declared.standing.Standing.TheVariants.{Nowhere, Queued, Batch}
-use Rattle.thp_page.specs.Slots.{slot_at}
-use Rattle.thp_page.specs.Table.{Slot, Table}
+use Rattle.thp_page.specs.Prelude.{slot_at, Slot, Table}
 use Rattle.thp_node.proofs.CallLemmas.{did_none, did_then}
 use Rattle.thp_live_pages.proofs.Admitting.{Found}
 use Rattle.thp_live_pages.proofs.Homing.{Homed, legal_homed}

@@ -1,17 +1,13 @@
 -- What a call did, put together from what its parts did.
-use Rattle.std.proofs.Common.{◌≡◌, Option, Some, None, inl, inr, ℕ, zero, suc, ◌+◌, ◌<◌, ◌≤◌, List, [], ◌∷◌, ◌++◌, length, refl, ap, sym, ◌∙◌, arith, get_or, length-append, append_assoc}
+use Rattle.std.proofs.Common.{◌≡◌, Option, Some, None, inl, inr, ℕ, zero, suc, ◌+◌, ◌<◌, ◌≤◌, List, [], ◌∷◌, ◌++◌, length, refl, ap, sym, ◌∙◌, arith, get_or, length-append, append_assoc, All}
 use Rattle.std.proofs.lemmas.Bool.{cases_lt}
-use Rattle.std.specs.List.{All}
 use Rattle.thp_model.specs.declared.refusal.Refusal.{Refusal}
 use Rattle.thp_model.specs.declared.events.Event.{Event}
 use Rattle.thp_model.specs.declared.events.What.{What}
-use Rattle.thp_model.specs.History.{by}
-use Rattle.thp_model.specs.Legal.{IsLegal}
+use Rattle.thp_model.specs.Prelude.{by, IsLegal}
 use Rattle.thp_model.proofs.ListPlaces.{append_none}
-use Rattle.thp_live_pages.specs.PageStoreState.{PageStoreState}
-use Rattle.thp_node.specs.Calls.{Did, Refused}
-use Rattle.thp_node.specs.Journals.{JournalState}
-use Rattle.thp_node.specs.NodeState.{NodeState}
+use Rattle.thp_live_pages.specs.Prelude.{PageStoreState}
+use Rattle.thp_node.specs.Prelude.{Did, Refused, JournalState, NodeState}
 
 -- what contracts see of a node that has this journal and these blocks
 abbrev pub node_of : JournalState → PageStoreState → NodeState

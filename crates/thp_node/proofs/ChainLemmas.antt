@@ -1,24 +1,19 @@
 -- The chain of free blocks, while pages come, change and go.
-use Rattle.std.proofs.Common.{◌≡◌, ◌≢◌, ℕ, ◌<◌, Bool, List, ◌∷◌, Option, Some, None, IsSome, length, drop, refl, ap, sym, ◌∙◌, subst, arith, inl, inr, get_or, length-set}
-use Rattle.std.specs.Prelude.{slice_get}
-use Rattle.std.specs.List.{Contains}
+use Rattle.std.proofs.Common.{◌≡◌, ◌≢◌, ℕ, ◌<◌, Bool, List, ◌∷◌, Option, Some, None, IsSome, length, drop, refl, ap, sym, ◌∙◌, subst, arith, inl, inr, get_or, length-set, slice_get, Contains, get_or-set_other, get_or-set_same}
 use Rattle.std.proofs.lemmas.Bool.Decides.{eqb_tells}
-use Rattle.std.proofs.lemmas.List.{get_or-set_other, get_or-set_same}
-use Rattle.thp_links.specs.Indices.{Distinct}
+use Rattle.thp_links.specs.Prelude.{Distinct}
 use Rattle.thp_links.proofs.Members.{Contains-head, Contains-behind, Contains-cons_cases, Contains-from_first, Contains-from_rest, Distinct-head, first_and_rest}
 use Rattle.thp_model.specs.declared.events.Outcome.{Outcome}
 use Rattle.thp_model.specs.declared.events.Outcome.TheVariants as outcome
 use Rattle.thp_page.specs.declared.standing.Standing.TheVariants.{Queued}
-use Rattle.thp_page.specs.Slots.{slot_at}
-use Rattle.thp_page.specs.Table.{Slot, Table}
+use Rattle.thp_page.specs.Prelude.{slot_at, Slot, Table}
 use Rattle.thp_page.proofs.TableSlots.{slot_at-inside}
 use Rattle.thp_model.specs.declared.page_call.Done.{Done}
 use Rattle.thp_model.specs.declared.page_call.Loss.{Loss}
-use Rattle.thp_live_pages.specs.FreeChains.{IsFreeChain, Relinks}
-use Rattle.thp_live_pages.specs.PageStoreState.{PageStoreState, Edits, HasFree, Lost, slot_after, queue_after}
+use Rattle.thp_live_pages.specs.Prelude.{IsFreeChain, Relinks, PageStoreState, Edits, HasFree, Lost, slot_after, queue_after}
 use Rattle.thp_live_pages.proofs.FreeChains.{free_chain_kept, not_free}
 use Rattle.thp_live_pages.proofs.Relinking.{edited_slot, taken}
-use Rattle.thp_node.specs.Chaining.{HasChain}
+use Rattle.thp_node.specs.Prelude.{HasChain}
 
 -- another block stands as it did
 other_slot : (old new : PageStoreState) (b k : ℕ) (o : Option Slot) (q : List ℕ) (n : ℕ) → Edits old new b o q n → (k ≢ b) → slot_at new.table k ≡ slot_at old.table k

@@ -8,13 +8,7 @@ use Rattle.thp_model.specs.declared.events.Outcome.TheVariants.{Freed}
 use Rattle.thp_model.specs.declared.events.What.{What}
 use Rattle.thp_model.specs.declared.events.What.TheVariants.{UnmapWhole, UnmapSub, Unpin, Taken, Split, Pinned, Used, Back, Dropped}
 use Rattle.thp_model.specs.declared.shape.Shape.{Shape}
-use Rattle.thp_model.specs.History.{History, by}
-use Rattle.thp_model.specs.Counts.{pins}
-use Rattle.thp_model.specs.Legal.{is_dropped}
-use Rattle.thp_model.specs.Underused.{is_worth_split}
-use Rattle.thp_model.specs.FlightSteps.{flight_after, flight_by}
-use Rattle.thp_model.specs.Places.{flight, has_page, takes_by, without}
-use Rattle.thp_model.specs.Runs.{still_flying, next_page, split_next_events, tries_of, put_back_events, return_event, unused}
+use Rattle.thp_model.specs.Prelude.{History, by, pins, is_dropped, is_worth_split, flight_after, flight_by, flight, has_page, takes_by, without, still_flying, next_page, split_next_events, tries_of, put_back_events, return_event, unused, gain_what, loss_what}
 use Rattle.thp_model.proofs.Blocks.{filter-filter}
 use Rattle.thp_model.proofs.Bools.{by_bool, and_both, and_yes, not_true}
 use Rattle.thp_model.proofs.Flights.{flight_push}
@@ -24,10 +18,7 @@ use Rattle.thp_model.specs.declared.page_call.Gain.{Gain}
 use Rattle.thp_model.specs.declared.page_call.Gain.TheVariants as gain
 use Rattle.thp_model.specs.declared.page_call.Loss.{Loss}
 use Rattle.thp_model.specs.declared.page_call.Loss.TheVariants as loss
-use Rattle.thp_node.specs.Batches.{BatchState, IsInFront, FrontsStay, OtherFrontsStay, OlderAreInFront}
-use Rattle.thp_node.specs.Calls.{Did}
-use Rattle.thp_node.specs.NodeState.{NodeState}
-use Rattle.thp_model.specs.PageCalls.{gain_what, loss_what}
+use Rattle.thp_node.specs.Prelude.{BatchState, IsInFront, FrontsStay, OtherFrontsStay, OlderAreInFront, Did, NodeState}
 
 filter_all : (ps : List ℕ) → filter (λ p. true) ps ≡ ps
 filter_all [] = refl

@@ -1,10 +1,7 @@
 -- The laws of every legal history, at one journal.
 use Rattle.std.proofs.Common.{◌≡◌, ◌++◌, subst}
 use Rattle.thp_model.specs.declared.shape.Shape.{Shape}
-use Rattle.thp_model.specs.History.{History}
-use Rattle.thp_model.specs.Legal.{IsLegal}
-use Rattle.thp_model.specs.PlaceLaws.{takes_of}
-use Rattle.thp_model.specs.Shapes.{IsShape}
+use Rattle.thp_model.specs.Prelude.{History, IsLegal, takes_of, IsShape}
 use Rattle.thp_model.proofs.Alive.{live_holds}
 use Rattle.thp_model.proofs.BlockPages.{pages_apart}
 use Rattle.thp_model.proofs.EachFrame.{each_frame_once}
@@ -15,7 +12,7 @@ use Rattle.thp_model.proofs.LegalSteps.{legal_front}
 use Rattle.thp_model.proofs.PartlyStands.{partly_stands, none_used, none_underused}
 use Rattle.thp_model.proofs.Pushes.{queue_push}
 use Rattle.thp_model.proofs.Standing.{once_of_legal}
-use Rattle.thp_node.specs.JournalLaws.{StandsOnce, StandsWhole, TakesOldest, LeavesFreedAlone, AllocatesOnce, NothingEnters, HasFramesOnce, KeepsFrames, HoldsWhileLive, LivesApart, OthersFree, FlightsGoOn, QueueGoesOn, NoneIsUnderused}
+use Rattle.thp_node.specs.Prelude.{StandsOnce, StandsWhole, TakesOldest, LeavesFreedAlone, AllocatesOnce, NothingEnters, HasFramesOnce, KeepsFrames, HoldsWhileLive, LivesApart, OthersFree, FlightsGoOn, QueueGoesOn, NoneIsUnderused}
 
 -- the first part of a legal history is legal
 legal_before : (s : Shape) (h before after : History) → IsLegal s h → h ≡ before ++ after → IsLegal s before

@@ -1,29 +1,22 @@
 -- How large the numbers that a history gives can be, and how a caller's flight grows and shrinks.
-use Rattle.std.proofs.Common.{◌≡◌, ℕ, ◌+◌, ◌*◌, ◌<◌, ◌≤◌, Bool, true, false, cond, not, List, [], ◌∷◌, ◌++◌, length, Some, None, refl, ap, ap₂, sym, ◌∙◌, arith, nat_eq, eqb-true, eq-eqb}
+use Rattle.std.proofs.Common.{◌≡◌, ℕ, ◌+◌, ◌*◌, ◌<◌, ◌≤◌, Bool, true, false, cond, not, List, [], ◌∷◌, ◌++◌, length, Some, None, refl, ap, ap₂, sym, ◌∙◌, arith, nat_eq, eqb-true, eq-eqb, filter}
 use Rattle.std.proofs.Math.Nat.{mul-le-mul}
-use Rattle.std.specs.List.{filter}
 use Rattle.std.proofs.lemmas.List.{length_push}
 use Rattle.thp_model.specs.declared.events.Outcome.{Outcome}
 use Rattle.thp_model.specs.declared.events.Outcome.TheVariants.{Freed, Queued, Stays}
 use Rattle.thp_model.specs.declared.events.What.{What}
 use Rattle.thp_model.specs.declared.events.What.TheVariants.{UnmapWhole, UnmapSub, Unpin, Taken, Split, Used, Back, Dropped}
 use Rattle.thp_model.specs.declared.shape.Shape.{Shape}
-use Rattle.thp_model.specs.Shapes.{IsShape, subpages}
-use Rattle.thp_model.specs.History.{History, by}
-use Rattle.thp_model.specs.Counts.{is_alloc, allocations}
-use Rattle.thp_model.specs.Frames.{frames_given, frames_held}
-use Rattle.thp_model.specs.FlightSteps.{flight_after, flight_by}
-use Rattle.thp_model.specs.Legal.{IsLegal, FitsBy}
-use Rattle.thp_model.specs.Places.{flights, flight, without, has_page}
+use Rattle.thp_model.specs.Prelude.{IsShape, subpages, History, by, is_alloc, allocations, frames_given, frames_held, flight_after, flight_by, IsLegal, FitsBy, flights, flight, without, has_page}
 use Rattle.thp_model.proofs.Bools.{one_if, none_if}
 use Rattle.thp_model.proofs.Flights.{flight_push}
 use Rattle.thp_model.proofs.Kept.{frames_kept}
 use Rattle.thp_model.proofs.OnePlace.{times_flight, has_times, once_flies}
 use Rattle.thp_model.proofs.Sizes.{few_subpages}
 use Rattle.thp_model.proofs.Standing.{times, flying, pages, times-cons, flying-cons, first_has, legal_sound}
-use Rattle.thp_live_pages.specs.Homes.{flier}
+use Rattle.thp_live_pages.specs.Prelude.{flier}
 use Rattle.thp_live_pages.proofs.Starting.{few_events}
-use Rattle.thp_node.specs.Journals.{leaves_of, left_by, joins_of, one_for}
+use Rattle.thp_node.specs.Prelude.{leaves_of, left_by, joins_of, one_for}
 
 -- each page had 512 frames at most to give back
 pub few_frames_given : (shape : Shape) (h : History) → shape.order ≤ 9 → IsLegal shape h → frames_given h ≤ 512 * length h

@@ -3,24 +3,13 @@ use Rattle.std.proofs.Common.{◌≡◌, ℕ, ◌+◌, ◌≤◌, Bool, List, []
 use Rattle.thp_model.specs.declared.shape.Shape.{Shape}
 use Rattle.thp_model.specs.declared.events.Outcome.{Outcome}
 use Rattle.thp_model.specs.declared.events.Outcome.TheVariants.{Freed, Queued, Stays}
-use Rattle.thp_model.specs.History.{History, by}
-use Rattle.thp_model.specs.Counts.{is_closed, is_freed}
-use Rattle.thp_model.specs.Places.{flights}
-use Rattle.thp_model.specs.Legal.{Fits, Gives}
-use Rattle.thp_model.specs.Refusals.{refusal}
-use Rattle.thp_page.specs.Table.{Slot}
-use Rattle.thp_page.specs.Slots.{slot_at}
+use Rattle.thp_model.specs.Prelude.{History, by, is_closed, is_freed, flights, Fits, Gives, refusal, loss_call, loss_what}
+use Rattle.thp_page.specs.Prelude.{Slot, slot_at}
 use Rattle.thp_model.specs.declared.page_call.Done.{Done}
 use Rattle.thp_model.specs.declared.page_call.Loss.{Loss}
 use Rattle.thp_model.specs.declared.page_call.Loss.TheVariants as loss
-use Rattle.thp_live_pages.specs.PageStoreState.{PageStoreState}
-use Rattle.thp_live_pages.specs.Holding.{IsNode, Fills}
-use Rattle.thp_live_pages.specs.Homes.{block_of, flier}
-use Rattle.thp_live_pages.specs.FreeChains.{Relinks}
-use Rattle.thp_node.specs.declared.journal.EventContext.TheVariants.{FreedFrom}
-use Rattle.thp_node.specs.Chaining.{LostChained}
-use Rattle.thp_node.specs.Journals.{context_of}
-use Rattle.thp_model.specs.PageCalls.{loss_call, loss_what}
+use Rattle.thp_live_pages.specs.Prelude.{PageStoreState, IsNode, Fills, block_of, flier, Relinks}
+use Rattle.thp_node.specs.Prelude.{FreedFrom, LostChained, context_of}
 use Rattle.thp_live_pages.proofs.Admitting.{Found, at_home}
 use Rattle.thp_live_pages.proofs.Homing.{legal_homed}
 use Rattle.thp_live_pages.proofs.PageEvents.{LossFits, loss_fits, loss_left, lost_node}

@@ -8,25 +8,12 @@ use Rattle.thp_model.specs.declared.events.What.TheVariants.{UnmapWhole, UnmapSu
 use Rattle.thp_model.specs.declared.events.Outcome.{Outcome}
 use Rattle.thp_model.specs.declared.page_call.Loss.{Loss}
 use Rattle.thp_model.specs.declared.page_call.Loss.TheVariants as loss
-use Rattle.thp_model.specs.PageCalls.{loss_what}
-use Rattle.thp_model.specs.Sets.{set_size}
+use Rattle.thp_model.specs.Prelude.{loss_what, set_size, History, by, count_of, some_event, IsShape, is_partly_mapped, is_alloc, closes, is_queued, splits_pmds, is_page_split, is_failed_try, queues, thp_split_pmd, splits_underused, thp_underused_split_page, given, frames_given, gives_back, flights, flight, IsLegal, Fits}
 use Rattle.thp_model.specs.declared.shape.Shape.{Shape}
-use Rattle.thp_model.specs.History.{History, by, count_of, some_event}
-use Rattle.thp_model.specs.Shapes.{IsShape}
-use Rattle.thp_model.specs.Underused.{is_partly_mapped}
-use Rattle.thp_model.specs.Counts.{is_alloc, closes, is_queued}
-use Rattle.thp_model.specs.Counters.{splits_pmds, is_page_split, is_failed_try, queues, thp_split_pmd, splits_underused, thp_underused_split_page}
-use Rattle.thp_model.specs.Frames.{given, frames_given, gives_back}
-use Rattle.thp_model.specs.Places.{flights, flight}
-use Rattle.thp_model.specs.Legal.{IsLegal, Fits}
 use Rattle.thp_model.proofs.Kept.{frames_given_push, size_given}
 use Rattle.thp_model.proofs.LegalSteps.{legal_none, legal_push}
 use Rattle.thp_model.proofs.Pushes.{count_of_push, some_event_push, thp_split_pmd_push, thp_underused_split_page_push}
-use Rattle.thp_node.specs.declared.answers.Counters.{Counters}
-use Rattle.thp_node.specs.declared.journal.Tally.{Tally}
-use Rattle.thp_node.specs.declared.journal.EventContext.{EventContext}
-use Rattle.thp_node.specs.declared.journal.EventContext.TheVariants.{FreedFrom}
-use Rattle.thp_node.specs.Journals.{IsJournal, leaves_of, context_of, leaves_by, pmds_by, splits_as_underused, joins_of, freed_from, one_for, frames_of, CanLeave, HasCountRoom, Moves, Counts}
+use Rattle.thp_node.specs.Prelude.{Counters, Tally, EventContext, FreedFrom, IsJournal, leaves_of, context_of, leaves_by, pmds_by, splits_as_underused, joins_of, freed_from, one_for, frames_of, CanLeave, HasCountRoom, Moves, Counts}
 use Rattle.thp_node.proofs.JournalLemmas.{few_frames_given, flight_moves, leaves_one}
 use Rattle.thp_live_pages.proofs.Starting.{few_events}
 

@@ -1,36 +1,20 @@
 -- Returns of the pages of a batch, one by one, as the node's own.
-use Rattle.std.proofs.Common.{◌≡◌, ℕ, zero, suc, ◌+◌, ◌<◌, ◌≤◌, Bool, true, false, List, [], ◌∷◌, ◌++◌, Option, Some, length, map, take, drop, refl, ap, ap₂, sym, ◌∙◌, subst, arith, get_or, append_assoc, nat_eq, eq-eqb, cond, not, ◌&&◌, ◌||◌, ◌-◌, count_by}
-use Rattle.std.specs.Prelude.{slice_get}
+use Rattle.std.proofs.Common.{◌≡◌, ℕ, zero, suc, ◌+◌, ◌<◌, ◌≤◌, Bool, true, false, List, [], ◌∷◌, ◌++◌, Option, Some, length, map, take, drop, refl, ap, ap₂, sym, ◌∙◌, subst, arith, get_or, append_assoc, nat_eq, eq-eqb, cond, not, ◌&&◌, ◌||◌, ◌-◌, count_by, slice_get}
 use Rattle.std.specs.Int.{from_bool}
 use Rattle.std.proofs.Math.Seq.{drop-cons, take-append_seam}
 use Rattle.std.proofs.lemmas.List.{map-append, take-append-drop, take_more}
 use Rattle.thp_model.specs.declared.events.Event.{Event}
 use Rattle.thp_model.specs.declared.events.What.TheVariants as what
 use Rattle.thp_model.specs.declared.shape.Shape.{Shape}
-use Rattle.thp_model.specs.History.{History, by}
-use Rattle.thp_model.specs.Counts.{is_closed}
-use Rattle.thp_model.specs.Legal.{IsLegal, Fits}
-use Rattle.thp_model.specs.Places.{flight, has_page}
-use Rattle.thp_model.specs.Runs.{return_event, still_flying, put_back_events, goes_back}
+use Rattle.thp_model.specs.Prelude.{History, by, is_closed, IsLegal, Fits, flight, has_page, return_event, still_flying, put_back_events, goes_back, is_dropped, is_partly_mapped}
 use Rattle.thp_model.proofs.ListPlaces.{append_none}
 use Rattle.thp_model.proofs.Bools.{or_first, not_true, not_false}
 use Rattle.thp_model.proofs.ReturnRuns.{Returned, return_fits, return_as, returns_run}
 use Rattle.thp_model.proofs.Counting.{count-cons, count_push}
-use Rattle.thp_model.specs.Legal.{is_dropped}
-use Rattle.thp_model.specs.Underused.{is_partly_mapped}
 use Rattle.thp_page.specs.declared.standing.Standing.TheVariants.{Nowhere, Queued}
-use Rattle.thp_page.specs.Table.{Slot}
-use Rattle.thp_page.specs.Table.{Table}
-use Rattle.thp_page.specs.Slots.{slot_at}
-use Rattle.thp_live_pages.specs.PageStoreState.{PageStoreState, Edits, AtSlot}
-use Rattle.thp_node.specs.Batches.{BatchState, IsInFront, back_reply}
-use Rattle.thp_node.specs.declared.answers.BackReply.{BackReply}
-use Rattle.thp_node.specs.Calls.{Did}
-use Rattle.thp_live_pages.specs.Flying.{IsFlyingAt}
-use Rattle.thp_live_pages.specs.Holding.{IsNode}
-use Rattle.thp_live_pages.specs.Homes.{block_of, block_after}
-use Rattle.thp_node.specs.NodeState.{NodeState}
-use Rattle.thp_node.specs.Returning.{BeginsIn, return_first, OneBack}
+use Rattle.thp_page.specs.Prelude.{Slot, Table, slot_at}
+use Rattle.thp_live_pages.specs.Prelude.{PageStoreState, Edits, AtSlot, IsFlyingAt, IsNode, block_of, block_after}
+use Rattle.thp_node.specs.Prelude.{BatchState, IsInFront, back_reply, BackReply, Did, NodeState, BeginsIn, return_first, OneBack}
 use Rattle.thp_live_pages.proofs.Admitting.{Found, at_home}
 use Rattle.thp_node.proofs.BatchRuns.{partly_there}
 use Rattle.thp_node.proofs.CallLemmas.{did_then}

@@ -10,15 +10,8 @@ use Rattle.thp_model.specs.declared.events.What.TheVariants as what
 use Rattle.thp_model.specs.declared.events.What.{What}
 use Rattle.thp_model.specs.declared.refusal.Refusal.{Refusal}
 use Rattle.thp_model.specs.declared.shape.Shape.{Shape}
-use Rattle.thp_model.specs.History.{History, by, count_of}
-use Rattle.thp_model.specs.Counts.{pins}
-use Rattle.thp_model.specs.Legal.{is_dropped as drops}
-use Rattle.thp_model.specs.Underused.{is_worth_split}
-use Rattle.thp_model.specs.Legal.{IsLegal}
-use Rattle.thp_model.specs.Places.{queue, flight, has_page}
-use Rattle.thp_model.specs.Refusals.{refusal}
+use Rattle.thp_model.specs.Prelude.{History, by, count_of, pins, is_dropped as drops, is_worth_split, IsLegal, queue, flight, has_page, refusal, take_events, scan_events, try_event, is_pinned, return_event, still_flying, put_back_events, next_page, rest_after, split_next_events, tries_of, goes_back, takes_of}
 use Rattle.thp_model.specs.Refusals as call
-use Rattle.thp_model.specs.Runs.{take_events, scan_events, try_event, is_pinned, return_event, still_flying, put_back_events, next_page, rest_after, split_next_events, tries_of, goes_back}
 use Rattle.thp_model.proofs.Bools.{or_first, or_second}
 use Rattle.thp_model.proofs.Counting.{count-cons, count_push}
 use Rattle.thp_model.proofs.ListPlaces.{append_none}
@@ -26,17 +19,10 @@ use Rattle.thp_model.proofs.OnePlace.{once_flies, not_before, filter_in}
 use Rattle.thp_model.proofs.ReturnRuns.{return_as}
 use Rattle.thp_model.proofs.Standing.{times}
 use Rattle.thp_model.proofs.ScanRuns.{TakesLeave, takes_leave}
-use Rattle.thp_model.specs.PlaceLaws.{takes_of}
 use Rattle.thp_model.proofs.TakeRuns.{take_runs, none_flies}
 use Rattle.thp_model.proofs.TryRuns.{Tried, try_as, tries_run}
-use Rattle.thp_node.specs.Batches.{IsInFront, BatchState, rest, tried as answer_of, back_reply, scan_reply, is_taken, is_split_off, is_pinned_found, is_used_found, is_back, is_dropped}
-use Rattle.thp_node.specs.declared.answers.Tried.{Tried as Answer}
+use Rattle.thp_node.specs.Prelude.{IsInFront, BatchState, rest, tried as answer_of, back_reply, scan_reply, is_taken, is_split_off, is_pinned_found, is_used_found, is_back, is_dropped, Tried as Answer, BackReply, ScanReply, Did, Refused, NodeState, events_after, is_used, used_count}
 use Rattle.thp_node.specs.declared.answers.Tried.TheVariants as answer
-use Rattle.thp_node.specs.declared.answers.BackReply.{BackReply}
-use Rattle.thp_node.specs.declared.answers.ScanReply.{ScanReply}
-use Rattle.thp_node.specs.Calls.{Did, Refused}
-use Rattle.thp_node.specs.NodeState.{NodeState}
-use Rattle.thp_node.specs.Scanning.{events_after, is_used, used_count}
 use Rattle.thp_node.proofs.CallLemmas.{did_then}
 
 in_middle : (p : ℕ) (xs ys : List ℕ) → has_page p (xs ++ p ∷ ys) ≡ true

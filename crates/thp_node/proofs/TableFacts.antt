@@ -1,14 +1,10 @@
 -- What a node's table says of its pages, for callers.
 use Rattle.std.proofs.Common.{◌≡◌, ℕ, true, List, Option, sym, subst}
 use Rattle.thp_model.specs.declared.shape.Shape.{Shape}
-use Rattle.thp_model.specs.History.{History}
-use Rattle.thp_model.specs.Counts.{is_live}
-use Rattle.thp_model.specs.Legal.{IsLegal}
-use Rattle.thp_page.specs.Slots.{HoldsPage}
-use Rattle.thp_page.specs.Table.{Slot, Table}
-use Rattle.thp_live_pages.specs.Holding.{IsNode, HasBlock}
-use Rattle.thp_live_pages.specs.Homes.{LiesWherePlaced}
-use Rattle.thp_node.specs.NodeState.{NodeState}
+use Rattle.thp_model.specs.Prelude.{History, is_live, IsLegal}
+use Rattle.thp_page.specs.Prelude.{HoldsPage, Slot, Table}
+use Rattle.thp_live_pages.specs.Prelude.{IsNode, HasBlock, LiesWherePlaced}
+use Rattle.thp_node.specs.Prelude.{NodeState}
 use Rattle.thp_live_pages.proofs.Admitting.{Found, at_home}
 use Rattle.thp_live_pages.proofs.Homing.{Homed, Lies, legal_homed, live_block}
 

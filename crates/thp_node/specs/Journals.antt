@@ -6,17 +6,8 @@ use Rattle.thp_model.specs.declared.events.Outcome.TheVariants.{Freed}
 use Rattle.thp_model.specs.declared.events.What.{What}
 use Rattle.thp_model.specs.declared.events.What.TheVariants.{UnmapWhole, UnmapSub, SplitPmd, Unpin, Taken, Split, Used, Back, Dropped}
 use Rattle.thp_model.specs.declared.shape.Shape.{Shape}
-use Rattle.thp_model.specs.Sets.{set_size}
-use Rattle.thp_model.specs.Shapes.{IsShape}
-use Rattle.thp_model.specs.Limits.{max_callers}
-use Rattle.thp_model.specs.History.{History}
-use Rattle.thp_model.specs.Counts.{is_closed, allocations, is_alloc, closes, whole}
-use Rattle.thp_model.specs.Underused.{is_partly_mapped}
-use Rattle.thp_model.specs.Counters.{is_page_split, is_failed_try, queues, thp_split_page, thp_split_page_failed, thp_deferred_split_page, thp_split_pmd, thp_underused_split_page}
-use Rattle.thp_model.specs.Frames.{frames_given}
-use Rattle.thp_model.specs.Places.{flights, flight}
-use Rattle.thp_model.specs.Legal.{IsLegal}
-use Rattle.thp_live_pages.specs.Homes.{flier}
+use Rattle.thp_model.specs.Prelude.{set_size, IsShape, max_callers, History, is_closed, allocations, is_alloc, closes, whole, is_partly_mapped, is_page_split, is_failed_try, queues, thp_split_page, thp_split_page_failed, thp_deferred_split_page, thp_split_pmd, thp_underused_split_page, frames_given, flights, flight, IsLegal}
+use Rattle.thp_live_pages.specs.Prelude.{flier}
 use Rattle.thp_node.specs.declared.answers.Counters.{Counters}
 use Rattle.thp_node.specs.declared.journal.Tally.{Tally}
 use Rattle.thp_node.specs.declared.journal.EventContext.{EventContext}

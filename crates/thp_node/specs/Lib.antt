@@ -8,3 +8,4 @@ pub mod Chaining
 pub mod Takings
 pub mod Returning
 pub mod Scanning
+pub mod Prelude

@@ -1,8 +1,8 @@
 -- The view that contracts have of a node.
 use Rattle.std.specs.Prelude.{ℕ, List}
 use Rattle.thp_model.specs.declared.shape.Shape.{Shape}
-use Rattle.thp_model.specs.History.{History}
-use Rattle.thp_page.specs.Table.{Table}
+use Rattle.thp_model.specs.Prelude.{History}
+use Rattle.thp_page.specs.Prelude.{Table}
 
 -- a node's shape, its events, the number of events that it can record without an allocation, its table of pages, and the blocks
 -- of its queue, oldest first

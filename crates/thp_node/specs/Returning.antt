@@ -2,10 +2,8 @@
 use Rattle.std.specs.Prelude.{◌≡◌, ℕ, Bool, List, [], ◌∷◌, ◌++◌, map, take, Option, Some}
 use Rattle.thp_model.specs.declared.events.Event.{Event}
 use Rattle.thp_model.specs.declared.shape.Shape.{Shape}
-use Rattle.thp_model.specs.History.{History}
-use Rattle.thp_model.specs.Places.{flight}
-use Rattle.thp_model.specs.Runs.{return_event, goes_back}
-use Rattle.thp_live_pages.specs.Homes.{block_of}
+use Rattle.thp_model.specs.Prelude.{History, flight, return_event, goes_back}
+use Rattle.thp_live_pages.specs.Prelude.{block_of}
 
 -- the flight of caller c begins with the pages of these blocks, in order
 pub record BeginsIn (h : History) (c : ℕ) (bs : List ℕ) : Type 0 where

@@ -1,13 +1,10 @@
 -- The effect of a scan after its take. No public clause cites this module.
-use Rattle.std.specs.Prelude.{ℕ, Bool, not, List, ◌++◌, map}
-use Rattle.std.specs.List.{filter}
+use Rattle.std.specs.Prelude.{ℕ, Bool, not, List, ◌++◌, map, filter}
 use Rattle.thp_model.specs.declared.events.Event.{Event}
 use Rattle.thp_model.specs.declared.shape.Shape.{Shape}
-use Rattle.thp_model.specs.History.{History}
+use Rattle.thp_model.specs.Prelude.{History, try_event, return_event, is_pinned, is_worth_split}
 use Rattle.thp_node.specs.declared.answers.Tried.{Tried}
 use Rattle.thp_node.specs.declared.answers.Tried.TheVariants.{Used}
-use Rattle.thp_model.specs.Runs.{try_event, return_event, is_pinned}
-use Rattle.thp_model.specs.Underused.{is_worth_split}
 
 -- a try of each of these pages, and the return of the pinned ones
 abbrev pub events_after : Shape → History → ℕ → List ℕ → List Event

@@ -1,5 +1,5 @@
 //! Pages that a caller took from the queue together.
-ghost use Rattle.thp_model.specs.Limits.{max_batch, max_callers};
+ghost use Rattle.thp_model.specs.Prelude.{max_batch, max_callers};
 ghost use Rattle.std.specs.Prelude.{◌≡◌, ◌+◌, ◌<◌, ◌≤◌, [], ◌∷◌, ◌++◌, drop, length, slice_get, Option};
 ghost use Rattle.thp_node.specs.Batches.{no_batch, rest, IsBatch};
 

@@ -2,11 +2,9 @@
 ghost use Rattle.std.specs.Prelude.{◌≡◌, ◌≢◌, ℕ, ◌<◌, [], ◌∷◌, ◌++◌, false, length, Option, Some, None, IsSome, IfOk, OnOk, OnErr};
 ghost use Rattle.std.specs.Bool.{OnTrue, OnFalse};
 ghost use Rattle.std.specs.Result.{result_err};
-ghost use Rattle.thp_model.specs.Shapes.{IsShape};
-ghost use Rattle.thp_model.specs.Pages.{page_refusal, gives_frames, PageState, PageSplit};
-ghost use Rattle.thp_page.specs.Slots.{slot_at, HoldsPage};
-ghost use Rattle.thp_model.specs.PageCalls.{gain_call, loss_call, Gains};
-ghost use Rattle.thp_live_pages.specs.PageStoreState.{AtSlot, Edits, TakesFirst, HasFree};
+ghost use Rattle.thp_model.specs.Prelude.{IsShape, page_refusal, gives_frames, PageState, PageSplit, gain_call, loss_call, Gains};
+ghost use Rattle.thp_page.specs.Prelude.{slot_at, HoldsPage};
+ghost use Rattle.thp_live_pages.specs.Prelude.{AtSlot, Edits, TakesFirst, HasFree};
 ghost use Rattle.thp_node.specs.Chaining.{LostChained, StoresFresh};
 
 use std::alloc::{AllocError, Global};
@@ -26,7 +24,7 @@ pub(crate) struct Blocks {
 }
 
 impl Model for Blocks {
-    ghost use Rattle.thp_live_pages.specs.PageStoreState.{PageStoreState};
+    ghost use Rattle.thp_live_pages.specs.Prelude.{PageStoreState};
     ghost use Rattle.thp_node.specs.Chaining.{HasChain};
 
     ghost Value = { PageStoreState };

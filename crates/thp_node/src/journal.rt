@@ -1,15 +1,7 @@
 //! The journal of a node, and the numbers that are maintained with it.
 ghost use Rattle.std.specs.Prelude.{◌≡◌, ℕ, ◌+◌, ◌<◌, ◌≤◌, [], ◌∷◌, ◌++◌, ◌^◌, length, OnOk, OnErr, IfSome, IsTrue, ◌↔◌, None, Some, not};
 ghost use Rattle.std.specs.Int.{from_bool};
-ghost use Rattle.thp_model.specs.Limits.{max_callers};
-ghost use Rattle.thp_model.specs.History.{by};
-ghost use Rattle.thp_model.specs.Shapes.{IsShape};
-ghost use Rattle.thp_model.specs.Sets.{set_size};
-ghost use Rattle.thp_model.specs.Counts.{allocations, is_closed, is_queued};
-ghost use Rattle.thp_model.specs.Frames.{frames_given, frames_held};
-ghost use Rattle.thp_model.specs.Places.{flight};
-ghost use Rattle.thp_model.specs.Legal.{IsLegal, Fits};
-ghost use Rattle.thp_model.specs.PageCalls.{loss_what};
+ghost use Rattle.thp_model.specs.Prelude.{max_callers, by, IsShape, set_size, allocations, is_closed, is_queued, frames_given, frames_held, flight, IsLegal, Fits, loss_what};
 ghost use Rattle.thp_node.specs.Journals.{HasFlightRoom, context_of, leaves_by, joins_of, counters_of, HasCountRoom, CanJoin, CanLeave, Moves, Counts, freed_from, mappings_of, is_underused};
 
 use crate::answers::Counters;

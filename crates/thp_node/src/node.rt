@@ -1,14 +1,9 @@
 //! A memory node: its parts, its constructors, and what can be read of it.
 ghost use Rattle.std.specs.Prelude.{◌≡◌, ℕ, ◌<◌, ◌≤◌, true, [], length, map, Some, ◌↔◌, Err, IfOk, IfErr, OnOk, OnErr};
-ghost use Rattle.thp_links.specs.Standing.{Stands};
-ghost use Rattle.thp_model.specs.Counts.{allocations, is_live};
-ghost use Rattle.thp_model.specs.Shapes.{IsShape};
-ghost use Rattle.thp_model.specs.Frames.{frames_given, frames_held};
-ghost use Rattle.thp_model.specs.Legal.{IsLegal};
-ghost use Rattle.thp_model.specs.Places.{queue};
-ghost use Rattle.thp_page.specs.Slots.{slot_at};
-ghost use Rattle.thp_live_pages.specs.Holding.{Fills, HasBlock};
-ghost use Rattle.thp_live_pages.specs.Homes.{block_of, LiesWherePlaced};
+ghost use Rattle.thp_links.specs.Prelude.{Stands};
+ghost use Rattle.thp_model.specs.Prelude.{allocations, is_live, IsShape, frames_given, frames_held, IsLegal, queue};
+ghost use Rattle.thp_page.specs.Prelude.{slot_at};
+ghost use Rattle.thp_live_pages.specs.Prelude.{Fills, HasBlock, block_of, LiesWherePlaced};
 ghost use Rattle.thp_node.specs.JournalLaws.{StandsOnce, StandsWhole, TakesOldest, LeavesFreedAlone, AllocatesOnce, NothingEnters, HasFramesOnce, KeepsFrames, HoldsWhileLive, LivesApart, OthersFree, FlightsGoOn, QueueGoesOn, NoneIsUnderused};
 ghost use Rattle.thp_node.specs.Journals.{counters_of};
 
@@ -40,7 +35,7 @@ pub struct Node<R: Recorder = FullLog> {
 
 impl<R: Recorder> Model for Node<R> {
     ghost use Rattle.thp_node.specs.NodeState.{NodeState};
-    ghost use Rattle.thp_live_pages.specs.Holding.{IsNode};
+    ghost use Rattle.thp_live_pages.specs.Prelude.{IsNode};
 
     ghost Value = { NodeState };
 

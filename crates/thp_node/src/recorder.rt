@@ -1,6 +1,6 @@
 //! What a node does with its events: it stores them, or it only counts them.
 ghost use Rattle.std.specs.Prelude.{◌≡◌, ℕ, ◌+◌, ◌<◌, ◌≤◌, ◌↔◌, [], ◌∷◌, ◌++◌, length, IsTrue, OnOk, OnErr};
-ghost use Rattle.thp_model.specs.History.{History, by};
+ghost use Rattle.thp_model.specs.Prelude.{History, by};
 
 use std::alloc::{AllocError, Global};
 use std::marker::Model;

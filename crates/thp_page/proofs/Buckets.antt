@@ -3,9 +3,9 @@ use Rattle.std.proofs.Common.{◌≡◌, ◌≢◌, ◌∙◌, ℕ, zero, suc, �
 use Rattle.std.proofs.lemmas.Bool.{cases_eq}
 use Rattle.std.proofs.lemmas.List.{get_or-set_same, get_or-set_other, get_or-replicate}
 use Rattle.thp_links.specs.declared.link.TheConstants.{NIL}
-use Rattle.thp_links.specs.Indices.{without}
+use Rattle.thp_links.specs.Prelude.{without}
 use Rattle.thp_links.proofs.Members.{Contains-nil, Contains-head, Contains-behind, Contains-cons_cases, Contains-without, Contains-from_without, Distinct-nil}
-use Rattle.thp_page.specs.Searching.{bucket_at, IsOfBucket, IsChain, IsUnlinked, IsBucket, IsSearchable}
+use Rattle.thp_page.specs.Prelude.{bucket_at, IsOfBucket, IsChain, IsUnlinked, IsBucket, IsSearchable}
 use Rattle.thp_page.proofs.Chains.{chain_after, chain_begins, chain_kept, chain_elsewhere, chain_pushed}
 
 -- a block is of one bucket

@@ -1,10 +1,9 @@
 -- Chains of blocks: walked along, begun with one more block, and left by one.
-use Rattle.std.proofs.Common.{◌≡◌, ◌≢◌, ◌∙◌, ℕ, zero, suc, ◌<◌, ◌≤◌, ◌^◌, List, [], ◌∷◌, length, get_or, set, cond, not, nat_eq, eq-eqb, ne_eqb, Contains, ap, sym, refl, subst, arith, length-set, inl, inr}
-use Rattle.std.proofs.lemmas.List.{get_or-set_same, get_or-set_other}
+use Rattle.std.proofs.Common.{◌≡◌, ◌≢◌, ◌∙◌, ℕ, zero, suc, ◌<◌, ◌≤◌, ◌^◌, List, [], ◌∷◌, length, get_or, set, cond, not, nat_eq, eq-eqb, ne_eqb, Contains, ap, sym, refl, subst, arith, length-set, inl, inr, get_or-set_same, get_or-set_other}
 use Rattle.thp_links.specs.declared.link.TheConstants.{NIL}
-use Rattle.thp_links.specs.Indices.{Distinct, without}
+use Rattle.thp_links.specs.Prelude.{Distinct, without}
 use Rattle.thp_links.proofs.Members.{Contains-nil, Contains-head, Contains-behind, Contains-cons_cases, Contains-from_without, Distinct-cons, Distinct-head, Distinct-behind, Distinct-without, without_absent, differ, length-distinct}
-use Rattle.thp_page.specs.Searching.{IsLinked, IsChain, IsInChain, IsUnlinked}
+use Rattle.thp_page.specs.Prelude.{IsLinked, IsChain, IsInChain, IsUnlinked}
 
 -- how many blocks there are from `at` on, counted up to a limit
 abbrev pub left_from : ℕ → List ℕ → ℕ → ℕ

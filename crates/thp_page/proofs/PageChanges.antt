@@ -1,13 +1,9 @@
 -- What the calls of a page make of it.
 use Rattle.std.proofs.Common.{◌≡◌, ℕ, zero, suc, ◌+◌, ◌^◌, ◌<◌, ◌≤◌, Bool, true, false, ◌&&◌, cond, nat_lt, replicate, get_or, None, refl, ap, ap₂, sym, ◌∙◌, arith, lt-ltb, subst, List}
-use Rattle.thp_model.specs.Sets.{covers, has, set_of}
-use Rattle.thp_model.specs.Words.{get_or-set_of}
-use Rattle.thp_model.specs.Refusals.{most}
+use Rattle.thp_model.specs.Prelude.{covers, has, set_of, get_or-set_of, most, PageState, size, own_at, total_at, has_use, partly_after, zero_set, page_refusal, IsPage, IsFresh, KeepsCounts, WholeMapped, WholeUnmapped, RangeMapped, RangeUnmapped, PmdSplit, PageSplit}
 use Rattle.thp_model.specs.Refusals as call
-use Rattle.thp_model.specs.Pages.{PageState, size, own_at, total_at, has_use, partly_after, zero_set, page_refusal, IsPage, IsFresh, KeepsCounts, WholeMapped, WholeUnmapped, RangeMapped, RangeUnmapped, PmdSplit, Pinned, PageSplit}
-use Rattle.thp_page.specs.Fresh.{fresh_page}
-use Rattle.thp_page.specs.declared.page.Page.TheInside.{Inside}
-use Rattle.thp_page.specs.PageView.{state_of, IsKept, NothingAfter}
+use Rattle.thp_model.specs.Pages.{Pinned}
+use Rattle.thp_page.specs.Prelude.{fresh_page, Inside, state_of, IsKept, NothingAfter}
 use Rattle.thp_page.proofs.SubSets.{set_of-ext}
 use Rattle.thp_page.proofs.PageSizes.{same_size, size_most}
 use Rattle.thp_page.proofs.PageRefusals.{map_whole_allowed, unmap_whole_allowed, map_sub_allowed, split_pmd_allowed, pin_allowed, unpin_allowed}

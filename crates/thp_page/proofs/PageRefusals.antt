@@ -3,10 +3,8 @@ use Rattle.std.proofs.Common.{◌≡◌, ℕ, ◌+◌, ◌<◌, ◌≤◌, Bool,
 use Rattle.std.proofs.lemmas.Bool.Decides.{nat_tests}
 use Rattle.thp_model.specs.declared.refusal.Refusal.{Refusal}
 use Rattle.thp_model.specs.declared.refusal.Refusal.TheVariants as reason
-use Rattle.thp_model.specs.Sets.{covers, some_below}
-use Rattle.thp_model.specs.Refusals.{most}
+use Rattle.thp_model.specs.Prelude.{covers, some_below, most, PageState, size, own_at, total_at, some_in_range, page_refusal, IsPage}
 use Rattle.thp_model.specs.Refusals as call
-use Rattle.thp_model.specs.Pages.{PageState, size, own_at, total_at, some_in_range, page_refusal, IsPage}
 use Rattle.thp_page.proofs.RangeLemmas.{covers_true}
 use Rattle.thp_model.proofs.Below.{some_none}
 

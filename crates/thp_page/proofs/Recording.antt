@@ -3,11 +3,7 @@ use Rattle.std.proofs.Common.{◌≡◌, ℕ, Bool, true, false, not, ◌&&◌, 
 use Rattle.thp_model.specs.declared.events.Event.{Event}
 use Rattle.thp_model.specs.declared.events.Outcome.{Outcome}
 use Rattle.thp_model.specs.declared.events.What.TheVariants.{Alloc, MapWhole, UnmapWhole, MapSub, UnmapSub, SplitPmd, Pin, Unpin, Write, Zero, Split}
-use Rattle.thp_model.specs.History.{History, by, some_event}
-use Rattle.thp_model.specs.Counts.{is_live, is_closed, frees, allocates, allocations}
-use Rattle.thp_model.specs.Places.{stands}
-use Rattle.thp_model.specs.Pages.{gives_frames, Tallies}
-use Rattle.thp_model.specs.PageChanges.{page_outcome, page_released}
+use Rattle.thp_model.specs.Prelude.{History, by, some_event, is_live, is_closed, frees, allocates, allocations, stands, gives_frames, Tallies, page_outcome, page_released}
 use Rattle.thp_model.proofs.Alive.{legal_grown}
 use Rattle.thp_model.proofs.Numbers.{Fresh}
 use Rattle.thp_model.proofs.PageOutcomes.{gives_is, lives_by, lives_on, released_alive}
@@ -15,7 +11,7 @@ use Rattle.thp_model.proofs.PageRefusals.{refusal_map_whole, refusal_unmap_whole
 use Rattle.thp_model.proofs.Pushes.{some_event_push, live_stays}
 use Rattle.thp_model.proofs.Tallying.{tallies_alloc, tallies_map_whole, tallies_unmap_whole, tallies_map_sub, tallies_unmap_sub, tallies_split_pmd, tallies_pin, tallies_unpin, tallies_write, tallies_zero, tallies_split, tallies_stay, pins_is, worth_is}
 use Rattle.thp_model.proofs.Untouched.{Untouched, untouched}
-use Rattle.thp_page.specs.Bridge.{OthersLeavePages, RefusalsAgree, FreshPageIsRecorded, GainIsRecorded, LossIsRecorded, CandidatesAgree, SplitIsRecorded}
+use Rattle.thp_page.specs.Prelude.{OthersLeavePages, RefusalsAgree, FreshPageIsRecorded, GainIsRecorded, LossIsRecorded, CandidatesAgree, SplitIsRecorded}
 use Rattle.thp_model.specs.declared.page_call.Gain.TheVariants as gain
 use Rattle.thp_model.specs.declared.page_call.Loss.TheVariants as loss
 use Rattle.thp_model.specs.declared.page_call.PageCall.TheVariants as either

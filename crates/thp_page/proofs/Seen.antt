@@ -1,15 +1,13 @@
 -- The counts that the fields stand for, and the set of the mapped subpages beside them.
-use Rattle.std.proofs.Common.{◌≡◌, ne_eqb, ℕ, suc, zero, ◌+◌, ◌<◌, Bool, true, false, not, ◌&&◌, ◌||◌, cond, List, get_or, nat_eq, nat_lt, refl, ap, sym, ◌∙◌, arith}
-use Rattle.std.specs.Prelude.{replicate}
+use Rattle.std.proofs.Common.{◌≡◌, ne_eqb, ℕ, suc, zero, ◌+◌, ◌<◌, Bool, true, false, not, ◌&&◌, ◌||◌, cond, List, get_or, nat_eq, nat_lt, refl, ap, sym, ◌∙◌, arith, replicate}
 use Rattle.std.proofs.lemmas.Bool.Decides.{nat_tests}
 use Rattle.std.proofs.lemmas.List.{get_or-replicate}
 use Rattle.std.proofs.lemmas.Grind.{same_number_lists}
 use Rattle.std.proofs.lemmas.List.FromFn.{get_or-map-range_with_len, length-map-range_with_len}
-use Rattle.thp_model.specs.Sets.{set_of, has, one_alone, some_below}
-use Rattle.thp_model.specs.Words.{get_or-set_of}
+use Rattle.thp_model.specs.Prelude.{set_of, has, one_alone, some_below, get_or-set_of}
 use Rattle.thp_model.proofs.Below.{some_below-ext}
 use Rattle.thp_model.proofs.WordLemmas.{set_of-ext}
-use Rattle.thp_page.specs.Planes.{count_in, counts_in}
+use Rattle.thp_page.specs.Prelude.{count_in, counts_in}
 use Rattle.thp_page.proofs.Carries.{no_planes}
 
 -- a count by its place

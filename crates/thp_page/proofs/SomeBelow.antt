@@ -1,6 +1,6 @@
 -- Whether some number below a bound passes a test: two tests at once.
 use Rattle.std.proofs.Common.{◌≡◌, ℕ, ◌<◌, Bool, true, false, refl, sym, ◌∙◌}
-use Rattle.thp_model.specs.Sets.{some_below}
+use Rattle.thp_model.specs.Prelude.{some_below}
 use Rattle.thp_model.proofs.Below.{some_no, some_none}
 
 -- two truths are one where each is false if the other is

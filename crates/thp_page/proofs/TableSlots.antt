@@ -2,8 +2,7 @@
 use Rattle.std.proofs.Common.{◌≡◌, ◌<◌, ℕ, List, length, get_or, Option, Some, None, ap, get_or-set_same, inl, inr}
 use Rattle.std.proofs.lemmas.Bool.{cases_lt}
 use Rattle.std.proofs.lemmas.List.{get_or_past}
-use Rattle.thp_page.specs.Table.{Slot, Table, SameSlots}
-use Rattle.thp_page.specs.Slots.{slot_at, with_slot}
+use Rattle.thp_page.specs.Prelude.{Slot, Table, SameSlots, slot_at, with_slot}
 
 -- the block that was written has what was written
 pub slot_at-with_slot-same : (t : Table) (b : ℕ) (o : Option Slot) → b < length t.slots → slot_at (with_slot t b o) b ≡ o

@@ -1,15 +1,9 @@
 -- From the fields of a table to what contracts see: reads and writes of one block.
-use Rattle.std.proofs.Common.{◌≡◌, ◌≢◌, ◌∙◌, ◌<◌, ℕ, zero, suc, List, [], ◌∷◌, length, get_or, set, replicate, cond, Option, Some, None, ap, ap₂, sym, subst, refl, arith}
-use Rattle.std.specs.Option.{is_some, IsSome, IfSome, IfNone}
+use Rattle.std.proofs.Common.{◌≡◌, ◌≢◌, ◌∙◌, ◌<◌, ℕ, zero, suc, List, [], ◌∷◌, length, get_or, set, replicate, cond, Option, Some, None, ap, ap₂, sym, subst, refl, arith, is_some, IsSome, IfSome, IfNone}
 use Rattle.std.proofs.lemmas.List.{length-map, set-get_or}
 use Rattle.thp_links.specs.declared.link.Link.{Link}
-use Rattle.thp_model.specs.Pages.{PageState}
-use Rattle.thp_page.specs.declared.page_table.Descriptor.{Descriptor}
-use Rattle.thp_page.specs.declared.standing.Standing.{Standing}
-use Rattle.thp_page.specs.Table.{Slot, Table}
-use Rattle.thp_page.specs.Slots.{slot_at, with_slot, number_in, page_in, paged, stood, HoldsPage}
-use Rattle.thp_page.specs.Descriptors.{links_of, slot_of, slots_of, blank_descriptor}
-use Rattle.thp_page.specs.Lending.{with_page}
+use Rattle.thp_model.specs.Prelude.{PageState}
+use Rattle.thp_page.specs.Prelude.{Descriptor, Standing, Slot, Table, slot_at, with_slot, number_in, page_in, paged, stood, HoldsPage, links_of, slot_of, slots_of, blank_descriptor, with_page}
 
 -- the table that such fields stand for
 abbrev pub table_of : ℕ → List (Option ℕ) → List Descriptor → ℕ → Table

@@ -2,10 +2,8 @@
 use Rattle.std.proofs.Common.{◌≡◌, ℕ, ◌+◌, ◌^◌, ◌<◌, ◌≤◌, Bool, false, cond, nat_lt, List, ◌&&◌, ap, ◌∙◌, arith, inl, inr}
 use Rattle.std.proofs.lemmas.Bool.{cases_lt}
 use Rattle.std.proofs.lemmas.Bool.Decides.{nat_tests}
-use Rattle.thp_model.specs.Sets.{covers, has, set_of, some_below}
-use Rattle.thp_model.specs.Words.{get_or-set_of}
-use Rattle.thp_model.specs.Pages.{PageState, size, own_at}
-use Rattle.thp_page.specs.PageView.{NothingAfter}
+use Rattle.thp_model.specs.Prelude.{covers, has, set_of, some_below, get_or-set_of, PageState, size, own_at}
+use Rattle.thp_page.specs.Prelude.{NothingAfter}
 use Rattle.thp_page.proofs.SomeBelow.{some_below-same}
 use Rattle.thp_page.proofs.RangeLemmas.{covers_after}
 use Rattle.thp_page.proofs.PageSizes.{same_size, size_most}

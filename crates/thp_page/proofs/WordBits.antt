@@ -1,18 +1,16 @@
 -- Subpages of one word, bit by bit.
-use Rattle.std.proofs.Common.{◌≡◌, ◌≢◌, ℕ, suc, zero, ◌+◌, ◌-◌, ◌*◌, ◌/◌, ◌%◌, ◌^◌, ◌<◌, ◌≤◌, min, Bool, true, false, not, ◌&&◌, List, nat_eq, refl, ap, sym, ◌∙◌, arith, inl, inr, pow-add}
+use Rattle.std.proofs.Common.{◌≡◌, ◌≢◌, ℕ, suc, zero, ◌+◌, ◌-◌, ◌*◌, ◌/◌, ◌%◌, ◌^◌, ◌<◌, ◌≤◌, min, Bool, true, false, not, ◌&&◌, List, nat_eq, refl, ap, sym, ◌∙◌, arith, inl, inr, pow-add, bit_and, bit_xor, if◌then◌else◌}
 use Rattle.std.specs.Int.{bit_at, w64}
-use Rattle.std.specs.Prelude.{bit_and, bit_xor, if◌then◌else◌}
 use Rattle.std.proofs.lemmas.Bool.{cases_lt}
 use Rattle.std.proofs.lemmas.Bool.Decides.{eqb_tells, nat_tests}
 use Rattle.std.proofs.lemmas.Nat.Bits.{bit_at_and, bit_at_xor, bit_at_not, bit_at-lt, bit_at-zero, bit_at-trailing_zeros, ones_shr, bit_at_mask_inside, bit_at_mask_below, bit_at_mask_above}
 use Rattle.std.specs.Int.{trailing_zeros}
 use Rattle.std.proofs.Math.Pow.{pow_mono}
 use Rattle.std.proofs.Math.Nat.{mul_comm, suc-mul, one-le-pow}
-use Rattle.thp_model.specs.Sets.{set_of, has, covers, one_alone, some_below}
-use Rattle.thp_model.specs.Words.{get_or-set_of}
+use Rattle.thp_model.specs.Prelude.{set_of, has, covers, one_alone, some_below, get_or-set_of}
 use Rattle.thp_model.proofs.Below.{some_yes, some_no}
 use Rattle.thp_model.proofs.WordLemmas.{set_of-ext}
-use Rattle.thp_page.specs.OneWords.{in_word}
+use Rattle.thp_page.specs.Prelude.{in_word}
 
 -- a bit of both, a bit of the first alone, and a bit of one of the two alone
 both : (x y : ℕ) → x < 2 → y < 2 → nat_eq (min x y) 1 ≡ (nat_eq x 1 && nat_eq y 1)

@@ -5,18 +5,10 @@ use Rattle.thp_model.specs.declared.events.Event.{Event}
 use Rattle.thp_model.specs.declared.events.Outcome.{Outcome}
 use Rattle.thp_model.specs.declared.events.What.TheVariants.{Alloc, Split}
 use Rattle.thp_model.specs.declared.shape.Shape.{Shape}
-use Rattle.thp_model.specs.History.{History, by}
-use Rattle.thp_model.specs.Counts.{is_live, is_closed, frees, allocations}
-use Rattle.thp_model.specs.Underused.{shrinks_underused, is_worth_split}
-use Rattle.thp_model.specs.Places.{flight, has_page, stands}
-use Rattle.thp_model.specs.Refusals.{refusal}
-use Rattle.thp_model.specs.Legal.{Fits, IsLegal}
-use Rattle.thp_model.specs.Pages.{PageState, page_refusal, gives_frames, is_split_candidate, PageSplit, IsFresh, Tallies}
+use Rattle.thp_model.specs.Prelude.{History, by, is_live, is_closed, frees, allocations, shrinks_underused, is_worth_split, flight, has_page, stands, refusal, Fits, IsLegal, PageState, page_refusal, gives_frames, is_split_candidate, PageSplit, IsFresh, Tallies, gain_call, loss_call, page_call, gain_what, loss_what, Gains, Loses, is_about, page_outcome, page_released}
 use Rattle.thp_model.specs.declared.page_call.Gain.{Gain}
 use Rattle.thp_model.specs.declared.page_call.Loss.{Loss}
 use Rattle.thp_model.specs.declared.page_call.PageCall.{PageCall}
-use Rattle.thp_model.specs.PageCalls.{gain_call, loss_call, page_call, gain_what, loss_what, Gains, Loses, is_about}
-use Rattle.thp_model.specs.PageChanges.{page_outcome, page_released}
 
 -- at h page p is live, and t is its state
 pub record IsAt (shape : Shape) (h : History) (p : ℕ) (t : PageState) : Type 0 where

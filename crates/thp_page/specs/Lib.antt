@@ -12,3 +12,4 @@ pub mod OneWords
 pub mod Tallies
 pub mod Ranges
 pub mod MapCounts
+pub mod Prelude

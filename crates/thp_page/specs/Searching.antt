@@ -1,9 +1,8 @@
 -- The invariant of the search for a page's number: chains of blocks by the low bits of their numbers. No public clause cites this
 -- module.
-use Rattle.std.specs.Prelude.{◌≡◌, ◌<◌, ℕ, ◌^◌, ◌%◌, List, [], ◌∷◌, length, slice_index, slice_index_or, Option, Some, None}
-use Rattle.std.specs.List.{Contains}
+use Rattle.std.specs.Prelude.{◌≡◌, ◌<◌, ℕ, ◌^◌, ◌%◌, List, [], ◌∷◌, length, slice_index, slice_index_or, Option, Some, None, Contains}
 use Rattle.thp_links.specs.declared.link.TheConstants.{NIL}
-use Rattle.thp_links.specs.Indices.{Distinct, without}
+use Rattle.thp_links.specs.Prelude.{Distinct, without}
 
 -- the bucket of a number
 abbrev pub bucket_at : ℕ → ℕ

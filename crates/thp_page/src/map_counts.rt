@@ -1,7 +1,6 @@
 //! A page's own map counts, which contracts see as 512 numbers.
 ghost use Rattle.std.specs.Prelude.{◌≡◌, ℕ, ◌+◌, ◌<◌, ◌≤◌, ◌&&◌, true, cond, nat_eq, nat_lt, replicate, slice_index};
-ghost use Rattle.thp_model.specs.Limits.{max_subpages};
-ghost use Rattle.thp_model.specs.Sets.{covers, has, set_of, some_below};
+ghost use Rattle.thp_model.specs.Prelude.{max_subpages, covers, has, set_of, some_below};
 ghost use Rattle.thp_page.specs.Ranges.{some_count};
 
 use crate::one_word::OneWord;

@@ -1,7 +1,6 @@
 //! Subpages that lie in one word of a set.
 ghost use Rattle.std.specs.Prelude.{◌≡◌, ℕ, ◌+◌, ◌-◌, ◌*◌, ◌/◌, ◌%◌, ◌^◌, ◌<◌, ◌≤◌, true};
-ghost use Rattle.thp_model.specs.Limits.{max_subpages};
-ghost use Rattle.thp_model.specs.Sets.{covers};
+ghost use Rattle.thp_model.specs.Prelude.{max_subpages, covers};
 ghost use Rattle.thp_page.specs.OneWords.{in_word};
 
 use crate::subpages::Subpages;

@@ -1,9 +1,6 @@
 //! One page: its map counts, its pins, whether it is split, and which of its subpages are zero-filled.
 ghost use Rattle.std.specs.Prelude.{◌≡◌, ◌+◌, ◌<◌, ◌≤◌, true, false, not, ◌&&◌, ◌||◌, cond, nat_eq, nat_lt, length, Option, None};
-ghost use Rattle.thp_model.specs.Limits.{max_order, max_subpages, min_order};
-ghost use Rattle.thp_model.specs.Pages.{size, own_at, total_at, zero_at, holds, used_set, has_use, zero_set, zero_count, is_split_candidate, gives_frames, some_in_range, IsFresh, PageSplit};
-ghost use Rattle.thp_model.specs.Sets.{set_of, has};
-ghost use Rattle.thp_model.specs.Refusals.{most};
+ghost use Rattle.thp_model.specs.Prelude.{max_order, max_subpages, min_order, size, own_at, total_at, zero_at, holds, used_set, has_use, zero_set, zero_count, is_split_candidate, gives_frames, some_in_range, IsFresh, PageSplit, set_of, has, most};
 ghost use Rattle.thp_page.specs.Fresh.{fresh_page};
 
 mod calls;
@@ -64,7 +61,7 @@ pub struct Page {
 }
 
 impl Model for Page {
-    ghost use Rattle.thp_model.specs.Pages.{PageState};
+    ghost use Rattle.thp_model.specs.Prelude.{PageState};
 
     ghost Value = { PageState };
 

@@ -1,7 +1,6 @@
 //! Bit planes, and the carries and borrows that ripple through them.
 ghost use Rattle.std.specs.Prelude.{◌≡◌, ℕ, ◌+◌, ◌<◌, ◌≤◌, ◌^◌, ◌&&◌, true, cond, nat_eq};
-ghost use Rattle.thp_model.specs.Limits.{max_subpages};
-ghost use Rattle.thp_model.specs.Sets.{covers, has, some_below};
+ghost use Rattle.thp_model.specs.Prelude.{max_subpages, covers, has, some_below};
 ghost use Rattle.thp_page.specs.Tallies.{tally};
 
 use crate::subpages::Subpages;

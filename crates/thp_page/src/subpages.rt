@@ -1,7 +1,6 @@
 //! The subpages that one call counts up or down.
 ghost use Rattle.std.specs.Prelude.{◌≡◌, ℕ, ◌<◌, Bool, not, ◌&&◌};
-ghost use Rattle.thp_model.specs.Limits.{max_subpages};
-ghost use Rattle.thp_model.specs.Sets.{has, set_of, one_alone, some_below};
+ghost use Rattle.thp_model.specs.Prelude.{max_subpages, has, set_of, one_alone, some_below};
 
 use thp_model::SubSet;
 

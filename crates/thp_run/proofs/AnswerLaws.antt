@@ -1,6 +1,5 @@
 -- Lines of answers, made piece by piece.
-use Rattle.std.proofs.Common.{◌≡◌, ℕ, ◌+◌, Bool, List, [], ◌∷◌, ◌++◌, drop, Some, Result, Ok, Err, ap, sym, ◌∙◌, append_assoc}
-use Rattle.std.specs.Prelude.{OnOk, slice_get}
+use Rattle.std.proofs.Common.{◌≡◌, ℕ, ◌+◌, Bool, List, [], ◌∷◌, ◌++◌, drop, Some, Result, Ok, Err, ap, sym, ◌∙◌, append_assoc, OnOk, slice_get}
 use Rattle.std.proofs.lemmas.List.{drop_more}
 use Rattle.std.proofs.lemmas.Option.{get_or_from_slice_get, slice_get_within}
 use Rattle.std.specs.declared.alloc.AllocError.{AllocError}
@@ -8,9 +7,8 @@ use Rattle.thp_node.specs.declared.answers.Tried.{Tried}
 use Rattle.thp_node.specs.declared.answers.Tried.TheVariants as tried
 use Rattle.thp_worker.specs.declared.reply.Reply.{Reply}
 use Rattle.thp_worker.specs.declared.reply.Reply.TheVariants as reply
-use Rattle.thp_worker.specs.Does.{Reaction}
-use Rattle.thp_journal_writer.specs.EventLines.{line_of}
-use Rattle.thp_journal_writer.specs.Journals.{ended}
+use Rattle.thp_worker.specs.Prelude.{Reaction}
+use Rattle.thp_journal_writer.specs.Prelude.{line_of, ended}
 use Rattle.thp_run.specs.Answers.{tried_words, reply_words, reaction_words}
 
 -- there is a first word

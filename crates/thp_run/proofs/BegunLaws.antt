@@ -1,27 +1,20 @@
 -- Scripts that are run as they are read: how such a run begins and ends.
-use Rattle.std.proofs.Common.{◌≡◌, ◌∙◌, ℕ, Bool, false, List, [], Err, Ok, Option, ap, arith, inl, refl, sym}
-use Rattle.std.specs.Prelude.{IfErr, IfSome, Result}
-use Rattle.std.proofs.lemmas.List.{append-nil}
+use Rattle.std.proofs.Common.{◌≡◌, ◌∙◌, ℕ, Bool, false, List, [], Err, Ok, Option, ap, arith, inl, refl, sym, IfErr, IfSome, Result, append-nil}
 use Rattle.atomic_table.specs.Seated.{TableId}
-use Rattle.thp_cell.specs.Views.{PassState}
-use Rattle.thp_cli.specs.Calls.{ReadsOn}
+use Rattle.thp_cell.specs.Prelude.{PassState}
+use Rattle.thp_cli.specs.Prelude.{ReadsOn, IsInputOf, run_fault}
 use Rattle.thp_cli.proofs.CallLaws.{reading_ended, reading_none}
-use Rattle.thp_script.specs.Limits.{max_input}
+use Rattle.thp_script.specs.Prelude.{max_input, after_setup, read_after, spelled_with, ReadSoFar, script_of, Fault, ReportsFault}
 use Rattle.thp_cli.specs.declared.calls.DeviceCall.{DeviceCall}
 use Rattle.thp_run.specs.InParts.{HasBegun}
 use Rattle.thp_run.proofs.BegunRunLaws.{begun_all, begun_nodes, starts_new}
 use Rattle.thp_worker.specs.declared.in_parts.SectionInParts.{SectionInParts}
-use Rattle.thp_worker.specs.Passes.{fronts_in, Passes}
+use Rattle.thp_worker.specs.Prelude.{fronts_in, Passes}
 use Rattle.thp_worker.proofs.StepLaws.{goes_trans}
 use Rattle.thp_script.specs.declared.script.Script.{Script}
 use Rattle.thp_script.specs.declared.settings.Settings.{Settings}
-use Rattle.thp_script.specs.Parts.{after_setup, read_after, spelled_with, ReadSoFar}
-use Rattle.thp_script.specs.Scripts.{script_of}
-use Rattle.thp_script.specs.Scripts.{Fault, ReportsFault}
 use Rattle.thp_script.specs.declared.fault.ReadFault.{ReadFault}
 use Rattle.thp_script.specs.declared.fault.ReadFault.TheVariants as reading
-use Rattle.thp_cli.specs.Devices.{IsInputOf}
-use Rattle.thp_cli.specs.RunFaults.{run_fault}
 use Rattle.thp_cli.specs.declared.fault.RunFault.{RunFault}
 use Rattle.thp_run.specs.ScriptInProgress.{EndsBeforeRun, HasRead, IsScriptInProgress}
 

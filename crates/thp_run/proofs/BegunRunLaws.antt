@@ -1,22 +1,16 @@
 -- Runs whose `setup` comes in parts.
-use Rattle.std.proofs.Common.{◌≡◌, ◌∙◌, ◌+◌, ◌++◌, ◌≤◌, ap, ℕ, List, length, map, refl, sym, subst, arith}
-use Rattle.std.specs.Prelude.{All}
+use Rattle.std.proofs.Common.{◌≡◌, ◌∙◌, ◌+◌, ◌++◌, ◌≤◌, ap, ℕ, List, length, map, refl, sym, subst, arith, All}
 use Rattle.atomic_table.specs.Seated.{TableId}
-use Rattle.thp_cell.specs.Views.{PassState}
+use Rattle.thp_cell.specs.Prelude.{PassState}
 use Rattle.thp_script.specs.declared.script.Command.{Command}
 use Rattle.thp_script.specs.declared.script.Script.{Script}
 use Rattle.thp_script.specs.declared.settings.Settings.{Settings}
-use Rattle.thp_script.specs.Parts.{after_setup}
-use Rattle.thp_script.specs.Scripts.{IsScriptFor}
+use Rattle.thp_script.specs.Prelude.{after_setup, IsScriptFor, max_nodes}
 use Rattle.thp_worker.specs.declared.in_parts.SectionInParts.{SectionInParts}
 use Rattle.thp_worker.specs.declared.reply.SectionLog.{SectionLog}
 use Rattle.thp_worker.specs.declared.reply.SectionOutcome.{SectionOutcome}
-use Rattle.thp_worker.specs.Fronts.{Fronts, Goes, HoldsAllCallers}
-use Rattle.thp_worker.specs.InParts.{DidFirst}
-use Rattle.thp_worker.specs.Passes.{fronts_in, Agree, Passes}
-use Rattle.thp_worker.specs.Sections.{Works}
+use Rattle.thp_worker.specs.Prelude.{Fronts, Goes, HoldsAllCallers, DidFirst, fronts_in, Agree, Passes, Works}
 use Rattle.thp_worker.proofs.StepLaws.{goes_trans}
-use Rattle.thp_script.specs.Limits.{max_nodes}
 use Rattle.thp_run.specs.InParts.{AreNew, HasBegun, StartsOn}
 use Rattle.thp_run.specs.Sections.{IsNew, IsSetUp, RunsTo}
 use Rattle.thp_run.specs.Sharing.{pass_of, AreFew, IsFresh, IsRoot, IsUnused, RunsOn}

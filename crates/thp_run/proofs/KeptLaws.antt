@@ -1,8 +1,7 @@
 -- Reports of the answers that a run kept.
-use Rattle.std.proofs.Common.{◌≡◌, ℕ, List, [], ◌∷◌, ◌∙◌, ap, map, refl, Ok}
-use Rattle.std.specs.Prelude.{All, filter}
+use Rattle.std.proofs.Common.{◌≡◌, ℕ, List, [], ◌∷◌, ◌∙◌, ap, map, refl, Ok, All, filter}
 use Rattle.std.proofs.lemmas.List.Elements.{All-head, All-tail}
-use Rattle.thp_node.specs.NodeState.{NodeState}
+use Rattle.thp_node.specs.Prelude.{NodeState}
 use Rattle.thp_run.specs.Answers.{answers_text}
 use Rattle.thp_run.specs.Reports.{report_of, shape_in, told_of}
 use Rattle.thp_run.specs.NewNodes.{histories_of, shapes_of, AreNodesFor}
@@ -10,13 +9,12 @@ use Rattle.thp_run.specs.Runs.{IsRun}
 use Rattle.thp_run.specs.Sections.{SectionAnswersAre}
 use Rattle.thp_worker.specs.declared.answer_log.Answers.TheVariants.{Kept}
 use Rattle.thp_worker.specs.declared.reply.SectionLog.{SectionLog}
-use Rattle.thp_worker.specs.KeptSections.{has_kept}
-use Rattle.thp_worker.specs.Logs.{is_kept}
+use Rattle.thp_worker.specs.Prelude.{has_kept, is_kept}
 use Rattle.thp_script.specs.declared.script.Script.{Script}
 use Rattle.thp_script.specs.declared.settings.Report.{Report}
 use Rattle.thp_script.specs.declared.settings.Report.TheVariants as report
 use Rattle.thp_script.specs.declared.settings.Settings.{Settings}
-use Rattle.thp_script.specs.Scripts.{script_of}
+use Rattle.thp_script.specs.Prelude.{script_of}
 use Rattle.thp_run.specs.Programs.{IsReport}
 
 -- sections of which each keeps its answers are all among those that do

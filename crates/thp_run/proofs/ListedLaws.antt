@@ -1,14 +1,11 @@
 -- Answers between logs and vectors.
-use Rattle.std.proofs.Common.{◌≡◌, ◌≤◌, ◌+◌, ◌++◌, ◌∷◌, [], ◌∙◌, ℕ, List, ap, append_assoc, drop, length, Some, Ok, Err, sym}
-use Rattle.std.specs.Prelude.{slice_get, Bool, IfOk, Result, Vec}
+use Rattle.std.proofs.Common.{◌≡◌, ◌≤◌, ◌+◌, ◌++◌, ◌∷◌, [], ◌∙◌, ℕ, List, ap, append_assoc, drop, length, Some, Ok, Err, sym, slice_get, Bool, IfOk, Result, Vec}
 use Rattle.std.specs.declared.alloc.Global.{Global}
 use Rattle.std.specs.declared.alloc.AllocError.{AllocError}
 use Rattle.thp_run.proofs.AnswerLaws.{drop_at_get}
 use Rattle.thp_worker.specs.declared.reply.Answer.{Answer}
 use Rattle.thp_worker.specs.declared.reply.SectionOutcome.{SectionOutcome}
-use Rattle.thp_worker.specs.Fronts.{Fronts}
-use Rattle.thp_worker.specs.Logs.{LogState}
-use Rattle.thp_worker.specs.Sections.{Works}
+use Rattle.thp_worker.specs.Prelude.{Fronts, LogState, Works}
 use Rattle.thp_script.specs.declared.script.Command.{Command}
 use Rattle.thp_run.specs.Listed.{WorkedList, WorksOn}
 

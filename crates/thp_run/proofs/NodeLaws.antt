@@ -1,7 +1,5 @@
 -- Nodes, passes and fronts, one at each place.
-use Rattle.std.proofs.Common.{◌≡◌, ◌∙◌, ◌++◌, ◌+◌, ◌<◌, ap, ℕ, zero, suc, List, [], ◌∷◌, length, get_or, drop, map, refl, subst, arith, append_assoc, Option, Some, None}
-use Rattle.std.specs.Prelude.{slice_get}
-use Rattle.std.proofs.lemmas.List.{append-nil}
+use Rattle.std.proofs.Common.{◌≡◌, ◌∙◌, ◌++◌, ◌+◌, ◌<◌, ap, ℕ, zero, suc, List, [], ◌∷◌, length, get_or, drop, map, refl, subst, arith, append_assoc, Option, Some, None, slice_get, append-nil}
 use Rattle.thp_run.specs.Sharing.{Pairs}
 
 -- what holds at each place still does with one more element, for which it holds too

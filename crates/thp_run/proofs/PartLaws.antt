@@ -1,7 +1,5 @@
 -- The text of answers, part by part.
-use Rattle.std.proofs.Common.{◌≡◌, ℕ, ◌+◌, ◌<◌, ◌≤◌, List, [], ◌∷◌, ◌++◌, drop, get_or, length, Some, ap, refl, sym, ◌∙◌, append_assoc}
-use Rattle.std.specs.Prelude.{slice_get}
-use Rattle.std.specs.List.{flat_map}
+use Rattle.std.proofs.Common.{◌≡◌, ℕ, ◌+◌, ◌<◌, ◌≤◌, List, [], ◌∷◌, ◌++◌, drop, get_or, length, Some, ap, refl, sym, ◌∙◌, append_assoc, slice_get, flat_map}
 use Rattle.std.proofs.lemmas.List.{drop_all, drop_more}
 use Rattle.thp_model.specs.declared.shape.Shape.{Shape}
 use Rattle.thp_run.specs.Answers.{answer_line, answers_text, section_text}

@@ -1,23 +1,20 @@
 -- How a run ends, from what its parts did.
-use Rattle.std.proofs.Common.{◌≡◌, ◌∙◌, ℕ, Bool, true, false, List, Option, Some, None, Ok, Err, ap, arith, inl, inr, length, map, refl, sym}
-use Rattle.std.specs.Prelude.{IfNone, IfSome, Result, filter, ok_or}
+use Rattle.std.proofs.Common.{◌≡◌, ◌∙◌, ℕ, Bool, true, false, List, Option, Some, None, Ok, Err, ap, arith, inl, inr, length, map, refl, sym, IfNone, IfSome, Result, filter, ok_or, append-nil, length-append}
 use Rattle.std.specs.Io.KnownBytes.{Appends}
 use Rattle.std.proofs.lemmas.Bool.{cases_lt}
-use Rattle.std.proofs.lemmas.List.{append-nil, length-append}
 use Rattle.thp_script.specs.declared.fault.ReadFault.TheVariants as reading
 use Rattle.thp_script.specs.declared.script.Script.{Script}
 use Rattle.thp_script.specs.declared.settings.Settings.{Settings}
-use Rattle.thp_script.specs.Limits.{max_input}
-use Rattle.thp_script.specs.Scripts.{Fault, script_of}
+use Rattle.thp_script.specs.Prelude.{max_input, Fault, script_of}
 use Rattle.thp_script.proofs.ScriptLaws.{too_long}
 use Rattle.thp_cli.specs.declared.fault.RunFault.{RunFault}
 use Rattle.thp_cli.specs.declared.fault.RunFault.TheVariants.{Text, OutOfMemory, Read, Write}
-use Rattle.thp_cli.specs.Devices.{IsInputOf, WritesFront}
+use Rattle.thp_cli.specs.Prelude.{IsInputOf, WritesFront}
 use Rattle.thp_cli.proofs.PassageLaws.{ends_early, keeps_same}
-use Rattle.thp_node.specs.NodeState.{NodeState}
+use Rattle.thp_node.specs.Prelude.{NodeState}
 use Rattle.thp_run.specs.Reports.{report_of, told_of}
 use Rattle.thp_worker.specs.declared.reply.SectionLog.{SectionLog}
-use Rattle.thp_worker.specs.KeptSections.{has_kept}
+use Rattle.thp_worker.specs.Prelude.{has_kept}
 use Rattle.thp_run.specs.Programs.{IsReport, RunEnds}
 use Rattle.thp_run.specs.ScriptInProgress.{HasRun, EndsBeforeRun}
 use Rattle.thp_run.specs.Written.{Wrote}

@@ -1,6 +1,6 @@
 -- What reports tell of nodes.
 use Rattle.std.proofs.Common.{◌≡◌, List, [], ◌∷◌, map, refl, ap}
-use Rattle.thp_node.specs.NodeState.{NodeState}
+use Rattle.thp_node.specs.Prelude.{NodeState}
 use Rattle.thp_run.specs.Reports.{told_of, shape_of, shape_in}
 
 -- the shapes of nodes that were told are the nodes' shapes

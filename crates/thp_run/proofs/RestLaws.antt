@@ -1,20 +1,17 @@
 -- What is left of the workers' sections, done one after another.
-use Rattle.std.proofs.Common.{◌≡◌, ◌∙◌, ◌++◌, ◌+◌, ◌<◌, ◌≤◌, ap, ℕ, zero, suc, List, [], ◌∷◌, length, drop, get_or, refl, sym, subst, arith, length-append, append_assoc, Some}
-use Rattle.std.specs.Prelude.{All, Vec, slice_get}
+use Rattle.std.proofs.Common.{◌≡◌, ◌∙◌, ◌++◌, ◌+◌, ◌<◌, ◌≤◌, ap, ℕ, zero, suc, List, [], ◌∷◌, length, drop, get_or, refl, sym, subst, arith, length-append, append_assoc, Some, All, Vec, slice_get}
 use Rattle.std.specs.declared.alloc.Global.{Global}
 use Rattle.std.proofs.lemmas.List.{append-nil, drop_all, length-map}
 use Rattle.std.proofs.lemmas.Option.{slice_get_read}
 use Rattle.std.proofs.lemmas.List.Elements.{All-cons, All-head, All-nil, All-push, All-tail}
 use Rattle.thp_script.specs.declared.script.Command.{Command}
 use Rattle.thp_script.specs.declared.script.Script.{Script}
-use Rattle.thp_script.specs.Limits.{max_workers}
+use Rattle.thp_script.specs.Prelude.{max_workers}
 use Rattle.thp_worker.specs.declared.answer_log.Answers.{Answers}
 use Rattle.thp_worker.specs.declared.reply.SectionLog.{SectionLog}
 use Rattle.thp_worker.specs.declared.reply.SectionOutcome.{SectionOutcome}
-use Rattle.thp_worker.specs.Fronts.{Fronts, Goes, HoldsAllCallers, HoldsCaller}
-use Rattle.thp_worker.specs.Halves.{AllWork, CanRun, RangeDone}
+use Rattle.thp_worker.specs.Prelude.{Fronts, Goes, HoldsAllCallers, HoldsCaller, AllWork, CanRun, RangeDone, AnswersAre, IsDoneFor, Works}
 use Rattle.thp_worker.specs.Halves as halves
-use Rattle.thp_worker.specs.Sections.{AnswersAre, IsDoneFor, Works}
 use Rattle.thp_worker.proofs.HalvesLaws.{works_from, all_work_as}
 use Rattle.thp_worker.proofs.StepLaws.{same_refl, same_trans, has_later}
 use Rattle.thp_run.specs.Sections.{GoesFrom, InOrder, IsFitScript, IsFitSection, IsNew, RunsTo, SectionAnswersAre, commands_in, numbered}

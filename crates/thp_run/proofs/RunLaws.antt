@@ -1,7 +1,5 @@
 -- From the sections that a holder of all callers did to a run of the script.
-use Rattle.std.proofs.Common.{◌≡◌, ◌∙◌, ◌⊎◌, ◌++◌, ◌+◌, ◌<◌, ◌≤◌, ap, ℕ, zero, suc, true, false, List, [], ◌∷◌, length, get_or, map, refl, sym, subst, inl, inr, arith, Some, None}
-use Rattle.std.specs.Prelude.{All, Vec, nat_eq, slice_get}
-use Rattle.std.specs.List.{filter}
+use Rattle.std.proofs.Common.{◌≡◌, ◌∙◌, ◌⊎◌, ◌++◌, ◌+◌, ◌<◌, ◌≤◌, ap, ℕ, zero, suc, true, false, List, [], ◌∷◌, length, get_or, map, refl, sym, subst, inl, inr, arith, Some, None, All, Vec, nat_eq, slice_get, filter}
 use Rattle.std.specs.declared.alloc.Global.{Global}
 use Rattle.std.proofs.lemmas.Bool.{cases_lt, eq-eqb, ne_eqb}
 use Rattle.std.proofs.lemmas.Grind.{flat_map-append}
@@ -9,7 +7,7 @@ use Rattle.std.proofs.lemmas.List.{append-nil, length-map}
 use Rattle.std.proofs.lemmas.List.Elements.{All-append, All-head, All-tail}
 use Rattle.thp_model.specs.declared.events.Event.{Event}
 use Rattle.thp_model.specs.declared.shape.Shape.{Shape}
-use Rattle.thp_model.specs.History.{History, events_of}
+use Rattle.thp_model.specs.Prelude.{History, events_of}
 use Rattle.thp_model.proofs.LegalSteps.{legal_none}
 use Rattle.thp_cell.proofs.Fronts.{all_front}
 use Rattle.thp_script.specs.declared.script.Command.{Command}
@@ -17,9 +15,7 @@ use Rattle.thp_script.specs.declared.script.Script.{Script}
 use Rattle.thp_worker.specs.declared.reply.Answer.{Answer}
 use Rattle.thp_worker.specs.declared.reply.SectionLog.{SectionLog}
 use Rattle.thp_worker.specs.declared.reply.SectionOutcome.{SectionOutcome}
-use Rattle.thp_worker.specs.Fronts.{Fronts, HoldsCaller, SameHolding, SameNodes}
-use Rattle.thp_worker.specs.Halves.{AllWork, KnowsOf}
-use Rattle.thp_worker.specs.Sections.{Turn, IsTurn, Steps, Carries, Works, WorksTo, IsDoneFor, command_of, steps_of, own_events, batches_after, closing}
+use Rattle.thp_worker.specs.Prelude.{Fronts, HoldsCaller, SameHolding, SameNodes, AllWork, KnowsOf, Turn, IsTurn, Steps, Carries, Works, WorksTo, IsDoneFor, command_of, steps_of, own_events, batches_after, closing}
 use Rattle.thp_worker.proofs.StepLaws.{is_made_stays}
 use Rattle.thp_run.specs.Runs.{IsAnswered, IsRun, IsSection, no_batches, sections_of}
 use Rattle.thp_run.specs.Sections.{IsNew, RunsTo, commands_in, numbered}

@@ -1,28 +1,20 @@
 -- From nodes in cells to passes of all nodes, and back.
-use Rattle.std.proofs.Common.{◌≡◌, ◌∙◌, ◌+◌, ◌<◌, ◌≤◌, ap, ℕ, zero, suc, List, [], ◌∷◌, length, get_or, map, refl, sym, subst, arith, Some, None}
-use Rattle.std.specs.Prelude.{All, slice_get}
+use Rattle.std.proofs.Common.{◌≡◌, ◌∙◌, ◌+◌, ◌<◌, ◌≤◌, ap, ℕ, zero, suc, List, [], ◌∷◌, length, get_or, map, refl, sym, subst, arith, Some, None, All, slice_get}
 use Rattle.std.proofs.lemmas.List.{length-map}
 use Rattle.std.proofs.lemmas.List.Elements.{All-nil, All-cons, All-head, All-tail}
 use Rattle.std.proofs.lemmas.Option.{get_or_from_slice_get, slice_get-get_or, slice_get_within}
 use Rattle.thp_model.specs.declared.events.Event.{Event}
-use Rattle.thp_node.specs.NodeState.{NodeState}
-use Rattle.thp_cell.specs.Rule.{AllBelow}
-use Rattle.thp_cell.specs.Views.{PassState}
+use Rattle.thp_node.specs.Prelude.{NodeState}
+use Rattle.thp_cell.specs.Prelude.{AllBelow, PassState}
 use Rattle.thp_script.specs.declared.script.Command.{Command}
 use Rattle.thp_script.specs.declared.script.Op.{Op}
 use Rattle.thp_script.specs.declared.script.Op.TheVariants as op
 use Rattle.thp_script.specs.declared.script.Script.{Script}
 use Rattle.thp_script.specs.declared.settings.Settings.{Settings}
-use Rattle.thp_script.specs.Commands.{FitsBatch}
+use Rattle.thp_script.specs.Prelude.{FitsBatch, max_nodes, max_workers, IsScriptFor}
 use Rattle.thp_script.specs.Commands as text
-use Rattle.thp_script.specs.Limits.{max_nodes, max_workers}
-use Rattle.thp_script.specs.Scripts.{IsScriptFor}
 use Rattle.thp_worker.specs.declared.reply.SectionLog.{SectionLog}
-use Rattle.thp_worker.specs.Does.{IsFit}
-use Rattle.thp_worker.specs.Fronts.{Fronts}
-use Rattle.thp_worker.specs.Holdings.{Held}
-use Rattle.thp_worker.specs.Passes.{Agree, Passes, batch_in, cell_in, front_in, fronts_in, fronts_of, shape_in}
-use Rattle.thp_worker.specs.Sections.{IsCommandFor}
+use Rattle.thp_worker.specs.Prelude.{IsFit, Fronts, Held, Agree, Passes, batch_in, cell_in, front_in, fronts_in, fronts_of, shape_in, IsCommandFor}
 use Rattle.thp_run.specs.NewNodes.{AreNodesFor, histories_of, journal_in, shapes_of}
 use Rattle.thp_run.specs.NewNodes as new
 use Rattle.thp_run.specs.Runs.{IsRun}

@@ -1,14 +1,10 @@
 -- The answers to the commands of a run as text (this project's report format).
-use Rattle.std.specs.Prelude.{ℕ, ◌+◌, Bool, true, false, List, [], ◌∷◌, ◌++◌, Option, Some, None, Ok, Err, codes, slice_get}
-use Rattle.std.specs.List.{flat_map}
-use Rattle.std.specs.Fmt.{decimal}
-use Rattle.thp_journal_writer.specs.EventLines.{line_of, outcome_word, page_words}
-use Rattle.thp_journal_writer.specs.Journals.{ended}
-use Rattle.thp_journal_writer.specs.SetTexts.{set_text}
+use Rattle.std.specs.Prelude.{ℕ, ◌+◌, Bool, true, false, List, [], ◌∷◌, ◌++◌, Option, Some, None, Ok, Err, codes, slice_get, flat_map, decimal}
+use Rattle.thp_journal_writer.specs.Prelude.{line_of, outcome_word, page_words, ended, set_text}
 use Rattle.thp_model.specs.declared.refusal.Refusal.{Refusal}
 use Rattle.thp_model.specs.declared.refusal.Refusal.TheVariants.{NoPage, BadRange, IsSplit, NotMapped, Gone, NotPinned, TooMany, Closed, NoBlock, HasBatch, OutOfMemory}
 use Rattle.thp_model.specs.declared.shape.Shape.{Shape}
-use Rattle.thp_model.specs.Underused.{shrinks_underused}
+use Rattle.thp_model.specs.Prelude.{shrinks_underused}
 use Rattle.thp_node.specs.declared.answers.ScanReply.{ScanReply}
 use Rattle.thp_node.specs.declared.answers.Tried.{Tried}
 use Rattle.thp_node.specs.declared.answers.Tried.TheVariants as tried
@@ -16,7 +12,7 @@ use Rattle.thp_worker.specs.declared.reply.Answer.{Answer}
 use Rattle.thp_worker.specs.declared.reply.Reply.{Reply}
 use Rattle.thp_worker.specs.declared.reply.Reply.TheVariants as reply
 use Rattle.thp_worker.specs.declared.reply.SectionLog.{SectionLog}
-use Rattle.thp_worker.specs.Does.{Reaction}
+use Rattle.thp_worker.specs.Prelude.{Reaction}
 
 -- why a command was refused; there is no word for lack of memory, which ends a run without a report
 abbrev pub refusal_word : Refusal → List ℕ

@@ -1,15 +1,12 @@
 -- Runs of a script whose `setup` arrives in parts.
 use Rattle.std.specs.Prelude.{◌≡◌, ◌+◌, List, [], All, map}
 use Rattle.atomic_table.specs.Seated.{TableId}
-use Rattle.thp_node.specs.NodeState.{NodeState}
-use Rattle.thp_cell.specs.Views.{PassState}
+use Rattle.thp_node.specs.Prelude.{NodeState}
+use Rattle.thp_cell.specs.Prelude.{PassState}
 use Rattle.thp_script.specs.declared.script.Command.{Command}
 use Rattle.thp_script.specs.declared.settings.Settings.{Settings}
 use Rattle.thp_worker.specs.declared.in_parts.SectionInParts.{SectionInParts}
-use Rattle.thp_worker.specs.Fronts.{Fronts, Goes}
-use Rattle.thp_worker.specs.Holdings.{Held}
-use Rattle.thp_worker.specs.InParts.{DidFirst}
-use Rattle.thp_worker.specs.Passes.{fronts_in}
+use Rattle.thp_worker.specs.Prelude.{Fronts, Goes, Held, DidFirst, fronts_in}
 use Rattle.thp_run.specs.NewNodes.{AreNodesFor}
 use Rattle.thp_run.specs.Sharing.{cell_of, IsRoot, IsUnused, Pairs}
 

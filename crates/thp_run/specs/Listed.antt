@@ -4,8 +4,7 @@ use Rattle.thp_worker.specs.declared.answer_log.Answers.TheVariants.{Kept}
 use Rattle.thp_worker.specs.declared.reply.Answer.{Answer}
 use Rattle.thp_worker.specs.declared.reply.Rest.{Rest}
 use Rattle.thp_worker.specs.declared.reply.SectionLog.{SectionLog}
-use Rattle.thp_worker.specs.Fronts.{Fronts}
-use Rattle.thp_worker.specs.Sections.{WorksTo}
+use Rattle.thp_worker.specs.Prelude.{Fronts, WorksTo}
 use Rattle.thp_script.specs.declared.script.Command.{Command}
 
 -- the result of a section: its answers, where it stopped, and for each node whether it left a batch open

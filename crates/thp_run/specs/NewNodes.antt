@@ -1,9 +1,8 @@
 -- The nodes of a run, as the settings describe them.
 use Rattle.std.specs.Prelude.{◌≡◌, ℕ, List, [], Option, Some, None, length, slice_get, slice_index_or}
 use Rattle.thp_model.specs.declared.shape.Shape.{Shape}
-use Rattle.thp_model.specs.Limits.{max_order}
-use Rattle.thp_model.specs.History.{History}
-use Rattle.thp_node.specs.NodeState.{NodeState}
+use Rattle.thp_model.specs.Prelude.{max_order, History}
+use Rattle.thp_node.specs.Prelude.{NodeState}
 use Rattle.thp_script.specs.declared.settings.Settings.{Settings}
 
 -- each node has the blocks that the settings give, its own order, and its own threshold of underused pages, if it has one

@@ -1,15 +1,15 @@
 -- The input and the output of a run.
 use Rattle.std.specs.Prelude.{◌≡◌, ℕ, Bool, List, map, Option, Result, Ok, Err}
-use Rattle.thp_node.specs.NodeState.{NodeState}
+use Rattle.thp_node.specs.Prelude.{NodeState}
 use Rattle.thp_run.specs.Reports.{report_of, told_of}
 use Rattle.thp_run.specs.NewNodes.{histories_of, shapes_of, AreNodesFor}
 use Rattle.thp_run.specs.Runs.{IsRun}
 use Rattle.thp_worker.specs.declared.reply.SectionLog.{SectionLog}
 use Rattle.thp_script.specs.declared.script.Script.{Script}
 use Rattle.thp_script.specs.declared.settings.Settings.{Settings}
-use Rattle.thp_script.specs.Scripts.{script_of}
+use Rattle.thp_script.specs.Prelude.{script_of}
 use Rattle.thp_cli.specs.declared.fault.RunFault.{RunFault}
-use Rattle.thp_cli.specs.Passages.{Ends}
+use Rattle.thp_cli.specs.Prelude.{Ends}
 
 -- the text is the report that the settings select, of a run of the input's script
 pub record IsReport (s : Settings) (input text : List ℕ) : Type 0 where

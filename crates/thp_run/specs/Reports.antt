@@ -1,10 +1,9 @@
 -- The report of a run as text.
 use Rattle.std.specs.Prelude.{ℕ, List, map}
-use Rattle.thp_journal_writer.specs.Journals.{Journal, journal_text}
+use Rattle.thp_journal_writer.specs.Prelude.{Journal, journal_text, totals_text}
 use Rattle.thp_model.specs.declared.shape.Shape.{Shape}
-use Rattle.thp_node.specs.NodeState.{NodeState}
+use Rattle.thp_node.specs.Prelude.{NodeState}
 use Rattle.thp_run.specs.Answers.{answers_text}
-use Rattle.thp_journal_writer.specs.Totals.{totals_text}
 use Rattle.thp_script.specs.declared.settings.Report.{Report}
 use Rattle.thp_script.specs.declared.settings.Report.TheVariants as report
 use Rattle.thp_worker.specs.declared.reply.SectionLog.{SectionLog}

@@ -2,14 +2,12 @@
 use Rattle.std.specs.Prelude.{◌≡◌, ℕ, ◌+◌, ◌<◌, ◌≤◌, List, ◌∷◌, ◌++◌, All, AllPairs, Option, Some, None, length, map, slice_get}
 use Rattle.thp_model.specs.declared.events.Event.{Event}
 use Rattle.thp_model.specs.declared.shape.Shape.{Shape}
-use Rattle.thp_model.specs.History.{History, events_of}
-use Rattle.thp_model.specs.Legal.{IsLegal}
+use Rattle.thp_model.specs.Prelude.{History, events_of, IsLegal}
 use Rattle.thp_script.specs.declared.script.Command.{Command}
 use Rattle.thp_script.specs.declared.script.Script.{Script}
 use Rattle.thp_worker.specs.declared.reply.Answer.{Answer}
 use Rattle.thp_worker.specs.declared.reply.SectionLog.{SectionLog}
-use Rattle.thp_worker.specs.Does.{Open}
-use Rattle.thp_worker.specs.Sections.{Made, IsMade, ComesBefore, Carries, Turn, IsTurn, command_of, steps_of, own_events, batches_after, closing, answers_from}
+use Rattle.thp_worker.specs.Prelude.{Open, Made, IsMade, ComesBefore, Carries, Turn, IsTurn, command_of, steps_of, own_events, batches_after, closing, answers_from}
 
 -- no batch is open
 abbrev pub no_batches : ℕ → Option Open

@@ -1,10 +1,10 @@
 -- A script that is run while it is read.
-use Rattle.std.specs.Prelude.{◌≡◌, ℕ, Bool, true, false, List, ◌++◌, All, IfSome, Option, Result, Ok, length}
-use Rattle.thp_cell.specs.Views.{PassState}
-use Rattle.thp_node.specs.NodeState.{NodeState}
+use Rattle.std.specs.Prelude.{◌≡◌, ℕ, Bool, true, false, List, ◌++◌, All, IfSome, Option, Result, Ok, length, Err}
+use Rattle.thp_cell.specs.Prelude.{PassState}
+use Rattle.thp_node.specs.Prelude.{NodeState}
 use Rattle.thp_cli.specs.declared.fault.RunFault.{RunFault}
 use Rattle.thp_cli.specs.declared.fault.RunFault.TheVariants.{Text, OutOfMemory, Read, Write}
-use Rattle.thp_cli.specs.Devices.{IsInputOf}
+use Rattle.thp_cli.specs.Prelude.{IsInputOf}
 use Rattle.thp_run.specs.NewNodes.{histories_of, shapes_of, AreNodesFor}
 use Rattle.thp_run.specs.Runs.{IsRun}
 use Rattle.thp_run.specs.Sections.{SectionAnswersAre}
@@ -12,16 +12,12 @@ use Rattle.thp_run.specs.Sharing.{RunsOn}
 use Rattle.thp_worker.specs.declared.answer_log.Answers.TheVariants.{Kept}
 use Rattle.thp_worker.specs.declared.in_parts.SectionInParts.{SectionInParts}
 use Rattle.thp_worker.specs.declared.reply.SectionLog.{SectionLog}
-use Rattle.thp_worker.specs.Fronts.{Fronts, Goes, HoldsAllCallers, HoldsCaller}
-use Rattle.thp_worker.specs.InParts.{DidFirst}
-use Rattle.thp_worker.specs.Passes.{fronts_in, Passes}
+use Rattle.thp_worker.specs.Prelude.{Fronts, Goes, HoldsAllCallers, HoldsCaller, DidFirst, fronts_in, Passes}
 use Rattle.thp_script.specs.declared.script.Command.{Command}
 use Rattle.thp_script.specs.declared.script.Script.{Script}
 use Rattle.thp_script.specs.declared.settings.Report.TheVariants.{Answers}
 use Rattle.thp_script.specs.declared.settings.Settings.{Settings}
-use Rattle.thp_script.specs.Parts.{after_setup, read_after, spelled_with, ReadSoFar}
-use Rattle.thp_script.specs.Scripts.{script_of, Fault}
-use Rattle.std.specs.Prelude.{Err}
+use Rattle.thp_script.specs.Prelude.{after_setup, read_after, spelled_with, ReadSoFar, script_of, Fault}
 
 -- the script is for the nodes of the passes, which have all callers
 pub record IsScriptInProgress (script : ReadSoFar) (passes : Passes) (setup : SectionInParts) : Type 0 where

@@ -3,13 +3,11 @@ use Rattle.std.proofs.Common.{◌≡◌, ◌∙◌, ℕ, List, [], ◌++◌, Ok,
 use Rattle.std.specs.Prelude.{Result}
 use Rattle.std.proofs.lemmas.List.{append-nil}
 use Rattle.thp_worker.specs.declared.in_parts.SectionInParts.{SectionInParts}
-use Rattle.thp_worker.specs.InParts.{DidFirst}
-use Rattle.thp_worker.specs.Passes.{fronts_in, Passes}
+use Rattle.thp_worker.specs.Prelude.{DidFirst, fronts_in, Passes}
 use Rattle.thp_worker.proofs.StepLaws.{goes_refl, goes_trans}
 use Rattle.thp_script.specs.declared.script.Command.{Command}
 use Rattle.thp_script.specs.declared.script.Script.{Script}
-use Rattle.thp_script.specs.Parts.{read_after, spelled_with, ReadSoFar}
-use Rattle.thp_script.specs.Scripts.{Fault}
+use Rattle.thp_script.specs.Prelude.{read_after, spelled_with, ReadSoFar, Fault}
 use Rattle.thp_run.specs.ScriptInProgress.{HasRead}
 
 pub after_none : (read : Result Script Fault) → read ≡ read_after [] read

@@ -1,17 +1,14 @@
 -- All sections of a script, executed by the holder of all callers of the nodes.
 use Rattle.std.specs.Prelude.{◌≡◌, ℕ, ◌+◌, ◌<◌, ◌≤◌, ◌^◌, List, [], ◌∷◌, ◌++◌, All, None, length, map, Vec}
 use Rattle.std.specs.declared.alloc.Global.{Global}
-use Rattle.thp_model.specs.History.{History}
-use Rattle.thp_model.specs.Legal.{IsLegal}
+use Rattle.thp_model.specs.Prelude.{History, IsLegal}
 use Rattle.thp_script.specs.declared.script.Command.{Command}
 use Rattle.thp_script.specs.declared.script.Script.{Script}
-use Rattle.thp_script.specs.Limits.{max_workers}
+use Rattle.thp_script.specs.Prelude.{max_workers}
 use Rattle.thp_worker.specs.declared.answer_log.Answers.{Answers}
 use Rattle.thp_worker.specs.declared.reply.SectionLog.{SectionLog}
 use Rattle.thp_worker.specs.declared.reply.SectionOutcome.{SectionOutcome}
-use Rattle.thp_worker.specs.Fronts.{Fronts, Goes, HoldsCaller, SameHolding}
-use Rattle.thp_worker.specs.Halves.{AllWork, KnowsOf, RangeDone}
-use Rattle.thp_worker.specs.Sections.{IsCommandFor, IsDoneFor, Works}
+use Rattle.thp_worker.specs.Prelude.{Fronts, Goes, HoldsCaller, SameHolding, AllWork, KnowsOf, RangeDone, IsCommandFor, IsDoneFor, Works}
 
 -- nodes without events, held with caller 0 and a caller for each worker
 pub record IsNew (workers : ℕ) (f : Fronts) : Type 0 where

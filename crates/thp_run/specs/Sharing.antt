@@ -2,14 +2,12 @@
 use Rattle.std.specs.Prelude.{◌≡◌, ℕ, ◌+◌, ◌<◌, ◌^◌, ⊤, List, [], ◌∷◌, All, Option, Some, None, length, map, slice_get}
 use Rattle.atomic_table.specs.Seated.{TableId}
 use Rattle.thp_model.specs.declared.shape.Shape.{Shape}
-use Rattle.thp_model.specs.History.{History}
-use Rattle.thp_node.specs.NodeState.{NodeState}
-use Rattle.thp_cell.specs.Rule.{AllBelow}
-use Rattle.thp_cell.specs.Views.{PassState}
+use Rattle.thp_model.specs.Prelude.{History}
+use Rattle.thp_node.specs.Prelude.{NodeState}
+use Rattle.thp_cell.specs.Prelude.{AllBelow, PassState}
 use Rattle.thp_script.specs.declared.script.Script.{Script}
 use Rattle.thp_worker.specs.declared.reply.SectionLog.{SectionLog}
-use Rattle.thp_worker.specs.Fronts.{Fronts}
-use Rattle.thp_worker.specs.Holdings.{Held, batch_of}
+use Rattle.thp_worker.specs.Prelude.{Fronts, Held, batch_of}
 use Rattle.thp_run.specs.Sections.{IsNew, RunsTo}
 
 -- equally many of both, and the two at each index are related in this way

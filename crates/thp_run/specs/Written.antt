@@ -1,7 +1,7 @@
 -- The result of writing a text.
 use Rattle.std.specs.Prelude.{◌≡◌, ℕ, Bool, true, false, List, Option, Result, Ok, Err}
 use Rattle.std.specs.Io.KnownBytes.{Appends, Keeps}
-use Rattle.thp_cli.specs.Devices.{WritesFront}
+use Rattle.thp_cli.specs.Prelude.{WritesFront}
 use Rattle.thp_cli.specs.declared.fault.RunFault.{RunFault}
 use Rattle.thp_cli.specs.declared.fault.RunFault.TheVariants.{Text, OutOfMemory, Read, Write}
 

@@ -1,13 +1,11 @@
 //! The answers to commands, as text.
 ghost use Rattle.std.specs.Prelude.{◌≡◌, ◌+◌, ◌++◌, ◌≤◌, ◌∷◌, [], OnOk, IfOk, codes, length, map};
 ghost use Rattle.std.specs.Fmt.{decimal};
-ghost use Rattle.thp_journal_writer.specs.EventLines.{line_of};
-ghost use Rattle.thp_journal_writer.specs.Journals.{ended};
-ghost use Rattle.thp_journal_writer.specs.Room.{number_room, outcome_room, Takes};
+ghost use Rattle.thp_journal_writer.specs.Prelude.{line_of, ended, number_room, outcome_room, Takes};
 ghost use Rattle.thp_run.specs.Answers.{refusal_word, tried_words, back_words, scan_words, used_words, reply_words, looks, answer_line, section_text, answers_text as text_of};
 ghost use Rattle.thp_run.specs.Parts.{line_room};
 ghost use Rattle.thp_run.specs.Reports.{shape_of};
-ghost use Rattle.thp_worker.specs.Logs.{kept_log};
+ghost use Rattle.thp_worker.specs.Prelude.{kept_log};
 
 use std::alloc::{AllocError, Global};
 use thp_journal_writer::{put, put_number, put_outcome};

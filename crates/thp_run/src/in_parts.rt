@@ -1,12 +1,9 @@
 //! Runs of a script whose `setup` arrives in parts, so that its commands need not be stored.
 ghost use Rattle.std.specs.Prelude.{◌≡◌, ◌↔◌, [], All, IfOk, IsTrue, List};
-ghost use Rattle.thp_cell.specs.Views.{PassState};
+ghost use Rattle.thp_cell.specs.Prelude.{PassState};
 ghost use Rattle.thp_worker.specs.declared.answer_log.Answers.TheVariants.{Kept as KeptAnswers, Counted as CountedAnswers};
-ghost use Rattle.thp_worker.specs.Fronts.{Fronts};
-ghost use Rattle.thp_worker.specs.Holdings.{KeepsNode};
-ghost use Rattle.thp_worker.specs.Passes.{fronts_in};
-ghost use Rattle.thp_script.specs.Parts.{after_setup};
-ghost use Rattle.thp_script.specs.Scripts.{IsScriptFor};
+ghost use Rattle.thp_worker.specs.Prelude.{Fronts, KeepsNode, fronts_in};
+ghost use Rattle.thp_script.specs.Prelude.{after_setup, IsScriptFor};
 ghost use Rattle.thp_script.specs.declared.script.Command.{Command};
 ghost use Rattle.atomic_table.specs.Seated.{TableId};
 ghost use Rattle.thp_script.specs.declared.script.Script.{Script};

@@ -3,9 +3,7 @@
 ghost use Rattle.std.specs.Prelude.{◌≡◌, ◌+◌, ◌<◌, ◌≤◌, ◌^◌, ◌++◌, ◌∷◌, [], All, IfOk, OnOk, Some, length, map, slice_get};
 ghost use Rattle.thp_run.specs.Reports.{report_of, told_of};
 ghost use Rattle.thp_run.specs.Listed.{section_of, sections_of, IsWhole, WorksOn};
-ghost use Rattle.thp_worker.specs.Fronts.{Fronts, Goes, HoldsAllCallers, HoldsCaller};
-ghost use Rattle.thp_worker.specs.OpenBatches.{HasNoBatch};
-ghost use Rattle.thp_worker.specs.Sections.{IsCommandFor};
+ghost use Rattle.thp_worker.specs.Prelude.{Fronts, Goes, HoldsAllCallers, HoldsCaller, HasNoBatch, IsCommandFor};
 ghost use Rattle.thp_worker.specs.declared.answer_log.Answers.TheVariants.{Kept};
 ghost use Rattle.thp_worker.specs.declared.reply.Answer.{Answer as KeptAnswer};
 

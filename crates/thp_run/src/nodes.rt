@@ -1,6 +1,6 @@
 //! The nodes of a run.
 ghost use Rattle.std.specs.Prelude.{◌≡◌, ◌<◌, [], All, IfOk};
-ghost use Rattle.thp_node.specs.NodeState.{NodeState};
+ghost use Rattle.thp_node.specs.Prelude.{NodeState};
 ghost use Rattle.thp_run.specs.NewNodes.{shape_of, AreNodesFor};
 
 use std::alloc::{AllocError, Global};

@@ -1,8 +1,7 @@
 //! The program: from the words of its command line to its exit status.
 ghost use Rattle.std.specs.Prelude.{◌≡◌, false};
-ghost use Rattle.thp_cli.specs.CommandLine.{IsLineWithinLimits};
+ghost use Rattle.thp_cli.specs.Prelude.{IsLineWithinLimits, device_of, given_words, source_of};
 ghost use Rattle.thp_run.specs.Outcomes.{Does, Finishes, Served};
-ghost use Rattle.thp_cli.specs.Outcomes.{device_of, given_words, source_of};
 
 use crate::choice::settings_of;
 use crate::running::run;

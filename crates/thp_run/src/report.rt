@@ -1,6 +1,6 @@
 //! The report of a run.
 ghost use Rattle.std.specs.Prelude.{◌≡◌, IfOk, map};
-ghost use Rattle.thp_journal_writer.specs.Journals.{journal_text as journals_told};
+ghost use Rattle.thp_journal_writer.specs.Prelude.{journal_text as journals_told};
 ghost use Rattle.thp_run.specs.Reports.{told_of, report_of};
 
 use crate::answers::answers_text;

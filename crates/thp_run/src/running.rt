@@ -1,8 +1,7 @@
 //! From the bytes of a script to the bytes of its report.
 ghost use Rattle.std.specs.Prelude.{◌≡◌, false};
-ghost use Rattle.thp_script.specs.Limits.{max_input};
-ghost use Rattle.thp_cli.specs.Calls.{ReadsOn};
-ghost use Rattle.thp_cli.specs.Passages.{WritesAnswer};
+ghost use Rattle.thp_script.specs.Prelude.{max_input};
+ghost use Rattle.thp_cli.specs.Prelude.{ReadsOn, WritesAnswer};
 ghost use Rattle.thp_run.specs.Programs.{RunEnds};
 
 use crate::run_result::RunResult;

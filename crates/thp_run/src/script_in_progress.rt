@@ -1,20 +1,17 @@
 //! A script that is run while it is read: the commands of `setup` are not stored.
 ghost use Rattle.std.specs.Prelude.{◌≡◌, [], All, IfOk, IfErr, List, ℕ, false};
 ghost use Rattle.atomic_table.specs.Seated.{TableId};
-ghost use Rattle.thp_cell.specs.Views.{PassState};
-ghost use Rattle.thp_script.specs.Limits.{max_input};
-ghost use Rattle.thp_cli.specs.Calls.{ReadsOn};
+ghost use Rattle.thp_cell.specs.Prelude.{PassState};
+ghost use Rattle.thp_script.specs.Prelude.{max_input, spelled_with, script_of, ReportsFault};
+ghost use Rattle.thp_cli.specs.Prelude.{ReadsOn};
 ghost use Rattle.thp_run.specs.ScriptInProgress.{HasRead, HasRun, IsScriptInProgress, EndsBeforeRun, RunsInput, RunsOnRest};
 ghost use Rattle.thp_run.specs.ScriptInProgressLaws.{nothing_read, more_read};
 ghost use Rattle.thp_run.specs.InParts.{AreNew, HasBegun};
-ghost use Rattle.thp_worker.specs.Fronts.{Fronts};
-ghost use Rattle.thp_worker.specs.Passes.{fronts_in};
+ghost use Rattle.thp_worker.specs.Prelude.{Fronts, fronts_in};
 ghost use Rattle.thp_worker.specs.declared.answer_log.Answers.TheVariants.{Kept as KeptAnswers};
 ghost use Rattle.thp_run.specs.Sections.{SectionAnswersAre};
 ghost use Rattle.thp_script.specs.declared.fault.ReadFault.TheVariants.{OutOfMemory};
 ghost use Rattle.thp_script.specs.declared.script.Command.{Command};
-ghost use Rattle.thp_script.specs.Parts.{spelled_with};
-ghost use Rattle.thp_script.specs.Scripts.{script_of, ReportsFault};
 
 use crate::in_parts::{begin_run, end_run, new_cells, take_apart};
 use crate::run_result::RunResult;

@@ -1,6 +1,6 @@
 //! Runs of whole scripts in memory.
 ghost use Rattle.std.specs.Prelude.{◌≡◌, All, IfOk};
-ghost use Rattle.thp_script.specs.Scripts.{IsScriptFor};
+ghost use Rattle.thp_script.specs.Prelude.{IsScriptFor};
 ghost use Rattle.thp_run.specs.NewNodes.{histories_of, shapes_of, AreNodesFor};
 ghost use Rattle.thp_run.specs.Runs.{IsRun};
 ghost use Rattle.thp_run.specs.Sections.{SectionAnswersAre};

@@ -1,10 +1,8 @@
 //! The sections of a script after `setup`: the concurrent workers, and the commands that they postponed.
 ghost use Rattle.std.specs.Prelude.{◌≡◌, ◌+◌, ◌≤◌, ◌∷◌, [], All, IfOk, List, length};
 ghost use Rattle.thp_worker.specs.declared.answer_log.Answers.{Answers};
-ghost use Rattle.thp_worker.specs.Fronts.{Fronts, HoldsAllCallers};
-ghost use Rattle.thp_worker.specs.Halves.{AllWork, IsSection};
-ghost use Rattle.thp_worker.specs.Sections.{AnswersAre, IsDoneFor};
-ghost use Rattle.thp_script.specs.Limits.{max_workers};
+ghost use Rattle.thp_worker.specs.Prelude.{Fronts, HoldsAllCallers, AllWork, IsSection, AnswersAre, IsDoneFor};
+ghost use Rattle.thp_script.specs.Prelude.{max_workers};
 ghost use Rattle.thp_script.specs.declared.script.Command.{Command};
 ghost use Rattle.thp_run.specs.Sections.{commands_in, numbered, GoesFrom, InOrder, IsSetUp, RunsTo, SectionAnswersAre};
 

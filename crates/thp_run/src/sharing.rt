@@ -1,8 +1,8 @@
 //! Nodes in cells, and the passes that have all callers of each.
 ghost use Rattle.std.specs.Prelude.{◌≡◌, ◌≤◌, [], All, IfOk, map};
-ghost use Rattle.thp_cell.specs.Views.{HasAll, PassState};
-ghost use Rattle.thp_node.specs.NodeState.{NodeState};
-ghost use Rattle.thp_worker.specs.Passes.{Agree};
+ghost use Rattle.thp_cell.specs.Prelude.{HasAll, PassState};
+ghost use Rattle.thp_node.specs.Prelude.{NodeState};
+ghost use Rattle.thp_worker.specs.Prelude.{Agree};
 ghost use Rattle.thp_run.specs.Sharing.{cell_of, pass_of, IsNodeOf, IsRoot, IsUnused, Pairs};
 
 use std::alloc::{AllocError, Global};

@@ -1,6 +1,6 @@
 //! The totals of nodes as text.
 ghost use Rattle.std.specs.Prelude.{◌≡◌, IfOk, map};
-ghost use Rattle.thp_journal_writer.specs.Totals.{totals_of, totals_text};
+ghost use Rattle.thp_journal_writer.specs.Prelude.{totals_of, totals_text};
 ghost use Rattle.thp_run.specs.Reports.{told_of};
 
 use std::alloc::{AllocError, Global};

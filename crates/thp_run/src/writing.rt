@@ -1,14 +1,11 @@
 //! Writes reports to a writer, as one text or in parts.
 ghost use Rattle.std.specs.Prelude.{◌≡◌, IfSome, IfNone, IfErr, filter, map, false, true};
 ghost use Rattle.std.specs.Io.KnownBytes.{Appends};
-ghost use Rattle.thp_cli.specs.Calls.{WritesOn};
-ghost use Rattle.thp_cli.specs.Devices.{WritesFront};
-ghost use Rattle.thp_cli.specs.Passages.{WritesAnswer};
+ghost use Rattle.thp_cli.specs.Prelude.{WritesOn, WritesFront, WritesAnswer};
 ghost use Rattle.thp_run.specs.Answers.{answers_text};
 ghost use Rattle.thp_run.specs.Reports.{shape_of, told_of};
-ghost use Rattle.thp_journal_writer.specs.Journals.{journal_text as journals_told};
-ghost use Rattle.thp_journal_writer.specs.Totals.{totals_text as totals_told};
-ghost use Rattle.thp_worker.specs.KeptSections.{has_kept};
+ghost use Rattle.thp_journal_writer.specs.Prelude.{journal_text as journals_told, totals_text as totals_told};
+ghost use Rattle.thp_worker.specs.Prelude.{has_kept};
 ghost use Rattle.thp_run.specs.Written.{Wrote};
 
 use crate::answer_parts::AnswerParts;

@@ -1,33 +1,18 @@
 -- Commands at the front of a text: what was read of its bytes in one walk is what its first line says.
-use Rattle.std.proofs.Common.{◌≡◌, ◌∙◌, ◌==◌, ◌<◌, ◌≤◌, ◌-◌, ◌+◌, ◌*◌, ℕ, true, false, List, [], ◌∷◌, ◌++◌, length, Option, Some, None, Ok, append_assoc, ap, arith, codes, drop, get_or, refl, suc, sym, take}
-use Rattle.std.specs.Prelude.{IfSome, nat_le}
+use Rattle.std.proofs.Common.{◌≡◌, ◌∙◌, ◌==◌, ◌<◌, ◌≤◌, ◌-◌, ◌+◌, ◌*◌, ℕ, true, false, List, [], ◌∷◌, ◌++◌, length, Option, Some, None, Ok, append_assoc, ap, arith, codes, drop, get_or, refl, suc, sym, take, IfSome, nat_le, append-nil, length-append}
 use Rattle.std.specs.Char.{digit_value, is_ascii_digit}
 use Rattle.std.specs.List.{list_all}
 use Rattle.std.specs.Str.Parse.{digits_value}
 use Rattle.std.proofs.lemmas.Bool.{and_from, and_parts, eq-eqb, leb-true, lt-ltb, ne_eqb}
 use Rattle.std.proofs.lemmas.Int.Digits.{digits_value_push}
-use Rattle.std.proofs.lemmas.List.{append-nil, length-append}
 use Rattle.std.proofs.lemmas.List.Folds.{list_all-append}
 use Rattle.std.proofs.lemmas.Option.{cond_some}
 use Rattle.std.proofs.Math.Seq.{take-length}
-use Rattle.thp_model.specs.Limits.{max_batch}
-use Rattle.thp_script.specs.declared.script.Command.{Command}
-use Rattle.thp_script.specs.declared.script.Op.{Op}
-use Rattle.thp_script.specs.declared.script.Op.TheVariants.{Alloc, Close, Count, SplitNext, PutBack}
+use Rattle.thp_model.specs.Prelude.{max_batch}
+use Rattle.thp_script.specs.Prelude.{Command, Op, Alloc, Close, Count, SplitNext, PutBack, CommandWord, OfNode, OfPage, OfRange, OfBatch, Settings, Call, FastCommand, FastLine, FastOperands, FastNumber, batch_command, command_of, node_command, page_command, range_command, Reading, reading_of, ◌>>=◌, by_words, says_nothing, section_or_call, Text, is_numeral, lines_of, number_of, pieces_at, words_of}
 use Rattle.thp_script.specs.declared.script.BatchCall.TheVariants as batch
-use Rattle.thp_script.specs.declared.script.CommandWord.{CommandWord}
-use Rattle.thp_script.specs.declared.script.CommandWord.TheVariants.{OfNode, OfPage, OfRange, OfBatch}
 use Rattle.thp_script.specs.declared.script.RangeCall.TheVariants as range
 use Rattle.thp_script.specs.declared.script.WholePageCall.TheVariants as whole
-use Rattle.thp_script.specs.declared.settings.Settings.{Settings}
-use Rattle.thp_script.specs.declared.statement.Statement.TheVariants.{Call}
-use Rattle.thp_script.specs.FastParsing.{FastCommand, FastLine, FastOperands}
-use Rattle.thp_script.specs.FastWords.{FastNumber}
-use Rattle.thp_script.specs.Commands.{batch_command, command_of, node_command, page_command, range_command, Reading}
-use Rattle.thp_script.specs.Operands.{reading_of}
-use Rattle.thp_script.specs.Readings.{◌>>=◌}
-use Rattle.thp_script.specs.Statements.{by_words, says_nothing, section_or_call}
-use Rattle.thp_script.specs.Words.{Text, is_numeral, lines_of, number_of, pieces_at, words_of}
 use Rattle.thp_script.proofs.GrammarLaws.{statement_of-read}
 use Rattle.thp_script.proofs.NumberLaws.{numeral_parts, some_of_numeral}
 use Rattle.thp_script.proofs.TextLaws.{pieces-append}

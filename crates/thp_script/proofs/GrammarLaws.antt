@@ -1,22 +1,11 @@
 -- What the grammar reads: each command is in range, and each line that reads as a statement is printable and has no empty
 -- word.
-use Rattle.std.proofs.Common.{◌≡◌, ◌<◌, ◌≤◌, ◌-◌, ℕ, zero, suc, Bool, true, false, cond, List, [], ◌∷◌, Option, Result, Ok, Err, arith, subst, refl, sym, inl, inr, codes, not}
-use Rattle.std.specs.Prelude.{All}
+use Rattle.std.proofs.Common.{◌≡◌, ◌<◌, ◌≤◌, ◌-◌, ℕ, zero, suc, Bool, true, false, cond, List, [], ◌∷◌, Option, Result, Ok, Err, arith, subst, refl, sym, inl, inr, codes, not, All}
 use Rattle.std.specs.List.{AllByRecursion, list_all, list_any}
 use Rattle.std.proofs.lemmas.List.Elements.{All-cons}
-use Rattle.thp_model.specs.Limits.{max_batch}
-use Rattle.thp_script.specs.declared.fault.TextKind.{TextKind}
-use Rattle.thp_script.specs.declared.fault.TextKind.TheVariants.{BadByte, BadOrder, BadWord}
-use Rattle.thp_script.specs.declared.script.Command.{Command}
-use Rattle.thp_script.specs.declared.script.Op.{Op}
-use Rattle.thp_script.specs.declared.script.Op.TheVariants.{Alloc, MapWhole, UnmapWhole, Map, Unmap, Write, Zero, SplitPmd, Pin, Unpin, Close, Scan, Count, Take, SplitNext, PutBack}
-use Rattle.thp_script.specs.declared.settings.Settings.{Settings}
-use Rattle.thp_script.specs.declared.statement.Statement.{Statement}
-use Rattle.thp_script.specs.declared.statement.Statement.TheVariants.{Nothing, Section, Call}
-use Rattle.thp_script.specs.Commands.{batch_command, command_in, command_of, commands, node_command, node_number, number_up_to, page_command, range_command, FitsBatch, IsCommandFor, Reading}
-use Rattle.thp_script.specs.Lines.{is_empty, is_printable}
-use Rattle.thp_script.specs.Statements.{by_words, call_of, may_stand, says_nothing, section_of, section_or_call, setup_of, statement_in, statement_of, worker_number, worker_of, worker_or_call, IsInRange, IsSectionFor}
-use Rattle.thp_script.specs.Words.{Text, words_of}
+use Rattle.thp_model.specs.Prelude.{max_batch}
+use Rattle.thp_script.specs.Prelude.{TextKind, BadByte, BadOrder, BadWord, Command, Op, Alloc, MapWhole, UnmapWhole, Map, Unmap, Write, Zero, SplitPmd, Pin, Unpin, Close, Scan, Count, Take, SplitNext, PutBack, Settings, Statement, Nothing, Section, Call, batch_command, command_in, command_of, commands, node_command, node_number, number_up_to, page_command, range_command, FitsBatch, IsCommandFor, Reading, is_empty, is_printable, by_words, call_of, may_stand, says_nothing, section_of, section_or_call, statement_in, statement_of, worker_number, worker_of, worker_or_call, IsInRange, IsSectionFor, Text, words_of}
+use Rattle.thp_script.specs.Statements.{setup_of}
 use Rattle.thp_script.proofs.LineLaws.{IsPlain, bind_ok, none_empty, number_read, ok_value, one_plain, pieces_printable, plain_word, read, word_cases}
 
 -- ---- commands

@@ -1,21 +1,14 @@
 -- Lines of plain words: those whose words all read as something are printable and have no empty word.
-use Rattle.std.proofs.Common.{◌≡◌, ◌⊎◌, ◌==◌, ◌<◌, ◌≤◌, ℕ, Bool, true, false, cond, List, [], ◌∷◌, length, Option, Some, None, Result, Ok, Err, arith, ap, subst, refl, sym, inl, inr}
-use Rattle.std.specs.Prelude.{All, nat_le, ok_or}
+use Rattle.std.proofs.Common.{◌≡◌, ◌⊎◌, ◌==◌, ◌<◌, ◌≤◌, ℕ, Bool, true, false, cond, List, [], ◌∷◌, length, Option, Some, None, Result, Ok, Err, arith, ap, subst, refl, sym, inl, inr, All, nat_le, ok_or, bytes_eq}
 use Rattle.std.specs.Char.{is_ascii_digit}
 use Rattle.std.specs.List.{list_all, list_any, onto_first}
 use Rattle.std.specs.Result.{result_unwrap_or}
-use Rattle.std.specs.Str.{bytes_eq}
 use Rattle.std.specs.Str.Parse.{digits_value}
 use Rattle.std.proofs.lemmas.Bool.{and_from, and_parts, le-leb, leb-true, eqb-true, ne_eqb}
 use Rattle.std.proofs.lemmas.List.Elements.{All-cons, All-head, All-nil, All-tail}
 use Rattle.std.proofs.lemmas.Option.{cond_some}
 use Rattle.std.proofs.lemmas.Slice.Eq.{bytes_eq-Decides}
-use Rattle.thp_script.specs.declared.fault.TextKind.{TextKind}
-use Rattle.thp_script.specs.declared.fault.TextKind.TheVariants.{BadNumber}
-use Rattle.thp_script.specs.Commands.{number_up_to}
-use Rattle.thp_script.specs.Lines.{is_empty, is_printable}
-use Rattle.thp_script.specs.Readings.{◌>>=◌}
-use Rattle.thp_script.specs.Words.{Text, number_of, words_of}
+use Rattle.thp_script.specs.Prelude.{TextKind, BadNumber, number_up_to, is_empty, is_printable, ◌>>=◌, Text, number_of, words_of}
 use Rattle.thp_script.proofs.NumberLaws.{numeral_parts}
 use Rattle.thp_script.proofs.PieceLaws.{has_first}
 

@@ -1,20 +1,14 @@
 -- Lists of items read one by one, and written.
-use Rattle.std.proofs.Common.{◌≡◌, ◌∙◌, ◌==◌, ◌<◌, ◌≤◌, ◌^◌, ℕ, Bool, true, false, cond, List, [], ◌∷◌, ◌++◌, length, map, Option, Some, None, ap, arith, codes, leb, lit<, refl, sym}
-use Rattle.std.specs.Prelude.{All, IfNone, IfSome, MatchOption, option_map}
+use Rattle.std.proofs.Common.{◌≡◌, ◌∙◌, ◌==◌, ◌<◌, ◌≤◌, ◌^◌, ℕ, Bool, true, false, cond, List, [], ◌∷◌, ◌++◌, length, map, Option, Some, None, ap, arith, codes, leb, lit<, refl, sym, All, IfNone, IfSome, MatchOption, option_map, decimal, unwrap_or, bytes_eq}
 use Rattle.std.specs.Char.{is_ascii_digit}
-use Rattle.std.specs.Fmt.{decimal}
 use Rattle.std.specs.List.{join_with_byte, list_all}
-use Rattle.std.specs.Option.{unwrap_or}
-use Rattle.std.specs.Str.{bytes_eq}
 use Rattle.std.proofs.lemmas.Bool.{and_parts, le-leb, leb-true, lt-leb, ne_eqb}
 use Rattle.std.proofs.lemmas.Fmt.{digits_decimal}
 use Rattle.std.proofs.lemmas.List.Elements.{All-cons, All-head, All-nil, All-tail}
 use Rattle.std.proofs.lemmas.List.Splits.{join_with_byte-slice_split, slice_split_at, slice_split_none}
 use Rattle.std.proofs.lemmas.Slice.Eq.{bytes_eq-Decides}
 use Rattle.arrayvec.specs.ArrayVec.{ArrayVec}
-use Rattle.thp_script.specs.Limits.{max_nodes}
-use Rattle.thp_script.specs.NumberLists.{all_read, in_front, items_of, list_in, order_of, threshold_of, threshold_text, IsListText, IsWritable}
-use Rattle.thp_script.specs.Words.{Text, number_of}
+use Rattle.thp_script.specs.Prelude.{max_nodes, all_read, in_front, items_of, list_in, order_of, threshold_of, threshold_text, IsListText, IsWritable, Text, number_of}
 use Rattle.thp_script.proofs.NumberLaws.{decimal_of_number, digits, number_of-decimal}
 use Rattle.thp_script.proofs.PieceLaws.{HasFirst, has_first}
 

@@ -1,7 +1,6 @@
 -- Words as numbers: a word is read as a number exactly where it is that number's decimal text.
-use Rattle.std.proofs.Common.{◌≡◌, ℕ, ◌^◌, ◌<◌, ◌≤◌, true, false, leb, eqb, not, ◌||◌, length, get_or, drop, List, [], ◌∷◌, ◌+◌, ◌*◌, suc, Some, None, refl, sym, arith, rules, inl, inr, ◌∙◌}
+use Rattle.std.proofs.Common.{◌≡◌, ℕ, ◌^◌, ◌<◌, ◌≤◌, true, false, leb, eqb, not, ◌||◌, length, get_or, drop, List, [], ◌∷◌, ◌+◌, ◌*◌, suc, Some, None, refl, sym, arith, rules, inl, inr, ◌∙◌, decimal}
 use Rattle.std.proofs.Math.Seq.{drop-cons}
-use Rattle.std.specs.Fmt.{decimal}
 use Rattle.std.specs.List.{list_all}
 use Rattle.std.specs.Char.{digit_value, is_ascii_digit}
 use Rattle.std.specs.Str.Parse.{digits_value, digits_value_after}
@@ -10,7 +9,7 @@ use Rattle.std.proofs.lemmas.Bool.{false_from_ne_true, true_from_ne_false, ltb-t
 use Rattle.std.proofs.lemmas.List.Folds.{list_all_at}
 use Rattle.std.proofs.lemmas.Option.{cond_some}
 use Rattle.std.proofs.lemmas.Fmt.{digits_decimal, digits_value-decimal, decimal_nonempty, first_decimal, decimal_digit, decimal-digits_value}
-use Rattle.thp_script.specs.Words.{Text, has_numeral_front, is_numeral, number_of}
+use Rattle.thp_script.specs.Prelude.{Text, has_numeral_front, is_numeral, number_of}
 
 -- digits have a value, as std reads and writes them
 pub digits : IsNumeralModel (λ ds. list_all is_ascii_digit ds ≡ true) (digits_value 10)

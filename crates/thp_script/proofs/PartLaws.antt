@@ -1,24 +1,8 @@
 -- A script whose text comes in parts: what was read, with what the text to come says, is what the whole text says.
-use Rattle.std.proofs.Common.{◌≡◌, ◌∙◌, ◌+◌, ◌<◌, ℕ, List, [], ◌∷◌, ◌++◌, length, get_or, set, Option, Some, None, Result, Ok, Err, refl, sym, ap, append_assoc, arith, inl, inr}
-use Rattle.std.specs.Prelude.{IfSome, All, replicate}
+use Rattle.std.proofs.Common.{◌≡◌, ◌∙◌, ◌+◌, ◌<◌, ℕ, List, [], ◌∷◌, ◌++◌, length, get_or, set, Option, Some, None, Result, Ok, Err, refl, sym, ap, append_assoc, arith, inl, inr, IfSome, All, replicate, append-nil, length-set}
 use Rattle.std.proofs.lemmas.Bool.{cases_lt}
-use Rattle.std.proofs.lemmas.List.{append-nil, length-set}
 use Rattle.std.proofs.lemmas.List.Elements.{All-get_or, All-head, All-push, All-set, All-tail}
-use Rattle.thp_script.specs.declared.fault.TextKind.{TextKind}
-use Rattle.thp_script.specs.declared.script.Command.{Command}
-use Rattle.thp_script.specs.declared.script.Script.{Script}
-use Rattle.thp_script.specs.declared.settings.Settings.{Settings}
-use Rattle.thp_script.specs.declared.statement.Statement.{Statement}
-use Rattle.thp_script.specs.declared.statement.Statement.TheVariants.{Nothing, Section, Call}
-use Rattle.thp_script.specs.Commands.{IsCommandFor}
-use Rattle.thp_script.specs.Limits.{max_input}
-use Rattle.thp_script.specs.Lines.{fault_after}
-use Rattle.thp_script.specs.Parts.{lines_spell, script_in, spelled_with, with_commands}
-use Rattle.thp_script.specs.Readings.{◌>>=◌}
-use Rattle.thp_script.specs.Scripts.{Fault, IsScriptFor, Placed, commands_from, placed, script_of, script_with}
-use Rattle.thp_script.specs.Statements.{IsInRange, section_after, statement_in}
-use Rattle.thp_script.specs.TextInParts.{nothing_of}
-use Rattle.thp_script.specs.Words.{Text, lines_of}
+use Rattle.thp_script.specs.Prelude.{TextKind, Command, Script, Settings, Statement, Nothing, Section, Call, IsCommandFor, max_input, fault_after, lines_spell, script_in, spelled_with, with_commands, ◌>>=◌, Fault, IsScriptFor, Placed, commands_from, placed, script_of, script_with, IsInRange, section_after, statement_in, nothing_of, Text, lines_of}
 pub use Rattle.thp_model.proofs.Options.{not_there}
 use Rattle.thp_script.proofs.TextLaws.{whole_comes}
 use Rattle.thp_script.proofs.ScriptLaws.{behind, line_ends, line_fails, line_says}

@@ -1,19 +1,7 @@
 -- A script of which a part is being read: what stays true of it behind each line.
-use Rattle.std.proofs.Common.{◌≡◌, ◌∙◌, ◌+◌, ◌-◌, ◌^◌, ◌<◌, ◌≤◌, ℕ, Bool, true, false, cond, List, [], ◌∷◌, ◌++◌, length, Option, Some, None, Result, Ok, ap, arith, inl, inr, refl, sym}
-use Rattle.std.specs.Prelude.{min, nat_lt}
+use Rattle.std.proofs.Common.{◌≡◌, ◌∙◌, ◌+◌, ◌-◌, ◌^◌, ◌<◌, ◌≤◌, ℕ, Bool, true, false, cond, List, [], ◌∷◌, ◌++◌, length, Option, Some, None, Result, Ok, ap, arith, inl, inr, refl, sym, min, nat_lt, length-append}
 use Rattle.std.proofs.lemmas.Bool.{cases_lt, le-ltb, lt-ltb}
-use Rattle.std.proofs.lemmas.List.{length-append}
-use Rattle.thp_script.specs.declared.script.Command.{Command}
-use Rattle.thp_script.specs.declared.settings.Settings.{Settings}
-use Rattle.thp_script.specs.declared.statement.Statement.{Statement}
-use Rattle.thp_script.specs.declared.statement.Statement.TheVariants.{Call}
-use Rattle.thp_script.specs.FastParsing.{spelled_after, FastCommand, IsPartRead}
-use Rattle.thp_script.specs.Parts.{with_commands}
-use Rattle.thp_script.specs.declared.fault.TextKind.TheVariants.{TooLong}
-use Rattle.thp_script.specs.Scripts.{placed, Fault}
-use Rattle.thp_script.specs.Statements.{section_after, statement_in}
-use Rattle.thp_script.specs.TextInParts.{after_line, fault_with, read_unless, told_after, unless, with_part, IsCounted, TextSoFar}
-use Rattle.thp_script.specs.Words.{Text, lines_of}
+use Rattle.thp_script.specs.Prelude.{Command, Settings, Statement, Call, spelled_after, FastCommand, IsPartRead, with_commands, TooLong, placed, Fault, section_after, statement_in, after_line, fault_with, read_unless, told_after, unless, with_part, IsCounted, TextSoFar, Text, lines_of}
 use Rattle.thp_script.proofs.GrammarLaws.{statement_in_range}
 use Rattle.thp_script.proofs.PartLaws.{added_in_range, count_stays, line_spells}
 use Rattle.thp_script.proofs.ScriptLaws.{section_has_place, section_in_range}

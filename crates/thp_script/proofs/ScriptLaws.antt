@@ -1,18 +1,6 @@
 -- The lines of a script one by one: what the first says, with what the others say, is what all say.
-use Rattle.std.proofs.Common.{◌≡◌, ℕ, ◌+◌, ◌<◌, List, [], ◌∷◌, ◌++◌, Option, Some, None, Result, Ok, Err, refl, length, arith}
-use Rattle.std.specs.Prelude.{IfSome}
-use Rattle.std.proofs.lemmas.Bool.{lt-ltb}
-use Rattle.thp_script.specs.declared.fault.TextKind.{TextKind}
-use Rattle.thp_script.specs.declared.fault.TextKind.TheVariants.{TooLong}
-use Rattle.thp_script.specs.declared.settings.Settings.{Settings}
-use Rattle.thp_script.specs.declared.statement.Statement.{Statement}
-use Rattle.thp_script.specs.declared.statement.Statement.TheVariants.{Nothing, Section, Call}
-use Rattle.thp_script.specs.Limits.{max_input}
-use Rattle.thp_script.specs.Readings.{◌>>=◌}
-use Rattle.thp_script.specs.Words.{Text, lines_of}
-use Rattle.thp_script.specs.Lines.{fault_after}
-use Rattle.thp_script.specs.Statements.{statement_in, section_after, IsInRange, IsSectionFor}
-use Rattle.thp_script.specs.Scripts.{Fault, Placed, placed, commands_from, end_of, script_of}
+use Rattle.std.proofs.Common.{◌≡◌, ℕ, ◌+◌, ◌<◌, List, [], ◌∷◌, ◌++◌, Option, Some, None, Result, Ok, Err, refl, length, arith, IfSome, lt-ltb}
+use Rattle.thp_script.specs.Prelude.{TextKind, TooLong, Settings, Statement, Nothing, Section, Call, max_input, ◌>>=◌, Text, lines_of, fault_after, statement_in, section_after, IsInRange, IsSectionFor, Fault, Placed, placed, commands_from, end_of, script_of}
 use Rattle.thp_script.proofs.PieceLaws.{has_first}
 
 abbrev pub Read : Type 0

@@ -1,15 +1,7 @@
 -- The commands of `setup` that are let go while a script is read stand at the front of what is read.
-use Rattle.std.proofs.Common.{◌≡◌, ◌∙◌, ◌+◌, ◌<◌, ℕ, zero, suc, List, [], ◌∷◌, ◌++◌, length, get_or, set, Option, Some, None, Result, Ok, Err, refl, sym, ap, append_assoc, arith}
-use Rattle.std.specs.Prelude.{slice_set}
-use Rattle.std.proofs.lemmas.List.{append-nil}
-use Rattle.thp_script.specs.declared.script.Command.{Command}
-use Rattle.thp_script.specs.declared.script.Script.{Script}
-use Rattle.thp_script.specs.declared.settings.Settings.{Settings}
-use Rattle.thp_script.specs.Parts.{after_setup, lines_spell, read_after, script_in, setup_of, spelled_with, with_commands}
-use Rattle.thp_script.specs.Readings.{◌>>=◌}
-use Rattle.thp_script.specs.Scripts.{commands_from, Fault, Placed}
-use Rattle.thp_script.specs.TextInParts.{fault_with, unless, TextSoFar}
-use Rattle.thp_script.specs.Words.{Text, lines_of}
+use Rattle.std.proofs.Common.{◌≡◌, ◌∙◌, ◌+◌, ◌<◌, ℕ, zero, suc, List, [], ◌∷◌, ◌++◌, length, get_or, set, Option, Some, None, Result, Ok, Err, refl, sym, ap, append_assoc, arith, slice_set, append-nil}
+use Rattle.thp_script.specs.Prelude.{Command, Script, Settings, after_setup, lines_spell, read_after, script_in, spelled_with, with_commands, ◌>>=◌, commands_from, Fault, Placed, fault_with, unless, TextSoFar, Text, lines_of}
+use Rattle.thp_script.specs.Parts.{setup_of}
 
 -- the commands of sections whose first begins with `front`
 front_stays : (front setup : List Command) (workers : List (List Command)) (ps : List Placed) → script_in (with_commands ((front ++ setup) ∷ workers) ps) ≡ after_setup front (script_in (with_commands (setup ∷ workers) ps))

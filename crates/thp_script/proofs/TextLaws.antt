@@ -1,12 +1,7 @@
 -- Texts that come in parts: lines that are joined, and what is told once a part has come.
-use Rattle.std.proofs.Common.{◌≡◌, ◌+◌, ◌-◌, ◌==◌, ℕ, Bool, true, false, cond, List, [], ◌∷◌, ◌++◌, length, Option, Some, None, Result, Err, refl, sym, append_assoc, arith}
+use Rattle.std.proofs.Common.{◌≡◌, ◌+◌, ◌-◌, ◌==◌, ℕ, Bool, true, false, cond, List, [], ◌∷◌, ◌++◌, length, Option, Some, None, Result, Err, refl, sym, append_assoc, arith, nat_lt, if◌then◌else◌}
 use Rattle.std.specs.List.{onto_first}
-use Rattle.std.specs.Prelude.{nat_lt, if◌then◌else◌}
-use Rattle.thp_script.specs.declared.fault.TextKind.{TextKind}
-use Rattle.thp_script.specs.declared.fault.TextKind.TheVariants.{TooLong}
-use Rattle.thp_script.specs.Scripts.{Fault}
-use Rattle.thp_script.specs.TextInParts.{after_line, fault_with, first_fault, nothing_of, told_after, unless, with_begun, with_fault, TextSoFar}
-use Rattle.thp_script.specs.Words.{Text, lines_of, pieces_at}
+use Rattle.thp_script.specs.Prelude.{TextKind, TooLong, Fault, after_line, fault_with, first_fault, nothing_of, told_after, unless, with_begun, with_fault, TextSoFar, Text, lines_of, pieces_at}
 use Rattle.thp_script.proofs.PieceLaws.{has_first, HasFirst}
 
 -- ---- pieces of two texts, one behind the other

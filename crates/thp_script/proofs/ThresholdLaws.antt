@@ -4,7 +4,7 @@ use Rattle.std.specs.List.{list_all}
 use Rattle.std.proofs.lemmas.Bool.{and_parts, cases_lt}
 use Rattle.std.proofs.lemmas.List.{get_or-append_right, get_or-drop, length-append, length-drop}
 use Rattle.std.proofs.Math.ListN.{get_or-append}
-use Rattle.thp_script.specs.Settings.{is_order, AreLow}
+use Rattle.thp_script.specs.Prelude.{is_order, AreLow}
 
 -- orders that are left fit, too
 pub orders_left : (n : ℕ) (orders : List ℕ) → list_all is_order orders ≡ true → list_all is_order (drop n orders) ≡ true

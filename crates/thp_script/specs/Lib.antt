@@ -14,3 +14,4 @@ pub mod TextInParts
 pub mod Parts
 pub mod FastWords
 pub mod FastParsing
+pub mod Prelude

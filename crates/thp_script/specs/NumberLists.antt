@@ -1,8 +1,6 @@
 -- Lists of numbers in a word of the command line (this project's formats).
-use Rattle.std.specs.Prelude.{◌≡◌, ◌≤◌, ◌<◌, ◌^◌, ℕ, nat_le, List, [], ◌∷◌, length, Option, Some, None, option_map, codes, if◌then◌else◌}
-use Rattle.std.specs.Fmt.{decimal}
+use Rattle.std.specs.Prelude.{◌≡◌, ◌≤◌, ◌<◌, ◌^◌, ℕ, nat_le, List, [], ◌∷◌, length, Option, Some, None, option_map, codes, if◌then◌else◌, decimal, bytes_eq}
 use Rattle.std.specs.List.{join_with_byte}
-use Rattle.std.specs.Str.{bytes_eq}
 use Rattle.thp_script.specs.Limits.{max_nodes}
 use Rattle.thp_script.specs.Words.{Text, number_of, pieces_at}
 

@@ -1,7 +1,6 @@
 -- The meaning of a script's line, and its allowed positions (this project's script format).
-use Rattle.std.specs.Prelude.{◌==◌, ◌≤◌, not, nat_lt, ℕ, zero, suc, Bool, true, false, ⊤, List, [], ◌∷◌, Option, Some, None, Result, Ok, Err, codes, if◌then◌else◌}
+use Rattle.std.specs.Prelude.{◌==◌, ◌≤◌, not, nat_lt, ℕ, zero, suc, Bool, true, false, ⊤, List, [], ◌∷◌, Option, Some, None, Result, Ok, Err, codes, if◌then◌else◌, bytes_eq}
 use Rattle.std.specs.List.{list_all, list_any}
-use Rattle.std.specs.Str.{bytes_eq}
 use Rattle.thp_script.specs.declared.fault.TextKind.{TextKind}
 use Rattle.thp_script.specs.declared.fault.TextKind.TheVariants.{BadByte, BadWord, BadCount, BadNumber, BadOrder}
 use Rattle.thp_script.specs.declared.settings.Settings.{Settings}

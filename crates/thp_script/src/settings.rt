@@ -1,7 +1,7 @@
 //! The parameters of a run: its nodes, their blocks, its workers and its report.
 ghost use Rattle.std.specs.Prelude.{◌≡◌, ◌↔◌, ◌++◌, IsSome, IfSome, IsTrue, None, drop, replicate, true};
 ghost use Rattle.std.specs.List.{list_all};
-ghost use Rattle.thp_model.specs.Limits.{max_order};
+ghost use Rattle.thp_model.specs.Prelude.{max_order};
 ghost use Rattle.thp_script.specs.Limits.{max_nodes};
 ghost use Rattle.thp_script.specs.Settings.{is_low, is_order, AreLow, AreOrdersFor, AreThresholdsFor, IsWithinLimits};
 

@@ -1,22 +1,15 @@
 -- A command, step after step.
-use Rattle.std.proofs.Common.{◌≡◌, ◌++◌, ℕ, [], ◌∷◌, refl, sym, ap, ◌∙◌, subst, append_assoc, true, false, Result, Ok, Err}
-use Rattle.std.specs.Result.{IsErrAnd}
+use Rattle.std.proofs.Common.{◌≡◌, ◌++◌, ℕ, [], ◌∷◌, refl, sym, ap, ◌∙◌, subst, append_assoc, true, false, Result, Ok, Err, IsErrAnd}
 use Rattle.std.proofs.lemmas.List.{append-nil, map-append}
 use Rattle.std.proofs.lemmas.List.Elements.{All-nil, All-push}
 use Rattle.thp_script.specs.declared.script.Command.{Command}
-use Rattle.thp_worker.specs.declared.scanning.CommandProgress.{CommandProgress}
+use Rattle.thp_worker.specs.Prelude.{CommandProgress, Reply, Step, Reaction, IsFit, answer_of, Fronts, HoldsCaller, Goes, SameHolding, Answered, StepDone, CommandState, On, Ended, Comes, by_cell, IsReady, IsShared, is_scan, next_step, goes_on, scan_goes_on, Made, Proceeds, told_by}
 use Rattle.thp_cell.specs.declared.fault.CellFault.{CellFault}
 use Rattle.thp_cell.specs.declared.fault.CellFault.TheVariants.{Busy, Refused}
 use Rattle.thp_model.specs.declared.refusal.Refusal.{Refusal}
 use Rattle.thp_model.specs.declared.refusal.Refusal.TheVariants as why
 use Rattle.thp_script.specs.declared.script.Op.{Op}
 use Rattle.thp_script.specs.declared.script.Op.TheVariants as op
-use Rattle.thp_worker.specs.declared.reply.Reply.{Reply}
-use Rattle.thp_worker.specs.declared.steps.Step.{Step}
-use Rattle.thp_worker.specs.Does.{Reaction, IsFit, answer_of}
-use Rattle.thp_worker.specs.Fronts.{Fronts, HoldsCaller, Goes, SameHolding, Answered, StepDone}
-use Rattle.thp_worker.specs.Turns.{CommandState, On, Ended, Comes, by_cell, IsReady, IsShared, is_scan, next_step, goes_on, scan_goes_on}
-use Rattle.thp_worker.specs.Sections.{Made, Proceeds, told_by}
 use Rattle.thp_worker.proofs.TurnLaws.{turned, fares}
 use Rattle.thp_worker.proofs.StepLaws.{made_by, steps_none, steps_one, steps_then, moves_goes, goes_grows}
 

@@ -1,17 +1,11 @@
 -- The passes of all nodes, divided and joined one by one.
-use Rattle.std.proofs.Common.{◌≡◌, ◌∙◌, ◌++◌, ◌+◌, ◌<◌, ◌≤◌, ap, ℕ, zero, suc, List, [], ◌∷◌, length, map, set, refl, sym, subst, arith, append_assoc, get_or, Option, Some, None}
-use Rattle.std.specs.Prelude.{slice_get}
-use Rattle.std.specs.List.{All}
+use Rattle.std.proofs.Common.{◌≡◌, ◌∙◌, ◌++◌, ◌+◌, ◌<◌, ◌≤◌, ap, ℕ, zero, suc, List, [], ◌∷◌, length, map, set, refl, sym, subst, arith, append_assoc, get_or, Option, Some, None, slice_get, All}
 use Rattle.std.proofs.lemmas.List.{append-nil, length-map}
 use Rattle.std.proofs.lemmas.List.Elements.{All-nil, All-cons, All-head, All-tail}
 use Rattle.std.proofs.lemmas.Option.{slice_get-get_or}
-use Rattle.thp_worker.specs.Fronts.{HoldsAllCallers}
-use Rattle.thp_model.specs.History.{History, events_of}
-use Rattle.thp_model.specs.Legal.{IsLegal}
-use Rattle.thp_cell.specs.Views.{PassState}
-use Rattle.thp_worker.specs.Halves.{IsSplit, CanJoin, IsJoined}
-use Rattle.thp_worker.specs.Holdings.{Held, keeping_node, KeepsNode}
-use Rattle.thp_worker.specs.Passes.{cell_in, shape_in, front_in, batch_in, fronts_of, IsOf, Agree, IsCut, IsOfAll, low_part, high_part, Adjoins, IsJoint, EachAdjoins, EachJoint}
+use Rattle.thp_worker.specs.Prelude.{HoldsAllCallers, IsSplit, CanJoin, IsJoined, Held, keeping_node, KeepsNode, cell_in, shape_in, front_in, batch_in, fronts_of, IsOf, Agree, IsCut, IsOfAll, low_part, high_part, Adjoins, IsJoint, EachAdjoins, EachJoint}
+use Rattle.thp_model.specs.Prelude.{History, events_of, IsLegal}
+use Rattle.thp_cell.specs.Prelude.{PassState}
 use Rattle.thp_worker.proofs.PartLaws.{lower_open, upper_open}
 
 -- ---- the loops

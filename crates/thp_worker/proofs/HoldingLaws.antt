@@ -1,7 +1,5 @@
 -- Calls of a cell, as steps of the holder of a pass and its open batches.
-use Rattle.std.proofs.Common.{◌≡◌, ◌∙◌, ◌⊎◌, ◌≢◌, ◌++◌, ◌+◌, ◌-◌, ◌<◌, ◌≤◌, ◌==◌, ap, ℕ, Bool, true, false, cond, List, [], ◌∷◌, length, refl, sym, subst, inl, inr, arith, zero, suc, Option, Some, None, Ok, Err, set, unwrap_or}
-use Rattle.std.specs.Prelude.{slice_get, Result, IfOk, IfErr, OnOk, nat_le}
-use Rattle.std.proofs.lemmas.List.{append-nil}
+use Rattle.std.proofs.Common.{◌≡◌, ◌∙◌, ◌⊎◌, ◌≢◌, ◌++◌, ◌+◌, ◌-◌, ◌<◌, ◌≤◌, ◌==◌, ap, ℕ, Bool, true, false, cond, List, [], ◌∷◌, length, refl, sym, subst, inl, inr, arith, zero, suc, Option, Some, None, Ok, Err, set, unwrap_or, slice_get, Result, IfOk, IfErr, OnOk, nat_le, append-nil}
 use Rattle.std.proofs.lemmas.Option.{slice_get_within}
 use Rattle.std.proofs.lemmas.Bool.{eqb-true, eqb-false}
 use Rattle.std.proofs.lemmas.Bool.Decides.{nat_tests}
@@ -13,32 +11,20 @@ use Rattle.thp_model.specs.declared.events.What.{What}
 use Rattle.thp_model.specs.declared.refusal.Refusal.{Refusal}
 use Rattle.thp_model.specs.declared.refusal.Refusal.TheVariants.{NoPage, BadRange, IsSplit, NotMapped, Gone, NotPinned, TooMany, Closed, NoBlock, HasBatch, OutOfMemory}
 use Rattle.thp_model.specs.declared.shape.Shape.{Shape}
-use Rattle.thp_model.specs.History.{History, by}
-use Rattle.thp_model.specs.Places.{queue}
-use Rattle.thp_model.specs.Runs.{take_events, split_next_events, put_back_events}
-use Rattle.thp_model.specs.Refusals.{Call, refusal}
+use Rattle.thp_model.specs.Prelude.{History, by, queue, take_events, split_next_events, put_back_events, Call, refusal, page_call}
 use Rattle.thp_model.specs.Refusals as call
-use Rattle.thp_model.specs.PageCalls.{page_call}
 use Rattle.thp_model.specs.declared.page_call.Done.{Done}
 use Rattle.thp_node.specs.declared.answers.Tried.{Tried}
 use Rattle.thp_node.specs.declared.answers.BackReply.{BackReply}
-use Rattle.thp_node.specs.Batches.{BatchState, IsInFront, rest}
-use Rattle.thp_cell.specs.Rule.{IsOther}
+use Rattle.thp_node.specs.Prelude.{BatchState, IsInFront, rest}
+use Rattle.thp_cell.specs.Prelude.{IsOther, at_front, BatchesStay, OtherBatchesStay, Called, Failed, Follows, DidOne, DidAlloc, DidLose, DidTake, DidTry, DidPutBack, PassState, HasCaller}
 use Rattle.thp_cell.specs.declared.fault.CellFault.{CellFault}
 use Rattle.thp_cell.specs.declared.fault.CellFault.TheVariants.{Busy, Refused}
-use Rattle.thp_cell.specs.Calls.{at_front, BatchesStay, OtherBatchesStay, Called, Failed, Follows}
-use Rattle.thp_cell.specs.Says.{DidOne, DidAlloc, DidLose, DidTake, DidTry, DidPutBack}
-use Rattle.thp_cell.specs.Views.{PassState, HasCaller}
 use Rattle.thp_script.specs.declared.script.Op.{Op}
-use Rattle.thp_worker.specs.declared.steps.NodeCall.{NodeCall}
+use Rattle.thp_worker.specs.Prelude.{NodeCall, Step, Take, SplitNext, PutBack, Reply, call_events, node_call_of, Open, Reaction, Does, DoesCall, step_events, open_of, step_refusal, refusal_of_call, IsHeld, Acts, HeldAnswered, HeldDone, batch_of, open_in, unit_reply, loss_reply, page_reply}
 use Rattle.thp_worker.specs.declared.steps.NodeCall.TheVariants as node
-use Rattle.thp_worker.specs.declared.steps.Step.{Step}
 use Rattle.thp_worker.specs.declared.steps.Step.TheVariants as steps
-use Rattle.thp_worker.specs.declared.steps.Step.TheVariants.{Take, SplitNext, PutBack}
-use Rattle.thp_worker.specs.declared.reply.Reply.{Reply}
 use Rattle.thp_worker.specs.declared.reply.Reply.TheVariants as reply
-use Rattle.thp_worker.specs.Does.{call_events, node_call_of, Open, Reaction, Does, DoesCall, step_events, open_of, step_refusal, refusal_of_call}
-use Rattle.thp_worker.specs.Holdings.{IsHeld, Acts, HeldAnswered, HeldDone, batch_of, open_in, unit_reply, loss_reply, page_reply}
 
 -- a call is never refused at a history for want of memory
 memory_last : (b : Bool) (why : Refusal) (rest : Option Refusal) → (why ≡ OutOfMemory → ⊥) → (rest ≡ Some OutOfMemory → ⊥) → cond b (Some why) rest ≡ Some OutOfMemory → ⊥

@@ -1,12 +1,8 @@
 -- Answers kept short: a further long reply changes none of those before it.
-use Rattle.std.proofs.Common.{◌≡◌, List, [], ◌∷◌, ◌++◌, length, refl}
-use Rattle.std.specs.Prelude.{All}
+use Rattle.std.proofs.Common.{◌≡◌, List, [], ◌∷◌, ◌++◌, length, refl, All}
 use Rattle.std.proofs.lemmas.List.Elements.{All-head, All-tail}
-use Rattle.thp_worker.specs.declared.kept_answers.ShortAnswer.{ShortAnswer}
-use Rattle.thp_worker.specs.declared.kept_answers.ShortReply.{ShortReply}
-use Rattle.thp_worker.specs.declared.reply.Reply.{Reply}
+use Rattle.thp_worker.specs.Prelude.{ShortAnswer, ShortReply, Reply, answer_in, answers_in, is_there, reaction_in}
 use Rattle.std.proofs.lemmas.List.{map-append}
-use Rattle.thp_worker.specs.Kept.{answer_in, answers_in, is_there, reaction_in}
 
 -- what stood among the old long replies stands among the new ones, and says the same
 abbrev pub StandOn : List Reply → List Reply → Type 0

@@ -1,30 +1,20 @@
 -- On which nodes a command leaves a batch open.
-use Rattle.std.proofs.Common.{◌≡◌, ◌∙◌, ◌++◌, ◌<◌, ◌==◌, ap, ℕ, zero, suc, Bool, true, false, List, [], ◌∷◌, length, refl, sym, subst, inl, inr, Option, Some, None, Ok, Err, map, set, get_or, take}
-use Rattle.std.specs.Prelude.{All, Result, replicate}
+use Rattle.std.proofs.Common.{◌≡◌, ◌∙◌, ◌++◌, ◌<◌, ◌==◌, ap, ℕ, zero, suc, Bool, true, false, List, [], ◌∷◌, length, refl, sym, subst, inl, inr, Option, Some, None, Ok, Err, map, set, get_or, take, All, Result, replicate}
 use Rattle.std.proofs.lemmas.Bool.{eqb-true, eqb-false, eq-eqb}
 use Rattle.std.proofs.lemmas.List.{length-set, length-replicate, get_or-set_same, get_or-set_other}
 use Rattle.std.proofs.lemmas.List.Elements.{All-head, All-tail}
 use Rattle.thp_model.specs.declared.events.Event.{Event}
 use Rattle.thp_model.specs.declared.refusal.Refusal.{Refusal}
 use Rattle.thp_model.specs.declared.shape.Shape.{Shape}
-use Rattle.thp_model.specs.History.{History}
-use Rattle.thp_model.specs.Places.{queue}
-use Rattle.thp_model.specs.Refusals.{refusal}
+use Rattle.thp_model.specs.Prelude.{History, queue, refusal, take_events}
 use Rattle.thp_model.specs.Refusals as call
-use Rattle.thp_model.specs.Runs.{take_events}
 use Rattle.thp_node.specs.declared.answers.BackReply.{BackReply}
 use Rattle.thp_node.specs.declared.answers.Tried.TheVariants as tried
 use Rattle.thp_script.specs.declared.script.Command.{Command}
 use Rattle.thp_script.specs.declared.script.Op.{Op}
 use Rattle.thp_script.specs.declared.script.Op.TheVariants as op
-use Rattle.thp_worker.specs.declared.reply.Reply.{Reply}
+use Rattle.thp_worker.specs.Prelude.{Reply, Step, One, Take, SplitNext, PutBack, node_call_of, Open, Reaction, Does, DoesCall, Unless, answer_of, refusal_of_call, StepAnswer, TurnsOut, first_step, answered_put_back, is_scan, took, answered_try, is_open, leaves_open, marked, OpenOn, Made, IsMade, Carries, batches_after, told_by, with_batch}
 use Rattle.thp_worker.specs.declared.reply.Reply.TheVariants as reply
-use Rattle.thp_worker.specs.declared.steps.Step.{Step}
-use Rattle.thp_worker.specs.declared.steps.Step.TheVariants.{One, Take, SplitNext, PutBack}
-use Rattle.thp_worker.specs.Does.{node_call_of, Open, Reaction, Does, DoesCall, Unless, answer_of, refusal_of_call}
-use Rattle.thp_worker.specs.Turns.{StepAnswer, TurnsOut, first_step, answered_put_back, is_scan, took, answered_try}
-use Rattle.thp_worker.specs.OpenBatches.{is_open, leaves_open, marked, OpenOn}
-use Rattle.thp_worker.specs.Sections.{Made, IsMade, Carries, batches_after, told_by, with_batch}
 use Rattle.thp_worker.proofs.StepLaws.{after_put_back, batches_elsewhere}
 
 -- whether there is an open batch behind a step

@@ -1,21 +1,14 @@
 -- A step on one node, as a step of the holder of all nodes' passes.
-use Rattle.std.proofs.Common.{◌≡◌, ◌∙◌, ◌≢◌, ◌++◌, ◌<◌, ◌==◌, ap, ℕ, Bool, true, false, List, [], ◌∷◌, length, refl, sym, subst, Option, Some, Ok, Err, set, map, zero, suc}
-use Rattle.std.specs.Prelude.{slice_get, Result}
+use Rattle.std.proofs.Common.{◌≡◌, ◌∙◌, ◌≢◌, ◌++◌, ◌<◌, ◌==◌, ap, ℕ, Bool, true, false, List, [], ◌∷◌, length, refl, sym, subst, Option, Some, Ok, Err, set, map, zero, suc, slice_get, Result}
 use Rattle.std.proofs.lemmas.Bool.{eqb-true, eqb-false}
 use Rattle.std.proofs.lemmas.Option.{slice_get_within}
 use Rattle.thp_model.specs.declared.events.Event.{Event}
 use Rattle.thp_model.specs.declared.refusal.Refusal.TheVariants.{OutOfMemory}
 use Rattle.thp_cell.specs.declared.fault.CellFault.{CellFault}
 use Rattle.thp_cell.specs.declared.fault.CellFault.TheVariants.{Busy, Refused}
-use Rattle.thp_cell.specs.Calls.{at_front}
-use Rattle.thp_cell.specs.Views.{PassState}
+use Rattle.thp_cell.specs.Prelude.{at_front, PassState}
 use Rattle.thp_cell.specs.Views as cell
-use Rattle.thp_worker.specs.declared.steps.Step.{Step}
-use Rattle.thp_worker.specs.declared.reply.Reply.{Reply}
-use Rattle.thp_worker.specs.Does.{Open, Reaction}
-use Rattle.thp_worker.specs.Fronts.{Fronts, Moves, Answered, OutOf, IsStepBusy, StepDone, Goes}
-use Rattle.thp_worker.specs.Holdings.{Held, Acts, HeldAnswered, HeldOutOf, HeldDone, batch_of}
-use Rattle.thp_worker.specs.Passes.{cell_in, shape_in, front_in, batch_in, fronts_of, IsOf, Agree}
+use Rattle.thp_worker.specs.Prelude.{Step, Reply, Open, Reaction, Fronts, Moves, Answered, OutOf, IsStepBusy, StepDone, Goes, Held, Acts, HeldAnswered, HeldOutOf, HeldDone, batch_of, cell_in, shape_in, front_in, batch_in, fronts_of, IsOf, Agree}
 use Rattle.thp_worker.proofs.HoldingLaws.{slice_get-set_same, slice_get-set_other, set_same, length-set_same}
 use Rattle.thp_worker.proofs.StepLaws.{goes_refl, moves_goes}
 

@@ -1,6 +1,5 @@
 -- Commands, one after another, and the put-backs at a section's end.
-use Rattle.std.proofs.Common.{◌≡◌, ◌∙◌, ◌⊎◌, ◌++◌, set, ◌+◌, ◌-◌, ◌<◌, ◌≤◌, ap, ℕ, zero, suc, Bool, true, false, List, [], ◌∷◌, length, take, map, refl, sym, subst, inl, inr, arith, append_assoc, length-append, Option, Some, None, Ok, Err}
-use Rattle.std.specs.Prelude.{All, Vec, replicate, slice_get, Result}
+use Rattle.std.proofs.Common.{◌≡◌, ◌∙◌, ◌⊎◌, ◌++◌, set, ◌+◌, ◌-◌, ◌<◌, ◌≤◌, ap, ℕ, zero, suc, Bool, true, false, List, [], ◌∷◌, length, take, map, refl, sym, subst, inl, inr, arith, append_assoc, length-append, Option, Some, None, Ok, Err, All, Vec, replicate, slice_get, Result}
 use Rattle.std.specs.declared.alloc.Global.{Global}
 use Rattle.std.proofs.lemmas.List.{append-nil, map-append, length-map, take-append-le, take_all}
 use Rattle.std.proofs.lemmas.Bool.{cases_lt}
@@ -15,16 +14,7 @@ use Rattle.thp_model.specs.declared.refusal.Refusal.TheVariants as why
 use Rattle.thp_script.specs.declared.script.Command.{Command}
 use Rattle.thp_script.specs.declared.script.Op.{Op}
 use Rattle.thp_script.specs.declared.script.Op.TheVariants as op
-use Rattle.thp_worker.specs.declared.reply.Answer.{Answer}
-use Rattle.thp_worker.specs.declared.reply.Reply.{Reply}
-use Rattle.thp_worker.specs.declared.reply.Rest.{Rest}
-use Rattle.thp_worker.specs.declared.scanning.CommandProgress.{CommandProgress}
-use Rattle.thp_worker.specs.Logs.{LogState}
-use Rattle.thp_worker.specs.Does.{Open, Reaction}
-use Rattle.thp_worker.specs.Fronts.{Fronts, Goes}
-use Rattle.thp_worker.specs.Turns.{CommandState, On, Ended, Comes, StepAnswer, IsProgressAfter, TurnsOut, no_progress}
-use Rattle.thp_worker.specs.OpenBatches.{HasNoBatch, is_open, marked}
-use Rattle.thp_worker.specs.Sections.{Made, IsMade, Steps, Proceeds, told_by, Turn, IsTurn, command_of, steps_of, batches_after, put_back_on, closing_from, closing, answers_from, IsProgressOn, IsNext, Begins, Ends, PutsBack, Works, progress_of}
+use Rattle.thp_worker.specs.Prelude.{Answer, Reply, Rest, CommandProgress, LogState, Open, Reaction, Fronts, Goes, CommandState, On, Ended, Comes, StepAnswer, IsProgressAfter, TurnsOut, no_progress, HasNoBatch, is_open, marked, Made, IsMade, Steps, Proceeds, told_by, Turn, IsTurn, command_of, steps_of, batches_after, put_back_on, closing_from, closing, answers_from, IsProgressOn, IsNext, Begins, Ends, PutsBack, Works, progress_of}
 use Rattle.thp_worker.proofs.OpenLaws.{carries_after, known_as, known_more, known_none, known_shut, opens_by}
 use Rattle.thp_worker.proofs.StepLaws.{steps_none, steps_then, goes_grows, grows_refl, grows_trans, batches_after-append, batches_elsewhere, closed_by}
 

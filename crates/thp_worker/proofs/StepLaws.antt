@@ -1,7 +1,5 @@
 -- Steps of a caller, one after another, in histories that go on.
-use Rattle.std.proofs.Common.{◌≡◌, ◌∙◌, Some, None, ◌++◌, ◌+◌, ◌<◌, ◌≤◌, ◌==◌, ap, ℕ, Bool, true, false, cond, List, [], ◌∷◌, length, take, drop, get_or, Option, refl, sym, subst, ◌⊎◌, inl, inr, arith, ◌-◌, append_assoc, length-append}
-use Rattle.std.specs.Prelude.{All, AllPairs, nat_eq}
-use Rattle.std.specs.List.{filter}
+use Rattle.std.proofs.Common.{◌≡◌, ◌∙◌, Some, None, ◌++◌, ◌+◌, ◌<◌, ◌≤◌, ◌==◌, ap, ℕ, Bool, true, false, cond, List, [], ◌∷◌, length, take, drop, get_or, Option, refl, sym, subst, ◌⊎◌, inl, inr, arith, ◌-◌, append_assoc, length-append, All, AllPairs, nat_eq, filter}
 use Rattle.std.proofs.Math.Seq.{take-append_seam, drop-append_seam, take-length}
 use Rattle.std.proofs.lemmas.Bool.{eqb-true, eqb-false, eq-eqb, ne_eqb, cases_lt}
 use Rattle.std.proofs.lemmas.Grind.{flat_map-append}
@@ -9,14 +7,8 @@ use Rattle.std.proofs.lemmas.List.{append-nil, take-append-le, drop-append-le, l
 use Rattle.std.proofs.lemmas.List.Elements.{filter-append, All-nil, All-cons, All-append, All-head, All-tail, All-weaker}
 use Rattle.thp_model.specs.declared.events.Event.{Event}
 use Rattle.thp_model.specs.declared.shape.Shape.{Shape}
-use Rattle.thp_model.specs.History.{History, events_of}
-use Rattle.thp_model.specs.Legal.{IsLegal}
-use Rattle.thp_worker.specs.declared.steps.Step.{Step}
-use Rattle.thp_worker.specs.declared.steps.Step.TheVariants.{PutBack}
-use Rattle.thp_worker.specs.Does.{Open, Reaction, Does}
-use Rattle.thp_worker.specs.Turns.{StepAnswer}
-use Rattle.thp_worker.specs.Fronts.{Fronts, HoldsCaller, IsOther, SameHolding, Moves, Answered, Goes, Grows}
-use Rattle.thp_worker.specs.Sections.{Made, IsMade, ComesBefore, own_events, with_batch, batches_after, Carries, Steps, told_by}
+use Rattle.thp_model.specs.Prelude.{History, events_of, IsLegal}
+use Rattle.thp_worker.specs.Prelude.{Step, PutBack, Open, Reaction, Does, StepAnswer, Fronts, HoldsCaller, IsOther, SameHolding, Moves, Answered, Goes, Grows, Made, IsMade, ComesBefore, own_events, with_batch, batches_after, Carries, Steps, told_by}
 
 -- ---- events by callers
 

@@ -1,35 +1,21 @@
 -- How a scan goes on from step to step.
-use Rattle.std.proofs.Common.{◌≡◌, ℕ, ◌+◌, ◌<◌, ◌≤◌, Bool, true, false, cond, List, [], ◌∷◌, ◌++◌, length, map, take, ◌==◌, refl, sym, ap, inl, inr, arith, Option, Some, None, Ok, Err, length-append}
-use Rattle.std.specs.Prelude.{All, filter, nat_eq}
-use Rattle.std.proofs.lemmas.Bool.{eq-eqb, ne_eqb}
+use Rattle.std.proofs.Common.{◌≡◌, ℕ, ◌+◌, ◌<◌, ◌≤◌, Bool, true, false, cond, List, [], ◌∷◌, ◌++◌, length, map, take, ◌==◌, refl, sym, ap, inl, inr, arith, Option, Some, None, Ok, Err, length-append, All, filter, nat_eq, eq-eqb, ne_eqb, length-drop, length-take, eqb-true}
 use Rattle.std.proofs.lemmas.List.{append-nil, map-append, length-map}
 use Rattle.std.proofs.lemmas.List.Elements.{All-nil, All-head, All-tail, All-push, filter-append}
 use Rattle.std.specs.List.{find, after_first, position_or_len}
-use Rattle.std.proofs.lemmas.List.{length-drop, length-take}
-use Rattle.std.proofs.lemmas.Bool.{eqb-true}
-use Rattle.thp_model.specs.Limits.{max_batch}
+use Rattle.thp_model.specs.Prelude.{max_batch, pins, History, queue, refusal, is_worth_split, take_events, next_page, rest_after}
 use Rattle.thp_model.specs.declared.events.Event.{Event}
 use Rattle.thp_model.specs.declared.refusal.Refusal.{Refusal}
 use Rattle.thp_model.specs.declared.shape.Shape.{Shape}
-use Rattle.thp_model.specs.Counts.{pins}
-use Rattle.thp_model.specs.History.{History}
-use Rattle.thp_model.specs.Places.{queue}
-use Rattle.thp_model.specs.Refusals.{refusal}
 use Rattle.thp_model.specs.Refusals as call
-use Rattle.thp_model.specs.Underused.{is_worth_split}
-use Rattle.thp_model.specs.Runs.{take_events, next_page, rest_after}
-use Rattle.thp_node.specs.Batches.{tried}
+use Rattle.thp_node.specs.Prelude.{tried}
 use Rattle.thp_node.specs.declared.answers.Tried.{Tried}
 use Rattle.thp_node.specs.declared.answers.Tried.TheVariants as try
 use Rattle.thp_node.specs.declared.answers.ScanReply.{ScanReply}
 use Rattle.thp_script.specs.declared.script.Op.{Op}
 use Rattle.thp_script.specs.declared.script.Op.TheVariants as op
-use Rattle.thp_worker.specs.declared.steps.Step.{Step}
-use Rattle.thp_worker.specs.declared.steps.Step.TheVariants.{Take, SplitNext, PutBack}
+use Rattle.thp_worker.specs.Prelude.{Step, Take, SplitNext, PutBack, CommandProgress, Open, Reaction, Does, Unless, IsFit, CommandState, On, Ended, StepAnswer, Turned, IsProgressAfter, StepReacts, Reacts, first_step, next_step, scan_step, goes_on, scan_goes_on, no_progress, counted, took, answered_try, if_done, IsPage, is_split, is_pinned, is_used, tries_of, IsReady, StaysReady}
 use Rattle.thp_worker.specs.declared.reply.Reply.TheVariants as reply
-use Rattle.thp_worker.specs.declared.scanning.CommandProgress.{CommandProgress}
-use Rattle.thp_worker.specs.Does.{Open, Reaction, Does, Unless, IsFit}
-use Rattle.thp_worker.specs.Turns.{CommandState, On, Ended, StepAnswer, Turned, IsProgressAfter, StepReacts, Reacts, first_step, next_step, scan_step, goes_on, scan_goes_on, no_progress, counted, took, answered_try, if_done, IsPage, is_split, is_pinned, is_used, tries_of, IsReady, StaysReady}
 
 abbrev steps_in : CommandState → ℕ
 steps_in (On begun) = begun.steps

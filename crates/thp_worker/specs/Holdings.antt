@@ -3,14 +3,12 @@ use Rattle.std.specs.Prelude.{◌≡◌, ◌≢◌, ◌<◌, ℕ, ◌+◌, ◌-�
 use Rattle.atomic_table.specs.Seated.{TableId}
 use Rattle.thp_model.specs.declared.events.Event.{Event}
 use Rattle.thp_model.specs.declared.refusal.Refusal.TheVariants.{OutOfMemory}
-use Rattle.thp_model.specs.Legal.{IsLegal}
+use Rattle.thp_model.specs.Prelude.{IsLegal}
 use Rattle.thp_model.specs.declared.page_call.Done.{Done}
-use Rattle.thp_node.specs.Batches.{BatchState, IsInFront}
+use Rattle.thp_node.specs.Prelude.{BatchState, IsInFront}
 use Rattle.thp_cell.specs.declared.fault.CellFault.{CellFault}
 use Rattle.thp_cell.specs.declared.fault.CellFault.TheVariants.{Busy, Refused}
-use Rattle.thp_cell.specs.Calls.{at_front, below, from, keeping}
-use Rattle.thp_cell.specs.Rule.{IsOther}
-use Rattle.thp_cell.specs.Views.{PassState, HasAll, HasCaller}
+use Rattle.thp_cell.specs.Prelude.{at_front, below, from, keeping, IsOther, PassState, HasAll, HasCaller}
 use Rattle.thp_worker.specs.declared.steps.Step.{Step}
 use Rattle.thp_worker.specs.declared.reply.Reply.{Reply}
 use Rattle.thp_worker.specs.declared.reply.Reply.TheVariants as reply

@@ -2,10 +2,8 @@
 use Rattle.std.specs.Prelude.{◌≡◌, ℕ, ◌<◌, ◌^◌, ⊤, List, [], ◌∷◌, Option, Some, None, length, slice_get, map}
 use Rattle.atomic_table.specs.Seated.{TableId}
 use Rattle.thp_model.specs.declared.shape.Shape.{Shape}
-use Rattle.thp_model.specs.History.{History}
-use Rattle.thp_model.specs.Legal.{IsLegal}
-use Rattle.thp_cell.specs.Calls.{IsJoined, PartsStay}
-use Rattle.thp_cell.specs.Views.{HasAll}
+use Rattle.thp_model.specs.Prelude.{History, IsLegal}
+use Rattle.thp_cell.specs.Prelude.{IsJoined, PartsStay, HasAll}
 use Rattle.thp_worker.specs.Does.{Open}
 use Rattle.thp_worker.specs.Fronts.{Fronts}
 use Rattle.thp_worker.specs.Holdings.{Held, batch_of, lower_part, upper_part, OpenStay}

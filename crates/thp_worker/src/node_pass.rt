@@ -1,9 +1,8 @@
 //! A pass of one node, with the open batches of its callers there.
 ghost use Rattle.std.specs.Prelude.{◌≡◌, ◌<◌, ◌≤◌, ℕ, length, slice_get, slice_set, IfOk, MatchBool, MatchOption, None, Ok, Some};
-ghost use Rattle.thp_model.specs.Legal.{IsLegal};
-ghost use Rattle.thp_node.specs.Batches.{no_batch};
-ghost use Rattle.thp_cell.specs.Calls.{IsJoined, PartsStay};
-ghost use Rattle.thp_cell.specs.Views.{HasAll, HasCaller};
+ghost use Rattle.thp_model.specs.Prelude.{IsLegal};
+ghost use Rattle.thp_node.specs.Prelude.{no_batch};
+ghost use Rattle.thp_cell.specs.Prelude.{IsJoined, PartsStay, HasAll, HasCaller};
 ghost use Rattle.thp_script.specs.declared.script.Op.{Op};
 ghost use Rattle.thp_worker.specs.Does.{answer_of, node_call_of, IsStep};
 ghost use Rattle.thp_worker.specs.Holdings.{batch_of, lower_part, loss_reply, page_reply, unit_reply, upper_part, HeldDone, IsShut, IsSomeBatch, OpenStay, keeping_node};

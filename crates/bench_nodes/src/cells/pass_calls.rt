@@ -1,8 +1,7 @@
 //! Times of the calls of a shared node by one thread: the rounds that bench/calls makes from C.
 ghost use Rattle.std.specs.Prelude.{◌≡◌};
-ghost use Rattle.thp_cell.specs.Calls.{at_front};
-ghost use Rattle.thp_cell.specs.Views.{HasCaller};
-ghost use Rattle.thp_node.specs.Batches.{IsInFront};
+ghost use Rattle.thp_cell.specs.Prelude.{at_front, HasCaller};
+ghost use Rattle.thp_node.specs.Prelude.{IsInFront};
 
 use crate::nodes::new_cell;
 use crate::stopwatch::tell_nanos;

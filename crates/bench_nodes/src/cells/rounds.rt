@@ -1,7 +1,6 @@
 //! Rounds of one thread: pins and unpins of its own page.
 ghost use Rattle.std.specs.Prelude.{◌≡◌};
-ghost use Rattle.thp_cell.specs.Views.{HasCaller};
-ghost use Rattle.thp_cell.specs.Calls.{at_front};
+ghost use Rattle.thp_cell.specs.Prelude.{HasCaller, at_front};
 
 use crate::nodes::{new_cell, new_node};
 use std::alloc::Global;

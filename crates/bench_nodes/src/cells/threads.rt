@@ -1,8 +1,7 @@
 //! Two and four threads, on one cell and on a cell each.
 ghost use Rattle.std.specs.Prelude.{◌≡◌, ◌+◌, ◌<◌};
 ghost use Rattle.std.specs.Thread.{IsSync};
-ghost use Rattle.thp_cell.specs.Views.{HasCaller, HasAll};
-ghost use Rattle.thp_cell.specs.Calls.{at_front};
+ghost use Rattle.thp_cell.specs.Prelude.{HasCaller, HasAll, at_front};
 
 use crate::cells::rounds::{Tally, cell_rounds, own_rounds};
 use std::alloc::Global;

@@ -1,6 +1,6 @@
 //! Times of a queue that is linked through a table of pages.
 ghost use Rattle.std.specs.Prelude.{◌≡◌, ℕ, ◌<◌, length, Contains, IfOk};
-ghost use Rattle.thp_links.specs.Standing.{Stands};
+ghost use Rattle.thp_links.specs.Prelude.{Stands};
 
 use crate::stopwatch::Stopwatch;
 use anyhow::Result;

@@ -1,5 +1,5 @@
 use Rattle.std.proofs.Common.{◌≡◌}
-use Rattle.thp_cell.specs.Calls.{at_front}
+use Rattle.thp_cell.specs.Prelude.{at_front}
 use Rattle.demo_shared_node.proofs.unmap_half.Given as goal
 
 abbrev pub invariant-loop : goal.invariant-loop

@@ -1,7 +1,6 @@
 //! Two concurrent threads on one cell.
 ghost use Rattle.std.specs.Prelude.{◌≡◌};
-ghost use Rattle.thp_cell.specs.Views.{HasCaller};
-ghost use Rattle.thp_cell.specs.Calls.{at_front};
+ghost use Rattle.thp_cell.specs.Prelude.{HasCaller, at_front};
 
 use crate::steps::{cell_of, is_allocation};
 use std::thread;

@@ -2,9 +2,8 @@
 //! the journal must pass the check of a history.
 ghost use Rattle.std.specs.Prelude.{◌≡◌, ◌<◌, ◌≤◌, ◌+◌, false, IfSome};
 ghost use Rattle.std.specs.Thread.{IsSync};
-ghost use Rattle.thp_node.specs.Batches.{IsInFront};
-ghost use Rattle.thp_cell.specs.Views.{HasCaller, HasAll};
-ghost use Rattle.thp_cell.specs.Calls.{at_front, BatchesStay};
+ghost use Rattle.thp_node.specs.Prelude.{IsInFront};
+ghost use Rattle.thp_cell.specs.Prelude.{HasCaller, HasAll, at_front, BatchesStay};
 
 use crate::steps::cell_of;
 use std::alloc::Global;

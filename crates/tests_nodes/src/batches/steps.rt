@@ -1,6 +1,6 @@
 //! Takes, tries, put backs and scans with the results that a row expects, and rows as tables of such steps.
 ghost use Rattle.std.specs.Prelude.{◌≡◌, ◌<◌, ◌≤◌, IfSome};
-ghost use Rattle.thp_node.specs.Batches.{IsInFront, FrontsStay, OtherFrontsStay};
+ghost use Rattle.thp_node.specs.Prelude.{IsInFront, FrontsStay, OtherFrontsStay};
 
 use crate::nodes::{has_frames, is_scanned};
 use std::process::Abort;

@@ -1,12 +1,8 @@
 //! Sections on one node of two callers, from its making on. Want of memory is returned, so that each allocation can be made to fail.
 ghost use Rattle.std.specs.Prelude.{◌≡◌, ◌<◌, ◌^◌, [], ◌∷◌, All, IfOk, length};
 ghost use Rattle.thp_run.specs.Listed.{WorksOn};
-ghost use Rattle.thp_worker.specs.Does.{IsStep};
-ghost use Rattle.thp_cell.specs.Views.{HasAll};
-ghost use Rattle.thp_worker.specs.Fronts.{Goes, SameHolding};
-ghost use Rattle.thp_worker.specs.OpenBatches.{HasNoBatch};
-ghost use Rattle.thp_worker.specs.Passes.{fronts_in};
-ghost use Rattle.thp_worker.specs.Sections.{IsCommandFor};
+ghost use Rattle.thp_worker.specs.Prelude.{IsStep, Goes, SameHolding, HasNoBatch, fronts_in, IsCommandFor};
+ghost use Rattle.thp_cell.specs.Prelude.{HasAll};
 ghost use Rattle.tests_runs.specs.Sharing.{OfTwo, WasWorked};
 
 use crate::busy_nodes::stutter::Stutter;

@@ -1,6 +1,6 @@
 //! Nodes that are busy at chosen calls.
 ghost use Rattle.std.specs.Prelude.{◌≡◌};
-ghost use Rattle.thp_worker.specs.Passes.{fronts_in};
+ghost use Rattle.thp_worker.specs.Prelude.{fronts_in};
 
 use thp_cell::CellFault;
 use thp_worker::{NodePasses, Reply, Step, Steps};
@@ -19,7 +19,7 @@ pub struct Stutter<'a> {
 }
 
 impl<'a> Steps for Stutter<'a> {
-    ghost use Rattle.thp_worker.specs.Passes.{fronts_in};
+    ghost use Rattle.thp_worker.specs.Prelude.{fronts_in};
     ghost use Rattle.tests_runs.specs.Sharing.{shared};
 
     ghost fronts = { λ s. shared (fronts_in s.inner) };

@@ -1,6 +1,6 @@
 //! Takes, tries and put backs of a batch, when the journal has this many events.
 ghost use Rattle.std.specs.Prelude.{◌<◌, ◌≤◌};
-ghost use Rattle.thp_node.specs.Batches.{IsInFront};
+ghost use Rattle.thp_node.specs.Prelude.{IsInFront};
 
 use crate::memory::nodes::{MOST, event_count, expect_unchanged, node_after, view_of};
 use std::alloc::Global;

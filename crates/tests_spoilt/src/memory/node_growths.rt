@@ -1,7 +1,7 @@
 //! Every allocation made to fail in turn: the tests pass with ample memory, and continue if a call reports lack of memory. Such a
 //! call changes nothing, and works at the second try.
 ghost use Rattle.std.specs.Prelude.{◌<◌};
-ghost use Rattle.thp_node.specs.Batches.{FrontsStay};
+ghost use Rattle.thp_node.specs.Prelude.{FrontsStay};
 
 use crate::memory::batches::{is_back, return_at_last, take_at_last, try_at_last};
 use crate::memory::nodes::{event_count, expect_unchanged, node_at_last, view_of};

@@ -1,7 +1,6 @@
 //! The readers of an engine's pages.
 ghost use Rattle.std.specs.Prelude.{◌≡◌, ◌<◌, true, false, IfErr, IfOk, OnOk};
-ghost use Rattle.thp_model.specs.Counts.{is_live, own};
-ghost use Rattle.thp_model.specs.Shapes.{subpages};
+ghost use Rattle.thp_model.specs.Prelude.{is_live, own, subpages};
 ghost use Rattle.thp_capi.specs.Reading.{WhyUncounted, page_state_of};
 
 use crate::codes::Fault;

@@ -1,6 +1,6 @@
 //! The calls about a caller's open batch.
 ghost use Rattle.std.specs.Prelude.{◌≡◌, ◌+◌, ◌<◌, IfSome, IfNone, length};
-ghost use Rattle.thp_cell.specs.Views.{HasCaller};
+ghost use Rattle.thp_cell.specs.Prelude.{HasCaller};
 ghost use Rattle.thp_capi.specs.PassBatches.{fault_in, PassTake, PassNext, PassBack, PassAbandon};
 
 use crate::codes::Fault;

@@ -1,15 +1,9 @@
 //! The state of a replay for display: its queue, its flights and its pages, and the sums of its events.
 ghost use Rattle.std.specs.Prelude.{◌≡◌, ℕ, length, map, slice_get, is_some, IfOk, IfSome, IsSome, Some, ◌&&◌, nat_lt};
 ghost use Rattle.std.specs.List.{filter, range_with_len};
-ghost use Rattle.thp_model.specs.Counters.{thp_split_page, thp_split_page_failed, thp_deferred_split_page, thp_split_pmd, thp_underused_split_page};
-ghost use Rattle.thp_model.specs.Counts.{is_live, is_split, is_used, own, pins, whole};
-ghost use Rattle.thp_model.specs.Frames.{block_in_use, frames_given, frames_held, is_held};
-ghost use Rattle.thp_model.specs.Places.{flight, queue};
-ghost use Rattle.thp_model.specs.Sets.{set_of};
-ghost use Rattle.thp_model.specs.Shapes.{subpages};
-ghost use Rattle.thp_model.specs.Underused.{is_partly_mapped, is_worth_split, is_zero_filled};
-ghost use Rattle.thp_page.specs.Slots.{slot_at};
-ghost use Rattle.thp_live_pages.specs.Homes.{block_of, standing_of};
+ghost use Rattle.thp_model.specs.Prelude.{thp_split_page, thp_split_page_failed, thp_deferred_split_page, thp_split_pmd, thp_underused_split_page, is_live, is_split, is_used, own, pins, whole, block_in_use, frames_given, frames_held, is_held, flight, queue, set_of, subpages, is_partly_mapped, is_worth_split, is_zero_filled};
+ghost use Rattle.thp_page.specs.Prelude.{slot_at};
+ghost use Rattle.thp_live_pages.specs.Prelude.{block_of, standing_of};
 ghost use Rattle.thp_check.specs.Showing.{is_taken, page_at};
 
 use crate::live_page::{LivePage, PageLocation};

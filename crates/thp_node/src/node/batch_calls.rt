@@ -1,16 +1,10 @@
 //! The shrinker's calls: a take, tries, a put back, and the scan that combines them.
 ghost use Rattle.std.specs.Prelude.{◌≡◌, ℕ, ◌+◌, ◌*◌, ◌<◌, ◌≤◌, Bool, true, false, ◌||◌, [], ◌∷◌, length, drop, take, slice_get, min, Option, None, Some, IsSome, IfOk, IfErr, IfSome, IfNone, OnOk, OnErr};
-ghost use Rattle.thp_model.specs.Limits.{max_batch, max_callers};
-ghost use Rattle.thp_model.specs.History.{by};
-ghost use Rattle.thp_model.specs.Counts.{is_closed};
-ghost use Rattle.thp_model.specs.Legal.{IsLegal};
-ghost use Rattle.thp_model.specs.Places.{queue, flight, no_pages, is_taking, has_page};
-ghost use Rattle.thp_model.specs.Refusals.{refusal};
+ghost use Rattle.thp_model.specs.Prelude.{max_batch, max_callers, by, is_closed, IsLegal, queue, flight, no_pages, is_taking, has_page, refusal, take_events, split_next_events, put_back_events, scan_events, next_page, rest_after, still_flying, try_event, return_event};
 ghost use Rattle.thp_model.specs.Refusals as call;
-ghost use Rattle.thp_model.specs.Runs.{take_events, split_next_events, put_back_events, scan_events, next_page, rest_after, still_flying, try_event, return_event};
 ghost use Rattle.thp_node.specs.Batches.{rest, tried, IsInFront, FrontsStay, OtherFrontsStay, OlderAreInFront};
 ghost use Rattle.thp_node.specs.Calls.{Did, Refused};
-ghost use Rattle.thp_live_pages.specs.Homes.{block_of};
+ghost use Rattle.thp_live_pages.specs.Prelude.{block_of};
 
 use crate::answers::{BackReply, ScanReply, Tried};
 use crate::batch::Batch;
@@ -20,11 +14,9 @@ use crate::recorder::Recorder;
 use thp_model::{PageId, Refusal, What};
 
 impl<R: Recorder> Node<R> {
-    ghost use Rattle.thp_model.specs.Pages.{is_split_candidate};
-    ghost use Rattle.thp_model.specs.Underused.{is_worth_split};
-    ghost use Rattle.thp_page.specs.Slots.{slot_at};
-    ghost use Rattle.thp_live_pages.specs.Flying.{IsFlyingAt, IsUnpinnedAt};
-    ghost use Rattle.thp_live_pages.specs.PageStoreState.{AtSlot};
+    ghost use Rattle.thp_model.specs.Prelude.{is_split_candidate, is_worth_split};
+    ghost use Rattle.thp_page.specs.Prelude.{slot_at};
+    ghost use Rattle.thp_live_pages.specs.Prelude.{IsFlyingAt, IsUnpinnedAt, AtSlot};
 
     /// Takes up to `n` of the oldest queued pages (at most 128), in order, into a batch of the caller. Fails with `HasBatch` if
     /// the caller has pages in flight, and with `OutOfMemory`.

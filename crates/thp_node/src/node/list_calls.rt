@@ -1,9 +1,6 @@
 //! The calls about the node: an allocation, and the close.
 ghost use Rattle.std.specs.Prelude.{◌≡◌, ℕ, ◌<◌, [], ◌∷◌, None, IfOk, IfErr, OnOk};
-ghost use Rattle.thp_model.specs.Limits.{max_callers};
-ghost use Rattle.thp_model.specs.Counts.{allocations};
-ghost use Rattle.thp_model.specs.History.{by};
-ghost use Rattle.thp_model.specs.Refusals.{refusal};
+ghost use Rattle.thp_model.specs.Prelude.{max_callers, allocations, by, refusal};
 ghost use Rattle.thp_model.specs.Refusals as call;
 ghost use Rattle.thp_node.specs.Batches.{FrontsStay};
 ghost use Rattle.thp_node.specs.Calls.{Did, DidAlloc, Refused};

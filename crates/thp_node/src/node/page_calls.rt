@@ -1,15 +1,11 @@
 //! The calls about one page: its mappings, its pins, and writes to it.
 ghost use Rattle.std.specs.Prelude.{◌≡◌, ℕ, ◌<◌, ◌≤◌, [], ◌∷◌, None, Some, IfOk, IfErr, OnOk, min};
-ghost use Rattle.thp_model.specs.Limits.{max_callers, max_order};
-ghost use Rattle.thp_model.specs.History.{by};
-ghost use Rattle.thp_model.specs.Frames.{outcome, released};
-ghost use Rattle.thp_model.specs.Refusals.{refusal};
+ghost use Rattle.thp_model.specs.Prelude.{max_callers, max_order, by, outcome, released, refusal, gain_call, loss_call, page_call, gain_what, loss_what};
 ghost use Rattle.thp_model.specs.Refusals as call;
 ghost use Rattle.thp_node.specs.Batches.{FrontsStay};
 ghost use Rattle.thp_node.specs.Calls.{Did, Refused};
-ghost use Rattle.thp_page.specs.Slots.{slot_at, HoldsPage};
-ghost use Rattle.thp_live_pages.specs.Homes.{block_of};
-ghost use Rattle.thp_model.specs.PageCalls.{gain_call, loss_call, page_call, gain_what, loss_what};
+ghost use Rattle.thp_page.specs.Prelude.{slot_at, HoldsPage};
+ghost use Rattle.thp_live_pages.specs.Prelude.{block_of};
 
 use crate::journal::EventContext;
 use crate::node::Node;

@@ -1,14 +1,10 @@
 //! The calls by which pages leave a batch together: a put back, and the scan, which is a take, tries and a put back.
 ghost use Rattle.std.specs.Prelude.{◌≡◌, not, ◌&&◌, ℕ, ◌*◌, ◌<◌, ◌≤◌, [], ◌∷◌, length, map, take, count_by, slice_get, None, Some, IfOk, IfErr, OnOk};
-ghost use Rattle.thp_model.specs.Limits.{max_batch, max_callers};
-ghost use Rattle.thp_model.specs.Legal.{IsLegal};
-ghost use Rattle.thp_model.specs.Places.{flight};
-ghost use Rattle.thp_model.specs.Refusals.{refusal};
+ghost use Rattle.thp_model.specs.Prelude.{max_batch, max_callers, IsLegal, flight, refusal, take_events, put_back_events, scan_events, still_flying, try_event, return_event, goes_back};
 ghost use Rattle.thp_model.specs.Refusals as call;
-ghost use Rattle.thp_model.specs.Runs.{take_events, put_back_events, scan_events, still_flying, try_event, return_event, goes_back};
 ghost use Rattle.thp_node.specs.Batches.{back_reply, scan_reply, IsInFront, FrontsStay};
 ghost use Rattle.thp_node.specs.Calls.{Did, Refused};
-ghost use Rattle.thp_live_pages.specs.Homes.{block_of};
+ghost use Rattle.thp_live_pages.specs.Prelude.{block_of};
 ghost use Rattle.thp_node.specs.Scanning.{used_count};
 
 use crate::answers::{BackReply, ScanReply, Tried};
@@ -20,7 +16,7 @@ use arrayvec::ArrayVec;
 use thp_model::{MAX_BATCH, PageId, Refusal, What};
 
 impl<R: Recorder> Node<R> {
-    ghost use Rattle.thp_live_pages.specs.Flying.{IsFlyingAt};
+    ghost use Rattle.thp_live_pages.specs.Prelude.{IsFlyingAt};
     ghost use Rattle.thp_node.specs.Returning.{BeginsIn, return_first, OneBack};
     ghost use Rattle.thp_node.specs.Scanning.{events_after, is_used};
 

@@ -1,9 +1,8 @@
 //! The calls of a page: as a value, by name, and each with its test, its change, and both in sequence.
 ghost use Rattle.std.specs.Prelude.{◌≡◌, ℕ, ◌≤◌, min, OnOk, OnErr, IfOk, None};
 ghost use Rattle.std.specs.Result.{result_err};
-ghost use Rattle.thp_model.specs.Limits.{max_subpages};
-ghost use Rattle.thp_model.specs.Pages.{size, page_refusal, WholeMapped, WholeUnmapped, RangeMapped, RangeUnmapped, PmdSplit, Pinned, RangeWritten, RangeZeroed};
-ghost use Rattle.thp_model.specs.PageCalls.{gain_call, Gains, loss_call, Loses, page_call};
+ghost use Rattle.thp_model.specs.Prelude.{max_subpages, size, page_refusal, WholeMapped, WholeUnmapped, RangeMapped, RangeUnmapped, PmdSplit, RangeWritten, RangeZeroed, gain_call, Gains, loss_call, Loses, page_call};
+ghost use Rattle.thp_model.specs.Pages.{Pinned};
 ghost use Rattle.thp_model.specs.Refusals as call;
 
 use super::{Change, Page};

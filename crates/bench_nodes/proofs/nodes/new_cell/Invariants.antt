@@ -1,5 +1,5 @@
 use Rattle.std.proofs.Common.{◌≡◌}
-use Rattle.thp_cell.specs.Calls.{at_front}
+use Rattle.thp_cell.specs.Prelude.{at_front}
 use Rattle.bench_nodes.proofs.nodes.new_cell.Given as goal
 
 abbrev pub invariant-loop-page : goal.invariant-loop-page

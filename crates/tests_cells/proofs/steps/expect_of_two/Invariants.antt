@@ -1,6 +1,5 @@
-use Rattle.std.proofs.Common.{◌≡◌}
-use Rattle.std.specs.Prelude.{IfSome}
-use Rattle.thp_node.specs.Batches.{BatchState, IsInFront}
+use Rattle.std.proofs.Common.{◌≡◌, IfSome}
+use Rattle.thp_node.specs.Prelude.{BatchState, IsInFront}
 use Rattle.tests_cells.specs.Passes.{Stays}
 use Rattle.tests_cells.proofs.steps.expect_of_two.Given as goal
 

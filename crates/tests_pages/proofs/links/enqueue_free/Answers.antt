@@ -1,6 +1,5 @@
 -- The index came out of the chain, so that it is in neither list when it is pushed.
-use Rattle.std.proofs.Common.{◌≡◌, Some, sym, ◌∙◌}
-use Rattle.std.specs.List.{slice_get}
+use Rattle.std.proofs.Common.{◌≡◌, Some, sym, ◌∙◌, slice_get}
 use Rattle.thp_links.proofs.OneTable.{one_table}
 use Rattle.tests_pages.proofs.links.enqueue_free.Goals as goal
 

@@ -1,5 +1,4 @@
-use Rattle.std.proofs.Common.{◌≡◌, ◌≤◌, ℕ, None, get_or, length}
-use Rattle.std.specs.Prelude.{vec_capacity}
+use Rattle.std.proofs.Common.{◌≡◌, ◌≤◌, ℕ, None, get_or, length, vec_capacity}
 use Rattle.thp_capi.proofs.open_batches.none_open.Given as goal
 
 abbrev pub invariant-loop : goal.invariant-loop

@@ -1,6 +1,5 @@
 -- Each word that is read is the set's.
-use Rattle.std.proofs.lemmas.List.{length-set}
-use Rattle.std.proofs.Common.{◌∙◌, refl, arith}
+use Rattle.std.proofs.Common.{length-set, ◌∙◌, refl, arith}
 use Rattle.thp_capi.proofs.Masks.{masks_none, masks_more}
 use Rattle.thp_capi.proofs.replies.mask.Goals as goal
 

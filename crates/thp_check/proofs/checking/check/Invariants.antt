@@ -1,5 +1,5 @@
 use Rattle.std.proofs.Common.{take}
-use Rattle.thp_check.specs.Meanings.{Means}
+use Rattle.thp_check.specs.Prelude.{Means}
 use Rattle.thp_check.proofs.checking.check.Given as goal
 
 -- the state means the events so far

@@ -1,8 +1,7 @@
 use Rattle.std.proofs.Common.{not, inl, sym, subst}
 use Rattle.thp_model.specs.declared.events.What.{What}
-use Rattle.thp_model.specs.History.{by}
-use Rattle.thp_model.specs.Legal.{Fits}
-use Rattle.thp_check.specs.Totals.{IsContext}
+use Rattle.thp_model.specs.Prelude.{by, Fits}
+use Rattle.thp_check.specs.Prelude.{IsContext}
 use Rattle.thp_check.proofs.Showing.{unsaid_there}
 use Rattle.thp_check.proofs.TakeSteps.{split_absent}
 use Rattle.thp_check.proofs.replay.context_of.Goals as goal

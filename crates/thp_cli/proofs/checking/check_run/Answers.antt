@@ -1,9 +1,9 @@
 use Rattle.std.proofs.Common.{◌≡◌, ◌∙◌, ap, refl, sym, Err, Ok}
 use Rattle.std.proofs.lemmas.Result.{err_from_is_err_and}
-use Rattle.thp_script.specs.Limits.{max_input}
-use Rattle.thp_journal_reader.specs.Journals.{journals_of}
+use Rattle.thp_script.specs.Prelude.{max_input}
+use Rattle.thp_journal_reader.specs.Prelude.{journals_of}
 use Rattle.thp_journal_reader.proofs.AnswerLaws.{free_choice}
-use Rattle.thp_cli.specs.Verdicts.{verdict_text}
+use Rattle.thp_cli.specs.Prelude.{verdict_text}
 use Rattle.thp_cli.proofs.PassageLaws.{check_ends_cut, check_ends_early, check_ends_written, cut_from, legal_is, none_at_fault}
 use Rattle.thp_cli.proofs.checking.check_run.Goals as goal
 

@@ -1,5 +1,4 @@
-use Rattle.std.proofs.Common.{◌∙◌, ◌++◌, [], arith, refl, rules, take}
-use Rattle.std.proofs.lemmas.List.{length-append, length-take-le}
+use Rattle.std.proofs.Common.{◌∙◌, ◌++◌, [], arith, refl, rules, take, length-append, length-take-le}
 use Rattle.thp_cli.proofs.CallLaws.{reading_more, reading_none, reads_by}
 use Rattle.thp_cli.proofs.DeviceLaws.{read_all, read_beyond, read_more, read_nothing}
 use Rattle.thp_cli.proofs.device.read_parts.Goals as goal

@@ -1,5 +1,4 @@
-use Rattle.std.proofs.Common.{length, refl, rules}
-use Rattle.std.proofs.lemmas.List.{length-drop}
+use Rattle.std.proofs.Common.{length, refl, rules, length-drop}
 use Rattle.thp_cli.proofs.CallLaws.{writing_more, writes_all, writes_failed}
 use Rattle.thp_cli.proofs.DeviceLaws.{write_more}
 use Rattle.thp_cli.proofs.device.write_all.Goals as goal

@@ -1,5 +1,4 @@
-use Rattle.std.proofs.Common.{length, [], None, Option, Some}
-use Rattle.std.specs.Prelude.{IfNone}
+use Rattle.std.proofs.Common.{length, [], None, Option, Some, IfNone}
 use Rattle.thp_cli.proofs.CallLaws.{flushes_by, follow_none, part_failed, part_written}
 use Rattle.thp_cli.proofs.DeviceLaws.{flush_stops, written_all}
 use Rattle.thp_cli.proofs.device.write_text.Goals as goal

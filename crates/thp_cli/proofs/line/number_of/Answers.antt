@@ -1,8 +1,7 @@
-use Rattle.std.proofs.Common.{◌≡◌, ◌∙◌, ℕ, arith, sym, refl, ap, subst}
-use Rattle.std.specs.Prelude.{unwrap_or}
+use Rattle.std.proofs.Common.{◌≡◌, ◌∙◌, ℕ, arith, sym, refl, ap, subst, unwrap_or}
 use Rattle.std.specs.Str.Parse.{ExplainsUnsignedError, HasUnsignedDigitsIfOk, ParsesUnsigned}
 use Rattle.clap.specs.Words.{found_of, one_text}
-use Rattle.thp_cli.specs.Flags.{WritesNumber}
+use Rattle.thp_cli.specs.Prelude.{WritesNumber}
 use Rattle.thp_cli.proofs.LineLaws.{number_read}
 use Rattle.thp_cli.proofs.line.number_of.Goals as goal
 

@@ -1,11 +1,9 @@
-use Rattle.std.proofs.Common.{◌≡◌, ◌≢◌, ◌∙◌, ◌||◌, Bool, true, false, [], ◌∷◌, List, ℕ, Option, Some, None, ap, refl, sym}
-use Rattle.std.specs.Prelude.{IfNone, IfSome, IsSome, map, option_map, unwrap_or}
+use Rattle.std.proofs.Common.{◌≡◌, ◌≢◌, ◌∙◌, ◌||◌, Bool, true, false, [], ◌∷◌, List, ℕ, Option, Some, None, ap, refl, sym, IfNone, IfSome, IsSome, map, option_map, unwrap_or, bytes_eq}
 use Rattle.std.specs.List.{list_any}
-use Rattle.std.specs.Str.{bytes_eq}
 use Rattle.std.proofs.lemmas.Slice.Eq.{bytes_eq-Decides}
 use Rattle.clap.specs.Words.{found_of}
 use Rattle.clap.proofs.CallerLemmas.{some_of_text}
-use Rattle.thp_cli.specs.CommandLine.{report_name, report_names}
+use Rattle.thp_cli.specs.Prelude.{report_name, report_names}
 use Rattle.thp_script.specs.declared.settings.Report.{Report}
 use Rattle.thp_script.specs.declared.settings.Report.TheVariants.{Totals, Journal, Answers}
 use Rattle.thp_cli.proofs.LineLaws.{first_value-value, one_of_names}

@@ -1,7 +1,6 @@
 use Rattle.std.proofs.Common.{◌≡◌, ℕ, List, Option, subst}
-use Rattle.thp_journal_reader.specs.declared.journals.NodeJournal.{NodeJournal}
-use Rattle.thp_script.specs.Limits.{max_input}
-use Rattle.thp_journal_reader.specs.Answers.{ReportsIllegal}
+use Rattle.thp_journal_reader.specs.Prelude.{NodeJournal, ReportsIllegal}
+use Rattle.thp_script.specs.Prelude.{max_input}
 use Rattle.thp_journal_reader.proofs.AnswerLaws.{free_choice}
 use Rattle.thp_journal_reader.proofs.NodeLaws.{if_ok}
 use Rattle.thp_journal_reader.proofs.checking.check_journals.Goals as goal

@@ -1,8 +1,6 @@
-use Rattle.std.proofs.Common.{◌≡◌, ◌∙◌, ◌++◌, [], ap, sym}
-use Rattle.std.proofs.lemmas.List.{append-nil}
-use Rattle.thp_script.specs.Limits.{max_input}
-use Rattle.thp_journal_reader.specs.Journals.{journals_of}
-use Rattle.thp_journal_reader.specs.Parts.{told_with}
+use Rattle.std.proofs.Common.{◌≡◌, ◌∙◌, ◌++◌, [], ap, sym, append-nil}
+use Rattle.thp_script.specs.Prelude.{max_input}
+use Rattle.thp_journal_reader.specs.Prelude.{journals_of, told_with}
 use Rattle.thp_journal_reader.proofs.AnswerLaws.{free_choice}
 use Rattle.thp_journal_reader.proofs.NodeLaws.{if_ok}
 use Rattle.thp_journal_reader.proofs.checking.check_text.Goals as goal

@@ -1,4 +1,4 @@
-use Rattle.thp_journal_reader.specs.Answers.{AreLegalBefore}
+use Rattle.thp_journal_reader.specs.Prelude.{AreLegalBefore}
 use Rattle.thp_journal_reader.proofs.checking.first_illegal_line.Given as goal
 
 -- the nodes so far are legal

@@ -1,6 +1,6 @@
 use Rattle.std.proofs.Common.{◌≡◌, codes, rules, refl}
 use Rattle.std.proofs.lemmas.Slice.Eq.{text_from_reads}
-use Rattle.thp_journal_reader.specs.EventWords.{common_word}
+use Rattle.thp_journal_reader.specs.Prelude.{common_word}
 use Rattle.thp_journal_reader.proofs.event_word.common_word.Goals as goal
 
 pub returns-in-mapsub : goal.returns-in-mapsub

@@ -1,5 +1,5 @@
 use Rattle.std.proofs.Common.{ap}
-use Rattle.thp_journal_reader.specs.Reading.{journal_so_far, nodes_in, with_event}
+use Rattle.thp_journal_reader.specs.Prelude.{journal_so_far, nodes_in, with_event}
 use Rattle.thp_journal_reader.proofs.NodeLaws.{last_grows}
 use Rattle.thp_journal_reader.proofs.reading.push.Goals as goal
 

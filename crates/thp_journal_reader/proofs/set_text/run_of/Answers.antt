@@ -1,5 +1,4 @@
-use Rattle.std.proofs.Common.{rules}
-use Rattle.std.specs.Option.{option_copied}
+use Rattle.std.proofs.Common.{rules, option_copied}
 use Rattle.thp_journal_reader.proofs.SetLaws.{three_numbers}
 use Rattle.thp_journal_reader.proofs.set_text.run_of.Goals as goal
 

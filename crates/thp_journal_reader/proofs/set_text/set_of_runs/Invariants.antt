@@ -1,5 +1,5 @@
 use Rattle.std.proofs.Common.{◌≡◌, ◌≤◌, List, length}
-use Rattle.thp_journal_reader.specs.SetTexts.{Run, set_with}
+use Rattle.thp_journal_reader.specs.Prelude.{Run, set_with}
 use Rattle.thp_journal_reader.proofs.SetLaws.{IsReadTo}
 use Rattle.thp_journal_reader.proofs.set_text.set_of_runs.Given as goal
 

@@ -1,7 +1,6 @@
 use Rattle.std.proofs.Common.{◌≡◌, ◌∙◌, ◌<◌, ◌+◌, ℕ, ap, arith, refl, subst, sym}
-use Rattle.thp_script.specs.TextInParts.{told_after}
-use Rattle.thp_journal_reader.specs.declared.line.Line.TheVariants.{Happened}
-use Rattle.thp_journal_reader.specs.Reading.{with_line}
+use Rattle.thp_script.specs.Prelude.{told_after}
+use Rattle.thp_journal_reader.specs.Prelude.{Happened, with_line}
 use Rattle.thp_journal_reader.proofs.PartLaws.{event_tells}
 use Rattle.thp_journal_reader.proofs.text_reader.add_fast.Goals as goal
 

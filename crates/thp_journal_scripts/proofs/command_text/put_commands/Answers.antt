@@ -1,6 +1,5 @@
-use Rattle.std.proofs.Common.{◌∙◌, ◌++◌, ap, sym}
-use Rattle.std.proofs.lemmas.List.{append-nil, take_all}
-use Rattle.thp_journal_scripts.specs.ScriptTexts.{commands_text}
+use Rattle.std.proofs.Common.{◌∙◌, ◌++◌, ap, sym, append-nil, take_all}
+use Rattle.thp_journal_scripts.specs.Prelude.{commands_text}
 use Rattle.thp_journal_scripts.proofs.NodeScriptLaws.{line_appended}
 use Rattle.thp_journal_scripts.proofs.command_text.put_commands.Goals as goal
 

@@ -1,5 +1,5 @@
 use Rattle.std.proofs.Common.{◌≡◌, ◌++◌, take}
-use Rattle.thp_journal_scripts.specs.ScriptTexts.{commands_text}
+use Rattle.thp_journal_scripts.specs.Prelude.{commands_text}
 use Rattle.thp_journal_scripts.proofs.command_text.put_commands.Given as goal
 
 abbrev pub invariant-loop-op : goal.invariant-loop-op

@@ -1,5 +1,5 @@
 use Rattle.std.proofs.Common.{◌≡◌, ◌++◌, ℕ, List, append_assoc, codes}
-use Rattle.thp_journal_scripts.specs.ScriptTexts.{blocks_text, count_text, options_line, orders_text, thresholds_text}
+use Rattle.thp_journal_scripts.specs.Prelude.{blocks_text, count_text, options_line, orders_text, thresholds_text}
 use Rattle.thp_journal_scripts.proofs.options_text.put_options.Goals as goal
 
 eight : (t a b c d e f g h : List ℕ) → t ++ a ++ b ++ c ++ d ++ e ++ f ++ g ++ h ≡ t ++ (a ++ b ++ c ++ d ++ e ++ f ++ g ++ h)

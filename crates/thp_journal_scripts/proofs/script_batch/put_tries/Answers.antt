@@ -1,6 +1,5 @@
-use Rattle.std.proofs.Common.{◌∙◌, ◌++◌, ◌∷◌, [], append_assoc, ap, arith, sym}
+use Rattle.std.proofs.Common.{◌∙◌, ◌++◌, ◌∷◌, [], append_assoc, ap, arith, sym, replicate}
 use Rattle.std.proofs.lemmas.List.{append-nil, replicate-append-replicate}
-use Rattle.std.specs.Prelude.{replicate}
 use Rattle.thp_script.specs.declared.script.Op.TheVariants.{SplitNext}
 use Rattle.thp_journal_scripts.proofs.script_batch.put_tries.Goals as goal
 

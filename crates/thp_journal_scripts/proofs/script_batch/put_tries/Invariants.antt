@@ -1,5 +1,4 @@
-use Rattle.std.proofs.Common.{◌≡◌, ◌++◌}
-use Rattle.std.specs.Prelude.{replicate}
+use Rattle.std.proofs.Common.{◌≡◌, ◌++◌, replicate}
 use Rattle.thp_script.specs.declared.script.Op.TheVariants.{SplitNext}
 use Rattle.thp_journal_scripts.proofs.script_batch.put_tries.Given as goal
 

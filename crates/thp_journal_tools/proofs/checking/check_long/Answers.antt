@@ -1,7 +1,6 @@
-use Rattle.std.proofs.Common.{◌∙◌, ap, sym, Err}
-use Rattle.std.specs.Prelude.{Result}
+use Rattle.std.proofs.Common.{◌∙◌, ap, sym, Err, Result}
 use Rattle.std.proofs.lemmas.Result.{err_from_is_err_and}
-use Rattle.thp_cli.specs.RunFaults.{seen_fault}
+use Rattle.thp_cli.specs.Prelude.{seen_fault}
 use Rattle.thp_cli.specs.declared.long_fault.LongRunFault.{LongRunFault}
 use Rattle.thp_journal_tools.specs.Checks.{found_in, IsCheckOf}
 use Rattle.thp_journal_tools.specs.declared.checking.CheckFinding.{CheckFinding}

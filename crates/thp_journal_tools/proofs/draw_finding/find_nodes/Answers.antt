@@ -1,12 +1,8 @@
-use Rattle.std.proofs.Common.{◌∙◌, ◌++◌, [], ap, subst, sym, Result}
-use Rattle.std.proofs.lemmas.List.{append-nil}
-use Rattle.thp_script.specs.Limits.{max_counted}
-use Rattle.thp_script.specs.Scripts.{Fault}
+use Rattle.std.proofs.Common.{◌∙◌, ◌++◌, [], ap, subst, sym, Result, append-nil}
+use Rattle.thp_script.specs.Prelude.{max_counted, Fault}
 use Rattle.thp_journal_reader.specs.declared.journals.Journals.{Journals}
-use Rattle.thp_journal_reader.specs.Journals.{journals_within}
+use Rattle.thp_journal_reader.specs.Prelude.{journals_within, ReportsLongReadFault, IsKept}
 use Rattle.thp_journal_tools.specs.Numbered.{IsNumbered}
-use Rattle.thp_journal_reader.specs.Answers.{ReportsLongReadFault}
-use Rattle.thp_journal_reader.specs.Following.{IsKept}
 use Rattle.thp_journal_reader.proofs.FollowLaws.{ended_kept}
 use Rattle.thp_journal_reader.proofs.ZipLaws.{zip_through, zip_weaker}
 use Rattle.thp_journal_tools.specs.Keeping.{KeepsNumbers}

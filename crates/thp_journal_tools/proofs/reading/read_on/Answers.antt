@@ -1,8 +1,7 @@
-use Rattle.std.proofs.Common.{◌∙◌, ◌++◌, [], arith, refl, rules, take, true}
-use Rattle.std.proofs.lemmas.List.{length-append, length-take-le}
+use Rattle.std.proofs.Common.{◌∙◌, ◌++◌, [], arith, refl, rules, take, true, length-append, length-take-le}
 use Rattle.thp_cli.proofs.CallLaws.{reading_more, reading_none, reads_by}
 use Rattle.thp_cli.proofs.DeviceLaws.{read_beyond, read_more, read_nothing}
-use Rattle.thp_script.specs.Limits.{max_counted}
+use Rattle.thp_script.specs.Prelude.{max_counted}
 use Rattle.thp_journal_tools.proofs.CountLaws.{events_at_most}
 use Rattle.thp_journal_tools.proofs.ProgressLaws.{shown_more, shown_none}
 use Rattle.thp_journal_tools.proofs.reading.read_on.Goals as goal

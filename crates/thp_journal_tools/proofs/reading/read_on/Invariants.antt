@@ -1,8 +1,8 @@
 use Rattle.std.proofs.Common.{◌≡◌, ◌+◌, ℕ, List, length, false}
 use Rattle.std.specs.Io.KnownBytes.{Consumes}
 use Rattle.thp_cli.proofs.CallLaws.{Reading}
-use Rattle.thp_cli.specs.Outcomes.{device_of}
-use Rattle.thp_script.specs.Limits.{max_counted}
+use Rattle.thp_cli.specs.Prelude.{device_of}
+use Rattle.thp_script.specs.Prelude.{max_counted}
 use Rattle.thp_journal_tools.specs.Reaching.{HasCounted, HasShown}
 use Rattle.thp_journal_tools.proofs.reading.read_on.Given as goal
 

@@ -1,5 +1,5 @@
 use Rattle.std.proofs.Common.{Err, None, Ok}
-use Rattle.thp_cli.specs.RunFaults.{seen_fault}
+use Rattle.thp_cli.specs.Prelude.{seen_fault}
 use Rattle.thp_cli.specs.declared.ending.ProgramFault.TheVariants.{Run}
 use Rattle.thp_journal_tools.specs.Requests.{notes_by}
 use Rattle.thp_journal_tools.proofs.request.run_request.Goals as goal

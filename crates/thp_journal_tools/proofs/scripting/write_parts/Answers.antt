@@ -1,10 +1,9 @@
-use Rattle.std.proofs.Common.{◌≡◌, ◌∙◌, ◌++◌, ℕ, List, [], Option, append_assoc, ap, arith, refl, rules, subst, sym, take}
+use Rattle.std.proofs.Common.{◌≡◌, ◌∙◌, ◌++◌, ℕ, List, [], Option, append_assoc, ap, arith, refl, rules, subst, sym, take, append-nil, length-append, length-take-le}
 use Rattle.std.specs.Io.KnownBytes.{Appends}
-use Rattle.std.proofs.lemmas.List.{append-nil, length-append, length-take-le}
 use Rattle.thp_cli.proofs.CallLaws.{reading_more, reading_none, reads_by}
 use Rattle.thp_cli.proofs.DeviceLaws.{read_all, read_beyond, read_more, read_nothing}
-use Rattle.thp_script.specs.Limits.{max_counted}
-use Rattle.thp_journal_reader.specs.Journals.{journals_within}
+use Rattle.thp_script.specs.Prelude.{max_counted}
+use Rattle.thp_journal_reader.specs.Prelude.{journals_within}
 use Rattle.thp_journal_tools.proofs.ScriptLaws.{appends_more, appends_none, grows_more, grows_none}
 use Rattle.thp_journal_tools.proofs.scripting.write_parts.Goals as goal
 

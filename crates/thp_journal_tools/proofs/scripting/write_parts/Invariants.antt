@@ -1,9 +1,8 @@
 use Rattle.std.proofs.Common.{◌≡◌, ◌+◌, ◌++◌, ℕ, List, length, false}
 use Rattle.std.specs.Io.KnownBytes.{Appends, Consumes}
-use Rattle.thp_script.specs.Limits.{max_counted}
+use Rattle.thp_script.specs.Prelude.{max_counted}
 use Rattle.thp_cli.proofs.CallLaws.{Reading}
-use Rattle.thp_journal_reader.specs.Journals.{journals_within}
-use Rattle.thp_journal_reader.specs.Parts.{told_with}
+use Rattle.thp_journal_reader.specs.Prelude.{journals_within, told_with}
 use Rattle.thp_journal_tools.specs.Scripting.{Grows}
 use Rattle.thp_journal_tools.proofs.scripting.write_parts.Given as goal
 

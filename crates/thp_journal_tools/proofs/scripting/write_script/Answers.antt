@@ -1,8 +1,8 @@
 use Rattle.std.proofs.Common.{◌≡◌, ◌∙◌, ◌++◌, List, ℕ, rules, subst, sym, false, Result}
 use Rattle.std.specs.Io.KnownBytes.{Appends}
-use Rattle.thp_script.specs.Scripts.{Fault}
+use Rattle.thp_script.specs.Prelude.{Fault}
 use Rattle.thp_journal_reader.specs.declared.journals.Journals.{Journals}
-use Rattle.thp_journal_reader.specs.Answers.{ReportsLongReadFault}
+use Rattle.thp_journal_reader.specs.Prelude.{ReportsLongReadFault}
 use Rattle.thp_journal_tools.proofs.ScriptLaws.{appends_kept, appends_more, cut_end, end_at_fault, end_at_finish, err_is, grows_by, grows_kept, grows_more, is_err, told_from}
 use Rattle.thp_journal_tools.proofs.scripting.write_script.Goals as goal
 

@@ -1,7 +1,6 @@
 use Rattle.std.proofs.Common.{◌∙◌, Err, List, subst, sym, ℕ}
 use Rattle.thp_cli.specs.declared.long_fault.LongRunFault.{LongRunFault}
-use Rattle.thp_cli.specs.Outcomes.{device_of, source_of}
-use Rattle.thp_cli.specs.RunFaults.{seen_fault}
+use Rattle.thp_cli.specs.Prelude.{device_of, source_of, seen_fault}
 use Rattle.thp_journal_tools.specs.declared.end_fault.EndFault.TheVariants.{Journal}
 use Rattle.thp_journal_tools.specs.Drawings.{Shows}
 use Rattle.thp_journal_tools.specs.DrawOutcomes.{Does}

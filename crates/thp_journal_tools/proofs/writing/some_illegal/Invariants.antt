@@ -1,5 +1,4 @@
-use Rattle.std.proofs.Common.{◌≡◌, drop}
-use Rattle.std.specs.Prelude.{◌||◌}
+use Rattle.std.proofs.Common.{◌≡◌, drop, ◌||◌}
 use Rattle.thp_journal_tools.specs.Drawings.{some_illegal}
 use Rattle.thp_journal_tools.proofs.writing.some_illegal.Given as goal
 

@@ -1,5 +1,5 @@
 use Rattle.std.proofs.Common.{◌≡◌, ◌+◌, ◌++◌, ℕ, List, OnOk, arith, subst, ap, sym, drop}
-use Rattle.thp_journal_writer.specs.SetTexts.{runs_from}
+use Rattle.thp_journal_writer.specs.Prelude.{runs_from}
 use Rattle.thp_journal_writer.proofs.RunLemmas.{none_after, set_text-runs}
 use Rattle.thp_journal_writer.proofs.sets.put_set.Goals as goal
 

@@ -1,5 +1,5 @@
 use Rattle.std.proofs.Common.{◌≡◌, ◌+◌, ◌*◌, ◌-◌, ◌≤◌, vec_len, vec_capacity, ◌<◌, ◌∷◌, ◌++◌, drop}
-use Rattle.thp_journal_writer.specs.SetTexts.{runs_from, set_text}
+use Rattle.thp_journal_writer.specs.Prelude.{runs_from, set_text}
 use Rattle.thp_journal_writer.proofs.RunLemmas.{joined}
 use Rattle.thp_journal_writer.proofs.sets.put_set.Given as goal
 

@@ -1,8 +1,5 @@
-use Rattle.std.proofs.Common.{◌++◌, ap, ◌∙◌, arith, take}
-use Rattle.std.specs.List.{flat_map}
-use Rattle.std.proofs.lemmas.List.{take_all}
-use Rattle.thp_journal_writer.specs.Histories.{journal_of}
-use Rattle.thp_journal_writer.specs.Journals.{ended, lines_of_node}
+use Rattle.std.proofs.Common.{◌++◌, ap, ◌∙◌, arith, take, flat_map, take_all}
+use Rattle.thp_journal_writer.specs.Prelude.{journal_of, ended, lines_of_node}
 use Rattle.thp_journal_writer.proofs.JournalLemmas.{node_texts, node_texts-more, text_whole}
 use Rattle.thp_journal_writer.proofs.writer.journal_text.Goals as goal
 

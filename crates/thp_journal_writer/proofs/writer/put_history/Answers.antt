@@ -1,8 +1,5 @@
-use Rattle.std.proofs.Common.{◌++◌, ap, ◌∙◌, arith, take}
-use Rattle.std.proofs.lemmas.List.{take_all}
-use Rattle.thp_journal_writer.specs.EventLines.{event_line}
-use Rattle.thp_journal_writer.specs.Histories.{journal_of}
-use Rattle.thp_journal_writer.specs.Journals.{ended}
+use Rattle.std.proofs.Common.{◌++◌, ap, ◌∙◌, arith, take, take_all}
+use Rattle.thp_journal_writer.specs.Prelude.{event_line, journal_of, ended}
 use Rattle.thp_journal_writer.proofs.JournalLemmas.{event_lines, event_lines-more, node_whole}
 use Rattle.thp_journal_writer.proofs.writer.put_history.Goals as goal
 

@@ -1,5 +1,5 @@
 use Rattle.std.proofs.Common.{◌≡◌, ℕ, List, OnOk, subst}
-use Rattle.thp_journal_writer.specs.declared.version.Version.TheVariants.{Plain, Orders, Underused}
+use Rattle.thp_journal_writer.specs.Prelude.{Plain, Orders, Underused}
 use Rattle.thp_journal_writer.proofs.LineLemmas.{plain_node, orders_node, underused_node}
 use Rattle.thp_journal_writer.proofs.writer.put_node_line.Goals as goal
 

@@ -1,7 +1,6 @@
 -- The two accesses replace one side of the pair, and where there is no index none is made.
 use Rattle.std.proofs.Common.{List, ◌∙◌, sym, ap, set, arith}
-use Rattle.thp_links.specs.declared.link.Link.{Link}
-use Rattle.thp_links.specs.Standing.{between}
+use Rattle.thp_links.specs.Prelude.{Link, between}
 use Rattle.thp_links.proofs.Replacing.{with_next-at, with_next_none}
 use Rattle.thp_links.proofs.table.set_next.Goals as goal
 

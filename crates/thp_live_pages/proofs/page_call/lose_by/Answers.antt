@@ -1,5 +1,5 @@
 use Rattle.std.proofs.Common.{◌∙◌}
-use Rattle.thp_live_pages.specs.PageStoreState.{is_nowhere}
+use Rattle.thp_live_pages.specs.Prelude.{is_nowhere}
 use Rattle.thp_live_pages.proofs.PageUses.{outcome_is_by, released_is_by}
 use Rattle.thp_live_pages.proofs.page_call.lose_by.Goals as goal
 

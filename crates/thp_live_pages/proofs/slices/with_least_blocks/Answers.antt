@@ -1,5 +1,5 @@
 use Rattle.std.proofs.Common.{sym, ◌∙◌, ap, [], ◌∷◌, ◌++◌}
-use Rattle.thp_model.specs.History.{History}
+use Rattle.thp_model.specs.Prelude.{History}
 use Rattle.thp_live_pages.proofs.Noting.{least_first, least_step}
 use Rattle.thp_live_pages.proofs.slices.with_least_blocks.Goals as goal
 

@@ -1,5 +1,5 @@
 use Rattle.std.proofs.Common.{◌≡◌, take}
-use Rattle.thp_model.specs.BlockLaws.{with_least_blocks}
+use Rattle.thp_model.specs.Prelude.{with_least_blocks}
 use Rattle.thp_live_pages.proofs.slices.with_least_blocks.Given as goal
 
 -- the events so far have the least blocks, and the choice of blocks knows them

@@ -1,6 +1,6 @@
 use Rattle.std.proofs.Common.{◌∙◌, ap, refl}
-use Rattle.thp_check.specs.Replays.{Replayed}
-use Rattle.thp_metrics.specs.Waits.{longest_wait}
+use Rattle.thp_check.specs.Prelude.{Replayed}
+use Rattle.thp_metrics.specs.Prelude.{longest_wait}
 use Rattle.thp_metrics.proofs.Counting.{callers_told}
 use Rattle.thp_metrics.proofs.Following.{numbers_are}
 use Rattle.thp_metrics.proofs.node_series.numbers_of.Goals as goal

@@ -1,5 +1,5 @@
 use Rattle.std.proofs.Common.{◌≡◌, take}
-use Rattle.thp_metrics.specs.Finding.{stuck_among}
+use Rattle.thp_metrics.specs.Prelude.{stuck_among}
 use Rattle.thp_metrics.proofs.waiting.stuck_among.Given as goal
 
 -- the pages of the blocks passed

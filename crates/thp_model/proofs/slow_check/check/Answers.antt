@@ -1,6 +1,5 @@
 use Rattle.std.proofs.Common.{List, take, sym, subst}
-use Rattle.thp_model.specs.declared.events.Event.{Event}
-use Rattle.thp_model.specs.Legal.{IsLegal, FitsBy}
+use Rattle.thp_model.specs.Prelude.{Event, IsLegal, FitsBy}
 use Rattle.thp_model.proofs.LegalSteps.{first_misfit, legal_push}
 use Rattle.thp_model.proofs.ListPlaces.{step_of}
 use Rattle.thp_model.proofs.slow_check.check.Goals as goal

@@ -1,5 +1,4 @@
-use Rattle.std.proofs.Common.{◌++◌, arith, drop, map}
-use Rattle.std.specs.List.{flat_map}
+use Rattle.std.proofs.Common.{◌++◌, arith, drop, map, flat_map}
 use Rattle.thp_run.specs.Answers.{answer_line}
 use Rattle.thp_run.specs.Reports.{shape_of}
 use Rattle.thp_run.proofs.PartLaws.{one_put}

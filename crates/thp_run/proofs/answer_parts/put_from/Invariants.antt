@@ -1,5 +1,4 @@
-use Rattle.std.proofs.Common.{◌≡◌, ◌<◌, ◌≤◌, ◌+◌, ◌++◌, drop, map, vec_capacity, vec_len}
-use Rattle.std.specs.List.{flat_map}
+use Rattle.std.proofs.Common.{◌≡◌, ◌<◌, ◌≤◌, ◌+◌, ◌++◌, drop, map, vec_capacity, vec_len, flat_map}
 use Rattle.thp_run.specs.Answers.{answer_line}
 use Rattle.thp_run.specs.Parts.{full_part, line_room}
 use Rattle.thp_run.specs.Reports.{shape_of}

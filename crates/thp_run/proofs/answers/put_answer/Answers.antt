@@ -1,5 +1,4 @@
-use Rattle.std.proofs.Common.{[], ◌∷◌, ◌++◌, ◌+◌, ap, map, refl, sym, ◌∙◌}
-use Rattle.std.specs.Fmt.{decimal}
+use Rattle.std.proofs.Common.{[], ◌∷◌, ◌++◌, ◌+◌, ap, map, refl, sym, ◌∙◌, decimal}
 use Rattle.thp_run.specs.Answers.{answer_line, looks, reaction_words}
 use Rattle.thp_run.specs.Reports.{shape_of}
 use Rattle.thp_run.proofs.AnswerLaws.{reaction_starts, answer-put}

@@ -1,5 +1,4 @@
-use Rattle.std.proofs.Common.{◌∙◌, ◌+◌, ◌++◌, sym, ap, map, drop, append_assoc}
-use Rattle.std.specs.List.{flat_map}
+use Rattle.std.proofs.Common.{◌∙◌, ◌+◌, ◌++◌, sym, ap, map, drop, append_assoc, flat_map}
 use Rattle.thp_run.specs.Answers.{answer_line}
 use Rattle.thp_run.specs.Reports.{shape_of}
 use Rattle.thp_run.proofs.AnswerLaws.{drop_at_get}

@@ -1,8 +1,7 @@
-use Rattle.std.proofs.Common.{◌≡◌, ◌++◌, drop, map}
-use Rattle.std.specs.List.{flat_map}
+use Rattle.std.proofs.Common.{◌≡◌, ◌++◌, drop, map, flat_map}
 use Rattle.thp_run.specs.Answers.{answer_line, section_text}
 use Rattle.thp_run.specs.Reports.{shape_of}
-use Rattle.thp_worker.specs.Logs.{kept_log}
+use Rattle.thp_worker.specs.Prelude.{kept_log}
 use Rattle.thp_run.proofs.answers.put_section.Given as goal
 
 abbrev pub invariant-loop-place : goal.invariant-loop-place

@@ -1,6 +1,5 @@
 use Rattle.std.proofs.Common.{◌≡◌, ◌∙◌, ◌+◌, ap, arith, subst, sym, None, ℕ}
-use Rattle.thp_worker.specs.Fronts.{Fronts}
-use Rattle.thp_worker.specs.Passes.{fronts_in}
+use Rattle.thp_worker.specs.Prelude.{Fronts, fronts_in}
 use Rattle.thp_worker.proofs.EachLaws.{each_keeps}
 use Rattle.thp_run.proofs.BegunRunLaws.{new_few, new_fresh}
 use Rattle.thp_run.proofs.SharingLaws.{agree_new, fresh_some, is_new}

@@ -1,9 +1,6 @@
-use Rattle.std.proofs.Common.{◌∙◌, ◌++◌, rules, subst, sym}
-use Rattle.std.specs.Prelude.{All}
+use Rattle.std.proofs.Common.{◌∙◌, ◌++◌, rules, subst, sym, All}
 use denote.Param.Send.{param_send, arg_send}
-use Rattle.thp_worker.specs.InParts.{DidFirst}
-use Rattle.thp_worker.specs.Passes.{fronts_in}
-use Rattle.thp_worker.specs.Sections.{IsCommandFor}
+use Rattle.thp_worker.specs.Prelude.{DidFirst, fronts_in, IsCommandFor}
 use Rattle.thp_worker.proofs.Crosses.{node_passes_send}
 use Rattle.thp_run.specs.Sharing.{AreFew}
 use Rattle.thp_run.proofs.BegunRunLaws.{begun_all, begun_nodes, begun_runs, begun_set_up}

@@ -1,6 +1,6 @@
 use Rattle.std.proofs.Common.{◌≡◌, ◌∙◌, [], length-append, ◌∷◌, ap, sym, arith}
 use Rattle.std.proofs.lemmas.List.Elements.{All-push}
-use Rattle.thp_node.specs.NodeState.{NodeState}
+use Rattle.thp_node.specs.Prelude.{NodeState}
 use Rattle.thp_run.specs.NewNodes.{shape_of}
 use Rattle.thp_run.proofs.NodeLaws.{each_more}
 use Rattle.thp_run.proofs.nodes.new_nodes.Goals as goal

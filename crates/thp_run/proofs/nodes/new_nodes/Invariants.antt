@@ -1,6 +1,5 @@
-use Rattle.std.proofs.Common.{◌≡◌, ℕ, [], length, Some}
-use Rattle.std.specs.Prelude.{All, slice_get}
-use Rattle.thp_node.specs.NodeState.{NodeState}
+use Rattle.std.proofs.Common.{◌≡◌, ℕ, [], length, Some, All, slice_get}
+use Rattle.thp_node.specs.Prelude.{NodeState}
 use Rattle.thp_run.specs.NewNodes.{shape_of}
 use Rattle.thp_run.proofs.nodes.new_nodes.Given as goal
 

@@ -1,7 +1,6 @@
-use Rattle.std.proofs.Common.{◌≡◌, map, inl, inr, refl, Ok, Err}
-use Rattle.std.specs.Prelude.{string_bytes}
+use Rattle.std.proofs.Common.{◌≡◌, map, inl, inr, refl, Ok, Err, string_bytes}
 use Rattle.std.proofs.lemmas.Result.{err_from_is_err_and}
-use Rattle.thp_cli.specs.Outcomes.{given_words}
+use Rattle.thp_cli.specs.Prelude.{given_words}
 use Rattle.thp_cli.proofs.PassageLaws.{keeps_same}
 use Rattle.thp_run.proofs.program.serve.Goals as goal
 

@@ -1,5 +1,5 @@
 use Rattle.std.proofs.Common.{◌≡◌, ◌++◌, drop, map}
-use Rattle.thp_journal_writer.specs.Histories.{journal_of}
+use Rattle.thp_journal_writer.specs.Prelude.{journal_of}
 use Rattle.thp_run.specs.Reports.{told_of}
 use Rattle.thp_run.proofs.report.journals_text.Given as goal
 

@@ -1,12 +1,10 @@
-use Rattle.std.proofs.Common.{◌≡◌, ◌∙◌, ap, map, refl, Err}
-use Rattle.std.specs.Prelude.{filter}
+use Rattle.std.proofs.Common.{◌≡◌, ◌∙◌, ap, map, refl, Err, filter}
 use Rattle.std.proofs.lemmas.Result.{err_from_is_err_and}
-use Rattle.thp_journal_writer.specs.Journals.{journal_text}
-use Rattle.thp_journal_writer.specs.Totals.{totals_text}
+use Rattle.thp_journal_writer.specs.Prelude.{journal_text, totals_text}
 use Rattle.thp_run.specs.Answers.{answers_text}
 use Rattle.thp_run.specs.Reports.{report_of, shape_of, told_of}
 use Rattle.thp_run.proofs.ReportLaws.{shapes_told}
-use Rattle.thp_worker.specs.KeptSections.{has_kept}
+use Rattle.thp_worker.specs.Prelude.{has_kept}
 use Rattle.thp_run.proofs.PassageLaws.{not_run_ends, run_wrote, run_wrote_kept}
 use Rattle.thp_run.proofs.running.run.Goals as goal
 

@@ -1,5 +1,4 @@
-use Rattle.std.proofs.Common.{sym, subst}
-use Rattle.std.specs.Prelude.{All}
+use Rattle.std.proofs.Common.{sym, subst, All}
 use Rattle.thp_worker.specs.declared.answer_log.Answers.TheVariants.{Kept}
 use Rattle.thp_run.specs.Sections.{SectionAnswersAre}
 use Rattle.thp_run.proofs.BegunLaws.{reads_none}

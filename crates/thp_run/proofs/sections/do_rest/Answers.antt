@@ -1,9 +1,7 @@
-use Rattle.std.proofs.Common.{◌≡◌, ◌∙◌, ◌+◌, ◌<◌, ap, length, subst, arith, Some}
-use Rattle.std.specs.Prelude.{All, slice_get}
+use Rattle.std.proofs.Common.{◌≡◌, ◌∙◌, ◌+◌, ◌<◌, ap, length, subst, arith, Some, All, slice_get}
 use Rattle.std.specs.Vec.Iter.{into_iter_items}
 use Rattle.std.proofs.lemmas.List.Elements.{All-head, All-nil, All-push, All-rest}
-use Rattle.thp_worker.specs.Fronts.{Fronts, Goes}
-use Rattle.thp_worker.specs.Sections.{AnswersAre, Works}
+use Rattle.thp_worker.specs.Prelude.{Fronts, Goes, AnswersAre, Works}
 use Rattle.thp_run.proofs.RestLaws.{at_index, below, has_all_later, rest_first, rest_more, rest_ordered, rest_works}
 use Rattle.thp_run.proofs.sections.do_rest.Goals as goal
 

@@ -1,8 +1,7 @@
-use Rattle.std.proofs.Common.{◌≡◌, length}
-use Rattle.std.specs.Prelude.{All}
+use Rattle.std.proofs.Common.{◌≡◌, length, All}
 use Rattle.std.specs.Vec.Iter.{into_iter_items, into_iter_len}
 use Rattle.thp_worker.specs.declared.answer_log.Answers.{Answers}
-use Rattle.thp_worker.specs.Sections.{AnswersAre}
+use Rattle.thp_worker.specs.Prelude.{AnswersAre}
 use Rattle.thp_run.proofs.RestLaws.{RestDone}
 use Rattle.thp_run.proofs.sections.do_rest.Given as goal
 

@@ -1,8 +1,7 @@
 use Rattle.std.proofs.Common.{◌∷◌, subst, sym}
 use Rattle.std.proofs.lemmas.List.Elements.{All-cons}
 use Rattle.thp_script.specs.declared.script.Script.{Script}
-use Rattle.thp_worker.specs.Halves.{AllWork, RangeDone}
-use Rattle.thp_worker.specs.Sections.{AnswersAre}
+use Rattle.thp_worker.specs.Prelude.{AllWork, RangeDone, AnswersAre}
 use Rattle.thp_run.specs.Sections.{InOrder}
 use Rattle.thp_run.proofs.RestLaws.{can_run, few_done, answers_numbered, ran_fit, runs_to}
 use Rattle.thp_run.proofs.sections.run_workers_after.Goals as goal

@@ -1,9 +1,8 @@
-use Rattle.std.proofs.Common.{◌∙◌, ap, length, map, subst, sym, arith}
-use Rattle.std.specs.Prelude.{All}
+use Rattle.std.proofs.Common.{◌∙◌, ap, length, map, subst, sym, arith, All}
 use Rattle.std.proofs.lemmas.List.{length-map}
 use Rattle.std.proofs.lemmas.List.Elements.{All-head, All-tail}
 use Rattle.std.specs.Vec.Iter.{into_iter_items}
-use Rattle.thp_cell.specs.Views.{HasAll}
+use Rattle.thp_cell.specs.Prelude.{HasAll}
 use Rattle.thp_run.specs.Sharing.{cell_of, IsNodeOf}
 use Rattle.thp_run.proofs.NodeLaws.{cons_tail, filled_end, filled_first, filled_more}
 use Rattle.thp_run.proofs.sharing.finish.Goals as goal

@@ -1,7 +1,6 @@
-use Rattle.std.proofs.Common.{◌≡◌, length, map}
-use Rattle.std.specs.Prelude.{All}
+use Rattle.std.proofs.Common.{◌≡◌, length, map, All}
 use Rattle.std.specs.Vec.Iter.{into_iter_items, into_iter_len}
-use Rattle.thp_cell.specs.Views.{HasAll}
+use Rattle.thp_cell.specs.Prelude.{HasAll}
 use Rattle.thp_run.specs.Sharing.{cell_of, IsNodeOf}
 use Rattle.thp_run.proofs.NodeLaws.{Filled}
 use Rattle.thp_run.proofs.sharing.finish.Given as goal

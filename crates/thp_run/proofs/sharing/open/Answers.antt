@@ -1,8 +1,7 @@
-use Rattle.std.proofs.Common.{◌≡◌, ◌∙◌, ◌∷◌, ◌+◌, ◌≤◌, [], ap, length, length-append, map, subst, sym, arith}
-use Rattle.std.specs.Prelude.{All}
+use Rattle.std.proofs.Common.{◌≡◌, ◌∙◌, ◌∷◌, ◌+◌, ◌≤◌, [], ap, length, length-append, map, subst, sym, arith, All}
 use Rattle.std.proofs.lemmas.List.Elements.{All-tail}
 use Rattle.std.specs.Vec.Iter.{into_iter_items}
-use Rattle.thp_cell.specs.Views.{PassState}
+use Rattle.thp_cell.specs.Prelude.{PassState}
 use Rattle.thp_run.specs.Sharing.{cell_of, IsUnused}
 use Rattle.thp_run.proofs.NodeLaws.{at_drop, filled_end, filled_first, filled_more}
 use Rattle.thp_run.proofs.sharing.open.Goals as goal

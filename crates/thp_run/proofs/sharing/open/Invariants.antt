@@ -1,7 +1,6 @@
-use Rattle.std.proofs.Common.{◌≡◌, ◌≤◌, length, map, drop}
-use Rattle.std.specs.Prelude.{All}
+use Rattle.std.proofs.Common.{◌≡◌, ◌≤◌, length, map, drop, All}
 use Rattle.std.specs.Vec.Iter.{into_iter_items, into_iter_len}
-use Rattle.thp_cell.specs.Views.{PassState}
+use Rattle.thp_cell.specs.Prelude.{PassState}
 use Rattle.thp_run.specs.Sharing.{cell_of, IsUnused}
 use Rattle.thp_run.proofs.NodeLaws.{Filled}
 use Rattle.thp_run.proofs.sharing.open.Given as goal

@@ -1,5 +1,6 @@
 use Rattle.std.proofs.Common.{◌≡◌, ◌++◌, drop, map}
-use Rattle.thp_journal_writer.specs.Totals.{lines_from, totals_in, totals_text}
+use Rattle.thp_journal_writer.specs.Prelude.{totals_in, totals_text}
+use Rattle.thp_journal_writer.specs.Totals.{lines_from}
 use Rattle.thp_run.specs.Reports.{told_of}
 use Rattle.thp_run.proofs.totals.totals_text.Given as goal
 

@@ -1,6 +1,6 @@
 use Rattle.std.proofs.Common.{◌≡◌, [], length, false, true}
 use Rattle.thp_cli.proofs.DeviceLaws.{Written}
-use Rattle.thp_cli.specs.Calls.{Follow}
+use Rattle.thp_cli.specs.Prelude.{Follow}
 use Rattle.thp_run.proofs.writing.write_parts.Given as goal
 
 abbrev pub decreases-loop-writer : goal.decreases-loop-writer

@@ -1,4 +1,4 @@
-use Rattle.thp_script.specs.Operands.{batch_op}
+use Rattle.thp_script.specs.Prelude.{batch_op}
 use Rattle.thp_script.proofs.FastParsingLaws.{parse_batch_fast}
 use Rattle.thp_script.proofs.fast_parsing.parse_batch_command_fast.Goals as goal
 

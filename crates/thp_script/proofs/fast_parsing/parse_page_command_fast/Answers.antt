@@ -1,4 +1,4 @@
-use Rattle.thp_script.specs.Operands.{whole_page_op}
+use Rattle.thp_script.specs.Prelude.{whole_page_op}
 use Rattle.thp_script.proofs.FastParsingLaws.{parse_page_fast}
 use Rattle.thp_script.proofs.fast_parsing.parse_page_command_fast.Goals as goal
 

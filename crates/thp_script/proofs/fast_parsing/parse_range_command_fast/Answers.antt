@@ -1,4 +1,4 @@
-use Rattle.thp_script.specs.Operands.{range_op}
+use Rattle.thp_script.specs.Prelude.{range_op}
 use Rattle.thp_script.proofs.FastParsingLaws.{parse_range_fast}
 use Rattle.thp_script.proofs.fast_parsing.parse_range_command_fast.Goals as goal
 

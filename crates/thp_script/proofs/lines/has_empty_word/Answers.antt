@@ -1,7 +1,7 @@
 use Rattle.std.proofs.Common.{rules, tests, ◌==◌}
 use Rattle.std.proofs.lemmas.Iterator.Search.{any_from_yields_List}
 use Rattle.std.proofs.lemmas.Iterator.Splits.{YieldsList-from_slice_split}
-use Rattle.thp_script.specs.Lines.{is_empty}
+use Rattle.thp_script.specs.Prelude.{is_empty}
 use Rattle.thp_script.proofs.lines.has_empty_word.Goals as goal
 
 pub returns : goal.returns

@@ -1,9 +1,5 @@
-use Rattle.std.proofs.Common.{◌≡◌, ◌∙◌, ◌≤◌, suc, ap, arith, length, refl, rules, ◌∷◌, Some, None}
-use Rattle.std.specs.Option.{option_copied}
-use Rattle.std.proofs.lemmas.List.{append-nil}
-use Rattle.thp_script.specs.Limits.{max_nodes}
-use Rattle.thp_script.specs.NumberLists.{all_read, items_of}
-use Rattle.thp_script.specs.Words.{pieces_left}
+use Rattle.std.proofs.Common.{◌≡◌, ◌∙◌, ◌≤◌, suc, ap, arith, length, refl, rules, ◌∷◌, Some, None, option_copied, append-nil}
+use Rattle.thp_script.specs.Prelude.{max_nodes, all_read, items_of, pieces_left}
 use Rattle.thp_script.proofs.ListLaws.{list_fails, list_is, list_too_long}
 use Rattle.thp_script.proofs.lists.read_list.Goals as goal
 

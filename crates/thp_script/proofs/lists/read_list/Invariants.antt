@@ -1,8 +1,5 @@
-use Rattle.std.proofs.Common.{◌≡◌, ◌+◌, ◌≤◌, length}
-use Rattle.std.specs.Option.{option_copied}
-use Rattle.thp_script.specs.Limits.{max_nodes}
-use Rattle.thp_script.specs.NumberLists.{all_read, items_of}
-use Rattle.thp_script.specs.Words.{pieces_left}
+use Rattle.std.proofs.Common.{◌≡◌, ◌+◌, ◌≤◌, length, option_copied}
+use Rattle.thp_script.specs.Prelude.{max_nodes, all_read, items_of, pieces_left}
 use Rattle.thp_script.proofs.ListLaws.{behind}
 use Rattle.thp_script.proofs.lists.read_list.Given as goal
 

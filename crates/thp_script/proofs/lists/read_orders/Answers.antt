@@ -1,6 +1,5 @@
-use Rattle.std.proofs.Common.{◌<◌, ◌^◌}
-use Rattle.std.specs.Fmt.{decimal}
-use Rattle.thp_script.specs.NumberLists.{order_of}
+use Rattle.std.proofs.Common.{◌<◌, ◌^◌, decimal}
+use Rattle.thp_script.specs.Prelude.{order_of}
 use Rattle.thp_script.proofs.ListLaws.{given_refused, given_written, order_again, order_plain, order_written}
 use Rattle.thp_script.proofs.lists.read_orders.Goals as goal
 

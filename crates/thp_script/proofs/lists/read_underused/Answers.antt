@@ -1,4 +1,4 @@
-use Rattle.thp_script.specs.NumberLists.{threshold_of, threshold_text, IsWritable}
+use Rattle.thp_script.specs.Prelude.{threshold_of, threshold_text, IsWritable}
 use Rattle.thp_script.proofs.ListLaws.{given_refused, given_written, threshold_again, threshold_plain, threshold_written}
 use Rattle.thp_script.proofs.lists.read_underused.Goals as goal
 

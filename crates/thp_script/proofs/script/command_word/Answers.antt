@@ -1,6 +1,6 @@
 use Rattle.std.proofs.Common.{codes, refl, rules}
 use Rattle.std.proofs.lemmas.Slice.Eq.{text_from_reads}
-use Rattle.thp_script.specs.Commands.{command_of}
+use Rattle.thp_script.specs.Prelude.{command_of}
 use Rattle.thp_script.proofs.script.command_word.Goals as goal
 
 pub returns-in-mapwhole : goal.returns-in-mapwhole

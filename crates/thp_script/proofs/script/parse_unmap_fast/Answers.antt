@@ -1,5 +1,5 @@
 use Rattle.std.proofs.Common.{codes}
-use Rattle.thp_script.specs.declared.script.CommandWord.TheVariants.{OfPage, OfRange}
+use Rattle.thp_script.specs.Prelude.{OfPage, OfRange}
 use Rattle.thp_script.specs.declared.script.RangeCall.TheVariants as range
 use Rattle.thp_script.specs.declared.script.WholePageCall.TheVariants as whole
 use Rattle.thp_script.proofs.FastParsingLaws.{unmap_is, unpin_is, unmapwhole_is, named}

@@ -1,7 +1,5 @@
 use Rattle.std.proofs.Common.{◌≡◌, ◌∙◌, arith, refl}
-use Rattle.thp_script.specs.declared.statement.Statement.TheVariants.{Call}
-use Rattle.thp_script.specs.Parts.{with_commands}
-use Rattle.thp_script.specs.Scripts.{placed}
+use Rattle.thp_script.specs.Prelude.{Call, with_commands, placed}
 use Rattle.thp_script.proofs.PartReadLaws.{ahead_inside, ahead_spelled}
 use Rattle.thp_script.proofs.script_reader.add_fast.Goals as goal
 

@@ -1,6 +1,5 @@
 use Rattle.std.proofs.Common.{◌≡◌, ◌≤◌, [], length}
-use Rattle.thp_script.specs.FastParsing.{spelled_after, IsPartRead}
-use Rattle.thp_script.specs.Words.{Text}
+use Rattle.thp_script.specs.Prelude.{spelled_after, IsPartRead, Text}
 use Rattle.thp_script.proofs.script_reader.add_fast.Given as goal
 
 abbrev pub decreases-loop-command : goal.decreases-loop-command

@@ -1,5 +1,4 @@
-use Rattle.std.proofs.Common.{◌≡◌, ◌+◌, []}
-use Rattle.std.specs.Prelude.{replicate}
+use Rattle.std.proofs.Common.{◌≡◌, ◌+◌, [], replicate}
 use Rattle.thp_script.proofs.script_reader.empty_sections.Given as goal
 
 abbrev pub invariant-loop : goal.invariant-loop

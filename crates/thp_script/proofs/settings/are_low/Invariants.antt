@@ -1,5 +1,5 @@
 use Rattle.std.proofs.Common.{◌≡◌, ℕ, ◌<◌, get_or, true, None}
-use Rattle.thp_script.specs.Settings.{is_low}
+use Rattle.thp_script.specs.Prelude.{is_low}
 use Rattle.thp_script.proofs.settings.are_low.Given as goal
 
 -- the thresholds that were looked at are low

@@ -1,6 +1,6 @@
 use Rattle.std.proofs.Common.{◌≡◌, rules, arith, sym, Some}
 use Rattle.std.proofs.lemmas.Bool.{and_from}
-use Rattle.thp_script.specs.Words.{number_of}
+use Rattle.thp_script.specs.Prelude.{number_of}
 use Rattle.thp_script.proofs.NumberLaws.{none_of_no_front, none_of_no_value, some_of_numeral, none_above, decimal_of_number, no_decimal}
 use Rattle.thp_script.proofs.words.number.Goals as goal
 

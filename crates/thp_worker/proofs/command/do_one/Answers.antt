@@ -1,4 +1,4 @@
-use Rattle.thp_worker.specs.Does.{answer_of}
+use Rattle.thp_worker.specs.Prelude.{answer_of}
 use Rattle.thp_worker.proofs.StepLaws.{goes_refl}
 use Rattle.thp_worker.proofs.CommandLaws.{proceeds_none, one_comes, shared_comes}
 use Rattle.thp_worker.proofs.command.do_one.Goals as goal

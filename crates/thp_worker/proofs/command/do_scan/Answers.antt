@@ -1,6 +1,5 @@
 use Rattle.std.proofs.Common.{◌≡◌, ◌∙◌, Ok, Err, ap, subst, sym}
-use Rattle.thp_worker.specs.Fronts.{StepDone}
-use Rattle.thp_worker.specs.Turns.{next_step}
+use Rattle.thp_worker.specs.Prelude.{StepDone, next_step}
 use Rattle.thp_worker.proofs.StepLaws.{goes_refl, goes_trans, has_later}
 use Rattle.thp_worker.proofs.CommandLaws.{proceeds_none, proceeds_more, fault_comes, handed_on, scan_goes}
 use Rattle.thp_worker.proofs.command.do_scan.Goals as goal

@@ -1,7 +1,5 @@
 use Rattle.std.proofs.Common.{◌-◌}
-use Rattle.thp_worker.specs.Turns.{On}
-use Rattle.thp_worker.specs.Fronts.{Goes}
-use Rattle.thp_worker.specs.Sections.{Proceeds}
+use Rattle.thp_worker.specs.Prelude.{On, Goes, Proceeds}
 use Rattle.thp_worker.proofs.command.do_scan.Given as goal
 
 abbrev pub invariant-loop-begun : goal.invariant-loop-begun

@@ -1,6 +1,6 @@
 use Rattle.std.proofs.Common.{[]}
 use Rattle.std.proofs.lemmas.List.Elements.{All-nil, All-push}
-use Rattle.thp_worker.specs.Sections.{AnswersAre}
+use Rattle.thp_worker.specs.Prelude.{AnswersAre}
 use Rattle.thp_worker.proofs.HalvesLaws.{ran_one}
 use Rattle.thp_worker.proofs.halves.run_one.Goals as goal
 

@@ -1,7 +1,6 @@
-use Rattle.std.proofs.Common.{◌∙◌, [], ap, arith, false, length}
-use Rattle.std.specs.Prelude.{replicate}
+use Rattle.std.proofs.Common.{◌∙◌, [], ap, arith, false, length, replicate}
 use Rattle.std.proofs.lemmas.List.Elements.{All-nil}
-use Rattle.thp_worker.specs.Sections.{IsCommandFor}
+use Rattle.thp_worker.specs.Prelude.{IsCommandFor}
 use Rattle.thp_worker.proofs.SectionLaws.{begins_first}
 use Rattle.thp_worker.proofs.in_parts.begin_section.Goals as goal
 

@@ -1,9 +1,6 @@
 use Rattle.std.proofs.Common.{◌≡◌, ◌+◌, ◌++◌, ◌≤◌, List, length}
 use Rattle.thp_script.specs.declared.script.Command.{Command}
-use Rattle.thp_worker.specs.Fronts.{Fronts, Goes}
-use Rattle.thp_worker.specs.InParts.{DidFirst}
-use Rattle.thp_worker.specs.Sections.{Begins}
-use Rattle.thp_worker.specs.Turns.{no_progress}
+use Rattle.thp_worker.specs.Prelude.{Fronts, Goes, DidFirst, Begins, no_progress}
 use Rattle.thp_worker.proofs.in_parts.do_commands.Given as goal
 
 abbrev pub invariant-loop-index : goal.invariant-loop-index

@@ -1,5 +1,5 @@
 use Rattle.std.proofs.Common.{arith}
-use Rattle.thp_worker.specs.Turns.{no_progress}
+use Rattle.thp_worker.specs.Prelude.{no_progress}
 use Rattle.thp_worker.proofs.SectionLaws.{ends_first}
 use Rattle.thp_worker.proofs.in_parts.end_section.Goals as goal
 

@@ -1,7 +1,6 @@
-use Rattle.std.proofs.Common.{◌≡◌, ◌++◌}
-use Rattle.std.specs.Prelude.{filter}
+use Rattle.std.proofs.Common.{◌≡◌, ◌++◌, filter}
 use Rattle.std.specs.Vec.Iter.{into_iter_items}
-use Rattle.thp_worker.specs.KeptSections.{has_kept}
+use Rattle.thp_worker.specs.Prelude.{has_kept}
 use Rattle.thp_worker.proofs.kept_section.kept_sections.Given as goal
 
 abbrev pub invariant-loop-section : goal.invariant-loop-section

@@ -1,7 +1,6 @@
 use Rattle.std.proofs.Common.{◌≡◌, ◌++◌, List, length}
 use Rattle.std.specs.Vec.Iter.{into_iter_items, into_iter_len}
-use Rattle.thp_worker.specs.Holdings.{Held}
-use Rattle.thp_worker.specs.Passes.{EachAdjoins, EachJoint}
+use Rattle.thp_worker.specs.Prelude.{Held, EachAdjoins, EachJoint}
 use Rattle.thp_worker.proofs.node_passes.join_each.Given as goal
 
 abbrev pub invariant-loop-low : goal.invariant-loop-low

@@ -1,5 +1,4 @@
-use Rattle.std.proofs.Common.{◌≡◌, ◌∙◌, ◌<◌, ◌≤◌, length, ap, arith, refl, sym, Some}
-use Rattle.std.specs.Prelude.{slice_get}
+use Rattle.std.proofs.Common.{◌≡◌, ◌∙◌, ◌<◌, ◌≤◌, length, ap, arith, refl, sym, Some, slice_get}
 use Rattle.std.proofs.lemmas.Option.{slice_get_read}
 use Rattle.thp_worker.proofs.EachLaws.{kept_to, kept_none, kept_more, kept_all, kept_of_all, length-kept}
 use Rattle.thp_worker.proofs.node_passes.keep_each.Goals as goal

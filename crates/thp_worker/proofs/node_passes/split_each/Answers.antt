@@ -1,7 +1,6 @@
-use Rattle.std.proofs.Common.{subst}
-use Rattle.std.specs.Prelude.{All}
+use Rattle.std.proofs.Common.{subst, All}
 use Rattle.std.proofs.lemmas.List.Elements.{All-tail}
-use Rattle.thp_worker.specs.Passes.{high_part, low_part, IsCut}
+use Rattle.thp_worker.specs.Prelude.{high_part, low_part, IsCut}
 use Rattle.thp_worker.proofs.EachLaws.{pushed}
 use Rattle.thp_worker.proofs.node_passes.split_each.Goals as goal
 

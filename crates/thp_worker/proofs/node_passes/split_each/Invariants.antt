@@ -1,7 +1,6 @@
-use Rattle.std.proofs.Common.{◌≡◌, ◌++◌, map}
-use Rattle.std.specs.Prelude.{All}
+use Rattle.std.proofs.Common.{◌≡◌, ◌++◌, map, All}
 use Rattle.std.specs.Vec.Iter.{into_iter_items}
-use Rattle.thp_worker.specs.Passes.{high_part, low_part, IsCut}
+use Rattle.thp_worker.specs.Prelude.{high_part, low_part, IsCut}
 use Rattle.thp_worker.proofs.node_passes.split_each.Given as goal
 
 abbrev pub invariant-loop-node : goal.invariant-loop-node

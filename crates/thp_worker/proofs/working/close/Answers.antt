@@ -1,9 +1,6 @@
-use Rattle.std.proofs.Common.{◌∙◌, ◌<◌, arith, sym, refl, false}
-use Rattle.std.proofs.lemmas.List.{length-set}
+use Rattle.std.proofs.Common.{◌∙◌, ◌<◌, arith, sym, refl, false, length-set}
 use Rattle.thp_model.proofs.Options.{not_there}
-use Rattle.thp_worker.specs.Does.{Reaction, answer_of}
-use Rattle.thp_worker.specs.Turns.{Ended, no_progress}
-use Rattle.thp_worker.specs.Sections.{PutsBack}
+use Rattle.thp_worker.specs.Prelude.{Reaction, answer_of, Ended, no_progress, PutsBack}
 use Rattle.thp_worker.proofs.StepLaws.{goes_trans}
 use Rattle.thp_worker.proofs.CommandLaws.{cell_comes}
 use Rattle.thp_worker.proofs.SectionLaws.{room_for_one, ends_more, ends_stop, shut_more, shut_put, not_open, works_end, works_closing}

@@ -1,7 +1,6 @@
 use Rattle.std.proofs.Common.{◌≡◌, ◌<◌, ℕ, List, None, length}
 use Rattle.thp_script.specs.declared.script.Command.{Command}
-use Rattle.thp_worker.specs.Fronts.{Fronts, Goes}
-use Rattle.thp_worker.specs.Sections.{Ends}
+use Rattle.thp_worker.specs.Prelude.{Fronts, Goes, Ends}
 use Rattle.thp_worker.proofs.working.close.Given as goal
 
 abbrev pub invariant-loop-node : goal.invariant-loop-node

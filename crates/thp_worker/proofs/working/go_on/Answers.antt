@@ -1,13 +1,8 @@
-use Rattle.std.proofs.Common.{◌≡◌, ◌<◌, ◌≤◌, ◌∙◌, ◌++◌, ◌∷◌, [], ℕ, Bool, List, ap, arith, sym, subst, get_or, length, refl, Some}
-use Rattle.std.specs.Prelude.{slice_get}
-use Rattle.std.proofs.lemmas.List.{length-set}
+use Rattle.std.proofs.Common.{◌≡◌, ◌<◌, ◌≤◌, ◌∙◌, ◌++◌, ◌∷◌, [], ℕ, Bool, List, ap, arith, sym, subst, get_or, length, refl, Some, slice_get, length-set}
 use Rattle.std.proofs.lemmas.Option.{slice_get-get_or}
 use Rattle.thp_model.proofs.Options.{not_there}
 use Rattle.thp_script.specs.declared.script.Op.TheVariants.{Alloc}
-use Rattle.thp_worker.specs.Does.{Reaction, answer_of}
-use Rattle.thp_worker.specs.OpenBatches.{marked}
-use Rattle.thp_worker.specs.Turns.{no_progress}
-use Rattle.thp_worker.specs.Sections.{Begins, Proceeds}
+use Rattle.thp_worker.specs.Prelude.{Reaction, answer_of, marked, no_progress, Begins, Proceeds}
 use Rattle.thp_worker.proofs.CommandLaws.{cell_comes}
 use Rattle.thp_worker.proofs.OpenLaws.{marked_alike}
 use Rattle.thp_worker.proofs.StepLaws.{goes_trans}

@@ -1,6 +1,5 @@
 use Rattle.std.proofs.Common.{◌≡◌, ◌≤◌, length}
-use Rattle.thp_worker.specs.Fronts.{Fronts, Goes}
-use Rattle.thp_worker.specs.Sections.{Begins}
+use Rattle.thp_worker.specs.Prelude.{Fronts, Goes, Begins}
 use Rattle.thp_worker.proofs.working.go_on.Given as goal
 
 abbrev pub invariant-loop-index : goal.invariant-loop-index

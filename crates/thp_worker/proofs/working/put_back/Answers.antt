@@ -1,4 +1,4 @@
-use Rattle.thp_worker.specs.Does.{answer_of}
+use Rattle.thp_worker.specs.Prelude.{answer_of}
 use Rattle.thp_worker.proofs.SectionLaws.{puts_back_comes}
 use Rattle.thp_worker.proofs.working.put_back.Goals as goal
 

@@ -1,5 +1,4 @@
-use Rattle.std.proofs.Common.{◌∙◌, ap, false}
-use Rattle.std.specs.Prelude.{replicate}
+use Rattle.std.proofs.Common.{◌∙◌, ap, false, replicate}
 use Rattle.thp_worker.proofs.SectionLaws.{begins_first}
 use Rattle.thp_worker.proofs.working.work.Goals as goal
 

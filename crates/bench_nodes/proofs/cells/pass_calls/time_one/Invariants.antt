@@ -1,5 +1,5 @@
 use Rattle.std.proofs.Common.{◌≡◌}
-use Rattle.thp_cell.specs.Calls.{at_front}
+use Rattle.thp_cell.specs.Prelude.{at_front}
 use Rattle.bench_nodes.proofs.cells.pass_calls.time_one.Given as goal
 
 abbrev pub invariant-loop-round : goal.invariant-loop-round

@@ -1,7 +1,7 @@
 -- The pass is the same but for its front, at which the batch stands in front of its caller's flight.
 use Rattle.std.proofs.Common.{◌≡◌}
-use Rattle.thp_cell.specs.Calls.{at_front}
-use Rattle.thp_node.specs.Batches.{IsInFront}
+use Rattle.thp_cell.specs.Prelude.{at_front}
+use Rattle.thp_node.specs.Prelude.{IsInFront}
 use Rattle.bench_nodes.proofs.cells.pass_calls.try_all.Given as goal
 
 abbrev pub invariant-loop-page : goal.invariant-loop-page

@@ -1,6 +1,6 @@
 -- The queue stands in the table, and holds the blocks below `i`.
 use Rattle.std.proofs.Common.{◌≡◌, ℕ, ◌<◌, length, Contains}
-use Rattle.thp_links.specs.Standing.{Stands}
+use Rattle.thp_links.specs.Prelude.{Stands}
 use Rattle.bench_nodes.proofs.tables.links.filled.Given as goal
 
 abbrev pub invariant-loop-i : goal.invariant-loop-i

@@ -1,5 +1,5 @@
 -- The queue stands in the table.
-use Rattle.thp_links.specs.Standing.{Stands}
+use Rattle.thp_links.specs.Prelude.{Stands}
 use Rattle.bench_nodes.proofs.tables.links.time_front.Given as goal
 
 abbrev pub invariant-loop-round : goal.invariant-loop-round

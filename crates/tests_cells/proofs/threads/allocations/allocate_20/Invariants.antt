@@ -1,5 +1,5 @@
 use Rattle.std.proofs.Common.{◌≡◌, ◌≤◌}
-use Rattle.thp_cell.specs.Calls.{at_front}
+use Rattle.thp_cell.specs.Prelude.{at_front}
 use Rattle.tests_cells.proofs.threads.allocations.allocate_20.Given as goal
 
 abbrev pub invariant-loop : goal.invariant-loop

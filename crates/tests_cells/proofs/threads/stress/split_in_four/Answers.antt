@@ -1,7 +1,6 @@
 -- Each split leaves all of a pass but its first or its last caller.
 use Rattle.std.proofs.Common.{ℕ, ap, ◌∙◌, arith, false}
-use Rattle.thp_cell.specs.Views.{PassState}
-use Rattle.thp_cell.specs.Calls.{below, from}
+use Rattle.thp_cell.specs.Prelude.{PassState, below, from}
 use Rattle.tests_cells.proofs.threads.stress.split_in_four.Goals as goal
 
 pub split-requires-clause-cell : goal.split-requires-clause-cell

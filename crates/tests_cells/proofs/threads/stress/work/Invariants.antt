@@ -1,7 +1,6 @@
-use Rattle.std.proofs.Common.{◌≡◌}
-use Rattle.std.specs.Prelude.{IfSome}
-use Rattle.thp_node.specs.Batches.{BatchState, IsInFront}
-use Rattle.thp_cell.specs.Calls.{at_front}
+use Rattle.std.proofs.Common.{◌≡◌, IfSome}
+use Rattle.thp_node.specs.Prelude.{BatchState, IsInFront}
+use Rattle.thp_cell.specs.Prelude.{at_front}
 use Rattle.tests_cells.proofs.threads.stress.work.Given as goal
 
 abbrev pub invariant-loop-turn : goal.invariant-loop-turn

@@ -1,6 +1,6 @@
 -- The batch is in front of its flight.
-use Rattle.std.specs.Prelude.{IfSome}
-use Rattle.thp_node.specs.Batches.{BatchState, IsInFront}
+use Rattle.std.proofs.Common.{IfSome}
+use Rattle.thp_node.specs.Prelude.{BatchState, IsInFront}
 use Rattle.tests_nodes.proofs.batches.steps.expect_batches.Given as goal
 
 abbrev pub invariant-loop-place : goal.invariant-loop-place

@@ -1,6 +1,6 @@
 use Rattle.std.proofs.Common.{◌≡◌}
-use Rattle.thp_node.specs.Batches.{IsInFront}
-use Rattle.thp_cell.specs.Calls.{at_front}
+use Rattle.thp_node.specs.Prelude.{IsInFront}
+use Rattle.thp_cell.specs.Prelude.{at_front}
 use Rattle.tests_spoilt.proofs.memory.cell_growths.each_growth_refused.Given as goal
 
 abbrev pub invariant-loop-number : goal.invariant-loop-number

@@ -1,8 +1,6 @@
 -- What the table has of the subpage is what the journal determines.
 use Rattle.std.proofs.Common.{◌≡◌, ◌∙◌, ◌<◌, ◌≤◌, ap, sym, arith, cond, nat_lt, true, ℕ}
-use Rattle.thp_model.specs.Counts.{is_live, own}
-use Rattle.thp_model.specs.Pages.{own_at}
-use Rattle.thp_model.specs.Shapes.{subpages}
+use Rattle.thp_model.specs.Prelude.{is_live, own, own_at, subpages}
 use Rattle.thp_model.proofs.Tallying.{own_is, size_is}
 use Rattle.thp_capi.specs.Engines.{EngineState}
 use Rattle.thp_capi.proofs.Reading.{at_block, page_is, unseen}

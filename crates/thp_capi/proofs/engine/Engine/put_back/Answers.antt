@@ -1,7 +1,6 @@
 -- The other open batches stay in front of their flights; a refused put-back changes nothing.
-use Rattle.std.proofs.Common.{◌≡◌, ◌∙◌, ◌<◌, Some, None, ap, get_or, length, set, sym, subst}
-use Rattle.std.proofs.lemmas.List.{set-set}
-use Rattle.thp_node.specs.Batches.{BatchState, IsInFront}
+use Rattle.std.proofs.Common.{◌≡◌, ◌∙◌, ◌<◌, Some, None, ap, get_or, length, set, sym, subst, set-set}
+use Rattle.thp_node.specs.Prelude.{BatchState, IsInFront}
 use Rattle.thp_capi.specs.Calls.{BackFails}
 use Rattle.thp_capi.specs.declared.codes.Fault.TheVariants.{Refused}
 use Rattle.thp_capi.proofs.Places.{engine_took, engine_closed, own_front, back_refused}

@@ -1,6 +1,6 @@
 -- The new batch is in front of its flight, and the others stay so.
 use Rattle.std.proofs.Common.{ap, arith}
-use Rattle.thp_node.specs.Batches.{BatchState}
+use Rattle.thp_node.specs.Prelude.{BatchState}
 use Rattle.thp_capi.proofs.Places.{engine_took}
 use Rattle.thp_capi.proofs.engine.Engine.take.Goals as goal
 

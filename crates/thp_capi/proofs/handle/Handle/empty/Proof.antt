@@ -1,5 +1,5 @@
 -- `empty` makes a handle that holds nothing.
-use Rattle.std.proofs.Common.{◌≡◌, [], ◌∷◌, refl, lit<}
+use Rattle.std.proofs.Common.{◌≡◌, [], ◌∷◌, refl, lit<, None}
 use mir.Syntax.{a_type}
 use mir.MapTy.{inst_fn}
 use mir.Val.{Val}
@@ -17,7 +17,6 @@ use denote.RawPtr.{null_ptr}
 use denote.Steps.{nothing}
 use denote.Triple.Entry.{alive}
 use denote.Triple.Walked.{Stays, walk_of}
-use Rattle.std.specs.Prelude.{None}
 use Rattle.std.proofs.raw_atomic.Walks.{proved_at, leaves}
 use Rattle.thp_capi.proofs.Handles.{words, handle_in}
 use Rattle.thp_capi.specs.contracts.handle.Handle as handle

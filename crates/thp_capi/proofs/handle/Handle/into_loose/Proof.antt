@@ -1,5 +1,5 @@
 -- `into_loose` gives a box's pointer back.
-use Rattle.std.proofs.Common.{◌≡◌, List, [], ◌∷◌, ◌++◌, refl, sym, ap, ◌∙◌, subst}
+use Rattle.std.proofs.Common.{◌≡◌, List, [], ◌∷◌, ◌++◌, refl, sym, ap, ◌∙◌, subst, Option, Some, IsSome}
 use mir.Syntax.{a_type}
 use mir.MapTy.{inst_fn}
 use mir.Raw.{raw as bare}
@@ -23,7 +23,6 @@ use denote.RawPtr.{Ptr, block_ptr, null_ptr, in_a_block}
 use denote.Steps.{nothing, heard}
 use denote.Triple.Entry.{alive}
 use denote.Triple.Walked.{Stays, stay_dropped, walk_of, Goes-dropped}
-use Rattle.std.specs.Prelude.{Option, Some, IsSome}
 use Rattle.std.proofs.alloc.Calls.{handle_tells}
 use Rattle.std_alloc.specs.Box.Ownership.{box_owns}
 use Rattle.std.specs.contracts.alloc.Global as heap

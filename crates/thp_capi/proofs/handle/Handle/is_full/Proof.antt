@@ -1,5 +1,5 @@
 -- `is_full` reads whether the handle holds something.
-use Rattle.std.proofs.Common.{ℕ, List, [], ◌∷◌, refl, ap, ◌∙◌}
+use Rattle.std.proofs.Common.{ℕ, List, [], ◌∷◌, refl, ap, ◌∙◌, eqb}
 use mathlib.Core.Bool.{Bool}
 use mir.Syntax.{a_type, named}
 use mir.MapTy.{inst_fn}
@@ -17,7 +17,6 @@ use denote.RattleType.{RattleType}
 use denote.Signature.{plain}
 use denote.Steps.{nothing, opens, closes}
 use denote.Triple.Walked.{Stays, stay_ref, Goes-ref, walk_of, ends_at}
-use Rattle.std.specs.Prelude.{eqb}
 use Rattle.std.proofs.mem.Facts.{says_two}
 use Rattle.std.proofs.raw_atomic.Walks.{proved}
 use Rattle.thp_capi.proofs.Handles.{words, handle_out, handle_in, eqb-flag}

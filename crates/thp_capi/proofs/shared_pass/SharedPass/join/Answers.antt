@@ -1,6 +1,6 @@
 -- The open batches of both are those of the joint pass, and there is room for them.
 use Rattle.std.proofs.Common.{◌≡◌, ap, arith, subst, sym}
-use Rattle.thp_cell.specs.Views.{PassState}
+use Rattle.thp_cell.specs.Prelude.{PassState}
 use Rattle.thp_capi.specs.Sharing.{SharedState}
 use Rattle.thp_capi.proofs.Opened.{shared_joined}
 use Rattle.thp_capi.proofs.shared_pass.SharedPass.join.Goals as goal

@@ -1,9 +1,6 @@
 -- The other open batches stay in front of their flights; what the cell's call did is told.
-use Rattle.std.proofs.Common.{◌≡◌, ◌∙◌, ◌+◌, ◌<◌, Some, None, Ok, Err, ap, arith, get_or, length, set, sym, subst}
-use Rattle.std.proofs.lemmas.List.{set-set}
-use Rattle.thp_cell.specs.Calls.{Called}
-use Rattle.thp_cell.specs.Says.{DidPutBack}
-use Rattle.thp_cell.specs.Views.{HasCaller}
+use Rattle.std.proofs.Common.{◌≡◌, ◌∙◌, ◌+◌, ◌<◌, Some, None, Ok, Err, ap, arith, get_or, length, set, sym, subst, set-set}
+use Rattle.thp_cell.specs.Prelude.{Called, DidPutBack, HasCaller}
 use Rattle.thp_capi.specs.PassBatches.{PassBack, fault_in}
 use Rattle.thp_capi.proofs.Opened.{shared_closed, shared_again, back_done, back_failed, own_at}
 use Rattle.thp_capi.proofs.shared_pass.SharedPass.put_back.Goals as goal

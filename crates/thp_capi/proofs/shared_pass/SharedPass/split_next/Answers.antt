@@ -1,8 +1,7 @@
 -- The batch and the others stay in front of their flights; what the cell's call did is told.
 use Rattle.std.proofs.Common.{◌≡◌, ◌∙◌, ◌+◌, ◌<◌, Some, None, arith, get_or, length, refl, set, sym, subst}
 use Rattle.std.proofs.lemmas.List.{get_or_default}
-use Rattle.thp_cell.specs.Calls.{Called}
-use Rattle.thp_cell.specs.Says.{DidTry}
+use Rattle.thp_cell.specs.Prelude.{Called, DidTry}
 use Rattle.thp_capi.specs.PassBatches.{PassNext}
 use Rattle.thp_capi.proofs.Opened.{others_stay, own_at, shared_took, next_done, next_failed}
 use Rattle.thp_capi.proofs.shared_pass.SharedPass.split_next.Goals.{in-Ok, in-Err}

@@ -1,6 +1,6 @@
 -- The new batch is in front of its flight, and the others stay so.
 use Rattle.std.proofs.Common.{◌≡◌, ◌+◌, ◌<◌, ap, length, subst, sym}
-use Rattle.thp_node.specs.Batches.{BatchState}
+use Rattle.thp_node.specs.Prelude.{BatchState}
 use Rattle.thp_capi.proofs.Opened.{shared_took}
 use Rattle.thp_capi.proofs.shared_pass.SharedPass.take.Goals as goal
 

@@ -1,15 +1,10 @@
 -- The node is in the slot at the end, and its journal is the pass's front.
-use Rattle.std.proofs.Common.{◌≡◌, ◌∙◌, ◌<◌, arith, subst, ap, sym, false}
-use Rattle.std.specs.List.{All}
+use Rattle.std.proofs.Common.{◌≡◌, ◌∙◌, ◌<◌, arith, subst, ap, sym, false, All}
 use Rattle.std.proofs.lemmas.List.Elements.{All-weaker}
 use Rattle.thp_model.specs.declared.events.Event.{Event}
-use Rattle.thp_model.specs.History.{events_of}
-use Rattle.thp_node.specs.NodeState.{NodeState}
-use Rattle.thp_cell.specs.Rule.{IsOwn}
-use Rattle.thp_cell.specs.Calls.{returning_node}
-use Rattle.thp_cell.specs.Steps.{IsWhole}
-use Rattle.thp_cell.specs.Views.{PassState, HasAll}
-use Rattle.thp_cell.specs.Seats.{Place, pass_state}
+use Rattle.thp_model.specs.Prelude.{events_of}
+use Rattle.thp_node.specs.Prelude.{NodeState}
+use Rattle.thp_cell.specs.Prelude.{IsOwn, returning_node, IsWhole, PassState, HasAll, Place, pass_state}
 use Rattle.thp_cell.proofs.Ending.{EndsWith, ends}
 use Rattle.thp_cell.proofs.Keeping.{free_state}
 use Rattle.thp_cell.proofs.cell.NodeCell.finish.Goals as goal

@@ -1,10 +1,7 @@
 -- The join of two seats and the load after it keep the rule, and tell that both fronts begin the new one.
 use Rattle.std.proofs.Common.{rules, arith, ap, subst, sym, ◌∙◌, ◌≡◌, ◌≤◌, ◌<◌, [], false}
-use Rattle.thp_model.specs.Legal.{IsLegal}
-use Rattle.thp_cell.specs.Steps.{SeatValue}
-use Rattle.thp_cell.specs.Views.{PassState}
-use Rattle.thp_cell.specs.Calls.{returning_node, IsJoined}
-use Rattle.thp_cell.specs.Seats.{known_state, pass_state}
+use Rattle.thp_model.specs.Prelude.{IsLegal}
+use Rattle.thp_cell.specs.Prelude.{SeatValue, PassState, returning_node, IsJoined, known_state, pass_state}
 use Rattle.thp_cell.proofs.Keeping.{free_state}
 use Rattle.thp_cell.proofs.Locking.{looks_at}
 use Rattle.thp_cell.proofs.Passes.{joined_pass, joined_left, joined_right, batches_stay_on}

@@ -1,15 +1,11 @@
-use Rattle.std.proofs.Common.{◌≡◌, ◌≤◌, Option, ap, ap₂, sym, ◌∙◌, subst}
-use Rattle.std.specs.Prelude.{IfErr}
+use Rattle.std.proofs.Common.{◌≡◌, ◌≤◌, Option, ap, ap₂, sym, ◌∙◌, subst, IfErr}
 use Rattle.thp_model.specs.declared.refusal.Refusal.{Refusal}
 use Rattle.thp_model.specs.declared.shape.Shape.{Shape}
 use Rattle.thp_model.specs.declared.events.What.TheVariants as what
-use Rattle.thp_model.specs.History.{History}
-use Rattle.thp_model.specs.Limits.{max_order}
-use Rattle.thp_model.specs.Refusals.{refusal}
+use Rattle.thp_model.specs.Prelude.{History, max_order, refusal}
 use Rattle.thp_model.specs.Refusals as call
 use Rattle.thp_model.proofs.Narrowing.{write, write-whole}
-use Rattle.thp_cell.specs.Calls.{Failed}
-use Rattle.thp_cell.specs.Views.{PassState}
+use Rattle.thp_cell.specs.Prelude.{Failed, PassState}
 use Rattle.thp_cell.proofs.Narrowed.{ok_then, one_as}
 use Rattle.thp_cell.proofs.cell.NodeCell.write.Given.{Over}
 use Rattle.thp_cell.proofs.cell.NodeCell.write.Goals as goal

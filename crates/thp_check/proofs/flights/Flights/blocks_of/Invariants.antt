@@ -1,7 +1,6 @@
-use Rattle.std.proofs.Common.{◌≡◌, ◌%◌, nat_eq, take, get_or}
-use Rattle.std.specs.List.{filter}
+use Rattle.std.proofs.Common.{◌≡◌, ◌%◌, nat_eq, take, get_or, filter}
 use Rattle.thp_links.specs.declared.link.TheConstants.{NIL}
-use Rattle.thp_check.specs.Flights.{caller_at, list_at}
+use Rattle.thp_check.specs.Prelude.{caller_at, list_at}
 use Rattle.thp_check.proofs.flights.Flights.blocks_of.Given as goal
 
 -- the caller's blocks among those passed, and the block of the next place

@@ -1,7 +1,6 @@
-use Rattle.std.proofs.Common.{◌≡◌, ◌%◌, nat_eq, take, get_or, []}
-use Rattle.std.specs.List.{filter}
+use Rattle.std.proofs.Common.{◌≡◌, ◌%◌, nat_eq, take, get_or, [], filter}
 use Rattle.thp_links.specs.declared.link.TheConstants.{NIL}
-use Rattle.thp_check.specs.Flights.{caller_at, list_at}
+use Rattle.thp_check.specs.Prelude.{caller_at, list_at}
 use Rattle.thp_check.proofs.flights.Flights.first_of.Given as goal
 
 -- the pages passed are of other callers, and the next one lies in this block

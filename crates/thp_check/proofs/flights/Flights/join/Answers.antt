@@ -1,5 +1,5 @@
 use Rattle.std.proofs.Common.{◌%◌, ℕ, List, ◌∷◌, ◌++◌, [], Contains, length, ap, ◌∙◌, subst, arith}
-use Rattle.thp_check.specs.Flights.{FlightsState}
+use Rattle.thp_check.specs.Prelude.{FlightsState}
 use Rattle.thp_check.proofs.FlightLists.{listless, read_list, joined_linked, joined_blocks}
 use Rattle.thp_check.proofs.flights.Flights.join.Goals as goal
 

@@ -1,7 +1,6 @@
 use Rattle.std.proofs.Common.{ℕ, List, Contains, ap, sym, ◌∙◌, subst}
-use Rattle.thp_links.specs.Indices.{without}
-use Rattle.thp_links.specs.Standing.{SameOutside}
-use Rattle.thp_check.specs.Flights.{blocks_in, flight_left}
+use Rattle.thp_links.specs.Prelude.{without, SameOutside}
+use Rattle.thp_check.specs.Prelude.{blocks_in, flight_left}
 use Rattle.thp_check.proofs.FlightLists.{listed, read_list, left_linked, left_blocks}
 use Rattle.thp_check.proofs.flights.Flights.leave.Goals as goal
 

@@ -1,5 +1,5 @@
 use Rattle.std.proofs.Common.{◌∙◌, List, ℕ, ap}
-use Rattle.thp_check.specs.Flights.{blocks_in}
+use Rattle.thp_check.specs.Prelude.{blocks_in}
 use Rattle.thp_check.proofs.FlightLists.{empty_in}
 use Rattle.thp_check.proofs.flights.Flights.new.Goals as goal
 

@@ -1,11 +1,10 @@
-use Rattle.std.proofs.Common.{sym, subst}
-use Rattle.std.specs.Prelude.{ℕ}
+use Rattle.std.proofs.Common.{sym, subst, ℕ}
 use Rattle.thp_model.specs.declared.events.What.{What}
 use Rattle.thp_model.specs.declared.events.What.TheVariants as what
 use Rattle.thp_check.specs.declared.misfit.Misfit.TheVariants as misfit
 use Rattle.thp_check.proofs.Reasons.{large_map_sub, large_unmap_sub, large_write, large_zero, range_refusal}
-use Rattle.thp_model.specs.History.{by}
-use Rattle.thp_check.specs.Meanings.{Follows, IsMisfit}
+use Rattle.thp_model.specs.Prelude.{by}
+use Rattle.thp_check.specs.Prelude.{Follows, IsMisfit}
 use Rattle.thp_check.proofs.node_state.NodeState.apply.Goals as goal
 
 pub returns-in-UnmapWhole : goal.returns-in-UnmapWhole

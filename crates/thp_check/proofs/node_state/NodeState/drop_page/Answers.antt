@@ -1,5 +1,5 @@
 use Rattle.std.proofs.Common.{ℕ, Contains, refl, sym, ◌∙◌, subst}
-use Rattle.thp_check.specs.Flights.{blocks_in}
+use Rattle.thp_check.specs.Prelude.{blocks_in}
 use Rattle.thp_check.proofs.TakeSteps.{dropped_other, dropped_goes, dropped_not, is_there, same_some}
 use Rattle.thp_check.proofs.node_state.NodeState.drop_page.Goals as goal
 

@@ -1,5 +1,5 @@
 use Rattle.std.proofs.Common.{ℕ, refl, sym, ◌∙◌, subst}
-use Rattle.thp_live_pages.specs.Flying.{IsFlyingAt}
+use Rattle.thp_live_pages.specs.Prelude.{IsFlyingAt}
 use Rattle.thp_check.proofs.Deciding.{unequal, equal}
 use Rattle.thp_check.proofs.TakeSteps.{first_flies, first_number, none_flies, same_some}
 use Rattle.thp_check.proofs.node_state.NodeState.find_first.Goals as goal

@@ -1,6 +1,5 @@
-use Rattle.std.proofs.Common.{ℕ, List, refl, ap, sym, ◌∙◌, subst}
-use Rattle.std.specs.Prelude.{slice_get}
-use Rattle.thp_live_pages.specs.PageStoreState.{TakesFirst}
+use Rattle.std.proofs.Common.{ℕ, List, refl, ap, sym, ◌∙◌, subst, slice_get}
+use Rattle.thp_live_pages.specs.Prelude.{TakesFirst}
 use Rattle.thp_check.proofs.TakeSteps.{take_goes, take_other, take_none, take_busy, oldest_apart, oldest_held}
 use Rattle.thp_check.proofs.Deciding.{unequal, equal}
 use Rattle.thp_check.proofs.node_state.NodeState.take.Goals as goal

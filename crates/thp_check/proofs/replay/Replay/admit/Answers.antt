@@ -1,16 +1,9 @@
 use Rattle.std.proofs.Common.{◌≡◌, ◌∙◌, ◌++◌, ◌∷◌, [], length, ap, arith, subst, sym}
 use Rattle.thp_model.specs.declared.events.Event.{Event}
 use Rattle.thp_model.specs.declared.shape.Shape.{Shape}
-use Rattle.thp_model.specs.Counts.{allocations, is_alloc}
-use Rattle.thp_model.specs.History.{History}
-use Rattle.thp_model.specs.Words.{in_words}
+use Rattle.thp_model.specs.Prelude.{allocations, is_alloc, History, in_words}
 use Rattle.thp_live_pages.proofs.Starting.{few_events}
-use Rattle.thp_check.specs.declared.node_state.NodeState.{NodeState}
-use Rattle.thp_check.specs.declared.tally.Tally.{Tally}
-use Rattle.thp_check.specs.Freeing.{free_after, MarksFree}
-use Rattle.thp_check.specs.Meanings.{Means}
-use Rattle.thp_check.specs.Replays.{Replayed}
-use Rattle.thp_check.specs.Totals.{AddsUp, HasRoom}
+use Rattle.thp_check.specs.Prelude.{NodeState, Tally, free_after, MarksFree, Means, Replayed, AddsUp, HasRoom}
 use Rattle.thp_check.proofs.FreeMarks.{freed_inside, marks_push}
 use Rattle.thp_check.proofs.Totals.{has_room, adds_push}
 use Rattle.thp_check.proofs.replay.Replay.admit.Goals as goal

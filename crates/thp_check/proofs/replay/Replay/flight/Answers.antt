@@ -1,9 +1,6 @@
-use Rattle.std.proofs.Common.{◌≡◌, ℕ, List, ap, ◌∙◌, subst}
-use Rattle.std.specs.Prelude.{IfOk}
-use Rattle.thp_model.specs.Places.{flight}
-use Rattle.thp_check.specs.declared.node_state.NodeState.{NodeState}
-use Rattle.thp_check.specs.Flights.{blocks_in}
-use Rattle.thp_check.specs.Replays.{Replayed}
+use Rattle.std.proofs.Common.{◌≡◌, ℕ, List, ap, ◌∙◌, subst, IfOk}
+use Rattle.thp_model.specs.Prelude.{flight}
+use Rattle.thp_check.specs.Prelude.{NodeState, blocks_in, Replayed}
 use Rattle.thp_check.proofs.Showing.{each_of, pages_are}
 use Rattle.thp_check.proofs.replay.Replay.flight.Goals as goal
 

@@ -1,9 +1,6 @@
 use Rattle.std.proofs.Common.{◌∙◌, ap, arith}
-use Rattle.thp_model.specs.Frames.{frames_held}
-use Rattle.thp_model.specs.Shapes.{subpages}
-use Rattle.thp_check.specs.declared.node_state.NodeState.{NodeState}
-use Rattle.thp_check.specs.declared.tally.Tally.{Tally}
-use Rattle.thp_check.specs.Replays.{Replayed}
+use Rattle.thp_model.specs.Prelude.{frames_held, subpages}
+use Rattle.thp_check.specs.Prelude.{NodeState, Tally, Replayed}
 use Rattle.thp_check.proofs.Totals.{all_frames}
 use Rattle.thp_check.proofs.replay.Replay.frames_held.Goals as goal
 

@@ -1,10 +1,8 @@
 use Rattle.std.proofs.Common.{◌≡◌, ℕ, List, Some, map, length, ap, sym, ◌∙◌, subst}
 use Rattle.std.specs.List.{filter, range_with_len}
-use Rattle.thp_model.specs.Frames.{block_in_use}
-use Rattle.thp_live_pages.specs.Homes.{block_of}
-use Rattle.thp_check.specs.declared.node_state.NodeState.{NodeState}
-use Rattle.thp_check.specs.Replays.{Replayed}
-use Rattle.thp_check.specs.Showing.{is_taken, page_at}
+use Rattle.thp_model.specs.Prelude.{block_in_use}
+use Rattle.thp_live_pages.specs.Prelude.{block_of}
+use Rattle.thp_check.specs.Prelude.{NodeState, Replayed, is_taken, page_at}
 use Rattle.thp_check.proofs.Showing.{each_of, pages_are, lie_there, live_lie, if_ok_then}
 use Rattle.thp_check.proofs.replay.Replay.live_pages.Goals as goal
 

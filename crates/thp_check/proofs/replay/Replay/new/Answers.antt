@@ -1,11 +1,7 @@
 use Rattle.std.proofs.Common.{◌≡◌, ℕ, List, [], sym, ◌∙◌, subst}
 use Rattle.thp_model.specs.declared.shape.Shape.{Shape}
-use Rattle.thp_model.specs.History.{History}
-use Rattle.thp_check.specs.declared.node_state.NodeState.{NodeState}
-use Rattle.thp_check.specs.Freeing.{MarksFree}
-use Rattle.thp_check.specs.Meanings.{Means}
-use Rattle.thp_check.specs.Totals.{AddsUp}
-use Rattle.thp_check.specs.declared.tally.Tally.{Tally}
+use Rattle.thp_model.specs.Prelude.{History}
+use Rattle.thp_check.specs.Prelude.{NodeState, MarksFree, Means, AddsUp, Tally}
 use Rattle.thp_check.proofs.FreeMarks.{marks_none}
 use Rattle.thp_check.proofs.Totals.{adds_none}
 use Rattle.thp_check.proofs.replay.Replay.new.Goals as goal

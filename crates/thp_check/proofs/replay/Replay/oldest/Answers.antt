@@ -1,10 +1,8 @@
-use Rattle.std.proofs.Common.{◌≡◌, List, ℕ, ap, sym, ◌∙◌, subst}
-use Rattle.std.specs.Prelude.{slice_get, IsSome}
-use Rattle.thp_model.specs.Places.{queue}
-use Rattle.thp_page.specs.Slots.{slot_at}
-use Rattle.thp_live_pages.specs.PageStoreState.{AtSlot}
-use Rattle.thp_check.specs.declared.node_state.NodeState.{NodeState}
-use Rattle.thp_check.specs.Replays.{Replayed}
+use Rattle.std.proofs.Common.{◌≡◌, List, ℕ, ap, sym, ◌∙◌, subst, slice_get, IsSome}
+use Rattle.thp_model.specs.Prelude.{queue}
+use Rattle.thp_page.specs.Prelude.{slot_at}
+use Rattle.thp_live_pages.specs.Prelude.{AtSlot}
+use Rattle.thp_check.specs.Prelude.{NodeState, Replayed}
 use Rattle.thp_check.proofs.Reading.{oldest_there, oldest_number, none_queued}
 use Rattle.thp_check.proofs.replay.Replay.oldest.Goals as goal
 

@@ -1,15 +1,8 @@
-use Rattle.std.proofs.Common.{◌&&◌, nat_lt, ap, sym, ◌∙◌}
-use Rattle.std.specs.Prelude.{is_some}
-use Rattle.thp_model.specs.Counts.{is_live, is_used, pins, whole}
-use Rattle.thp_model.specs.Frames.{is_held}
-use Rattle.thp_model.specs.Pages.{is_split_candidate}
-use Rattle.thp_model.specs.Sets.{set_of}
-use Rattle.thp_model.specs.Shapes.{subpages}
-use Rattle.thp_model.specs.Underused.{is_worth_split, is_zero_filled}
+use Rattle.std.proofs.Common.{◌&&◌, nat_lt, ap, sym, ◌∙◌, is_some}
+use Rattle.thp_model.specs.Prelude.{is_live, is_used, pins, whole, is_held, is_split_candidate, set_of, subpages, is_worth_split, is_zero_filled}
 use Rattle.thp_model.proofs.Tallying.{pins_is, whole_is}
 use Rattle.thp_live_pages.proofs.Worth.{worth_is}
-use Rattle.thp_check.specs.declared.node_state.NodeState.{NodeState}
-use Rattle.thp_check.specs.Replays.{Replayed}
+use Rattle.thp_check.specs.Prelude.{NodeState, Replayed}
 use Rattle.thp_check.proofs.Showing.{seen, unseen, shrinks_is, used_is, zero_is, frames_are}
 use Rattle.thp_check.proofs.replay.Replay.page.Goals as goal
 

@@ -1,11 +1,6 @@
-use Rattle.std.proofs.Common.{◌≡◌, ℕ, List, refl, ap, sym, ◌∙◌, subst}
-use Rattle.std.specs.Prelude.{IfOk}
-use Rattle.thp_model.specs.Places.{queue}
-use Rattle.thp_check.specs.declared.node_state.NodeState.{NodeState}
-use Rattle.thp_check.specs.Freeing.{MarksFree}
-use Rattle.thp_check.specs.Meanings.{Means}
-use Rattle.thp_check.specs.Replays.{Replayed}
-use Rattle.thp_check.specs.Totals.{AddsUp}
+use Rattle.std.proofs.Common.{◌≡◌, ℕ, List, refl, ap, sym, ◌∙◌, subst, IfOk}
+use Rattle.thp_model.specs.Prelude.{queue}
+use Rattle.thp_check.specs.Prelude.{NodeState, MarksFree, Means, Replayed, AddsUp}
 use Rattle.thp_check.proofs.Showing.{each_of, pages_are, means_read}
 use Rattle.thp_check.proofs.replay.Replay.queue.Goals as goal
 

@@ -1,7 +1,6 @@
 use Rattle.std.proofs.Common.{ap, sym, ◌∙◌}
-use Rattle.thp_model.specs.Counts.{is_live}
-use Rattle.thp_check.specs.declared.node_state.NodeState.{NodeState}
-use Rattle.thp_check.specs.Replays.{Replayed}
+use Rattle.thp_model.specs.Prelude.{is_live}
+use Rattle.thp_check.specs.Prelude.{NodeState, Replayed}
 use Rattle.thp_check.proofs.Showing.{seen, unseen}
 use Rattle.thp_check.proofs.replay.Replay.whereabouts.Goals as goal
 

@@ -1,5 +1,5 @@
 use Rattle.std.proofs.Common.{◌≡◌, map, take}
-use Rattle.thp_check.specs.Showing.{page_at}
+use Rattle.thp_check.specs.Prelude.{page_at}
 use Rattle.thp_check.proofs.replay.reading.pages_of.Given as goal
 
 -- the pages of the blocks passed

@@ -1,7 +1,6 @@
-use Rattle.std.proofs.Common.{◌≡◌, ◌<◌, Bool, None, length, ap, ◌∙◌, arith, subst}
-use Rattle.std.specs.Prelude.{IsSome}
+use Rattle.std.proofs.Common.{◌≡◌, ◌<◌, Bool, None, length, ap, ◌∙◌, arith, subst, IsSome}
 use Rattle.std.specs.Bool.{OnTrue, OnFalse}
-use Rattle.thp_page.specs.Slots.{slot_at}
+use Rattle.thp_page.specs.Prelude.{slot_at}
 use Rattle.thp_check.proofs.Showing.{taken_yes, taken_no}
 use Rattle.thp_check.proofs.replay.reading.taken_blocks.Goals.{then-not-is_free+in_ok-push, else-not-is_free}
 use Rattle.thp_check.proofs.replay.reading.taken_blocks.Goals as goal

@@ -1,6 +1,6 @@
 use Rattle.std.proofs.Common.{◌≡◌}
 use Rattle.std.specs.List.{filter, range_with_len}
-use Rattle.thp_check.specs.Showing.{is_taken}
+use Rattle.thp_check.specs.Prelude.{is_taken}
 use Rattle.thp_check.proofs.replay.reading.taken_blocks.Given as goal
 
 -- those of the blocks passed that are taken

@@ -1,5 +1,5 @@
 use Rattle.std.proofs.Common.{◌∙◌, ap}
-use Rattle.thp_journal_reader.specs.Following.{nodes_told}
+use Rattle.thp_journal_reader.specs.Prelude.{nodes_told}
 use Rattle.thp_journal_reader.proofs.CheckLaws.{told_push}
 use Rattle.thp_journal_reader.proofs.FollowLaws.{goes_on, room}
 use Rattle.thp_journal_reader.proofs.follower.FollowedNodesKeepsNodes.add.Goals as goal

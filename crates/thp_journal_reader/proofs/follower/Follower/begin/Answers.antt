@@ -1,5 +1,5 @@
 use Rattle.std.proofs.Common.{◌∙◌, ◌++◌, ◌∷◌, [], inr, sym}
-use Rattle.thp_journal_reader.specs.Reading.{began}
+use Rattle.thp_journal_reader.specs.Prelude.{began}
 use Rattle.thp_journal_reader.proofs.CheckLaws.{first_begins}
 use Rattle.thp_journal_reader.proofs.FollowLaws.{begins, follows_none, not_stopped}
 use Rattle.thp_journal_reader.proofs.follower.Follower.begin.Goals as goal

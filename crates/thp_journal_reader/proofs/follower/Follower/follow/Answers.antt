@@ -1,9 +1,5 @@
-use Rattle.std.proofs.Common.{subst, sym, List}
-use Rattle.std.specs.Prelude.{OnOk}
-use Rattle.thp_journal_reader.specs.declared.journals.NodeJournal.{NodeJournal}
-use Rattle.thp_journal_reader.specs.declared.line.Line.{Line}
-use Rattle.thp_journal_reader.specs.Following.{Follows}
-use Rattle.thp_journal_reader.specs.Reading.{with_line}
+use Rattle.std.proofs.Common.{subst, sym, List, OnOk}
+use Rattle.thp_journal_reader.specs.Prelude.{NodeJournal, Line, Follows, with_line}
 use Rattle.thp_journal_reader.proofs.follower.Follower.follow.Goals as goal
 
 pub returns-in-Node : goal.returns-in-Node

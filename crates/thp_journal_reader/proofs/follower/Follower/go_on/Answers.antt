@@ -1,6 +1,6 @@
 use Rattle.std.proofs.Common.{◌∙◌, inl}
 use Rattle.std.proofs.lemmas.Result.{IfOk-weaker}
-use Rattle.thp_journal_reader.specs.Reading.{on_last, with_event}
+use Rattle.thp_journal_reader.specs.Prelude.{on_last, with_event}
 use Rattle.thp_journal_reader.proofs.FollowLaws.{follows_none, grows, stops}
 use Rattle.thp_journal_reader.proofs.follower.Follower.go_on.Goals as goal
 

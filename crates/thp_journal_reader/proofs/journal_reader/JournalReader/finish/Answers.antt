@@ -1,9 +1,5 @@
-use Rattle.std.proofs.Common.{◌∙◌, [], ap, arith, sym, List, Ok}
-use Rattle.std.specs.Prelude.{All}
-use Rattle.thp_journal_reader.specs.declared.journals.NodeJournal.{NodeJournal}
-use Rattle.thp_journal_reader.specs.Journals.{IsNodeJournal}
-use Rattle.thp_journal_reader.specs.Parts.{journals_in, told_with}
-use Rattle.thp_journal_reader.specs.Reading.{nodes_in}
+use Rattle.std.proofs.Common.{◌∙◌, [], ap, arith, sym, List, Ok, All}
+use Rattle.thp_journal_reader.specs.Prelude.{NodeJournal, IsNodeJournal, journals_in, told_with, nodes_in}
 use Rattle.thp_journal_reader.proofs.NodeLaws.{all_in_range, if_ok, tells_memory}
 use Rattle.thp_journal_reader.proofs.journal_reader.JournalReader.finish.Goals as goal
 

@@ -1,4 +1,4 @@
-use Rattle.thp_script.specs.Limits.{max_input}
+use Rattle.thp_script.specs.Prelude.{max_input}
 use Rattle.thp_journal_reader.proofs.PartLaws.{tells_all}
 use Rattle.thp_journal_reader.proofs.journal_reader.JournalReader.new.Goals as goal
 

@@ -1,9 +1,5 @@
-use Rattle.std.proofs.Common.{◌≤◌, ◌+◌, Option, subst, sym}
-use Rattle.std.specs.Prelude.{IfSome}
-use Rattle.thp_journal_reader.specs.Answers.{ReportsFirst}
-use Rattle.thp_journal_reader.specs.Following.{nodes_told}
-use Rattle.thp_journal_reader.specs.Parts.{journals_in}
-use Rattle.thp_journal_reader.specs.declared.illegal.Illegal.{Illegal}
+use Rattle.std.proofs.Common.{◌≤◌, ◌+◌, Option, subst, sym, IfSome}
+use Rattle.thp_journal_reader.specs.Prelude.{ReportsFirst, nodes_told, journals_in, Illegal}
 use Rattle.thp_journal_reader.proofs.CheckLaws.{first_before}
 use Rattle.thp_journal_reader.proofs.long_check.LongCheck.finish.Goals as goal
 

@@ -1,5 +1,4 @@
-use Rattle.thp_journal_reader.specs.declared.line.Line.TheVariants.{Happened}
-use Rattle.thp_journal_reader.specs.Reading.{nodes_in}
+use Rattle.thp_journal_reader.specs.Prelude.{Happened, nodes_in}
 use Rattle.thp_journal_reader.proofs.NodeLaws.{each_step}
 use Rattle.thp_journal_reader.proofs.reading.OptionNodesKeepsNodes.add.Goals as goal
 

@@ -1,7 +1,7 @@
 use Rattle.std.proofs.Common.{◌≡◌, ◌∙◌, ◌++◌, [], sym, None}
-use Rattle.thp_script.specs.TextInParts.{fault_with}
+use Rattle.thp_script.specs.Prelude.{fault_with}
 use Rattle.thp_script.proofs.TextLaws.{told_end}
-use Rattle.thp_journal_reader.specs.Parts.{lines_tell}
+use Rattle.thp_journal_reader.specs.Prelude.{lines_tell}
 use Rattle.thp_journal_reader.proofs.PartLaws.{end_is_wrong, end_tells}
 use Rattle.thp_journal_reader.proofs.text_reader.TextReader.fault.Goals as goal
 

@@ -1,11 +1,8 @@
 use Rattle.std.proofs.Common.{◌≡◌, ◌∙◌, ◌++◌, ◌∷◌, ℕ, ap, arith, rules, subst, sym, Ok}
-use Rattle.thp_script.specs.TextInParts.{after_line, told_after, with_begun, with_fault, TextSoFar}
-use Rattle.thp_script.specs.Words.{Text, lines_of}
+use Rattle.thp_script.specs.Prelude.{after_line, told_after, with_begun, with_fault, TextSoFar, Text, lines_of}
 use Rattle.thp_script.proofs.PartReadLaws.{part_begins}
 use Rattle.thp_script.proofs.TextLaws.{fault_comes, line_begins, noted}
-use Rattle.thp_journal_reader.specs.JournalLines.{line_in}
-use Rattle.thp_journal_reader.specs.Parts.{lines_tell}
-use Rattle.thp_journal_reader.specs.Reading.{with_line}
+use Rattle.thp_journal_reader.specs.Prelude.{line_in, lines_tell, with_line}
 use Rattle.thp_journal_reader.proofs.PartLaws.{line_is_wrong, line_tells}
 use Rattle.thp_journal_reader.proofs.text_reader.TextReader.read_part.Goals as goal
 use Rattle.thp_journal_reader.proofs.text_reader.TextReader.read_part.Goals.{in-Some+in-Err, in_default}

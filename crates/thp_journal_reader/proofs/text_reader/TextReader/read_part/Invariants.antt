@@ -1,7 +1,6 @@
 use Rattle.std.proofs.Common.{◌≡◌, ◌++◌, length}
-use Rattle.thp_script.specs.TextInParts.{told_after, IsCounted}
-use Rattle.thp_script.specs.Words.{Text}
-use Rattle.thp_journal_reader.specs.Parts.{lines_tell, so_far, told_with}
+use Rattle.thp_script.specs.Prelude.{told_after, IsCounted, Text}
+use Rattle.thp_journal_reader.specs.Prelude.{lines_tell, so_far, told_with}
 use Rattle.thp_journal_reader.proofs.text_reader.TextReader.read_part.Given as goal
 
 abbrev pub decreases-loop-text : goal.decreases-loop-text

@@ -1,10 +1,7 @@
 use Rattle.std.proofs.Common.{◌≡◌, ◌∙◌, ap, refl, subst, sym}
-use Rattle.thp_model.specs.BlockLaws.{event_with}
+use Rattle.thp_model.specs.Prelude.{event_with}
 use Rattle.thp_model.specs.declared.events.What.{What}
-use Rattle.thp_journal_scripts.specs.declared.moved.Moved.{Moved}
-use Rattle.thp_journal_scripts.specs.Folds.{flying_after, pages_at, IsAt, IsAtPlace}
-use Rattle.thp_journal_scripts.specs.Repeating.{kind_of}
-use Rattle.thp_journal_scripts.specs.WholeScans.{once_ended, scan_place_of, ScanPlace}
+use Rattle.thp_journal_scripts.specs.Prelude.{Moved, flying_after, pages_at, IsAt, IsAtPlace, kind_of, once_ended, scan_place_of, ScanPlace}
 use Rattle.thp_journal_scripts.proofs.FoldingLaws.{event_then, folded_more, in_any_block, more_commands, still_plain}
 use Rattle.thp_journal_scripts.proofs.WholeScanLaws.{event_after, still_at}
 use Rattle.thp_journal_scripts.proofs.folding.Folding.add.Goals as goal

@@ -1,8 +1,5 @@
-use Rattle.std.proofs.Common.{◌≡◌, ◌∙◌, [], ◌∷◌, ◌++◌, ap, subst}
-use Rattle.std.proofs.lemmas.List.{append-nil}
-use Rattle.thp_journal_scripts.specs.Folds.{IsAtPlace}
-use Rattle.thp_journal_scripts.specs.ScriptBatches.{pending_ops}
-use Rattle.thp_journal_scripts.specs.declared.script_batch.ScriptBatch.TheVariants.{Idle}
+use Rattle.std.proofs.Common.{◌≡◌, ◌∙◌, [], ◌∷◌, ◌++◌, ap, subst, append-nil}
+use Rattle.thp_journal_scripts.specs.Prelude.{IsAtPlace, pending_ops, Idle}
 use Rattle.thp_journal_scripts.proofs.FoldingLaws.{adds_call, call_is_plain, one_command}
 use Rattle.thp_journal_scripts.proofs.WholeScanLaws.{calls_on, calls_shut, settled_idle}
 use Rattle.thp_journal_scripts.proofs.folding.Folding.call.Goals as goal

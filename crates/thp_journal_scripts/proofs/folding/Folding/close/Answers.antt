@@ -1,5 +1,5 @@
 use Rattle.std.proofs.Common.{refl}
-use Rattle.thp_journal_scripts.specs.declared.script_batch.ScriptBatch.TheVariants.{Idle}
+use Rattle.thp_journal_scripts.specs.Prelude.{Idle}
 use Rattle.thp_journal_scripts.proofs.FoldingLaws.{adds_put_back, commands_then}
 use Rattle.thp_journal_scripts.proofs.folding.Folding.close.Goals as goal
 

@@ -1,5 +1,5 @@
 use Rattle.std.proofs.Common.{◌∙◌, refl, sym}
-use Rattle.thp_journal_scripts.specs.declared.script_batch.ScriptBatch.TheVariants.{Idle}
+use Rattle.thp_journal_scripts.specs.Prelude.{Idle}
 use Rattle.thp_journal_scripts.proofs.FoldingLaws.{adds_completion, adds_nothing, no_command, one_command}
 use Rattle.thp_journal_scripts.proofs.WholeScanLaws.{scan_ends, scan_incomplete, scan_is_plain, scan_stays}
 use Rattle.thp_journal_scripts.proofs.folding.Folding.end.Goals as goal

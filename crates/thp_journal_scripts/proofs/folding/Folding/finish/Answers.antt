@@ -1,6 +1,5 @@
 use Rattle.std.proofs.Common.{◌≡◌, ◌∙◌, ap, refl}
-use Rattle.thp_journal_scripts.specs.declared.folding.Folding.{Folding}
-use Rattle.thp_journal_scripts.specs.declared.moved.Moved.{Moved}
+use Rattle.thp_journal_scripts.specs.Prelude.{Folding, Moved}
 use Rattle.thp_journal_scripts.proofs.FoldingLaws.{commands_then, finishes}
 use Rattle.thp_journal_scripts.proofs.WholeScanLaws.{nothing_moves}
 use Rattle.thp_journal_scripts.proofs.folding.Folding.finish.Goals as goal

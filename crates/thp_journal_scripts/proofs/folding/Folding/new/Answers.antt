@@ -1,8 +1,6 @@
 use Rattle.std.proofs.Common.{[], ap, refl}
 use Rattle.std.proofs.lemmas.List.Elements.{All-nil}
-use Rattle.thp_journal_scripts.specs.declared.moved.Moved.{Moved}
-use Rattle.thp_journal_scripts.specs.WholeScans.{IsCallOrScan}
-use Rattle.thp_journal_scripts.specs.Moving.{neither, IsOfBatch, IsScan}
+use Rattle.thp_journal_scripts.specs.Prelude.{Moved, IsCallOrScan, neither, IsOfBatch, IsScan}
 use Rattle.thp_journal_scripts.proofs.folding.Folding.new.Goals as goal
 
 pub returns : goal.returns

@@ -1,6 +1,5 @@
 use Rattle.std.proofs.Common.{refl}
-use Rattle.thp_journal_scripts.specs.declared.event_kind.EventKind.TheVariants.{Put}
-use Rattle.thp_journal_scripts.specs.declared.script_batch.ScriptBatch.TheVariants.{Closing}
+use Rattle.thp_journal_scripts.specs.Prelude.{Put, Closing}
 use Rattle.thp_journal_scripts.proofs.FoldingLaws.{adds_open_put, adds_put, adds_waiting, no_command}
 use Rattle.thp_journal_scripts.proofs.WholeScanLaws.{puts_end, puts_more, puts_shut}
 use Rattle.thp_journal_scripts.proofs.folding.Folding.put_page.Goals as goal

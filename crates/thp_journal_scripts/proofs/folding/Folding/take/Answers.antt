@@ -1,7 +1,5 @@
 use Rattle.std.proofs.Common.{refl, subst}
-use Rattle.thp_journal_scripts.specs.Folds.{IsAtPlace}
-use Rattle.thp_journal_scripts.specs.declared.event_kind.EventKind.TheVariants.{Take}
-use Rattle.thp_journal_scripts.specs.declared.script_batch.ScriptBatch.TheVariants.{Taking}
+use Rattle.thp_journal_scripts.specs.Prelude.{IsAtPlace, Take, Taking}
 use Rattle.thp_journal_scripts.proofs.FoldingLaws.{adds_first_take, adds_take, adds_waiting, no_command}
 use Rattle.thp_journal_scripts.proofs.WholeScanLaws.{takes_first, takes_more, takes_not, takes_shut}
 use Rattle.thp_journal_scripts.proofs.folding.Folding.take.Goals as goal

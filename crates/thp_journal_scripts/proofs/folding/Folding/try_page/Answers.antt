@@ -1,5 +1,5 @@
 use Rattle.std.proofs.Common.{refl}
-use Rattle.thp_journal_scripts.specs.declared.event_kind.EventKind.TheVariants.{Try}
+use Rattle.thp_journal_scripts.specs.Prelude.{Try}
 use Rattle.thp_journal_scripts.proofs.FoldingLaws.{adds_open_try, adds_try, adds_waiting, no_command}
 use Rattle.thp_journal_scripts.proofs.WholeScanLaws.{tries_end, tries_more, tries_shut}
 use Rattle.thp_journal_scripts.proofs.folding.Folding.try_page.Goals as goal

@@ -1,5 +1,5 @@
 use Rattle.std.proofs.Common.{◌≡◌}
-use Rattle.thp_journal_scripts.specs.Folds.{AddsCommands, HasAdded}
+use Rattle.thp_journal_scripts.specs.Prelude.{AddsCommands, HasAdded}
 use Rattle.thp_journal_scripts.proofs.folding.Folding.write_scans.Given as goal
 
 abbrev pub invariant-loop-flight : goal.invariant-loop-flight

@@ -1,9 +1,7 @@
-use Rattle.std.proofs.Common.{◌∙◌, ◌+◌, ◌++◌, ap, refl, sym}
-use Rattle.std.specs.Prelude.{if◌then◌else◌}
-use Rattle.thp_model.specs.BlockLaws.{event_with}
+use Rattle.std.proofs.Common.{◌∙◌, ◌+◌, ◌++◌, ap, refl, sym, if◌then◌else◌}
+use Rattle.thp_model.specs.Prelude.{event_with}
 use Rattle.thp_model.specs.declared.events.What.{What}
-use Rattle.thp_journal_scripts.specs.Moving.{counted}
-use Rattle.thp_journal_scripts.specs.Turns.{done_page, is_other, taken_by, tried_page, unless_done}
+use Rattle.thp_journal_scripts.specs.Prelude.{counted, done_page, is_other, taken_by, tried_page, unless_done}
 use Rattle.thp_journal_scripts.proofs.FoldingLaws.{in_any_block}
 use Rattle.thp_journal_scripts.proofs.NodeScriptLaws.{goes_on}
 use Rattle.thp_journal_scripts.proofs.journal_script.JournalScript.add.Goals as goal

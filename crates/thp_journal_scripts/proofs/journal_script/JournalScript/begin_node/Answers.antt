@@ -1,5 +1,5 @@
 use Rattle.std.proofs.Common.{◌∙◌, ◌++◌, ap, refl}
-use Rattle.thp_journal_scripts.specs.NodeScripts.{head_text}
+use Rattle.thp_journal_scripts.specs.Prelude.{head_text}
 use Rattle.thp_journal_scripts.proofs.NodeScriptLaws.{begins}
 use Rattle.thp_journal_scripts.proofs.journal_script.JournalScript.begin_node.Goals as goal
 

@@ -1,10 +1,7 @@
-use Rattle.std.proofs.Common.{◌≡◌, ◌∙◌, ◌+◌, ◌<◌, ◌≤◌, ℕ, true, false, cond, List, [], ◌∷◌, ◌++◌, length, nat_eq, get_or, take, drop, ap, add-one, append_assoc, arith, drop-cons, sym}
+use Rattle.std.proofs.Common.{◌≡◌, ◌∙◌, ◌+◌, ◌<◌, ◌≤◌, ℕ, true, false, cond, List, [], ◌∷◌, ◌++◌, length, nat_eq, get_or, take, drop, ap, add-one, append_assoc, arith, drop-cons, sym, remove}
 use Rattle.std.proofs.lemmas.List.{append-nil, take_more}
 use Rattle.std.proofs.lemmas.Grind.{common_steps}
-use Rattle.std.specs.List.{remove}
-use Rattle.thp_journal_scripts.specs.declared.open_flights.FlyingPage.{FlyingPage}
-use Rattle.thp_journal_scripts.specs.declared.open_flights.OpenFlights.{OpenFlights}
-use Rattle.thp_journal_scripts.specs.Folds.{leave}
+use Rattle.thp_journal_scripts.specs.Prelude.{FlyingPage, OpenFlights, leave}
 use Rattle.thp_journal_scripts.proofs.open_flights.OpenFlights.remove.Goals as goal
 
 -- what is left from a place on

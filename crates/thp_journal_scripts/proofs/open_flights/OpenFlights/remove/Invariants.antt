@@ -1,5 +1,5 @@
 use Rattle.std.proofs.Common.{◌≡◌, ◌++◌, drop, take}
-use Rattle.thp_journal_scripts.specs.Folds.{leave}
+use Rattle.thp_journal_scripts.specs.Prelude.{leave}
 use Rattle.thp_journal_scripts.proofs.open_flights.OpenFlights.remove.Given as goal
 
 abbrev pub invariant-loop-place : goal.invariant-loop-place

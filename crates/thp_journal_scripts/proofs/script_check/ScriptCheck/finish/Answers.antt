@@ -1,11 +1,7 @@
 use Rattle.std.proofs.Common.{◌++◌, Option, subst, sym}
-use Rattle.thp_journal_reader.specs.Answers.{ReportsFirst}
-use Rattle.thp_journal_reader.specs.Following.{nodes_told}
-use Rattle.thp_journal_scripts.specs.JournalScripts.{IsScripting, IsScriptOf}
-use Rattle.thp_journal_scripts.specs.NodeScripts.{taken_of}
-use Rattle.thp_journal_reader.specs.Parts.{journals_in}
+use Rattle.thp_journal_reader.specs.Prelude.{ReportsFirst, nodes_told, journals_in}
+use Rattle.thp_journal_scripts.specs.Prelude.{IsScripting, IsScriptOf, taken_of, ScriptedNodes}
 use Rattle.thp_journal_reader.specs.declared.illegal.Illegal.{Illegal}
-use Rattle.thp_journal_scripts.specs.declared.scripted_nodes.ScriptedNodes.{ScriptedNodes}
 use Rattle.thp_journal_scripts.proofs.script_check.ScriptCheck.finish.Goals as goal
 
 pub returns-in_ok-scripted-in-None-clause-scripted : goal.returns-in_ok-scripted-in-None-clause-scripted

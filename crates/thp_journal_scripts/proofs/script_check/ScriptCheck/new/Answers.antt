@@ -1,8 +1,7 @@
 use Rattle.std.proofs.Common.{◌≡◌, ◌≤◌, ◌∙◌, List, ap, arith, subst, sym}
-use Rattle.thp_script.specs.Limits.{max_counted}
-use Rattle.thp_script.specs.TextInParts.{TextSoFar}
-use Rattle.thp_journal_reader.specs.Following.{nodes_told}
-use Rattle.thp_journal_scripts.specs.JournalScripts.{IsScripting}
+use Rattle.thp_script.specs.Prelude.{max_counted, TextSoFar}
+use Rattle.thp_journal_reader.specs.Prelude.{nodes_told}
+use Rattle.thp_journal_scripts.specs.Prelude.{IsScripting}
 use Rattle.thp_journal_reader.specs.declared.journals.NodeJournal.{NodeJournal}
 use Rattle.thp_journal_reader.proofs.CheckLaws.{told_none}
 use Rattle.thp_journal_reader.proofs.PartLaws.{tells_all}

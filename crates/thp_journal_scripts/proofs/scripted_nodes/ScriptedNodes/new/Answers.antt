@@ -1,6 +1,5 @@
 use Rattle.std.proofs.Common.{◌∙◌, ap, subst}
-use Rattle.thp_journal_reader.specs.Answers.{ReportsFirst}
-use Rattle.thp_journal_reader.specs.Following.{nodes_told}
+use Rattle.thp_journal_reader.specs.Prelude.{ReportsFirst, nodes_told}
 use Rattle.thp_journal_reader.proofs.CheckLaws.{told_none}
 use Rattle.thp_journal_scripts.proofs.JournalScriptLaws.{script_begins}
 use Rattle.thp_journal_scripts.proofs.scripted_nodes.ScriptedNodes.new.Goals as goal

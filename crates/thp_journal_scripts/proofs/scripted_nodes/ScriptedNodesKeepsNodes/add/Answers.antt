@@ -1,6 +1,5 @@
-use Rattle.std.proofs.Common.{◌∙◌, ap, sym}
-use Rattle.std.specs.Prelude.{is_some}
-use Rattle.thp_journal_reader.specs.Following.{nodes_told}
+use Rattle.std.proofs.Common.{◌∙◌, ap, sym, is_some}
+use Rattle.thp_journal_reader.specs.Prelude.{nodes_told}
 use Rattle.thp_journal_scripts.proofs.JournalScriptLaws.{grows_now, on_ok_more, stops_now}
 use Rattle.thp_journal_scripts.proofs.scripted_nodes.ScriptedNodesKeepsNodes.add.Goals as goal
 

@@ -1,6 +1,5 @@
 use Rattle.std.proofs.Common.{subst, sym}
-use Rattle.thp_journal_reader.specs.Following.{nodes_told, Follows}
-use Rattle.thp_journal_reader.specs.Parts.{journals_in}
+use Rattle.thp_journal_reader.specs.Prelude.{nodes_told, Follows, journals_in}
 use Rattle.thp_journal_reader.specs.declared.follower.FollowedNodes.{FollowedNodes}
 use Rattle.thp_journal_tools.proofs.keeping_check.KeepingCheck.finish.Goals as goal
 

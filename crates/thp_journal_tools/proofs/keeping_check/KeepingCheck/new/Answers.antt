@@ -1,6 +1,5 @@
 use Rattle.std.proofs.Common.{◌≡◌, ◌≤◌, ◌∙◌, ap, arith, subst, sym}
-use Rattle.thp_script.specs.Limits.{max_counted}
-use Rattle.thp_script.specs.TextInParts.{TextSoFar}
+use Rattle.thp_script.specs.Prelude.{max_counted, TextSoFar}
 use Rattle.thp_journal_reader.proofs.CheckLaws.{told_none}
 use Rattle.thp_journal_reader.proofs.PartLaws.{tells_all}
 use Rattle.thp_journal_tools.proofs.keeping_check.KeepingCheck.new.Goals as goal

@@ -1,5 +1,5 @@
 use Rattle.thp_journal_writer.proofs.LineLemmas.{told_by_switch, told_by_events}
-use Rattle.thp_journal_writer.specs.Histories.{journal_of}
+use Rattle.thp_journal_writer.specs.Prelude.{journal_of}
 use Rattle.thp_journal_writer.proofs.node_history.NodeHistory.tells_underused.Goals as goal
 
 pub returns-then-shrinks_underused : goal.returns-then-shrinks_underused

@@ -1,7 +1,6 @@
 -- A pop reads the pair of the first index, and the rest stands in the same links.
-use Rattle.std.proofs.Common.{ℕ, List, ◌≡◌, Some, ◌∙◌, sym, ap, length, subst, arith}
-use Rattle.std.specs.List.{slice_get}
-use Rattle.thp_links.specs.Ends.{HasHead}
+use Rattle.std.proofs.Common.{ℕ, List, ◌≡◌, Some, ◌∙◌, sym, ap, length, subst, arith, slice_get}
+use Rattle.thp_links.specs.Prelude.{HasHead}
 use Rattle.thp_links.proofs.Members.{Contains-from_first}
 use Rattle.thp_links.proofs.ChainSteps.{head_popped, chain_popped}
 use Rattle.thp_links.proofs.OneTable.{ChainStands-inside}

@@ -1,6 +1,6 @@
 -- A push writes one pair, which is the new first one.
 use Rattle.std.proofs.Common.{List, ℕ, ◌∙◌, ap, get_or}
-use Rattle.thp_links.specs.declared.link.TheConstants.{NIL}
+use Rattle.thp_links.specs.Prelude.{NIL}
 use Rattle.thp_links.proofs.ChainSteps.{chain_pushed}
 use Rattle.thp_links.proofs.free_chain.FreeChain.push.Goals as goal
 

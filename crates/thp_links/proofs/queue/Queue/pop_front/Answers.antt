@@ -1,10 +1,6 @@
 -- A pop reads the pair of the oldest index, and writes the predecessor of the next one.
-use Rattle.std.proofs.Common.{ℕ, List, ◌≡◌, ◌≢◌, ◌⊎◌, Some, ◌∙◌, sym, ap, length, subst, inl, inr, arith}
-use Rattle.std.specs.List.{slice_get}
-use Rattle.thp_links.specs.declared.link.Link.{Link}
-use Rattle.thp_links.specs.declared.link.TheConstants.{NIL}
-use Rattle.thp_links.specs.Ends.{HasEnds}
-use Rattle.thp_links.specs.Neighbours.{with_prev}
+use Rattle.std.proofs.Common.{ℕ, List, ◌≡◌, ◌≢◌, ◌⊎◌, Some, ◌∙◌, sym, ap, length, subst, inl, inr, arith, slice_get}
+use Rattle.thp_links.specs.Prelude.{Link, NIL, HasEnds, with_prev}
 use Rattle.thp_links.proofs.Members.{Contains-from_first}
 use Rattle.thp_links.proofs.Replacing.{length-with_prev}
 use Rattle.thp_links.proofs.QueueSteps.{stands_popped, second_inside, ends_popped}

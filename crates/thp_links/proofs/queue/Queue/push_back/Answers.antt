@@ -1,10 +1,6 @@
 -- A push writes the successor of the newest index, and the pair of the new one.
 use Rattle.std.proofs.Common.{List, ℕ, ◌≡◌, ◌≢◌, ◌⊎◌, ◌∙◌, length, set, ap, subst, inl, inr, arith}
-use Rattle.thp_links.specs.declared.link.Link.{Link}
-use Rattle.thp_links.specs.declared.link.TheConstants.{NIL}
-use Rattle.thp_links.specs.Indices.{last_or}
-use Rattle.thp_links.specs.Standing.{between}
-use Rattle.thp_links.specs.Ends.{HasEnds}
+use Rattle.thp_links.specs.Prelude.{Link, NIL, last_or, between, HasEnds}
 use Rattle.thp_links.proofs.Replacing.{length-with_next}
 use Rattle.thp_links.proofs.QueueSteps.{tail_inside, room, ends_pushed, pushed, stands_pushed}
 use Rattle.thp_links.proofs.queue.Queue.push_back.Goals as goal

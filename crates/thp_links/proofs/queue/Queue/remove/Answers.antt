@@ -1,9 +1,6 @@
 -- A removal reads the pair of the index, and makes its neighbours each other's.
 use Rattle.std.proofs.Common.{List, ℕ, ◌≡◌, ◌≢◌, ◌⊎◌, ◌∙◌, length, ap, subst, inl, inr, arith}
-use Rattle.thp_links.specs.declared.link.Link.{Link}
-use Rattle.thp_links.specs.declared.link.TheConstants.{NIL}
-use Rattle.thp_links.specs.Neighbours.{with_next, with_prev}
-use Rattle.thp_links.specs.Ends.{HasEnds}
+use Rattle.thp_links.specs.Prelude.{Link, NIL, with_next, with_prev, HasEnds}
 use Rattle.thp_links.proofs.Replacing.{length-with_next}
 use Rattle.thp_links.proofs.QueueSteps.{prev_inside, next_inside, ends_removed, unlinked, stands_removed}
 use Rattle.thp_links.proofs.OneTable.{Stands-inside}

@@ -1,5 +1,5 @@
 use Rattle.std.proofs.Common.{◌∙◌, ap, List, ℕ}
-use Rattle.thp_live_pages.specs.BlockHolders.{least_of}
+use Rattle.thp_live_pages.specs.Prelude.{least_of}
 use Rattle.thp_live_pages.proofs.Least.{least_some, least_none}
 use Rattle.thp_live_pages.proofs.holders.BlockHolders.least.Goals as goal
 

@@ -1,8 +1,6 @@
 use Rattle.std.proofs.Common.{ℕ, List, [], sym, subst, replicate}
-use Rattle.thp_model.specs.History.{History}
-use Rattle.thp_live_pages.specs.declared.page_blocks.Allocation.{Allocation}
-use Rattle.thp_live_pages.specs.Keeping.{Keeps}
-use Rattle.thp_live_pages.specs.PageRecord.{known_of}
+use Rattle.thp_model.specs.Prelude.{History}
+use Rattle.thp_live_pages.specs.Prelude.{Allocation, Keeps, known_of}
 use Rattle.thp_live_pages.proofs.KeepSteps.{keeps_first}
 use Rattle.thp_live_pages.proofs.least_blocks.LeastBlocks.new.Goals as goal
 

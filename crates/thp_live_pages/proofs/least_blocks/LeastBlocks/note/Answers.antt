@@ -1,5 +1,5 @@
 use Rattle.std.proofs.Common.{sym, ◌∙◌}
-use Rattle.thp_live_pages.specs.PageRecord.{known_of}
+use Rattle.thp_live_pages.specs.Prelude.{known_of}
 use Rattle.thp_live_pages.proofs.Chaining.{none_left}
 use Rattle.thp_live_pages.proofs.Held.{event_page}
 use Rattle.thp_live_pages.proofs.Noting.{noted_quiet, other_is}

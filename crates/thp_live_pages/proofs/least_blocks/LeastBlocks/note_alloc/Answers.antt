@@ -1,6 +1,5 @@
-use Rattle.thp_live_pages.specs.PageRecord.{known_of}
+use Rattle.thp_live_pages.specs.Prelude.{known_of, BlocksState}
 use Rattle.std.proofs.Common.{subst, ◌<◌, sym}
-use Rattle.thp_live_pages.specs.State.{BlocksState}
 use Rattle.thp_live_pages.proofs.Noting.{noted_alloc, noted_alloc_freed}
 use Rattle.thp_live_pages.proofs.least_blocks.LeastBlocks.note_alloc.Goals as goal
 

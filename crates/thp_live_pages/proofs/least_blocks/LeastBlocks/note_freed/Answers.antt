@@ -1,4 +1,4 @@
-use Rattle.thp_live_pages.specs.PageRecord.{known_of}
+use Rattle.thp_live_pages.specs.Prelude.{known_of}
 use Rattle.thp_live_pages.proofs.Noting.{noted_covered, noted_freed, noted_freed_again}
 use Rattle.thp_live_pages.proofs.least_blocks.LeastBlocks.note_freed.Goals as goal
 

@@ -1,5 +1,5 @@
-use Rattle.thp_live_pages.specs.PageRecord.{known_of}
-use Rattle.thp_model.specs.BlockLaws.{least_free}
+use Rattle.thp_live_pages.specs.Prelude.{known_of}
+use Rattle.thp_model.specs.Prelude.{least_free}
 use Rattle.thp_live_pages.proofs.Noting.{placed_alloc, least_now}
 use Rattle.thp_live_pages.proofs.least_blocks.LeastBlocks.with_block.Goals as goal
 

@@ -1,5 +1,5 @@
 use Rattle.std.proofs.Common.{ℕ, ◌<◌, List, Option, length, arith, subst, sym}
-use Rattle.thp_live_pages.specs.Chains.{IsWalked, place_after}
+use Rattle.thp_live_pages.specs.Prelude.{IsWalked, place_after}
 use Rattle.thp_live_pages.proofs.Chaining.{walk_inside, walk_held, walk_falls, walk_on, walk_ended, read_one, none_left}
 use Rattle.thp_live_pages.proofs.page_blocks.PageBlocks.give_back.Goals as goal
 

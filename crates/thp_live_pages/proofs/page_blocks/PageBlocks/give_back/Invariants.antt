@@ -1,4 +1,4 @@
-use Rattle.thp_live_pages.specs.Chains.{IsWalked, place_after}
+use Rattle.thp_live_pages.specs.Prelude.{IsWalked, place_after}
 use Rattle.thp_live_pages.proofs.page_blocks.PageBlocks.give_back.Given as goal
 
 -- how far the chain was walked along

@@ -1,10 +1,8 @@
-use Rattle.std.proofs.Common.{◌≡◌, Option, Some, ap, ◌∙◌}
-use Rattle.std.specs.Prelude.{slice_set}
+use Rattle.std.proofs.Common.{◌≡◌, Option, Some, ap, ◌∙◌, slice_set}
 use Rattle.thp_page.proofs.TableSlots.{slot_at-inside}
-use Rattle.thp_page.specs.Slots.{slot_at, stood}
-use Rattle.thp_page.specs.Table.{Slot, Table}
+use Rattle.thp_page.specs.Prelude.{slot_at, stood, Slot, Table}
 use Rattle.thp_page.specs.declared.standing.Standing.TheVariants.{Nowhere}
-use Rattle.thp_live_pages.specs.PageStoreState.{PageStoreState}
+use Rattle.thp_live_pages.specs.Prelude.{PageStoreState}
 use Rattle.thp_live_pages.proofs.Relinking.{linked_outside, taken}
 use Rattle.thp_live_pages.proofs.page_store.PageStore.drop_out.Goals as goal
 

@@ -1,14 +1,10 @@
-use Rattle.std.proofs.Common.{◌≡◌, ℕ, List, Option, Some, refl, ap, ap₂, sym, ◌∙◌, subst, arith}
-use Rattle.std.specs.Prelude.{slice_set}
+use Rattle.std.proofs.Common.{◌≡◌, ℕ, List, Option, Some, refl, ap, ap₂, sym, ◌∙◌, subst, arith, slice_set}
 use Rattle.thp_links.specs.declared.link.Link.{Link}
-use Rattle.thp_links.specs.Indices.{without}
-use Rattle.thp_links.specs.Standing.{Stands, SameOutside}
+use Rattle.thp_links.specs.Prelude.{without, Stands, SameOutside}
 use Rattle.thp_page.proofs.TableSlots.{slot_at-inside, slot_at-same}
-use Rattle.thp_page.specs.Slots.{slot_at, stood}
-use Rattle.thp_page.specs.Table.{Slot, Table}
+use Rattle.thp_page.specs.Prelude.{slot_at, stood, Slot, Table}
 use Rattle.thp_page.specs.declared.standing.Standing.TheVariants.{Nowhere}
-use Rattle.thp_live_pages.specs.PageStoreState.{PageStoreState}
-use Rattle.thp_live_pages.specs.Linking.{IsLinked}
+use Rattle.thp_live_pages.specs.Prelude.{PageStoreState, IsLinked}
 use Rattle.thp_live_pages.proofs.Relinking.{if_at, linked_unqueued, links_outside, links_seen, not_listed, same_list, set_same, taken}
 use Rattle.thp_live_pages.proofs.page_store.PageStore.leave_queue.Goals as goal
 

@@ -3,9 +3,8 @@ use Rattle.thp_model.specs.declared.events.Outcome.{Outcome}
 use Rattle.thp_model.specs.declared.events.Outcome.TheVariants as outcome
 use Rattle.thp_model.specs.declared.page_call.Done.{Done}
 use Rattle.thp_model.specs.declared.page_call.Loss.{Loss}
-use Rattle.thp_page.specs.Slots.{slot_at}
-use Rattle.thp_page.specs.Table.{Slot}
-use Rattle.thp_live_pages.specs.PageStoreState.{PageStoreState, Edits, Lost, Reduced, slot_after, queue_after, left_by}
+use Rattle.thp_page.specs.Prelude.{slot_at, Slot}
+use Rattle.thp_live_pages.specs.Prelude.{PageStoreState, Edits, Lost, Reduced, slot_after, queue_after, left_by}
 use Rattle.thp_live_pages.proofs.PageUses.{queued_nowhere}
 use Rattle.thp_live_pages.proofs.Relinking.{edited_slot, edits_none, edits_settled, if_at, same_slot, some_of, taken}
 use Rattle.thp_live_pages.proofs.page_store.PageStore.lose.Goals as goal

@@ -1,5 +1,5 @@
 use Rattle.std.proofs.Common.{Bool, sym, subst}
-use Rattle.thp_live_pages.specs.PageStoreState.{Placed}
+use Rattle.thp_live_pages.specs.Prelude.{Placed}
 use Rattle.thp_live_pages.proofs.Relinking.{placed_queued}
 use Rattle.thp_live_pages.proofs.page_store.PageStore.place.Goals as goal
 

@@ -1,9 +1,7 @@
-use Rattle.std.proofs.Common.{ℕ, List, sym, ◌∙◌, subst}
-use Rattle.std.specs.List.{Contains}
+use Rattle.std.proofs.Common.{ℕ, List, sym, ◌∙◌, subst, Contains}
 use Rattle.thp_links.proofs.Members.{Contains-from_rest}
 use Rattle.thp_page.proofs.TableSlots.{slot_at-same}
-use Rattle.thp_live_pages.specs.FreeChains.{IsFreeChain}
-use Rattle.thp_live_pages.specs.PageStoreState.{PageStoreState}
+use Rattle.thp_live_pages.specs.Prelude.{IsFreeChain, PageStoreState}
 use Rattle.thp_live_pages.proofs.FreeChains.{linked_beside, queue_apart}
 use Rattle.thp_live_pages.proofs.page_store.PageStore.pop_free.Goals as goal
 

@@ -1,8 +1,7 @@
 use Rattle.std.proofs.Common.{ap, sym, ◌∙◌, subst}
 use Rattle.thp_links.proofs.OneTable.{Apart-sym, Apart-push}
-use Rattle.thp_page.specs.Slots.{slot_at}
-use Rattle.thp_live_pages.specs.FreeChains.{IsFreeChain}
-use Rattle.thp_live_pages.specs.PageStoreState.{PageStoreState}
+use Rattle.thp_page.specs.Prelude.{slot_at}
+use Rattle.thp_live_pages.specs.Prelude.{IsFreeChain, PageStoreState}
 use Rattle.thp_live_pages.proofs.FreeChains.{linked_beside, queue_apart}
 use Rattle.thp_live_pages.proofs.Relinking.{not_queued}
 use Rattle.thp_live_pages.proofs.page_store.PageStore.push_free.Goals as goal

@@ -1,5 +1,5 @@
 use Rattle.std.proofs.Common.{Some, None, arith}
-use Rattle.thp_links.specs.Indices.{without}
+use Rattle.thp_links.specs.Prelude.{without}
 use Rattle.thp_live_pages.proofs.Relinking.{edits_as, edits_then}
 use Rattle.thp_live_pages.proofs.page_store.PageStore.release.Goals as goal
 

@@ -1,10 +1,8 @@
-use Rattle.std.proofs.Common.{◌≡◌, Some, ap, ◌∙◌, subst, arith}
-use Rattle.std.specs.Prelude.{slice_set}
-use Rattle.thp_model.specs.Pages.{PageState, PageSplit, gives_frames}
-use Rattle.thp_page.specs.Slots.{slot_at}
-use Rattle.thp_page.specs.Table.{Table}
+use Rattle.std.proofs.Common.{◌≡◌, Some, ap, ◌∙◌, subst, arith, slice_set}
+use Rattle.thp_model.specs.Prelude.{PageState, PageSplit, gives_frames}
+use Rattle.thp_page.specs.Prelude.{slot_at, Table}
 use Rattle.thp_page.specs.declared.standing.Standing.TheVariants.{Nowhere}
-use Rattle.thp_live_pages.specs.PageStoreState.{PageStoreState}
+use Rattle.thp_live_pages.specs.Prelude.{PageStoreState}
 use Rattle.thp_live_pages.proofs.Relinking.{links_same, links_seen, page_there, stood_paged, stood_slot, taken}
 use Rattle.thp_live_pages.proofs.page_store.PageStore.split.Goals as goal
 

@@ -1,13 +1,11 @@
-use Rattle.std.proofs.Common.{◌≡◌, ℕ, List, Option, drop, ap, ap₂, sym, ◌∙◌, subst}
-use Rattle.std.specs.Prelude.{slice_set}
+use Rattle.std.proofs.Common.{◌≡◌, ℕ, List, Option, drop, ap, ap₂, sym, ◌∙◌, subst, slice_set}
 use Rattle.thp_links.specs.declared.link.Link.{Link}
-use Rattle.thp_links.specs.Standing.{Stands, SameOutside}
+use Rattle.thp_links.specs.Prelude.{Stands, SameOutside}
 use Rattle.thp_links.proofs.Members.{Contains-from_first}
 use Rattle.thp_page.proofs.TableSlots.{slot_at-inside, slot_at-same}
-use Rattle.thp_page.specs.Slots.{stood}
-use Rattle.thp_page.specs.Table.{Slot, Table}
+use Rattle.thp_page.specs.Prelude.{stood, Slot, Table}
 use Rattle.thp_page.specs.declared.standing.Standing.TheVariants.{Batch}
-use Rattle.thp_live_pages.specs.Linking.{IsLinked}
+use Rattle.thp_live_pages.specs.Prelude.{IsLinked}
 use Rattle.thp_live_pages.proofs.Relinking.{linked_popped, queued_slot}
 use Rattle.thp_live_pages.proofs.page_store.PageStore.take_first.Goals as goal
 

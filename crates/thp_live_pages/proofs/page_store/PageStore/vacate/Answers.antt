@@ -1,8 +1,7 @@
 use Rattle.std.proofs.Common.{◌≡◌, Some, None, ap, ◌∙◌}
 use Rattle.thp_page.proofs.TableSlots.{slot_at-inside}
-use Rattle.thp_page.specs.Slots.{slot_at}
-use Rattle.thp_page.specs.Table.{Table}
-use Rattle.thp_live_pages.specs.PageStoreState.{PageStoreState}
+use Rattle.thp_page.specs.Prelude.{slot_at, Table}
+use Rattle.thp_live_pages.specs.Prelude.{PageStoreState}
 use Rattle.thp_live_pages.proofs.Relinking.{linked_outside, taken}
 use Rattle.thp_live_pages.proofs.page_store.PageStore.vacate.Goals as goal
 

@@ -1,9 +1,6 @@
-use Rattle.std.proofs.Common.{ℕ, List, None, ap, ◌∙◌}
-use Rattle.std.specs.Prelude.{slice_get}
+use Rattle.std.proofs.Common.{ℕ, List, None, ap, ◌∙◌, slice_get, nat_cmp, is_eq}
 use Rattle.std.specs.Map.{lookup}
-use Rattle.std.specs.Ordering.{nat_cmp, is_eq}
-use Rattle.thp_live_pages.specs.declared.pages.PageRecord.{PageRecord}
-use Rattle.thp_live_pages.specs.PageRecord.{known_of, first_known}
+use Rattle.thp_live_pages.specs.Prelude.{PageRecord, known_of, first_known}
 use Rattle.thp_live_pages.proofs.pages.Pages.new.Goals as goal
 
 pub returns : goal.returns

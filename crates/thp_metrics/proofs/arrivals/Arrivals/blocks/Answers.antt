@@ -1,7 +1,7 @@
 use Rattle.std.proofs.Common.{◌≡◌, ◌<◌, ◌∙◌, ◌+◌, ℕ, List, ap, arith, get_or, length, sym, take}
 use Rattle.thp_links.specs.declared.link.TheConstants.{NIL}
 use Rattle.thp_live_pages.proofs.Walking.{behind, inside, joins, take_all}
-use Rattle.thp_metrics.specs.Arrivals.{Arrived}
+use Rattle.thp_metrics.specs.Prelude.{Arrived}
 use Rattle.thp_metrics.proofs.arrivals.Arrivals.blocks.Goals as goal
 
 pub next-block-requires : goal.next-block-requires

@@ -1,7 +1,7 @@
 use Rattle.std.proofs.Common.{◌∙◌, ap, arith, sym}
 use Rattle.thp_links.proofs.Members.{Contains-from_first}
 use Rattle.thp_links.proofs.OneTable.{Stands-inside}
-use Rattle.thp_metrics.specs.Arrivals.{first_since}
+use Rattle.thp_metrics.specs.Prelude.{first_since}
 use Rattle.thp_metrics.proofs.Arriving.{first_is}
 use Rattle.thp_metrics.proofs.arrivals.Arrivals.first.Goals as goal
 

@@ -1,6 +1,6 @@
 use Rattle.std.proofs.Common.{◌≡◌, ◌+◌, ◌∙◌, ap, sym, arith, length-set, set}
 use Rattle.std.proofs.lemmas.Nat.{one_shl}
-use Rattle.thp_metrics.specs.Counting.{callers_in, count_at}
+use Rattle.thp_metrics.specs.Prelude.{callers_in, count_at}
 use Rattle.thp_metrics.proofs.Arriving.{any_number}
 use Rattle.thp_metrics.proofs.Counting.{callers_enter, callers_fit}
 use Rattle.thp_metrics.proofs.batch_counts.BatchCounts.gain.Goals as goal

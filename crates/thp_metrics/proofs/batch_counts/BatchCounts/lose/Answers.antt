@@ -1,6 +1,6 @@
 use Rattle.std.proofs.Common.{◌<◌, ℕ, List, Option, ◌∙◌, ap, sym, subst, arith, length-set, set}
 use Rattle.std.proofs.lemmas.Nat.{one_shl}
-use Rattle.thp_metrics.specs.Counting.{callers_in, count_at, MayGo}
+use Rattle.thp_metrics.specs.Prelude.{callers_in, count_at, MayGo}
 use Rattle.thp_metrics.proofs.Counting.{callers_leave}
 use Rattle.thp_metrics.proofs.batch_counts.BatchCounts.lose.Goals as goal
 

@@ -1,6 +1,6 @@
 use Rattle.std.proofs.Common.{◌≡◌, ◌∙◌, ℕ, List, ap, sym, rules, length, replicate}
 use Rattle.std.proofs.lemmas.List.{length-replicate}
-use Rattle.thp_metrics.specs.Counting.{callers_in}
+use Rattle.thp_metrics.specs.Prelude.{callers_in}
 use Rattle.thp_metrics.proofs.Counting.{none_in}
 use Rattle.thp_metrics.proofs.batch_counts.BatchCounts.new.Goals as goal
 

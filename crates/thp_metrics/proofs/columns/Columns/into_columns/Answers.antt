@@ -1,6 +1,5 @@
 use Rattle.std.proofs.Common.{◌∙◌, List, length, ap, subst}
-use Rattle.thp_metrics.specs.Columns.{IsWidth, columns_of}
-use Rattle.thp_metrics.specs.declared.numbers.Numbers.{Numbers}
+use Rattle.thp_metrics.specs.Prelude.{IsWidth, columns_of, Numbers}
 use Rattle.thp_metrics.proofs.Widths.{width_is, one_width, columns_are}
 use Rattle.thp_metrics.proofs.columns.Columns.into_columns.Goals as goal
 

@@ -1,5 +1,5 @@
 use Rattle.std.proofs.Common.{◌^◌, ◌<◌, List, length, subst, sym}
-use Rattle.thp_metrics.specs.declared.numbers.Numbers.{Numbers}
+use Rattle.thp_metrics.specs.Prelude.{Numbers}
 use Rattle.thp_metrics.proofs.Widths.{has_room}
 use Rattle.thp_metrics.proofs.columns.Columns.push.Goals as goal
 

@@ -1,6 +1,5 @@
 use Rattle.std.proofs.Common.{List, length, subst}
-use Rattle.thp_metrics.specs.Columns.{IsWidth}
-use Rattle.thp_metrics.specs.declared.numbers.Numbers.{Numbers}
+use Rattle.thp_metrics.specs.Prelude.{IsWidth, Numbers}
 use Rattle.thp_metrics.proofs.Widths.{width_is}
 use Rattle.thp_metrics.proofs.columns.Columns.width.Goals as goal
 

@@ -1,7 +1,5 @@
 use Rattle.std.proofs.Common.{◌≡◌, ◌∙◌, ◌≤◌, [], ◌∷◌, length-append, ◌^◌, ap, subst, sym, refl, arith, vec_capacity, length}
-use Rattle.thp_metrics.specs.Joining.{in_pairs, AreLow, AreWithin}
-use Rattle.thp_metrics.specs.declared.column.Column.{Column}
-use Rattle.thp_metrics.specs.Folding.{HasLowSums}
+use Rattle.thp_metrics.specs.Prelude.{in_pairs, AreLow, AreWithin, Column, HasLowSums}
 use Rattle.thp_metrics.proofs.Folding.{are_low_more, begins, begins_folded}
 use Rattle.thp_metrics.proofs.folded.Folded.begin.Goals as goal
 use Rattle.thp_metrics.proofs.folded.Folded.begin.Goals.{then-len-eq-MAX_COLUMNS, else-len-eq-MAX_COLUMNS}

@@ -1,7 +1,5 @@
-use Rattle.std.proofs.Common.{subst, ◌^◌}
-use Rattle.thp_metrics.specs.declared.column.Column.{Column}
-use Rattle.thp_metrics.specs.Joining.{AreWithin}
-use Rattle.std.proofs.Common.{[], ◌∷◌, refl, arith, inl}
+use Rattle.std.proofs.Common.{subst, ◌^◌, [], ◌∷◌, refl, arith, inl}
+use Rattle.thp_metrics.specs.Prelude.{Column, AreWithin}
 use Rattle.thp_metrics.proofs.folded.Folded.new.Goals as goal
 
 pub returns : goal.returns

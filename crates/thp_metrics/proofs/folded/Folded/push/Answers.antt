@@ -1,6 +1,5 @@
 use Rattle.std.proofs.Common.{◌∙◌, ◌^◌, ap, refl, subst}
-use Rattle.thp_metrics.specs.declared.column.Column.{Column}
-use Rattle.thp_metrics.specs.Joining.{both, AreWithin}
+use Rattle.thp_metrics.specs.Prelude.{Column, both, AreWithin}
 use Rattle.thp_metrics.proofs.Folding.{goes_in}
 use Rattle.thp_metrics.proofs.folded.Folded.push.Goals as goal
 

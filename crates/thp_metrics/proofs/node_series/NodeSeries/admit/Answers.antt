@@ -1,12 +1,8 @@
-use Rattle.thp_metrics.specs.declared.numbers.Numbers.{Numbers}
-use Rattle.std.proofs.Common.{◌≡◌, ◌+◌, ◌<◌, ◌^◌, ◌∙◌, [], ◌∷◌, ◌++◌, ℕ, List, ap, sym, subst, arith, length}
-use Rattle.std.specs.Option.{option_and_then}
-use Rattle.thp_model.specs.Legal.{Fits}
-use Rattle.thp_check.specs.Replays.{Replayed, with_event}
-use Rattle.thp_journal_writer.specs.EventLines.{event_page}
-use Rattle.thp_metrics.specs.Counting.{count_gone, count_more, MayCount}
-use Rattle.thp_metrics.specs.Following.{CountsBatches}
-use Rattle.thp_metrics.specs.Spots.{batch_of, home}
+use Rattle.thp_metrics.specs.Prelude.{Numbers, count_gone, count_more, MayCount, CountsBatches, batch_of, home}
+use Rattle.std.proofs.Common.{◌≡◌, ◌+◌, ◌<◌, ◌^◌, ◌∙◌, [], ◌∷◌, ◌++◌, ℕ, List, ap, sym, subst, arith, length, option_and_then}
+use Rattle.thp_model.specs.Prelude.{Fits}
+use Rattle.thp_check.specs.Prelude.{Replayed, with_event}
+use Rattle.thp_journal_writer.specs.Prelude.{event_page}
 use Rattle.thp_metrics.proofs.Counting.{counts_on, may_count, may_go}
 use Rattle.thp_metrics.proofs.Following.{goes_on, length_of_series, may_enter, may_leave}
 use Rattle.thp_metrics.proofs.node_series.NodeSeries.admit.Goals as goal

@@ -1,6 +1,5 @@
-use Rattle.std.proofs.Common.{◌≡◌, None, ◌∙◌, refl, sym}
-use Rattle.std.specs.Prelude.{replicate}
-use Rattle.thp_metrics.specs.Following.{CountsBatches}
+use Rattle.std.proofs.Common.{◌≡◌, None, ◌∙◌, refl, sym, replicate}
+use Rattle.thp_metrics.specs.Prelude.{CountsBatches}
 use Rattle.thp_metrics.proofs.Counting.{no_batches}
 use Rattle.thp_metrics.proofs.Following.{begins_along, same_replays}
 use Rattle.thp_metrics.proofs.node_series.NodeSeries.new.Goals as goal

@@ -1,13 +1,8 @@
-use Rattle.std.proofs.Common.{◌≡◌, ◌+◌, ◌<◌, ◌^◌, ◌∙◌, [], ◌∷◌, ◌++◌, length, refl, subst, sym}
-use Rattle.std.specs.Option.{option_and_then}
-use Rattle.thp_check.specs.Replays.{Replayed}
-use Rattle.thp_journal_writer.specs.EventLines.{event_page}
-use Rattle.thp_model.specs.History.{History}
-use Rattle.thp_model.specs.Legal.{Fits}
-use Rattle.thp_metrics.specs.Arrivals.{KeepsWaits}
-use Rattle.thp_metrics.specs.Finding.{KeepsFinds}
-use Rattle.thp_metrics.specs.Spots.{home}
-use Rattle.thp_metrics.specs.declared.waiting.Waiting.TheInside.{Inside}
+use Rattle.std.proofs.Common.{◌≡◌, ◌+◌, ◌<◌, ◌^◌, ◌∙◌, [], ◌∷◌, ◌++◌, length, refl, subst, sym, option_and_then}
+use Rattle.thp_check.specs.Prelude.{Replayed}
+use Rattle.thp_journal_writer.specs.Prelude.{event_page}
+use Rattle.thp_model.specs.Prelude.{History, Fits}
+use Rattle.thp_metrics.specs.Prelude.{KeepsWaits, KeepsFinds, home, Inside}
 use Rattle.thp_metrics.proofs.Arriving.{absent, comes, comes_of, goes, goes_of, inside, none_moves, present, stays_in, stays_out}
 use Rattle.thp_metrics.proofs.Finding.{finds_on, may_note}
 use Rattle.thp_metrics.proofs.waiting.Waiting.follow.Goals.{in-None-Some, in-None-None, in-Some-None, in-Some-Some}

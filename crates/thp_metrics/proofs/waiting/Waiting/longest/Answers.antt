@@ -1,6 +1,6 @@
 use Rattle.std.proofs.Common.{◌∙◌, ap, arith, sym}
-use Rattle.thp_check.specs.Replays.{Replayed}
-use Rattle.thp_metrics.specs.Waits.{longest_wait}
+use Rattle.thp_check.specs.Prelude.{Replayed}
+use Rattle.thp_metrics.specs.Prelude.{longest_wait}
 use Rattle.thp_metrics.proofs.Arriving.{by_first, first_was, longest_is}
 use Rattle.thp_metrics.proofs.waiting.Waiting.longest.Goals as goal
 

@@ -1,7 +1,6 @@
 use Rattle.std.proofs.Common.{sym, subst}
-use Rattle.thp_model.specs.History.{History}
-use Rattle.thp_metrics.specs.Arrivals.{KeepsWaits}
-use Rattle.thp_metrics.specs.Finding.{KeepsFinds}
+use Rattle.thp_model.specs.Prelude.{History}
+use Rattle.thp_metrics.specs.Prelude.{KeepsWaits, KeepsFinds}
 use Rattle.thp_metrics.proofs.Arriving.{nothing_waits}
 use Rattle.thp_metrics.proofs.Finding.{nothing_found}
 use Rattle.thp_metrics.proofs.waiting.Waiting.new.Goals as goal

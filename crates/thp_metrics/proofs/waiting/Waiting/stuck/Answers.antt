@@ -1,8 +1,7 @@
 use Rattle.std.proofs.Common.{◌≡◌, ℕ, List, ◌∙◌, Contains, ap, subst}
 use Rattle.std.proofs.lemmas.Result.{IfOk-weaker}
-use Rattle.thp_check.specs.Replays.{Replayed}
-use Rattle.thp_metrics.specs.Finding.{stuck_among}
-use Rattle.thp_metrics.specs.Stuck.{AreStuck}
+use Rattle.thp_check.specs.Prelude.{Replayed}
+use Rattle.thp_metrics.specs.Prelude.{stuck_among, AreStuck}
 use Rattle.thp_metrics.proofs.Stuck.{are_stuck, in_range}
 use Rattle.thp_metrics.proofs.waiting.Waiting.stuck.Goals as goal
 

@@ -1,6 +1,6 @@
 use Rattle.std.proofs.Common.{arith}
 use Rattle.std.proofs.lemmas.Nat.{one_shl}
-use Rattle.thp_model.specs.Shapes.{subpages}
+use Rattle.thp_model.specs.Prelude.{subpages}
 use Rattle.thp_model.proofs.shape.Shape.subpages.Goals as goal
 
 pub returns : goal.returns

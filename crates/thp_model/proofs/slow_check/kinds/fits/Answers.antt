@@ -1,8 +1,5 @@
-use Rattle.std.proofs.Common.{◌≡◌, sym, subst, Option, None}
-use Rattle.std.specs.Prelude.{IfOk, IsTrue, ◌↔◌}
-use Rattle.thp_model.specs.declared.events.What.{What}
-use Rattle.thp_model.specs.declared.refusal.Refusal.{Refusal}
-use Rattle.thp_model.specs.Legal.{FitsBy, Gives}
+use Rattle.std.proofs.Common.{◌≡◌, sym, subst, Option, None, IfOk, IsTrue, ◌↔◌}
+use Rattle.thp_model.specs.Prelude.{What, Refusal, FitsBy, Gives}
 use Rattle.thp_model.proofs.slow_check.kinds.fits.Goals as goal
 
 pub returns-in-Alloc : goal.returns-in-Alloc

@@ -1,5 +1,5 @@
 use Rattle.std.proofs.Common.{rules, not, ap, ◌∙◌}
-use Rattle.thp_model.specs.Counts.{allocates, frees}
+use Rattle.thp_model.specs.Prelude.{allocates, frees}
 use Rattle.thp_model.proofs.Asked.{and_then, and_else}
 use Rattle.thp_model.proofs.slow_check.pages.is_live.Goals as goal
 

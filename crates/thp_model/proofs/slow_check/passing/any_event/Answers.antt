@@ -1,5 +1,5 @@
 use Rattle.std.proofs.Common.{◌≡◌, ◌||◌, refl, ap, sym, ◌∙◌}
-use Rattle.thp_model.specs.History.{some_event}
+use Rattle.thp_model.specs.Prelude.{some_event}
 use Rattle.thp_model.proofs.Asked.{some_next}
 use Rattle.thp_model.proofs.ListPlaces.{get_at}
 use Rattle.thp_model.proofs.SomeEvents.{some_passes}

@@ -1,7 +1,5 @@
 use Rattle.std.proofs.Common.{◌≡◌, Bool, false, take}
-use Rattle.thp_model.specs.declared.events.What.{What}
-use Rattle.thp_model.specs.Asking.{AsksEvents}
-use Rattle.thp_model.specs.History.{some_event}
+use Rattle.thp_model.specs.Prelude.{What, AsksEvents, some_event}
 use Rattle.thp_model.proofs.slow_check.passing.any_event.Given as goal
 
 -- none of the events so far passes

@@ -1,7 +1,5 @@
 use Rattle.std.proofs.Common.{◌≡◌, ◌≤◌, Bool, take}
-use Rattle.thp_model.specs.declared.events.What.{What}
-use Rattle.thp_model.specs.Asking.{AsksEvents}
-use Rattle.thp_model.specs.History.{count_of}
+use Rattle.thp_model.specs.Prelude.{What, AsksEvents, count_of}
 use Rattle.thp_model.proofs.slow_check.passing.count_events.Given as goal
 
 -- so many of the events so far pass

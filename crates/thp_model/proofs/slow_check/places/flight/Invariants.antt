@@ -1,5 +1,4 @@
-use Rattle.std.proofs.Common.{◌≡◌, ℕ, nat_eq, map, take}
-use Rattle.std.specs.List.{filter}
+use Rattle.std.proofs.Common.{◌≡◌, ℕ, nat_eq, map, take, filter}
 use Rattle.thp_model.proofs.slow_check.places.flight.Given as goal
 
 -- the caller's pages of the flights so far

@@ -1,5 +1,5 @@
 use Rattle.std.proofs.Common.{rules, ap, sym, ◌∙◌}
-use Rattle.thp_model.specs.Places.{flights, flights_after}
+use Rattle.thp_model.specs.Prelude.{flights, flights_after}
 use Rattle.thp_model.proofs.Asked.{flights_next}
 use Rattle.thp_model.proofs.slow_check.places.flights.Goals as goal
 

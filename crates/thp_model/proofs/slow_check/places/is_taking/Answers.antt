@@ -1,5 +1,5 @@
 use Rattle.std.proofs.Common.{refl, sym, ◌∙◌}
-use Rattle.thp_model.specs.Places.{is_taking}
+use Rattle.thp_model.specs.Prelude.{is_taking}
 use Rattle.thp_model.proofs.Asked.{taking_next}
 use Rattle.thp_model.proofs.slow_check.places.is_taking.Goals as goal
 

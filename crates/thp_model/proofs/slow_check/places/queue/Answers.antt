@@ -1,5 +1,5 @@
 use Rattle.std.proofs.Common.{rules, ap, sym, ◌∙◌}
-use Rattle.thp_model.specs.Places.{queue, queue_after}
+use Rattle.thp_model.specs.Prelude.{queue, queue_after}
 use Rattle.thp_model.proofs.Asked.{queue_next}
 use Rattle.thp_model.proofs.slow_check.places.queue.Goals as goal
 

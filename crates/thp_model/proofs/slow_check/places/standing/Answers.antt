@@ -1,5 +1,5 @@
 use Rattle.std.proofs.Common.{ℕ, [], ◌∷◌, ◌++◌, map, take, ap, sym, ◌∙◌, append_assoc}
-use Rattle.thp_model.specs.Places.{queue}
+use Rattle.thp_model.specs.Prelude.{queue}
 use Rattle.thp_model.proofs.Asked.{pages_next}
 use Rattle.thp_model.proofs.slow_check.places.standing.Goals as goal
 

@@ -1,5 +1,5 @@
 use Rattle.std.proofs.Common.{take, refl, ap, sym, ◌∙◌}
-use Rattle.thp_model.specs.Underused.{is_zero_filled, zero_after}
+use Rattle.thp_model.specs.Prelude.{is_zero_filled, zero_after}
 use Rattle.thp_model.proofs.ListPlaces.{step_of}
 use Rattle.thp_model.proofs.Pushes.{is_zero_filled_push}
 use Rattle.thp_model.proofs.slow_check.underused.is_zero_filled.Goals as goal

@@ -1,8 +1,7 @@
-use Rattle.std.proofs.Common.{arith, ap, ◌∙◌, count_ones, sum_by}
+use Rattle.std.proofs.Common.{arith, ap, ◌∙◌, count_ones, sum_by, take_all}
 use Rattle.std.proofs.lemmas.List.Sums.{sum_by_more}
-use Rattle.std.proofs.lemmas.List.{take_all}
 use Rattle.std.proofs.lemmas.Nat.{ones-le}
-use Rattle.thp_model.specs.Sets.{set_size}
+use Rattle.thp_model.specs.Prelude.{set_size}
 use Rattle.thp_model.proofs.WordLemmas.{set_size-words}
 use Rattle.thp_model.proofs.sub_set.SubSet.count.Goals as goal
 

@@ -1,6 +1,5 @@
 use Rattle.std.proofs.Common.{ap, ◌∙◌, ◌&&◌, not}
-use Rattle.thp_model.specs.Sets.{has, set_of}
-use Rattle.thp_model.specs.Words.{in_words}
+use Rattle.thp_model.specs.Prelude.{has, set_of, in_words}
 use Rattle.thp_model.proofs.WordLemmas.{without_words-AreWords, without_words-set_of}
 use Rattle.thp_model.proofs.sub_set.SubSet.difference.Goals as goal
 

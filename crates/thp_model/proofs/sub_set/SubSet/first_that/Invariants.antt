@@ -1,5 +1,5 @@
 use Rattle.std.proofs.Common.{◌≡◌, ℕ, ◌<◌, ◌≤◌, ◌-◌, not}
-use Rattle.thp_model.specs.Sets.{has}
+use Rattle.thp_model.specs.Prelude.{has}
 use Rattle.thp_model.proofs.sub_set.SubSet.first_that.Given as goal
 
 abbrev pub invariant-loop-at : goal.invariant-loop-at

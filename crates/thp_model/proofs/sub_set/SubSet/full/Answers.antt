@@ -2,7 +2,7 @@ use Rattle.std.proofs.Common.{arith, ◌∙◌, ◌≡◌, ℕ, nat_lt, ap}
 use Rattle.std.proofs.lemmas.Bool.Decides.{nat_tests}
 use Rattle.std.proofs.lemmas.Nat.{one_shl}
 use Rattle.std.proofs.Math.Pow.{pow_mono}
-use Rattle.thp_model.specs.Sets.{covers, set_of}
+use Rattle.thp_model.specs.Prelude.{covers, set_of}
 use Rattle.thp_model.proofs.WordLemmas.{set_of-ext}
 use Rattle.thp_model.proofs.sub_set.SubSet.full.Goals as goal
 

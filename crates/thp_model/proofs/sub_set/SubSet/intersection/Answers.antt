@@ -1,6 +1,5 @@
 use Rattle.std.proofs.Common.{ap, ◌∙◌, ◌&&◌}
-use Rattle.thp_model.specs.Sets.{has, set_of}
-use Rattle.thp_model.specs.Words.{in_words}
+use Rattle.thp_model.specs.Prelude.{has, set_of, in_words}
 use Rattle.thp_model.proofs.WordLemmas.{and_words-AreWords, and_words-set_of}
 use Rattle.thp_model.proofs.sub_set.SubSet.intersection.Goals as goal
 

@@ -1,7 +1,7 @@
 use Rattle.std.proofs.Common.{◌≡◌, sym, ◌∙◌, false}
 use Rattle.std.specs.Cmp.{unsigned_Decides}
 use Rattle.std.proofs.lemmas.Slice.Eq.{slice_eq-Decides}
-use Rattle.thp_model.specs.Sets.{set_of, same_set}
+use Rattle.thp_model.specs.Prelude.{set_of, same_set}
 use Rattle.thp_model.proofs.WordLemmas.{same_set-Decides, same_none, empty_has_none}
 use Rattle.thp_model.proofs.sub_set.SubSet.is_empty.Goals as goal
 

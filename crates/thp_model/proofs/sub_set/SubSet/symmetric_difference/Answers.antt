@@ -1,6 +1,5 @@
 use Rattle.std.proofs.Common.{ap, ◌∙◌}
-use Rattle.thp_model.specs.Sets.{has, set_of, one_alone}
-use Rattle.thp_model.specs.Words.{in_words}
+use Rattle.thp_model.specs.Prelude.{has, set_of, one_alone, in_words}
 use Rattle.thp_model.proofs.WordLemmas.{xor_words-AreWords, xor_words-set_of}
 use Rattle.thp_model.proofs.sub_set.SubSet.symmetric_difference.Goals as goal
 

@@ -1,6 +1,6 @@
 use Rattle.std.proofs.Common.{Some, [], ◌∷◌, ◌++◌, subst}
 use Rattle.thp_page.specs.declared.standing.Standing.TheVariants.{Queued}
-use Rattle.thp_live_pages.specs.PageStoreState.{PageStoreState, AtSlot, Edits}
+use Rattle.thp_live_pages.specs.Prelude.{PageStoreState, AtSlot, Edits}
 use Rattle.thp_node.proofs.ChainLemmas.{chain_stays}
 use Rattle.thp_node.proofs.blocks.Blocks.enqueue.Goals as goal
 

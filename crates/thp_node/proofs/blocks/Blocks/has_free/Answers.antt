@@ -1,5 +1,5 @@
 use Rattle.std.proofs.Common.{sym, ◌∙◌, subst}
-use Rattle.thp_live_pages.specs.PageStoreState.{PageStoreState, HasFree}
+use Rattle.thp_live_pages.specs.Prelude.{PageStoreState, HasFree}
 use Rattle.thp_node.proofs.ChainLemmas.{chain_some}
 use Rattle.thp_node.proofs.blocks.Blocks.has_free.Goals as goal
 

@@ -1,6 +1,6 @@
 use Rattle.std.proofs.Common.{None, length, refl, ap, ◌∙◌, subst, arith, length-set}
-use Rattle.thp_page.specs.Slots.{slot_at}
-use Rattle.thp_live_pages.specs.PageStoreState.{PageStoreState, Lost}
+use Rattle.thp_page.specs.Prelude.{slot_at}
+use Rattle.thp_live_pages.specs.Prelude.{PageStoreState, Lost}
 use Rattle.thp_page.proofs.TableSlots.{slot_at-inside}
 use Rattle.thp_live_pages.proofs.FreeChains.{free_chain_kept, not_free}
 use Rattle.thp_live_pages.proofs.Relinking.{edited_slot}

@@ -1,5 +1,4 @@
-use Rattle.std.proofs.Common.{ℕ, ◌-◌, ◌∷◌, length, ap, sym, ◌∙◌, subst, arith, inl, inr}
-use Rattle.std.specs.List.{Contains}
+use Rattle.std.proofs.Common.{ℕ, ◌-◌, ◌∷◌, length, ap, sym, ◌∙◌, subst, arith, inl, inr, Contains}
 use Rattle.std.proofs.lemmas.Bool.Decides.{eqb_tells}
 use Rattle.thp_links.proofs.Members.{Contains-head, Contains-behind, Contains-cons_cases}
 use Rattle.thp_node.proofs.blocks.Blocks.new.Goals as goal

@@ -1,6 +1,5 @@
-use Rattle.std.proofs.Common.{◌≡◌, ℕ, ◌<◌, ◌≤◌}
-use Rattle.std.specs.List.{Contains}
-use Rattle.thp_live_pages.specs.FreeChains.{IsFreeChain}
+use Rattle.std.proofs.Common.{◌≡◌, ℕ, ◌<◌, ◌≤◌, Contains}
+use Rattle.thp_live_pages.specs.Prelude.{IsFreeChain}
 use Rattle.thp_node.proofs.blocks.Blocks.new.Given as goal
 
 -- the chain has the blocks from `block` on

@@ -1,6 +1,6 @@
 use Rattle.std.proofs.Common.{length, ap, sym, ◌∙◌, arith}
 use Rattle.thp_links.proofs.Members.{Contains-from_first}
-use Rattle.thp_live_pages.specs.PageStoreState.{PageStoreState, new_standing, new_queue}
+use Rattle.thp_live_pages.specs.Prelude.{PageStoreState, new_standing, new_queue}
 use Rattle.thp_node.proofs.ChainLemmas.{chain_placed}
 use Rattle.thp_node.proofs.blocks.Blocks.place.Goals as goal
 

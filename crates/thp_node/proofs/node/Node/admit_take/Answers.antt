@@ -1,10 +1,7 @@
 use Rattle.std.proofs.Common.{◌≡◌, ◌*◌, length, refl, ap, sym, ◌∙◌, inl, inr, arith}
-use Rattle.thp_model.specs.Places.{queue}
-use Rattle.thp_model.specs.Refusals.{refusal}
+use Rattle.thp_model.specs.Prelude.{queue, refusal, take_events}
 use Rattle.thp_model.specs.Refusals as call
-use Rattle.thp_model.specs.Runs.{take_events}
-use Rattle.thp_node.specs.Journals.{JournalState}
-use Rattle.thp_node.specs.NodeState.{NodeState}
+use Rattle.thp_node.specs.Prelude.{JournalState, NodeState}
 use Rattle.thp_node.proofs.CallLemmas.{node_of}
 use Rattle.thp_node.proofs.BatchRuns.{refused_take, unrefused_take, queue_length, take_length}
 use Rattle.thp_node.proofs.node.Node.admit_take.Goals as goal

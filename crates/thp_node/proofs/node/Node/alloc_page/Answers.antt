@@ -1,18 +1,12 @@
-use Rattle.std.proofs.Common.{◌≡◌, ◌<◌, ℕ, Bool, [], ◌∷◌, ◌++◌, refl, sym, ◌∙◌, subst, ap, arith, inl, inr}
+use Rattle.std.proofs.Common.{◌≡◌, ◌<◌, ℕ, Bool, [], ◌∷◌, ◌++◌, refl, sym, ◌∙◌, subst, ap, arith, inl, inr, IsSome, length}
 use Rattle.std.specs.Bool.{OnTrue, OnFalse}
-use Rattle.std.specs.Prelude.{IsSome, length}
 use Rattle.thp_model.specs.declared.shape.Shape.{Shape}
 use Rattle.thp_model.specs.declared.events.What.TheVariants as what
-use Rattle.thp_model.specs.History.{History, by}
-use Rattle.thp_model.specs.Legal.{Fits}
-use Rattle.thp_model.specs.Refusals.{refusal}
+use Rattle.thp_model.specs.Prelude.{History, by, Fits, refusal, shrinks_underused}
 use Rattle.thp_model.specs.Refusals as call
-use Rattle.thp_model.specs.Underused.{shrinks_underused}
-use Rattle.thp_page.specs.Slots.{slot_at}
-use Rattle.thp_live_pages.specs.PageStoreState.{HasFree}
-use Rattle.thp_live_pages.specs.Holding.{IsNode}
-use Rattle.thp_node.specs.Journals.{JournalState}
-use Rattle.thp_node.specs.NodeState.{NodeState}
+use Rattle.thp_page.specs.Prelude.{slot_at}
+use Rattle.thp_live_pages.specs.Prelude.{HasFree, IsNode}
+use Rattle.thp_node.specs.Prelude.{JournalState, NodeState}
 use Rattle.thp_node.proofs.CallLemmas.{node_of}
 use Rattle.thp_live_pages.proofs.Closing.{refused_alloc, refused_full, allowed_alloc, next_is_new}
 use Rattle.thp_live_pages.proofs.Homing.{legal_homed}

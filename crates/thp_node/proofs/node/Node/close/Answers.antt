@@ -1,12 +1,10 @@
 use Rattle.std.proofs.Common.{◌≡◌, false, [], ◌∷◌, ◌++◌, refl, sym, ◌∙◌, subst, ap, arith, inl, inr}
 use Rattle.thp_model.specs.declared.shape.Shape.{Shape}
 use Rattle.thp_model.specs.declared.events.What.TheVariants as what
-use Rattle.thp_model.specs.History.{History, by}
-use Rattle.thp_model.specs.Refusals.{refusal}
+use Rattle.thp_model.specs.Prelude.{History, by, refusal}
 use Rattle.thp_model.specs.Refusals as call
-use Rattle.thp_live_pages.specs.Holding.{IsNode}
-use Rattle.thp_node.specs.Journals.{JournalState}
-use Rattle.thp_node.specs.NodeState.{NodeState}
+use Rattle.thp_live_pages.specs.Prelude.{IsNode}
+use Rattle.thp_node.specs.Prelude.{JournalState, NodeState}
 use Rattle.thp_node.proofs.CallLemmas.{node_of}
 use Rattle.thp_live_pages.proofs.Closing.{refused_close, allowed_close}
 use Rattle.thp_live_pages.proofs.ListEvents.{closed_node}

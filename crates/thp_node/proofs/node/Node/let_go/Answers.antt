@@ -1,11 +1,8 @@
 use Rattle.std.proofs.Common.{◌≡◌, false, ◌∷◌, [], ◌++◌, ap, ◌∙◌, subst, arith}
 use Rattle.thp_model.specs.declared.events.Event.{Event}
 use Rattle.thp_model.specs.declared.events.What.TheVariants.{Used}
-use Rattle.thp_model.specs.Pages.{is_split_candidate}
-use Rattle.thp_model.specs.History.{by}
-use Rattle.thp_model.specs.Runs.{try_event}
-use Rattle.thp_node.specs.Calls.{Did}
-use Rattle.thp_node.specs.NodeState.{NodeState}
+use Rattle.thp_model.specs.Prelude.{is_split_candidate, by, try_event}
+use Rattle.thp_node.specs.Prelude.{Did, NodeState}
 use Rattle.thp_node.proofs.BatchRuns.{flies_inside, slot_inside, node_recorded, found_used}
 use Rattle.thp_node.proofs.CallLemmas.{did_one, node_of}
 use Rattle.thp_node.proofs.node.Node.let_go.Goals as goal

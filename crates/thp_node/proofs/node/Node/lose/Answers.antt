@@ -1,17 +1,11 @@
 use Rattle.std.proofs.Common.{◌≡◌, ℕ, None, Some, [], ◌∷◌, ◌++◌, sym, ◌∙◌, subst, ap, ap₂, arith}
 use Rattle.thp_model.specs.declared.shape.Shape.{Shape}
 use Rattle.thp_model.specs.declared.events.What.{What}
-use Rattle.thp_model.specs.History.{History, by}
-use Rattle.thp_model.specs.Frames.{outcome, released}
-use Rattle.thp_model.specs.Refusals.{refusal}
+use Rattle.thp_model.specs.Prelude.{History, by, outcome, released, refusal, page_refusal, loss_call, loss_what}
 use Rattle.thp_model.specs.declared.page_call.PageCall.TheVariants as either
-use Rattle.thp_live_pages.specs.Holding.{IsNode}
-use Rattle.thp_live_pages.specs.Homes.{block_of}
-use Rattle.thp_live_pages.specs.PageStoreState.{PageStoreState, AtSlot}
-use Rattle.thp_model.specs.Pages.{page_refusal}
+use Rattle.thp_live_pages.specs.Prelude.{IsNode, block_of, PageStoreState, AtSlot}
 use Rattle.thp_model.specs.declared.page_call.Loss.{Loss}
-use Rattle.thp_node.specs.NodeState.{NodeState}
-use Rattle.thp_model.specs.PageCalls.{loss_call, loss_what}
+use Rattle.thp_node.specs.Prelude.{NodeState}
 use Rattle.thp_live_pages.proofs.Admitting.{Found, at_home, refused_by_page}
 use Rattle.thp_node.proofs.CallLemmas.{did_one, refused_by, node_of}
 use Rattle.thp_node.proofs.Losing.{Losing, losing}

@@ -1,10 +1,8 @@
 use Rattle.std.proofs.Common.{◌≡◌, None, sym, ◌∙◌, inl, inr, ap, subst, arith, refl}
-use Rattle.thp_model.specs.Refusals.{refusal}
-use Rattle.thp_page.specs.Slots.{slot_at, HoldsPage}
-use Rattle.thp_node.specs.NodeState.{NodeState}
+use Rattle.thp_model.specs.Prelude.{refusal, page_call}
+use Rattle.thp_page.specs.Prelude.{slot_at, HoldsPage}
+use Rattle.thp_node.specs.Prelude.{NodeState, JournalState}
 use Rattle.thp_node.proofs.CallLemmas.{node_of}
-use Rattle.thp_node.specs.Journals.{JournalState}
-use Rattle.thp_model.specs.PageCalls.{page_call}
 use Rattle.thp_live_pages.proofs.Admitting.{Found, found, refused_by_page}
 use Rattle.thp_node.proofs.node.Node.make_room.Given.{Over}
 use Rattle.thp_node.proofs.node.Node.make_room.Goals as goal

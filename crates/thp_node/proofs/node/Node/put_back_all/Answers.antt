@@ -1,9 +1,7 @@
 use Rattle.std.proofs.Common.{◌-◌, length, map, Some, Option, ℕ, sym, ap, ap₂, ◌∙◌, subst, arith}
-use Rattle.thp_model.specs.History.{History}
-use Rattle.thp_model.specs.Runs.{still_flying}
-use Rattle.thp_live_pages.specs.Homes.{block_of}
-use Rattle.thp_node.specs.NodeState.{NodeState}
-use Rattle.thp_node.specs.Returning.{BeginsIn}
+use Rattle.thp_model.specs.Prelude.{History, still_flying}
+use Rattle.thp_live_pages.specs.Prelude.{block_of}
+use Rattle.thp_node.specs.Prelude.{NodeState, BeginsIn}
 use Rattle.thp_node.proofs.Fronts.{fronts_grown, return_takes_none}
 use Rattle.thp_node.proofs.ReturnLemmas.{batch_begins, batch_did, batch_reply, the_reply}
 use Rattle.thp_node.proofs.node.Node.put_back_all.Goals as goal

@@ -1,8 +1,6 @@
 use Rattle.std.proofs.Common.{◌≡◌, count_by, take}
-use Rattle.thp_model.specs.Places.{flight}
-use Rattle.thp_model.specs.Runs.{goes_back}
-use Rattle.thp_node.specs.Calls.{Did}
-use Rattle.thp_node.specs.Returning.{return_first}
+use Rattle.thp_model.specs.Prelude.{flight, goes_back}
+use Rattle.thp_node.specs.Prelude.{Did, return_first}
 use Rattle.thp_node.proofs.node.Node.return_all.Given as goal
 
 abbrev pub invariant-loop-block : goal.invariant-loop-block

@@ -1,10 +1,7 @@
-use Rattle.std.proofs.Common.{[], ◌∷◌, Option, map, refl, ap, sym, subst}
-use Rattle.thp_model.specs.Runs.{return_event}
-use Rattle.std.specs.Prelude.{IsSome}
-use Rattle.thp_page.specs.Table.{Slot}
-use Rattle.thp_node.specs.Calls.{Did}
-use Rattle.thp_node.specs.NodeState.{NodeState}
-use Rattle.thp_node.specs.Returning.{BeginsIn}
+use Rattle.std.proofs.Common.{[], ◌∷◌, Option, map, refl, ap, sym, subst, IsSome}
+use Rattle.thp_model.specs.Prelude.{return_event}
+use Rattle.thp_page.specs.Prelude.{Slot}
+use Rattle.thp_node.specs.Prelude.{Did, NodeState, BeginsIn}
 use Rattle.thp_node.proofs.ReturnLemmas.{FirstFlies, first_flies, first_leaves}
 use Rattle.thp_node.proofs.node.Node.return_first.Goals as goal
 

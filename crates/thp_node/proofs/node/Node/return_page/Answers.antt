@@ -1,11 +1,8 @@
-use Rattle.std.proofs.Common.{true, false, [], ◌∷◌, ◌++◌, sym, ◌∙◌, subst, ap, arith}
-use Rattle.std.specs.Prelude.{slice_get}
+use Rattle.std.proofs.Common.{true, false, [], ◌∷◌, ◌++◌, sym, ◌∙◌, subst, ap, arith, slice_get}
 use Rattle.thp_model.specs.declared.events.What.TheVariants as what
-use Rattle.thp_model.specs.History.{by}
-use Rattle.thp_model.specs.Places.{flight}
-use Rattle.thp_model.specs.Runs.{goes_back}
-use Rattle.thp_live_pages.specs.Flying.{IsFlyingAt}
-use Rattle.thp_node.specs.NodeState.{NodeState}
+use Rattle.thp_model.specs.Prelude.{by, flight, goes_back}
+use Rattle.thp_live_pages.specs.Prelude.{IsFlyingAt}
+use Rattle.thp_node.specs.Prelude.{NodeState}
 use Rattle.thp_node.proofs.CallLemmas.{did_one}
 use Rattle.thp_node.proofs.ReturnLemmas.{back_all, dropped_all, back_may, drop_may, goes_back_told, did_return}
 use Rattle.thp_node.proofs.node.Node.return_page.Goals as goal

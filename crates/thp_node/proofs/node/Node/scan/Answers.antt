@@ -1,12 +1,9 @@
-use Rattle.std.proofs.Common.{◌*◌, Option, length, sym, ap, ◌∙◌, subst, rules}
-use Rattle.std.specs.Prelude.{IfErr}
+use Rattle.std.proofs.Common.{◌*◌, Option, length, sym, ap, ◌∙◌, subst, rules, IfErr}
 use Rattle.thp_model.specs.declared.refusal.Refusal.{Refusal}
-use Rattle.thp_model.specs.Places.{flight}
-use Rattle.thp_model.specs.Runs.{take_events}
+use Rattle.thp_model.specs.Prelude.{flight, take_events}
 use Rattle.thp_model.proofs.ScanRuns.{scan_run}
 use Rattle.thp_model.proofs.TakeRuns.{none_length}
-use Rattle.thp_node.specs.Calls.{Refused}
-use Rattle.thp_node.specs.NodeState.{NodeState}
+use Rattle.thp_node.specs.Prelude.{Refused, NodeState}
 use Rattle.thp_node.proofs.Fronts.{fronts_emptied}
 use Rattle.thp_node.proofs.ScanLemmas.{scan_as_take, took_admitted, batch_admitted, scan_flies, scan_recorded, scan_replied}
 use Rattle.thp_node.proofs.node.Node.scan.Goals as goal

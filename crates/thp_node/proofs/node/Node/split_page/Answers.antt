@@ -1,13 +1,8 @@
 use Rattle.std.proofs.Common.{◌≡◌, true, ◌∷◌, [], ◌++◌, ap, ap₂, sym, ◌∙◌, subst, arith}
 use Rattle.thp_model.specs.declared.events.Event.{Event}
 use Rattle.thp_model.specs.declared.events.What.TheVariants.{Split}
-use Rattle.thp_model.specs.Pages.{is_split_candidate}
-use Rattle.thp_model.specs.Underused.{shrinks_underused}
-use Rattle.thp_model.specs.History.{by}
-use Rattle.thp_model.specs.Runs.{try_event}
-use Rattle.thp_node.specs.Calls.{Did}
-use Rattle.thp_node.specs.declared.journal.EventContext.TheVariants.{OfSplit}
-use Rattle.thp_node.specs.NodeState.{NodeState}
+use Rattle.thp_model.specs.Prelude.{is_split_candidate, shrinks_underused, by, try_event}
+use Rattle.thp_node.specs.Prelude.{Did, OfSplit, NodeState}
 use Rattle.thp_node.proofs.BatchRuns.{flies_inside, unpinned_inside, node_recorded, slot_inside, ready_there, whole_there, partly_there, SplitOff, split_off}
 use Rattle.thp_node.proofs.CallLemmas.{did_one, node_of}
 use Rattle.thp_node.proofs.node.Node.split_page.Given.{Over}

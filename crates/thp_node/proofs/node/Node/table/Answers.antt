@@ -1,6 +1,6 @@
 use Rattle.std.proofs.Common.{ap}
-use Rattle.thp_live_pages.specs.Holding.{IsNode}
-use Rattle.thp_node.specs.NodeState.{NodeState}
+use Rattle.thp_live_pages.specs.Prelude.{IsNode}
+use Rattle.thp_node.specs.Prelude.{NodeState}
 use Rattle.thp_node.proofs.TableFacts.{live_has_block, lies_where_placed, node_seen}
 use Rattle.thp_node.proofs.node.Node.table.Given.{Over}
 use Rattle.thp_node.proofs.node.Node.table.Goals as goal

@@ -1,7 +1,7 @@
 use Rattle.std.proofs.Common.{◌≡◌, ap, sym, ◌∙◌}
-use Rattle.thp_model.specs.Places.{flight}
+use Rattle.thp_model.specs.Prelude.{flight}
 use Rattle.thp_model.proofs.TakeRuns.{none_length}
-use Rattle.thp_node.specs.NodeState.{NodeState}
+use Rattle.thp_node.specs.Prelude.{NodeState}
 use Rattle.thp_node.proofs.Fronts.{fronts_did, front_whole, older_in_front}
 use Rattle.thp_node.proofs.ScanLemmas.{took_admitted, batch_admitted, scan_flies}
 use Rattle.thp_node.proofs.node.Node.take_into.Given.{Over}

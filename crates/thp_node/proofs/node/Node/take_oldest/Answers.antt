@@ -1,8 +1,7 @@
-use Rattle.std.proofs.Common.{true, true≢false, ◌≡◌, ◌+◌, ℕ, ◌<◌, List, ◌∷◌, [], ◌++◌, length, ap, sym, ◌∙◌, arith, refl, subst}
-use Rattle.std.specs.Prelude.{slice_get}
-use Rattle.thp_model.specs.Places.{queue, flight, no_pages}
+use Rattle.std.proofs.Common.{true, true≢false, ◌≡◌, ◌+◌, ℕ, ◌<◌, List, ◌∷◌, [], ◌++◌, length, ap, sym, ◌∙◌, arith, refl, subst, slice_get}
+use Rattle.thp_model.specs.Prelude.{queue, flight, no_pages}
 use Rattle.thp_model.proofs.TakeRuns.{more_taken}
-use Rattle.thp_node.specs.Batches.{BatchState}
+use Rattle.thp_node.specs.Prelude.{BatchState}
 use Rattle.thp_node.proofs.JournalLemmas.{flight_grows}
 use Rattle.thp_node.proofs.BatchRuns.{took_none, took_more, some_left}
 use Rattle.thp_node.proofs.node.Node.take_oldest.Goals as goal

@@ -1,6 +1,6 @@
-use Rattle.std.specs.Prelude.{◌≡◌, ◌+◌, ◌≤◌, length, take}
-use Rattle.thp_model.specs.Places.{queue, flight}
-use Rattle.thp_node.specs.Takings.{Took}
+use Rattle.std.proofs.Common.{◌≡◌, ◌+◌, ◌≤◌, length, take}
+use Rattle.thp_model.specs.Prelude.{queue, flight}
+use Rattle.thp_node.specs.Prelude.{Took}
 use Rattle.thp_node.proofs.node.Node.take_oldest.Given as goal
 
 abbrev pub invariant-loop-taken : goal.invariant-loop-taken

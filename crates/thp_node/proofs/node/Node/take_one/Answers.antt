@@ -1,10 +1,7 @@
-use Rattle.std.proofs.Common.{◌||◌, ap, sym, ◌∙◌}
-use Rattle.std.specs.Prelude.{slice_get}
+use Rattle.std.proofs.Common.{◌||◌, ap, sym, ◌∙◌, slice_get}
 use Rattle.thp_model.specs.declared.events.What.TheVariants.{Taken}
-use Rattle.thp_model.specs.History.{by}
-use Rattle.thp_model.specs.Legal.{FitsTaken}
-use Rattle.thp_model.specs.Places.{queue, flight, no_pages, is_taking}
-use Rattle.thp_node.specs.NodeState.{NodeState}
+use Rattle.thp_model.specs.Prelude.{by, FitsTaken, queue, flight, no_pages, is_taking}
+use Rattle.thp_node.specs.Prelude.{NodeState}
 use Rattle.thp_node.proofs.BatchRuns.{node_recorded}
 use Rattle.thp_live_pages.proofs.Homing.{legal_homed}
 use Rattle.thp_live_pages.proofs.ListEvents.{first_is, taken_fits, taken_node}

@@ -1,8 +1,6 @@
 use Rattle.std.proofs.Common.{ℕ, ◌<◌, List, length, take, ap, ◌∙◌, arith, length-take-le}
 use Rattle.std.proofs.lemmas.List.Sums.{count_by-le-length}
-use Rattle.thp_node.specs.Scanning.{is_used}
-use Rattle.thp_node.specs.NodeState.{NodeState}
-use Rattle.thp_node.specs.Batches.{rest}
+use Rattle.thp_node.specs.Prelude.{is_used, NodeState, rest}
 use Rattle.thp_node.proofs.ScanLemmas.{used_more, few_used, tried_more, tried_after, no_refusal, room_to_try}
 use Rattle.thp_node.proofs.node.Node.try_all.Goals as goal
 

@@ -1,8 +1,6 @@
 use Rattle.std.proofs.Common.{◌≡◌, count_by, take, drop, map}
-use Rattle.thp_model.specs.Runs.{try_event}
-use Rattle.thp_node.specs.Batches.{rest}
-use Rattle.thp_node.specs.Calls.{Did}
-use Rattle.thp_node.specs.Scanning.{is_used}
+use Rattle.thp_model.specs.Prelude.{try_event}
+use Rattle.thp_node.specs.Prelude.{rest, Did, is_used}
 use Rattle.thp_node.proofs.node.Node.try_all.Given as goal
 
 abbrev pub invariant-loop-tried : goal.invariant-loop-tried

@@ -1,12 +1,8 @@
 use Rattle.std.proofs.Common.{◌≡◌, ◌∷◌, [], ◌++◌, ap, sym, ◌∙◌, subst, arith}
 use Rattle.thp_model.specs.declared.events.Event.{Event}
 use Rattle.thp_model.specs.declared.events.What.TheVariants.{Pinned}
-use Rattle.thp_model.specs.History.{by}
-use Rattle.thp_model.specs.Counts.{pins}
-use Rattle.thp_model.specs.Pages.{is_split_candidate}
-use Rattle.thp_model.specs.Runs.{try_event}
-use Rattle.thp_node.specs.Calls.{Did}
-use Rattle.thp_node.specs.NodeState.{NodeState}
+use Rattle.thp_model.specs.Prelude.{by, pins, is_split_candidate, try_event}
+use Rattle.thp_node.specs.Prelude.{Did, NodeState}
 use Rattle.thp_node.proofs.BatchRuns.{flies_inside, slot_inside, node_recorded, pins_there, tried_split, tried_pinned, tried_used, FoundPinned, found_pinned}
 use Rattle.thp_node.proofs.CallLemmas.{did_one, node_of}
 use Rattle.thp_node.proofs.node.Node.try_page.Given.{Over}

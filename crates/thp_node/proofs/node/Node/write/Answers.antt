@@ -1,12 +1,10 @@
-use Rattle.std.proofs.Common.{◌≡◌, ℕ, [], ◌∷◌, Option, ap₂, sym, ◌∙◌, subst}
-use Rattle.std.specs.Prelude.{IfErr}
+use Rattle.std.proofs.Common.{◌≡◌, ℕ, [], ◌∷◌, Option, ap₂, sym, ◌∙◌, subst, IfErr}
 use Rattle.thp_model.specs.declared.refusal.Refusal.{Refusal}
 use Rattle.thp_model.specs.declared.events.What.TheVariants as what
-use Rattle.thp_model.specs.History.{by}
-use Rattle.thp_model.specs.Refusals.{refusal}
+use Rattle.thp_model.specs.Prelude.{by, refusal}
 use Rattle.thp_model.specs.Refusals as call
 use Rattle.thp_model.proofs.Narrowing.{write, write-whole, on_ok, both_ok}
-use Rattle.thp_node.specs.Calls.{Did, Refused}
+use Rattle.thp_node.specs.Prelude.{Did, Refused}
 use Rattle.thp_node.proofs.node.Node.write.Given.{Over}
 use Rattle.thp_node.proofs.node.Node.write.Goals as goal
 

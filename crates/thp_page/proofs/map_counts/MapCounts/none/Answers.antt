@@ -1,5 +1,5 @@
 use Rattle.std.proofs.Common.{◌∙◌, ap}
-use Rattle.thp_page.specs.Planes.{counts_in}
+use Rattle.thp_page.specs.Prelude.{counts_in}
 use Rattle.thp_page.proofs.Seen.{none_counted}
 use Rattle.thp_page.proofs.map_counts.MapCounts.none.Goals as goal
 

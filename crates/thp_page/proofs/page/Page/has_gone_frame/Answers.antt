@@ -1,5 +1,5 @@
 use Rattle.std.proofs.Common.{◌≡◌, ◌||◌, ◌&&◌, nat_eq, Bool, true, false, refl, ap, sym, ◌∙◌, subst}
-use Rattle.thp_model.specs.Pages.{PageState, own_at, zero_at, some_in_range}
+use Rattle.thp_model.specs.Prelude.{PageState, own_at, zero_at, some_in_range}
 use Rattle.thp_page.proofs.ZeroSets.{some_gone}
 use Rattle.thp_page.proofs.page.Page.has_gone_frame.Goals.{then-self, else-self}
 use Rattle.thp_page.proofs.page.Page.has_gone_frame.Goals as goal

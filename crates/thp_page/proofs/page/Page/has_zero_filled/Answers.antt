@@ -1,6 +1,6 @@
 use Rattle.std.proofs.Common.{ap, ◌∙◌, arith}
-use Rattle.thp_model.specs.Pages.{PageState, size, zero_at, some_in_range}
-use Rattle.thp_page.specs.PageView.{state_of}
+use Rattle.thp_model.specs.Prelude.{PageState, size, zero_at, some_in_range}
+use Rattle.thp_page.specs.Prelude.{state_of}
 use Rattle.thp_page.proofs.PageSizes.{size_most}
 use Rattle.thp_page.proofs.ZeroSets.{some_zero}
 use Rattle.thp_page.proofs.page.Page.has_zero_filled.Goals as goal

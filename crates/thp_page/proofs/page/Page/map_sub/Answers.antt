@@ -1,6 +1,6 @@
 use Rattle.std.proofs.Common.{ap₂, ◌∙◌}
 use Rattle.thp_model.specs.Refusals as call
-use Rattle.thp_model.specs.Pages.{page_refusal}
+use Rattle.thp_model.specs.Prelude.{page_refusal}
 use Rattle.thp_model.proofs.Narrowing.{page_map_sub}
 use Rattle.thp_page.proofs.page.Page.map_sub.Goals as goal
 

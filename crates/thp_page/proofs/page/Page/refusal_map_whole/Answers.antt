@@ -1,6 +1,5 @@
 use Rattle.std.proofs.Common.{true, false, ap, sym, ◌∙◌, nat_eq}
-use Rattle.thp_model.specs.Refusals.{most}
-use Rattle.thp_model.specs.Pages.{PageState, total_at}
+use Rattle.thp_model.specs.Prelude.{most, PageState, total_at}
 use Rattle.thp_page.proofs.PageSizes.{whole_range}
 use Rattle.thp_page.proofs.PageRefusals.{map_whole_refusal}
 use Rattle.thp_page.proofs.page.Page.refusal_map_whole.Goals as goal

@@ -1,11 +1,8 @@
 use Rattle.std.proofs.Common.{◌≡◌, ◌+◌, ◌^◌, ◌<◌, ◌≤◌, ℕ, Bool, nat_lt, true, List, cond, get_or, refl, ap, sym, ◌∙◌, arith, subst}
 use Rattle.std.proofs.Math.Pow.{pow_mono}
 use Rattle.std.proofs.lemmas.Bool.Decides.{nat_tests}
-use Rattle.thp_model.specs.Sets.{has, set_of}
-use Rattle.thp_model.specs.Words.{get_or-set_of}
-use Rattle.thp_model.specs.Pages.{PageState, size, own_at, gives_frames, PageSplit}
-use Rattle.thp_page.specs.Changes.{split_set}
-use Rattle.thp_page.specs.PageView.{state_of}
+use Rattle.thp_model.specs.Prelude.{has, set_of, get_or-set_of, PageState, size, own_at, gives_frames, PageSplit}
+use Rattle.thp_page.specs.Prelude.{split_set, state_of}
 use Rattle.thp_page.proofs.Trailing.{behind-split}
 use Rattle.thp_page.proofs.PageChanges.{IsPage-split, zero_inside-same}
 use Rattle.thp_page.proofs.PageUse.{unused_set, split_set-none, split_set-zeros, gives_frames-split, unused_set-unmapped, unused_set-mapped}

@@ -1,6 +1,6 @@
 use Rattle.std.proofs.Common.{ap, ◌∙◌, arith}
-use Rattle.thp_model.specs.Pages.{size}
-use Rattle.thp_page.specs.PageView.{state_of}
+use Rattle.thp_model.specs.Prelude.{size}
+use Rattle.thp_page.specs.Prelude.{state_of}
 use Rattle.thp_page.proofs.PageSizes.{shifted_is_size, size_most}
 use Rattle.thp_page.proofs.page.Page.subpages.Goals as goal
 

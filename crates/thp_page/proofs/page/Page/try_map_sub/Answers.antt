@@ -1,8 +1,7 @@
 use Rattle.std.proofs.Common.{◌≡◌, ◌+◌, ◌<◌, ◌≤◌, ℕ, List, cond, get_or, refl, arith, subst, sym, ◌∙◌}
-use Rattle.thp_model.specs.Sets.{covers}
+use Rattle.thp_model.specs.Prelude.{covers, PageState, own_at, RangeMapped}
 use Rattle.thp_model.specs.Refusals as call
-use Rattle.thp_model.specs.Pages.{PageState, own_at, RangeMapped}
-use Rattle.thp_page.specs.PageView.{state_of}
+use Rattle.thp_page.specs.Prelude.{state_of}
 use Rattle.thp_page.proofs.PageSizes.{size_most}
 use Rattle.thp_page.proofs.PageRefusals.{allowed_as, map_sub_allowed}
 use Rattle.thp_page.proofs.Trailing.{behind-map}

@@ -1,7 +1,7 @@
 use Rattle.std.proofs.Common.{refl, ◌+◌, arith, sym, ◌∙◌}
 use Rattle.thp_model.specs.Refusals as call
-use Rattle.thp_model.specs.Pages.{PageState}
-use Rattle.thp_page.specs.PageView.{state_of}
+use Rattle.thp_model.specs.Prelude.{PageState}
+use Rattle.thp_page.specs.Prelude.{state_of}
 use Rattle.thp_page.proofs.PageSizes.{size_least}
 use Rattle.thp_page.proofs.PageRefusals.{allowed_as, map_whole_allowed}
 use Rattle.thp_page.proofs.Trailing.{behind-same}

@@ -1,8 +1,7 @@
 use Rattle.std.proofs.Common.{◌≡◌, ◌+◌, ◌-◌, ◌<◌, ◌≤◌, ℕ, List, cond, get_or, refl, ap, sym, ◌∙◌, arith, subst}
-use Rattle.thp_model.specs.Sets.{covers}
+use Rattle.thp_model.specs.Prelude.{covers, PageState, size, own_at, PmdSplit}
 use Rattle.thp_model.specs.Refusals as call
-use Rattle.thp_model.specs.Pages.{PageState, size, own_at, PmdSplit}
-use Rattle.thp_page.specs.PageView.{state_of}
+use Rattle.thp_page.specs.Prelude.{state_of}
 use Rattle.thp_page.proofs.RangeLemmas.{covers_inside, covers_true}
 use Rattle.thp_page.proofs.PageSizes.{size_most}
 use Rattle.thp_page.proofs.PageRefusals.{allowed_as, split_pmd_allowed}

@@ -1,14 +1,10 @@
 use Rattle.std.proofs.Common.{◌≡◌, ◌+◌, ◌<◌, ◌≤◌, ◌&&◌, ◌||◌, not, nat_lt, ℕ, Bool, true, false, List, cond, get_or, length, None, refl, ap, ap₂, sym, ◌∙◌, arith, subst, ne_eqb}
 use Rattle.std.proofs.lemmas.Bool.Decides.{nat_tests}
-use Rattle.thp_model.specs.Sets.{covers, has, set_of}
-use Rattle.thp_model.specs.Words.{get_or-set_of, length-set_of}
+use Rattle.thp_model.specs.Prelude.{covers, has, set_of, get_or-set_of, length-set_of, PageState, own_at, has_use, drops_use, partly_after, page_refusal, RangeUnmapped, IsPage}
 use Rattle.thp_model.proofs.WordLemmas.{set_of-ext}
 use Rattle.thp_model.proofs.Options.{not_there}
 use Rattle.thp_model.specs.Refusals as call
-use Rattle.thp_model.specs.Pages.{PageState, own_at, has_use, drops_use, partly_after, page_refusal, RangeUnmapped, IsPage}
-use Rattle.thp_page.specs.declared.page.Page.TheInside.{Inside}
-use Rattle.thp_page.specs.PageView.{state_of, IsKept}
-use Rattle.thp_page.specs.Changes.{IsChange}
+use Rattle.thp_page.specs.Prelude.{Inside, state_of, IsKept, IsChange}
 use Rattle.thp_page.proofs.PageSizes.{size_most}
 use Rattle.thp_page.proofs.PageRefusals.{allowed_as, unmap_sub_allowed}
 use Rattle.thp_page.proofs.Trailing.{behind-unmap}

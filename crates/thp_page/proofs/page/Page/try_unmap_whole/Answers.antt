@@ -1,11 +1,8 @@
 use Rattle.std.proofs.Common.{◌≡◌, ◌≢◌, ◌-◌, ◌<◌, ◌≤◌, ◌&&◌, ◌||◌, ℕ, Bool, false, nat_eq, None, refl, ap, ap₂, sym, ◌∙◌, arith, subst, ne_eqb}
-use Rattle.thp_model.specs.Sets.{covers, some_below}
+use Rattle.thp_model.specs.Prelude.{covers, some_below, PageState, size, own_at, has_use, drops_use, partly_after, page_refusal, WholeUnmapped}
 use Rattle.thp_model.proofs.Options.{not_there}
 use Rattle.thp_model.specs.Refusals as call
-use Rattle.thp_model.specs.Pages.{PageState, size, own_at, has_use, drops_use, partly_after, page_refusal, WholeUnmapped}
-use Rattle.thp_page.specs.declared.page.Page.TheInside.{Inside}
-use Rattle.thp_page.specs.PageView.{state_of, IsKept}
-use Rattle.thp_page.specs.Changes.{IsChange}
+use Rattle.thp_page.specs.Prelude.{Inside, state_of, IsKept, IsChange}
 use Rattle.thp_page.proofs.PageSizes.{size_most, whole_test}
 use Rattle.thp_page.proofs.PageRefusals.{allowed_as, unmap_whole_allowed}
 use Rattle.thp_page.proofs.Trailing.{behind-same}

@@ -1,8 +1,8 @@
 use Rattle.std.proofs.Common.{false, ◌-◌, ◌≤◌, refl, arith, subst, sym, ◌∙◌}
 use Rattle.thp_model.specs.Refusals as call
-use Rattle.thp_model.specs.Pages.{PageState, Pinned}
-use Rattle.thp_page.specs.PageView.{state_of}
-use Rattle.thp_page.specs.Changes.{IsChange}
+use Rattle.thp_model.specs.Prelude.{PageState}
+use Rattle.thp_model.specs.Pages.{Pinned}
+use Rattle.thp_page.specs.Prelude.{state_of, IsChange}
 use Rattle.thp_page.proofs.PageRefusals.{allowed_as, unpin_allowed}
 use Rattle.thp_page.proofs.Trailing.{behind-same}
 use Rattle.thp_page.proofs.PageChanges.{IsPage-unpin, zero_inside-same}

@@ -1,7 +1,7 @@
 use Rattle.std.proofs.Common.{List, Bool, arith, subst, refl, sym, ◌∙◌}
 use Rattle.thp_model.specs.Refusals as call
-use Rattle.thp_model.specs.Pages.{PageState, RangeWritten}
-use Rattle.thp_page.specs.PageView.{state_of}
+use Rattle.thp_model.specs.Prelude.{PageState, RangeWritten}
+use Rattle.thp_page.specs.Prelude.{state_of}
 use Rattle.thp_page.proofs.PageSizes.{size_most}
 use Rattle.thp_page.proofs.PageRefusals.{allowed_as, write_allowed}
 use Rattle.thp_page.proofs.Trailing.{behind-same}

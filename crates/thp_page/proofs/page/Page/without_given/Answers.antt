@@ -1,7 +1,6 @@
 use Rattle.std.proofs.Common.{◌≡◌, Bool, true, false, ◌&&◌, not, refl, ap, sym, ◌∙◌}
-use Rattle.thp_model.specs.Sets.{has, set_of}
-use Rattle.thp_model.specs.Pages.{PageState, zero_at}
-use Rattle.thp_page.specs.PageView.{state_of}
+use Rattle.thp_model.specs.Prelude.{has, set_of, PageState, zero_at}
+use Rattle.thp_page.specs.Prelude.{state_of}
 use Rattle.thp_page.proofs.SubSets.{is_set_of}
 use Rattle.thp_page.proofs.page.Page.without_given.Goals as goal
 

@@ -1,7 +1,7 @@
 use Rattle.std.proofs.Common.{◌≡◌, ◌∙◌, ◌++◌, ◌<◌, ℕ, List, length, get_or, set, take, drop, Option, Some, None, ap, sym, subst, arith}
 use Rattle.std.proofs.Math.Seq.{take-append_seam}
 use Rattle.std.proofs.lemmas.List.{get_or_read}
-use Rattle.thp_page.specs.Searching.{IsUnlinked, IsSearchable}
+use Rattle.thp_page.specs.Prelude.{IsUnlinked, IsSearchable}
 use Rattle.thp_page.proofs.Buckets.{cleared}
 use Rattle.thp_page.proofs.page_numbers.PageNumbers.clear.Goals as goal
 

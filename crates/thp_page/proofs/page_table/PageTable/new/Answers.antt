@@ -1,5 +1,5 @@
 use Rattle.std.proofs.Common.{◌≡◌, ◌∙◌, replicate, ap, ap₂, arith}
-use Rattle.thp_page.specs.Descriptors.{slots_of, blank_descriptor}
+use Rattle.thp_page.specs.Prelude.{slots_of, blank_descriptor}
 use Rattle.thp_page.proofs.TableSteps.{slots_of-blank}
 use Rattle.thp_page.proofs.page_table.PageTable.new.Goals as goal
 

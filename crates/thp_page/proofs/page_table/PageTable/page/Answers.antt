@@ -1,6 +1,5 @@
 use Rattle.std.proofs.Common.{◌∙◌, ℕ, ap, sym, Option}
-use Rattle.thp_page.specs.Slots.{page_in}
-use Rattle.thp_page.specs.Descriptors.{slot_of}
+use Rattle.thp_page.specs.Prelude.{page_in, slot_of}
 use Rattle.thp_page.proofs.TableSteps.{number_read, empty_read, slot_read}
 use Rattle.thp_page.proofs.page_table.PageTable.page.Goals as goal
 

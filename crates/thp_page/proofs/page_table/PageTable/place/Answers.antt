@@ -1,9 +1,6 @@
 use Rattle.std.proofs.Common.{ap, ◌∙◌, refl, Some}
-use Rattle.thp_model.specs.Pages.{PageState}
-use Rattle.thp_page.specs.declared.standing.Standing.TheVariants.{Nowhere}
-use Rattle.thp_page.specs.Fresh.{fresh_page}
-use Rattle.thp_page.specs.Table.{Table}
-use Rattle.thp_page.specs.Slots.{with_slot}
+use Rattle.thp_model.specs.Prelude.{PageState}
+use Rattle.thp_page.specs.Prelude.{Nowhere, fresh_page, Table, with_slot}
 use Rattle.thp_page.proofs.TableSteps.{both_written, no_number}
 use Rattle.thp_page.proofs.page_table.PageTable.place.Goals as goal
 

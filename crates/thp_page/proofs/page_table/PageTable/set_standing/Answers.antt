@@ -1,5 +1,5 @@
 use Rattle.std.proofs.Common.{ap, sym, ◌∙◌, refl, get_or, None}
-use Rattle.thp_page.specs.Slots.{with_slot, stood}
+use Rattle.thp_page.specs.Prelude.{with_slot, stood}
 use Rattle.thp_page.proofs.TableSteps.{descriptor_written, slot_read, slot_of-standing}
 use Rattle.thp_page.proofs.page_table.PageTable.set_standing.Goals as goal
 

@@ -1,6 +1,5 @@
-use Rattle.std.proofs.Common.{◌≡◌, subst, sym, get_or, Option, None}
-use Rattle.std.specs.Option.{IfSome}
-use Rattle.thp_page.specs.Table.{Slot}
+use Rattle.std.proofs.Common.{◌≡◌, subst, sym, get_or, Option, None, IfSome}
+use Rattle.thp_page.specs.Prelude.{Slot}
 use Rattle.thp_page.proofs.TableSteps.{slot_read, standing_in-slot_of}
 use Rattle.thp_page.proofs.page_table.PageTable.standing.Goals as goal
 

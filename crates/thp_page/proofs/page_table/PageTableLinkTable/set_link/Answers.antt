@@ -1,7 +1,6 @@
 use Rattle.std.proofs.Common.{set, ap, ◌∙◌}
 use Rattle.std.proofs.lemmas.List.{map-set}
-use Rattle.thp_page.specs.declared.page_table.Descriptor.{Descriptor}
-use Rattle.thp_page.specs.Table.{Table}
+use Rattle.thp_page.specs.Prelude.{Descriptor, Table}
 use Rattle.thp_page.proofs.TableSteps.{slots_of-linked}
 use Rattle.thp_page.proofs.page_table.PageTableLinkTable.set_link.Goals as goal
 

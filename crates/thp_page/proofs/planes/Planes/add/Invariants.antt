@@ -1,5 +1,5 @@
 use Rattle.std.proofs.Common.{◌≡◌, ℕ, ◌+◌, ◌<◌, ◌≤◌, ◌^◌, cond}
-use Rattle.thp_page.specs.Tallies.{tally}
+use Rattle.thp_page.specs.Prelude.{tally}
 use Rattle.thp_page.proofs.planes.Planes.add.Given as goal
 
 abbrev pub invariant-loop-k : goal.invariant-loop-k

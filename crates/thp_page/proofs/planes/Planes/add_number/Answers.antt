@@ -1,7 +1,6 @@
 use Rattle.std.proofs.Common.{◌∙◌, ◌+◌, ◌^◌, ap, sym, arith, cond, eq-eqb, ne_eqb}
-use Rattle.thp_model.specs.Sets.{has}
-use Rattle.thp_page.specs.declared.planes.Planes.{Planes}
-use Rattle.thp_page.specs.Tallies.{tally}
+use Rattle.thp_model.specs.Prelude.{has}
+use Rattle.thp_page.specs.Prelude.{Planes, tally}
 use Rattle.thp_page.proofs.Chosen.{added_bit, nothing, room_for_bit, bit_read}
 use Rattle.thp_page.proofs.planes.Planes.add_number.Goals as goal
 use Rattle.thp_page.proofs.planes.Planes.add_number.Goals.{then-n-k-eq1, else-n-k-eq1}

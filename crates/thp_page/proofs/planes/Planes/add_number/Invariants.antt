@@ -1,6 +1,6 @@
 use Rattle.std.proofs.Common.{◌≡◌, ℕ, ◌+◌, ◌<◌, ◌≤◌, ◌^◌, ◌%◌, cond}
-use Rattle.thp_model.specs.Sets.{has}
-use Rattle.thp_page.specs.Tallies.{tally}
+use Rattle.thp_model.specs.Prelude.{has}
+use Rattle.thp_page.specs.Prelude.{tally}
 use Rattle.thp_page.proofs.planes.Planes.add_number.Given as goal
 
 abbrev pub invariant-loop-k : goal.invariant-loop-k

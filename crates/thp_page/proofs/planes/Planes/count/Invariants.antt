@@ -1,5 +1,5 @@
 use Rattle.std.proofs.Common.{◌≡◌}
-use Rattle.thp_page.specs.Planes.{count_in}
+use Rattle.thp_page.specs.Prelude.{count_in}
 use Rattle.thp_page.proofs.planes.Planes.count.Given as goal
 
 abbrev pub invariant-loop-k : goal.invariant-loop-k

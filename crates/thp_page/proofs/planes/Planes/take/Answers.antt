@@ -1,7 +1,6 @@
-use Rattle.std.proofs.Common.{◌^◌, ap, ◌∙◌, arith, ◌≡◌, ◌&&◌, cond, ◌+◌}
-use Rattle.std.proofs.lemmas.List.{get_or-set_same}
-use Rattle.thp_model.specs.Sets.{has}
-use Rattle.thp_page.specs.Tallies.{tally}
+use Rattle.std.proofs.Common.{◌^◌, ap, ◌∙◌, arith, ◌≡◌, ◌&&◌, cond, ◌+◌, get_or-set_same}
+use Rattle.thp_model.specs.Prelude.{has}
+use Rattle.thp_page.specs.Prelude.{tally}
 use Rattle.thp_page.proofs.Carries.{borrowed, ends_even, no_borrow_out, counts_below, turned_at}
 use Rattle.thp_page.proofs.Chosen.{none_chosen}
 use Rattle.thp_page.proofs.planes.Planes.take.Goals as goal

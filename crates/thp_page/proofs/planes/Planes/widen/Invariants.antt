@@ -1,5 +1,5 @@
 use Rattle.std.proofs.Common.{◌≡◌, ℕ, ◌-◌, ◌≤◌}
-use Rattle.thp_page.specs.Tallies.{tally}
+use Rattle.thp_page.specs.Prelude.{tally}
 use Rattle.thp_page.proofs.planes.Planes.widen.Given as goal
 
 abbrev pub invariant-loop-self : goal.invariant-loop-self

@@ -2,7 +2,7 @@ use Rattle.std.proofs.Common.{◌∙◌, drop, map}
 use Rattle.thp_run.specs.Parts.{text_from}
 use Rattle.thp_run.specs.Reports.{shape_of}
 use Rattle.thp_worker.specs.declared.reply.SectionLog.{SectionLog}
-use Rattle.thp_worker.specs.Logs.{kept_log}
+use Rattle.thp_worker.specs.Prelude.{kept_log}
 use Rattle.thp_run.proofs.PartLaws.{all_put, none_left, nothing_was, some_put}
 use Rattle.thp_run.proofs.answer_parts.AnswerParts.fill.Goals as goal
 

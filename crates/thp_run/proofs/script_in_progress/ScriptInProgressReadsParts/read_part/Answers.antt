@@ -1,6 +1,5 @@
 use Rattle.std.proofs.Common.{◌∙◌, ◌++◌, subst, sym}
-use Rattle.thp_worker.specs.InParts.{DidFirst}
-use Rattle.thp_worker.specs.Passes.{fronts_in}
+use Rattle.thp_worker.specs.Prelude.{DidFirst, fronts_in}
 use Rattle.thp_script.specs.Parts.{setup_of}
 use Rattle.thp_run.proofs.script_in_progress.ScriptInProgressReadsParts.read_part.Goals as goal
 

@@ -1,7 +1,5 @@
 use Rattle.std.proofs.Common.{◌≡◌, ◌∙◌, ◌++◌, ◌∷◌, ap, arith, rules, sym}
-use Rattle.thp_script.specs.Parts.{lines_spell}
-use Rattle.thp_script.specs.TextInParts.{after_line, told_after, with_begun, with_fault, IsCounted}
-use Rattle.thp_script.specs.Words.{Text, lines_of}
+use Rattle.thp_script.specs.Prelude.{lines_spell, after_line, told_after, with_begun, with_fault, IsCounted, Text, lines_of}
 use Rattle.thp_script.proofs.PartLaws.{line_is_wrong}
 use Rattle.thp_script.proofs.PartReadLaws.{line_inside, line_spelled, part_begins}
 use Rattle.thp_script.proofs.TextLaws.{fault_comes, line_begins, noted}

@@ -1,7 +1,5 @@
 use Rattle.std.proofs.Common.{◌≡◌, ◌++◌, length}
-use Rattle.thp_script.specs.FastParsing.{spelled_after, IsPartRead}
-use Rattle.thp_script.specs.Parts.{spelled_with}
-use Rattle.thp_script.specs.Words.{Text}
+use Rattle.thp_script.specs.Prelude.{spelled_after, IsPartRead, spelled_with, Text}
 use Rattle.thp_script.proofs.script_reader.ScriptReader.read_part.Given as goal
 
 abbrev pub decreases-loop-text : goal.decreases-loop-text

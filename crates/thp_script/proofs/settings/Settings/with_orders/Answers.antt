@@ -2,7 +2,7 @@ use Rattle.std.proofs.Common.{◌≡◌, ◌≤◌, true, drop, length, arith, r
 use Rattle.std.specs.List.{list_all}
 use Rattle.std.proofs.lemmas.Bool.{and_from}
 use Rattle.std.proofs.lemmas.List.Folds.{list_all-append}
-use Rattle.thp_script.specs.Settings.{is_order, AreLow}
+use Rattle.thp_script.specs.Prelude.{is_order, AreLow}
 use Rattle.thp_script.proofs.ThresholdLaws.{new_orders_low, orders_left}
 use Rattle.thp_script.proofs.settings.Settings.with_orders.Goals as goal
 

@@ -1,8 +1,6 @@
-use Rattle.std.proofs.Common.{◌≡◌, ◌∙◌, ◌++◌, ◌∷◌, [], arith, length, rules, sym, true, None}
+use Rattle.std.proofs.Common.{◌≡◌, ◌∙◌, ◌++◌, ◌∷◌, [], arith, length, rules, sym, true, None, vec_len, eqb-true}
 use Rattle.std.specs.Cow.{cow_slice_items}
-use Rattle.std.specs.Prelude.{vec_len}
-use Rattle.std.proofs.lemmas.Bool.{eqb-true}
-use Rattle.thp_script.specs.Words.{lines_of}
+use Rattle.thp_script.specs.Prelude.{lines_of}
 use Rattle.thp_model.proofs.Options.{not_there}
 use Rattle.thp_script.proofs.TextLaws.{nothing_begun, still_one_line, whole_line}
 use Rattle.thp_script.proofs.text_in_parts.TextInParts.next_line.Goals as goal

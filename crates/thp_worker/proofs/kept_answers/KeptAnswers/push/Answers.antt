@@ -1,8 +1,6 @@
 use Rattle.std.proofs.Common.{◌∙◌, ◌∷◌, [], ap, length, length-append}
 use Rattle.std.proofs.lemmas.List.{map-append}
-use Rattle.thp_worker.specs.declared.kept_answers.ShortAnswer.{ShortAnswer}
-use Rattle.thp_worker.specs.declared.kept_answers.ShortReply.TheVariants.{Refused}
-use Rattle.thp_worker.specs.Kept.{answer_in}
+use Rattle.thp_worker.specs.Prelude.{ShortAnswer, Refused, answer_in}
 use Rattle.thp_worker.proofs.KeptLaws.{pushed}
 use Rattle.thp_worker.proofs.kept_answers.KeptAnswers.push.Goals.{in-Ok, in-Err}
 use Rattle.thp_worker.proofs.kept_answers.KeptAnswers.push.Goals as goal

@@ -1,5 +1,5 @@
 use Rattle.std.proofs.Common.{◌≡◌, sym, subst}
-use Rattle.thp_worker.specs.Holdings.{Held, IsHeld, OpenStay}
+use Rattle.thp_worker.specs.Prelude.{Held, IsHeld, OpenStay}
 use Rattle.thp_worker.proofs.PartLaws.{held_joined, joined_left_open, joined_right_open}
 use Rattle.thp_worker.proofs.node_pass.NodePass.join.Goals as goal
 

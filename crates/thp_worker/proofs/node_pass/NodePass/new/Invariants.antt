@@ -1,6 +1,5 @@
-use Rattle.std.proofs.Common.{◌≡◌, ◌+◌, length, Option, None}
-use Rattle.std.specs.Prelude.{All}
-use Rattle.thp_node.specs.Batches.{BatchState}
+use Rattle.std.proofs.Common.{◌≡◌, ◌+◌, length, Option, None, All}
+use Rattle.thp_node.specs.Prelude.{BatchState}
 use Rattle.thp_worker.proofs.node_pass.NodePass.new.Given as goal
 
 abbrev pub invariant-loop : goal.invariant-loop

@@ -1,5 +1,5 @@
 use Rattle.std.proofs.Common.{◌∙◌, ap, refl}
-use Rattle.thp_model.specs.PageCalls.{gain_call, gain_what, loss_call, loss_what}
+use Rattle.thp_model.specs.Prelude.{gain_call, gain_what, loss_call, loss_what}
 use Rattle.thp_model.specs.declared.page_call.PageCall.TheVariants as either
 use Rattle.thp_worker.specs.declared.steps.NodeCall.TheVariants as node
 use Rattle.thp_worker.proofs.HoldingLaws.{loss_done, unit_done}

@@ -1,7 +1,6 @@
 use Rattle.std.proofs.Common.{◌-◌, ℕ, None, sym, subst, Err}
-use Rattle.thp_cell.specs.Views.{HasCaller}
-use Rattle.thp_worker.specs.declared.steps.Step.TheVariants.{PutBack}
-use Rattle.thp_worker.specs.Holdings.{HeldDone}
+use Rattle.thp_cell.specs.Prelude.{HasCaller}
+use Rattle.thp_worker.specs.Prelude.{PutBack, HeldDone}
 use Rattle.thp_worker.proofs.HoldingLaws.{place_in, mine, has_mine, set_same, no_back_held, held_gone, held_stays, back_held, back_failed}
 use Rattle.thp_worker.proofs.node_pass.NodePass.put_back.Goals as goal
 

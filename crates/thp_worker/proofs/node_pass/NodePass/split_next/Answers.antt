@@ -1,10 +1,7 @@
-use Rattle.std.proofs.Common.{◌∙◌, ◌-◌, ℕ, Some, None, set, sym, ap, subst}
-use Rattle.std.proofs.lemmas.List.{set-set}
+use Rattle.std.proofs.Common.{◌∙◌, ◌-◌, ℕ, Some, None, set, sym, ap, subst, set-set}
 use Rattle.std.proofs.lemmas.Option.{slice_get-get_or}
-use Rattle.thp_cell.specs.Views.{HasCaller}
-use Rattle.thp_worker.specs.declared.steps.Step.TheVariants.{SplitNext}
-use Rattle.thp_worker.specs.Does.{answer_of}
-use Rattle.thp_worker.specs.Holdings.{HeldDone}
+use Rattle.thp_cell.specs.Prelude.{HasCaller}
+use Rattle.thp_worker.specs.Prelude.{SplitNext, answer_of, HeldDone}
 use Rattle.thp_worker.proofs.HoldingLaws.{place_in, mine, has_mine, no_split_held, held_again, split_held, split_failed}
 use Rattle.thp_worker.proofs.node_pass.NodePass.split_next.Goals.{in-Ok, in-Err}
 use Rattle.thp_worker.proofs.node_pass.NodePass.split_next.Goals as goal

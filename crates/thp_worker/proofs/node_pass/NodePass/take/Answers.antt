@@ -1,11 +1,8 @@
-use Rattle.std.proofs.Common.{◌≡◌, ◌∙◌, ◌-◌, ℕ, List, Option, Some, None, set, refl, sym, ap, subst, Err}
-use Rattle.std.specs.Prelude.{slice_get}
-use Rattle.std.proofs.lemmas.List.{set-set}
+use Rattle.std.proofs.Common.{◌≡◌, ◌∙◌, ◌-◌, ℕ, List, Option, Some, None, set, refl, sym, ap, subst, Err, slice_get, set-set}
 use Rattle.std.proofs.lemmas.Option.{slice_get-get_or}
-use Rattle.thp_cell.specs.Views.{HasCaller}
-use Rattle.thp_node.specs.Batches.{BatchState, no_batch}
-use Rattle.thp_worker.specs.declared.steps.Step.TheVariants.{Take}
-use Rattle.thp_worker.specs.Holdings.{HeldDone, IsHeld}
+use Rattle.thp_cell.specs.Prelude.{HasCaller}
+use Rattle.thp_node.specs.Prelude.{BatchState, no_batch}
+use Rattle.thp_worker.specs.Prelude.{Take, HeldDone, IsHeld}
 use Rattle.thp_worker.proofs.HoldingLaws.{place_in, beside_held, held_taken, held_untaken, shut_again, slice_get-set_same, length-set_same, taken_by, take_held, take_failed}
 use Rattle.thp_worker.proofs.node_pass.NodePass.take.Goals as goal
 

@@ -1,6 +1,5 @@
 use Rattle.std.proofs.Common.{sym, subst}
-use Rattle.thp_worker.specs.Halves.{CanJoin, IsJoined}
-use Rattle.thp_worker.specs.Passes.{Passes, fronts_in, fronts_of}
+use Rattle.thp_worker.specs.Prelude.{CanJoin, IsJoined, Passes, fronts_in, fronts_of}
 use Rattle.thp_worker.proofs.EachLaws.{each_adjoins, agree_joint, join_fronts}
 use Rattle.thp_worker.proofs.node_passes.NodePassesPasses.join.Goals as goal
 

@@ -1,6 +1,5 @@
 use Rattle.std.proofs.Common.{◌∙◌, ap, sym, subst}
-use Rattle.thp_worker.specs.Fronts.{HoldsAllCallers}
-use Rattle.thp_worker.specs.Passes.{Passes, fronts_in, fronts_of}
+use Rattle.thp_worker.specs.Prelude.{HoldsAllCallers, Passes, fronts_in, fronts_of}
 use Rattle.thp_worker.proofs.EachLaws.{agree_of_all, kept_agree, kept_fronts}
 use Rattle.thp_worker.proofs.node_passes.NodePassesPasses.keep_nodes.Goals as goal
 

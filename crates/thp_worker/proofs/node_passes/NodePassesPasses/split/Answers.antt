@@ -1,6 +1,5 @@
 use Rattle.std.proofs.Common.{◌<◌, sym, subst}
-use Rattle.thp_worker.specs.Halves.{IsSplit}
-use Rattle.thp_worker.specs.Passes.{Passes, fronts_in, fronts_of}
+use Rattle.thp_worker.specs.Prelude.{IsSplit, Passes, fronts_in, fronts_of}
 use Rattle.thp_worker.proofs.EachLaws.{cut_each, agree_low, agree_high, split_fronts}
 use Rattle.thp_worker.proofs.node_passes.NodePassesPasses.split.Goals as goal
 

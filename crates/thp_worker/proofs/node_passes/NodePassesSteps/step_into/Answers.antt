@@ -1,8 +1,6 @@
 use Rattle.std.proofs.Common.{◌<◌, length, set, refl, sym, subst}
 use Rattle.std.proofs.lemmas.Option.{slice_get_read}
-use Rattle.thp_worker.specs.Does.{answer_of}
-use Rattle.thp_worker.specs.Fronts.{Goes, StepDone}
-use Rattle.thp_worker.specs.Passes.{fronts_in, fronts_of}
+use Rattle.thp_worker.specs.Prelude.{answer_of, Goes, StepDone, fronts_in, fronts_of}
 use Rattle.thp_worker.proofs.PassLaws.{done_same, agree_after, step_done, goes_done}
 use Rattle.thp_worker.proofs.node_passes.NodePassesSteps.step_into.Goals as goal
 

@@ -1,0 +1,10 @@
+-- The definitions and types of this library, each by its name alone: one line of a file imports what it cites.
+pub use Rattle.thp_cell.specs.Calls.{BatchesStay, Called, Failed, FlightsLast, Follows, IsBusy, IsJoined, IsRefused, OtherBatchesStay, PartsStay, at_front, below, from, keeping, returning_node}
+pub use Rattle.thp_cell.specs.Rule.{Adds, AllBelow, Home, IsOther, IsOwn, NoneOf, OldFrontAgrees, OnlyOf, RuleHolds, SeatAgrees, SeatsAgree, Since, holding, root, serving, word_of}
+pub use Rattle.thp_cell.specs.Says.{DidAlloc, DidLose, DidOne, DidPutBack, DidScan, DidTake, DidTry}
+pub use Rattle.thp_cell.specs.Seats.{HasSlot, HasTaken, IsFree, IsIn, IsKept, IsLent, IsNumbered, Place, front_in, known_state, pass_state}
+pub use Rattle.thp_cell.specs.Steps.{Counted, IsWhole, Locked, Looked, SeatValue, Stored, Took, joined, left_of, longer, old_front, right_of, seat_with_front, spent}
+pub use Rattle.thp_cell.specs.Views.{HasAll, HasCaller, PassState, part}
+pub use Rattle.thp_cell.specs.declared.fault.CellFault.{CellFault}
+pub use Rattle.thp_cell.specs.declared.rule.OldFront.{OldFront}
+pub use Rattle.thp_cell.specs.declared.rule.SeatKnowledge.{SeatKnowledge}
