@@ -3,15 +3,13 @@ use Rattle.std.proofs.Common.{◌≡◌, ℕ, ◌<◌, ◌^◌, Bool, true, fals
 use Rattle.std.proofs.lemmas.Bool.Decides.{nat_tests}
 use Rattle.thp_model.specs.declared.events.Outcome.{Outcome}
 use Rattle.thp_model.specs.declared.events.Outcome.TheVariants.{Freed, Queued, Stays}
-use Rattle.thp_model.specs.Prelude.{is_freed, PageState, size, total_at, zero_at, holds, has_use, drops_use, page_outcome, page_released, set_of, Loses}
+use Rattle.thp_model.specs.Prelude.{is_freed, PageState, size, total_at, zero_at, holds, has_use, page_outcome, page_released, set_of, Loses}
 use Rattle.thp_model.proofs.Below.{some_none}
 use Rattle.thp_model.proofs.Bools.{by_bool}
 use Rattle.thp_model.proofs.WordLemmas.{set_of-ext}
 use Rattle.thp_page.specs.declared.page.Change.{Change}
 use Rattle.thp_page.specs.Prelude.{IsChange}
-use Rattle.thp_page.specs.declared.standing.Standing.{Standing}
-use Rattle.thp_page.specs.declared.standing.Standing.TheVariants as standing
-use Rattle.thp_live_pages.specs.Prelude.{is_nowhere, outcome_by, released_after}
+use Rattle.thp_live_pages.specs.Prelude.{outcome_by, released_after}
 use Rattle.thp_model.specs.declared.page_call.Loss.{Loss}
 use Rattle.thp_model.specs.declared.page_call.Loss.TheVariants as loss
 
@@ -98,11 +96,3 @@ released_is_by l old new change closed standing o w c e =
 
       both_yes : (a b : Bool) → a ≡ true → b ≡ false → (a && not b) ≡ true
       both_yes a b e f = cc
-
--- a page that is queued stood nowhere
-pub queued_nowhere : (old new : PageState) (closed : Bool) (w : Standing) → Queued ≡ page_outcome old new closed (not (is_nowhere w)) → w ≡ standing.Queued → ⊥
-queued_nowhere old new closed w e q =
-    go (has_use new) (nat_eq new.pins 0) old.split (drops_use old new) closed (is_nowhere w) (ap is_nowhere q) e where
-      go : (a b s d k n : Bool) → n ≡ false → Queued ≡ cond (not a && b) Freed (cond (not s && (d && (a && (not k && not (not n))))) Queued Stays) → ⊥
-      go a b s d k true f e = cc
-      go a b s d k false f e = absurd (grind arith)

@@ -238,9 +238,6 @@ edits_settled old mid new b y o n d e l =
 pub if_at : (o : Option Slot) (x : Slot) (P : Slot → Type 0) → o ≡ Some x → IfSome o P → P x
 if_at o x P e h = subst (λ (z : Option Slot). IfSome z P) e h
 
-pub some_of : (o : Option Slot) (x : Slot) → o ≡ Some x → IsSome o
-some_of o x e = subst (λ (z : Option Slot). IsSome z) (sym e) refl
-
 pub same_slot : (o : Option Slot) (x y : Slot) → o ≡ Some x → o ≡ Some y → y ≡ x
 same_slot o x y e f = go x y (sym e ∙ f) where
   go : (x y : Slot) → Some x ≡ Some y → y ≡ x

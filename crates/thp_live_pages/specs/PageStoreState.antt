@@ -56,14 +56,6 @@ abbrev pub is_nowhere : Standing → Bool
 is_nowhere Nowhere = true
 is_nowhere s = false
 
--- the effect of a loss on the page of block b only, with its result
-pub record Reduced (loss : Loss) (closed : Bool) (x : Slot) (old new : PageStoreState) (b : ℕ) (done : Done) : Type 0 where
-  pub page : PageState
-  pub how : Loses loss x.page page
-  pub outcome_is : done.outcome ≡ page_outcome x.page page closed (not (is_nowhere x.standing))
-  pub released_is : done.released ≡ page_released x.page page done.outcome
-  pub edits : Edits old new b (Some (record x { page = page })) old.queue 0
-
 -- the effect of a loss on the page of block b, with its result and the caller whose batch the page leaves
 pub record Lost (loss : Loss) (closed : Bool) (x : Slot) (old new : PageStoreState) (b : ℕ) (done : Done) (left : Option ℕ) : Type 0 where
   pub page : PageState

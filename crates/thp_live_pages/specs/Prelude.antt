@@ -14,7 +14,7 @@ pub use Rattle.thp_live_pages.specs.Linking.{IsLinked, IsListed, IsQueued}
 pub use Rattle.thp_live_pages.specs.Outcomes.{outcome_by, released_after}
 pub use Rattle.thp_live_pages.specs.PageRecord.{first_known}
 unfoldable pub use Rattle.thp_live_pages.specs.PageRecord.{known_of}
-pub use Rattle.thp_live_pages.specs.PageStoreState.{AtSlot, Edits, EmptyLinksStay, HasFree, IsElsewhere, Lost, PageStoreState, Placed, Reduced, TakesFirst, batch_of, is_nowhere, left_by, new_queue, new_standing, queue_after, slot_after}
+pub use Rattle.thp_live_pages.specs.PageStoreState.{AtSlot, Edits, EmptyLinksStay, HasFree, IsElsewhere, Lost, PageStoreState, Placed, TakesFirst, batch_of, is_nowhere, left_by, new_queue, new_standing, queue_after, slot_after}
 pub use Rattle.thp_live_pages.specs.State.{BlocksState}
 pub use Rattle.thp_live_pages.specs.declared.page_blocks.Allocation.{Allocation}
 pub use Rattle.thp_live_pages.specs.declared.pages.PageRecord.{PageRecord}

@@ -1,8 +1,8 @@
 //! The live pages of a node by block, with their queue.
 //!
 //! - `page_store`: the table of pages and the deferred split queue linked through it (`PageStoreState`). A caller tests first
-//!   (`PageStore::refusal`, `is_free`, `find_in_batch`), then acts. `page_call`: what an unmap or unpin does to a page
-//!   (`Outcomes`).
+//!   (`PageStore::refusal`, `is_free`, `find_in_batch`), then acts. `page_call`: what follows for a page from an unmap
+//!   or unpin (`Outcomes`).
 //! - `Homes` and `Holding` define which block, standing and state a history gives each page, `Flying` whose flight it is in.
 //! - `least_blocks`: gives each allocation of a journal, legal or not, its least free block (`State`); built from `free_blocks`,
 //!   `holders`, `page_blocks`, `past` (a list of events that takes no memory), `freeing`.

@@ -7,15 +7,15 @@ ghost use Rattle.thp_model.specs.Prelude.{max_order, min_order, gives_frames, is
 ghost use Rattle.thp_page.specs.Prelude.{slot_at, HoldsPage, Slot};
 ghost use Rattle.thp_live_pages.specs.Flying.{IsFlyingAt};
 ghost use Rattle.thp_live_pages.specs.FreeChains.{IsFreeChain, Relinks};
-ghost use Rattle.thp_live_pages.specs.PageStoreState.{AtSlot, Edits, batch_of, IsElsewhere, LeavesQueue, Lost, Placed, Reduced, TakesFirst};
+ghost use Rattle.thp_live_pages.specs.PageStoreState.{AtSlot, Edits, batch_of, IsElsewhere, LeavesQueue, Lost, Placed, TakesFirst};
 
-use crate::page_call::lose_by;
+use crate::page_call::{give_back, outcome_of};
 use crate::walk::blocks_of;
 use std::alloc::{AllocError, Global};
 use std::marker::Model;
 use thp_links::{FreeChain, LinkTable, Queue};
 use thp_model::{Done, Gain, Loss, Outcome, PageCall, PageId, Refusal, Shape, SubSet};
-use thp_page::{PageTable, Standing};
+use thp_page::{Change, PageTable, Standing};
 
 /// The live pages of a node by block, and the queue of those that wait to be split.
 ///
@@ -159,10 +159,13 @@ impl PageStore {
         ensures kept { OnErr result (self.new ≡ self.old) }
     {
         let standing = self.table.standing(block);
-        match self.reduce(block, loss, closed, done) {
-            Ok(()) => {}
-            Err(refusal) => return Err(refusal),
-        }
+        let mut change = Change::none();
+        let Some(page) = self.table.page_mut(block) else {
+            unreachable!();
+        };
+        page.lose(loss, &mut change)?;
+        done.outcome = outcome_of(page, &change, standing, closed);
+        give_back(page, &change, done.outcome, &mut done.released);
         let left = match done.outcome {
             Outcome::Stays => None,
             Outcome::Queued => {
@@ -328,27 +331,6 @@ impl PageStore {
         ensures same { Relinks self.old self.new 2 }
     {
         chain.pop(&mut self.table)
-    }
-
-    // Removes mappings or a pin of the page of a block, unless that is refused. `done` is then the result.
-    #[inline(always)]
-    fn reduce(
-        &mut self,
-        block: u32,
-        loss: Loss,
-        closed: bool,
-        done: &mut Done,
-    ) -> Result<(), Refusal>
-        requires occupied { IsSome (slot_at self.old.table block) }
-        ensures refusal { AtSlot self.old.table block (λ x. (p : ℕ) → result_err result ≡ page_refusal x.page (loss_call loss p)) }
-        ensures reduced { OnOk result (AtSlot self.old.table block (λ x. Reduced loss closed x self.old self.new block done.new)) }
-        ensures kept { OnErr result (self.new ≡ self.old) }
-    {
-        let standing = self.table.standing(block);
-        match self.table.page_mut(block) {
-            Some(page) => lose_by(loss, page, standing, closed, done),
-            None => unreachable!(),
-        }
     }
 
     // Places a new page in a free block, on no list.
