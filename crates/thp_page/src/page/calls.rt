@@ -1,4 +1,4 @@
-//! The calls of a page: as a value, by name, and each with its test, its change, and both in sequence.
+//! The calls of a page, as a value and by name, with the tests that refuse them.
 ghost use Rattle.std.specs.Prelude.{◌≡◌, ℕ, ◌≤◌, min, OnOk, OnErr, IfOk, None};
 ghost use Rattle.std.specs.Result.{result_err};
 ghost use Rattle.thp_model.specs.Prelude.{max_subpages, size, page_refusal, WholeMapped, WholeUnmapped, RangeMapped, RangeUnmapped, PmdSplit, RangeWritten, RangeZeroed, gain_call, Gains, loss_call, Loses, page_call};
@@ -17,15 +17,17 @@ impl Page {
         ensures { (p : ℕ) → result ≡ page_refusal self.now (page_call call p) }
     {
         match call {
-            PageCall::Gain(Gain::MapWhole) => self.refusal_map_whole(),
-            PageCall::Gain(Gain::MapSub { first, count }) => self.refusal_map_sub(first, count),
-            PageCall::Gain(Gain::SplitPmd) => self.refusal_split_pmd(),
-            PageCall::Gain(Gain::Pin) => self.refusal_pin(),
-            PageCall::Gain(Gain::Write { first, count }) => self.refusal_write(first, count),
-            PageCall::Gain(Gain::Zero { first, count }) => self.refusal_zero(first, count),
-            PageCall::Loss(Loss::UnmapWhole) => self.refusal_unmap_whole(),
-            PageCall::Loss(Loss::UnmapSub { first, count }) => self.refusal_unmap_sub(first, count),
-            PageCall::Loss(Loss::Unpin) => self.refusal_unpin(),
+            PageCall::Gain(Gain::MapWhole) => self.check_map_whole().err(),
+            PageCall::Gain(Gain::MapSub { first, count }) => self.check_map_sub(first, count).err(),
+            PageCall::Gain(Gain::SplitPmd) => self.check_unmap_whole().err(),
+            PageCall::Gain(Gain::Pin) => self.check_pin().err(),
+            PageCall::Gain(Gain::Write { first, count }) => self.check_write(first, count).err(),
+            PageCall::Gain(Gain::Zero { first, count }) => self.check_write(first, count).err(),
+            PageCall::Loss(Loss::UnmapWhole) => self.check_unmap_whole().err(),
+            PageCall::Loss(Loss::UnmapSub { first, count }) => self
+                .check_unmap_sub(first, count)
+                .err(),
+            PageCall::Loss(Loss::Unpin) => self.check_unpin().err(),
         }
     }
 
@@ -38,12 +40,40 @@ impl Page {
         ensures kept { OnErr result (self.new ≡ self.old) }
     {
         match gain {
-            Gain::MapWhole => self.try_map_whole(),
-            Gain::MapSub { first, count } => self.try_map_sub(first, count),
-            Gain::SplitPmd => self.try_split_pmd(),
-            Gain::Pin => self.try_pin(),
-            Gain::Write { first, count } => self.try_write(first, count),
-            Gain::Zero { first, count } => self.try_zero(first, count),
+            Gain::MapWhole => {
+                self.check_map_whole()?;
+                self.whole += 1;
+                Ok(())
+            }
+            Gain::MapSub { first, count } => {
+                self.check_map_sub(first, count)?;
+                self.own.map(first as usize, count as usize);
+                Ok(())
+            }
+            Gain::SplitPmd => {
+                self.check_unmap_whole()?;
+                let subpages = self.subpages();
+                self.whole -= 1;
+                self.own.map(0, subpages);
+                Ok(())
+            }
+            Gain::Pin => {
+                self.check_pin()?;
+                self.pins += 1;
+                Ok(())
+            }
+            Gain::Write { first, count } => {
+                self.check_write(first, count)?;
+                let range = SubSet::range(first as u32, count as u32);
+                self.zero = self.zero.difference(range);
+                Ok(())
+            }
+            Gain::Zero { first, count } => {
+                self.check_write(first, count)?;
+                let range = SubSet::range(first as u32, count as u32);
+                self.zero = self.zero.union(range);
+                Ok(())
+            }
         }
     }
 
@@ -171,33 +201,17 @@ impl Page {
         (narrowed(first), narrowed(count))
     }
 
-    // Does `map_whole`, or returns why it is refused.
-    #[inline(always)]
-    fn try_map_whole(&mut self) -> Result<(), Refusal>
-        ensures refusal { (p : ℕ) → result_err result ≡ page_refusal self.old (call.map_whole p) }
-        ensures counts { OnOk result (WholeMapped self.old self.new) }
-        ensures kept { OnErr result (self.new ≡ self.old) }
-    {
-        match self.refusal_map_whole() {
-            Some(refusal) => Err(refusal),
-            None => {
-                self.whole += 1;
-                Ok(())
-            }
-        }
-    }
-
-    // Why `map_whole` would be refused, if it would.
+    // Fails with the reason why `map_whole` would be refused.
     #[tactic(auto, unfolding(thp_model::specs::Pages::page_refusal))]
-    fn refusal_map_whole(&self) -> Option<Refusal>
-        ensures { (p : ℕ) → result ≡ page_refusal self.now (call.map_whole p) }
+    fn check_map_whole(&self) -> Result<(), Refusal>
+        ensures { (p : ℕ) → result_err result ≡ page_refusal self.now (call.map_whole p) }
     {
         if self.split {
-            Some(Refusal::IsSplit)
+            Err(Refusal::IsSplit)
         } else if self.has_total_at_limit(0, self.subpages()) {
-            Some(Refusal::TooMany)
+            Err(Refusal::TooMany)
         } else {
-            None
+            Ok(())
         }
     }
 
@@ -209,9 +223,7 @@ impl Page {
         ensures change { OnOk result (IsChange self.old self.new change.new) }
         ensures kept { OnErr result (self.new ≡ self.old) }
     {
-        if let Some(refusal) = self.refusal_unmap_whole() {
-            return Err(refusal);
-        }
+        self.check_unmap_whole()?;
         let unused = self.whole == 1 && self.own.has_unmapped(0, self.subpages());
         self.whole -= 1;
         let used_left = self.has_use();
@@ -224,52 +236,37 @@ impl Page {
         Ok(())
     }
 
-    // Why `unmap_whole` would be refused, if it would.
+    // Fails with the reason why `unmap_whole` and `split_pmd` would be refused.
     #[tactic(auto, unfolding(thp_model::specs::Pages::page_refusal))]
-    fn refusal_unmap_whole(&self) -> Option<Refusal>
-        ensures { (p : ℕ) → result ≡ page_refusal self.now (call.unmap_whole p) }
+    fn check_unmap_whole(&self) -> Result<(), Refusal>
+        ensures unmap { (p : ℕ) → result_err result ≡ page_refusal self.now (call.unmap_whole p) }
+        ensures split { (p : ℕ) → result_err result ≡ page_refusal self.now (call.split_pmd p) }
     {
         if self.split {
-            Some(Refusal::IsSplit)
+            Err(Refusal::IsSplit)
         } else if self.whole == 0 {
-            Some(Refusal::NotMapped)
+            Err(Refusal::NotMapped)
         } else {
-            None
+            Ok(())
         }
     }
 
-    // Does `map_sub`, or returns why it is refused.
-    #[inline(always)]
-    fn try_map_sub(&mut self, first: u16, count: u16) -> Result<(), Refusal>
-        ensures refusal { (p : ℕ) → result_err result ≡ page_refusal self.old (call.map_sub p first count) }
-        ensures counts { OnOk result (RangeMapped first count self.old self.new) }
-        ensures kept { OnErr result (self.new ≡ self.old) }
-    {
-        match self.refusal_map_sub(first, count) {
-            Some(refusal) => Err(refusal),
-            None => {
-                self.own.map(first as usize, count as usize);
-                Ok(())
-            }
-        }
-    }
-
-    // Why `map_sub` would be refused, if it would.
+    // Fails with the reason why `map_sub` would be refused.
     #[tactic(auto, unfolding(thp_model::specs::Pages::page_refusal))]
     #[inline(always)]
-    fn refusal_map_sub(&self, first: u16, count: u16) -> Option<Refusal>
-        ensures { (p : ℕ) → result ≡ page_refusal self.now (call.map_sub p first count) }
+    fn check_map_sub(&self, first: u16, count: u16) -> Result<(), Refusal>
+        ensures { (p : ℕ) → result_err result ≡ page_refusal self.now (call.map_sub p first count) }
     {
         if self.is_bad_range(first, count) {
-            return Some(Refusal::BadRange);
+            return Err(Refusal::BadRange);
         }
         let (first, count) = (first as usize, count as usize);
         if self.split && self.has_gone_frame(first, count) {
-            Some(Refusal::Gone)
+            Err(Refusal::Gone)
         } else if self.has_total_at_limit(first, count) {
-            Some(Refusal::TooMany)
+            Err(Refusal::TooMany)
         } else {
-            None
+            Ok(())
         }
     }
 
@@ -281,9 +278,7 @@ impl Page {
         ensures change { OnOk result (IsChange self.old self.new change.new) }
         ensures kept { OnErr result (self.new ≡ self.old) }
     {
-        if let Some(refusal) = self.refusal_unmap_sub(first, count) {
-            return Err(refusal);
-        }
+        self.check_unmap_sub(first, count)?;
         let (first, count) = (first as usize, count as usize);
         let mapped = self.own.mapped();
         let unmapped = self.own.unmap(first, count);
@@ -304,76 +299,33 @@ impl Page {
         Ok(())
     }
 
-    // Why `unmap_sub` would be refused, if it would.
+    // Fails with the reason why `unmap_sub` would be refused.
     #[tactic(auto, unfolding(thp_model::specs::Pages::page_refusal))]
     #[inline(always)]
-    fn refusal_unmap_sub(&self, first: u16, count: u16) -> Option<Refusal>
-        ensures { (p : ℕ) → result ≡ page_refusal self.now (call.unmap_sub p first count) }
+    fn check_unmap_sub(&self, first: u16, count: u16) -> Result<(), Refusal>
+        ensures { (p : ℕ) → result_err result ≡ page_refusal self.now (call.unmap_sub p first count) }
     {
         if self.is_bad_range(first, count) {
-            Some(Refusal::BadRange)
+            Err(Refusal::BadRange)
         } else if self.has_unmapped(first as usize, count as usize) {
-            Some(Refusal::NotMapped)
+            Err(Refusal::NotMapped)
         } else {
-            None
+            Ok(())
         }
     }
 
-    // Does `split_pmd`, or returns why it is refused.
-    #[inline(always)]
-    fn try_split_pmd(&mut self) -> Result<(), Refusal>
-        ensures refusal { (p : ℕ) → result_err result ≡ page_refusal self.old (call.split_pmd p) }
-        ensures counts { OnOk result (PmdSplit self.old self.new) }
-        ensures kept { OnErr result (self.new ≡ self.old) }
-    {
-        match self.refusal_split_pmd() {
-            Some(refusal) => Err(refusal),
-            None => {
-                let subpages = self.subpages();
-                self.whole -= 1;
-                self.own.map(0, subpages);
-                Ok(())
-            }
-        }
-    }
-
-    // Why `split_pmd` would be refused, if it would.
-    #[tactic(auto, unfolding(thp_model::specs::Pages::page_refusal))]
-    fn refusal_split_pmd(&self) -> Option<Refusal>
-        ensures { (p : ℕ) → result ≡ page_refusal self.now (call.split_pmd p) }
-    {
-        // As an unmap does, it needs a mapping of the whole page.
-        self.refusal_unmap_whole()
-    }
-
-    // Does `pin`, or returns why it is refused.
-    #[inline(always)]
-    fn try_pin(&mut self) -> Result<(), Refusal>
-        ensures refusal { (p : ℕ) → result_err result ≡ page_refusal self.old (call.pin p) }
-        ensures counts { OnOk result (Pinned self.old self.new) }
-        ensures kept { OnErr result (self.new ≡ self.old) }
-    {
-        match self.refusal_pin() {
-            Some(refusal) => Err(refusal),
-            None => {
-                self.pins += 1;
-                Ok(())
-            }
-        }
-    }
-
-    // Why `pin` would be refused, if it would.
+    // Fails with the reason why `pin` would be refused.
     #[tactic(auto, unfolding(thp_model::specs::Pages::page_refusal))]
     #[inline(always)]
-    fn refusal_pin(&self) -> Option<Refusal>
-        ensures { (p : ℕ) → result ≡ page_refusal self.now (call.pin p) }
+    fn check_pin(&self) -> Result<(), Refusal>
+        ensures { (p : ℕ) → result_err result ≡ page_refusal self.now (call.pin p) }
     {
         if self.split {
-            Some(Refusal::IsSplit)
+            Err(Refusal::IsSplit)
         } else if self.pins == u16::MAX {
-            Some(Refusal::TooMany)
+            Err(Refusal::TooMany)
         } else {
-            None
+            Ok(())
         }
     }
 
@@ -385,89 +337,43 @@ impl Page {
         ensures change { OnOk result (IsChange self.old self.new change.new) }
         ensures kept { OnErr result (self.new ≡ self.old) }
     {
-        match self.refusal_unpin() {
-            Some(refusal) => Err(refusal),
-            None => {
-                self.pins -= 1;
-                change.unused = false;
-                change.used_left = self.has_use();
-                change.released = SubSet::empty();
-                Ok(())
-            }
-        }
+        self.check_unpin()?;
+        self.pins -= 1;
+        change.unused = false;
+        change.used_left = self.has_use();
+        change.released = SubSet::empty();
+        Ok(())
     }
 
-    // Why `unpin` would be refused, if it would.
+    // Fails with the reason why `unpin` would be refused.
     #[tactic(auto, unfolding(thp_model::specs::Pages::page_refusal))]
     #[inline(always)]
-    fn refusal_unpin(&self) -> Option<Refusal>
-        ensures { (p : ℕ) → result ≡ page_refusal self.now (call.unpin p) }
+    fn check_unpin(&self) -> Result<(), Refusal>
+        ensures { (p : ℕ) → result_err result ≡ page_refusal self.now (call.unpin p) }
     {
         if self.split {
-            Some(Refusal::IsSplit)
+            Err(Refusal::IsSplit)
         } else if self.pins == 0 {
-            Some(Refusal::NotPinned)
+            Err(Refusal::NotPinned)
         } else {
-            None
+            Ok(())
         }
     }
 
-    // Does `write`, or returns why it is refused.
-    #[inline(always)]
-    fn try_write(&mut self, first: u16, count: u16) -> Result<(), Refusal>
-        ensures refusal { (p : ℕ) → result_err result ≡ page_refusal self.old (call.write p first count) }
-        ensures written { OnOk result (RangeWritten first count self.old self.new) }
-        ensures kept { OnErr result (self.new ≡ self.old) }
-    {
-        match self.refusal_write(first, count) {
-            Some(refusal) => Err(refusal),
-            None => {
-                self.zero = self
-                    .zero
-                    .difference(SubSet::range(first as u32, count as u32));
-                Ok(())
-            }
-        }
-    }
-
-    // Why `write` would be refused, if it would.
+    // Fails with the reason why `write` and `zero` would be refused.
     #[tactic(auto, unfolding(thp_model::specs::Pages::page_refusal))]
-    fn refusal_write(&self, first: u16, count: u16) -> Option<Refusal>
-        ensures { (p : ℕ) → result ≡ page_refusal self.now (call.write p first count) }
+    fn check_write(&self, first: u16, count: u16) -> Result<(), Refusal>
+        ensures data { (p : ℕ) → result_err result ≡ page_refusal self.now (call.write p first count) }
+        ensures zeros { (p : ℕ) → result_err result ≡ page_refusal self.now (call.zero_fill p first count) }
     {
         if self.is_bad_range(first, count) {
-            Some(Refusal::BadRange)
+            Err(Refusal::BadRange)
         } else if self.split {
-            Some(Refusal::IsSplit)
+            Err(Refusal::IsSplit)
         } else if self.has_unused(first as usize, count as usize) {
-            Some(Refusal::NotMapped)
+            Err(Refusal::NotMapped)
         } else {
-            None
+            Ok(())
         }
-    }
-
-    // Does `zero`, or returns why it is refused.
-    #[inline(always)]
-    fn try_zero(&mut self, first: u16, count: u16) -> Result<(), Refusal>
-        ensures refusal { (p : ℕ) → result_err result ≡ page_refusal self.old (call.zero_fill p first count) }
-        ensures zeroed { OnOk result (RangeZeroed first count self.old self.new) }
-        ensures kept { OnErr result (self.new ≡ self.old) }
-    {
-        match self.refusal_zero(first, count) {
-            Some(refusal) => Err(refusal),
-            None => {
-                self.zero = self.zero.union(SubSet::range(first as u32, count as u32));
-                Ok(())
-            }
-        }
-    }
-
-    // Why `zero` would be refused, if it would.
-    #[tactic(auto, unfolding(thp_model::specs::Pages::page_refusal))]
-    fn refusal_zero(&self, first: u16, count: u16) -> Option<Refusal>
-        ensures { (p : ℕ) → result ≡ page_refusal self.now (call.zero_fill p first count) }
-    {
-        // A write of zeros is refused as a write of data is.
-        self.refusal_write(first, count)
     }
 }

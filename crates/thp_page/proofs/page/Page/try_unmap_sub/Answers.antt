@@ -2,7 +2,6 @@ use Rattle.std.proofs.Common.{◌≡◌, ◌+◌, ◌<◌, ◌≤◌, ◌&&◌, 
 use Rattle.std.proofs.lemmas.Bool.Decides.{nat_tests}
 use Rattle.thp_model.specs.Prelude.{covers, has, set_of, get_or-set_of, length-set_of, PageState, own_at, has_use, drops_use, partly_after, page_refusal, RangeUnmapped, IsPage}
 use Rattle.thp_model.proofs.WordLemmas.{set_of-ext}
-use Rattle.thp_model.proofs.Options.{not_there}
 use Rattle.thp_model.specs.Refusals as call
 use Rattle.thp_page.specs.Prelude.{Inside, state_of, IsKept, IsChange}
 use Rattle.thp_page.proofs.PageSizes.{size_most}
@@ -40,12 +39,12 @@ inside s first count page e = omega (arith, (unmap_sub_allowed s 0 first count e
 pub unmap-unmapped-requires-clause-inside : goal.unmap-unmapped-requires-clause-inside
 unmap-unmapped-requires-clause-inside c =
     let s : PageState = state_of c.self.inside in
-    inside s c.args.first c.args.count c.self.invariant.page (allowed_as s _ (call.unmap_sub 0 c.args.first c.args.count) c.self.view_is (sym (c.refusal_unmap_sub.ensures 0) ∙ not_there c.refusal_unmap_sub.result c.in_default.not-Some))
+    inside s c.args.first c.args.count c.self.invariant.page (allowed_as s _ (call.unmap_sub 0 c.args.first c.args.count) c.self.view_is (sym (c.in_ok-check_unmap_sub.ensures 0)))
 
 pub unmap-unmapped-requires-clause-positive : goal.unmap-unmapped-requires-clause-positive
 unmap-unmapped-requires-clause-positive c =
     let s : PageState = state_of c.self.inside in
-    (unmap_sub_allowed s 0 c.args.first c.args.count (allowed_as s _ (call.unmap_sub 0 c.args.first c.args.count) c.self.view_is (sym (c.refusal_unmap_sub.ensures 0) ∙ not_there c.refusal_unmap_sub.result c.in_default.not-Some))).1
+    (unmap_sub_allowed s 0 c.args.first c.args.count (allowed_as s _ (call.unmap_sub 0 c.args.first c.args.count) c.self.view_is (sym (c.in_ok-check_unmap_sub.ensures 0)))).1
 
 pub without_given-released-requires : goal.without_given-released-requires
 without_given-released-requires c = ap length c.difference.ensures ∙ length-set_of _
@@ -64,18 +63,18 @@ kept p own first count k allowed taken =
 
 pub invariant_of-self : goal.invariant_of-self
 invariant_of-self c =
-    kept c.self.inside c.unmap-unmapped.new.self c.args.first c.args.count c.self.invariant (allowed_as (state_of c.self.inside) _ (call.unmap_sub 0 c.args.first c.args.count) c.self.view_is (sym (c.refusal_unmap_sub.ensures 0) ∙ not_there c.refusal_unmap_sub.result c.in_default.not-Some))
+    kept c.self.inside c.unmap-unmapped.new.self c.args.first c.args.count c.self.invariant (allowed_as (state_of c.self.inside) _ (call.unmap_sub 0 c.args.first c.args.count) c.self.view_is (sym (c.in_ok-check_unmap_sub.ensures 0)))
     c.unmap-unmapped.ensures.taken
 
 pub invariant_of-self-then-self : goal.invariant_of-self-then-self
 invariant_of-self-then-self c =
-    kept c.self.inside c.unmap-unmapped.new.self c.args.first c.args.count c.self.invariant (allowed_as (state_of c.self.inside) _ (call.unmap_sub 0 c.args.first c.args.count) c.self.view_is (sym (c.refusal_unmap_sub.ensures 0) ∙ not_there c.refusal_unmap_sub.result c.in_default.not-Some))
+    kept c.self.inside c.unmap-unmapped.new.self c.args.first c.args.count c.self.invariant (allowed_as (state_of c.self.inside) _ (call.unmap_sub 0 c.args.first c.args.count) c.self.view_is (sym (c.in_ok-check_unmap_sub.ensures 0)))
     c.unmap-unmapped.ensures.taken
 
 pub invariant_of-self-2 : goal.invariant_of-self-2
 invariant_of-self-2 c =
     kept_partly (record c.self.inside { own = c.unmap-unmapped.new.self }) (c.self.inside.partly || c.if-unused.self)
-    (kept c.self.inside c.unmap-unmapped.new.self c.args.first c.args.count c.self.invariant (allowed_as (state_of c.self.inside) _ (call.unmap_sub 0 c.args.first c.args.count) c.self.view_is (sym (c.refusal_unmap_sub.ensures 0) ∙ not_there c.refusal_unmap_sub.result c.in_default.not-Some))
+    (kept c.self.inside c.unmap-unmapped.new.self c.args.first c.args.count c.self.invariant (allowed_as (state_of c.self.inside) _ (call.unmap_sub 0 c.args.first c.args.count) c.self.view_is (sym (c.in_ok-check_unmap_sub.ensures 0)))
     c.unmap-unmapped.ensures.taken)
 
 not_both : (a b : Bool) → a ≡ false → a ≡ (a && b)
@@ -110,7 +109,7 @@ returns c =
     let count : ℕ = c.args.count in
     let own : List ℕ = c.unmap-unmapped.new.self in
     let partly : Bool = s.partly || c.if-unused.self in
-    let inside = (unmap_sub_allowed s 0 first count (allowed_as s _ (call.unmap_sub 0 first count) c.self.view_is (sym (c.refusal_unmap_sub.ensures 0) ∙ not_there c.refusal_unmap_sub.result c.in_default.not-Some))).0 in
+    let inside = (unmap_sub_allowed s 0 first count (allowed_as s _ (call.unmap_sub 0 first count) c.self.view_is (sym (c.in_ok-check_unmap_sub.ensures 0)))).0 in
     let before : Bool = partly_after s (with_own s own) in
     let unused : c.if-self-eq0.unused ≡ drops_use s (with_own s own) =
     elim c.if-self-eq0.branch [
@@ -129,7 +128,7 @@ returns c =
     let Q : PageState → Type 0 = λ t. RangeUnmapped first count t (after s own partly) in
     let P : PageState → Type 0 = λ t. IsChange t (after s own partly) (record { unused = c.if-self-eq0.unused; used_left = c.has_use-used_left.result; released = c.if-self.released }) in
     record {
-      refusal = λ p. sym (not_there c.refusal_unmap_sub.result c.in_default.not-Some) ∙ c.refusal_unmap_sub.ensures p;
+      refusal = λ p. c.in_ok-check_unmap_sub.ensures p;
       counts = subst Q c.self.view_is r;
       change = subst P c.self.view_is (record {
         unused = unused;

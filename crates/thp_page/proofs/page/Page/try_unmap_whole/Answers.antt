@@ -1,6 +1,5 @@
 use Rattle.std.proofs.Common.{◌≡◌, ◌≢◌, ◌-◌, ◌<◌, ◌≤◌, ◌&&◌, ◌||◌, ℕ, Bool, false, nat_eq, None, refl, ap, ap₂, sym, ◌∙◌, arith, subst, ne_eqb}
 use Rattle.thp_model.specs.Prelude.{covers, some_below, PageState, size, own_at, has_use, drops_use, partly_after, page_refusal, WholeUnmapped}
-use Rattle.thp_model.proofs.Options.{not_there}
 use Rattle.thp_model.specs.Refusals as call
 use Rattle.thp_page.specs.Prelude.{Inside, state_of, IsKept, IsChange}
 use Rattle.thp_page.proofs.PageSizes.{size_most, whole_test}
@@ -45,15 +44,15 @@ kept p k allowed =
 pub overflow_sub-self : goal.overflow_sub-self
 overflow_sub-self c =
     let s : PageState = state_of c.self.inside in
-    (unmap_whole_allowed s 0 (allowed_as s _ (call.unmap_whole 0) c.self.view_is (sym (c.refusal_unmap_whole.ensures 0) ∙ not_there c.refusal_unmap_whole.result c.in_default.not-Some))).1
+    (unmap_whole_allowed s 0 (allowed_as s _ (call.unmap_whole 0) c.self.view_is (sym (c.in_ok-check_unmap_whole.ensures.unmap 0)))).1
 
 pub invariant_of-self : goal.invariant_of-self
-invariant_of-self c = kept c.self.inside c.self.invariant (allowed_as (state_of c.self.inside) _ (call.unmap_whole 0) c.self.view_is (sym (c.refusal_unmap_whole.ensures 0) ∙ not_there c.refusal_unmap_whole.result c.in_default.not-Some))
+invariant_of-self c = kept c.self.inside c.self.invariant (allowed_as (state_of c.self.inside) _ (call.unmap_whole 0) c.self.view_is (sym (c.in_ok-check_unmap_whole.ensures.unmap 0)))
 
 pub invariant_of-self-2 : goal.invariant_of-self-2
 invariant_of-self-2 c =
     kept_partly (record c.self.inside { whole = c.self.inside.whole - 1 }) (c.self.inside.partly || c.if-unused.self)
-    (kept c.self.inside c.self.invariant (allowed_as (state_of c.self.inside) _ (call.unmap_whole 0) c.self.view_is (sym (c.refusal_unmap_whole.ensures 0) ∙ not_there c.refusal_unmap_whole.result c.in_default.not-Some)))
+    (kept c.self.inside c.self.invariant (allowed_as (state_of c.self.inside) _ (call.unmap_whole 0) c.self.view_is (sym (c.in_ok-check_unmap_whole.ensures.unmap 0))))
 
 not_both : (a b : Bool) → a ≡ false → a ≡ (a && b)
 not_both a b e = cc
@@ -66,7 +65,7 @@ pub returns : goal.returns
 unfolding less after
 returns c =
     let s : PageState = state_of c.self.inside in
-    let facts = unmap_whole_allowed s 0 (allowed_as s _ (call.unmap_whole 0) c.self.view_is (sym (c.refusal_unmap_whole.ensures 0) ∙ not_there c.refusal_unmap_whole.result c.in_default.not-Some)) in
+    let facts = unmap_whole_allowed s 0 (allowed_as s _ (call.unmap_whole 0) c.self.view_is (sym (c.in_ok-check_unmap_whole.ensures.unmap 0))) in
     let partly : Bool = s.partly || c.if-unused.self in
     let unused : c.if-self-eq1.unused ≡ drops_use s (less s) =
     elim c.if-self-eq1.branch [
@@ -86,7 +85,7 @@ returns c =
     let Q : PageState → Type 0 = λ t. WholeUnmapped t (after s partly) in
     let P : PageState → Type 0 = λ t. IsChange t (after s partly) (record { unused = c.if-self-eq1.unused; used_left = c.has_use-used_left.result; released = c.empty.result }) in
     record {
-      refusal = λ p. sym (not_there c.refusal_unmap_whole.result c.in_default.not-Some) ∙ c.refusal_unmap_whole.ensures p;
+      refusal = λ p. c.in_ok-check_unmap_whole.ensures.unmap p;
       counts = subst Q c.self.view_is r;
       change = subst P c.self.view_is (record {
         unused = unused;

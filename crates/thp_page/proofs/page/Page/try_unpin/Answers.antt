@@ -20,31 +20,31 @@ pinned s h = record { order = refl; whole = refl; own = λ i below. refl; pins =
 pub overflow_sub-self : goal.overflow_sub-self
 overflow_sub-self c =
     let s : PageState = state_of c.self.inside in
-    (unpin_allowed s 0 (allowed_as s _ (call.unpin 0) c.self.view_is (sym (c.refusal_unpin.ensures 0) ∙ c.in-None.is))).1
+    (unpin_allowed s 0 (allowed_as s _ (call.unpin 0) c.self.view_is (sym (c.in_ok-check_unpin.ensures 0)))).1
 
 pub invariant_of-self : goal.invariant_of-self
 unfolding less
 invariant_of-self c =
     let s : PageState = state_of c.self.inside in
-    let allowed = allowed_as s _ (call.unpin 0) c.self.view_is (sym (c.refusal_unpin.ensures 0) ∙ c.in-None.is) in
+    let allowed = allowed_as s _ (call.unpin 0) c.self.view_is (sym (c.in_ok-check_unpin.ensures 0)) in
     record {
       page = IsPage-unpin s (less s) 0 c.self.invariant.page allowed (pinned s (unpin_allowed s 0 allowed).1);
       behind = behind-same s (less s) refl (λ i. refl) c.self.invariant.behind;
       zero_inside = zero_inside-same s (less s) refl refl c.self.invariant.zero_inside;
     }
 
-pub returns-in-None-clause-counts : goal.returns-in-None-clause-counts
+pub returns-clause-counts : goal.returns-clause-counts
 unfolding less
-returns-in-None-clause-counts c =
+returns-clause-counts c =
     let s : PageState = state_of c.self.inside in
-    let allowed = allowed_as s _ (call.unpin 0) c.self.view_is (sym (c.refusal_unpin.ensures 0) ∙ c.in-None.is) in
+    let allowed = allowed_as s _ (call.unpin 0) c.self.view_is (sym (c.in_ok-check_unpin.ensures 0)) in
     let P : PageState → Type 0 = λ t. Pinned (less s) t in
     subst P c.self.view_is (pinned s (unpin_allowed s 0 allowed).1)
 
-pub returns-in-None-clause-change : goal.returns-in-None-clause-change
+pub returns-clause-change : goal.returns-clause-change
 unfolding less
-returns-in-None-clause-change c =
+returns-clause-change c =
     let s : PageState = state_of c.self.inside in
-    let allowed = allowed_as s _ (call.unpin 0) c.self.view_is (sym (c.refusal_unpin.ensures 0) ∙ c.in-None.is) in
+    let allowed = allowed_as s _ (call.unpin 0) c.self.view_is (sym (c.in_ok-check_unpin.ensures 0)) in
     let P : PageState → Type 0 = λ t. IsChange t (less s) (record { unused = false; used_left = c.has_use-change.result; released = c.empty-change.result }) in
     subst P c.self.view_is (unpin_change s (less s) c.has_use-change.result c.empty-change.result (pinned s (unpin_allowed s 0 allowed).1) c.has_use-change.ensures c.empty-change.ensures)

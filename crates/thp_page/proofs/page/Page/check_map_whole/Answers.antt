@@ -2,7 +2,7 @@ use Rattle.std.proofs.Common.{true, false, ap, sym, ◌∙◌, nat_eq}
 use Rattle.thp_model.specs.Prelude.{most, PageState, total_at}
 use Rattle.thp_page.proofs.PageSizes.{whole_range}
 use Rattle.thp_page.proofs.PageRefusals.{map_whole_refusal}
-use Rattle.thp_page.proofs.page.Page.refusal_map_whole.Goals as goal
+use Rattle.thp_page.proofs.page.Page.check_map_whole.Goals as goal
 
 pub returns-then-has_total_at_limit : goal.returns-then-has_total_at_limit
 returns-then-has_total_at_limit c = λ p.
