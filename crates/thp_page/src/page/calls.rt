@@ -87,10 +87,34 @@ impl Page {
         ensures kept { OnErr result (self.new ≡ self.old) }
     {
         match loss {
-            Loss::UnmapWhole => self.try_unmap_whole(change),
-            Loss::UnmapSub { first, count } => self.try_unmap_sub(first, count, change),
-            Loss::Unpin => self.try_unpin(change),
+            Loss::UnmapWhole => {
+                self.check_unmap_whole()?;
+                change.unused = self.whole == 1 && self.own.has_unmapped(0, self.subpages());
+                change.released = SubSet::empty();
+                self.whole -= 1;
+            }
+            Loss::UnmapSub { first, count } => {
+                self.check_unmap_sub(first, count)?;
+                let mapped = self.own.mapped();
+                let unmapped = self.own.unmap(first as usize, count as usize);
+                change.unused = self.whole == 0 && unmapped;
+                change.released = if self.split {
+                    // the subpages of the range that are not mapped afterwards
+                    self.without_given(mapped.difference(self.own.mapped()))
+                } else {
+                    SubSet::empty()
+                };
+            }
+            Loss::Unpin => {
+                self.check_unpin()?;
+                change.unused = false;
+                change.released = SubSet::empty();
+                self.pins -= 1;
+            }
         }
+        change.used_left = self.has_use();
+        self.partly |= change.unused && change.used_left;
+        Ok(())
     }
 
     /// Maps the whole page once more, by a PMD entry. Fails with `IsSplit` or `TooMany`.
@@ -215,27 +239,6 @@ impl Page {
         }
     }
 
-    // Does `unmap_whole`, or returns why it is refused.
-    #[inline(always)]
-    fn try_unmap_whole(&mut self, change: &mut Change) -> Result<(), Refusal>
-        ensures refusal { (p : ℕ) → result_err result ≡ page_refusal self.old (call.unmap_whole p) }
-        ensures counts { OnOk result (WholeUnmapped self.old self.new) }
-        ensures change { OnOk result (IsChange self.old self.new change.new) }
-        ensures kept { OnErr result (self.new ≡ self.old) }
-    {
-        self.check_unmap_whole()?;
-        let unused = self.whole == 1 && self.own.has_unmapped(0, self.subpages());
-        self.whole -= 1;
-        let used_left = self.has_use();
-        self.partly |= unused && used_left;
-        *change = Change {
-            unused,
-            used_left,
-            released: SubSet::empty(),
-        };
-        Ok(())
-    }
-
     // Fails with the reason why `unmap_whole` and `split_pmd` would be refused.
     #[tactic(auto, unfolding(thp_model::specs::Pages::page_refusal))]
     fn check_unmap_whole(&self) -> Result<(), Refusal>
@@ -270,35 +273,6 @@ impl Page {
         }
     }
 
-    // Does `unmap_sub`, or returns why it is refused.
-    #[inline(always)]
-    fn try_unmap_sub(&mut self, first: u16, count: u16, change: &mut Change) -> Result<(), Refusal>
-        ensures refusal { (p : ℕ) → result_err result ≡ page_refusal self.old (call.unmap_sub p first count) }
-        ensures counts { OnOk result (RangeUnmapped first count self.old self.new) }
-        ensures change { OnOk result (IsChange self.old self.new change.new) }
-        ensures kept { OnErr result (self.new ≡ self.old) }
-    {
-        self.check_unmap_sub(first, count)?;
-        let (first, count) = (first as usize, count as usize);
-        let mapped = self.own.mapped();
-        let unmapped = self.own.unmap(first, count);
-        let unused = self.whole == 0 && unmapped;
-        let used_left = self.has_use();
-        let released = if self.split {
-            // the subpages of the range that are not mapped afterwards
-            self.without_given(mapped.difference(self.own.mapped()))
-        } else {
-            SubSet::empty()
-        };
-        self.partly |= unused && used_left;
-        *change = Change {
-            unused,
-            used_left,
-            released,
-        };
-        Ok(())
-    }
-
     // Fails with the reason why `unmap_sub` would be refused.
     #[tactic(auto, unfolding(thp_model::specs::Pages::page_refusal))]
     #[inline(always)]
@@ -327,22 +301,6 @@ impl Page {
         } else {
             Ok(())
         }
-    }
-
-    // Does `unpin`, or returns why it is refused.
-    #[inline(always)]
-    fn try_unpin(&mut self, change: &mut Change) -> Result<(), Refusal>
-        ensures refusal { (p : ℕ) → result_err result ≡ page_refusal self.old (call.unpin p) }
-        ensures counts { OnOk result (Pinned self.new self.old) }
-        ensures change { OnOk result (IsChange self.old self.new change.new) }
-        ensures kept { OnErr result (self.new ≡ self.old) }
-    {
-        self.check_unpin()?;
-        self.pins -= 1;
-        change.unused = false;
-        change.used_left = self.has_use();
-        change.released = SubSet::empty();
-        Ok(())
     }
 
     // Fails with the reason why `unpin` would be refused.
