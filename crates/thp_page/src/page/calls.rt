@@ -139,6 +139,7 @@ impl Page {
     }
 
     /// Maps each of the `count` subpages from `first` on once more, by PTE entries. Fails with `BadRange`, `Gone` or `TooMany`.
+    #[tactic(auto, using(thp_model::proofs::Narrowing::page_map_sub))]
     pub fn map_sub(&mut self, first: u32, count: u32) -> Result<(), Refusal>
         ensures refusal { (p : ℕ) → result_err result ≡ page_refusal self.old (call.map_sub p first count) }
         ensures counts { OnOk result (RangeMapped first count self.old self.new) }
@@ -149,6 +150,7 @@ impl Page {
     }
 
     /// Removes one mapping of each of the `count` subpages from `first` on. Fails with `BadRange` or `NotMapped`.
+    #[tactic(auto, using(thp_model::proofs::Narrowing::page_unmap_sub))]
     pub fn unmap_sub(&mut self, first: u32, count: u32) -> Result<Change, Refusal>
         ensures refusal { (p : ℕ) → result_err result ≡ page_refusal self.old (call.unmap_sub p first count) }
         ensures counts { OnOk result (RangeUnmapped first count self.old self.new) }
@@ -157,10 +159,8 @@ impl Page {
     {
         let (first, count) = self.operands(first, count);
         let mut change = Change::none();
-        match self.lose(Loss::UnmapSub { first, count }, &mut change) {
-            Ok(()) => Ok(change),
-            Err(refusal) => Err(refusal),
-        }
+        self.lose(Loss::UnmapSub { first, count }, &mut change)?;
+        Ok(change)
     }
 
     /// Replaces a mapping of the whole page by one of each subpage. Fails with `IsSplit` or `NotMapped`.
@@ -193,6 +193,7 @@ impl Page {
 
     /// Records that data is written to each of the `count` subpages from `first` on: none of them is zero-filled afterwards.
     /// Fails with `BadRange`, `IsSplit` or `NotMapped`.
+    #[tactic(auto, using(thp_model::proofs::Narrowing::page_write))]
     pub fn write(&mut self, first: u32, count: u32) -> Result<(), Refusal>
         ensures refusal { (p : ℕ) → result_err result ≡ page_refusal self.old (call.write p first count) }
         ensures written { OnOk result (RangeWritten first count self.old self.new) }
@@ -204,6 +205,7 @@ impl Page {
 
     /// Records that zeros are written to each of the `count` subpages from `first` on: all of them are zero-filled afterwards.
     /// Fails with `BadRange`, `IsSplit` or `NotMapped`.
+    #[tactic(auto, using(thp_model::proofs::Narrowing::page_zero))]
     pub fn zero(&mut self, first: u32, count: u32) -> Result<(), Refusal>
         ensures refusal { (p : ℕ) → result_err result ≡ page_refusal self.old (call.zero_fill p first count) }
         ensures zeroed { OnOk result (RangeZeroed first count self.old self.new) }
