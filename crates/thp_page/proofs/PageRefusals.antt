@@ -1,9 +1,9 @@
 -- What is known of a page that doesn't refuse a call.
-use Rattle.std.proofs.Common.{◌≡◌, ℕ, ◌+◌, ◌<◌, ◌≤◌, Bool, true, false, ◌&&◌, ◌||◌, cond, nat_eq, nat_lt, Some, None, refl, ap, ap₂, ◌∙◌, arith}
+use Rattle.std.proofs.Common.{◌≡◌, ℕ, ◌+◌, ◌<◌, ◌≤◌, Bool, true, false, ◌&&◌, ◌||◌, cond, nat_eq, nat_lt, Some, None, refl, ap, ◌∙◌, arith}
 use Rattle.std.proofs.lemmas.Bool.Decides.{nat_tests}
 use Rattle.thp_model.specs.declared.refusal.Refusal.{Refusal}
 use Rattle.thp_model.specs.declared.refusal.Refusal.TheVariants as reason
-use Rattle.thp_model.specs.Prelude.{covers, some_below, most, PageState, size, own_at, total_at, some_in_range, page_refusal, IsPage}
+use Rattle.thp_model.specs.Prelude.{covers, most, PageState, size, own_at, total_at, some_in_range, page_refusal, IsPage}
 use Rattle.thp_model.specs.Refusals as call
 use Rattle.thp_page.proofs.RangeLemmas.{covers_true}
 use Rattle.thp_model.proofs.Below.{some_none}
@@ -106,9 +106,3 @@ zero_fill_allowed t p first count e =
 -- what isn't refused of a page isn't refused of its fields' state
 pub allowed_as : (t u : PageState) (k : call.Call) → t ≡ u → page_refusal u k ≡ None → page_refusal t k ≡ None
 allowed_as t u k same e = ap (λ v. page_refusal v k) same ∙ e
-
--- the refusal of `map_whole`, by the tests that the code makes
-pub map_whole_refusal : (t : PageState) (p : ℕ) (split full : Bool) → split ≡ t.split → full ≡ some_below (size t) (λ i. nat_eq (total_at t i) most) →
-    cond split (Some reason.IsSplit) (cond full (Some reason.TooMany) None) ≡ page_refusal t (call.map_whole p)
-unfolding page_refusal
-map_whole_refusal t p split full e f = ap₂ (λ a b. cond a (Some reason.IsSplit) (cond b (Some reason.TooMany) None)) e f

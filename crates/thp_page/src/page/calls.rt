@@ -228,7 +228,7 @@ impl Page {
     }
 
     // Fails with the reason why `map_whole` would be refused.
-    #[tactic(auto, unfolding(thp_model::specs::Pages::page_refusal))]
+    #[tactic(auto, using(crate::proofs::PageSizes::whole_range), unfolding(thp_model::specs::Pages::page_refusal))]
     fn check_map_whole(&self) -> Result<(), Refusal>
         ensures { (p : ℕ) → result_err result ≡ page_refusal self.now (call.map_whole p) }
     {

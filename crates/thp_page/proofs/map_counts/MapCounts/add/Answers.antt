@@ -1,4 +1,4 @@
-use Rattle.std.proofs.Common.{◌+◌, true, ◌∙◌, ap, sym, arith, cond}
+use Rattle.std.proofs.Common.{◌+◌, ◌∙◌, ap, sym, arith, cond}
 use Rattle.thp_model.specs.Prelude.{has}
 use Rattle.thp_model.proofs.WordLemmas.{set_of-ext}
 use Rattle.thp_page.proofs.Seen.{seen_at, count_at, mapped_at, mapped_any}
