@@ -6,6 +6,7 @@ use Rattle.thp_model.specs.Pages.{Pinned}
 use Rattle.thp_page.specs.Prelude.{fresh_page, Inside, state_of, IsKept, NothingAfter}
 use Rattle.thp_page.proofs.SubSets.{set_of-ext}
 use Rattle.thp_page.proofs.PageSizes.{same_size, size_most}
+use Rattle.thp_page.proofs.Trailing.{behind-same}
 use Rattle.thp_page.proofs.PageRefusals.{map_whole_allowed, unmap_whole_allowed, map_sub_allowed, split_pmd_allowed, pin_allowed, unpin_allowed}
 
 zeros : (n i : ℕ) → ◌≡◌ {A = ℕ} (get_or (replicate n 0) i 0) 0
@@ -209,4 +210,12 @@ fresh_kept order p least most same = record {
   page = subst (λ (t : PageState). IsPage t) (sym same) (IsPage-fresh_page order least most);
   behind = subst (λ (t : PageState). NothingAfter t) (sym same) (λ i above short. (fresh_page_is_fresh order most).own i);
   zero_inside = subst (λ (t : PageState). t.zero ≡ zero_set t) (sym same) (zero_inside-fresh_page order);
+}
+
+-- the own counts and the zero-filled subpages stay
+pub kept_else : (p q : Inside) → IsKept p → IsPage (state_of q) → q.order ≡ p.order → q.own ≡ p.own → q.zero ≡ p.zero → IsKept q
+kept_else p q k page order own filled = record {
+  page = page;
+  behind = behind-same (state_of p) (state_of q) order (λ i. ap (λ (l : List ℕ). get_or l i 0) own) k.behind;
+  zero_inside = zero_inside-same (state_of p) (state_of q) order filled k.zero_inside;
 }

@@ -134,17 +134,6 @@ split_set-zeros t unused is inside =
       go true false z e = refl
       go false b z e = e
 
--- the subpages of a range that have no mapping of their own
-pub bare_set : (t : PageState) (first count : ℕ) (range mapped : List Bool) → range ≡ set_of (covers first count) → mapped ≡ set_of (λ i. nat_lt 0 (own_at t i)) →
-    set_of (λ i. has range i && not (has mapped i)) ≡ set_of (λ i. covers first count i && nat_eq (own_at t i) 0)
-bare_set t first count range mapped e f =
-    set_of-ext (λ i. has range i && not (has mapped i)) (λ i. covers first count i && nat_eq (own_at t i) 0)
-    (λ i short.
-    ap₂ (λ a b. a && not b) (ap (λ s. has s i) e ∙ get_or-set_of (covers first count) i short) (ap (λ s. has s i) f ∙ get_or-set_of (λ j. nat_lt 0 (own_at t j)) i short)
-    ∙ go (covers first count i) (own_at t i)) where
-      go : (b : Bool) (x : ℕ) → (b && not (nat_lt 0 x)) ≡ (b && nat_eq x 0)
-      go b x = grind (arith, nat_tests)
-
 -- the subpages that aren't in use: those without mappings of their own where the page isn't mapped whole, else none
 pub unused_set-unmapped : (t : PageState) (all mapped : List Bool) → t.whole ≡ 0 → all ≡ set_of (λ i. nat_lt i (2 ^ t.order)) → mapped ≡ set_of (λ i. nat_lt 0 (own_at t i)) →
     set_of (λ i. has all i && not (has mapped i)) ≡ unused_set t

@@ -6,7 +6,7 @@ use Rattle.thp_page.proofs.RangeLemmas.{covers_inside, covers_true}
 use Rattle.thp_page.proofs.PageSizes.{size_least, size_most}
 use Rattle.thp_page.proofs.PageRefusals.{allowed_as, map_whole_allowed, map_sub_allowed, split_pmd_allowed, pin_allowed, write_allowed}
 use Rattle.thp_page.proofs.Trailing.{behind-same, behind-map}
-use Rattle.thp_page.proofs.PageChanges.{IsPage-map_whole, IsPage-map_sub, IsPage-split_pmd, IsPage-pin, IsPage-counts, zero_inside-same}
+use Rattle.thp_page.proofs.PageChanges.{kept_else, IsPage-map_whole, IsPage-map_sub, IsPage-split_pmd, IsPage-pin, IsPage-counts, zero_inside-same}
 use Rattle.thp_page.proofs.ZeroSets.{written, written_inside, zeroed, zeroed_inside}
 use Rattle.thp_page.proofs.page.Page.gain.Goals as goal
 
@@ -14,39 +14,29 @@ use Rattle.thp_page.proofs.page.Page.gain.Goals as goal
 pub overflow_add-self : goal.overflow_add-self
 overflow_add-self c =
     let s : PageState = state_of c.self.inside in
-    let fits = (map_whole_allowed s 0 c.self.invariant.page (allowed_as s _ (call.map_whole 0) c.self.view_is (sym (c.in_ok-check_map_whole-in-MapWhole.ensures 0)))).1 0 (omega (arith, size_least s c.self.invariant.page.least_order)) in
-    omega (arith, fits)
+    omega (arith, (map_whole_allowed s 0 c.self.invariant.page (allowed_as s _ (call.map_whole 0) c.self.view_is (sym (c.in_ok-check_map_whole-in-MapWhole.ensures 0)))).1 0 (omega (arith, size_least s c.self.invariant.page.least_order)))
 
 pub invariant_of-self : goal.invariant_of-self
 invariant_of-self c =
     let s : PageState = state_of c.self.inside in
-    let t : PageState = record s { whole = s.whole + 1 } in
-    record {
-      page =
-          IsPage-map_whole s t 0 c.self.invariant.page (allowed_as s _ (call.map_whole 0) c.self.view_is (sym (c.in_ok-check_map_whole-in-MapWhole.ensures 0)))
-          (record { order = refl; whole = refl; own = λ i below. refl; pins = refl; split = refl; partly = refl; kept = record { zero = refl; freed_zero_frames = refl } });
-      behind = behind-same s t refl (λ i. refl) c.self.invariant.behind;
-      zero_inside = zero_inside-same s t refl refl c.self.invariant.zero_inside;
-    }
+    let allowed = allowed_as s _ (call.map_whole 0) c.self.view_is (sym (c.in_ok-check_map_whole-in-MapWhole.ensures 0)) in
+    kept_else c.self.inside (record c.self.inside { whole = s.whole + 1 }) c.self.invariant
+    (IsPage-map_whole s (record s { whole = s.whole + 1 }) 0 c.self.invariant.page allowed (record { order = refl; whole = refl; own = λ i below. refl; pins = refl; split = refl; partly = refl; kept = record { zero = refl; freed_zero_frames = refl } }))
+    refl refl refl
 
 -- a pin is added
 pub overflow_add-self-in-Pin : goal.overflow_add-self-in-Pin
 overflow_add-self-in-Pin c =
     let s : PageState = state_of c.self.inside in
-    let facts = pin_allowed s 0 c.self.invariant.page (allowed_as s _ (call.pin 0) c.self.view_is (sym (c.in_ok-check_pin-in-Pin.ensures 0))) in
-    omega (arith, facts.1)
+    omega (arith, (pin_allowed s 0 c.self.invariant.page (allowed_as s _ (call.pin 0) c.self.view_is (sym (c.in_ok-check_pin-in-Pin.ensures 0)))).1)
 
 pub invariant_of-self-in-Pin : goal.invariant_of-self-in-Pin
 invariant_of-self-in-Pin c =
     let s : PageState = state_of c.self.inside in
-    let t : PageState = record s { pins = s.pins + 1 } in
-    record {
-      page =
-          IsPage-pin s t 0 c.self.invariant.page (allowed_as s _ (call.pin 0) c.self.view_is (sym (c.in_ok-check_pin-in-Pin.ensures 0)))
-          (record { order = refl; whole = refl; own = λ i below. refl; pins = refl; split = refl; partly = refl; kept = record { zero = refl; freed_zero_frames = refl } });
-      behind = behind-same s t refl (λ i. refl) c.self.invariant.behind;
-      zero_inside = zero_inside-same s t refl refl c.self.invariant.zero_inside;
-    }
+    let allowed = allowed_as s _ (call.pin 0) c.self.view_is (sym (c.in_ok-check_pin-in-Pin.ensures 0)) in
+    kept_else c.self.inside (record c.self.inside { pins = s.pins + 1 }) c.self.invariant
+    (IsPage-pin s (record s { pins = s.pins + 1 }) 0 c.self.invariant.page allowed (record { order = refl; whole = refl; own = λ i below. refl; pins = refl; split = refl; partly = refl; kept = record { zero = refl; freed_zero_frames = refl } }))
+    refl refl refl
 
 -- the page with other own counts, and with a whole mapping less
 with_own : PageState → List ℕ → PageState
@@ -60,17 +50,11 @@ mapped : (s : PageState) (own : List ℕ) (first count : ℕ) → s.order ≤ 9 
 unfolding with_own
 mapped s own first count most added = record { order = refl; whole = refl; own = λ i below. added i (omega (arith, below, size_most s most)); pins = refl; split = refl; partly = refl; kept = record { zero = refl; freed_zero_frames = refl } }
 
-pub map-requires-clause-inside : goal.map-requires-clause-inside
-map-requires-clause-inside c =
+pub map-requires : goal.map-requires
+map-requires c =
     let s : PageState = state_of c.self.inside in
     let facts = map_sub_allowed s 0 _ _ c.self.invariant.page (allowed_as s _ (call.map_sub 0 _ _) c.self.view_is (sym (c.in_ok-check_map_sub-in-MapSub.ensures 0))) in
-    omega (arith, facts.0, size_most s c.self.invariant.page.most_order)
-
-pub map-requires-clause-small : goal.map-requires-clause-small
-map-requires-clause-small c =
-    let s : PageState = state_of c.self.inside in
-    let facts = map_sub_allowed s 0 _ _ c.self.invariant.page (allowed_as s _ (call.map_sub 0 _ _) c.self.view_is (sym (c.in_ok-check_map_sub-in-MapSub.ensures 0))) in
-    λ i covered. omega (arith, facts.1 i covered)
+    record { inside = omega (arith, facts.0, size_most s c.self.invariant.page.most_order); small = λ i covered. omega (arith, facts.1 i covered) }
 
 pub invariant_of-self-in-MapSub : goal.invariant_of-self-in-MapSub
 unfolding with_own

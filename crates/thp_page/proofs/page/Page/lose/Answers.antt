@@ -10,9 +10,9 @@ use Rattle.thp_page.specs.declared.page.Change.{Change}
 use Rattle.thp_page.specs.Prelude.{Inside, state_of, IsKept, IsChange}
 use Rattle.thp_page.proofs.PageSizes.{size_most, whole_test}
 use Rattle.thp_page.proofs.PageRefusals.{allowed_as, unmap_whole_allowed, unmap_sub_allowed, unpin_allowed}
-use Rattle.thp_page.proofs.Trailing.{behind-same, behind-unmap}
-use Rattle.thp_page.proofs.PageChanges.{IsPage-unmap_whole, IsPage-unmap_sub, IsPage-unpin, IsPage-partly, has_use-partly, partly_after-partly, kept_partly, zero_inside-same}
-use Rattle.thp_page.proofs.PageUse.{drops_use-last, drops_use-range, drops_use-mapped, gives_frames-range, gives_frames-unsplit, bare_set, unpin_change}
+use Rattle.thp_page.proofs.Trailing.{behind-unmap}
+use Rattle.thp_page.proofs.PageChanges.{kept_else, IsPage-unmap_whole, IsPage-unmap_sub, IsPage-unpin, IsPage-partly, has_use-partly, partly_after-partly, kept_partly, zero_inside-same}
+use Rattle.thp_page.proofs.PageUse.{drops_use-last, drops_use-range, drops_use-mapped, gives_frames-range, gives_frames-unsplit, unpin_change}
 use Rattle.thp_page.proofs.page.Page.lose.Goals.{Joined-loss, Joined-change, in-UnmapWhole+in_ok-check_unmap_whole-in-UnmapWhole, then-self-eq1, else-self-eq1, in-UnmapSub+in_ok-check_unmap_sub-in-UnmapSub, then-self-eq0, else-self-eq0, then-self, else-self, in-Unpin+in_ok-check_unpin-in-Unpin, then-change, else-change}
 use Rattle.thp_page.proofs.page.Page.lose.Goals as goal
 
@@ -43,11 +43,7 @@ whole p change k allowed unused none =
     let facts = unmap_whole_allowed s 0 allowed in
     let t : PageState = record u { partly = partly_after s u } in
     record {
-      kept = record {
-        page = IsPage-partly t s.partly (IsPage-unmap_whole s t 0 k.page allowed (whole_done s _ facts.1 refl));
-        behind = behind-same s u refl (λ i. refl) k.behind;
-        zero_inside = zero_inside-same s u refl refl k.zero_inside;
-      };
+      kept = kept_else p (record p { whole = p.whole - 1 }) k (IsPage-partly t s.partly (IsPage-unmap_whole s t 0 k.page allowed (whole_done s _ facts.1 refl))) refl refl refl;
       partly = refl;
       unused = unused;
       done = λ b e. (whole_done s b facts.1 e, none ∙ sym (gives_frames-unsplit s (record u { partly = b }) refl facts.0 facts.0));
@@ -80,18 +76,15 @@ range_kept p own first count k taken =
 -- what was mapped and isn't any more is what the range took out
 gone : (old own : List ℕ) (first count : ℕ) (was now : List Bool) → was ≡ set_of (λ i. nat_lt 0 (get_or old i 0)) → now ≡ set_of (λ i. nat_lt 0 (get_or own i 0)) →
     ((i : ℕ) → i < 512 → get_or old i 0 ≡ get_or own i 0 + cond (covers first count i) 1 0) →
-    set_of (λ i. has was i && not (has now i)) ≡ set_of (λ i. has (set_of (covers first count)) i && not (has now i))
+    set_of (λ i. has was i && not (has now i)) ≡ set_of (λ i. covers first count i && nat_eq (get_or own i 0) 0)
 gone old own first count was now e f taken =
     set_of-ext _ _
     (λ i below.
-    let w : has was i ≡ nat_lt 0 (get_or old i 0) = ap (λ t. has t i) e ∙ get_or-set_of (λ j. nat_lt 0 (get_or old j 0)) i below in
-    let n : has now i ≡ nat_lt 0 (get_or own i 0) = ap (λ t. has t i) f ∙ get_or-set_of (λ j. nat_lt 0 (get_or own j 0)) i below in
-    ap₂ (λ a b. a && not b) w n ∙ one (covers first count i) (get_or old i 0) (get_or own i 0) (taken i below)
-    ∙ ap₂ (λ a b. a && not b) (sym (get_or-set_of (covers first count) i below)) (sym n))
-  where
-    one : (c : Bool) (o n : ℕ) → o ≡ n + cond c 1 0 → (nat_lt 0 o && not (nat_lt 0 n)) ≡ (c && not (nat_lt 0 n))
-    one true o n e = grind (arith, nat_tests)
-    one false o n e = grind (arith, nat_tests)
+    ap₂ (λ a b. a && not b) (ap (λ t. has t i) e ∙ get_or-set_of (λ j. nat_lt 0 (get_or old j 0)) i below) (ap (λ t. has t i) f ∙ get_or-set_of (λ j. nat_lt 0 (get_or own j 0)) i below)
+    ∙ one (covers first count i) (get_or old i 0) (get_or own i 0) (taken i below)) where
+      one : (c : Bool) (o n : ℕ) → o ≡ n + cond c 1 0 → (nat_lt 0 o && not (nat_lt 0 n)) ≡ (c && nat_eq n 0)
+      one true o n e = grind (arith, nat_tests)
+      one false o n e = grind (arith, nat_tests)
 
 -- a pin is removed
 unpinned : (s : PageState) (b : Bool) → 1 ≤ s.pins → s.partly ≡ b → Pinned (record s { pins = s.pins - 1; partly = b }) s
@@ -104,11 +97,7 @@ pin p change k allowed unused none =
     let facts = unpin_allowed s 0 allowed in
     let same = unpin_change s u _ change.released (unpinned s s.partly facts.1 refl) refl none in
     record {
-      kept = record {
-        page = IsPage-unpin s u 0 k.page allowed (unpinned s s.partly facts.1 refl);
-        behind = behind-same s u refl (λ i. refl) k.behind;
-        zero_inside = zero_inside-same s u refl refl k.zero_inside;
-      };
+      kept = kept_else p (record p { pins = p.pins - 1 }) k (IsPage-unpin s u 0 k.page allowed (unpinned s s.partly facts.1 refl)) refl refl refl;
       partly = refl;
       unused = unused ∙ same.unused;
       done = λ b e. (unpinned s b facts.1 (still s.partly (drops_use s u) _ b same.unused e), none ∙ sym (gives_frames-unsplit s (record u { partly = b }) refl facts.0 facts.0));
@@ -128,14 +117,11 @@ overflow_sub-self-in-Unpin c =
     let s : PageState = state_of c.self.inside in
     (unpin_allowed s 0 (allowed_as s _ (call.unpin 0) c.self.view_is (sym (c.in_ok-check_unpin-in-Unpin.ensures 0)))).1
 
-pub unmap-unmapped-requires-clause-inside : goal.unmap-unmapped-requires-clause-inside
-unmap-unmapped-requires-clause-inside c =
-    omega (arith, (unmap_sub_allowed _ 0 _ _ (sym (c.in_ok-check_unmap_sub-in-UnmapSub.ensures 0))).0, ap size c.self.view_is, size_most (state_of c.self.inside) c.self.invariant.page.most_order)
-
-pub unmap-unmapped-requires-clause-positive : goal.unmap-unmapped-requires-clause-positive
-unmap-unmapped-requires-clause-positive c =
+pub unmap-unmapped-requires : goal.unmap-unmapped-requires
+unmap-unmapped-requires c =
     let s : PageState = state_of c.self.inside in
-    (unmap_sub_allowed s 0 _ _ (allowed_as s _ (call.unmap_sub 0 _ _) c.self.view_is (sym (c.in_ok-check_unmap_sub-in-UnmapSub.ensures 0)))).1
+    let facts = unmap_sub_allowed s 0 _ _ (allowed_as s _ (call.unmap_sub 0 _ _) c.self.view_is (sym (c.in_ok-check_unmap_sub-in-UnmapSub.ensures 0))) in
+    record { inside = omega (arith, facts.0, size_most s c.self.invariant.page.most_order); positive = facts.1 }
 
 pub without_given-change-requires : goal.without_given-change-requires
 without_given-change-requires c = ap length c.difference.ensures ∙ length-set_of _
@@ -181,8 +167,7 @@ lessened c =
             | then-self v ↦
                 v.change-is ∙ v.without_given-change.ensures
                 ∙ sym (gives_frames-range s (record u { partly = b }) first count _ (range_done s own first count b most taken e) inside v.if-self.true (c.self.invariant.page.no_whole v.if-self.true)
-                (v.difference.ensures ∙ gone s.own own first count w.mapped-mapped.result v.mapped.result w.mapped-mapped.ensures v.mapped.ensures taken
-                ∙ bare_set (record u { partly = b }) first count (set_of (covers first count)) v.mapped.result refl v.mapped.ensures))
+                (v.difference.ensures ∙ gone s.own own first count w.mapped-mapped.result v.mapped.result w.mapped-mapped.ensures v.mapped.ensures taken))
             | else-self v ↦ v.change-is ∙ v.empty-change-else-self.ensures ∙ sym (gives_frames-unsplit s (record u { partly = b }) refl v.if-self.false v.if-self.false)
           ] in
           rw (w.in-UnmapSub.is, w.self-inside-is, w.change-is) (record {
