@@ -173,7 +173,8 @@ impl PageStore {
                 None
             }
             Outcome::Freed => {
-                self.release(block);
+                self.leave_queue(block);
+                self.vacate(block);
                 batch_of(standing)
             }
         };
@@ -341,15 +342,6 @@ impl PageStore {
         ensures { Placed page false self.old self.new block }
     {
         self.table.place(block, page);
-    }
-
-    // Removes the page of a block from the table, and from the queue if it is there.
-    fn release(&mut self, block: u32)
-        requires { IsSome (slot_at self.old.table block) }
-        ensures { Edits self.old self.new block None (without block self.old.queue) 6 }
-    {
-        self.leave_queue(block);
-        self.vacate(block);
     }
 
     // Removes the page of a block from the queue, if it is there.

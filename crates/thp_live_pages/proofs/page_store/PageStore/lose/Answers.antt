@@ -9,7 +9,7 @@ use Rattle.thp_page.specs.Prelude.{slot_at, with_slot, paged, page_in, IsChange}
 use Rattle.thp_live_pages.specs.Outcomes.{outcome_by, released_after}
 use Rattle.thp_live_pages.specs.Prelude.{AtSlot, PageStoreState, Edits, Lost, slot_after, queue_after, left_by, is_nowhere}
 use Rattle.thp_live_pages.proofs.PageUses.{outcome_is_by, released_is_by}
-use Rattle.thp_live_pages.proofs.Relinking.{edited_slot, edits_none, edits_settled, if_at}
+use Rattle.thp_live_pages.proofs.Relinking.{edited_slot, edits_as, edits_then, edits_none, edits_settled, if_at}
 use Rattle.thp_live_pages.proofs.page_store.PageStore.lose.Goals as goal
 
 -- the store after a loss of a page, before its outcome is carried out
@@ -57,4 +57,5 @@ pub returns-in-Freed-clause-lost : goal.returns-in-Freed-clause-lost
 unfolding reduced
 returns-in-Freed-clause-lost c =
     lost c.args.loss c.args.closed _ _ _ c.args.block _ _ c.lose.new.change c.standing-standing.result c.outcome_of-done.result outcome.Freed c.give_back.new.released _ 6 c.self.view_is c.in-Some.ensures.value c.standing-standing.ensures c.in_ok-lose.ensures.counts c.in_ok-lose.ensures.change
-    c.outcome_of-done.ensures c.give_back.ensures c.in-Freed.is c.batch_of-left.ensures (λ y at. c.release.ensures) (omega arith)
+    c.outcome_of-done.ensures c.give_back.ensures c.in-Freed.is c.batch_of-left.ensures
+    (λ y at. edits_as _ _ _ _ _ _ 6 6 c.leave_queue.ensures.edits.queue_is (omega arith) (edits_then _ _ _ _ _ _ _ _ 6 0 c.leave_queue.ensures.edits c.vacate.ensures)) (omega arith)
