@@ -102,7 +102,7 @@ impl PageStore {
         requires new { (b : ℕ) → HoldsPage (slot_at self.old.table b) page → ⊥ }
         ensures { Placed page queued self.old self.new block }
     {
-        self.put(block, page);
+        self.table.place(block, page);
         if queued {
             self.enqueue(block);
         }
@@ -332,16 +332,6 @@ impl PageStore {
         ensures same { Relinks self.old self.new 2 }
     {
         chain.pop(&mut self.table)
-    }
-
-    // Places a new page in a free block, on no list.
-    fn put(&mut self, block: u32, page: PageId)
-        requires inside { block < length self.old.table.slots }
-        requires free { slot_at self.old.table block ≡ None }
-        requires new { (b : ℕ) → HoldsPage (slot_at self.old.table b) page → ⊥ }
-        ensures { Placed page false self.old self.new block }
-    {
-        self.table.place(block, page);
     }
 
     // Removes the page of a block from the queue, if it is there.
