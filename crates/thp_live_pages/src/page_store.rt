@@ -86,13 +86,7 @@ impl PageStore {
         ensures empty { OnTrue result (slot_at self.now.table block ≡ None) }
         ensures taken { OnFalse result (block < length self.now.table.slots → IsSome (slot_at self.now.table block)) }
     {
-        if block >= self.table.len() {
-            return false;
-        }
-        match self.table.page(block) {
-            Some(_) => false,
-            None => true,
-        }
+        block < self.table.len() && self.table.page(block).is_none()
     }
 
     /// Places a new page in a free block, and appends it to the queue if `queued` is true.
@@ -208,15 +202,11 @@ impl PageStore {
         ensures none { IfNone result (IsElsewhere self.now.table caller page) }
         ensures there { IfSome result (IsFlyingAt self.now.table caller page) }
     {
-        match self.find(page) {
-            Some(block) => {
-                if self.table.standing(block) == Standing::Batch(caller) {
-                    Some(block)
-                } else {
-                    None
-                }
-            }
-            None => None,
+        let block = self.find(page)?;
+        if self.is_in_batch(block, caller) {
+            Some(block)
+        } else {
+            None
         }
     }
 
