@@ -3,6 +3,7 @@ ghost use Rattle.thp_page.specs.Bridge.{OthersLeavePages, RefusalsAgree, FreshPa
 
 /// States that a live page in the state that its node's history gives it refuses each call exactly if the history does, with the
 /// same reason.
+#[tactic(auto, using(crate::proofs::Recording::refusals_agree))]
 pub fn refusals_agree()
     ensures { RefusalsAgree }
 {}
@@ -23,11 +24,13 @@ pub fn gain_is_recorded()
 {}
 
 /// States the same of a loss, with its outcome and the frames that it gives back.
+#[tactic(auto, using(crate::proofs::Recording::loss_is_recorded))]
 pub fn loss_is_recorded()
     ensures { LossIsRecorded }
 {}
 
 /// States that a page in the state that its node's history gives it is worth a split exactly if the history makes it so.
+#[tactic(auto, using(crate::proofs::Recording::candidates_agree))]
 pub fn candidates_agree()
     ensures { CandidatesAgree }
 {}

@@ -36,6 +36,7 @@ impl Model for MapCounts {
 
 impl MapCounts {
     /// Returns counts of 0: no subpage is mapped.
+    #[tactic(auto, using(crate::proofs::Seen::none_counted))]
     pub fn none() -> MapCounts
         ensures { result ≡ replicate max_subpages 0 }
     {
@@ -64,6 +65,7 @@ impl MapCounts {
     }
 
     /// Returns the count of subpage `i`. Reads one bit of each plane.
+    #[tactic(auto, using(crate::proofs::Seen::seen_at))]
     pub fn count(&self, i: usize) -> u32
         requires { i < max_subpages }
         ensures { result ≡ slice_index self.now i }

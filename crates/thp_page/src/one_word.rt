@@ -29,6 +29,7 @@ impl OneWord {
 
     // The subpages of such a range.
     #[inline(always)]
+    #[tactic(auto, using(crate::proofs::WordBits::word_range))]
     pub(crate) fn range(first: usize, count: usize) -> OneWord
         requires inside { first + count ≤ max_subpages }
         requires some { 0 < count }
@@ -46,6 +47,7 @@ impl Subpages for OneWord {
     ghost chosen = { λ w. in_word w.at w.bits };
 
     #[inline(always)]
+    #[tactic(auto, using(crate::proofs::WordBits::word_within))]
     fn within(&self, set: &SubSet) -> OneWord {
         OneWord {
             at: self.at,
@@ -54,6 +56,7 @@ impl Subpages for OneWord {
     }
 
     #[inline(always)]
+    #[tactic(auto, using(crate::proofs::WordBits::word_outside))]
     fn outside(&self, set: &SubSet) -> OneWord {
         OneWord {
             at: self.at,
@@ -67,11 +70,13 @@ impl Subpages for OneWord {
     }
 
     #[inline(always)]
+    #[tactic(auto, using(crate::proofs::WordBits::word_none))]
     fn is_empty(&self) -> bool {
         self.bits == 0
     }
 
     #[inline(always)]
+    #[tactic(auto, using(crate::proofs::WordBits::word_set))]
     fn to_set(&self) -> SubSet {
         let mut set = SubSet::empty();
         set.set_word(self.at, self.bits);

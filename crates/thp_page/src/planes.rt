@@ -20,6 +20,7 @@ pub(crate) struct Planes {
 
 impl Planes {
     // All counts are 0.
+    #[tactic(auto, using(crate::proofs::Carries::no_planes))]
     pub(crate) fn none() -> Planes
         ensures used { result.used ≡ 0 }
         ensures counts { (i : ℕ) → tally result i ≡ 0 }
@@ -57,6 +58,7 @@ impl Planes {
 
     // Adds a plane to those in use. Its former content was unspecified.
     #[inline(never)]
+    #[tactic(auto, using(crate::proofs::Carries::opened))]
     fn open(&mut self, set: SubSet)
         requires { self.old.used < 16 }
         ensures used { self.new.used ≡ self.old.used + 1 }
