@@ -37,6 +37,7 @@ impl BlockHolders {
     }
 
     // The least block without a holder, or 0.
+    #[tactic(auto, using(crate::proofs::Least::least_some, crate::proofs::Least::least_none))]
     pub(crate) fn least(&self) -> u32
         ensures least { result ≡ least_of self.now }
         ensures inside { 0 < length self.now → result < length self.now }

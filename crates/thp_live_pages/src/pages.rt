@@ -36,6 +36,7 @@ impl Pages {
     }
 
     // What is known of a page.
+    #[tactic(auto, using(crate::proofs::Lookups::known_dense, crate::proofs::Lookups::known_named, crate::proofs::Lookups::known_unnamed))]
     pub(crate) fn known(&self, page: PageId) -> PageRecord
         ensures { result ≡ known_of self.now page }
     {
@@ -49,6 +50,7 @@ impl Pages {
     }
 
     // Sets what is known of the page. Fails if memory can't be allocated, and then changes nothing.
+    #[tactic(auto, using(crate::proofs::Lookups::known_set, crate::proofs::Lookups::known_push, crate::proofs::Lookups::known_stays))]
     pub(crate) fn set(&mut self, page: PageId, known: PageRecord) -> Result<(), AllocError>
         ensures done { OnOk result ((p : ℕ) → known_of self.new p ≡ cond (nat_eq p page) known (known_of self.old p)) }
         ensures failed { OnErr result ((p : ℕ) → known_of self.new p ≡ known_of self.old p) }
