@@ -3,8 +3,7 @@ ghost use Rattle.std.specs.Prelude.{◌≡◌, ◌<◌, ◌≤◌, ℕ, length, 
 ghost use Rattle.thp_model.specs.Prelude.{IsLegal};
 ghost use Rattle.thp_node.specs.Prelude.{no_batch};
 ghost use Rattle.thp_cell.specs.Prelude.{IsJoined, PartsStay, HasAll, HasCaller};
-ghost use Rattle.thp_script.specs.declared.script.Op.{Op};
-ghost use Rattle.thp_worker.specs.Does.{answer_of, node_call_of, IsStep};
+ghost use Rattle.thp_worker.specs.Does.{answer_of, IsStep};
 ghost use Rattle.thp_worker.specs.Holdings.{batch_of, lower_part, loss_reply, page_reply, unit_reply, upper_part, HeldDone, IsShut, IsSomeBatch, OpenStay, keeping_node};
 
 use crate::reply::Reply;
@@ -14,7 +13,6 @@ use std::marker::Model;
 use thp_cell::{CellFault, NodeCell, Pass};
 use thp_model::{PageCall, PageId, Refusal};
 use thp_node::{Batch, Done, FullLog, Recorder};
-use thp_script::Op;
 
 /// A pass of one node, and for each of its callers at most one open batch.
 #[derive(Drop)]
@@ -93,7 +91,19 @@ impl<'a, R: Recorder> NodePass<'a, R> {
         ensures { HeldDone caller step self.old self.new (answer_of result reply.new) }
     {
         match step {
-            Step::One(op) => self.call(caller, op, reply),
+            Step::One(op) => match node_call(op) {
+                NodeCall::Alloc => page(self.cell.alloc_page(&mut self.pass, caller), reply),
+                NodeCall::Page(page, PageCall::Gain(gain)) => {
+                    let page = PageId(page);
+                    unit(self.cell.gain(&mut self.pass, caller, page, gain), reply)
+                }
+                NodeCall::Page(page, PageCall::Loss(kind)) => {
+                    let page = PageId(page);
+                    loss(self.cell.lose(&mut self.pass, caller, page, kind), reply)
+                }
+                NodeCall::Close => unit(self.cell.close(&mut self.pass, caller), reply),
+                NodeCall::Count => count(self.cell.count(&mut self.pass), reply),
+            },
             Step::Take(count) => apart(self.take(caller, count, reply)),
             Step::SplitNext => apart(self.split_next(caller, reply)),
             Step::PutBack => apart(self.put_back(caller, reply)),
@@ -160,35 +170,6 @@ impl<'a, R: Recorder> NodePass<'a, R> {
             pass,
             batches,
         })
-    }
-
-    fn call(&mut self, caller: u32, op: Op, reply: &mut Reply) -> Result<(), CellFault>
-        requires caller { HasCaller self.old.pass caller }
-        ensures { HeldDone caller (Step.One op) self.old self.new (answer_of result reply.new) }
-    {
-        match node_call(op) {
-            NodeCall::Alloc => page(self.cell.alloc_page(&mut self.pass, caller), reply),
-            NodeCall::Page { page, call } => self.page_call(caller, page, call, reply),
-            NodeCall::Close => unit(self.cell.close(&mut self.pass, caller), reply),
-            NodeCall::Count => count(self.cell.count(&mut self.pass), reply),
-        }
-    }
-
-    fn page_call(
-        &mut self,
-        caller: u32,
-        page: u64,
-        call: PageCall,
-        reply: &mut Reply,
-    ) -> Result<(), CellFault>
-        requires caller { HasCaller self.old.pass caller }
-        ensures { (op : Op) → node_call_of op ≡ NodeCall.Page page call → HeldDone caller (Step.One op) self.old self.new (answer_of result reply.new) }
-    {
-        let page = PageId(page);
-        match call {
-            PageCall::Gain(gain) => unit(self.cell.gain(&mut self.pass, caller, page, gain), reply),
-            PageCall::Loss(kind) => loss(self.cell.lose(&mut self.pass, caller, page, kind), reply),
-        }
     }
 
     #[inline(never)]
