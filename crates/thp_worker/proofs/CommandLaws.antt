@@ -3,7 +3,7 @@ use Rattle.std.proofs.Common.{◌≡◌, ◌++◌, ℕ, [], ◌∷◌, refl, sym
 use Rattle.std.proofs.lemmas.List.{append-nil, map-append}
 use Rattle.std.proofs.lemmas.List.Elements.{All-nil, All-push}
 use Rattle.thp_script.specs.declared.script.Command.{Command}
-use Rattle.thp_worker.specs.Prelude.{CommandProgress, Reply, Step, Reaction, IsFit, answer_of, Fronts, HoldsCaller, Goes, SameHolding, Answered, StepDone, CommandState, On, Ended, Comes, by_cell, IsReady, IsShared, is_scan, next_step, goes_on, scan_goes_on, Made, Proceeds, told_by}
+use Rattle.thp_worker.specs.Prelude.{CommandProgress, Reply, Reaction, IsFit, answer_of, Fronts, HoldsCaller, Goes, Answered, StepDone, CommandState, On, Ended, Comes, by_cell, IsReady, is_scan, next_step, goes_on, scan_goes_on, Made, IsCommandFor, Proceeds, told_by}
 use Rattle.thp_cell.specs.declared.fault.CellFault.{CellFault}
 use Rattle.thp_cell.specs.declared.fault.CellFault.TheVariants.{Busy, Refused}
 use Rattle.thp_model.specs.declared.refusal.Refusal.{Refusal}
@@ -11,7 +11,7 @@ use Rattle.thp_model.specs.declared.refusal.Refusal.TheVariants as why
 use Rattle.thp_script.specs.declared.script.Op.{Op}
 use Rattle.thp_script.specs.declared.script.Op.TheVariants as op
 use Rattle.thp_worker.proofs.TurnLaws.{turned, fares}
-use Rattle.thp_worker.proofs.StepLaws.{made_by, steps_none, steps_one, steps_then, moves_goes, goes_grows}
+use Rattle.thp_worker.proofs.StepLaws.{goes_refl, made_by, steps_none, steps_one, steps_then, moves_goes, goes_grows}
 
 -- no step yet
 pub proceeds_none : (c : ℕ) (command : Command) (begun : CommandProgress) (f : Fronts) → IsReady (f.batches c command.node) begun → Proceeds c command begun f f (On begun)
@@ -77,33 +77,16 @@ module _ (c : ℕ) (command : Command) (first begun : CommandProgress) (old mid 
     by_reason why.NoBlock a = ended why.NoBlock a
     by_reason why.HasBatch a = ended why.HasBatch a
 
-  -- the one step of a command
-  pub one_comes : (result : Result Reply CellFault) → is_scan command.op ≡ false → StepDone c command.node (next_step command.op begun) mid new result → Comes begun result (Proceeds c command first old new)
-  one_comes (Ok reply) one a = subst (Proceeds c command first old new) (one_ends command.op begun (Ok reply) one) (proceeds_more c command first begun old mid new (Ok reply) has fit g p a)
-  one_comes (Err fault) one done = fault_comes fault done
+-- the one step of a command that isn't a scan
+pub one_done : {c nodes : ℕ} {command : Command} {begun : CommandProgress} {old : Fronts} (new : Fronts) (result : Result Reply CellFault) → HoldsCaller old c → IsCommandFor nodes command → IsReady (old.batches c command.node) begun → is_scan command.op ≡ false → StepDone c command.node (next_step command.op begun) old new result → Comes begun result (Proceeds c command begun old new)
+one_done {c} {nodes} {command} {begun} {old} new (Ok reply) has for ready one a =
+    subst (Proceeds c command begun old new) (one_ends command.op begun (Ok reply) one) (proceeds_more c command begun begun old old new (Ok reply) has for.fits (goes_refl c old) (proceeds_none c command begun old ready) a)
+one_done {c} {nodes} {command} {begun} {old} new (Err fault) has for ready one done = fault_comes c command begun begun old old new has for.fits (goes_refl c old) (proceeds_none c command begun old ready) fault done
 
 -- a fault that was handed on
 pub handed_on : (r : Result (Unit {0}) CellFault) (fault : CellFault) → IsErrAnd r (λ f. f ≡ fault) → r ≡ Err fault
 handed_on (Ok x) fault is = absurd is
 handed_on (Err f) fault is = ap (λ x. Err x) is
-
--- a command is postponed where the holder hasn't all callers
-pub shared_comes : (c n : ℕ) (begun : CommandProgress) (step : Step) (old mid new : Fronts) (result : Result Reply CellFault) → SameHolding old mid → StepDone c n step mid new result → Comes begun result (IsShared old)
-shared_comes c n begun step old mid new (Ok reply) same done = tt
-shared_comes c n begun step old mid new (Err Busy) same busy = λ all. busy.shared (record { low = same.first ∙ all.low; high = same.end ∙ all.high ∙ sym same.callers })
-shared_comes c n begun step old mid new (Err (Refused r)) same done = by_reason r where
-  by_reason : (r : Refusal) → Comes begun (Err (Refused r)) (IsShared old)
-  by_reason why.OutOfMemory = tt
-  by_reason why.NoPage = tt
-  by_reason why.BadRange = tt
-  by_reason why.IsSplit = tt
-  by_reason why.NotMapped = tt
-  by_reason why.Gone = tt
-  by_reason why.NotPinned = tt
-  by_reason why.TooMany = tt
-  by_reason why.Closed = tt
-  by_reason why.NoBlock = tt
-  by_reason why.HasBatch = tt
 
 -- a refusal that isn't want of memory is the command's answer
 pub refused_comes : (begun : CommandProgress) (P : CommandState → Type 0) (r : Refusal) → (r ≡ why.OutOfMemory → ⊥) → Comes begun (Err (Refused r)) P → P (Ended (Err r))
