@@ -8,9 +8,7 @@ use Rattle.thp_worker.proofs.working.close.Goals.{then-is_marked+in_ok-told+in-S
 use Rattle.thp_worker.proofs.working.close.Goals as goal
 
 pub returns-in_err-told-clause-goes : goal.returns-in_err-told-clause-goes
-returns-in_err-told-clause-goes g c =
-    let fronts = g.S.Steps.fronts in
-    goes_trans c.args.worker (fronts c.args.steps.now) (fronts c.loop-node.steps) (fronts c.put_back-called.new.steps) c.loop-node.invariant.goes c.put_back-called.ensures.goes
+returns-in_err-told-clause-goes g c = goes_trans _ _ _ _ c.loop-node.invariant.goes c.put_back-called.ensures.goes
 
 pub overflow_add-closed : goal.overflow_add-closed
 overflow_add-closed g c =
@@ -25,9 +23,7 @@ overflow_add-closed g c =
     omega (arith, room, nodes, c.nodes-nodes.ensures, c.nodes-nodes.type_inv)
 
 pub returns-in_default-clause-goes : goal.returns-in_default-clause-goes
-returns-in_default-clause-goes g c =
-    let fronts = g.S.Steps.fronts in
-    goes_trans c.args.worker (fronts c.args.steps.now) (fronts c.loop-node.steps) (fronts c.put_back-called.new.steps) c.loop-node.invariant.goes c.put_back-called.ensures.goes
+returns-in_default-clause-goes g c = goes_trans _ _ _ _ c.loop-node.invariant.goes c.put_back-called.ensures.goes
 
 pub returns-in_default-clause-works : goal.returns-in_default-clause-works
 returns-in_default-clause-works g c =
