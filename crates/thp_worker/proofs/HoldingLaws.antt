@@ -367,11 +367,8 @@ pub place_at : {cell : TableId} {p : PassState} {bs : List (Option BatchState)} 
 place_at held is its first = let has = rw is at its in (omega (arith, has.from, first), omega (arith, has.from, has.below, held.callers, first), has)
 
 -- a batch at caller c's place is c's, and in front of its flight
-pub mine : (cell : TableId) (p : PassState) (bs : List (Option BatchState)) (c place : ℕ) (b : BatchState) → IsHeld cell p bs → place + p.first ≡ c → slice_get bs place ≡ Some (Some b) → (b.caller ≡ c) × IsInFront p.front b
-mine cell p bs c place b held at is = let e = held.each place b is in (omega (arith, e.0, at), e.1)
-
-pub has_mine : (p : PassState) (c : ℕ) (b : BatchState) → b.caller ≡ c → HasCaller p c → HasCaller p b.caller
-has_mine p c b same has = rw same has
+pub mine : {cell : TableId} {p : PassState} {bs : List (Option BatchState)} {c : ℕ} {b : BatchState} (place : ℕ) → IsHeld cell p bs → place + p.first ≡ c → HasCaller p c → slice_get bs place ≡ Some (Some b) → (b.caller ≡ c) × IsInFront p.front b × HasCaller p b.caller
+mine {cell} {p} {bs} {c} {b} place held at has is = let e = held.each place b is in let own : b.caller ≡ c = omega (arith, e.0, at) in (own, e.1, rw own has)
 
 -- there is no batch, and nothing happens
 pub none_held : (p : PassState) (bs new : List (Option BatchState)) (c place : ℕ) (step : Step) (answer : Reaction) → place + p.first ≡ c → place < length bs → slice_get bs place ≡ Some None → new ≡ set bs place None

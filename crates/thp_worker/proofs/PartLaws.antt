@@ -106,16 +106,3 @@ upper_open h at c after le =
     let low : nat_le h.pass.first c ≡ true = grind (arith, nat_tests, before) in
     let place : at - h.pass.first + (c - at) ≡ c - h.pass.first = omega (arith, after, le) in
     rw (own, low, slice_get-drop h.batches (at - h.pass.first) (c - at), place) refl
-
--- a pass none of whose callers has a batch open
-none_open : (bs : List (Option BatchState)) → All (λ (b : Option BatchState). b ≡ None) bs → (k : ℕ) → open_in (slice_get bs k) ≡ None
-none_open [] all k = refl
-none_open (b ∷ bs) all zero = rw (All-head (λ (x : Option BatchState). x ≡ None) b bs all) refl
-none_open (b ∷ bs) all (suc k) = none_open bs (All-tail (λ (x : Option BatchState). x ≡ None) b bs all) k
-
-pub none_held : (p : PassState) (bs : List (Option BatchState)) → All (λ (b : Option BatchState). b ≡ None) bs → (c : ℕ) → batch_of (record { pass = p; batches = bs }) c ≡ None
-none_held p bs all c = by_test (nat_le p.first c) refl
-  where
-    by_test : (t : Bool) → nat_le p.first c ≡ t → batch_of (record { pass = p; batches = bs }) c ≡ None
-    by_test true e = rw e (none_open bs all (c - p.first))
-    by_test false e = rw e refl

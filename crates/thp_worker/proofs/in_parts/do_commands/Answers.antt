@@ -8,17 +8,15 @@ use Rattle.thp_worker.proofs.SectionLaws.{begins_longer, begins_told, get_after}
 use Rattle.thp_worker.proofs.in_parts.do_commands.Goals as goal
 
 pub loop-index-init : goal.loop-index-init
-loop-index-init g c =
-    let fronts = g.S.Steps.fronts in
-    record {
-      goes = goes_refl c.args.worker (fronts c.args.steps.now);
-      begins = λ old before d. rw c.reserve.ensures.items (begins_longer c.args.worker old (fronts c.args.steps.now) before c.args.commands.now c.args.section.answers.items c.args.section.opened.items d.each d.begins);
-      nodes = c.requires.opened;
-      count = omega (arith, ap length c.reserve.ensures.items);
-      first = search rules;
-      are = c.reserve.ensures.are;
-      room = search rules;
-    }
+loop-index-init g c = record {
+  goes = goes_refl _ _;
+  begins = λ old before d. rw c.reserve.ensures.items (begins_longer _ _ _ _ _ _ _ d.each d.begins);
+  nodes = c.requires.opened;
+  count = omega (arith, ap length c.reserve.ensures.items);
+  first = search rules;
+  are = c.reserve.ensures.are;
+  room = search rules;
+}
 
 pub returns-in_err-said-clause-goes : goal.returns-in_err-said-clause-goes
 returns-in_err-said-clause-goes g c = goes_trans _ _ _ _ c.loop-index.invariant.goes c.do_whole_command-called.ensures.goes

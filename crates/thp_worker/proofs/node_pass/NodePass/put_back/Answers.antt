@@ -1,6 +1,6 @@
 use Rattle.std.proofs.Common.{None, sym, subst, Err}
 use Rattle.thp_worker.specs.Prelude.{PutBack, HeldDone}
-use Rattle.thp_worker.proofs.HoldingLaws.{place_at, mine, has_mine, set_same, no_back_held, held_gone, held_stays, back_held, back_failed}
+use Rattle.thp_worker.proofs.HoldingLaws.{place_at, mine, set_same, no_back_held, held_gone, held_stays, back_held, back_failed}
 use Rattle.thp_worker.proofs.node_pass.NodePass.put_back.Goals as goal
 
 pub returns-in_default : goal.returns-in_default
@@ -11,12 +11,12 @@ returns-in_default g c =
 pub put_back_all-requires-clause-caller : goal.put_back_all-requires-clause-caller
 put_back_all-requires-clause-caller g c =
     let at = place_at c.self.invariant (sym c.self.view_is) c.requires.caller c.callers-first.ensures.first in
-    has_mine _ _ c.in-Some.batch.now (mine _ _ _ _ _ _ c.self.invariant at.0 c.in-Some.ensures).0 at.2
+    (mine _ c.self.invariant at.0 at.2 c.in-Some.ensures).2
 
 pub put_back_all-requires-clause-front : goal.put_back_all-requires-clause-front
 put_back_all-requires-clause-front g c =
     let at = place_at c.self.invariant (sym c.self.view_is) c.requires.caller c.callers-first.ensures.first in
-    (mine _ _ _ _ _ _ c.self.invariant at.0 c.in-Some.ensures).1
+    (mine _ c.self.invariant at.0 at.2 c.in-Some.ensures).1
 
 pub invariant_of-self : goal.invariant_of-self
 invariant_of-self g c =
@@ -26,7 +26,7 @@ invariant_of-self g c =
 pub returns-in-Ok : goal.returns-in-Ok
 returns-in-Ok g c =
     let at = place_at c.self.invariant (sym c.self.view_is) c.requires.caller c.callers-first.ensures.first in
-    let own = mine _ _ _ _ _ _ c.self.invariant at.0 c.in-Some.ensures in
+    let own = mine _ c.self.invariant at.0 at.2 c.in-Some.ensures in
     rw (← c.self.view_is) (back_held _ _ _ _ _ _ c.put_back_all.ensures.same at.0 at.1 _ _ own.0 c.in-Some.ensures c.shut_at.ensures c.in-Ok.ensures.recorded)
 
 pub invariant_of-self-in-Err : goal.invariant_of-self-in-Err
@@ -35,6 +35,6 @@ invariant_of-self-in-Err g c = held_stays _ _ _ _ c.self.invariant c.put_back_al
 pub returns-in-Err : goal.returns-in-Err
 returns-in-Err g c =
     let at = place_at c.self.invariant (sym c.self.view_is) c.requires.caller c.callers-first.ensures.first in
-    let own = mine _ _ _ _ _ _ c.self.invariant at.0 c.in-Some.ensures in
+    let own = mine _ c.self.invariant at.0 at.2 c.in-Some.ensures in
     subst (λ x. HeldDone c.args.caller PutBack x (record { pass = c.put_back_all.new.pass; batches = c.self.inside.batches.items }) (Err c.in-Err.fault)) c.self.view_is
     (back_failed _ _ _ c.self.inside.batches.items _ _ c.put_back_all.ensures.same at.0 at.1 _ _ own.0 c.in-Some.ensures c.in-Err.ensures.failed)

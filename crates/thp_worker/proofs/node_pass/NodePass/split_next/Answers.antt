@@ -1,7 +1,7 @@
 use Rattle.std.proofs.Common.{◌∙◌, ◌-◌, ℕ, Some, None, set, sym, ap, refl, subst, set-set}
 use Rattle.std.proofs.lemmas.Option.{slice_get_read}
 use Rattle.thp_worker.specs.Prelude.{SplitNext, answer_of, HeldDone}
-use Rattle.thp_worker.proofs.HoldingLaws.{place_at, mine, has_mine, no_split_held, held_again, split_held, split_failed}
+use Rattle.thp_worker.proofs.HoldingLaws.{place_at, mine, no_split_held, held_again, split_held, split_failed}
 use Rattle.thp_worker.proofs.node_pass.NodePass.split_next.Goals.{in-Ok, in-Err}
 use Rattle.thp_worker.proofs.node_pass.NodePass.split_next.Goals as goal
 
@@ -19,7 +19,7 @@ split_next-requires-clause-caller g c =
     let place : ℕ = c.args.caller - c.callers-first.result.0 in
     let at = place_at c.self.invariant (sym c.self.view_is) c.requires.caller c.callers-first.ensures.first in
     let is = slice_get_read bs _ place _ refl at.1 c.index_mut.ensures.value ∙ ap (λ b. Some b) c.in-Some.is in
-    has_mine _ _ c.in-Some.batch (mine _ _ bs _ place c.in-Some.batch c.self.invariant at.0 is).0 at.2
+    (mine place c.self.invariant at.0 at.2 is).2
 
 pub invariant_of-self-2 : goal.invariant_of-self-2
 invariant_of-self-2 g c =
@@ -27,7 +27,7 @@ invariant_of-self-2 g c =
     let place : ℕ = c.args.caller - c.callers-first.result.0 in
     let at = place_at c.self.invariant (sym c.self.view_is) c.requires.caller c.callers-first.ensures.first in
     let is = slice_get_read bs _ place _ refl at.1 c.index_mut.ensures.value ∙ ap (λ b. Some b) c.in-Some.is in
-    let own = mine _ _ bs _ place c.in-Some.batch c.self.invariant at.0 is in
+    let own = mine place c.self.invariant at.0 at.2 is in
     let e = c.split_next.ensures in
     held_again _ _ _ bs _ _ place c.split_next.new.batch c.self.invariant e.same e.batches at.0 at.1 (sym (set-set bs place None (Some c.split_next.new.batch))) (e.same_caller ∙ own.0) (e.front own.1)
 
@@ -37,7 +37,7 @@ returns g c =
     let place : ℕ = c.args.caller - c.callers-first.result.0 in
     let at = place_at c.self.invariant (sym c.self.view_is) c.requires.caller c.callers-first.ensures.first in
     let is = slice_get_read bs _ place _ refl at.1 c.index_mut.ensures.value ∙ ap (λ b. Some b) c.in-Some.is in
-    let own = mine _ _ bs _ place c.in-Some.batch c.self.invariant at.0 is in
+    let own = mine place c.self.invariant at.0 at.2 is in
     let e = c.split_next.ensures in
     let new = set bs place (Some c.split_next.new.batch) in
     let now = sym (set-set bs place None (Some c.split_next.new.batch)) in
