@@ -1,12 +1,11 @@
 -- Passes with their open batches, divided and joined.
-use Rattle.std.proofs.Common.{◌≡◌, ◌∙◌, ◌⊎◌, ◌++◌, ◌+◌, ◌-◌, ◌<◌, ◌≤◌, ap, ℕ, zero, suc, List, [], ◌∷◌, length, take, drop, refl, sym, inl, inr, arith, length-append, length-drop, Option, Some, None, Bool, true, false, All, slice_get, nat_le, length-take}
-use Rattle.std.proofs.lemmas.List.Elements.{All-head, All-tail}
+use Rattle.std.proofs.Common.{◌≡◌, ◌∙◌, ◌⊎◌, ◌++◌, ◌+◌, ◌-◌, ◌<◌, ◌≤◌, ap, ℕ, zero, suc, List, [], ◌∷◌, length, take, drop, refl, sym, inl, inr, arith, length-append, length-drop, Option, Some, true, slice_get, nat_le, length-take}
 use Rattle.std.proofs.lemmas.Bool.Decides.{nat_tests}
 use Rattle.std.proofs.lemmas.Option.{slice_get_within}
 use Rattle.atomic_table.specs.Seated.{TableId}
 use Rattle.thp_node.specs.Prelude.{BatchState}
 use Rattle.thp_cell.specs.Prelude.{BatchesStay, below, from, IsJoined, PassState, HasCaller}
-use Rattle.thp_worker.specs.Prelude.{Held, IsHeld, OpenStay, batch_of, open_in, lower_part, upper_part}
+use Rattle.thp_worker.specs.Prelude.{Held, IsHeld, OpenStay, batch_of, lower_part, upper_part}
 
 module _ {A : Type 0} where
   slice_get-take : (xs : List A) (k i : ℕ) (x : A) → slice_get (take k xs) i ≡ Some x → slice_get xs i ≡ Some x

@@ -1,5 +1,5 @@
 -- How a scan goes on from step to step.
-use Rattle.std.proofs.Common.{◌≡◌, ℕ, ◌+◌, ◌<◌, ◌≤◌, Bool, true, false, cond, List, [], ◌∷◌, ◌++◌, length, map, take, ◌==◌, refl, sym, ap, inl, inr, arith, Option, Some, None, Ok, Err, length-append, All, filter, nat_eq, eq-eqb, ne_eqb, length-drop, length-take, eqb-true}
+use Rattle.std.proofs.Common.{◌≡◌, ℕ, ◌+◌, ◌<◌, ◌≤◌, Bool, true, false, cond, List, [], ◌∷◌, ◌++◌, length, map, take, ◌==◌, refl, inl, inr, arith, Option, Some, None, Ok, Err, length-append, All, filter, nat_eq, eq-eqb, ne_eqb, length-drop, length-take, eqb-true}
 use Rattle.std.proofs.lemmas.List.{append-nil, map-append, length-map}
 use Rattle.std.proofs.lemmas.List.Elements.{All-nil, All-head, All-tail, All-push, filter-append}
 use Rattle.std.specs.List.{find, after_first, position_or_len}
@@ -14,7 +14,7 @@ use Rattle.thp_node.specs.declared.answers.Tried.TheVariants as try
 use Rattle.thp_node.specs.declared.answers.ScanReply.{ScanReply}
 use Rattle.thp_script.specs.declared.script.Op.{Op}
 use Rattle.thp_script.specs.declared.script.Op.TheVariants as op
-use Rattle.thp_worker.specs.Prelude.{Step, Take, SplitNext, PutBack, CommandProgress, Open, Reaction, Does, Unless, IsFit, CommandState, On, Ended, StepAnswer, Turned, IsProgressAfter, StepReacts, Reacts, first_step, next_step, scan_step, goes_on, scan_goes_on, no_progress, counted, took, answered_try, if_done, IsPage, is_split, is_pinned, is_used, tries_of, IsReady, StaysReady}
+use Rattle.thp_worker.specs.Prelude.{Step, Take, SplitNext, PutBack, CommandProgress, Open, Reaction, Does, Unless, IsFit, StepAnswer, Turned, IsProgressAfter, StepReacts, Reacts, first_step, next_step, scan_step, goes_on, scan_goes_on, no_progress, counted, took, answered_try, if_done, IsPage, is_split, is_pinned, is_used, tries_of, IsReady, StaysReady}
 use Rattle.thp_worker.specs.declared.reply.Reply.TheVariants as reply
 
 -- the first step of a scan

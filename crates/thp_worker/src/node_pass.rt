@@ -3,16 +3,18 @@ ghost use Rattle.std.specs.Prelude.{◌≡◌, ◌<◌, ◌≤◌, ℕ, length, 
 ghost use Rattle.thp_model.specs.Prelude.{IsLegal};
 ghost use Rattle.thp_node.specs.Prelude.{no_batch};
 ghost use Rattle.thp_cell.specs.Prelude.{IsJoined, PartsStay, HasAll, HasCaller};
-ghost use Rattle.thp_worker.specs.Does.{answer_of, IsStep};
-ghost use Rattle.thp_worker.specs.Holdings.{batch_of, lower_part, loss_reply, page_reply, unit_reply, upper_part, HeldDone, IsShut, IsSomeBatch, OpenStay, keeping_node};
+ghost use Rattle.thp_script.specs.declared.script.Op.{Op};
+ghost use Rattle.thp_worker.specs.Does.{answer_of, node_call_of, IsStep};
+ghost use Rattle.thp_worker.specs.Holdings.{batch_of, lower_part, page_reply, unit_reply, upper_part, HeldDone, IsShut, IsSomeBatch, OpenStay, keeping_node};
 
 use crate::reply::Reply;
 use crate::steps::{NodeCall, Step, node_call};
 use std::alloc::{AllocError, Global};
 use std::marker::Model;
 use thp_cell::{CellFault, NodeCell, Pass};
-use thp_model::{PageCall, PageId, Refusal};
+use thp_model::{Loss, PageCall, PageId, Refusal};
 use thp_node::{Batch, Done, FullLog, Recorder};
+use thp_script::Op;
 
 /// A pass of one node, and for each of its callers at most one open batch.
 #[derive(Drop)]
@@ -91,19 +93,7 @@ impl<'a, R: Recorder> NodePass<'a, R> {
         ensures { HeldDone caller step self.old self.new (answer_of result reply.new) }
     {
         match step {
-            Step::One(op) => match node_call(op) {
-                NodeCall::Alloc => page(self.cell.alloc_page(&mut self.pass, caller), reply),
-                NodeCall::Page(page, PageCall::Gain(gain)) => {
-                    let page = PageId(page);
-                    unit(self.cell.gain(&mut self.pass, caller, page, gain), reply)
-                }
-                NodeCall::Page(page, PageCall::Loss(kind)) => {
-                    let page = PageId(page);
-                    loss(self.cell.lose(&mut self.pass, caller, page, kind), reply)
-                }
-                NodeCall::Close => unit(self.cell.close(&mut self.pass, caller), reply),
-                NodeCall::Count => count(self.cell.count(&mut self.pass), reply),
-            },
+            Step::One(op) => self.call(caller, op, reply),
             Step::Take(count) => apart(self.take(caller, count, reply)),
             Step::SplitNext => apart(self.split_next(caller, reply)),
             Step::PutBack => apart(self.put_back(caller, reply)),
@@ -170,6 +160,42 @@ impl<'a, R: Recorder> NodePass<'a, R> {
             pass,
             batches,
         })
+    }
+
+    fn call(&mut self, caller: u32, op: Op, reply: &mut Reply) -> Result<(), CellFault>
+        requires caller { HasCaller self.old.pass caller }
+        ensures { HeldDone caller (Step.One op) self.old self.new (answer_of result reply.new) }
+    {
+        match node_call(op) {
+            NodeCall::Alloc => page(self.cell.alloc_page(&mut self.pass, caller), reply),
+            NodeCall::Page(page, PageCall::Gain(gain)) => {
+                let page = PageId(page);
+                unit(self.cell.gain(&mut self.pass, caller, page, gain), reply)
+            }
+            NodeCall::Page(page, PageCall::Loss(kind)) => self.lose(caller, page, kind, reply),
+            NodeCall::Close => unit(self.cell.close(&mut self.pass, caller), reply),
+            NodeCall::Count => count(self.cell.count(&mut self.pass), reply),
+        }
+    }
+
+    // A separate function, so that other calls clear no memory for what a loss gives.
+    fn lose(
+        &mut self,
+        caller: u32,
+        page: u64,
+        kind: Loss,
+        reply: &mut Reply,
+    ) -> Result<(), CellFault>
+        requires caller { HasCaller self.old.pass caller }
+        ensures { (op : Op) → node_call_of op ≡ NodeCall.Page page (PageCall.Loss kind) → HeldDone caller (Step.One op) self.old self.new (answer_of result reply.new) }
+    {
+        // Field by field: a copy of the whole would include the padding, by loads that wait for its stores.
+        let done = self.cell.lose(&mut self.pass, caller, PageId(page), kind)?;
+        *reply = Reply::Done(Done {
+            outcome: done.outcome,
+            released: done.released,
+        });
+        Ok(())
     }
 
     #[inline(never)]
@@ -309,17 +335,5 @@ fn unit(called: Result<(), CellFault>, reply: &mut Reply) -> Result<(), CellFaul
 {
     called?;
     *reply = Reply::Unit;
-    Ok(())
-}
-
-fn loss(called: Result<Done, CellFault>, reply: &mut Reply) -> Result<(), CellFault>
-    ensures { answer_of result reply.new ≡ loss_reply called }
-{
-    // Field by field: a copy of the whole would include the padding, by loads that wait for its stores.
-    let done = called?;
-    *reply = Reply::Done(Done {
-        outcome: done.outcome,
-        released: done.released,
-    });
     Ok(())
 }

@@ -1,6 +1,6 @@
-use Rattle.std.proofs.Common.{◌≡◌, ℕ, ◌+◌, ◌/◌, ◌++◌, length, refl, sym, subst, take-append-drop}
+use Rattle.std.proofs.Common.{◌≡◌, ◌+◌, ◌/◌, ◌++◌, length, refl, take-append-drop}
 use Rattle.std.proofs.lemmas.List.Elements.{All-append}
-use Rattle.thp_worker.specs.Prelude.{CanRun, AnswersAre}
+use Rattle.thp_worker.specs.Prelude.{AnswersAre}
 use Rattle.thp_worker.proofs.HalvesLaws.{ran_both}
 use Rattle.thp_worker.proofs.halves.+fn-run_range-join+arg2+fn-run_range-join+arg3+run_range.Goals as goal
 

@@ -1,4 +1,4 @@
-use Rattle.std.proofs.Common.{sym, subst}
+use Rattle.std.proofs.Common.{subst}
 use Rattle.thp_worker.specs.Prelude.{Held, OpenStay}
 use Rattle.thp_worker.proofs.PartLaws.{held_joined, joined_left_open, joined_right_open}
 use Rattle.thp_worker.proofs.node_pass.NodePass.join.Goals as goal

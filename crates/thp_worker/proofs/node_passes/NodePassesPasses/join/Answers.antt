@@ -1,4 +1,4 @@
-use Rattle.std.proofs.Common.{sym, subst}
+use Rattle.std.proofs.Common.{subst}
 use Rattle.thp_worker.specs.Prelude.{IsJoined, Passes, fronts_in, fronts_of}
 use Rattle.thp_worker.proofs.EachLaws.{each_adjoins, agree_joint, join_fronts}
 use Rattle.thp_worker.proofs.node_passes.NodePassesPasses.join.Goals as goal

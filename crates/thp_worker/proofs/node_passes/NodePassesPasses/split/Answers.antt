@@ -1,4 +1,4 @@
-use Rattle.std.proofs.Common.{sym, subst}
+use Rattle.std.proofs.Common.{subst}
 use Rattle.thp_worker.specs.Prelude.{IsSplit, Passes, fronts_in, fronts_of}
 use Rattle.thp_worker.proofs.EachLaws.{cut_each, agree_low, agree_high, split_fronts}
 use Rattle.thp_worker.proofs.node_passes.NodePassesPasses.split.Goals as goal
