@@ -3,7 +3,7 @@ use Rattle.std.proofs.Common.{◌≡◌, ◌++◌, ℕ, [], ◌∷◌, refl, sym
 use Rattle.std.proofs.lemmas.List.{append-nil, map-append}
 use Rattle.std.proofs.lemmas.List.Elements.{All-nil, All-push}
 use Rattle.thp_script.specs.declared.script.Command.{Command}
-use Rattle.thp_worker.specs.Prelude.{CommandProgress, Reply, Step, Reaction, IsFit, answer_of, Fronts, HoldsCaller, Goes, SameHolding, Answered, StepDone, CommandState, On, Ended, Comes, by_cell, IsReady, IsShared, is_scan, next_step, goes_on, scan_goes_on, Made, Proceeds, told_by}
+use Rattle.thp_worker.specs.Prelude.{CommandProgress, Reply, Step, Reaction, IsFit, answer_of, Fronts, HoldsCaller, Goes, Answered, StepDone, CommandState, On, Ended, Comes, by_cell, IsReady, is_scan, next_step, goes_on, scan_goes_on, Made, IsCommandFor, Proceeds, told_by}
 use Rattle.thp_cell.specs.declared.fault.CellFault.{CellFault}
 use Rattle.thp_cell.specs.declared.fault.CellFault.TheVariants.{Busy, Refused}
 use Rattle.thp_model.specs.declared.refusal.Refusal.{Refusal}
@@ -11,7 +11,7 @@ use Rattle.thp_model.specs.declared.refusal.Refusal.TheVariants as why
 use Rattle.thp_script.specs.declared.script.Op.{Op}
 use Rattle.thp_script.specs.declared.script.Op.TheVariants as op
 use Rattle.thp_worker.proofs.TurnLaws.{turned, fares}
-use Rattle.thp_worker.proofs.StepLaws.{made_by, steps_none, steps_one, steps_then, moves_goes, goes_grows}
+use Rattle.thp_worker.proofs.StepLaws.{goes_refl, has_later, made_by, steps_none, steps_one, steps_then, moves_goes, goes_grows}
 
 -- no step yet
 pub proceeds_none : (c : ℕ) (command : Command) (begun : CommandProgress) (f : Fronts) → IsReady (f.batches c command.node) begun → Proceeds c command begun f f (On begun)
@@ -52,7 +52,7 @@ refusal_ends (op.Scan n) begun r = refl
 refusal_ends _ begun r = refl
 
 -- the steps of a scan go on as a scan does
-pub scan_goes : (o : Op) (begun : CommandProgress) (answer : Reaction) → is_scan o ≡ true → goes_on o begun answer ≡ scan_goes_on begun answer
+scan_goes : (o : Op) (begun : CommandProgress) (answer : Reaction) → is_scan o ≡ true → goes_on o begun answer ≡ scan_goes_on begun answer
 scan_goes (op.Scan n) begun answer is = refl
 scan_goes _ begun answer is = absurd (cc)
 
@@ -77,33 +77,27 @@ module _ (c : ℕ) (command : Command) (first begun : CommandProgress) (old mid 
     by_reason why.NoBlock a = ended why.NoBlock a
     by_reason why.HasBatch a = ended why.HasBatch a
 
-  -- the one step of a command
-  pub one_comes : (result : Result Reply CellFault) → is_scan command.op ≡ false → StepDone c command.node (next_step command.op begun) mid new result → Comes begun result (Proceeds c command first old new)
-  one_comes (Ok reply) one a = subst (Proceeds c command first old new) (one_ends command.op begun (Ok reply) one) (proceeds_more c command first begun old mid new (Ok reply) has fit g p a)
-  one_comes (Err fault) one done = fault_comes fault done
+-- the one step of a command that isn't a scan
+pub one_done : {c nodes : ℕ} {command : Command} {begun : CommandProgress} {old : Fronts} (new : Fronts) (result : Result Reply CellFault) → HoldsCaller old c → IsCommandFor nodes command → IsReady (old.batches c command.node) begun → is_scan command.op ≡ false → StepDone c command.node (next_step command.op begun) old new result → Comes begun result (Proceeds c command begun old new)
+one_done {c} {nodes} {command} {begun} {old} new (Ok reply) has for ready one a =
+    subst (Proceeds c command begun old new) (one_ends command.op begun (Ok reply) one) (proceeds_more c command begun begun old old new (Ok reply) has for.fits (goes_refl c old) (proceeds_none c command begun old ready) a)
+one_done {c} {nodes} {command} {begun} {old} new (Err fault) has for ready one done = fault_comes c command begun begun old old new has for.fits (goes_refl c old) (proceeds_none c command begun old ready) fault done
+
+-- a step of a scan
+module _ {c n nodes : ℕ} {command : Command} {first begun : CommandProgress} {old mid : Fronts} (step : Step) (new : Fronts) (has : HoldsCaller old c) (for : IsCommandFor nodes command) (is : command.op ≡ op.Scan n) (at : step ≡ next_step (op.Scan n) begun) (g : Goes c old mid) (p : Proceeds c command first old mid (On begun)) where
+  next : step ≡ next_step command.op begun
+  next = at ∙ ap (λ o. next_step o begun) (sym is)
+
+  pub scan_more : (answer : Reaction) → Answered c command.node step mid new answer → Proceeds c command first old new (scan_goes_on begun answer)
+  scan_more answer a = rw (← scan_goes command.op begun answer (rw is refl)) (proceeds_more c command first begun old mid new answer (has_later old mid c g.same has) for.fits g p (rw next at a))
+
+  pub scan_fault : (fault : CellFault) → StepDone c command.node step mid new (Err fault) → Comes begun (Err fault) (Proceeds c command first old new)
+  scan_fault fault done = fault_comes c command first begun old mid new (has_later old mid c g.same has) for.fits g p fault (subst (λ s. StepDone c command.node s mid new (Err fault)) next done)
 
 -- a fault that was handed on
 pub handed_on : (r : Result (Unit {0}) CellFault) (fault : CellFault) → IsErrAnd r (λ f. f ≡ fault) → r ≡ Err fault
 handed_on (Ok x) fault is = absurd is
 handed_on (Err f) fault is = ap (λ x. Err x) is
-
--- a command is postponed where the holder hasn't all callers
-pub shared_comes : (c n : ℕ) (begun : CommandProgress) (step : Step) (old mid new : Fronts) (result : Result Reply CellFault) → SameHolding old mid → StepDone c n step mid new result → Comes begun result (IsShared old)
-shared_comes c n begun step old mid new (Ok reply) same done = tt
-shared_comes c n begun step old mid new (Err Busy) same busy = λ all. busy.shared (record { low = same.first ∙ all.low; high = same.end ∙ all.high ∙ sym same.callers })
-shared_comes c n begun step old mid new (Err (Refused r)) same done = by_reason r where
-  by_reason : (r : Refusal) → Comes begun (Err (Refused r)) (IsShared old)
-  by_reason why.OutOfMemory = tt
-  by_reason why.NoPage = tt
-  by_reason why.BadRange = tt
-  by_reason why.IsSplit = tt
-  by_reason why.NotMapped = tt
-  by_reason why.Gone = tt
-  by_reason why.NotPinned = tt
-  by_reason why.TooMany = tt
-  by_reason why.Closed = tt
-  by_reason why.NoBlock = tt
-  by_reason why.HasBatch = tt
 
 -- a refusal that isn't want of memory is the command's answer
 pub refused_comes : (begun : CommandProgress) (P : CommandState → Type 0) (r : Refusal) → (r ≡ why.OutOfMemory → ⊥) → Comes begun (Err (Refused r)) P → P (Ended (Err r))

@@ -1,10 +1,9 @@
 -- Workers that come together.
-use Rattle.std.proofs.Common.{◌≡◌, ◌∙◌, ◌++◌, ◌+◌, ◌<◌, ◌≤◌, ap, ℕ, Bool, List, [], ◌∷◌, length, sym, subst, inl, inr, arith, append_assoc, length-append, get_or, Option, Some, None, Vec, slice_get}
+use Rattle.std.proofs.Common.{◌≡◌, ◌∙◌, ◌++◌, ◌+◌, ◌<◌, ◌≤◌, ap, ℕ, Bool, List, [], ◌∷◌, length, sym, subst, inl, inr, arith, append_assoc, length-append, Option, Some, None, Vec, slice_get}
 use Rattle.std.specs.declared.alloc.Global.{Global}
 use Rattle.thp_model.specs.Prelude.{History, events_of, IsLegal}
-use Rattle.thp_cell.proofs.Fronts.{all_front, all_back}
 use Rattle.thp_script.specs.declared.script.Command.{Command}
-use Rattle.thp_worker.specs.Prelude.{Answer, Rest, SectionOutcome, CommandProgress, Fronts, HoldsCaller, Goes, Grows, SameNodes, Made, Steps, Works, WorksTo, Begins, Ends, IsNext, batches_after, progress_of, steps_of, KnowsOf, IsSplit, CanJoin, IsJoined, AllWork, IsSection, CanRun, RangeDone}
+use Rattle.thp_worker.specs.Prelude.{Answer, Rest, SectionOutcome, CommandProgress, Fronts, HoldsCaller, Goes, Grows, SameNodes, Made, Steps, Works, WorksTo, Begins, Ends, IsNext, batches_after, progress_of, steps_of, KnowsOf, IsSplit, CanJoin, IsJoined, AllWork, CanRun, RangeDone}
 use Rattle.thp_worker.proofs.OpenLaws.{known_as}
 use Rattle.thp_worker.proofs.StepLaws.{steps_stay}
 
@@ -117,26 +116,6 @@ ran_one c old new v ws w can goes works is = record {
 
 -- the halves may run
 module _ (f l r : Fronts) (at first : ℕ) (low high : List (Vec Command Global)) (can : CanRun f first (low ++ high)) (split : IsSplit at f l r) (is : at ≡ first + length low) where
-  pub can_left : 0 < length low → CanRun l first low
-  can_left some = record {
-    some = some;
-    low = omega (arith, can.low, split.first);
-    high = split.middle.0 ∙ is;
-    fits = omega (arith, can.fits, can.high, split.middle.0, is, length-append low high);
-    sections = rw split.left.same.nodes (all_front (IsSection f.nodes) low high can.sections);
-    shut = λ c has le n. split.left.batches c n has ∙ can.shut c (record { low = omega (arith, has.low, split.first); high = omega (arith, has.high, split.middle.0, is, can.high, length-append low high) }) le n;
-  }
-
-  pub can_right : 0 < length high → CanRun r at high
-  can_right some = record {
-    some = some;
-    low = omega (arith, split.middle.1);
-    high = omega (arith, split.end, can.high, is, length-append low high);
-    fits = omega (arith, can.fits, split.end);
-    sections = rw split.right.same.nodes (all_back (IsSection f.nodes) low high can.sections);
-    shut = λ c has le n. split.right.batches c n has ∙ can.shut c (record { low = omega (arith, le, is, can.low); high = omega (arith, has.high, split.end) }) (omega (arith, le, is)) n;
-  }
-
   module _ (l' r' : Fronts) (ws xs : List SectionOutcome) (a : RangeDone first l l' low ws) (b : RangeDone at r r' high xs) where
     pub can_join : CanJoin l' r'
     can_join = record {
@@ -191,8 +170,3 @@ module _ (f l r : Fronts) (at first : ℕ) (low high : List (Vec Command Global)
             (all_work_as low ws first l f l' j left_works a.work)
             (all_work_as high xs at r f r' j right_works b.work);
       }
-
-pub single : (vs : List (Vec Command Global)) (v : Vec Command Global) → length vs ≡ 1 → v ≡ get_or vs 0 v → vs ≡ v ∷ []
-single [] v e f = absurd (omega arith)
-single (x ∷ []) v e f = ap (λ (y : Vec Command Global). y ∷ []) (sym f)
-single (x ∷ y ∷ vs) v e f = absurd (omega arith)

@@ -21,7 +21,7 @@ use Rattle.thp_cell.specs.Prelude.{IsOther, at_front, BatchesStay, OtherBatchesS
 use Rattle.thp_cell.specs.declared.fault.CellFault.{CellFault}
 use Rattle.thp_cell.specs.declared.fault.CellFault.TheVariants.{Busy, Refused}
 use Rattle.thp_script.specs.declared.script.Op.{Op}
-use Rattle.thp_worker.specs.Prelude.{NodeCall, Step, Take, SplitNext, PutBack, Reply, call_events, node_call_of, Open, Reaction, Does, DoesCall, step_events, open_of, step_refusal, refusal_of_call, IsHeld, Acts, HeldAnswered, HeldDone, batch_of, open_in, unit_reply, loss_reply, page_reply}
+use Rattle.thp_worker.specs.Prelude.{NodeCall, Step, Take, SplitNext, PutBack, Reply, call_events, node_call_of, Open, Reaction, Does, DoesCall, step_events, open_of, step_refusal, refusal_of_call, Held, IsHeld, Acts, HeldAnswered, HeldDone, batch_of, open_in, unit_reply, loss_reply, page_reply}
 use Rattle.thp_worker.specs.declared.steps.NodeCall.TheVariants as node
 use Rattle.thp_worker.specs.declared.steps.Step.TheVariants as steps
 use Rattle.thp_worker.specs.declared.reply.Reply.TheVariants as reply
@@ -362,15 +362,13 @@ back_does s h c b r own caller d = (rw caller at d.recorded, rw (d.answer, calle
 
 -- ---- the four kinds of step, as the code makes them
 
-pub place_in : (cell : TableId) (p : PassState) (bs : List (Option BatchState)) (c first : ℕ) → IsHeld cell p bs → HasCaller p c → first ≡ p.first → ((c - first) + p.first ≡ c) × (c - first < length bs)
-place_in cell p bs c first held has is = (omega (arith, has.from, is), omega (arith, has.from, has.below, held.callers, is))
+-- the place of one of the pass's callers among the batches
+pub place_at : {cell : TableId} {p : PassState} {bs : List (Option BatchState)} {h : Held} {c first : ℕ} → IsHeld cell p bs → h ≡ record { pass = p; batches = bs } → HasCaller h.pass c → first ≡ p.first → ((c - first) + p.first ≡ c) × (c - first < length bs) × HasCaller p c
+place_at held is its first = let has = rw is at its in (omega (arith, has.from, first), omega (arith, has.from, has.below, held.callers, first), has)
 
 -- a batch at caller c's place is c's, and in front of its flight
-pub mine : (cell : TableId) (p : PassState) (bs : List (Option BatchState)) (c place : ℕ) (b : BatchState) → IsHeld cell p bs → place + p.first ≡ c → slice_get bs place ≡ Some (Some b) → (b.caller ≡ c) × IsInFront p.front b
-mine cell p bs c place b held at is = let e = held.each place b is in (omega (arith, e.0, at), e.1)
-
-pub has_mine : (p : PassState) (c : ℕ) (b : BatchState) → b.caller ≡ c → HasCaller p c → HasCaller p b.caller
-has_mine p c b same has = rw same has
+pub mine : {cell : TableId} {p : PassState} {bs : List (Option BatchState)} {c : ℕ} {b : BatchState} (place : ℕ) → IsHeld cell p bs → place + p.first ≡ c → HasCaller p c → slice_get bs place ≡ Some (Some b) → (b.caller ≡ c) × IsInFront p.front b × HasCaller p b.caller
+mine {cell} {p} {bs} {c} {b} place held at has is = let e = held.each place b is in let own : b.caller ≡ c = omega (arith, e.0, at) in (own, e.1, rw own has)
 
 -- there is no batch, and nothing happens
 pub none_held : (p : PassState) (bs new : List (Option BatchState)) (c place : ℕ) (step : Step) (answer : Reaction) → place + p.first ≡ c → place < length bs → slice_get bs place ≡ Some None → new ≡ set bs place None

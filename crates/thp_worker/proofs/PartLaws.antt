@@ -1,12 +1,11 @@
 -- Passes with their open batches, divided and joined.
-use Rattle.std.proofs.Common.{◌≡◌, ◌∙◌, ◌⊎◌, ◌++◌, ◌+◌, ◌-◌, ◌<◌, ◌≤◌, ap, ℕ, zero, suc, List, [], ◌∷◌, length, take, drop, refl, sym, inl, inr, arith, length-append, length-drop, Option, Some, None, Bool, true, false, All, slice_get, nat_le, length-take}
-use Rattle.std.proofs.lemmas.List.Elements.{All-head, All-tail}
+use Rattle.std.proofs.Common.{◌≡◌, ◌∙◌, ◌⊎◌, ◌++◌, ◌+◌, ◌-◌, ◌<◌, ◌≤◌, ap, ℕ, zero, suc, List, [], ◌∷◌, length, take, drop, refl, sym, inl, inr, arith, length-append, length-drop, Option, Some, true, slice_get, nat_le, length-take}
 use Rattle.std.proofs.lemmas.Bool.Decides.{nat_tests}
 use Rattle.std.proofs.lemmas.Option.{slice_get_within}
 use Rattle.atomic_table.specs.Seated.{TableId}
 use Rattle.thp_node.specs.Prelude.{BatchState}
 use Rattle.thp_cell.specs.Prelude.{BatchesStay, below, from, IsJoined, PassState, HasCaller}
-use Rattle.thp_worker.specs.Prelude.{Held, IsHeld, OpenStay, batch_of, open_in, lower_part, upper_part}
+use Rattle.thp_worker.specs.Prelude.{Held, IsHeld, OpenStay, batch_of, lower_part, upper_part}
 
 module _ {A : Type 0} where
   slice_get-take : (xs : List A) (k i : ℕ) (x : A) → slice_get (take k xs) i ≡ Some x → slice_get xs i ≡ Some x
@@ -106,16 +105,3 @@ upper_open h at c after le =
     let low : nat_le h.pass.first c ≡ true = grind (arith, nat_tests, before) in
     let place : at - h.pass.first + (c - at) ≡ c - h.pass.first = omega (arith, after, le) in
     rw (own, low, slice_get-drop h.batches (at - h.pass.first) (c - at), place) refl
-
--- a pass none of whose callers has a batch open
-none_open : (bs : List (Option BatchState)) → All (λ (b : Option BatchState). b ≡ None) bs → (k : ℕ) → open_in (slice_get bs k) ≡ None
-none_open [] all k = refl
-none_open (b ∷ bs) all zero = rw (All-head (λ (x : Option BatchState). x ≡ None) b bs all) refl
-none_open (b ∷ bs) all (suc k) = none_open bs (All-tail (λ (x : Option BatchState). x ≡ None) b bs all) k
-
-pub none_held : (p : PassState) (bs : List (Option BatchState)) → All (λ (b : Option BatchState). b ≡ None) bs → (c : ℕ) → batch_of (record { pass = p; batches = bs }) c ≡ None
-none_held p bs all c = by_test (nat_le p.first c) refl
-  where
-    by_test : (t : Bool) → nat_le p.first c ≡ t → batch_of (record { pass = p; batches = bs }) c ≡ None
-    by_test true e = rw e (none_open bs all (c - p.first))
-    by_test false e = rw e refl

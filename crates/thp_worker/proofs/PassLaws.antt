@@ -1,14 +1,14 @@
 -- A step on one node, as a step of the holder of all nodes' passes.
-use Rattle.std.proofs.Common.{◌≡◌, ◌∙◌, ◌≢◌, ◌++◌, ◌<◌, ◌==◌, ap, ℕ, Bool, true, false, List, [], ◌∷◌, length, refl, sym, subst, Option, Some, Ok, Err, set, map, zero, suc, slice_get, Result}
+use Rattle.std.proofs.Common.{◌≡◌, ◌∙◌, ◌≢◌, ◌++◌, ◌<◌, ◌==◌, ap, ℕ, Bool, true, false, List, [], ◌∷◌, length, refl, sym, subst, Option, Some, Ok, Err, set, map, zero, suc, slice_get, get_or, Result}
 use Rattle.std.proofs.lemmas.Bool.{eqb-true, eqb-false}
-use Rattle.std.proofs.lemmas.Option.{slice_get_within}
+use Rattle.std.proofs.lemmas.Option.{slice_get_within, slice_get_read}
 use Rattle.thp_model.specs.declared.events.Event.{Event}
 use Rattle.thp_model.specs.declared.refusal.Refusal.TheVariants.{OutOfMemory}
 use Rattle.thp_cell.specs.declared.fault.CellFault.{CellFault}
 use Rattle.thp_cell.specs.declared.fault.CellFault.TheVariants.{Busy, Refused}
 use Rattle.thp_cell.specs.Prelude.{at_front, PassState}
 use Rattle.thp_cell.specs.Views as cell
-use Rattle.thp_worker.specs.Prelude.{Step, Reply, Open, Reaction, Fronts, Moves, Answered, OutOf, IsStepBusy, StepDone, Goes, Held, Acts, HeldAnswered, HeldOutOf, HeldDone, batch_of, cell_in, shape_in, front_in, batch_in, fronts_of, IsOf, Agree}
+use Rattle.thp_worker.specs.Prelude.{Step, Reply, Open, Reaction, Fronts, Moves, Answered, OutOf, IsStepBusy, StepDone, Goes, Held, Acts, HeldAnswered, HeldOutOf, HeldDone, Passes, batch_of, cell_in, shape_in, front_in, batch_in, fronts_in, fronts_of, IsOf, Agree}
 use Rattle.thp_worker.proofs.HoldingLaws.{slice_get-set_same, slice_get-set_other, set_same, length-set_same}
 use Rattle.thp_worker.proofs.StepLaws.{goes_refl, moves_goes}
 
@@ -132,3 +132,11 @@ goes_done c n step old new (Ok reply) d = moves_goes c n old new d.others d.own 
 goes_done c n step old new (Err Busy) d = rw d.same (goes_refl c old)
 goes_done c n step old new (Err (Refused OutOfMemory)) d = moves_goes c n old new d.others [] (old.batches c n) d.moves
 goes_done c n step old new (Err (Refused why)) d = moves_goes c n old new d.others d.own d.after d.moves
+
+-- a step of one node's pass is a step of the passes of all
+pub step_made : {callers first end : ℕ} {held : List Held} {h : Passes} (c n : ℕ) (step : Step) (old new : Held) (r : Result Reply CellFault) → h ≡ record { callers = callers; first = first; end = end; held = held } → Agree callers first end held → n < length h.held → old ≡ get_or held n old → HeldDone c step old new r
+    → Agree callers first end (set held n new) × StepDone c n step (fronts_in h) (fronts_of callers first end (set held n new)) r × Goes c (fronts_in h) (fronts_of callers first end (set held n new))
+step_made {callers} {first} {end} {held} {h} c n step old new r view agree lt value done =
+    let is = slice_get_read held (length held) n old refl (rw view at lt) value in
+    let made = step_done callers first end held n old new is (agree.each n old is) c step r done in
+    rw view (agree_after callers first end held n old new agree is (done_same c step old new r done), made, goes_done c n step (fronts_of callers first end held) (fronts_of callers first end (set held n new)) r made)

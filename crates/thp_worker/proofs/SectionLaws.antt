@@ -14,8 +14,9 @@ use Rattle.thp_model.specs.declared.refusal.Refusal.TheVariants as why
 use Rattle.thp_script.specs.declared.script.Command.{Command}
 use Rattle.thp_script.specs.declared.script.Op.{Op}
 use Rattle.thp_script.specs.declared.script.Op.TheVariants as op
-use Rattle.thp_worker.specs.Prelude.{Answer, Reply, Rest, CommandProgress, LogState, Open, Reaction, Fronts, Goes, CommandState, On, Ended, Comes, StepAnswer, IsProgressAfter, TurnsOut, no_progress, HasNoBatch, is_open, marked, Made, IsMade, Steps, Proceeds, told_by, Turn, IsTurn, command_of, steps_of, batches_after, put_back_on, closing_from, closing, answers_from, IsProgressOn, IsNext, Begins, Ends, PutsBack, Works, progress_of}
-use Rattle.thp_worker.proofs.OpenLaws.{carries_after, known_as, known_more, known_none, known_shut, opens_by}
+use Rattle.thp_worker.specs.Prelude.{Answer, Reply, Rest, CommandProgress, LogState, Open, Reaction, Fronts, Goes, CommandState, On, Ended, Comes, answer_of, by_cell, StepAnswer, IsProgressAfter, TurnsOut, no_progress, HasNoBatch, is_open, marked, Made, IsMade, Steps, Proceeds, told_by, Turn, IsTurn, command_of, steps_of, batches_after, put_back_on, closing_from, closing, answers_from, IsProgressOn, IsNext, Begins, Ends, PutsBack, Works, progress_of}
+use Rattle.thp_worker.proofs.CommandLaws.{cell_comes}
+use Rattle.thp_worker.proofs.OpenLaws.{carries_after, known_as, known_more, known_none, known_shut, marked_alike, opens_by}
 use Rattle.thp_worker.proofs.StepLaws.{steps_none, steps_then, goes_grows, grows_refl, grows_trans, batches_after-append, batches_elsewhere, closed_by}
 
 -- below the next is below or there
@@ -135,6 +136,14 @@ module _ (c : ℕ) (old mid new : Fronts) (commands : List Command) (answers : L
         next = subst (λ o. IsNext (new.batches c) o (b.made ++ p.made) more) (sym here) on;
         known = b.known;
       }
+
+-- the command that comes next was done, with what its node was called with and its reply
+pub begins_told : (c number : ℕ) (old mid new : Fronts) (commands : List Command) (answers : List Answer) (opened : List Bool) (begun more : CommandProgress) (command : Command) (called : Result (Unit {0}) CellFault) (said : Result (Unit {0}) Refusal) (reply : Reply) → slice_get commands number ≡ Some command → length answers ≡ number → Begins c old mid commands answers opened begun → Goes c mid new
+    → command.node < mid.nodes → called ≡ by_cell said → (called ≡ Err (Refused why.OutOfMemory) → ⊥) → Comes more (answer_of called reply) (Proceeds c command begun mid new) → Begins c old new commands (answers ++ record { command = number; node = command.node; reply = answer_of said reply } ∷ []) (marked opened command said) no_progress
+begins_told c number old mid new commands answers opened begun more command called said reply at count b g lt is room p =
+    subst (λ (l : List Bool). Begins c old new commands (answers ++ record { command = number; node = command.node; reply = answer_of said reply } ∷ []) l no_progress) (sym (marked_alike opened command said reply))
+    (subst (λ (k : ℕ). Begins c old new commands (answers ++ record { command = k; node = command.node; reply = answer_of said reply } ∷ []) (marked opened command (answer_of said reply)) no_progress) count
+    (begins_more c old mid new commands answers opened begun command (rw count at) b g (answer_of said reply) lt (cell_comes more (Proceeds c command begun mid new) called said reply is room p)))
 
 -- a command that was begun can go on
 pub begun_on : (c : ℕ) (old mid : Fronts) (commands : List Command) (answers : List Answer) (opened : List Bool) (begun : CommandProgress) (command : Command) → slice_get commands (length answers) ≡ Some command → (b : Begins c old mid commands answers opened begun) → IsProgressOn (mid.batches c) command b.made begun

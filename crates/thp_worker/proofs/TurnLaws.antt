@@ -1,5 +1,5 @@
 -- How a scan goes on from step to step.
-use Rattle.std.proofs.Common.{◌≡◌, ℕ, ◌+◌, ◌<◌, ◌≤◌, Bool, true, false, cond, List, [], ◌∷◌, ◌++◌, length, map, take, ◌==◌, refl, sym, ap, inl, inr, arith, Option, Some, None, Ok, Err, length-append, All, filter, nat_eq, eq-eqb, ne_eqb, length-drop, length-take, eqb-true}
+use Rattle.std.proofs.Common.{◌≡◌, ℕ, ◌+◌, ◌<◌, ◌≤◌, Bool, true, false, cond, List, [], ◌∷◌, ◌++◌, length, map, take, ◌==◌, refl, inl, inr, arith, Option, Some, None, Ok, Err, length-append, All, filter, nat_eq, eq-eqb, ne_eqb, length-drop, length-take, eqb-true}
 use Rattle.std.proofs.lemmas.List.{append-nil, map-append, length-map}
 use Rattle.std.proofs.lemmas.List.Elements.{All-nil, All-head, All-tail, All-push, filter-append}
 use Rattle.std.specs.List.{find, after_first, position_or_len}
@@ -14,12 +14,8 @@ use Rattle.thp_node.specs.declared.answers.Tried.TheVariants as try
 use Rattle.thp_node.specs.declared.answers.ScanReply.{ScanReply}
 use Rattle.thp_script.specs.declared.script.Op.{Op}
 use Rattle.thp_script.specs.declared.script.Op.TheVariants as op
-use Rattle.thp_worker.specs.Prelude.{Step, Take, SplitNext, PutBack, CommandProgress, Open, Reaction, Does, Unless, IsFit, CommandState, On, Ended, StepAnswer, Turned, IsProgressAfter, StepReacts, Reacts, first_step, next_step, scan_step, goes_on, scan_goes_on, no_progress, counted, took, answered_try, if_done, IsPage, is_split, is_pinned, is_used, tries_of, IsReady, StaysReady}
+use Rattle.thp_worker.specs.Prelude.{Step, Take, SplitNext, PutBack, CommandProgress, Open, Reaction, Does, Unless, IsFit, StepAnswer, Turned, IsProgressAfter, StepReacts, Reacts, first_step, next_step, scan_step, goes_on, scan_goes_on, no_progress, counted, took, answered_try, if_done, IsPage, is_split, is_pinned, is_used, tries_of, IsReady, StaysReady}
 use Rattle.thp_worker.specs.declared.reply.Reply.TheVariants as reply
-
-abbrev steps_in : CommandState → ℕ
-steps_in (On begun) = begun.steps
-steps_in (Ended answer) = 0
 
 -- the first step of a scan
 first_turned : (n : ℕ) (answer : Reaction) → StepReacts (Take n) answer → Turned (op.Scan n) (record { step = Take n; answer = answer } ∷ []) (scan_goes_on no_progress answer)
@@ -221,16 +217,3 @@ pub fares : (s : Shape) (h : History) (c : ℕ) (o : Op) (batch : Option Open) (
     → Reacts o begun answer × StaysReady after (goes_on o begun answer)
 fares s h c (op.Scan n) batch begun own answer after fit ready does = scan_fares s h c n batch begun own answer after fit ready does
 fares s h c _ batch begun own answer after fit ready does = (tt, tt)
-
--- a command that goes on has one step more
-scan_longer : (begun more : CommandProgress) (answer : Reaction) → scan_goes_on begun answer ≡ On more → more.steps ≡ begun.steps + 1
-scan_longer begun more (Ok (reply.Taken t)) e = sym (ap steps_in e)
-scan_longer begun more (Ok (reply.Tried (try.Split p))) e = sym (ap steps_in e)
-scan_longer begun more (Ok (reply.Tried (try.Pinned p))) e = sym (ap steps_in e)
-scan_longer begun more (Ok (reply.Tried (try.Used p))) e = sym (ap steps_in e)
-scan_longer begun more (Ok (reply.Tried try.Done)) e = sym (ap steps_in e)
-scan_longer begun more _ e = absurd (cc)
-
-pub longer : (o : Op) (begun more : CommandProgress) (answer : Reaction) → goes_on o begun answer ≡ On more → more.steps ≡ begun.steps + 1
-longer (op.Scan n) begun more answer e = scan_longer begun more answer e
-longer _ begun more answer e = absurd (cc)

@@ -1,5 +1,5 @@
 -- The steps of a command, one after another, and its answer.
-use Rattle.std.specs.Prelude.{◌≡◌, ◌⊎◌, ℕ, ◌+◌, ◌≤◌, nat_eq, ⊤, Bool, true, false, List, [], ◌∷◌, ◌++◌, All, Option, Some, None, Result, Ok, Err, length, map, filter, if◌then◌else◌}
+use Rattle.std.specs.Prelude.{◌≡◌, ◌⊎◌, ℕ, ◌+◌, ◌≤◌, nat_eq, ⊤, Bool, true, false, List, [], ◌∷◌, ◌++◌, All, Option, Some, Result, Ok, Err, length, map, filter, if◌then◌else◌}
 use Rattle.thp_cell.specs.declared.fault.CellFault.{CellFault}
 use Rattle.thp_cell.specs.declared.fault.CellFault.TheVariants.{Busy, Refused}
 use Rattle.thp_model.specs.Prelude.{max_batch}

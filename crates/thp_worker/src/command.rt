@@ -31,7 +31,8 @@ pub(crate) fn do_command<S: Steps>(
     if is_scan(command.op) {
         do_scan(command, caller, begun, steps, reply)
     } else {
-        do_one(command, caller, begun, steps, reply)
+        let step = next_step(command.op, *begun);
+        try_step(steps, caller, command.node, step, reply)
     }
 }
 
@@ -53,7 +54,8 @@ pub(crate) fn do_whole_command<S: Steps>(
     if is_scan(command.op) {
         do_whole_scan(command, caller, steps, reply)
     } else {
-        do_one(*command, caller, &no_progress(), steps, reply)
+        let step = next_step(command.op, no_progress());
+        try_step(steps, caller, command.node, step, reply)
     }
 }
 
@@ -74,27 +76,6 @@ fn do_whole_scan<S: Steps>(
 {
     let mut begun = no_progress();
     do_scan(*command, caller, &mut begun, steps, reply)
-}
-
-/// Makes the only step of a command that is not a scan.
-#[inline(always)]
-fn do_one<S: Steps>(
-    command: Command,
-    caller: u32,
-    begun: &CommandProgress,
-    steps: &mut S,
-    reply: &mut Reply,
-) -> Result<(), CellFault>
-    requires one { is_scan command.op ≡ false }
-    requires caller { HoldsCaller (S.fronts steps.old) caller }
-    requires command { IsCommandFor (S.fronts steps.old).nodes command }
-    requires ready { IsReady ((S.fronts steps.old).batches caller command.node) begun.now }
-    ensures goes { Goes caller (S.fronts steps.old) (S.fronts steps.new) }
-    ensures proceeds { Comes begun.now (answer_of result reply.new) (Proceeds caller command begun.now (S.fronts steps.old) (S.fronts steps.new)) }
-    ensures shared { Comes begun.now (answer_of result reply.new) (IsShared (S.fronts steps.old)) }
-{
-    let step = next_step(command.op, *begun);
-    try_step(steps, caller, command.node, step, reply)
 }
 
 /// Makes the steps of a scan: a take, tries until no page is left, and a put back.

@@ -5,14 +5,14 @@ ghost use Rattle.thp_node.specs.Prelude.{no_batch};
 ghost use Rattle.thp_cell.specs.Prelude.{IsJoined, PartsStay, HasAll, HasCaller};
 ghost use Rattle.thp_script.specs.declared.script.Op.{Op};
 ghost use Rattle.thp_worker.specs.Does.{answer_of, node_call_of, IsStep};
-ghost use Rattle.thp_worker.specs.Holdings.{batch_of, lower_part, loss_reply, page_reply, unit_reply, upper_part, HeldDone, IsShut, IsSomeBatch, OpenStay, keeping_node};
+ghost use Rattle.thp_worker.specs.Holdings.{batch_of, lower_part, page_reply, unit_reply, upper_part, HeldDone, IsShut, IsSomeBatch, OpenStay, keeping_node};
 
 use crate::reply::Reply;
 use crate::steps::{NodeCall, Step, node_call};
 use std::alloc::{AllocError, Global};
 use std::marker::Model;
 use thp_cell::{CellFault, NodeCell, Pass};
-use thp_model::{PageCall, PageId, Refusal};
+use thp_model::{Loss, PageCall, PageId, Refusal};
 use thp_node::{Batch, Done, FullLog, Recorder};
 use thp_script::Op;
 
@@ -168,27 +168,34 @@ impl<'a, R: Recorder> NodePass<'a, R> {
     {
         match node_call(op) {
             NodeCall::Alloc => page(self.cell.alloc_page(&mut self.pass, caller), reply),
-            NodeCall::Page { page, call } => self.page_call(caller, page, call, reply),
+            NodeCall::Page(page, PageCall::Gain(gain)) => {
+                let page = PageId(page);
+                unit(self.cell.gain(&mut self.pass, caller, page, gain), reply)
+            }
+            NodeCall::Page(page, PageCall::Loss(kind)) => self.lose(caller, page, kind, reply),
             NodeCall::Close => unit(self.cell.close(&mut self.pass, caller), reply),
             NodeCall::Count => count(self.cell.count(&mut self.pass), reply),
         }
     }
 
-    fn page_call(
+    // A separate function, so that other calls clear no memory for what a loss gives.
+    fn lose(
         &mut self,
         caller: u32,
         page: u64,
-        call: PageCall,
+        kind: Loss,
         reply: &mut Reply,
     ) -> Result<(), CellFault>
         requires caller { HasCaller self.old.pass caller }
-        ensures { (op : Op) → node_call_of op ≡ NodeCall.Page page call → HeldDone caller (Step.One op) self.old self.new (answer_of result reply.new) }
+        ensures { (op : Op) → node_call_of op ≡ NodeCall.Page page (PageCall.Loss kind) → HeldDone caller (Step.One op) self.old self.new (answer_of result reply.new) }
     {
-        let page = PageId(page);
-        match call {
-            PageCall::Gain(gain) => unit(self.cell.gain(&mut self.pass, caller, page, gain), reply),
-            PageCall::Loss(kind) => loss(self.cell.lose(&mut self.pass, caller, page, kind), reply),
-        }
+        // Field by field: a copy of the whole would include the padding, by loads that wait for its stores.
+        let done = self.cell.lose(&mut self.pass, caller, PageId(page), kind)?;
+        *reply = Reply::Done(Done {
+            outcome: done.outcome,
+            released: done.released,
+        });
+        Ok(())
     }
 
     #[inline(never)]
@@ -328,17 +335,5 @@ fn unit(called: Result<(), CellFault>, reply: &mut Reply) -> Result<(), CellFaul
 {
     called?;
     *reply = Reply::Unit;
-    Ok(())
-}
-
-fn loss(called: Result<Done, CellFault>, reply: &mut Reply) -> Result<(), CellFault>
-    ensures { answer_of result reply.new ≡ loss_reply called }
-{
-    // Field by field: a copy of the whole would include the padding, by loads that wait for its stores.
-    let done = called?;
-    *reply = Reply::Done(Done {
-        outcome: done.outcome,
-        released: done.released,
-    });
     Ok(())
 }

@@ -1,6 +1,6 @@
 //! The nodes on which the commands of a section have left a batch open.
-ghost use Rattle.std.specs.Prelude.{◌≡◌, ◌<◌, Bool, false, get_or, length, replicate, slice_set, IfOk, MatchOption};
-ghost use Rattle.thp_worker.specs.OpenBatches.{leaves_open, marked};
+ghost use Rattle.std.specs.Prelude.{◌≡◌, ◌<◌, false, get_or, length, replicate, slice_set, IfOk};
+ghost use Rattle.thp_worker.specs.OpenBatches.{marked};
 
 use std::alloc::{AllocError, Global};
 use thp_model::Refusal;
@@ -27,8 +27,10 @@ pub(crate) fn mark(opened: &mut Vec<bool>, command: Command, called: Result<(), 
     requires { command.node < length opened.old.items }
     ensures { opened.new.items ≡ marked opened.old.items command called }
 {
-    if let Some(open) = changed_by(command.op, called) {
-        opened[command.node as usize] = open;
+    match command.op {
+        Op::Take { .. } if called.is_ok() => opened[command.node as usize] = true,
+        Op::PutBack => opened[command.node as usize] = false,
+        _ => {}
     }
 }
 
@@ -38,16 +40,4 @@ pub(crate) fn shut(opened: &mut Vec<bool>, node: u32)
     ensures { opened.new.items ≡ slice_set opened.old.items node false }
 {
     opened[node as usize] = false;
-}
-
-// Whether a batch is open after a command with this result; `None` if that does not change.
-#[inline(always)]
-fn changed_by(op: Op, called: Result<(), Refusal>) -> Option<bool>
-    ensures { MatchOption result ((was : Bool) → leaves_open op called was ≡ was) (λ now. (was : Bool) → leaves_open op called was ≡ now) }
-{
-    match op {
-        Op::Take { .. } if called.is_ok() => Some(true),
-        Op::PutBack => Some(false),
-        _ => None,
-    }
 }

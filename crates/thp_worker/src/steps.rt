@@ -18,7 +18,7 @@ pub(crate) enum NodeCall {
     /// Allocates a page.
     Alloc,
     /// A call about one page.
-    Page { page: u64, call: PageCall },
+    Page(u64, PageCall),
     /// Closes the node.
     Close,
     /// Returns the number of queued pages.
@@ -31,7 +31,7 @@ pub(crate) fn node_call(op: Op) -> NodeCall
     ensures { result ≡ node_call_of op }
 {
     if let Some((page, call)) = op.page_call() {
-        return NodeCall::Page { page, call };
+        return NodeCall::Page(page, call);
     }
     match op {
         Op::Alloc => NodeCall::Alloc,

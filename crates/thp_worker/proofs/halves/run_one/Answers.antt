@@ -5,9 +5,7 @@ use Rattle.thp_worker.proofs.HalvesLaws.{ran_one}
 use Rattle.thp_worker.proofs.halves.run_one.Goals as goal
 
 pub returns-clause-ran : goal.returns-clause-ran
-returns-clause-ran g c =
-    let fronts = g.P.Steps.fronts in
-    ran_one c.args.worker (fronts c.args.passes) (fronts c.work.new.steps) c.args.commands.now c.push.new.self.items c.in_ok-worked.worked c.requires c.work.ensures.goes (rw c.deref.ensures.value at c.in_ok-worked.ensures.works) (rw c.new-all.ensures.items at c.in_ok-push.ensures.items)
+returns-clause-ran g c = ran_one _ _ _ _ _ _ c.requires c.work.ensures.goes (rw c.deref.ensures.value at c.in_ok-worked.ensures.works) (rw c.new-all.ensures.items at c.in_ok-push.ensures.items)
 
 pub returns-clause-answers : goal.returns-clause-answers
 returns-clause-answers g c =

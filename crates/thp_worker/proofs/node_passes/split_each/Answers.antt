@@ -9,7 +9,7 @@ loop-node-preserved g c =
     let inv = c.loop-node.invariant in
     let step = c.in-Some.ensures.steps.0 in
     record {
-      low = pushed (low_part c.args.at) _ _ _ c.in-Some.node c.in_ok-left.left _ _ inv.low step c.in_ok-left.ensures.left c.in_ok-push.ensures.items;
-      high = pushed (high_part c.args.at) _ _ _ c.in-Some.node c.in_ok-left.right _ _ inv.high step c.in_ok-left.ensures.right c.in_ok-push-2.ensures.items;
+      low = pushed (low_part c.args.at) _ _ _ c.in-Some.node c.in_ok-left.left _ c.push.new.self.items inv.low step c.in_ok-left.ensures.left c.in_ok-push.ensures.items;
+      high = pushed (high_part c.args.at) _ _ _ c.in-Some.node c.in_ok-left.right _ c.push-in-loop-node.new.self.items inv.high step c.in_ok-left.ensures.right c.in_ok-push-2.ensures.items;
       cut = All-tail (IsCut c.args.at) c.in-Some.node _ (subst (All (IsCut c.args.at)) step inv.cut);
     }

@@ -1,6 +1,6 @@
 use Rattle.std.proofs.Common.{◌∙◌, ◌<◌, arith, sym, refl, false, length-set}
 use Rattle.thp_model.proofs.Options.{not_there}
-use Rattle.thp_worker.specs.Prelude.{Reaction, answer_of, Ended, no_progress, PutsBack}
+use Rattle.thp_worker.specs.Prelude.{Reaction, answer_of, no_progress, PutsBack}
 use Rattle.thp_worker.proofs.StepLaws.{goes_trans}
 use Rattle.thp_worker.proofs.CommandLaws.{cell_comes}
 use Rattle.thp_worker.proofs.SectionLaws.{room_for_one, ends_more, ends_stop, shut_more, shut_put, not_open, works_end, works_closing}
@@ -8,56 +8,49 @@ use Rattle.thp_worker.proofs.working.close.Goals.{then-is_marked+in_ok-told+in-S
 use Rattle.thp_worker.proofs.working.close.Goals as goal
 
 pub returns-in_err-told-clause-goes : goal.returns-in_err-told-clause-goes
-returns-in_err-told-clause-goes g c =
-    let fronts = g.S.Steps.fronts in
-    goes_trans c.args.worker (fronts c.args.steps.now) (fronts c.loop-node.steps) (fronts c.put_back-called.new.steps) c.loop-node.invariant.goes c.put_back-called.ensures.goes
+returns-in_err-told-clause-goes g c = goes_trans _ _ _ _ c.loop-node.invariant.goes c.put_back-called.ensures.goes
 
 pub overflow_add-closed : goal.overflow_add-closed
 overflow_add-closed g c =
-    let fronts = g.S.Steps.fronts in
     let inv = c.loop-node.invariant in
-    let old = c.requires.ends.0 in
-    let commands = c.requires.ends.1 in
-    let e = inv.ends old commands c.requires.ends.3 in
+    let e = inv.ends _ _ c.requires.ends.3 in
     let nodes = c.requires.ends.3.grows.same.nodes in
-    let lt : c.loop-node.node < old.nodes = omega (arith, c.loop-node-test.true, c.nodes-nodes.ensures, nodes) in
-    let room = room_for_one c.args.worker c.loop-node.node old (fronts c.loop-node.steps) commands c.args.answers.items c.loop-node.opened.items c.loop-node.closed e lt inv.shut (sym (e.known.each c.loop-node.node lt) ∙ sym c.is_marked.ensures ∙ c.if-is_marked.true) in
+    let lt : c.loop-node.node < c.requires.ends.0.nodes = omega (arith, c.loop-node-test.true, c.nodes-nodes.ensures, nodes) in
+    let room = room_for_one _ _ _ _ _ _ _ _ e lt inv.shut (sym (e.known.each _ lt) ∙ sym c.is_marked.ensures ∙ c.if-is_marked.true) in
     omega (arith, room, nodes, c.nodes-nodes.ensures, c.nodes-nodes.type_inv)
 
 pub returns-in_default-clause-goes : goal.returns-in_default-clause-goes
-returns-in_default-clause-goes g c =
-    let fronts = g.S.Steps.fronts in
-    goes_trans c.args.worker (fronts c.args.steps.now) (fronts c.loop-node.steps) (fronts c.put_back-called.new.steps) c.loop-node.invariant.goes c.put_back-called.ensures.goes
+returns-in_default-clause-goes g c = goes_trans _ _ _ _ c.loop-node.invariant.goes c.put_back-called.ensures.goes
 
 pub returns-in_default-clause-works : goal.returns-in_default-clause-works
 returns-in_default-clause-works g c =
-    let fronts = g.S.Steps.fronts in
+    let inv = c.loop-node.invariant in
     let back = rw (rw (not_there _ c.in_default.not-Some) at c.in_ok-told.ensures.busy) at c.put_back-called.ensures.back in
-    λ old commands count e. rw c.loop-node.invariant.same (works_closing c.args.worker old (fronts c.put_back-called.new.steps) commands c.args.answers c.loop-node.opened c.loop-node.closed _ (rw count c.requires.room)
-    (ends_stop c.args.worker c.loop-node.node old (fronts c.loop-node.steps) (fronts c.put_back-called.new.steps) commands c.args.answers.items c.loop-node.opened.items c.loop-node.closed no_progress (c.loop-node.invariant.ends old commands e) c.put_back-called.ensures.goes back) (sym count) refl)
+    λ old commands count e. rw inv.same (works_closing _ _ _ _ _ _ _ _ (rw count c.requires.room) (ends_stop _ c.loop-node.node _ _ _ _ _ _ _ no_progress (inv.ends old commands e) c.put_back-called.ensures.goes back) (sym count) refl)
 
 pub loop-node-preserved : goal.loop-node-preserved
 loop-node-preserved g c =
     let fronts = g.S.Steps.fronts in
     let inv = c.loop-node.invariant in
-    let f0 = fronts c.args.steps.now in
     let mid = fronts c.loop-node.steps in
     let who = c.args.worker in
     let node = c.loop-node.node in
     elim c.if-is_marked.branch [
       | then-is_marked+in_ok-told+in-Some w ↦
           let new = fronts w.put_back-called.new.steps in
+          let goes = w.put_back-called.ensures.goes in
           let said = w.in-Some.field-0 in
-          let back : (answer : Reaction) × PutsBack who node mid new (Ended answer) = (answer_of said w.put_back-called.new.reply, cell_comes no_progress (PutsBack who node mid new) w.put_back-called.result said w.put_back-called.new.reply (rw w.in-Some.is at w.in_ok-told.ensures.some) (rw w.in-Some.is at w.in_ok-told.ensures.memory) w.put_back-called.ensures.back) in
+          let answer : Reaction = answer_of said w.put_back-called.new.reply in
+          let back = cell_comes no_progress (PutsBack who node mid new) w.put_back-called.result said w.put_back-called.new.reply (rw w.in-Some.is at w.in_ok-told.ensures.some) (rw w.in-Some.is at w.in_ok-told.ensures.memory) w.put_back-called.ensures.back in
           rw (w.steps-is, w.closed-is, w.opened-is, w.shut.ensures) (record {
-            goes = goes_trans who f0 mid new inv.goes w.put_back-called.ensures.goes;
+            goes = goes_trans _ _ _ _ inv.goes goes;
             ends = λ old commands e.
                 let lt : node < old.nodes = omega (arith, c.loop-node-test.true, c.nodes-nodes.ensures, e.grows.same.nodes) in
                 let now = inv.ends old commands e in
-                ends_more who node old mid commands c.args.answers.items c.loop-node.opened.items c.loop-node.closed now lt inv.shut (sym (now.known.each node lt) ∙ sym c.is_marked.ensures ∙ w.if-is_marked.true) new back.0 w.put_back-called.ensures.goes back.1;
+                ends_more _ _ _ _ _ _ _ _ now lt inv.shut (sym (now.known.each node lt) ∙ sym c.is_marked.ensures ∙ w.if-is_marked.true) new answer goes back;
             same = inv.same;
             count = length-set c.loop-node.opened.items node false ∙ inv.count;
-            shut = shut_put who node mid new back.0 inv.shut back.1;
+            shut = shut_put who node mid new answer inv.shut back;
           })
       | else-is_marked w ↦
           rw (w.steps-is, w.closed-is, w.opened-is) (record {
@@ -66,7 +59,7 @@ loop-node-preserved g c =
             same = inv.same;
             count = inv.count;
             shut =
-                let e = inv.ends c.requires.ends.0 c.requires.ends.1 c.requires.ends.3 in
+                let e = inv.ends _ _ c.requires.ends.3 in
                 let lt : node < c.requires.ends.0.nodes = omega (arith, c.loop-node-test.true, c.nodes-nodes.ensures, c.requires.ends.3.grows.same.nodes) in
                 shut_more who node mid inv.shut (not_open (mid.batches who node) (sym (e.known.each node lt) ∙ sym c.is_marked.ensures ∙ w.if-is_marked.false));
           })
@@ -74,5 +67,5 @@ loop-node-preserved g c =
 
 pub returns-clause-works : goal.returns-clause-works
 returns-clause-works g c =
-    let fronts = g.S.Steps.fronts in
-    λ old commands count e. rw c.loop-node.invariant.same (works_end c.args.worker old (fronts c.loop-node.steps) commands c.args.answers c.loop-node.opened c.loop-node.closed c.loop-node.node (rw count c.requires.room) (c.loop-node.invariant.ends old commands e) (omega (arith, c.loop-node-test.false, c.nodes-nodes.ensures, e.grows.same.nodes)) c.loop-node.invariant.shut)
+    let inv = c.loop-node.invariant in
+    λ old commands count e. rw inv.same (works_end _ _ _ _ _ _ _ c.loop-node.node (rw count c.requires.room) (inv.ends old commands e) (omega (arith, c.loop-node-test.false, c.nodes-nodes.ensures, e.grows.same.nodes)) inv.shut)

@@ -1,26 +1,33 @@
-use Rattle.std.proofs.Common.{◌∙◌, refl, sym}
+use Rattle.std.proofs.Common.{◌≡◌, ◌∙◌, refl, sym}
+use Rattle.thp_model.specs.Prelude.{gain_call, gain_what}
 use Rattle.thp_model.specs.Refusals as call
 use Rattle.thp_model.specs.declared.events.What.TheVariants as what
+use Rattle.thp_model.specs.declared.page_call.PageCall.TheVariants as either
+use Rattle.thp_worker.specs.Prelude.{node_call_of}
 use Rattle.thp_worker.specs.declared.steps.NodeCall.TheVariants as node
 use Rattle.thp_worker.proofs.HoldingLaws.{alloc_told, count_done, unit_done}
 use Rattle.thp_worker.proofs.node_pass.NodePass.call.Goals as goal
 
 pub returns-in-Alloc : goal.returns-in-Alloc
 returns-in-Alloc g c =
-    rw (← c.self.view_is, c.page.ensures)
-    (alloc_told c.args.op (sym c.node_call.ensures ∙ c.in-Alloc.is) c.self.inside.pass c.alloc_page.new.pass c.self.inside.batches.items c.args.caller c.alloc_page.result c.alloc_page.ensures.same c.alloc_page.ensures.recorded c.alloc_page.ensures.failed)
+    let e = c.alloc_page.ensures in
+    rw (← c.self.view_is, c.page.ensures) (alloc_told _ (sym c.node_call.ensures ∙ c.in-Alloc.is) _ _ _ _ c.alloc_page.result e.same e.recorded e.failed)
 
-pub returns-in-Page : goal.returns-in-Page
-returns-in-Page g c = c.page_call.ensures c.args.op (sym c.node_call.ensures ∙ c.in-Page.is)
+pub returns-in-Page-default-Gain : goal.returns-in-Page-default-Gain
+returns-in-Page-default-Gain g c =
+    let e = c.gain.ensures in
+    let a = c.in-Page-default-Gain in
+    let is : node_call_of c.args.op ≡ node.Page a.page (either.Gain a.gain) = cc in
+    rw (← c.self-in-Page-default-Gain.view_is, c.unit.ensures) (unit_done _ _ is _ _ _ _ (gain_what a.gain a.page) c.gain.result (gain_call a.gain a.page) e.same e.recorded e.failed (λ s h. refl) (λ s h own e. (e, refl)))
+
+pub returns-in-Page-default-Loss : goal.returns-in-Page-default-Loss
+returns-in-Page-default-Loss g c = c.lose.ensures c.args.op (cc)
 
 pub returns-in-Close : goal.returns-in-Close
 returns-in-Close g c =
-    let self = c.self-in-Close in
-    rw (← self.view_is, c.unit.ensures)
-    (unit_done c.args.op node.Close (sym c.node_call.ensures ∙ c.in-Close.is) self.inside.pass c.close.new.pass self.inside.batches.items c.args.caller what.Close c.close.result call.close c.close.ensures.same c.close.ensures.recorded c.close.ensures.failed (λ s h. refl) (λ s h own e. (e, refl)))
+    let e = c.close.ensures in
+    rw (← c.self-in-Close.view_is, c.unit-in-Close.ensures) (unit_done _ node.Close (sym c.node_call.ensures ∙ c.in-Close.is) _ _ _ _ what.Close c.close.result call.close e.same e.recorded e.failed (λ s h. refl) (λ s h own e. (e, refl)))
 
 pub returns-in-Count : goal.returns-in-Count
 returns-in-Count g c =
-    let self = c.self-in-Count in
-    rw (← self.view_is, c.count-in-Count.ensures)
-    (count_done c.args.op (sym c.node_call.ensures ∙ c.in-Count.is) self.inside.pass c.count.new.pass self.inside.batches.items c.args.caller c.count.result c.count.ensures.follows c.count.ensures.count)
+    rw (← c.self-in-Count.view_is, c.count-in-Count.ensures) (count_done _ (sym c.node_call.ensures ∙ c.in-Count.is) _ _ _ _ _ c.count.ensures.follows c.count.ensures.count)

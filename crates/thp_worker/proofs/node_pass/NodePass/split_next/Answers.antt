@@ -1,64 +1,48 @@
-use Rattle.std.proofs.Common.{◌∙◌, ◌-◌, ℕ, Some, None, set, sym, ap, subst, set-set}
-use Rattle.std.proofs.lemmas.Option.{slice_get-get_or}
-use Rattle.thp_cell.specs.Prelude.{HasCaller}
+use Rattle.std.proofs.Common.{◌∙◌, ◌-◌, ℕ, Some, None, set, sym, ap, refl, subst, set-set}
+use Rattle.std.proofs.lemmas.Option.{slice_get_read}
 use Rattle.thp_worker.specs.Prelude.{SplitNext, answer_of, HeldDone}
-use Rattle.thp_worker.proofs.HoldingLaws.{place_in, mine, has_mine, no_split_held, held_again, split_held, split_failed}
+use Rattle.thp_worker.proofs.HoldingLaws.{place_at, mine, no_split_held, held_again, split_held, split_failed}
 use Rattle.thp_worker.proofs.node_pass.NodePass.split_next.Goals.{in-Ok, in-Err}
 use Rattle.thp_worker.proofs.node_pass.NodePass.split_next.Goals as goal
 
 pub returns-in_default : goal.returns-in_default
 returns-in_default g c =
-    let p = c.self.inside.pass in
     let bs = c.self.inside.batches.items in
-    let who = c.args.caller in
-    let has : HasCaller p who = subst (λ x. HasCaller x.pass who) (sym c.self.view_is) c.requires.caller in
-    let place : ℕ = who - c.callers-first.result.0 in
-    let at = place_in c.self.inside.cell.now p bs who c.callers-first.result.0 c.self.invariant has c.callers-first.ensures.first in
-    let is = slice_get-get_or bs place c.index_mut.result.now at.1 ∙ ap (λ b. Some b) (sym c.index_mut.ensures.value ∙ c.in_default.is) in
-    rw (← c.self.view_is) (no_split_held p bs _ who place at.0 at.1 is (ap (λ b. set bs place b) c.in_default.is))
+    let place : ℕ = c.args.caller - c.callers-first.result.0 in
+    let at = place_at c.self.invariant (sym c.self.view_is) c.requires.caller c.callers-first.ensures.first in
+    let is = slice_get_read bs _ place _ refl at.1 c.index_mut.ensures.value ∙ ap (λ b. Some b) c.in_default.is in
+    rw (← c.self.view_is) (no_split_held _ bs _ _ place at.0 at.1 is (ap (λ b. set bs place b) c.in_default.is))
 
 pub split_next-requires-clause-caller : goal.split_next-requires-clause-caller
 split_next-requires-clause-caller g c =
-    let p = c.self.inside.pass in
     let bs = c.self.inside.batches.items in
-    let who = c.args.caller in
-    let has : HasCaller p who = subst (λ x. HasCaller x.pass who) (sym c.self.view_is) c.requires.caller in
-    let place : ℕ = who - c.callers-first.result.0 in
-    let at = place_in c.self.inside.cell.now p bs who c.callers-first.result.0 c.self.invariant has c.callers-first.ensures.first in
-    let is = slice_get-get_or bs place c.index_mut.result.now at.1 ∙ ap (λ b. Some b) (sym c.index_mut.ensures.value ∙ c.in-Some.is) in
-    let own = mine c.self.inside.cell.now p bs who place c.in-Some.batch c.self.invariant at.0 is in
-    has_mine p who c.in-Some.batch own.0 has
+    let place : ℕ = c.args.caller - c.callers-first.result.0 in
+    let at = place_at c.self.invariant (sym c.self.view_is) c.requires.caller c.callers-first.ensures.first in
+    let is = slice_get_read bs _ place _ refl at.1 c.index_mut.ensures.value ∙ ap (λ b. Some b) c.in-Some.is in
+    (mine place c.self.invariant at.0 at.2 is).2
 
 pub invariant_of-self-2 : goal.invariant_of-self-2
 invariant_of-self-2 g c =
-    let p = c.self.inside.pass in
     let bs = c.self.inside.batches.items in
-    let who = c.args.caller in
-    let has : HasCaller p who = subst (λ x. HasCaller x.pass who) (sym c.self.view_is) c.requires.caller in
-    let place : ℕ = who - c.callers-first.result.0 in
-    let at = place_in c.self.inside.cell.now p bs who c.callers-first.result.0 c.self.invariant has c.callers-first.ensures.first in
-    let is = slice_get-get_or bs place c.index_mut.result.now at.1 ∙ ap (λ b. Some b) (sym c.index_mut.ensures.value ∙ c.in-Some.is) in
-    let own = mine c.self.inside.cell.now p bs who place c.in-Some.batch c.self.invariant at.0 is in
+    let place : ℕ = c.args.caller - c.callers-first.result.0 in
+    let at = place_at c.self.invariant (sym c.self.view_is) c.requires.caller c.callers-first.ensures.first in
+    let is = slice_get_read bs _ place _ refl at.1 c.index_mut.ensures.value ∙ ap (λ b. Some b) c.in-Some.is in
+    let own = mine place c.self.invariant at.0 at.2 is in
     let e = c.split_next.ensures in
-    let new = set bs place (Some c.split_next.new.batch) in
-    held_again c.self.inside.cell.now p c.split_next.new.pass bs new who place c.split_next.new.batch c.self.invariant e.same e.batches at.0 at.1 (sym (set-set bs place None (Some c.split_next.new.batch))) (e.same_caller ∙ own.0) (e.front own.1)
+    held_again _ _ _ bs _ _ place c.split_next.new.batch c.self.invariant e.same e.batches at.0 at.1 (sym (set-set bs place None (Some c.split_next.new.batch))) (e.same_caller ∙ own.0) (e.front own.1)
 
 pub returns : goal.returns
 returns g c =
-    let p = c.self.inside.pass in
     let bs = c.self.inside.batches.items in
-    let who = c.args.caller in
-    let has : HasCaller p who = subst (λ x. HasCaller x.pass who) (sym c.self.view_is) c.requires.caller in
-    let place : ℕ = who - c.callers-first.result.0 in
-    let at = place_in c.self.inside.cell.now p bs who c.callers-first.result.0 c.self.invariant has c.callers-first.ensures.first in
-    let is = slice_get-get_or bs place c.index_mut.result.now at.1 ∙ ap (λ b. Some b) (sym c.index_mut.ensures.value ∙ c.in-Some.is) in
-    let own = mine c.self.inside.cell.now p bs who place c.in-Some.batch c.self.invariant at.0 is in
+    let place : ℕ = c.args.caller - c.callers-first.result.0 in
+    let at = place_at c.self.invariant (sym c.self.view_is) c.requires.caller c.callers-first.ensures.first in
+    let is = slice_get_read bs _ place _ refl at.1 c.index_mut.ensures.value ∙ ap (λ b. Some b) c.in-Some.is in
+    let own = mine place c.self.invariant at.0 at.2 is in
     let e = c.split_next.ensures in
-    let q = c.split_next.new.pass in
     let new = set bs place (Some c.split_next.new.batch) in
     let now = sym (set-set bs place None (Some c.split_next.new.batch)) in
-    subst (λ x. HeldDone who SplitNext x (record { pass = q; batches = new }) (answer_of c.match-split_next.result c.match-split_next.reply)) c.self.view_is
+    subst (λ x. HeldDone c.args.caller SplitNext x (record { pass = c.split_next.new.pass; batches = new }) (answer_of c.match-split_next.result c.match-split_next.reply)) c.self.view_is
     (elim c.match-split_next.branch [
-      | in-Ok w ↦ rw (w.result-is, w.reply-is) (split_held p q bs new who place e.same at.0 at.1 c.in-Some.batch c.split_next.new.batch w.in-Ok.tried own.0 is now e.same_pages w.in-Ok.ensures.recorded)
-      | in-Err w ↦ rw w.result-is (split_failed p q bs new who place e.same at.0 at.1 c.in-Some.batch c.split_next.new.batch w.in-Err.fault own.0 is w.in-Err.ensures.kept now w.in-Err.ensures.failed)
+      | in-Ok w ↦ rw (w.result-is, w.reply-is) (split_held _ _ bs new _ place e.same at.0 at.1 c.in-Some.batch c.split_next.new.batch w.in-Ok.tried own.0 is now e.same_pages w.in-Ok.ensures.recorded)
+      | in-Err w ↦ rw w.result-is (split_failed _ _ bs new _ place e.same at.0 at.1 c.in-Some.batch c.split_next.new.batch w.in-Err.fault own.0 is w.in-Err.ensures.kept now w.in-Err.ensures.failed)
     ])
