@@ -175,6 +175,14 @@ pub record IsSearchedTo (numbers : List (Option ℕ)) (nexts : List ℕ) (id at 
   pub chain : IsChain nexts at rest
   pub ahead : (b : ℕ) → get_or numbers b None ≡ Some id → Contains rest b
 
+-- it begins at the first block of the number's bucket
+pub search_begun : (numbers : List (Option ℕ)) (nexts firsts : List ℕ) (id k at : ℕ) → IsSearchable numbers nexts firsts → k < 8192 → k ≡ bucket_at id → get_or firsts k 0 ≡ at → IsSearchedTo numbers nexts id at
+search_begun numbers nexts firsts id k at s below is first = let b = s.buckets k below in record {
+  rest = b.blocks;
+  chain = subst (λ (x : ℕ). IsChain nexts x b.blocks) first b.chain;
+  ahead = λ i e. b.every i (subst (λ (o : Option ℕ). IsOfBucket k o) (sym e) (sym is));
+}
+
 -- it goes on where a block has another number
 pub search_on : (numbers : List (Option ℕ)) (nexts : List ℕ) (id at : ℕ) → IsSearchedTo numbers nexts id at → at ≢ NIL → get_or numbers at None ≢ Some id → IsSearchedTo numbers nexts id (get_or nexts at 0)
 search_on numbers nexts id at w real other = go w.rest w.chain w.ahead where

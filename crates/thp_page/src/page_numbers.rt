@@ -83,33 +83,21 @@ impl PageNumbers {
         self.numbers[block as usize] = None;
     }
 
-    // The block with this number, if any.
+    // The block with this number, if any: a walk through the chain of its bucket.
     pub(crate) fn block_of(&self, id: PageId) -> Option<u32>
         ensures found { IfSome result (λ b. slice_index_or self.now b None ≡ Some id) }
         ensures inside { IfSome result (λ b. b < length self.now) }
         ensures absent { IfNone result ((b : ℕ) → slice_index_or self.now b None ≢ Some id) }
     {
-        find(&self.numbers, &self.nexts, self.firsts[bucket_of(id)], id)
-    }
-}
-
-// The block with this number, if any, in the chain of its bucket, which begins with `first`.
-fn find(numbers: &[Option<PageId>], nexts: &[u32], first: u32, id: PageId) -> Option<u32>
-    requires small { length nexts.now < 2 ^ 32 }
-    requires sizes { length numbers.now ≡ length nexts.now }
-    requires bucket { IsBucket numbers.now nexts.now first (bucket_at id) }
-    ensures found { IfSome result (λ b. slice_index_or numbers.now b None ≡ Some id) }
-    ensures inside { IfSome result (λ b. b < length numbers.now) }
-    ensures absent { IfNone result ((b : ℕ) → slice_index_or numbers.now b None ≢ Some id) }
-{
-    let mut block = first;
-    while block != NIL {
-        if is_number(numbers[block as usize], id) {
-            return Some(block);
+        let mut block = self.firsts[bucket_of(id)];
+        while block != NIL {
+            if is_number(self.numbers[block as usize], id) {
+                return Some(block);
+            }
+            block = self.nexts[block as usize];
         }
-        block = nexts[block as usize];
+        None
     }
-    None
 }
 
 // Whether this is the number of a block.
