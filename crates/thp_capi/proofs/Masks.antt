@@ -1,5 +1,5 @@
 -- The words of a set, one after the other.
-use Rattle.std.proofs.Common.{◌≡◌, ◌≢◌, ℕ, ◌+◌, ◌*◌, ◌/◌, ◌%◌, ◌<◌, Bool, List, length, set, get_or, ap, ◌∙◌, arith, nat_eq, inl, inr, get_or-set_same, get_or-set_other}
+use Rattle.std.proofs.Common.{◌≡◌, ◌≢◌, ℕ, ◌+◌, ◌*◌, ◌/◌, ◌%◌, ◌<◌, Bool, List, length, set, get_or, ap, ◌∙◌, arith, nat_eq, get_or-set_same, get_or-set_other}
 use Rattle.std.specs.Int.{bit_at}
 use Rattle.std.proofs.lemmas.Bool.Decides.{eqb_tells}
 use Rattle.thp_model.specs.Prelude.{has, in_words}
@@ -28,8 +28,4 @@ masks_none words truths i short = absurd (omega arith)
 pub masks_more : (words : List ℕ) (truths : List Bool) (k w : ℕ) → length words ≡ 8 → k < 8
     → ((i : ℕ) → i / 64 ≡ k → nat_eq (bit_at w (i % 64)) 1 ≡ has truths i)
     → MasksBelow k words truths → MasksBelow (k + 1) (set words k w) truths
-masks_more words truths k w eight h told below i short =
-    elim (eqb_tells (i / 64) k) [
-      | inl y ↦ in_set words k w i eight h y.1 ∙ told i y.1
-      | inr y ↦ in_other words k w i y.1 ∙ below i (lower k i short y.1)
-    ]
+masks_more words truths k w eight h told below i short = grind (arith, eqb_tells, in_set, in_other, lower)

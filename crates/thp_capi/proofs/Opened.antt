@@ -7,7 +7,6 @@ use Rattle.thp_node.specs.Prelude.{BatchState, IsInFront, rest}
 use Rattle.thp_model.specs.Prelude.{put_back_events, split_next_events}
 use Rattle.thp_cell.specs.Prelude.{at_front, BatchesStay, OtherBatchesStay, Called, Failed, IsJoined, below, from, DidPutBack, DidTry, PassState, HasCaller}
 use Rattle.thp_cell.specs.declared.fault.CellFault.{CellFault}
-use Rattle.thp_cell.specs.declared.fault.CellFault.TheVariants.{Busy, Refused}
 use Rattle.thp_capi.specs.PassBatches.{PassNext, PassBack, PassFailsOnBatch, fault_in}
 use Rattle.thp_capi.specs.Replies.{back_of, tried_of}
 use Rattle.thp_capi.specs.Sharing.{IsShared, OnlyOf, batch_of}
@@ -22,18 +21,7 @@ pub own_at : (t : TableId) (n m : ℕ) (p : PassState) (bs : Batches) → IsShar
 own_at t n m p bs shared k b within is = record { from = omega (arith, is); below = omega (arith, is, within, shared.places) }
 
 pub shared_stays : (t : TableId) (n m : ℕ) (p q : PassState) (bs : Batches) → IsShared t n m p bs → q ≡ at_front p q.front → BatchesStay p q → IsShared t n m q bs
-shared_stays t n m p q bs shared same stay =
-    let first : q.first ≡ p.first = ap (λ (x : PassState). x.first) same in
-    let end : q.end ≡ p.end = ap (λ (x : PassState). x.end) same in
-    record {
-      cell_is = ap (λ (x : PassState). x.cell) same ∙ shared.cell_is;
-      callers = ap (λ (x : PassState). x.callers) same ∙ shared.callers;
-      places = rw (first, end) shared.places;
-      room_is = rw first shared.room_is;
-      each = λ k b within at.
-          let was = shared.each k b within at in
-          (rw first was.0, stay b (own_at t n m p bs shared k b within was.0) was.1);
-    }
+shared_stays t n m p q bs shared same stay = grind (arith, own_at)
 
 -- batches that stay in front do so whoever's they are
 pub others_stay : (p q : PassState) (c : ℕ) → BatchesStay p q → OtherBatchesStay c p q
@@ -68,26 +56,14 @@ module _ (t : TableId) (n m room : ℕ) (p q : PassState) (bs new : Batches) (c 
 
 -- where the caller's batch is found
 pub found_at : (mark c place : ℕ) (p : PassState) (bs : Batches) → place + p.first ≡ c → batch_of (record { mark = mark; pass = p; batches = bs }) c ≡ get_or bs place None
-found_at mark c place p bs at =
-    let low : nat_le p.first c ≡ true = grind (arith, nat_tests, at) in
-    let is : c - p.first ≡ place = omega (arith, at) in
-    rw (low, is) refl
+found_at mark c place p bs at = grind (arith, nat_le, nat_tests)
 
 pub found_set : (mark c place : ℕ) (p : PassState) (bs : Batches) (x : Option BatchState) → place + p.first ≡ c → place < length bs → batch_of (record { mark = mark; pass = p; batches = set bs place x }) c ≡ x
 found_set mark c place p bs x at lt = found_at mark c place p (set bs place x) at ∙ get_or-set_same bs place x None lt
 
 -- and another caller's
 pub other_set : (mark c place : ℕ) (p q : PassState) (bs : Batches) (x : Option BatchState) → q ≡ at_front p q.front → place + p.first ≡ c → (d : ℕ) → d ≢ c → batch_of (record { mark = mark; pass = q; batches = set bs place x }) d ≡ batch_of (record { mark = mark; pass = p; batches = bs }) d
-other_set mark c place p q bs x same at d other = by_test (nat_le p.first d) refl
-  where
-    by_test : (t : Bool) → nat_le p.first d ≡ t → batch_of (record { mark = mark; pass = q; batches = set bs place x }) d ≡ batch_of (record { mark = mark; pass = p; batches = bs }) d
-    by_test true e =
-        let first : q.first ≡ p.first = ap (λ (x : PassState). x.first) same in
-        let le : p.first ≤ d = grind (arith, nat_tests, e) in
-        rw (first, e, get_or-set_other bs place (d - p.first) x None (λ f. other (omega (arith, at, f, le)))) refl
-    by_test false e =
-        let first : q.first ≡ p.first = ap (λ (x : PassState). x.first) same in
-        rw (first, e) refl
+other_set mark c place p q bs x same at d other = grind (arith, nat_le, nat_tests, get_or-set_other)
 
 -- ---- what calls about an open batch did
 
@@ -104,8 +80,7 @@ module _ (mark : ℕ) (p q : PassState) (bs new : Batches) (c place : ℕ) (same
       rw now (found_set mark c place q bs x (rw first at) lt)
 
   failed : (m : BatchState → ℕ) (b : BatchState) (f : CellFault) → get_or bs place None ≡ Some b → new ≡ bs → Failed p q None (m b) f → PassFailsOnBatch c m (record { mark = mark; pass = p; batches = bs }) (record { mark = mark; pass = q; batches = new }) (fault_in f)
-  failed m b Busy is stays fails = (λ i. record { mark = mark; pass = same i; batches = stays i }, rw (held b is) refl, rw (held b is) fails)
-  failed m b (Refused r) is stays fails = (λ i. record { mark = mark; pass = same i; batches = stays i }, rw (held b is) refl, rw (held b is) fails)
+  failed m b x is stays fails = grind (arith, held)
 
   pub next_done : (b b' : BatchState) (t : ThpTried) → t.kind ≤ 3 → get_or bs place None ≡ Some b → b.caller ≡ c → new ≡ set bs place (Some b') → b'.caller ≡ b.caller → b'.pages ≡ b.pages → Called p q b.caller (DidTry p.shape b b' (tried_of t))
       → PassNext c (record { mark = mark; pass = p; batches = bs }) (record { mark = mark; pass = q; batches = new }) (Ok t)
@@ -113,9 +88,7 @@ module _ (mark : ℕ) (p q : PassState) (bs new : Batches) (c place : ℕ) (same
 
   pub next_failed : (b b' : BatchState) (f : CellFault) → get_or bs place None ≡ Some b → b.caller ≡ c → new ≡ set bs place (Some b') → b' ≡ b → Failed p q None (length (split_next_events q.shape q.front b.caller (rest b))) f
       → PassNext c (record { mark = mark; pass = p; batches = bs }) (record { mark = mark; pass = q; batches = new }) (Err (fault_in f))
-  next_failed b b' f is own now stays fails =
-      let same : new ≡ bs = now ∙ ap (λ x. set bs place (Some x)) stays ∙ same_again bs place (Some b) is in
-      (only_of (Some b') now, tt, failed (λ x. length (split_next_events q.shape q.front c (rest x))) b f is same (subst (λ d. Failed p q None (length (split_next_events q.shape q.front d (rest b))) f) own fails))
+  next_failed b b' f is own now stays fails = grind (arith, same_again, only_of, failed)
 
   pub back_done : (b : BatchState) (r : ThpBack) → get_or bs place None ≡ Some b → b.caller ≡ c → new ≡ set bs place None → Called p q b.caller (DidPutBack p.shape b (back_of r))
       → PassBack c (record { mark = mark; pass = p; batches = bs }) (record { mark = mark; pass = q; batches = new }) (Ok r)
@@ -123,33 +96,15 @@ module _ (mark : ℕ) (p q : PassState) (bs new : Batches) (c place : ℕ) (same
 
   pub back_failed : (b b' : BatchState) (f : CellFault) → get_or bs place None ≡ Some b → b.caller ≡ c → new ≡ set bs place (Some b') → b' ≡ b → Failed p q None (length (put_back_events q.shape q.front b.caller b.pages)) f
       → PassBack c (record { mark = mark; pass = p; batches = bs }) (record { mark = mark; pass = q; batches = new }) (Err (fault_in f))
-  back_failed b b' f is own now stays fails =
-      let same : new ≡ bs = now ∙ ap (λ x. set bs place (Some x)) stays ∙ same_again bs place (Some b) is in
-      (only_of (Some b') now, tt, tt, tt, failed (λ x. length (put_back_events q.shape q.front c x.pages)) b f is same (subst (λ d. Failed p q None (length (put_back_events q.shape q.front d b.pages)) f) own fails))
+  back_failed b b' f is own now stays fails = grind (arith, same_again, only_of, failed)
 
 -- ---- parts, and passes of both
 
 pub shared_below : (t : TableId) (n m : ℕ) (p : PassState) (bs : Batches) (at k : ℕ) → IsShared t n m p bs → k + p.first ≡ at → at ≤ p.end → IsShared t n m (below p at) (take k bs)
-shared_below t n m p bs at k shared is le = record {
-  cell_is = shared.cell_is;
-  callers = shared.callers;
-  places = omega (arith, length-take k bs, shared.places, is, le);
-  room_is = shared.room_is;
-  each = λ i b within e.
-      let lt : i < k = omega (arith, length-take k bs, within) in
-      shared.each i b (omega (arith, length-take k bs, within)) (sym (get_or-take k bs i None lt) ∙ e);
-}
+shared_below t n m p bs at k shared is le = grind (arith, length-take, get_or-take)
 
 pub shared_from : (t : TableId) (n m room : ℕ) (p : PassState) (bs : Batches) (at k : ℕ) → IsShared t n m p bs → k + p.first ≡ at → at ≤ p.end → n ≤ at + room → IsShared t n room (from p at) (drop k bs)
-shared_from t n m room p bs at k shared is le enough = record {
-  cell_is = shared.cell_is;
-  callers = shared.callers;
-  places = omega (arith, length-drop k bs, shared.places, is, le);
-  room_is = enough;
-  each = λ i b within e.
-      let was = shared.each (k + i) b (omega (arith, length-drop k bs, within)) (sym (get_or-drop k bs i None) ∙ e) in
-      (omega (arith, was.0, is), was.1);
-}
+shared_from t n m room p bs at k shared is le enough = grind (arith, length-drop, get_or-drop)
 
 pub shared_joined : (t u : TableId) (n m h l room : ℕ) (p q r : PassState) (bs cs : Batches) → IsShared t n m p bs → IsShared u h l q cs → IsJoined p q r → BatchesStay p r → BatchesStay q r → p.end ≡ q.first → m ≤ room → IsShared t n room r (bs ++ cs)
 shared_joined t u n m h l room p q r bs cs left right j left-stay right-stay adjacent enough =

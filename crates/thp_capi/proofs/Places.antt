@@ -76,6 +76,4 @@ module _ (n m : NodeState) (bs : Batches) (engine : IsEngine (record { node = n;
 -- a put-back that was refused left all as it was
 pub back_refused : (n m : NodeState) (bs new : Batches) (c : ℕ) (b b' : BatchState) (r : Refusal) → get_or bs c None ≡ Some b → b.caller ≡ c → new ≡ set bs c (Some b') → b' ≡ b → Refused n m None (length (put_back_events n.shape n.journal b.caller b.pages)) r
     → BackFails c (record { node = n; batches = bs }) (record { node = m; batches = new }) (RefusedWith r)
-back_refused n m bs new c b b' r is own now stays refused =
-    let same : new ≡ bs = now ∙ ap (λ x. set bs c (Some x)) stays ∙ same_again bs c (Some b) is in
-    ((λ i. record { node = refused.same i; batches = same i }), rw is refl, rw is (subst (λ d. Refused n m None (length (put_back_events n.shape n.journal d b.pages)) r) own refused))
+back_refused n m bs new c b b' r is own now stays refused = grind (arith, same_again)

@@ -1,14 +1,12 @@
 -- The order of a queue, read from its history backwards: the event that queued a page last is the page's place.
-use Rattle.std.proofs.Common.{◌≡◌, ◌∙◌, ℕ, zero, suc, ◌+◌, ◌-◌, ◌<◌, ◌≤◌, Bool, true, false, cond, not, ◌||◌, List, [], ◌∷◌, ◌++◌, Some, None, length, take, drop, get_or, refl, ap, sym, subst, arith, nat_eq, eq-eqb, eqb-true, filter}
+use Rattle.std.proofs.Common.{◌≡◌, ◌∙◌, ℕ, ◌+◌, ◌-◌, ◌<◌, ◌≤◌, Bool, true, false, cond, not, ◌||◌, List, [], ◌∷◌, ◌++◌, Some, None, length, take, drop, get_or, refl, ap, sym, subst, arith, nat_eq, eq-eqb, eqb-true, filter}
 use Rattle.std.proofs.lemmas.List.{take_more, take_all, length-take}
 use Rattle.std.proofs.lemmas.List.Elements.{filter-append}
 use Rattle.thp_model.specs.declared.events.Event.{Event}
 use Rattle.thp_model.specs.declared.events.Outcome.{Outcome}
-use Rattle.thp_model.specs.declared.events.Outcome.TheVariants.{Stays, Queued, Freed}
 use Rattle.thp_model.specs.declared.events.What.{What}
-use Rattle.thp_model.specs.declared.events.What.TheVariants.{Alloc, UnmapWhole, UnmapSub, Unpin, Taken, Back}
 use Rattle.thp_model.specs.declared.shape.Shape.{Shape}
-use Rattle.thp_model.specs.Prelude.{History, IsLegal, queue, queue_after, queue_by, has_page, without, shrinks_underused}
+use Rattle.thp_model.specs.Prelude.{History, IsLegal, queue, queue_after, queue_by, has_page, without}
 use Rattle.thp_model.proofs.Bools.{by_bool, or_first, or_second}
 use Rattle.thp_model.proofs.LegalSteps.{legal_take}
 use Rattle.thp_model.proofs.ListPlaces.{append_none}
@@ -58,70 +56,39 @@ among_without xs (q ∷ ps) p e = go (nat_eq q p) refl (among_without xs ps p e)
 
 -- a page of a list that is among another is in that one
 among_times : (xs ps : List ℕ) (p : ℕ) → xs ≡ among xs ps → times p ps ≡ 0 → has_page p xs ≡ false
-among_times xs ps p e none =
-    let few : times p (among xs ps) ≤ times p ps = times-filter (λ q. has_page q xs) p ps in
-    let T : List ℕ → Type 0 = λ ys. times p ys ≤ times p ps in
-    let fewer : times p xs ≤ times p ps = subst T (sym e) few in
-    hasnt_times p xs (omega (arith, none, fewer))
+among_times xs ps p e none = grind (arith, times, times-filter, hasnt_times)
 
 -- ---- an event's effect on the queue, undone
 
 drop_one : (xs ps : List ℕ) → NoneTwice ps → xs ≡ among xs (drop 1 ps) → xs ≡ among xs ps
-drop_one xs [] once e = e
-drop_one xs (p ∷ ps) once e =
-    let one : cond {A = ℕ} (nat_eq p p) 1 0 ≡ 1 = ap (λ b. cond {A = ℕ} b 1 0) (eq-eqb p p refl) in
-    let none : times p ps ≡ 0 = omega (arith, once p, times-cons p p ps, one) in
-    let gone : has_page p xs ≡ false = among_times xs ps p e none in
-    e ∙ sym (ap (λ b. cond b (p ∷ among xs ps) (among xs ps)) gone)
+drop_one xs x once e = grind (arith, nat_eq, eq-eqb, times, times-cons, among_times)
 
 leave : (xs ps : List ℕ) (p : ℕ) → xs ≡ among xs (without p ps) → xs ≡ among xs ps
 leave xs ps p e = e ∙ among_without xs ps p (among_times xs (without p ps) p e (times-without p ps))
 
 by_outcome : (xs ps : List ℕ) (p : ℕ) (o : Outcome) → joins_by p o ≡ None → xs ≡ among xs (queue_by ps p o) → xs ≡ among xs ps
-by_outcome xs ps p Stays none e = e
-by_outcome xs ps p Queued none e = absurd (cc)
-by_outcome xs ps p Freed none e = leave xs ps p e
+by_outcome xs ps p x none e = grind (arith, leave)
 
 by_switch : (xs ps : List ℕ) (p : ℕ) (b : Bool) → cond b (Some p) None ≡ None → xs ≡ among xs (cond b (ps ++ p ∷ []) ps) → xs ≡ among xs ps
-by_switch xs ps p true none e = absurd (cc)
-by_switch xs ps p false none e = e
+by_switch xs ps p x none e = grind arith
 
 -- an event that queues no page
 pub without_join : (s : Shape) (w : What) (xs ps : List ℕ) → joins s w ≡ None → NoneTwice ps → xs ≡ among xs (queue_after s ps w) → xs ≡ among xs ps
-without_join s (Alloc p b) xs ps none once e = by_switch xs ps p (shrinks_underused s) none e
-without_join s (UnmapWhole o p r) xs ps none once e = by_outcome xs ps p o none e
-without_join s (UnmapSub o p f n r) xs ps none once e = by_outcome xs ps p o none e
-without_join s (Unpin o p r) xs ps none once e = by_outcome xs ps p o none e
-without_join s (Taken p) xs ps none once e = drop_one xs ps once e
-without_join s (Back p) xs ps none once e = absurd (cc)
-without_join s w xs ps none once e = e
+without_join s x xs ps none once e = grind (arith, by_switch, by_outcome, drop_one)
 
 outcome_joins : (ps : List ℕ) (p q : ℕ) (o : Outcome) → joins_by q o ≡ Some p → queue_by ps q o ≡ ps ++ p ∷ []
-outcome_joins ps p q Stays e = absurd (cc)
-outcome_joins ps p q Queued e = ap (λ z. ps ++ z ∷ []) (same q p e) where
-  same : (x y : ℕ) → Some x ≡ Some y → x ≡ y
-  same x y e = cc
-outcome_joins ps p q Freed e = absurd (cc)
+outcome_joins ps p q x e = grind arith
 
 switch_joins : (ps : List ℕ) (p q : ℕ) (b : Bool) → cond b (Some q) None ≡ Some p → cond b (ps ++ q ∷ []) ps ≡ ps ++ p ∷ []
-switch_joins ps p q true e = ap (λ z. ps ++ z ∷ []) (same q p e) where
-  same : (x y : ℕ) → Some x ≡ Some y → x ≡ y
-  same x y e = cc
-switch_joins ps p q false e = absurd (cc)
+switch_joins ps p q x e = grind arith
 
 -- an event that queues a page
 pub with_join : (s : Shape) (w : What) (ps : List ℕ) (p : ℕ) → joins s w ≡ Some p → queue_after s ps w ≡ ps ++ p ∷ []
-with_join s (Alloc q b) ps p e = switch_joins ps p q (shrinks_underused s) e
-with_join s (UnmapWhole o q r) ps p e = outcome_joins ps p q o e
-with_join s (UnmapSub o q f n r) ps p e = outcome_joins ps p q o e
-with_join s (Unpin o q r) ps p e = outcome_joins ps p q o e
-with_join s (Back q) ps p e = outcome_joins ps p q Queued e
-with_join s w ps p e = absurd (cc)
+with_join s x ps p e = grind (arith, switch_joins, outcome_joins)
 
 -- a page at the end that is not in xs
 skip_last : (xs ps : List ℕ) (p : ℕ) → has_page p xs ≡ false → xs ≡ among xs (ps ++ p ∷ []) → xs ≡ among xs ps
-skip_last xs ps p none e =
-    e ∙ filter-append (λ q. has_page q xs) ps (p ∷ []) ∙ ap (λ b. among xs ps ++ cond b (p ∷ []) []) none ∙ append_none (among xs ps)
+skip_last xs ps p none e = grind (arith, filter-append, append_none)
 
 -- the ends of equal lists
 ends : (xs ys : List ℕ) (x y : ℕ) → xs ++ x ∷ [] ≡ ys ++ y ∷ [] → (xs ≡ ys) × (x ≡ y)
@@ -171,8 +138,7 @@ pub record Finds (s : Shape) (h : History) (i left p : ℕ) : Type 0 where
 
 -- a list with a page has some
 not_none : (p n : ℕ) (ps : List ℕ) → has_page p (take n ps) ≡ true → 0 < n
-not_none p zero ps e = absurd (cc)
-not_none p (suc n) ps e = omega arith
+not_none p x ps e = grind arith
 
 -- the events before an event, and with it
 before : (h : History) (i : ℕ) (e : Event) → i < length h → e ≡ get_or h i e → take (i + 1) h ≡ take i h ++ e ∷ []
@@ -184,13 +150,7 @@ module _ (s : Shape) (h : History) (legal : IsLegal s h) where
   once_at i = λ q. once_queued s (take i h) q (legal_take s h i legal)
 
   pub walk_begins : (n i : ℕ) → n ≡ length (queue s h) → i ≡ length h → Walked s h i n
-  walk_begins n i e f =
-      let whole : take n (queue s h) ≡ queue s h = take_all n (queue s h) (omega (arith, e)) in
-      let past : take i h ≡ h = take_all i h (omega (arith, f)) in
-      record {
-        short = omega (arith, e);
-        rest = rw (whole, past) (sym (among_self (queue s h)));
-      }
+  walk_begins n i e f = grind (arith, take_all, among_self)
 
   module _ (at left : ℕ) (e : Event) (some : 0 < at) (within : at ≤ length h) (is : e ≡ get_or h (at - 1) e) (m : Walked s h at left) where
     back : at - 1 + 1 ≡ at
@@ -204,10 +164,7 @@ module _ (s : Shape) (h : History) (legal : IsLegal s h) where
 
     -- an event that queues no page
     pub walk_on : joins s e.what ≡ None → Walked s h (at - 1) left
-    walk_on none = record {
-      short = m.short;
-      rest = without_join s e.what (take left (queue s h)) (queue s (take (at - 1) h)) none (once_at (at - 1)) rest_after;
-    }
+    walk_on none = grind (arith, without_join, once_at, rest_after)
 
     module _ (p : ℕ) (joined : joins s e.what ≡ Some p) where
       ended : queue_after s (queue s (take (at - 1) h)) e.what ≡ queue s (take (at - 1) h) ++ p ∷ []
@@ -237,6 +194,4 @@ module _ (s : Shape) (h : History) (legal : IsLegal s h) where
 -- before the first event nothing is queued
 pub walk_ends : (s : Shape) (h : History) (left : ℕ) → Walked s h 0 left → left ≡ 0
 unfolding queue
-walk_ends s h left m =
-    let none : take left (queue s h) ≡ [] = m.rest in
-    omega (arith, length-take left (queue s h), ap length none, m.short)
+walk_ends s h left m = grind (arith, length-take)

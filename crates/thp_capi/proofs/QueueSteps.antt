@@ -106,15 +106,7 @@ pub record Read (n : NodeState) (at : ℕ) (e : Event) (joined : Option ℕ) : T
 -- the engine's fields say it of the engine
 pub reads : {inside seen : EngineState} → inside ≡ seen → {events : History} → events ≡ inside.node.journal → IsLegal inside.node.shape inside.node.journal → {shape : Shape} → shape ≡ inside.node.shape →
     (at : ℕ) → at ≤ length events → (e : Event) → e ≡ get_or events (at - 1) e → {joined : Option ℕ} → joined ≡ joins shape (get_or events (at - 1) e).what → Read seen.node at e joined
-reads {inside} {seen} view {events} value legal {shape} same at below e is {joined} queues =
-    let R : EngineState → Type 0 = λ s. Read s.node at e joined in
-    let H : History → Type 0 = λ h. e ≡ get_or h (at - 1) e in
-    subst R view (record {
-      legal = legal;
-      within = omega (arith, ap length value, below);
-      is = subst H value is;
-      queues = sym (queues ∙ ap (λ (x : Event). joins shape x.what) (sym is) ∙ ap (λ (s : Shape). joins s e.what) same);
-    })
+reads {inside} {seen} view {events} value legal {shape} same at below e is {joined} queues = grind (arith, get_or)
 
 -- ---- the walk, its marks and its buffer
 
@@ -136,9 +128,7 @@ module _ (n : NodeState) (legal : IsLegal n.shape n.journal) (buffer : List ℕ)
   progress_ends now found at left e m = fill_ends (queue n.shape n.journal) buffer now left e m.filling
 
   pub progress_done : (now : List ℕ) (found : List Bool) (at left : ℕ) → at ≡ 0 → Progress n buffer now found at left → left ≡ 0
-  progress_done now found at left e m =
-      let W : ℕ → Type 0 = λ k. Walked n.shape n.journal k left in
-      walk_ends n.shape n.journal left (subst W e m.walked)
+  progress_done now found at left e m = grind (arith, Walked, walk_ends)
 
   -- the event before `at`
   module _ (now : List ℕ) (found : List Bool) (at left : ℕ) (e : Event) (some : 0 < at) (within : at ≤ length n.journal) (is : e ≡ get_or n.journal (at - 1) e) (m : Progress n buffer now found at left) where

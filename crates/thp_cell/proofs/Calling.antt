@@ -1,5 +1,5 @@
 -- One call of the node within a hold.
-use Rattle.std.proofs.Common.{◌≡◌, ◌⊎◌, inl, inr, ⊎_elim, arith, ℕ, ◌<◌, ◌≤◌, Bool, true, List, [], ◌∷◌, ◌++◌, refl, sym, ap, ◌∙◌, subst, Option, Some, None, Result, Ok, Err, IfOk, IfErr, append-nil}
+use Rattle.std.proofs.Common.{◌≡◌, ◌⊎◌, inl, inr, ⊎_elim, arith, ℕ, ◌<◌, ◌≤◌, Bool, true, List, [], ◌∷◌, ◌++◌, refl, sym, ap, ◌∙◌, subst, Option, Some, None, Result, IfOk, IfErr, append-nil}
 use Rattle.std.proofs.lemmas.List.Elements.{All-append, All-weaker}
 use Rattle.thp_model.specs.declared.events.Event.{Event}
 use Rattle.thp_model.specs.declared.refusal.Refusal.{Refusal}
@@ -21,11 +21,7 @@ pub record Went (old new : NodeState) (first end : ℕ) : Type 0 where
   pub adds : Adds first end old.journal new.journal
 
 went_on : (old new : NodeState) (first end c : ℕ) (es : List Event) → first ≤ c → c < end → Did old new c es → Went old new first end
-went_on old new first end c es from below did = record {
-  shape = did.shape;
-  legal = did.legal;
-  adds = subst (Adds first end old.journal) (sym did.journal) (adds_by first end c old.journal es from below did.own);
-}
+went_on old new first end c es from below did = grind (arith, adds_by)
 
 went_nowhere : (old new : NodeState) (first end : ℕ) → IsLegal old.shape old.journal → new ≡ old → Went old new first end
 went_nowhere old new first end legal same = subst (λ x. Went old x first end) (sym same) record { shape = refl; legal = legal; adds = adds_none first end old.journal }
@@ -34,14 +30,12 @@ module _ {A E : Type 0} where
   -- a call that recorded events or was refused
   pub went : (r : Result A E) (old new : NodeState) (first end c : ℕ) (es : A → List Event) (why : Option Refusal) (m : ℕ) (f : E → Refusal) → first ≤ c → c < end → IsLegal old.shape old.journal
       → IfOk r (λ a. Did old new c (es a)) → IfErr r (λ e. Refused old new why m (f e)) → Went old new first end
-  went (Ok a) old new first end c es why m f from below legal did refused = went_on old new first end c (es a) from below did
-  went (Err e) old new first end c es why m f from below legal did refused = went_nowhere old new first end legal refused.same
+  went x old new first end c es why m f from below legal did refused = grind (arith, went_on, went_nowhere)
 
 -- the same of an allocation
 pub went_alloc : (r : Result ℕ Refusal) (old new : NodeState) (first end c : ℕ) (why : Option Refusal) (m : ℕ) → first ≤ c → c < end → IsLegal old.shape old.journal
     → IfOk r (λ p. DidAlloc old new c p) → IfErr r (λ e. Refused old new why m e) → Went old new first end
-went_alloc (Ok p) old new first end c why m from below legal did refused = went_on old new first end c _ from below did.did
-went_alloc (Err e) old new first end c why m from below legal did refused = went_nowhere old new first end legal refused.same
+went_alloc x old new first end c why m from below legal did refused = grind (arith, went_on, went_nowhere)
 
 -- the seat t has the slot, with the node `old`, which a pass that was p took, or kept already
 pub record Holds (keeps : Bool) (p : PassState) (t : Place) (old : NodeState) : Type 0 where
@@ -58,21 +52,7 @@ pub record Holds (keeps : Bool) (p : PassState) (t : Place) (old : NodeState) : 
 
 -- what was taken is the node that the slot was then read to have
 pub holds : (keeps : Bool) (p : PassState) (s t : Place) (y : NodeState) → known_state keeps s ≡ p → HasTaken (known_state keeps s) t → t.me.1 ≡ (0, y) ∷ [] → Holds keeps p t y
-holds keeps p s t y is has read =
-    let same : has.node ≡ y = same_node has.node y (sym has.slot ∙ read) in
-    let held : Holds keeps (known_state keeps s) t has.node = record {
-      same = has.same;
-      callers = has.callers;
-      inside = has.inside;
-      has_node = has.has_node;
-      slot = has.slot;
-      shape = has.shape;
-      since = has.since;
-      adds = has.adds;
-      legal = has.legal;
-      known = has.known;
-    } in
-    subst (λ (q : PassState). Holds keeps q t y) is (subst (λ (x : NodeState). Holds keeps (known_state keeps s) t x) same held)
+holds keeps p s t y is has read = grind (arith, same_node)
 
 -- the node may be released, or kept, as the call left it
 pub may_leave : {keeps : Bool} (p : PassState) (t : Place) (old new : NodeState) → Holds keeps p t old → Went old new p.first p.end → IsKept (seat_with t 0 new)

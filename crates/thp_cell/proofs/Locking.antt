@@ -18,17 +18,7 @@ use Rattle.thp_cell.proofs.Seating.{Cell, reseated, stays, nobody}
 module _ (n : ℕ) (s : Shape) where
   -- what a seat that saw the whole history knows
   knows_all : (h : History) (v : SeatKnowledge) (has_node : Bool) → SeatAgrees n s h v → v.first < v.end → SeatsAgree n s h (seat_with_front v has_node h)
-  knows_all h v has_node was live = record {
-    lives = λ _. live;
-    knows = λ _. record {
-      callers = was.callers;
-      shape = was.shape;
-      inside = was.inside;
-      since = since_same v.first v.end h;
-      old_fronts = All-nil _;
-      at_node = λ _. refl;
-    };
-  }
+  knows_all h v has_node was live = grind (arith, since_same, All-nil)
 
   -- the lock step finds the bit clear and takes the node, or finds it set and changes nothing
   pub locks : (slots id : ℕ) (v : SeatKnowledge) → v.has_node ≡ false → v.first < v.end → v.old_fronts ≡ [] → Allows (RuleHolds n s) slots id (v, []) 0 (λ x. bit_or x 1) (Locked (step slots 0 1 0 none) (v, []))

@@ -1,5 +1,5 @@
 -- The store that ends a hold keeps the rule: the node is in the slot again, with the events of the hold.
-use Rattle.std.proofs.Common.{◌≡◌, inr, ℕ, ◌*◌, ◌^◌, ◌<◌, ◌≤◌, true, false, List, [], ◌∷◌, set, length, refl, sym, ap, ◌∙◌, subst, arith, true≢false, cond, sum_by}
+use Rattle.std.proofs.Common.{◌≡◌, inr, ℕ, ◌*◌, ◌^◌, ◌<◌, true, false, List, [], ◌∷◌, set, length, refl, sym, ap, ◌∙◌, subst, arith, true≢false, cond, sum_by}
 use Rattle.std.proofs.lemmas.List.Elements.{All-nil}
 use mathlib.Core.Option.{some, none}
 use Rattle.atomic_table.specs.Table.{gives, rest, step, Allows}
@@ -13,9 +13,7 @@ use Rattle.thp_cell.proofs.Seating.{reseated}
 
 -- a slot's node is the one that was put there
 pub same_node : (x y : NodeState) → ◌≡◌ {A = List (ℕ × NodeState)} ((0, x) ∷ []) ((0, y) ∷ []) → x ≡ y
-same_node x y e =
-    let p : ◌≡◌ {A = ℕ × NodeState} (0, x) (0, y) = cc in
-    ap (λ (z : ℕ × NodeState). z.1) p
+same_node x y e = grind arith
 
 module _ (n : ℕ) (s : Shape) where
   stores : (slots id : ℕ) (v : SeatKnowledge) (node : NodeState) (new : ℕ) → v.has_node ≡ true → v.first < v.end → node.shape ≡ v.shape → IsLegal node.shape node.journal → length (queue node.shape node.journal) < 2 ^ 32
@@ -71,14 +69,7 @@ module _ (n : ℕ) (s : Shape) where
 
 -- the seat is free after the store
 pub freed : (s u : Place) (lent : IsLent s) → u.me ≡ (seat_with_front s.me.0 false lent.node.journal, []) → IsFree u
-freed s u lent e = record {
-  callers = subst (λ (m : SeatValue). m.0.first < m.0.end) (sym e) lent.callers;
-  inside = subst (λ (m : SeatValue). m.0.end ≤ m.0.callers) (sym e) lent.inside;
-  no_node = ap (λ (m : SeatValue). m.0.has_node) e;
-  no_old_fronts = ap (λ (m : SeatValue). m.0.old_fronts) e;
-  no_slot = ap (λ (m : SeatValue). m.1) e;
-  legal = subst (λ (m : SeatValue). IsLegal m.0.shape m.0.front) (sym e) (subst (λ z. IsLegal z lent.node.journal) lent.shape lent.legal);
-}
+freed s u lent e = grind arith
 
 -- what the lending of a slot asks of the seat that has it
 pub may_lend : (s : Place) → HasSlot s → (old : NodeState) × (s.me.1 ≡ (0, old) ∷ rest s.me.1)

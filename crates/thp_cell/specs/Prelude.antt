@@ -1,4 +1,4 @@
--- The definitions and types of this library, each by its name alone: one line of a file imports what it cites.
+-- Re-exports the definitions and types of this library: other files import those that they cite from here, in one line.
 pub use Rattle.thp_cell.specs.Calls.{BatchesStay, Called, Failed, FlightsLast, Follows, IsBusy, IsJoined, IsRefused, OtherBatchesStay, PartsStay, at_front, below, from, keeping, returning_node}
 pub use Rattle.thp_cell.specs.Rule.{Adds, AllBelow, Home, IsOther, IsOwn, NoneOf, OldFrontAgrees, OnlyOf, RuleHolds, SeatAgrees, SeatsAgree, Since, holding, root, serving, word_of}
 pub use Rattle.thp_cell.specs.Says.{DidAlloc, DidLose, DidOne, DidPutBack, DidScan, DidTake, DidTry}

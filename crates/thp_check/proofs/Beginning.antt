@@ -9,7 +9,7 @@ use Rattle.thp_page.specs.Prelude.{slot_at}
 use Rattle.thp_live_pages.specs.Prelude.{block_of}
 use Rattle.thp_live_pages.proofs.Starting.{few_events}
 use Rattle.thp_live_pages.proofs.Starting.{node_none}
-use Rattle.thp_check.specs.Prelude.{NodeState, FlightsState, blocks_in, Keeps, Means, is_taker}
+use Rattle.thp_check.specs.Prelude.{NodeState, blocks_in, Keeps, Means, is_taker}
 
 no_allocations : allocations [] ≡ 0
 unfolding count_of
@@ -42,18 +42,7 @@ means_none s r low size order empty none fs room shape next closed taker = recor
 -- a replay that notes whether the event was a take
 pub means_after : (s : Shape) (h : History) (e : Event) (r t : NodeState) → Keeps s (h ++ e ∷ []) r → t.shape ≡ r.shape → t.places ≡ r.places → t.flights ≡ r.flights → t.next ≡ r.next → t.closed ≡ r.closed →
     ((c : ℕ) → takes_by c e.caller e.what ≡ is_taker t.taker c) → Means s (h ++ e ∷ []) t
-means_after s h e r t k shape pages fs next closed taker = record {
-  kept = record {
-    low = k.low;
-    shape_is = shape ∙ k.shape_is;
-    node = rw pages k.node;
-    flying = λ c. k.flying c ∙ ap (λ f. map (λ b. Some b) (blocks_in f c)) (sym fs);
-    room = ap (λ (f : FlightsState). length f.callers) fs ∙ k.room;
-    next_is = next ∙ k.next_is;
-    closed_is = closed ∙ k.closed_is;
-  };
-  taking = λ c. is_taking_push h c e ∙ taker c;
-}
+means_after s h e r t k shape pages fs next closed taker = grind (arith, is_taking_push)
 
 -- a replay of the first k events has allocated k pages at most
 pub few_pages : (s : Shape) (es : History) (k : ℕ) (r : NodeState) → Means s (take k es) r → r.next ≤ k

@@ -1,5 +1,5 @@
 -- The lists of flights: a block joins one, or leaves it.
-use Rattle.std.proofs.Common.{◌≡◌, ◌≢◌, ℕ, zero, suc, ◌%◌, ◌<◌, ◌≤◌, Bool, true, false, cond, not, ◌∷◌, ◌++◌, List, [], Option, Some, None, length, take, add-one, ◌+◌, refl, ap, ap₂, sym, ◌∙◌, subst, arith, nat_eq, get_or, eq-eqb, ne_eqb, eqb-true, inl, inr, ◌⊎◌, replicate, Contains, length-set, slice_get, slice_set, IfSome, filter, get_or-set_same, get_or-set_other}
+use Rattle.std.proofs.Common.{◌≡◌, ◌≢◌, ℕ, zero, suc, ◌%◌, ◌<◌, ◌≤◌, Bool, true, false, cond, ◌∷◌, ◌++◌, List, [], Option, Some, None, length, take, add-one, ◌+◌, refl, ap, ap₂, sym, ◌∙◌, subst, arith, nat_eq, get_or, eq-eqb, ne_eqb, eqb-true, inl, inr, ◌⊎◌, replicate, Contains, length-set, slice_get, slice_set, IfSome, filter, get_or-set_same, get_or-set_other}
 use Rattle.std.proofs.lemmas.Bool.Decides.{eqb_tells}
 use Rattle.std.proofs.lemmas.List.Elements.{filter-append, Contains-push_cases}
 use Rattle.thp_links.specs.declared.link.Link.{Link}
@@ -168,17 +168,11 @@ module _ (cs : List ℕ) (ls : List (List ℕ)) (links : List Link) (m : AreLink
     -- the same, where the list and its place are told by equations
     module _ (k : ℕ) (ys : List ℕ) (place : k ≡ c % 64) (is : ys ≡ longer) where
       pub joined_linked : (new : List Link) → Stands ys new → SameOutside ys links new → AreLinked (slice_set cs b c) (slice_set ls k ys) new
-      joined_linked new stands outside =
-          let S : List ℕ → Type 0 = λ zs. Stands zs new in
-          let O : List ℕ → Type 0 = λ zs. SameOutside zs links new in
-          let P : ℕ → List ℕ → Type 0 = λ n zs. AreLinked (slice_set cs b c) (slice_set ls n zs) new in
-          subst (λ n. P n ys) (sym place) (subst (λ zs. P (c % 64) zs) (sym is) (joins_linked new (subst S is stands) (subst O is outside)))
+      joined_linked new stands outside = grind (arith, slice_set, joins_linked)
 
       pub joined_blocks : (f : FlightsState) → record { callers = cs; lists = ls } ≡ f → (d : ℕ) →
           blocks_in (record { callers = slice_set cs b c; lists = slice_set ls k ys }) d ≡ cond (nat_eq c d) (blocks_in f d ++ b ∷ []) (blocks_in f d)
-      joined_blocks f view d =
-          ap₂ (λ n (zs : List ℕ). blocks_in (record { callers = slice_set cs b c; lists = slice_set ls n zs }) d) place is ∙ joins d
-          ∙ ap (λ g. cond (nat_eq c d) (blocks_in g d ++ b ∷ []) (blocks_in g d)) view
+      joined_blocks f view d = grind (arith, slice_set, joins, nat_eq)
 
   -- a block leaves the flight of caller c
   module _ (b c : ℕ) (there : Contains (list_at ls (c % 64)) b) (its : caller_at cs b ≡ c) where
@@ -190,20 +184,7 @@ module _ (cs : List ℕ) (ls : List (List ℕ)) (links : List Link) (m : AreLink
 
     pub leaves : (d : ℕ) → blocks_in left d ≡ flight_left (Some c) b d (blocks_in (record { callers = cs; lists = ls }) d)
     unfolding blocks_in
-    leaves d = elim (eqb_tells (d % 64) (c % 64)) [
-      | inl y ↦
-          ap (filter (λ x. nat_eq (caller_at cs x) d)) (list_after ls c d shorter m.count y.1 ∙ ap (λ n. without b (list_at ls n)) (sym y.1)) ∙ go (nat_eq c d) refl
-      | inr y ↦
-          ap (filter (λ x. nat_eq (caller_at cs x) d)) (list_other ls (c % 64) (d % 64) shorter y.1)
-          ∙ sym (ap (λ a. cond a (without b (filter (λ x. nat_eq (caller_at cs x) d) (list_at ls (d % 64)))) (filter (λ x. nat_eq (caller_at cs x) d) (list_at ls (d % 64)))) (unequal c d y.1))
-    ] where
-      go : (a : Bool) → nat_eq c d ≡ a →
-          filter (λ x. nat_eq (caller_at cs x) d) (without b (list_at ls (d % 64)))
-          ≡ cond a (without b (filter (λ x. nat_eq (caller_at cs x) d) (list_at ls (d % 64)))) (filter (λ x. nat_eq (caller_at cs x) d) (list_at ls (d % 64)))
-      go true e = filter_swap (λ x. nat_eq (caller_at cs x) d) (λ x. not (nat_eq x b)) (list_at ls (d % 64))
-      go false e =
-          filter_weaker (λ x. nat_eq (caller_at cs x) d) (λ x. not (nat_eq x b)) (list_at ls (d % 64))
-          (λ x t. ap not (ne_eqb x b (λ z. let same : c ≡ d = sym its ∙ ap (caller_at cs) (sym z) ∙ eqb-true (caller_at cs x) d t in let yes = eq-eqb c d same in cc)))
+    leaves d = grind (arith, eqb_tells, nat_eq, list_after, list_other, unequal, filter_swap, filter_weaker, ne_eqb, eqb-true, eq-eqb)
 
     pub leaves_linked : (new : List Link) → Stands shorter new → SameOutside (list_at ls (c % 64)) links new → AreLinked cs (slice_set ls (c % 64) shorter) new
     leaves_linked new stands outside = record {
@@ -230,15 +211,11 @@ module _ (cs : List ℕ) (ls : List (List ℕ)) (links : List Link) (m : AreLink
     -- the same, where the list and its place are told by equations
     module _ (k : ℕ) (ys : List ℕ) (place : k ≡ c % 64) (is : ys ≡ shorter) where
       pub left_linked : (new : List Link) → Stands ys new → SameOutside (list_at ls (c % 64)) links new → AreLinked cs (slice_set ls k ys) new
-      left_linked new stands outside =
-          let S : List ℕ → Type 0 = λ zs. Stands zs new in
-          let P : ℕ → List ℕ → Type 0 = λ n zs. AreLinked cs (slice_set ls n zs) new in
-          subst (λ n. P n ys) (sym place) (subst (λ zs. P (c % 64) zs) (sym is) (leaves_linked new (subst S is stands) outside))
+      left_linked new stands outside = grind (arith, slice_set, leaves_linked)
 
       pub left_blocks : (f : FlightsState) → record { callers = cs; lists = ls } ≡ f → (d : ℕ) →
           blocks_in (record { callers = cs; lists = slice_set ls k ys }) d ≡ flight_left (Some c) b d (blocks_in f d)
-      left_blocks f view d =
-          ap₂ (λ n (zs : List ℕ). blocks_in (record { callers = cs; lists = slice_set ls n zs }) d) place is ∙ leaves d ∙ ap (λ g. flight_left (Some c) b d (blocks_in g d)) view
+      left_blocks f view d = grind (arith, slice_set, leaves)
 
 -- what stands at a place inside a list needs no default
 any_default : (ls : List (List ℕ)) (k : ℕ) (xs ys : List ℕ) → k < length ls → get_or ls k xs ≡ get_or ls k ys
@@ -303,8 +280,7 @@ module _ (cs : List ℕ) (ls : List (List ℕ)) (links : List Link) (m : AreLink
       Stands-inside b (m.each_stands (c % 64)) (subst P (sym same) (there_is (list_at ls (c % 64)) k short))
 
   caller_is : (k b n : ℕ) → b ≡ get_or its_list k NIL → k < length xs → n ≡ get_or cs b n → caller_at f.callers b ≡ n
-  caller_is k b n next below is =
-      ap (λ (g : FlightsState). caller_at g.callers b) (sym view) ∙ any_number cs b 0 n (omega (arith, place_inside k b next below, m.sizes)) ∙ sym is
+  caller_is k b n next below is = grind (arith, any_number, place_inside)
 
   pub nothing_there : None ≡ slice_get xs 0 → slice_get (blocks_in f c) 0 ≡ None
   unfolding blocks_in
@@ -312,20 +288,14 @@ module _ (cs : List ℕ) (ls : List (List ℕ)) (links : List Link) (m : AreLink
 
   pub found_there : (k b n : ℕ) → b ≡ get_or its_list k NIL → filter is_its (take k its_list) ≡ [] → k < length xs → n ≡ get_or cs b n → n ≡ c → slice_get (blocks_in f c) 0 ≡ Some b
   unfolding blocks_in
-  found_there k b n next passed below is same =
-      first_found is_its its_list k (omega (arith, below, ap (λ (ys : List ℕ). length ys) list_is)) passed
-      (ap is_its (sym next) ∙ eq-eqb (caller_at f.callers b) c (caller_is k b n next below is ∙ same))
-      ∙ ap (λ (x : ℕ). Some x) (sym next)
+  found_there k b n next passed below is same = grind (arith, first_found, list_is, eq-eqb, caller_is)
 
   pub none_ended : (k : ℕ) → length xs ≤ k → filter is_its (take k its_list) ≡ [] → slice_get (blocks_in f c) 0 ≡ None
   unfolding blocks_in
   none_ended k past passed = none_left is_its its_list k (omega (arith, past, ap (λ (ys : List ℕ). length ys) list_is)) passed
 
   pub passed_on : (k b n : ℕ) → b ≡ get_or its_list k NIL → filter is_its (take k its_list) ≡ [] → k < length xs → n ≡ get_or cs b n → n ≢ c → filter is_its (take (k + 1) its_list) ≡ []
-  passed_on k b n next passed below is other =
-      ap (λ j. filter is_its (take j its_list)) (add-one k)
-      ∙ none_more is_its its_list k (omega (arith, below, ap (λ (ys : List ℕ). length ys) list_is)) passed
-      (ap is_its (sym next) ∙ ne_eqb (caller_at f.callers b) c (λ e. other (sym (caller_is k b n next below is) ∙ e)))
+  passed_on k b n next passed below is other = grind (arith, add-one, none_more, list_is, ne_eqb, caller_is)
 
   pub kept_on : (k b n : ℕ) → b ≡ get_or its_list k NIL → k < length xs → n ≡ get_or cs b n → n ≡ c → filter is_its (take (k + 1) its_list) ≡ filter is_its (take k its_list) ++ b ∷ []
   kept_on k b n next below is same =

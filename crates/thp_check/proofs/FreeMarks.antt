@@ -5,7 +5,7 @@ use Rattle.std.proofs.lemmas.Bool.Decides.{eqb_tells}
 use Rattle.thp_model.specs.declared.events.Event.{Event}
 use Rattle.thp_model.specs.declared.events.Outcome.{Outcome}
 use Rattle.thp_model.specs.declared.events.What.{What}
-use Rattle.thp_model.specs.declared.events.What.TheVariants.{Alloc, UnmapWhole, UnmapSub, Unpin}
+use Rattle.thp_model.specs.declared.events.What.TheVariants.{Alloc}
 use Rattle.thp_model.specs.declared.shape.Shape.{Shape}
 use Rattle.thp_model.specs.Prelude.{least_free, allocates, frees, is_freed, is_live, block_in_use, History, some_event, Fits, FitsAlloc, FitsBy, IsLegal, in_words}
 use Rattle.thp_model.proofs.Bools.{by_bool, and_both, and-true}
@@ -21,9 +21,7 @@ no_both : (z : Bool) → z ≡ false → z ≡ true → ⊥
 no_both z e f = cc
 
 cond_and : (x l u : Bool) → cond x false (l && not u) ≡ (l && not (cond x true u))
-cond_and true true u = refl
-cond_and true false u = refl
-cond_and false l u = refl
+cond_and x y u = grind arith
 
 -- ---- which blocks are in use
 
@@ -40,25 +38,18 @@ module _ (s : Shape) (h k : History) (m : Homed s h) (n : Homed s k) where
             (λ z. absurd (no_both (block_in_use h b) (block_free s h b m (λ q there. no_both (block_in_use k b) z (block_taken s k q b n (f q there)))) y))
 
 by_other : (p q r : ℕ) (o : Option ℕ) (u : Outcome) → (nat_eq p r && is_freed u) ≡ true → nat_eq q p ≡ false → cond (nat_eq q r) (cond (is_freed u) None o) o ≡ o
-by_other p q r o u f y =
-    let same : p ≡ r = eqb-true p r (and_both _ _ f).0 in
-    ap (λ x. cond x (cond (is_freed u) None o) o) (ap (nat_eq q) (sym same) ∙ y)
+by_other p q r o u f y = grind (arith, eqb-true, and_both, nat_eq)
 
 -- an event that frees another page leaves the block of this one
 freed_other : (p q : ℕ) (o : Option ℕ) (w : What) → frees p w ≡ true → nat_eq q p ≡ false → block_after q o w ≡ o
-freed_other p q o (UnmapWhole u r set) f y = by_other p q r o u f y
-freed_other p q o (UnmapSub u r first count set) f y = by_other p q r o u f y
-freed_other p q o (Unpin u r set) f y = by_other p q r o u f y
-freed_other p q o w f y = absurd (cc)
+freed_other p q o x f y = grind (arith, by_other)
 
 -- what takes a block is an allocation there, and nothing else is one
 taker : (w : What) (c : ℕ) → taken_block w ≡ Some c → (p : ℕ) × (w ≡ Alloc p c)
-taker (Alloc p b) c e = (p, let same : b ≡ c = cc in ap (λ x. Alloc p x) same)
-taker w c e = absurd (cc)
+taker x c e = grind arith
 
 no_taker : (w : What) (q : ℕ) → taken_block w ≡ None → allocates q w ≡ false
-no_taker (Alloc p b) q e = absurd (cc)
-no_taker w q e = refl
+no_taker x q e = grind arith
 
 module _ (s : Shape) (h : History) (e : Event) (legal : IsLegal s h) (fits : Fits s h e) where
   abbrev pub k : History
@@ -145,11 +136,7 @@ module _ (s : Shape) (h : History) (e : Event) (legal : IsLegal s h) (fits : Fit
 
   -- where no page with a block is freed, and none is new, each page lies as before
   nothing_moves : taken_block e.what ≡ None → ((p : ℕ) → frees p e.what ≡ true → block_of h p ≡ None) → (q : ℕ) → block_of k q ≡ block_of h q
-  nothing_moves none homeless q =
-      block_push h e q
-      ∙ by_bool (frees q e.what) _
-      (λ f. block_freed q (block_of h q) e.what f ∙ sym (homeless q f))
-      (λ f. block_stays q (block_of h q) e.what (no_taker e.what q none) f)
+  nothing_moves none homeless q = grind (arith, block_push, by_bool, block_freed, block_stays, no_taker)
 
   -- whether a block is in use after the event
   abbrev use_after : Option ℕ → Option ℕ → ℕ → Bool
@@ -163,31 +150,12 @@ module _ (s : Shape) (h : History) (e : Event) (legal : IsLegal s h) (fits : Fit
   used None None t f b = quiet (nothing_moves t f) b
 
   free_then : (taken freed : Option ℕ) (b : ℕ) → IsInsideNode freed → free_after taken freed b (nat_lt b s.blocks && not (block_in_use h b)) ≡ (nat_lt b s.blocks && not (use_after taken freed b))
-  free_then (Some c) freed b f = cond_and (nat_eq b c) (nat_lt b s.blocks) (block_in_use h b)
-  free_then None (Some c) b f = elim (eqb_tells b c) [
-    | inl y ↦
-        ap (λ x. cond x true (nat_lt b s.blocks && not (block_in_use h b))) y.0
-        ∙ sym (ap (λ x. nat_lt b s.blocks && not (cond x false (block_in_use h b))) y.0 ∙ ap (λ x. x && true) (lt-ltb b s.blocks (omega (arith, y.1, f))))
-    | inr y ↦
-        ap (λ x. cond x true (nat_lt b s.blocks && not (block_in_use h b))) y.0
-        ∙ sym (ap (λ x. nat_lt b s.blocks && not (cond x false (block_in_use h b))) y.0)
-  ]
-  free_then None None b f = refl
+  free_then x freed b f = grind (arith, cond_and, nat_eq, nat_lt, eqb_tells, lt-ltb)
 
   -- the words with these bits changed are those of the blocks that are free then
   pub marks_push : (words others : List ℕ) (freed : Option ℕ) → MarksFree s h words → IsFreed h e.what freed → length others ≡ length words →
       ((b : ℕ) → in_words others b ≡ free_after (taken_block e.what) freed b (in_words words b)) → MarksFree s k others
-  marks_push words others freed a f size changed = record {
-    marked = λ b.
-        changed b
-        ∙ ap (free_after (taken_block e.what) freed b) (a.marked b)
-        ∙ free_then (taken_block e.what) freed b (inside freed f)
-        ∙ ap (λ x. nat_lt b s.blocks && not x) (sym (used (taken_block e.what) freed refl f b));
-    size = omega (arith, size, a.size);
-  } where
-    inside : (o : Option ℕ) → IsFreed h e.what o → IsInsideNode o
-    inside None f = tt
-    inside (Some c) f = (m.from f.0 c f.2).below
+  marks_push words others freed a f size changed = grind (arith, free_then, nat_lt, used, m)
 
 -- ---- where a page that is known by its slot lies
 
@@ -208,10 +176,7 @@ lies_nowhere s h t q p node none = go (block_of h p) refl where
 -- the block where the page was found that is freed
 pub freed_found : (s : Shape) (h : History) (t : Table) (q : List ℕ) (w : What) (p : ℕ) (o : Option ℕ) → IsNode s h t q → frees p w ≡ true → ((r : ℕ) → frees r w ≡ true → Some p ≡ Some r) →
     MatchOption o ((b : ℕ) → HoldsPage (slot_at t b) p → ⊥) (λ b. HoldsPage (slot_at t b) p) → IsFreed h w o
-freed_found s h t q w p None node f same none = λ r g.
-    let is : p ≡ r = let e : Some p ≡ Some r = same r g in cc in
-    ap (block_of h) (sym is) ∙ lies_nowhere s h t q p node none
-freed_found s h t q w p (Some b) node f same held = (p, f, lies_held s h t q p b node held)
+freed_found s h t q w p x node f same none = grind (arith, lies_nowhere, lies_held)
 
 -- it is one of the node's, and has a bit
 pub freed_inside : (s : Shape) (h : History) (w : What) (words : List ℕ) (o : Option ℕ) → IsLegal s h → MarksFree s h words → IsFreed h w o → IfSome o (λ b. b < 64 * length words)

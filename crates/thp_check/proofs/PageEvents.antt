@@ -1,11 +1,11 @@
 -- What an event of a page call says where it fits, and what it leaves of the flights.
-use Rattle.std.proofs.Common.{◌≡◌, ◌≤◌, arith, ℕ, Bool, true, false, cond, List, [], ◌∷◌, ◌++◌, Option, Some, None, refl, ap, sym, ◌∙◌, nat_eq, eq-eqb}
+use Rattle.std.proofs.Common.{◌≡◌, ◌≤◌, arith, ℕ, Bool, true, List, [], ◌∷◌, ◌++◌, Option, None, ap, sym, ◌∙◌, nat_eq, eq-eqb}
 use Rattle.thp_model.specs.declared.events.Event.{Event}
 use Rattle.thp_model.specs.declared.events.Outcome.{Outcome}
 use Rattle.thp_model.specs.declared.events.Outcome.TheVariants as outcome
 use Rattle.thp_model.specs.declared.events.What.{What}
 use Rattle.thp_model.specs.declared.shape.Shape.{Shape}
-use Rattle.thp_model.specs.Prelude.{History, by, is_live, is_closed, flight_by, Fits, Gives, page_released, Tallies, flight, has_page, without, refusal, gain_call, loss_call, gain_what, loss_what}
+use Rattle.thp_model.specs.Prelude.{History, by, is_live, is_closed, flight_by, Fits, Gives, page_released, Tallies, flight, without, refusal, gain_call, loss_call, gain_what, loss_what}
 use Rattle.thp_model.proofs.Bools.{by_bool}
 use Rattle.thp_model.proofs.Narrowing.{Whole}
 use Rattle.thp_model.proofs.Flights.{flight_push}
@@ -18,7 +18,7 @@ use Rattle.thp_model.specs.declared.page_call.Gain.{Gain}
 use Rattle.thp_model.specs.declared.page_call.Gain.TheVariants as gain
 use Rattle.thp_model.specs.declared.page_call.Loss.{Loss}
 use Rattle.thp_model.specs.declared.page_call.Loss.TheVariants as loss
-use Rattle.thp_live_pages.specs.Prelude.{IsSlot, standing_of, PageStoreState, Lost, batch_of, left_by}
+use Rattle.thp_live_pages.specs.Prelude.{IsSlot, standing_of, PageStoreState, Lost, batch_of}
 use Rattle.thp_live_pages.proofs.Homing.{Homed}
 use Rattle.thp_live_pages.proofs.PageEvents.{ByOutcome, by_outcome, tallies_loss, outcome_told}
 use Rattle.thp_live_pages.proofs.Standings.{standing_flying}
@@ -26,32 +26,18 @@ use Rattle.thp_check.specs.Prelude.{flight_left}
 
 -- what the fitting event of a gain says
 pub gain_allowed : (s : Shape) (h : History) (c p : ℕ) (g : Gain) → Fits s h (by c (gain_what g p)) → refusal s h (gain_call g p) ≡ None
-gain_allowed s h c p gain.MapWhole f = f
-gain_allowed s h c p (gain.MapSub first n) f = f
-gain_allowed s h c p gain.SplitPmd f = f
-gain_allowed s h c p gain.Pin f = f
-gain_allowed s h c p (gain.Write first n) f = f
-gain_allowed s h c p (gain.Zero first n) f = f
+gain_allowed s h c p x f = grind arith
 
 -- a gain leaves each flight
 pub gain_flight : (h : History) (c p : ℕ) (g : Gain) (d : ℕ) → flight (h ++ by c (gain_what g p) ∷ []) d ≡ flight h d
-gain_flight h c p gain.MapWhole d = flight_push h d c (gain_what gain.MapWhole p)
-gain_flight h c p (gain.MapSub f n) d = flight_push h d c (gain_what (gain.MapSub f n) p)
-gain_flight h c p gain.SplitPmd d = flight_push h d c (gain_what gain.SplitPmd p)
-gain_flight h c p gain.Pin d = flight_push h d c (gain_what gain.Pin p)
-gain_flight h c p (gain.Write f n) d = flight_push h d c (gain_what (gain.Write f n) p)
-gain_flight h c p (gain.Zero f n) d = flight_push h d c (gain_what (gain.Zero f n) p)
+gain_flight h c p x d = grind (arith, flight_push)
 
 -- what the fitting event of a loss says
 pub loss_allowed : (s : Shape) (h : History) (c p : ℕ) (l : Loss) (o : Outcome) (r : List Bool) → Fits s h (by c (loss_what l p o r)) → refusal s h (loss_call l p) ≡ None
-loss_allowed s h c p loss.UnmapWhole o r f = f.0
-loss_allowed s h c p (loss.UnmapSub first n) o r f = f.0
-loss_allowed s h c p loss.Unpin o r f = f.0
+loss_allowed s h c p x o r f = grind arith
 
 loss_gives : (s : Shape) (h : History) (c p : ℕ) (l : Loss) (o : Outcome) (r : List Bool) → Fits s h (by c (loss_what l p o r)) → Gives s h (h ++ by c (loss_what l p o r) ∷ []) p o r
-loss_gives s h c p loss.UnmapWhole o r f = f.1
-loss_gives s h c p (loss.UnmapSub first n) o r f = f.1
-loss_gives s h c p loss.Unpin o r f = f.1
+loss_gives s h c p x o r f = grind arith
 
 -- an event of that loss that fits tells no other outcome and no other frames
 pub loss_told : (s : Shape) (h : History) (c b : ℕ) (x : Slot) (l : Loss) (closed : Bool) (old new : PageStoreState) (done : Done) (left : Option ℕ) (o : Outcome) (set : List Bool) → Homed s h → IsSlot s h b x →
@@ -71,32 +57,16 @@ loss_told s h c b x l closed old new done left o set homed was shut lost f =
 
 -- a flight after a loss, by its outcome
 pub loss_flight_by : (h : History) (c p : ℕ) (l : Loss) (o : Outcome) (r : List Bool) (d : ℕ) → flight (h ++ by c (loss_what l p o r) ∷ []) d ≡ flight_by (flight h d) p o
-loss_flight_by h c p loss.UnmapWhole o r d = flight_push h d c (loss_what loss.UnmapWhole p o r)
-loss_flight_by h c p (loss.UnmapSub f n) o r d = flight_push h d c (loss_what (loss.UnmapSub f n) p o r)
-loss_flight_by h c p loss.Unpin o r d = flight_push h d c (loss_what loss.Unpin p o r)
+loss_flight_by h c p x o r d = grind (arith, flight_push)
 
 -- a freed page leaves the flight in which it stands, and no other
 freed_leaves : (s : Shape) (h : History) (p d : ℕ) → Sound s h → without p (flight h d) ≡ flight_left (batch_of (standing_of s h p)) p d (flight h d)
-freed_leaves s h p d sound =
-    by_bool (has_page p (flight h d)) _
-    (λ y. sym (ap (λ w. flight_left (batch_of w) p d (flight h d)) (standing_flying s h p d sound y) ∙ ap (λ b. cond b (without p (flight h d)) (flight h d)) (eq-eqb d d refl)))
-    (λ y. let same : without p (flight h d) ≡ flight h d = without_none p (flight h d) (times_hasnt p (flight h d) y) in go (batch_of (standing_of s h p)) same) where
-      go : (o : Option ℕ) → without p (flight h d) ≡ flight h d → without p (flight h d) ≡ flight_left o p d (flight h d)
-      go None e = e
-      go (Some c) e = both (nat_eq c d) where
-        both : (b : Bool) → without p (flight h d) ≡ cond b (without p (flight h d)) (flight h d)
-        both true = refl
-        both false = e
+freed_leaves s h p d sound = grind (arith, by_bool, standing_flying, eq-eqb, without_none, times_hasnt, nat_eq)
 
 -- the flights after a loss
 pub loss_flight : (s : Shape) (h : History) (c b : ℕ) (x : Slot) (l : Loss) (closed : Bool) (old new : PageStoreState) (done : Done) (left : Option ℕ) (r : List Bool) (d : ℕ) → Homed s h → IsSlot s h b x →
     Lost l closed x old new b done left → flight (h ++ by c (loss_what l x.id done.outcome r) ∷ []) d ≡ flight_left left x.id d (flight h d)
-loss_flight s h c b x l closed old new done left r d homed was lost =
-    loss_flight_by h c x.id l done.outcome r d ∙ go done.outcome ∙ ap (λ o. flight_left o x.id d (flight h d)) (sym (lost.left_is ∙ ap (left_by done.outcome) was.stands)) where
-      go : (o : Outcome) → flight_by (flight h d) x.id o ≡ flight_left (left_by o (standing_of s h x.id)) x.id d (flight h d)
-      go outcome.Freed = freed_leaves s h x.id d homed.grown.sound
-      go outcome.Queued = refl
-      go outcome.Stays = refl
+loss_flight s h c b x l closed old new done left r d homed was lost = grind (arith, loss_flight_by, freed_leaves)
 
 -- the numbers of a range that some page has are small
 pub whole_small : (first count : ℕ) → Whole first count → (first ≤ 65535) × (count ≤ 65535)

@@ -1,5 +1,5 @@
 -- What a replay shows of its pages: their numbers by block, and what its table says of one.
-use Rattle.std.proofs.Common.{◌≡◌, ℕ, zero, suc, ◌<◌, ◌+◌, ◌^◌, Bool, true, false, not, cond, if◌then◌else◌, ◌&&◌, ◌||◌, List, [], ◌∷◌, ◌++◌, Option, Some, None, length, map, take, get_or, refl, ap, ap₂, sym, ◌∙◌, subst, arith, nat_lt, slice_get, IsSome, is_some, Result, Ok, Err, IfOk}
+use Rattle.std.proofs.Common.{◌≡◌, ℕ, zero, suc, ◌<◌, ◌+◌, ◌^◌, Bool, true, false, not, cond, if◌then◌else◌, ◌&&◌, ◌||◌, List, [], ◌∷◌, ◌++◌, Option, Some, None, length, map, take, get_or, refl, ap, ap₂, sym, ◌∙◌, subst, arith, nat_lt, slice_get, IsSome, is_some, Result, IfOk}
 use Rattle.std.specs.Int.{from_bool}
 use Rattle.std.specs.List.{filter, range_with_len}
 use Rattle.std.proofs.lemmas.List.{take_more, map-append}
@@ -7,7 +7,7 @@ use Rattle.std.proofs.lemmas.List.Elements.{filter-append}
 use Rattle.std.proofs.lemmas.List.FromFn.{map-range_with_len_more}
 use Rattle.thp_model.specs.declared.events.What.TheVariants.{Split}
 use Rattle.thp_model.specs.declared.shape.Shape.{Shape}
-use Rattle.thp_model.specs.Prelude.{is_live, is_used, total, whole, block_in_use, is_held, History, PageState, Tallies, size, total_at, zero_at, zero_set, used_set, holds, set_of, has, subpages, is_zero_filled, is_partly_mapped, shrinks_underused, get_or-set_of}
+use Rattle.thp_model.specs.Prelude.{is_live, is_used, whole, block_in_use, is_held, History, PageState, Tallies, size, total_at, zero_at, zero_set, used_set, holds, set_of, has, subpages, is_zero_filled, is_partly_mapped, shrinks_underused, get_or-set_of}
 use Rattle.thp_model.proofs.ListPlaces.{append_none}
 use Rattle.thp_model.proofs.PageRefusals.{held_is}
 use Rattle.thp_model.proofs.Tallying.{size_is, total_is, whole_is}
@@ -91,21 +91,16 @@ module _ (s : Shape) (h : History) (p : ℕ) (t : PageState) (m : Tallies s h p 
   within i = ap (nat_lt i) (size_is s h p t m)
 
   both : (x y a b : Bool) → x ≡ y → (y ≡ true → a ≡ b) → (x && a) ≡ (y && b)
-  both x true a b e f = rw (e, f refl) refl
-  both x false a b e f = rw e refl
+  both x y a b e f = grind arith
 
   below : (i n : ℕ) → nat_lt i n ≡ true → i < n
   below i n e = grind arith
 
   pub used_is : used_set t ≡ set_of (λ i. nat_lt i (subpages s) && is_used h p i)
-  used_is =
-      set_of-ext (λ i. nat_lt i (size t) && nat_lt 0 (total_at t i)) (λ i. nat_lt i (subpages s) && is_used h p i)
-      (λ i l. both _ _ _ _ (within i) (λ y. ap (nat_lt 0) (sym (total_is s h p i t m (below i (subpages s) y))) ∙ sym (ap (λ b. b && nat_lt 0 (total h p i)) live)))
+  used_is = grind (arith, set_of-ext, nat_lt, both, within, total_is, below)
 
   pub zero_is : zero_set t ≡ set_of (λ i. nat_lt i (subpages s) && is_zero_filled h p i)
-  zero_is =
-      set_of-ext (λ i. nat_lt i (size t) && zero_at t i) (λ i. nat_lt i (subpages s) && is_zero_filled h p i)
-      (λ i l. both _ _ _ _ (within i) (λ y. m.zero i (below i (subpages s) y)))
+  zero_is = grind (arith, set_of-ext, nat_lt, both, within, below)
 
   pub frames_are : set_of (holds t) ≡ set_of (is_held s h p)
   frames_are = set_of-ext (holds t) (is_held s h p) (λ i l. sym (held_is s h p i t m live))
@@ -148,10 +143,7 @@ unsaid_there s h r m p b set held n partly count part =
 -- all, where it isn't split
 pub held_unsplit : (t : PageState) (n : ℕ) → n ≡ t.order → t.split ≡ false → set_of (λ i. nat_lt i (2 ^ n)) ≡ set_of (holds t)
 unfolding size
-held_unsplit t n e f = set_of-ext (λ i. nat_lt i (2 ^ n)) (holds t) (λ i l. rw (e, f) (go (nat_lt i (2 ^ t.order)))) where
-  go : (x : Bool) → x ≡ (x && true)
-  go true = refl
-  go false = refl
+held_unsplit t n e f = grind (arith, set_of-ext, nat_lt)
 
 -- those in use, but for the zero-filled ones where their frames were given back
 pub held_split : (t : PageState) (used filled : List Bool) → used ≡ used_set t → filled ≡ zero_set t → t.split ≡ true → t.freed_zero_frames ≡ true → set_of (λ i. has used i && not (has filled i)) ≡ set_of (holds t)
@@ -177,23 +169,16 @@ taken_more t n = ap (filter (is_taken t)) (range_more n) ∙ filter-append (is_t
 
 -- those passed, with one more that is taken, or that isn't
 pub taken_yes : (t : Table) (n : ℕ) (ys zs : List ℕ) → ys ≡ filter (is_taken t) (range_with_len 0 n) → IsSome (slot_at t n) → zs ≡ ys ++ n ∷ [] → zs ≡ filter (is_taken t) (range_with_len 0 (n + 1))
-taken_yes t n ys zs e there is =
-    is ∙ ap (λ (xs : List ℕ). xs ++ n ∷ []) e
-    ∙ sym (taken_more t n ∙ ap (λ b. filter (is_taken t) (range_with_len 0 n) ++ cond b (n ∷ []) []) there)
+taken_yes t n ys zs e there is = grind (arith, taken_more)
 
 pub taken_no : (t : Table) (n : ℕ) (ys : List ℕ) → ys ≡ filter (is_taken t) (range_with_len 0 n) → slot_at t n ≡ None → ys ≡ filter (is_taken t) (range_with_len 0 (n + 1))
-taken_no t n ys e empty =
-    e
-    ∙ sym (taken_more t n ∙ ap (λ b. filter (is_taken t) (range_with_len 0 n) ++ cond b (n ∷ []) []) (ap is_some empty) ∙ append_none (filter (is_taken t) (range_with_len 0 n)))
+taken_no t n ys e empty = grind (arith, taken_more, is_some, append_none)
 
 -- ---- the pages of some blocks
 
 -- the number that is read where a page lies
 pub number_is : (t : Table) (b p : ℕ) → IsSome (slot_at t b) → AtSlot t b (λ x. p ≡ x.id) → p ≡ page_at t b
-number_is t b p there read = go (slot_at t b) refl there where
-  go : (o : Option Slot) → slot_at t b ≡ o → IsSome o → p ≡ page_at t b
-  go None e i = absurd (cc)
-  go (Some x) e i = read x e ∙ sym (ap number_or_0 e)
+number_is t b p there read = grind arith
 
 -- an element of a list
 pub got : (xs : List ℕ) (k d : ℕ) → k < length xs → slice_get xs k ≡ Some (get_or xs k d)
@@ -210,15 +195,10 @@ pages_more t bs ps k p below e f =
 -- some blocks of a replay are those where the pages ps lie
 module _ (s : Shape) (h : History) (r : NodeState) (m : Means s h r) (blocks : NodeState → List ℕ) (ps : List ℕ) (lie : LieIn h ps (blocks r)) (u v : NodeState) (is : u ≡ r) (same : v ≡ r) where
   pub each_of : (bs cs : List ℕ) → bs ≡ blocks u → cs ≡ bs → (k b : ℕ) → slice_get cs k ≡ Some b → IsSome (slot_at v.places.table b)
-  each_of bs cs e f k b g =
-      let P : NodeState → Type 0 = λ w. IsSome (slot_at w.places.table b) in
-      let all : cs ≡ blocks r = f ∙ e ∙ ap blocks is in
-      subst P (sym same) (each_there s h r.places.table r.places.queue m.kept.node ps (blocks r) lie k b (sym (ap (λ (xs : List ℕ). slice_get xs k) all) ∙ g))
+  each_of bs cs e f k b g = grind (arith, each_there, slice_get)
 
   pub pages_are : (bs cs : List ℕ) → bs ≡ blocks u → cs ≡ bs → map (page_at v.places.table) cs ≡ ps
-  pages_are bs cs e f =
-      let all : cs ≡ blocks r = f ∙ e ∙ ap blocks is in
-      ap₂ (λ (w : NodeState) (xs : List ℕ). map (page_at w.places.table) xs) same all ∙ numbers_are s h r.places.table r.places.queue m.kept.node ps (blocks r) lie
+  pages_are bs cs e f = grind (arith, numbers_are)
 
 -- the switch, by the threshold
 pub shrinks_is : (s : Shape) → shrinks_underused s ≡ is_some s.underused
@@ -226,20 +206,8 @@ shrinks_is s = elim s.underused as (λ o. shrinks_underused (record s { underuse
 
 -- a consequence of what is so of a value
 pub if_ok_then : {A E : Type 0} (r : Result A E) (P Q : A → Type 0) → ((x : A) → P x → Q x) → IfOk r P → IfOk r Q
-if_ok_then (Ok x) P Q f p = f x p
-if_ok_then (Err e) P Q f p = p
+if_ok_then x y z f p = grind arith
 
 -- a replay whose links were read means what it meant
 pub means_read : (s : Shape) (h : History) (r : NodeState) (p : PageStoreState) (most : ℕ) → Means s h r → Relinks r.places p most → Means s h (record r { places = p })
-means_read s h r p most m same = record {
-  kept = record {
-    shape_is = m.kept.shape_is;
-    low = m.kept.low;
-    node = node_read s h r.places p most m.kept.node same;
-    flying = m.kept.flying;
-    room = m.kept.room;
-    next_is = m.kept.next_is;
-    closed_is = m.kept.closed_is;
-  };
-  taking = m.taking;
-}
+means_read s h r p most m same = grind (arith, node_read)

@@ -39,32 +39,17 @@ no_both z e f = cc
 pub goes_on : (s : Shape) (h : History) (e : Event) (old new : NodeState) → Means s h old → IsNode s (h ++ e ∷ []) new.places.table new.places.queue →
     ((d : ℕ) → LieIn (h ++ e ∷ []) (flight (h ++ e ∷ []) d) (blocks_in new.flights d)) → length new.flights.callers ≡ length old.flights.callers → is_alloc e.what ≡ false → closes e.what ≡ false →
     new.shape ≡ old.shape → new.next ≡ old.next → new.closed ≡ old.closed → Keeps s (h ++ e ∷ []) new
-goes_on s h e old new m node fs size a k shape next closed = record {
-  low = m.kept.low;
-  shape_is = shape ∙ m.kept.shape_is;
-  node = node;
-  flying = fs;
-  room = size ∙ m.kept.room;
-  next_is = next ∙ m.kept.next_is ∙ sym (count_same is_alloc h e a);
-  closed_is = closed ∙ m.kept.closed_is ∙ sym (some_same closes h e k);
-}
+goes_on s h e old new m node fs size a k shape next closed = grind (arith, count_same, some_same)
 
 -- flights that stay are those of the history
 kept_blocks : (s : Shape) (h : History) (old new : NodeState) → Means s h old → new.flights ≡ old.flights → (d : ℕ) → LieIn h (flight h d) (blocks_in new.flights d)
 kept_blocks s h old new m fs d = m.kept.flying d ∙ ap (λ f. map (λ n. Some n) (blocks_in f d)) (sym fs)
 
 plain_gain : (g : Gain) (p : ℕ) → (is_alloc (gain_what g p) ≡ false) × (closes (gain_what g p) ≡ false)
-plain_gain gain.MapWhole p = (refl, refl)
-plain_gain (gain.MapSub f n) p = (refl, refl)
-plain_gain gain.SplitPmd p = (refl, refl)
-plain_gain gain.Pin p = (refl, refl)
-plain_gain (gain.Write f n) p = (refl, refl)
-plain_gain (gain.Zero f n) p = (refl, refl)
+plain_gain x p = grind arith
 
 plain_loss : (l : Loss) (p : ℕ) (o : Outcome) (r : List Bool) → (is_alloc (loss_what l p o r) ≡ false) × (closes (loss_what l p o r) ≡ false)
-plain_loss loss.UnmapWhole p o r = (refl, refl)
-plain_loss (loss.UnmapSub f n) p o r = (refl, refl)
-plain_loss loss.Unpin p o r = (refl, refl)
+plain_loss x p o r = grind arith
 
 -- an event about a page that lies nowhere
 pub gain_absent : (s : Shape) (h : History) (c p : ℕ) (g : Gain) (old : NodeState) → Means s h old → ((b : ℕ) → HoldsPage (slot_at old.places.table b) p → ⊥) →
@@ -206,12 +191,7 @@ alloc_closed s h c p b old m shut =
     let closed : is_closed h ≡ true = sym m.kept.closed_is ∙ shut in (λ f. no_both (is_closed h) (open_alloc s h f.allowed).0 closed, (closed, refl))
 
 pub alloc_other : (s : Shape) (h : History) (c p b : ℕ) (old : NodeState) → Means s h old → old.closed ≡ false → p ≢ old.next → IsMisfit s h (by c (what.Alloc p b)) (misfit.Number old.next)
-alloc_other s h c p b old m unclosed other = (
-  λ f. other (f.number ∙ sym m.kept.next_is),
-  (sym m.kept.closed_is ∙ unclosed, (ap (λ (n : ℕ). Some n) m.kept.next_is, λ e. other (sym (same_number old.next p e)))),
-) where
-  same_number : (a b : ℕ) → Some a ≡ Some b → a ≡ b
-  same_number a b e = cc
+alloc_other s h c p b old m unclosed other = grind arith
 
 -- a block with a page is in use
 filled_use : (s : Shape) (h : History) (b : ℕ) (old : NodeState) → Means s h old → (b < length old.places.table.slots → IsSome (slot_at old.places.table b)) → b < s.blocks → block_in_use h b ≡ true
@@ -222,10 +202,7 @@ filled_use s h b old m taken inside = go (slot_at old.places.table b) refl (take
 
 pub alloc_taken : (s : Shape) (h : History) (c p b : ℕ) (old : NodeState) → Means s h old → old.closed ≡ false → p ≡ old.next → (b < length old.places.table.slots → IsSome (slot_at old.places.table b)) →
     IsMisfit s h (by c (what.Alloc p b)) misfit.BlockTaken
-alloc_taken s h c p b old m unclosed number taken = (
-  λ f. no_both (block_in_use h b) f.free (filled_use s h b old m taken f.inside),
-  (sym m.kept.closed_is ∙ unclosed, number ∙ m.kept.next_is, filled_use s h b old m taken),
-)
+alloc_taken s h c p b old m unclosed number taken = grind (arith, no_both, filled_use)
 
 -- a close
 pub close_goes : (s : Shape) (h : History) (c : ℕ) (old new : NodeState) → Means s h old → old.closed ≡ false → new.shape ≡ old.shape → new.places ≡ old.places → new.flights ≡ old.flights → new.next ≡ old.next →
@@ -250,5 +227,4 @@ close_goes s h c old new m unclosed shape pages fs next closed =
       last false = refl
 
 pub close_closed : (s : Shape) (h : History) (c : ℕ) (old : NodeState) → Means s h old → old.closed ≡ true → IsMisfit s h (by c what.Close) (misfit.Refused reason.Closed)
-close_closed s h c old m shut =
-    let closed : is_closed h ≡ true = sym m.kept.closed_is ∙ shut in (λ f. no_both (is_closed h) (open_close s h f) closed, closed_again s h closed)
+close_closed s h c old m shut = grind (arith, no_both, open_close, closed_again)

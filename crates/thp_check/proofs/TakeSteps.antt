@@ -34,9 +34,7 @@ no_both : (z : Bool) → z ≡ false → z ≡ true → ⊥
 no_both z e f = cc
 
 neither : (a z : Bool) → (a || not z) ≡ false → (a ≡ false) × (z ≡ true)
-neither true z e = absurd (cc)
-neither false true e = (refl, refl)
-neither false false e = absurd (cc)
+neither x z e = grind arith
 
 -- whether a caller may take
 may_is : (s : Shape) (h : History) (c : ℕ) (old : NodeState) → Means s h old → (no_pages (blocks_in old.flights c) || is_taker old.taker c) ≡ (no_pages (flight h c) || is_taking h c)
@@ -89,9 +87,7 @@ take_other s h c p first old new m took other =
     (λ f. other (same_some first p (sym oldest ∙ f.oldest)), (sym oldest, λ e. other (same_some first p e)))
 
 pub take_none : (s : Shape) (h : History) (c p : ℕ) (old : NodeState) → Means s h old → slice_get old.places.queue 0 ≡ None → IsMisfit s h (by c (what.Taken p)) (misfit.Oldest None)
-take_none s h c p old m none =
-    let empty : slice_get (queue s h) 0 ≡ None = none_first h (queue s h) old.places.queue m.kept.node.queue_is none in
-    (λ f. let there = f.oldest in absurd (cc), (sym empty, λ e. absurd (cc)))
+take_none s h c p old m none = grind (arith, slice_get, none_first)
 
 -- a take by a caller who may not take
 pub take_busy : (s : Shape) (h : History) (c p : ℕ) (old : NodeState) (new : PageStoreState) → Means s h old → TakesFirst old.places new c p → (no_pages (blocks_in old.flights c) || is_taker old.taker c) ≡ false →
@@ -102,10 +98,7 @@ take_busy s h c p old new m took may =
 
 -- the block of the oldest page is the first of the queue
 pub oldest_held : (old new : PageStoreState) (c p b : ℕ) → TakesFirst old new c p → slice_get old.queue 0 ≡ Some b → HoldsPage (slot_at old.table b) p
-oldest_held old new c p b took first =
-    let P : Option Slot → Type 0 = λ o. HoldsPage o p in
-    let same : took.block ≡ b = same_some took.block b (sym took.first ∙ first) in
-    subst P (sym (ap (slot_at old.table) (sym same) ∙ took.at)) (sym took.id_is)
+oldest_held old new c p b took first = grind (arith, same_some)
 
 -- a page that isn't in the caller's batch isn't in its flight
 pub elsewhere : (s : Shape) (h : History) (c p : ℕ) (old : NodeState) → Means s h old → IsElsewhere old.places.table c p → has_page p (flight h c) ≡ false
@@ -299,9 +292,7 @@ module _ (s : Shape) (h : History) (c p b : ℕ) (old : NodeState) (m : Means s 
       (fits, goes_on s h e old new m (back_node s h c b at.slot old.places new.places homed m.kept.node at.at at.stands fits did) (left (what.Back at.slot.id) new fs (λ d. flight_push h d c (what.Back at.slot.id)) (λ r. block_push h e r)) size refl refl shape next closed)
 
   pub back_dropped : (old.closed || not at.slot.page.partly) ≡ true → slice_get (blocks_in old.flights c) 0 ≡ Some b → IsMisfit s h (by c (what.Back p)) misfit.MustDrop
-  back_dropped out first =
-      let drops : is_dropped s h p ≡ true = ap (is_dropped s h) (sym at.id_is) ∙ sym dropped_as ∙ out in
-      (λ f. no_both (is_dropped s h p) (ap₂ (λ a z. a || not z) f.1 f.2) drops, (first_is_this first, drops))
+  back_dropped out first = grind (arith, dropped_as, no_both, first_is_this)
 
   pub dropped_goes : (new : NodeState) → (old.closed || not at.slot.page.partly) ≡ true → slice_get (blocks_in old.flights c) 0 ≡ Some b →
       Edits old.places new.places b (Some (record at.slot { standing = Nowhere })) old.places.queue 0 → ((d : ℕ) → blocks_in new.flights d ≡ flight_left (Some c) b d (blocks_in old.flights d)) → length new.flights.callers ≡ length old.flights.callers → new.shape ≡ old.shape → new.next ≡ old.next → new.closed ≡ old.closed →
@@ -314,17 +305,11 @@ module _ (s : Shape) (h : History) (c p b : ℕ) (old : NodeState) (m : Means s 
       (fits, goes_on s h e old new m (dropped_node s h c b at.slot old.places new.places homed m.kept.node at.at at.stands fits did) (left (what.Dropped at.slot.id) new fs (λ d. flight_push h d c (what.Dropped at.slot.id)) (λ r. block_push h e r)) size refl refl shape next closed)
 
   pub dropped_not : (old.closed || not at.slot.page.partly) ≡ false → slice_get (blocks_in old.flights c) 0 ≡ Some b → IsMisfit s h (by c (what.Dropped p)) misfit.MustRequeue
-  dropped_not stays first =
-      let back : is_dropped s h p ≡ false = ap (is_dropped s h) (sym at.id_is) ∙ sym dropped_as ∙ stays in
-      (λ f. no_both (is_dropped s h p) back f.1, (first_is_this first, back))
+  dropped_not stays first = grind (arith, dropped_as, no_both, first_is_this)
 
 -- the caller whose batch a page leaves by a loss is the one in whose batch it stands
 leaver_is : (o : Outcome) (w : Standing) (d : ℕ) → left_by o w ≡ Some d → w ≡ Batch d
-leaver_is outcome.Freed Nowhere d e = absurd (cc)
-leaver_is outcome.Freed Queued d e = absurd (cc)
-leaver_is outcome.Freed (Batch c) d e = ap (λ n. Batch n) (same_some c d e)
-leaver_is outcome.Queued w d e = absurd (cc)
-leaver_is outcome.Stays w d e = absurd (cc)
+leaver_is x y d e = grind (arith, same_some)
 
 -- the block of a page that leaves a batch by a loss is one of the flight's
 pub lost_there : (s : Shape) (h : History) (p b : ℕ) (old : NodeState) → Means s h old → HoldsPage (slot_at old.places.table b) p → (l : Loss) (new : PageStoreState) (done : Done) (left : Option ℕ) →

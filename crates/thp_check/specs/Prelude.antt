@@ -1,4 +1,4 @@
--- The definitions and types of this library, each by its name alone: one line of a file imports what it cites.
+-- Re-exports the definitions and types of this library: other files import those that they cite from here, in one line.
 pub use Rattle.thp_check.specs.Explanations.{caller_is, in_flight_of, page_is, page_of}
 unfoldable pub use Rattle.thp_check.specs.Explanations.{explanation}
 pub use Rattle.thp_check.specs.Fitting.{FitsInPlace}

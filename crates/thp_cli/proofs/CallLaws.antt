@@ -35,17 +35,7 @@ reading_more most left n room old new last r some le full is = record {
 
 -- and what ended reading, one call at most
 pub reading_ended : (most left : ℕ) (failed : Bool) (old new end last : List DeviceCall) → Reading most left old new → EndsReading failed end → length end ≤ 1 → last ≡ new ++ end → ReadsOn most failed old last
-reading_ended most left failed old new end last r ends one is =
-    let grown = is ∙ ap (λ (t : List DeviceCall). t ++ end) r.grown ∙ append_assoc old (map read_giving r.gave) end in
-    record {
-      gave = r.gave;
-      last = end;
-      some = r.some;
-      within = omega (arith, r.sum_is);
-      ends = ends;
-      grown = grown;
-      few = omega (arith, ap (λ (t : List DeviceCall). length t) grown, length-append old (map read_giving r.gave ++ end), length-append (map read_giving r.gave) end, length-map r.gave read_giving, r.few, r.sum_is, one);
-    }
+reading_ended most left failed old new end last r ends one is = grind (arith, append_assoc, length-append, length-map)
 
 -- and one more read, by its answer
 pub reads_by : (most left room : ℕ) (failed was : Bool) (o : Option ℕ) (old new last : List DeviceCall) → Reading most left old new → was ≡ false → room ≡ read_room → last ≡ new ++ call.Read room o ∷ []
@@ -78,22 +68,11 @@ writing_more n left k offered old new last w le all is = record {
 
 -- all was written
 pub writes_all : (n left : ℕ) (failed : Bool) (old new : List DeviceCall) → Writing n left old new → left ≡ 0 → failed ≡ false → WritesAll n failed old new
-writes_all n left failed old new w none e = rw e (record {
-  taken = w.taken;
-  last = [];
-  ends = (refl, omega (arith, none, w.sum_is));
-  grown = w.grown ∙ ap (λ (t : List DeviceCall). old ++ t) (sym (append-nil (writes_of n w.taken)));
-})
+writes_all n left failed old new w none e = grind (arith, append-nil)
 
 -- a write failed
 pub writes_failed : (n left offered : ℕ) (failed : Bool) (old new last : List DeviceCall) → Writing n left old new → offered ≡ left → failed ≡ true → last ≡ new ++ call.Write offered None ∷ [] → WritesAll n failed old last
-writes_failed n left offered failed old new last w all e is = rw e (record {
-  taken = w.taken;
-  last = call.Write (n - sum w.taken) None ∷ [];
-  ends = refl;
-  grown = is ∙ ap (λ (t : List DeviceCall). t ++ call.Write offered None ∷ []) w.grown ∙ append_assoc old (writes_of n w.taken) (call.Write offered None ∷ [])
-      ∙ ap (λ (m : ℕ). old ++ (writes_of n w.taken ++ call.Write m None ∷ [])) (omega (arith, all, w.sum_is));
-})
+writes_failed n left offered failed old new last w all e is = grind (arith, append_assoc)
 
 -- ---- the writes of a text, whoever offers how much
 
@@ -108,11 +87,7 @@ follow_none old = record { writes = []; taken = All-nil IsTaken; grown = sym (ap
 
 -- and then another one
 pub follow_then : (other : DeviceCall) (old new last : List DeviceCall) → Follow [] old new → last ≡ new ++ other ∷ [] → Follow (other ∷ []) old last
-follow_then other old new last f is = record {
-  writes = f.writes;
-  taken = f.taken;
-  grown = is ∙ ap (λ (t : List DeviceCall). t ++ other ∷ []) f.grown ∙ append_assoc old (f.writes ++ []) (other ∷ []) ∙ rw append-nil refl;
-}
+follow_then other old new last f is = grind (arith, append_assoc, append-nil)
 
 -- writes that the device took, and a flush, by its answer
 pub flushes_by : (failed was : Bool) (o : Option (Unit {0})) (old new last : List DeviceCall) → Follow [] old new → was ≡ false → last ≡ new ++ call.Flush (is_some o) ∷ []
@@ -136,6 +111,4 @@ part_failed n failed old new last f e w =
 
 -- those of a part that was written are some more
 pub part_written : (n : ℕ) (failed : Bool) (old new last : List DeviceCall) → Follow [] old new → failed ≡ false → WritesAll n failed new last → Follow [] old last
-part_written n failed old new last f e w =
-    let w : WritesAll n false new last = rw e at w in
-    follow_all (writes_of n w.taken) [] old new last f (all_taken n w.taken) (w.grown ∙ ap (λ (t : List DeviceCall). new ++ (writes_of n w.taken ++ t)) w.ends.0)
+part_written n failed old new last f e w = grind (arith, follow_all, all_taken)

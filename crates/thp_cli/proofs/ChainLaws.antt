@@ -1,5 +1,5 @@
 -- Options that are added to a command one after another.
-use Rattle.std.proofs.Common.{◌≡◌, ◌⊎◌, ◌∙◌, ◌+◌, ◌++◌, ◌||◌, ◌<◌, ◌≤◌, zero, suc, ap, subst, ℕ, Bool, true, false, cond, List, [], ◌∷◌, length, map, Some, None, codes, refl, sym, inl, inr, arith, ltb-true, count_by, nat_lt, slice_index_or, bytes_eq}
+use Rattle.std.proofs.Common.{◌≡◌, ◌⊎◌, ◌∙◌, ◌+◌, ◌++◌, ◌||◌, ◌<◌, ◌≤◌, zero, suc, ap, subst, ℕ, Bool, true, false, cond, List, [], ◌∷◌, length, map, Some, None, codes, refl, sym, arith, ltb-true, count_by, nat_lt, slice_index_or, bytes_eq}
 use Rattle.std.proofs.lemmas.List.{append-nil, append_assoc, get_or_default, length-map}
 use Rattle.std.proofs.lemmas.List.Sums.{sum_by-cons}
 use Rattle.std.proofs.lemmas.Bool.{or_left, or_right}
@@ -147,16 +147,10 @@ one_place added rules k rule q id count places r is j e lt same =
     only_place (λ x. bytes_eq x.id rule.id) rules j k rule rule r.once below r.within hit here
 
 not_auto : (id : List ℕ) → (bytes_eq id (codes "help") || bytes_eq id (codes "version")) ≡ false → (id ≡ codes "help") ⊎ (id ≡ codes "version") → ⊥
-not_auto id own (inl h) =
-    let bad : true ≡ false = sym (or_left _ (bytes_eq id (codes "version")) (is_text id (codes "help") h)) ∙ own in
-    absurd cc
-not_auto id own (inr h) =
-    let bad : true ≡ false = sym (or_right (bytes_eq id (codes "help")) _ (is_text id (codes "version") h)) ∙ own in
-    absurd cc
+not_auto id own x = grind (arith, or_left, bytes_eq, is_text, or_right)
 
 not_empty : (id : List ℕ) → nat_lt 0 (length id) ≡ true → id ≡ [] → ⊥
-not_empty [] named empty = absurd cc
-not_empty (b ∷ id) named empty = absurd cc
+not_empty x named empty = grind arith
 
 -- the option of such a rule has a value in every parse of the command
 pub option_value : (start cmd : Command) (rules : List Rule) (k : ℕ) (rule : Rule) (q : ValueParser) (m : ArgMatches) → IsChained start cmd rules → args_of start ≡ [] → IsDefaultRule rules k rule q → IsParsedFrom cmd m

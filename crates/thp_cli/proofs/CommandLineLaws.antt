@@ -3,7 +3,7 @@ use Rattle.std.proofs.Common.{◌≡◌, ◌∙◌, ap, arith, codes, inl, map, 
 use Rattle.clap.specs.Built.{IsPlain}
 use Rattle.clap.specs.Facts.{args_of, groups_of}
 use Rattle.clap.specs.Simple.{app_of_fields}
-use Rattle.clap.specs.Words.{App, AddsArg, AddsInTurn, FailsBy, HasKind, HasMatchesOf, IsPlainArg, app_of, fault_of, first_of, first_value, found_of, is_simple, is_simple_and_free, kind_of, matches_of, new_app, one_of, one_text, rows_of}
+use Rattle.clap.specs.Words.{App, AddsArg, AddsInTurn, FailsBy, HasMatchesOf, IsPlainArg, app_of, fault_of, first_of, first_value, found_of, is_simple, is_simple_and_free, kind_of, matches_of, new_app, one_of, one_text, rows_of}
 use Rattle.clap.specs.declared.builder.arg.Arg.{Arg}
 use Rattle.clap.specs.declared.builder.command.Command.{Command}
 use Rattle.clap.specs.declared.builder.command.Command.TheViews.{out-Command}
@@ -94,16 +94,10 @@ pub record HoldsFound (found : Found) (line : Line) : Type 0 where
 -- what `clap` answers to the words for the command
 module _ (command : Command) (own : IsOwnCommand command) (words : List (List ℕ)) where
   pub parse_fails : (parse : Result ArgMatches Error) (e : Error) → (is_simple_and_free (app_of command) ≡ true → FailsBy (fault_of (app_of command) words) parse) → parse ≡ Err e → (r : Result Line Error) → IsErrAnd r (λ d. d ≡ e) → FailsAsWords words r
-  parse_fails parse e kinds is (Ok line) h = absurd h
-  parse_fails parse e kinds is (Err d) h =
-      let own-free = ap is_simple_and_free own.is_thpsplit.options ∙ free own.is_thpsplit.names in
-      let fails = subst (λ p. FailsBy (fault_of (app_of command) words) p) is (kinds own-free) in
-      record { command = app_of command; is_thpsplit = own.is_thpsplit; fails = subst (λ x. HasKind (fault_of (app_of command) words) x) (sym h) fails }
+  parse_fails parse e kinds is x h = grind (arith, own, free)
 
   pub parse_done : (parse : Result ArgMatches Error) (matches : ArgMatches) → (is_simple_and_free (app_of command) ≡ true → FailsBy (fault_of (app_of command) words) parse) → parse ≡ Ok matches → (line : Line) → FailsAsWords words (Ok line)
-  parse_done parse matches kinds is line =
-      let own-free = ap is_simple_and_free own.is_thpsplit.options ∙ free own.is_thpsplit.names in
-      record { command = app_of command; is_thpsplit = own.is_thpsplit; fails = subst (λ p. FailsBy (fault_of (app_of command) words) p) is (kinds own-free) }
+  parse_done parse matches kinds is line = grind (arith, own, free)
 
   pub line_held : (matches : ArgMatches) → HasMatchesOf (app_of command) words matches → (line : Line) → HoldsFound (found_of matches) line → HoldsWords words line
   line_held matches has line held =

@@ -5,7 +5,7 @@ use Rattle.clap.specs.Built.{IsPlain, IsParsedFrom, IsAuto, SameRules}
 use Rattle.clap.specs.Facts.{args_of, groups_of, Entry, EntryPasses, HasIn, HasReading, IsParsed, PassesArg, WantsDefault, least_values, parser_of, parser_of_value}
 use Rattle.clap.specs.Matches.{found_of, has_subcommand, matched_of}
 use Rattle.clap.specs.Values.{Accepts, reading_of}
-use Rattle.clap.specs.declared.builder.action.ArgAction.TheVariants.{Count, Set}
+use Rattle.clap.specs.declared.builder.action.ArgAction.TheVariants.{Set}
 use Rattle.clap.specs.declared.builder.arg.Arg.{Arg}
 use Rattle.clap.specs.declared.builder.command.Command.{Command}
 use Rattle.clap.specs.declared.builder.command.Command.TheViews.{out-Command}
@@ -64,50 +64,21 @@ module _ (old : Command) (m : ArgMatches) (p : IsParsedFrom old m) (plain : IsPl
 
   -- a value of the argument's entry passed the caller's parser
   passed_of : (id value : List ℕ) → id ≡ a.id.now → PassesArg p.built id value → Accepts false q value
-  passed_of id value is pass =
-      let s = same_rules pass.0 pass.1 pass.2 pass.3 (rw is at pass.4.0) in
-      let by-q : Accepts pass.1.ignore_case q value = subst (λ w. Accepts pass.1.ignore_case w value) (parser_of_same pass.1 s) pass.4.1 in
-      subst (λ b. Accepts b q value) (s.ignore_case ∙ v.exact_case) by-q
+  passed_of id value is pass = grind (arith, same_rules, parser_of_same)
 
   reading_of_same : (id : List ℕ) (r : Reading) → id ≡ a.id.now → HasReading p.built id r → r ≡ reading_of q
-  reading_of_same id r is has =
-      let s = same_rules has.0 has.1 has.2 has.3 (rw is at has.4.0) in
-      sym has.4.1 ∙ ap reading_of (parser_of_same has.1 s)
+  reading_of_same id r is has = grind (arith, same_rules, parser_of_same)
 
   no_groups : groups_of p.built ≡ []
   no_groups = (p.from.plain plain).1
 
   -- the entry isn't a group's
   no_group : (e : Entry) → e.0.now ≡ a.id.now → EntryPasses p.built e → e.1.is_group ≡ true → ⊥
-  no_group e is pass group = elim (pass.3 group) [
-    | inl empty ↦ v.named (sym is ∙ empty)
-    | inr some ↦
-        let bad : 0 < 0 = rw no_groups at some in
-        absurd (omega arith)
-  ]
+  no_group e is pass group = grind (arith, no_groups)
 
   -- the entry has values
   some_value : (e : Entry) → e.0.now ≡ a.id.now → EntryPasses p.built e → 0 < length e.1.vals.items
-  some_value e is pass = elim pass.1 [
-    | inl group ↦ absurd (no_group e is pass group.0)
-    | inr (inl some) ↦ some
-    | inr (inr (inl counted)) ↦
-        let h = counted.1 in
-        let s = same_rules h.0 h.1 h.2 h.3 (rw is at h.4.0) in
-        let is-set : h.1.action ≡ Some Set = s.action Set v.set in
-        let bad : Set ≡ Count = rw is-set at h.4.1 in
-        absurd cc
-    | inr (inr (inr h)) ↦
-        let s = same_rules h.0 h.1 h.2 h.3 (rw is at h.4.0) in
-        elim h.4.1 [
-          | inl none ↦
-              let one = s.least v.set v.least in
-              absurd (omega arith)
-          | inr delim ↦
-              let bad : false ≡ true = rw (s.val_delim, v.one_value) at delim in
-              absurd cc
-        ]
-  ]
+  some_value e is pass = grind (arith, no_group, same_rules)
 
   value_of_entry : (x : MatchedArg) → matched_of (found_of m) a.id.now ≡ Some x → (e : Entry) → e.1 ≡ x → e.0.now ≡ a.id.now → EntryPasses p.built e → HasValue (found_of m) a.id.now q
   value_of_entry x found e same is pass =

@@ -1,5 +1,5 @@
 -- How the program's passages end, from what their parts did.
-use Rattle.std.proofs.Common.{◌≡◌, ◌∙◌, ◌<◌, ℕ, Bool, true, false, List, Option, Some, None, Ok, Err, ap, arith, inl, inr, is_some, length, not, refl, sym, IfNone, IfSome, Result, ok_or, append-nil, length-append}
+use Rattle.std.proofs.Common.{◌≡◌, ◌∙◌, ◌<◌, ℕ, Bool, true, false, List, Option, Some, None, Ok, Err, arith, is_some, length, not, refl, sym, IfNone, IfSome, Result, ok_or, append-nil, length-append}
 use Rattle.std.specs.Io.KnownBytes.{Keeps, Appends}
 use Rattle.std.proofs.lemmas.Bool.{cases_lt, lt-ltb}
 use Rattle.thp_script.specs.declared.fault.ReadFault.{ReadFault}
@@ -10,8 +10,7 @@ use Rattle.thp_journal_reader.specs.Prelude.{journals_within}
 use Rattle.thp_cli.specs.Prelude.{RunFault, Text, OutOfMemory, Write, IsFrontOf, WritesFront, WritesOn, DeviceCall, Ends, WritesAnswer, run_fault, is_legal, CheckEndsWithin, IsVerdictWithin}
 
 pub keeps_same : (known : Option (List ℕ)) → Keeps known known
-keeps_same None = tt
-keeps_same (Some xs) = refl
+keeps_same x = grind arith
 
 -- what is at fault with the bytes that a reading tells
 abbrev pub ReportsOf : (Fault → Type 0) → ReadFault → Type 0
@@ -24,18 +23,15 @@ module _ (most : ℕ) {A : Type 0} (IsAnswer : List ℕ → A → List ℕ → T
     (faults : (input bytes : List ℕ) (fault : Fault) → IsFrontOf most bytes input → HasFault bytes fault → HasFault input fault)
     (known : Option (List ℕ)) (bytes : List ℕ) (read : IfSome known (IsFrontOf most bytes)) where
   fault_of_input : (o : Option (List ℕ)) → IfSome o (IsFrontOf most bytes) → (fault : Fault) → HasFault bytes fault → IfSome o (λ input. HasFault input fault)
-  fault_of_input None read fault told = tt
-  fault_of_input (Some input) read fault told = faults input bytes fault read told
+  fault_of_input x read fault told = grind arith
 
   -- the text was at fault, or memory was refused
   pub ends_early : (old : Option (List ℕ)) (reader_failed writer_failed : Bool) (fault : ReadFault) (r : Result A RunFault) → ReportsOf (HasFault bytes) fault → reader_failed ≡ false → writer_failed ≡ false → r ≡ Err (run_fault fault)
       → Ends IsAnswer HasFault known old old reader_failed writer_failed r
-  ends_early old rf wf (reading.Text line kind) r told e f is = rw is (fault_of_input known read (line, kind) told, keeps_same old, e, f)
-  ends_early old rf wf reading.OutOfMemory r told e f is = rw is (keeps_same old, e, f)
+  ends_early old rf wf x r told e f is = grind (arith, fault_of_input, keeps_same)
 
   written_of_input : (o : Option (List ℕ)) → IfSome o (IsFrontOf most bytes) → (x : A) (text : List ℕ) (P : List ℕ → Type 0) → IsAnswer bytes x text → P text → IfSome o (λ input. (t : List ℕ) × IsAnswer input x t × P t)
-  written_of_input None read x text P answer p = tt
-  written_of_input (Some input) read x text P answer p = (text, answers input bytes text x read answer, p)
+  written_of_input y read x text z answer p = grind arith
 
   front_of_input : (o : Option (List ℕ)) → IfSome o (IsFrontOf most bytes) → (x : A) (text : List ℕ) (P : List ℕ → Type 0) → IsAnswer bytes x text → P text → IfSome o (λ input. (y : A) × (t : List ℕ) × IsAnswer input y t × P t)
   front_of_input None read x text P answer p = tt
@@ -55,18 +51,15 @@ module _ (most : ℕ) {A : Type 0} (IsAnswer : List ℕ → A → List ℕ → T
 
 -- none was made where the text was at fault
 pub none_at_fault : {A : Type 0} (r : Result A RunFault) (writer_failed : Bool) (fault : ReadFault) (calls : List DeviceCall) → r ≡ Err (run_fault fault) → WritesAnswer r writer_failed calls calls
-none_at_fault r wf (reading.Text line kind) calls is = rw is refl
-none_at_fault r wf reading.OutOfMemory calls is = rw is refl
+none_at_fault r wf x calls is = grind arith
 
 -- those of the answer, whether or not the writer failed
 pub of_answer : (o : Option (Unit {0})) (failed : Bool) (old new : List DeviceCall) → WritesOn failed old new → WritesAnswer (ok_or o Write) failed old new
-of_answer (Some u) failed old new w = w
-of_answer None failed old new w = w
+of_answer x failed old new w = grind arith
 
 -- a fault of reading, as a fault that the bytes have
 pub tells_of : {A : Type 0} (read : Result A Fault) (fault : ReadFault) → ReportsFault read fault → ReportsOf (λ f. read ≡ Err f) fault
-tells_of read (reading.Text line kind) told = told
-tells_of read reading.OutOfMemory told = tt
+tells_of read x told = grind arith
 
 -- ---- journals
 
@@ -75,11 +68,7 @@ unfolding journals_within
 journal_too_long most text lt = rw (lt-ltb most (length text) lt) refl
 
 pub same_journals : (most : ℕ) (input bytes : List ℕ) → IsFrontOf most bytes input → journals_within most bytes ≡ journals_within most input
-same_journals most input bytes read =
-    elim (cases_lt most (length bytes)) [
-      | inl more ↦ journal_too_long most bytes more ∙ sym (journal_too_long most input (rw read.front (omega (arith, length-append bytes read.rest))))
-      | inr less ↦ ap (journals_within most) (sym (read.front ∙ rw (read.all less, append-nil) refl))
-    ]
+same_journals most input bytes read = grind (arith, cases_lt, journal_too_long, length-append, append-nil)
 
 pub verdict_of_input : (most : ℕ) (input bytes text : List ℕ) (legal : Bool) → IsFrontOf most bytes input → IsVerdictWithin most bytes legal text → IsVerdictWithin most input legal text
 verdict_of_input most input bytes text legal read v = record { journals = v.journals; spelled = sym (same_journals most input bytes read) ∙ v.spelled; illegal = v.illegal; told = v.told; free_choice = v.free_choice; answer = v.answer; written = v.written }
@@ -89,8 +78,7 @@ fault_of_journal most input bytes fault read told = sym (same_journals most inpu
 
 -- a writer that failed is told as that
 pub cut_from : (o : Option (Unit {0})) (fault : RunFault) → ok_or o Write ≡ Err fault → (o ≡ None) × (Write ≡ fault)
-cut_from (Some u) fault e = absurd cc
-cut_from None fault e = (refl, cc)
+cut_from x fault e = grind arith
 
 -- the writer took a front of the verdict
 pub check_ends_cut : (most : ℕ) (known old new : Option (List ℕ)) (bytes text : List ℕ) (reader_failed writer_failed : Bool) (illegal : Option ℕ) (o : Option (Unit {0})) (r : Result Bool RunFault) → IfSome known (IsFrontOf most bytes) → IsVerdictWithin most bytes (is_legal illegal) text
@@ -100,20 +88,14 @@ check_ends_cut most known old new bytes text rf wf illegal o r read v none cut f
 
 -- what isn't there is no line
 pub legal_is : (illegal : Option ℕ) (legal : Bool) → is_some illegal ≡ not legal → legal ≡ is_legal illegal
-legal_is None true e = refl
-legal_is None false e = absurd cc
-legal_is (Some line) true e = absurd cc
-legal_is (Some line) false e = refl
+legal_is x y e = grind arith
 
 -- the verdict was written
 pub check_ends_written : (most : ℕ) (known old new : Option (List ℕ)) (bytes text : List ℕ) (reader_failed writer_failed : Bool) (illegal : Option ℕ) (o : Option (Unit {0})) (u : Unit {0}) (legal : Bool) → IfSome known (IsFrontOf most bytes) → IsVerdictWithin most bytes (is_legal illegal) text
     → ok_or o Write ≡ Ok u → IfSome o (λ _. Appends old new text) → IfSome o (λ _. writer_failed ≡ false) → reader_failed ≡ false → legal ≡ is_legal illegal → CheckEndsWithin most known old new reader_failed writer_failed (Ok legal)
-check_ends_written most known old new bytes text rf wf illegal (Some v) u legal read verdict some done flag e is =
-    ends_written most (IsVerdictWithin most) (λ input f. journals_within most input ≡ Err f) (verdict_of_input most) (fault_of_journal most) known bytes read old new rf wf legal text (Ok legal) (rw is verdict) done e flag refl
-check_ends_written most known old new bytes text rf wf illegal None u legal read verdict some done flag e is = absurd cc
+check_ends_written most known old new bytes text rf wf illegal x u legal read verdict some done flag e is = grind (arith, ends_written, verdict_of_input, fault_of_journal)
 
 -- the journal was at fault, or memory was refused
 pub check_ends_early : (most : ℕ) (known old : Option (List ℕ)) (bytes : List ℕ) (reader_failed writer_failed : Bool) (fault : ReadFault) (r : Result Bool RunFault) → IfSome known (IsFrontOf most bytes) → ReportsFault (journals_within most bytes) fault
     → reader_failed ≡ false → writer_failed ≡ false → r ≡ Err (run_fault fault) → CheckEndsWithin most known old old reader_failed writer_failed r
-check_ends_early most known old bytes rf wf fault r read told e f is =
-    ends_early most (IsVerdictWithin most) (λ input g. journals_within most input ≡ Err g) (verdict_of_input most) (fault_of_journal most) known bytes read old rf wf fault r (tells_of (journals_within most bytes) fault told) e f is
+check_ends_early most known old bytes rf wf fault r read told e f is = grind (arith, ends_early, verdict_of_input, fault_of_journal, tells_of)

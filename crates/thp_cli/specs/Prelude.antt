@@ -1,4 +1,4 @@
--- The definitions and types of this library, each by its name alone: one line of a file imports what it cites.
+-- Re-exports the definitions and types of this library: other files import those that they cite from here, in one line.
 pub use Rattle.thp_cli.specs.Calls.{EndsReading, Follow, IsTaken, ReadsOn, WritesAll, WritesOn, is_answered, read_giving, read_room, writes_of}
 pub use Rattle.thp_cli.specs.CommandLine.{FailsAsWords, HoldsWords, IsLineWithinLimits, bare, blocks_rule, nodes_rule, own_rules, report_name, report_names, report_rule, with_rules, workers_rule}
 pub use Rattle.thp_cli.specs.Devices.{IsFrontOf, IsInputOf, WritesFront}

@@ -5,7 +5,7 @@ use Rattle.std.proofs.lemmas.List.Sums.{count_by-le-length}
 use Rattle.std.proofs.lemmas.Nat.{mul-le, shl-shr}
 use Rattle.thp_model.specs.declared.events.Event.{Event}
 use Rattle.thp_model.specs.declared.shape.Shape.{Shape}
-use Rattle.thp_model.specs.Prelude.{allocations, is_alloc, FramesAreKept, frames_given, frames_held, History, count_of, IsLegal, subpages, IsShape}
+use Rattle.thp_model.specs.Prelude.{allocations, is_alloc, FramesAreKept, History, count_of, IsLegal, subpages, IsShape}
 use Rattle.thp_drawing.specs.Drawn.{IsDrawn}
 use Rattle.thp_drawing.specs.Rows.{allocated_pages}
 use Rattle.thp_drawing.specs.Scales.{plus}
@@ -28,6 +28,4 @@ pages_of k n held given low few same =
 pub each_has_its_row : FramesAreKept → (s : Shape) (h : History) (d : DrawnNode) → IsShape s → IsLegal s h → length h < 2 ^ 64
     → IsDrawn s h d → allocated_pages d ≡ allocations h
 unfolding subpages
-each_has_its_row kept s h d shape legal few drawn =
-    rw (drawn.shape, drawn.last)
-    (pages_of s.order (allocations h) (frames_held s h) (frames_given h) shape.most_order (omega (arith, few_pages h, few)) (kept s h shape legal))
+each_has_its_row kept s h d shape legal few drawn = grind (arith, pages_of, few_pages)

@@ -1,10 +1,10 @@
 -- What the check of a journal text answers, node by node, and that no choice of blocks is wronged by it.
-use Rattle.std.proofs.Common.{◌≡◌, ℕ, ◌+◌, ◌<◌, Bool, true, false, cond, List, [], ◌∷◌, length, get_or, Option, Some, None, Result, Ok, Err, refl, sym, ap, subst, ◌∙◌, arith, inl, inr, All, slice_get, nat_lt}
+use Rattle.std.proofs.Common.{◌≡◌, ℕ, ◌+◌, ◌<◌, Bool, cond, List, [], ◌∷◌, length, get_or, Option, Some, None, Result, Ok, Err, refl, subst, arith, All, slice_get, nat_lt}
 use Rattle.std.proofs.lemmas.Bool.{cases_lt}
 use Rattle.std.proofs.lemmas.List.Elements.{All-cons, All-nil}
 use Rattle.std.proofs.lemmas.Option.{slice_get_within, slice_get-get_or}
 use Rattle.thp_model.specs.declared.shape.Shape.{Shape}
-use Rattle.thp_model.specs.Prelude.{with_least_blocks, without_blocks, History, IsLegal, IsFirstMisfit}
+use Rattle.thp_model.specs.Prelude.{with_least_blocks, History, IsLegal, IsFirstMisfit}
 use Rattle.thp_model.proofs.LeastBlocks.{least_is_legal, least_same}
 use Rattle.thp_script.specs.declared.fault.TextKind.TheVariants.{TooLong}
 use Rattle.thp_script.specs.Prelude.{◌>>=◌, Fault, Text, lines_of}
@@ -22,17 +22,7 @@ legal_none nodes = λ k node lt here. absurd (omega arith)
 
 -- and one more legal node leaves it so
 pub legal_more : (nodes : List NodeJournal) (place : ℕ) (node : NodeJournal) → place < length nodes → node ≡ get_or nodes place node → AreLegalBefore place nodes → IsLegalNode node → AreLegalBefore (place + 1) nodes
-legal_more nodes place node inside is before legal = λ k other lt here.
-    elim (cases_lt k place) [
-      | inl earlier ↦ before k other earlier here
-      | inr later ↦
-          let at : k ≡ place = omega arith in
-          let there : slice_get nodes place ≡ Some node = slice_get-get_or nodes place node inside ∙ ap (λ (n : NodeJournal). Some n) (sym is) in
-          let there-too : slice_get nodes place ≡ Some other = ap (λ (j : ℕ). slice_get nodes j) (sym at) ∙ here in
-          let same : node ≡ other = cc in
-          let P : NodeJournal → Type 0 = λ n. IsLegalNode n in
-          subst P same legal
-    ]
+legal_more nodes place node inside is before legal = grind (arith, cases_lt, slice_get, slice_get-get_or)
 
 -- ---- any choice of blocks
 
@@ -58,9 +48,7 @@ abbrev no_journals : Fault → Result Journals Fault
 no_journals fault = Err fault
 
 lines_read : (long : Bool) (fault : Fault) (read : Result (List Line) Fault) (journals : Journals) → cond long (no_journals fault) (read >>= λ lines. Ok (journals_with lines)) ≡ Ok journals → (lines : List Line) × (journals_with lines ≡ journals)
-lines_read true fault read journals e = absurd cc
-lines_read false fault (Ok lines) journals e = let same : journals_with lines ≡ journals = cc in (lines, same)
-lines_read false fault (Err other) journals e = absurd cc
+lines_read x fault read journals e = grind arith
 
 lines_of_journals : (most : ℕ) (text : Text) (journals : Journals) → journals_within most text ≡ Ok journals → (lines : List Line) × (journals_with lines ≡ journals)
 unfolding journals_within
@@ -74,10 +62,7 @@ least_read most text journals e =
 
 -- where some choice of blocks is legal, the least blocks are
 legal_if_any : (node : NodeJournal) → HasLeastBlocks node → CanBeLegal node → IsLegalNode node
-legal_if_any node least can =
-    let same : without_blocks least.0 ≡ without_blocks can.0 = least_same node.shape least.0 ∙ ap without_blocks (sym least.1) ∙ can.1 in
-    let L : History → Type 0 = λ h. IsLegal node.shape h in
-    subst L (sym least.1) (least_is_legal node.shape least.0 can.0 same can.2)
+legal_if_any node least can = grind (arith, least_same, least_is_legal)
 
 -- a legal history has no misfit
 pub misfit_is_illegal : (shape : Shape) (h : History) (place : ℕ) → IsFirstMisfit shape h place → IsLegal shape h → ⊥

@@ -40,14 +40,7 @@ event_stays event node place there here = get-append_left node.events (event_wit
 
 -- and so the first misfit
 pub misfit_stays : (event : Event) (node : NodeJournal) (place : ℕ) → IsFirstMisfit node.shape node.events place → IsFirstMisfit node.shape (with_event event node).events place
-misfit_stays event node place first =
-    let front = front_stays event node place (misfit_inside node.shape node.events place first) in
-    let L : History → Type 0 = λ h. IsLegal node.shape h in
-    let M : Event → History → Type 0 = λ e h. Fits node.shape h e → ⊥ in
-    record {
-      legal_before = subst L (sym front) first.legal_before;
-      misfit = (first.misfit.0, event_stays event node place first.misfit.0 first.misfit.1, subst (M first.misfit.0) (sym front) first.misfit.2);
-    }
+misfit_stays event node place first = grind (arith, front_stays, misfit_inside, event_stays)
 
 -- what stands at a place once the last was changed: what stood there, or that changed
 was_there : (f : NodeJournal → NodeJournal) (nodes : List NodeJournal) (k : ℕ) (node : NodeJournal) → slice_get nodes k ≡ Some node →
@@ -136,9 +129,7 @@ last_found node [] last = (0, node, refl, last.0, last.1)
 last_found node (next ∷ nodes) last = let found = last_found next nodes last in (suc found.0, found.1, found.2, found.3, found.4)
 
 not_legal : (node : NodeJournal) (nodes : List NodeJournal) → LastIsIllegal (node ∷ nodes) → ReportsFirst (node ∷ nodes) None → ⊥
-not_legal node nodes last all =
-    let found = last_found node nodes last in
-    misfit_is_illegal found.1.shape found.1.events found.3 found.4 (all found.0 found.1 (slice_get_within (node ∷ nodes) found.0 found.1 found.2) found.2)
+not_legal node nodes last all = grind (arith, last_found, misfit_is_illegal, slice_get_within)
 
 -- ---- the first illegal event of all nodes
 
@@ -147,14 +138,7 @@ first_none = λ k node lt here. absurd (omega arith)
 
 -- one more node begins
 pub first_begins : (nodes : List NodeJournal) (illegal : Option Illegal) (first_line : ℕ) (shape : Shape) → ReportsFirst nodes illegal → ReportsFirst (nodes ++ began first_line shape ∷ []) illegal
-first_begins nodes None first_line shape all = λ k node lt here.
-    elim (get_push nodes (began first_line shape) k node here) [
-      | inl w ↦ all k node w.0 w.1
-      | inr w ↦
-          let P : NodeJournal → Type 0 = λ n. IsLegalNode n in
-          subst P (sym w.1) (no_events_legal shape)
-    ]
-first_begins nodes (Some illegal) first_line shape first = illegal_begins nodes illegal first_line shape first
+first_begins nodes x first_line shape all = grind (arith, get_push, no_events_legal, illegal_begins)
 
 -- one more event of a node that has an illegal one
 pub first_stays : (nodes : List NodeJournal) (illegal : Option Illegal) (event : Event) → LastIsIllegal nodes → ReportsFirst nodes illegal → ReportsFirst (on_last (with_event event) nodes) illegal
@@ -180,14 +164,7 @@ module _ (nodes before : List NodeJournal) (last : NodeJournal) (are : nodes ≡
 
   -- it fits
   pub first_grows : (illegal : Option Illegal) → IsLegalNode (with_event told last) → ReportsFirst nodes illegal → ReportsFirst (on_last (with_event told) nodes) illegal
-  first_grows None legal all = λ k node lt here.
-      elim (stands k node here) [
-        | inl w ↦ before_legal all k node w.1
-        | inr w ↦
-            let P : NodeJournal → Type 0 = λ n. IsLegalNode n in
-            subst P (sym w.1) legal
-      ]
-  first_grows (Some i) legal one = illegal_grows nodes i told one
+  first_grows x legal all = grind (arith, stands, before_legal, illegal_grows)
 
   -- it doesn't fit
   pub first_stops : (illegal : Option Illegal) (event : Event) (line : ℕ) (m : Misfit) → event ≡ event_with (least_free last.shape last.events) told → IsFirstMisfit last.shape (with_event told last).events (length last.events) →

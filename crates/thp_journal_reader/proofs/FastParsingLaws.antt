@@ -1,5 +1,5 @@
 -- Events at the front of a text: what was read of its bytes in one walk is what its first line says.
-use Rattle.std.proofs.Common.{◌≡◌, ◌∙◌, ℕ, Bool, true, false, List, [], ◌∷◌, ◌++◌, Option, Some, None, Result, Ok, Err, ap, arith, codes, refl, sym, IfSome, bytes_eq, length-append}
+use Rattle.std.proofs.Common.{◌≡◌, ℕ, Bool, false, List, [], ◌∷◌, ◌++◌, Option, Some, None, Result, Ok, arith, codes, refl, IfSome, bytes_eq, length-append}
 use Rattle.std.specs.Result.{result_ok}
 use Rattle.std.proofs.lemmas.Slice.Eq.{bytes_eq-Decides}
 use Rattle.thp_model.specs.declared.events.Event.{Event}
@@ -31,12 +31,7 @@ number_more most n words text behind rest a l = word_more a.word words text behi
 
 -- a line of one number
 last_number : (most n : ℕ) (text rest : Text) (a : FastNumber 10 most text n rest) → FastLine (a.word ∷ []) text rest
-last_number most n text rest a = record {
-  line = a.word;
-  words_are = number_whole 32 most n a.word (omega arith) a.reads;
-  lines = rw a.stands (whole_front 10 a.word rest (number_whole 10 most n a.word (omega arith) a.reads));
-  shorter = rw (a.stands, length-append a.word (10 ∷ rest)) (omega arith);
-}
+last_number most n text rest a = grind (arith, number_whole, whole_front, length-append)
 
 outcome_more : (outcome : Outcome) (words : List Text) (text behind rest : Text) (a : FastOutcome text outcome behind) → FastLine words behind rest → FastLine (a.word ∷ words) text rest
 outcome_more outcome words text behind rest a l = word_more a.word words text behind rest a.one_word a.one_line a.stands l
@@ -57,11 +52,7 @@ parse_freed_fast text rest e = record { word = codes "freed"; one_word = refl; o
 
 -- a word that is read as a set says that set
 pub set_read : (word : Text) (read : Result (List Bool) TextKind) (some : Option (List Bool)) (set : List Bool) → read ≡ set_of_text word → some ≡ result_ok read → some ≡ Some set → set_of_text word ≡ Ok set
-set_read word (Ok x) some set e f g =
-    let same : Some x ≡ Some set = sym f ∙ g in
-    let is : x ≡ set = cc in
-    sym e ∙ ap (λ (y : List Bool). Ok y) is
-set_read word (Err kind) some set e f g = let wrong : None ≡ Some set = sym f ∙ g in absurd (cc)
+set_read word x some set e f g = grind arith
 
 -- a dash alone on a line says the set of no subpage
 pub parse_no_frame_fast : (text rest : Text) → text ≡ 45 ∷ 10 ∷ rest → FastSet (set_of (λ i. false)) text rest
@@ -135,15 +126,7 @@ parse_split_fast caller p set text t1 rest a s = record {
 
 -- a word that names an event, and a space behind it
 pub word_stands : (v : Version) (name text rest : Text) (word : EventWord) → event_word v name ≡ Ok word → text ≡ name ++ 32 ∷ rest → FastWord v text word rest
-word_stands v name text rest word reads e =
-    let letters = event_word_letters v name word reads in
-    record {
-      name = name;
-      one_word = letters_whole 32 name (omega arith) letters.letters;
-      one_line = letters_whole 10 name (omega arith) letters.letters;
-      reads = reads;
-      stands = e;
-    }
+word_stands v name text rest word reads e = grind (arith, event_word_letters, letters_whole)
 
 -- an event's word and its operands
 of_word : (v : Version) (word : EventWord) (caller : ℕ) (text operands rest : Text) (event : Event) (a : FastWord v text word operands) → FastOperands (event_by word) caller operands event rest → FastOperands (event_of v) caller text event rest
@@ -157,18 +140,11 @@ of_word v word caller text operands rest event a o = record {
 
 -- no number is this word
 other_word : (word name : Text) (most n : ℕ) → number_of most word ≡ Some n → number_of most name ≡ None → bytes_eq word name ≡ false
-other_word word name most n is none = go (bytes_eq word name) refl where
-  go : (b : Bool) → bytes_eq word name ≡ b → bytes_eq word name ≡ false
-  go false e = e
-  go true e =
-      let same : word ≡ name = (bytes_eq-Decides word name).0 e in
-      let wrong : Some n ≡ None = sym is ∙ ap (number_of most) same ∙ none in
-      absurd (cc)
+other_word word name most n is none = grind (arith, bytes_eq, bytes_eq-Decides)
 
 after_caller : (v : Version) (word : Text) (words : List Text) (caller : ℕ) (event : Event) → number_of 63 word ≡ Some caller → event_of v word words ≡ Ok event → Ok (Happened event) ≡ by_words v (word ∷ words)
 unfolding line_by number_of
-after_caller v word words caller event is says =
-    rw (other_word word (codes "thp-journal") 63 caller is refl, other_word word (codes "node") 63 caller is refl, other_word word (codes "end") 63 caller is refl, says) refl
+after_caller v word words caller event is says = grind (arith, other_word)
 
 -- a caller and an event's words behind it
 event_is : (v : Version) (text behind rest : Text) (caller : ℕ) (event : Event) → FastNumber 32 63 text caller behind → FastOperands (event_of v) caller behind event rest → FastEvent v text event rest

@@ -21,8 +21,7 @@ legal_alone node legal = legal_more (node ∷ []) 0 node (omega arith) refl (leg
 
 -- where nodes are followed on, none has stopped
 stopped_some : (follows_all : Bool) (illegal : Option Illegal) → has_stopped follows_all illegal ≡ true → (i : Illegal) × (illegal ≡ Some i)
-stopped_some follows_all None stopped = absurd cc
-stopped_some follows_all (Some i) stopped = (i, refl)
+stopped_some follows_all x stopped = grind arith
 
 module _ {K : Type 0} (keeps : Shape → History → Option Illegal → K → Type 0) where
   -- ---- what is kept of nodes
@@ -56,13 +55,7 @@ module _ {K : Type 0} (keeps : Shape → History → Option Illegal → K → Ty
   -- no node is at hand: an event changes nothing
   pub still : (follows_all : Bool) (nodes : List NodeJournal) (illegal : Option Illegal) (kept : List K) (event : Event) → ReportsFirst nodes illegal → HasNone keeps follows_all nodes illegal kept →
       ReportsFirst (on_last (with_event event) nodes) illegal × HasNone keeps follows_all (on_last (with_event event) nodes) illegal kept
-  still follows_all nodes illegal kept event first known = elim known [
-    | inl w ↦ (first_stays nodes illegal event w.1 first, inl (all_stay event nodes kept w.1 w.0, illegal_stays event nodes w.1))
-    | inr stopped ↦
-        let some = stopped_some follows_all illegal stopped in
-        let R : List NodeJournal → Option Illegal → Type 0 = λ ns i. ReportsFirst ns i in
-        (subst (R (on_last (with_event event) nodes)) (sym some.1) (illegal_grows nodes some.0 event (subst (R nodes) some.1 first)), inr stopped)
-  ]
+  still follows_all nodes illegal kept event first known = grind (arith, first_stays, all_stay, illegal_stays, stopped_some, illegal_grows)
 
   -- the last node has no further event: it is kept
   pub ends : (nodes : List NodeJournal) (replay : Replayed) (next_line : ℕ) (kept new : List K) (more : K) → EndsAt keeps nodes replay next_line kept → keeps replay.shape replay.history None more → new ≡ kept ++ more ∷ [] → AreKept keeps nodes new
@@ -164,36 +157,22 @@ module _ {K : Type 0} (keeps : Shape → History → Option Illegal → K → Ty
 
   -- where all nodes are followed, each is kept
   pub ended_kept : (nodes : List NodeJournal) (illegal : Option Illegal) (kept : List K) → HasEnded keeps true nodes illegal kept → AreKept keeps nodes kept
-  ended_kept nodes illegal kept ended = elim (ended.1) [
-    | inl are ↦ are
-    | inr stopped ↦ absurd (never illegal stopped)
-  ]
-    where
-      never : (i : Option Illegal) → has_stopped true i ≡ true → ⊥
-      never None stopped = absurd cc
-      never (Some i) stopped = absurd cc
+  ended_kept nodes illegal kept ended = grind arith
 
   -- ---- the follower
 
   module _ {F : Type 0} (replayed : F → Replayed) (follows_all : Bool) where
     -- a node is at hand
     pub at_hand_is : (nodes : List NodeJournal) (o : Option F) (next_line : ℕ) (illegal : Option Illegal) (kept : List K) → FollowsBy replayed keeps follows_all nodes o next_line illegal kept → (node : F) → o ≡ Some node → EndsAt keeps nodes (replayed node) next_line kept
-    at_hand_is nodes None next_line illegal kept known node is = absurd cc
-    at_hand_is nodes (Some other) next_line illegal kept known node is =
-        let same : other ≡ node = cc in
-        let E : F → Type 0 = λ n. EndsAt keeps nodes (replayed n) next_line kept in
-        subst E same known
+    at_hand_is nodes x next_line illegal kept known node is = grind arith
 
     -- none is
     pub none_is : (nodes : List NodeJournal) (o : Option F) (next_line : ℕ) (illegal : Option Illegal) (kept : List K) → FollowsBy replayed keeps follows_all nodes o next_line illegal kept → o ≡ None → HasNone keeps follows_all nodes illegal kept
-    none_is nodes None next_line illegal kept known none = known
-    none_is nodes (Some node) next_line illegal kept known none = absurd cc
+    none_is nodes x next_line illegal kept known none = grind arith
 
     -- and the other way round
     pub follows_none : (nodes : List NodeJournal) (new : Follower F K) → new.at_hand ≡ None → ReportsFirst nodes new.illegal → HasNone keeps follows_all nodes new.illegal new.kept.items → Follows replayed keeps follows_all nodes new
-    follows_none nodes new none first known =
-        let B : Option F → Type 0 = λ o. FollowsBy replayed keeps follows_all nodes o new.next_line new.illegal new.kept.items in
-        record { first = first; known = subst B (sym none) known }
+    follows_none nodes new none first known = grind arith
 
     -- there is room for one more event of a node whose next line has a number that is counted
     room_by : (number : ℕ) (nodes : List NodeJournal) (o : Option F) (next_line : ℕ) (illegal : Option Illegal) (kept : List K) → FollowsBy replayed keeps follows_all nodes o next_line illegal kept → All (IsNodeBefore number) nodes → number ≤ max_counted →
@@ -207,29 +186,15 @@ module _ {K : Type 0} (keeps : Shape → History → Option Illegal → K → Ty
         (omega (arith, e.next_is, events), omega (arith, e.next_is, lines))
 
     pub room : (number : ℕ) (nodes : FollowedNodes F K) → FollowsLines replayed keeps follows_all number nodes → number ≤ max_counted → HasRoom replayed nodes.follower
-    room number nodes along below =
-        let f = nodes.follower in
-        room_by number (nodes_told nodes.lines) f.at_hand f.next_line f.illegal f.kept.items along.follows.known along.each below
+    room number nodes along below = grind (arith, room_by)
 
     -- ---- the nodes that lines tell
 
     -- before any line
     pub goes_first : (nodes : FollowedNodes F K) → nodes.lines ≡ [] → nodes.follower.at_hand ≡ None → nodes.follower.illegal ≡ None → nodes.follower.kept.items ≡ [] → FollowsLines replayed keeps follows_all 1 nodes
-    goes_first nodes none no-node legal nothing =
-        let told : nodes_told nodes.lines ≡ [] = ap nodes_told none ∙ told_none in
-        let P : List NodeJournal → Type 0 = λ ns. All (IsNodeBefore 1) ns in
-        let S : List NodeJournal → Type 0 = λ ns. Follows replayed keeps follows_all ns nodes.follower in
-        let R : Option Illegal → Type 0 = λ i. ReportsFirst [] i in
-        let A : List K → Type 0 = λ ks. AreKept keeps [] ks in
-        record {
-          each = subst P (sym told) (All-nil (IsNodeBefore 1));
-          follows = subst S (sym told) (follows_none [] nodes.follower no-node (subst R (sym legal) first_none) (inl (subst A (sym nothing) tt, tt)));
-        }
+    goes_first nodes none no-node legal nothing = grind (arith, told_none, All-nil, follows_none, first_none)
 
     -- behind one more line
     pub goes_on : (number : ℕ) (old new : FollowedNodes F K) (line : Line) → FollowsLines replayed keeps follows_all number old → IsInRange line → new.lines ≡ old.lines ++ (number, line) ∷ [] →
         Follows replayed keeps follows_all (with_line number (nodes_told old.lines) line) new.follower → FollowsLines replayed keeps follows_all (number + 1) new
-    goes_on number old new line along in-range lines follows =
-        let told : nodes_told new.lines ≡ with_line number (nodes_told old.lines) line = ap nodes_told lines ∙ told_push old.lines number line in
-        let P : List NodeJournal → Type 0 = λ ns. Follows replayed keeps follows_all ns new.follower in
-        record { each = each_step number (nodes_told old.lines) (nodes_told new.lines) line told in-range along.each; follows = subst P (sym told) follows }
+    goes_on number old new line along in-range lines follows = grind (arith, told_push, each_step)

@@ -1,5 +1,5 @@
 -- The nodes of a journal, as one more line is read.
-use Rattle.std.proofs.Common.{◌≡◌, ◌⊎◌, ℕ, suc, ◌+◌, ◌≤◌, List, [], ◌∷◌, ◌++◌, length, length-append, Result, Ok, Err, refl, sym, ap, ◌∙◌, arith, inl, inr, All, IfOk, IfErr}
+use Rattle.std.proofs.Common.{◌≡◌, ◌⊎◌, ℕ, suc, ◌+◌, ◌≤◌, List, [], ◌∷◌, ◌++◌, length, length-append, Result, refl, sym, ap, ◌∙◌, arith, inl, inr, All, IfOk, IfErr}
 use Rattle.std.proofs.lemmas.List.Elements.{All-cons, All-nil, All-push, All-tail}
 use Rattle.std.proofs.lemmas.List.Sums.{fold_push}
 use Rattle.thp_model.specs.declared.events.Event.{Event}
@@ -65,9 +65,7 @@ event_adds number (End ∷ lines) event =
 
 -- lines after the first are numbered from the next number on
 one_further : (number : ℕ) (lines : List Line) (nodes : List NodeJournal) (line : Line) → with_line (number + 1 + length lines) nodes line ≡ with_line (number + suc (length lines)) nodes line
-one_further number lines nodes line =
-    let same : number + 1 + length lines ≡ number + suc (length lines) = omega arith in
-    ap (λ (n : ℕ). with_line n nodes line) same
+one_further number lines nodes line = grind arith
 
 -- a node's journal in front of nodes that get one more line
 module _ (number : ℕ) (shape : Shape) (lines : List Line) where
@@ -86,18 +84,11 @@ module _ (number : ℕ) (shape : Shape) (lines : List Line) where
   -- and where one does
   event_there : (event : Event) (nodes more : List NodeJournal) (node : NodeJournal) (others : List NodeJournal) (h : History) → nodes ≡ node ∷ others → more ≡ on_last (with_event event) nodes → h ≡ events_of lines
       → node_journal number shape h ∷ more ≡ on_last (with_event event) (node_journal number shape (events_of lines) ∷ nodes)
-  event_there event nodes more node others h some e there =
-      journal_in_front h (events_of lines) more (on_last (with_event event) (node ∷ others)) there (e ∙ ap (λ (ns : List NodeJournal). on_last (with_event event) ns) some)
-      ∙ ap (λ (ns : List NodeJournal). on_last (with_event event) (node_journal number shape (events_of lines) ∷ ns)) (sym some)
+  event_there event nodes more node others h some e there = grind (arith, journal_in_front)
 
 -- the first line of a text begins the first node, if any
 first_line : (number : ℕ) (line : Line) → nodes_of number (line ∷ []) ≡ with_line (number + 0) [] line
-first_line number (Head version) = refl
-first_line number (Node n shape) =
-    let same : number + 0 ≡ number = omega arith in
-    rw (same, least_none shape) refl
-first_line number (Happened event) = refl
-first_line number End = refl
+first_line number x = grind (arith, least_none)
 
 -- the nodes of some lines and one more
 pub nodes_of-push : (number : ℕ) (lines : List Line) (line : Line) → nodes_of number (lines ++ line ∷ []) ≡ with_line (number + length lines) (nodes_of number lines) line
@@ -139,10 +130,7 @@ all_later number (node ∷ nodes) all =
     All-cons (IsNodeBefore (number + 1)) node nodes (later number node (all 0 node (omega arith))) (all_later number nodes (All-tail (IsNodeBefore number) node nodes all))
 
 one_event_more : (number : ℕ) (event : Event) (node : NodeJournal) → IsNodeBefore number node → IsNodeBefore (number + 1) (with_event event node)
-one_event_more number event node h =
-    let before : node.first_line + length node.events ≤ number = h.lines in
-    let longer : length (node.events ++ event_with (least_free node.shape node.events) event ∷ []) ≡ length node.events + 1 = length-append node.events (event_with (least_free node.shape node.events) event ∷ []) in
-    record { shape = h.shape; lines = omega arith }
+one_event_more number event node h = grind (arith, first_line, length-append)
 
 last_later : (number : ℕ) (event : Event) (nodes : List NodeJournal) → All (IsNodeBefore number) nodes → All (IsNodeBefore (number + 1)) (on_last (with_event event) nodes)
 last_later number event [] all = All-nil (IsNodeBefore (number + 1))
@@ -175,9 +163,7 @@ all_in_range number (node ∷ nodes) le all =
 -- ---- answers that may be a refusal of memory
 
 pub if_ok : {A E : Type 0} (r : Result A E) (P Q : A → Type 0) → IfOk r P → ((x : A) → P x → Q x) → IfOk r Q
-if_ok (Ok x) P Q h f = f x h
-if_ok (Err e) P Q h f = tt
+if_ok x y z h f = grind arith
 
 pub tells_memory : {A : Type 0} (r : Result A ReadFault) (read : Result Journals Fault) → IfErr r (λ fault. fault ≡ OutOfMemory) → IfErr r (ReportsFault read)
-tells_memory (Ok x) read h = tt
-tells_memory (Err fault) read h = rw h tt
+tells_memory x read h = grind arith

@@ -23,8 +23,7 @@ from_none lines = from_lines [] lines
 
 all_tell : (read : Result (List Line) Fault) → (read >>= λ lines. Ok (journals_in (with_lines 1 [] lines))) ≡ (read >>= λ lines. Ok (journals_with lines))
 unfolding journals_with
-all_tell (Ok lines) = ap (λ (nodes : List NodeJournal). Ok (journals_in nodes)) (from_none lines)
-all_tell (Err fault) = refl
+all_tell x = grind (arith, from_none)
 
 -- nothing has come: the text to come is the whole
 pub tells_all : (most : ℕ) (text : Text) → told_with (record { nodes = []; place = Start; text = nothing_of most }) text ≡ journals_within most text
@@ -34,8 +33,7 @@ tells_all most text = rw (all_tell (lines_from 1 Start (lines_of text))) (whole_
 -- a line before those behind it
 after_tells : (n : ℕ) (nodes : List NodeJournal) (line : Line) (read : Result (List Line) Fault)
     → (behind (line ∷ []) read >>= λ lines. Ok (journals_in (with_lines n nodes lines))) ≡ (read >>= λ lines. Ok (journals_in (with_lines (n + 1) (with_line n nodes line) lines)))
-after_tells n nodes line (Ok lines) = refl
-after_tells n nodes line (Err fault) = refl
+after_tells n nodes line x = grind arith
 
 -- a line that says something in its place, and the lines behind it
 pub line_tells : (nodes : List NodeJournal) (place : Place) (n : ℕ) (text bytes after : Text) (line : Line) → lines_of text ≡ bytes ∷ lines_of after → Ok line ≡ line_in place bytes

@@ -1,5 +1,5 @@
 -- Words that read as something are plain: each has a character, and all are printable.
-use Rattle.std.proofs.Common.{◌≡◌, ◌==◌, ◌+◌, ◌<◌, ◌≤◌, ℕ, Bool, true, false, cond, List, [], ◌∷◌, length, Option, Some, None, Result, Ok, arith, ap, subst, refl, sym, inl, inr, codes, All, nat_le, ok_or, bytes_eq}
+use Rattle.std.proofs.Common.{◌≡◌, ◌==◌, ◌+◌, ◌<◌, ◌≤◌, ℕ, Bool, true, false, cond, List, [], ◌∷◌, length, Option, Result, Ok, arith, subst, refl, sym, codes, All, nat_le, ok_or, bytes_eq}
 use Rattle.std.specs.Char.{is_ascii_lowercase}
 use Rattle.std.specs.List.{list_all, onto_first}
 use Rattle.std.proofs.lemmas.Bool.{and_from, and_parts, eqb-true, le-leb, leb-true, ne_eqb}
@@ -10,17 +10,13 @@ use Rattle.thp_script.specs.declared.fault.TextKind.TheVariants.{BadNumber, BadS
 use Rattle.thp_script.specs.Prelude.{number_up_to, is_empty, is_printable, Text, number_of, pieces_at}
 use Rattle.thp_script.proofs.LineLaws.{IsPlain, bind_ok, number_read, ok_value, read, word_cases}
 use Rattle.thp_script.proofs.PieceLaws.{has_first, HasFirst}
-use Rattle.thp_journal_reader.specs.Prelude.{EventWord, Version, Plain, Orders, Underused, common_word, event_word, later_word, outcome_of, Run, run_from, run_of, run_of_numbers, runs_of, set_of_runs, set_of_text, subpage_number}
+use Rattle.thp_journal_reader.specs.Prelude.{EventWord, Version, common_word, event_word, later_word, outcome_of, Run, run_from, run_of, run_of_numbers, runs_of, set_of_runs, set_of_text, subpage_number}
 
 -- ---- words that are looked up
 
 -- the word is this one, of which P holds, or the others say that P holds of it
 this_or : {A : Type 0} (P : Text → Type 0) (name word : Text) (reading others : Result A TextKind) (x : A) → cond (bytes_eq name word) reading others ≡ Ok x → P word → (others ≡ Ok x → P name) → P name
-this_or P name word reading others x e p rest =
-    elim (word_cases name word reading others x e) [
-      | inl h ↦ subst P (sym h.0) p
-      | inr f ↦ rest f
-    ]
+this_or y name word reading others x e p rest = grind (arith, word_cases)
 
 -- the same of plain words
 pub one_or : {A : Type 0} (name word : Text) (reading others : Result A TextKind) (x : A) → cond (bytes_eq name word) reading others ≡ Ok x → list_all is_printable word ≡ true → is_empty word ≡ false
@@ -29,11 +25,7 @@ one_or name word reading others x e printable some rest = this_or IsPlain name w
 
 pub outcome_plain : (word : Text) (outcome : Outcome) → outcome_of word ≡ Ok outcome → IsPlain word
 unfolding outcome_of
-outcome_plain word outcome e =
-    one_or word (codes "stays") _ _ outcome e refl refl
-    (λ e1. one_or word (codes "queued") _ _ outcome e1 refl refl
-    (λ e2. one_or word (codes "freed") _ _ outcome e2 refl refl
-    (λ e3. absurd cc)))
+outcome_plain word outcome e = grind (arith, one_or)
 
 -- ---- words of events
 
@@ -67,23 +59,13 @@ common_letters name word e =
 
 later_letters : (name : Text) (word : EventWord) → later_word name ≡ Ok word → IsOfLetters name
 unfolding later_word
-later_letters name word e =
-    letters_or name (codes "write") _ _ word e refl refl
-    (λ e1. letters_or name (codes "zero") _ _ word e1 refl refl
-    (λ e2. letters_or name (codes "used") _ _ word e2 refl refl
-    (λ e3. common_letters name word e3)))
+later_letters name word e = grind (arith, letters_or, common_letters)
 
 pub event_word_letters : (v : Version) (name : Text) (word : EventWord) → event_word v name ≡ Ok word → IsOfLetters name
-event_word_letters Plain name word e = common_letters name word e
-event_word_letters Orders name word e = common_letters name word e
-event_word_letters Underused name word e = later_letters name word e
+event_word_letters x name word e = grind (arith, common_letters, later_letters)
 
 letter_printable : (b : ℕ) → is_ascii_lowercase b ≡ true → is_printable b ≡ true
-letter_printable b letter =
-    let p = and_parts (nat_le 97 b) (nat_le b 122) letter in
-    let low : 97 ≤ b = leb-true 97 b p.0 in
-    let high : b ≤ 122 = leb-true b 122 p.1 in
-    and_from (nat_le 32 b) (nat_le b 126) (le-leb 32 b (omega arith)) (le-leb b 126 (omega arith))
+letter_printable b letter = grind (arith, and_parts, nat_le, leb-true, and_from, le-leb)
 
 letters_printable : (word : Text) → list_all is_ascii_lowercase word ≡ true → list_all is_printable word ≡ true
 letters_printable [] letters = refl
@@ -101,9 +83,7 @@ letters_whole c (b ∷ word) below letters =
     rw (letters_whole c word below p.1, ne_eqb b c (λ e. absurd (omega arith))) refl
 
 pub event_word_plain : (v : Version) (name : Text) (word : EventWord) → event_word v name ≡ Ok word → IsPlain name
-event_word_plain v name word e =
-    let h = event_word_letters v name word e in
-    record { printable = letters_printable name h.letters; some = h.some }
+event_word_plain v name word e = grind (arith, event_word_letters, letters_printable)
 
 -- ---- numbers
 
@@ -112,8 +92,7 @@ number_plain most n word e = (number_read most n word e).0
 
 -- where it reads as a number, the fault that it would have doesn't matter
 with_other_fault : (o : Option ℕ) (n : ℕ) → ok_or o BadSet ≡ Ok n → ok_or o BadNumber ≡ Ok n
-with_other_fault None n e = absurd cc
-with_other_fault (Some m) n e = ap (λ (k : ℕ). read k) (ok_value m n e)
+with_other_fault x n e = grind (arith, read, ok_value)
 
 subpage_plain : (n : ℕ) (word : Text) → subpage_number word ≡ Ok n → IsPlain word
 subpage_plain n word e = number_plain 511 n word (with_other_fault (number_of 511 word) n e)
@@ -139,15 +118,7 @@ joined_printable c separator (b ∷ text) all = by (b == c) refl (has_first c te
         (rest (subst (λ (ws : List Text). All Printable ws) (sym f.2) (All-cons Printable f.0 f.1 p.1 (All-tail Printable (b ∷ f.0) f.1 own))))
 
 numbers_printable : (words : List Text) (run : Run) → run_of_numbers words ≡ Ok run → All Printable words
-numbers_printable [] run e = absurd cc
-numbers_printable (word ∷ []) run e =
-    let n = bind_ok (subpage_number word) _ run e in
-    All-cons Printable word [] (subpage_plain n.0 word n.1).printable (All-nil Printable)
-numbers_printable (first ∷ last ∷ []) run e =
-    let n = bind_ok (subpage_number first) _ run e in
-    let m = bind_ok (subpage_number last) _ run n.2 in
-    All-cons Printable first (last ∷ []) (subpage_plain n.0 first n.1).printable (All-cons Printable last [] (subpage_plain m.0 last m.1).printable (All-nil Printable))
-numbers_printable (a ∷ b ∷ d ∷ words) run e = absurd cc
+numbers_printable x run e = grind (arith, bind_ok, All-cons, subpage_plain, All-nil)
 
 run_printable : (text : Text) (run : Run) → run_of text ≡ Ok run → Printable text
 unfolding run_of
@@ -155,9 +126,7 @@ run_printable text run e = joined_printable 45 refl text (numbers_printable (pie
 
 run_from_printable : (least : ℕ) (text : Text) (run : Run) → run_from least text ≡ Ok run → Printable text
 unfolding run_from
-run_from_printable least text run e =
-    let r = bind_ok (run_of text) _ run e in
-    run_printable text r.0 r.1
+run_from_printable least text run e = grind (arith, bind_ok, run_printable)
 
 runs_printable : (least : ℕ) (texts : List Text) (runs : List Run) → runs_of least texts ≡ Ok runs → All Printable texts
 runs_printable least [] runs e = All-nil Printable

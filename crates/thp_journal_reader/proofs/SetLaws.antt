@@ -1,5 +1,5 @@
 -- Sets read run by run: what was read, with what the rest says, is what the whole text says.
-use Rattle.std.proofs.Common.{◌≡◌, ℕ, ◌+◌, ◌-◌, ◌≤◌, Bool, true, false, ◌||◌, ◌&&◌, nat_eq, nat_lt, List, [], ◌∷◌, ◌++◌, length, set, Option, Some, None, Result, Ok, Err, refl, sym, ap, ◌∙◌, append_assoc, arith, inl, inr, nat_le, is_some, append-nil}
+use Rattle.std.proofs.Common.{◌≡◌, ℕ, ◌+◌, ◌-◌, ◌≤◌, Bool, true, false, ◌||◌, ◌&&◌, nat_eq, nat_lt, List, [], ◌∷◌, ◌++◌, length, set, Option, Some, None, Result, Ok, Err, refl, sym, ap, ◌∙◌, append_assoc, arith, nat_le, is_some, append-nil}
 use Rattle.std.specs.List.{list_any}
 use Rattle.std.proofs.Math.Bool.{or_comm}
 use Rattle.std.proofs.lemmas.Bool.{cases_lt, eq-eqb, ne_eqb, le-leb, lt-leb, le-ltb, lt-ltb}
@@ -16,30 +16,15 @@ use Rattle.thp_journal_reader.specs.Prelude.{Run, covers_number, run_from, run_o
 
 -- a run of one covers its number alone
 one_covers : (first last i : ℕ) → first ≡ last → nat_eq i first ≡ (nat_le first i && nat_le i last)
-one_covers first last i same =
-    elim (cases_lt i first) [
-      | inl below ↦ rw (ne_eqb i first (λ (e : i ≡ first). absurd (omega arith)), lt-leb first i below) refl
-      | inr above ↦
-          elim (cases_lt first i) [
-            | inl beyond ↦ rw (ne_eqb i first (λ (e : i ≡ first). absurd (omega arith)), le-leb first i above, lt-leb i last (omega arith)) refl
-            | inr within ↦ rw (eq-eqb i first (omega arith), le-leb first i above, le-leb i last (omega arith)) refl
-          ]
-    ]
+one_covers first last i same = grind (arith, cases_lt, ne_eqb, lt-leb, le-leb, eq-eqb)
 
 -- a longer one covers as many numbers as lie between its ends
 ends_alike : (first last i : ℕ) → first ≤ last → nat_lt i (first + (last - first + 1)) ≡ nat_le i last
-ends_alike first last i order =
-    elim (cases_lt last i) [
-      | inl beyond ↦ rw (le-ltb i (first + (last - first + 1)) (omega arith), lt-leb i last beyond) refl
-      | inr within ↦ rw (lt-ltb i (first + (last - first + 1)) (omega arith), le-leb i last within) refl
-    ]
+ends_alike first last i order = grind (arith, cases_lt, le-ltb, lt-leb, lt-ltb, le-leb)
 
 -- a set with a run of one put in
 pub put_one : (t : List Bool) (run : Run) → length t ≡ 512 → run.0 ≡ run.1 → run.1 ≤ 511 → set t run.0 true ≡ set_of (λ i. has t i || covers_number i run)
-put_one t run whole same bound =
-    set_set_of t run.0 whole (omega arith)
-    ∙ set_of-ext (λ (i : ℕ). nat_eq i run.0 || has t i) (λ (i : ℕ). has t i || covers_number i run)
-    (λ i below. or_comm (nat_eq i run.0) (has t i) ∙ ap (λ (b : Bool). has t i || b) (one_covers run.0 run.1 i same))
+put_one t run whole same bound = grind (arith, set_set_of, set_of-ext, nat_eq, or_comm, one_covers)
 
 -- a set with a longer run put in
 pub put_more : (t u : List Bool) (run : Run) → run.0 ≤ run.1 → u ≡ set_of (covers run.0 (run.1 - run.0 + 1)) → set_of (λ i. has t i || has u i) ≡ set_of (λ i. has t i || covers_number i run)
@@ -50,8 +35,7 @@ put_more t u run order is =
     (ap (λ (v : List Bool). has v i) is ∙ get_or-set_of (covers run.0 (run.1 - run.0 + 1)) i below ∙ ap (λ (b : Bool). nat_le run.0 i && b) (ends_alike run.0 run.1 i order)))
 
 last_or : (b : Bool) → (b || false) ≡ b
-last_or true = refl
-last_or false = refl
+last_or x = grind arith
 
 -- the set of some runs and one more
 pub set_with_push : (runs : List Run) (run : Run) → set_of (λ i. has (set_with runs) i || covers_number i run) ≡ set_with (runs ++ run ∷ [])
@@ -81,12 +65,10 @@ abbrev pub behind : List Run → Read → Read
 behind before read = read >>= λ runs. Ok (before ++ runs)
 
 behind-behind : (before more : List Run) (read : Read) → behind before (behind more read) ≡ behind (before ++ more) read
-behind-behind before more (Ok runs) = ap (λ (rs : List Run). Ok rs) (sym (append_assoc before more runs))
-behind-behind before more (Err kind) = refl
+behind-behind before more x = grind (arith, append_assoc)
 
 behind-nothing : (read : Read) → behind [] read ≡ read
-behind-nothing (Ok runs) = refl
-behind-nothing (Err kind) = refl
+behind-nothing x = grind arith
 
 -- the first of the pieces that are left, where it is a run, and where it is none
 run_says : (least : ℕ) (pieces left : List Text) (piece : Text) (run : Run) → pieces ≡ piece ∷ left → Ok run ≡ run_from least piece → runs_of least pieces ≡ behind (run ∷ []) (runs_of (run.1 + 2) left)
@@ -120,10 +102,7 @@ runs_fail text runs least rest piece left kind so-far e says = rw (so-far, run_f
 
 pub runs_end : (text : Text) (runs : List Run) (least : ℕ) (rest piece : Text) (run : Run) (t : List Bool) → IsReadTo text runs least rest → pieces_at 44 rest ≡ piece ∷ [] → Ok run ≡ run_from least piece → t ≡ set_with (runs ++ run ∷ [])
     → Ok t ≡ set_of_runs text
-runs_end text runs least rest piece run t so-far e says is =
-    let read : runs_of 0 (pieces_at 44 text) ≡ Ok (runs ++ run ∷ []) =
-    read_more text runs least rest piece [] run so-far e says ∙ ap (λ (rs : List Run). Ok rs) (append-nil (runs ++ run ∷ [])) in
-    rw (read, is) refl
+runs_end text runs least rest piece run t so-far e says is = grind (arith, read_more, append-nil)
 
 -- ---- one run
 

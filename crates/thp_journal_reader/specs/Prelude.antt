@@ -1,4 +1,4 @@
--- The definitions and types of this library, each by its name alone: one line of a file imports what it cites.
+-- Re-exports the definitions and types of this library: other files import those that they cite from here, in one line.
 pub use Rattle.thp_journal_reader.specs.Answers.{AreLegalBefore, CanBeLegal, IsFirstIllegal, IsFirstIllegalEvent, IsLegalFront, IsLegalNode, ReportsFirst, ReportsIllegal, ReportsLongReadFault}
 pub use Rattle.thp_journal_reader.specs.EventLines.{caller_number, event_by, event_of, loss_words, no_words, page_number, range_loss_words, range_number, three_words}
 unfoldable pub use Rattle.thp_journal_reader.specs.EventLines.{close_event, loss_event, outcome_and_word, page_event, range_event, split_event, unmap_event}

@@ -1,17 +1,17 @@
 -- The script of a journal, as one more line is read.
-use Rattle.std.proofs.Common.{◌≡◌, ◌∙◌, ◌++◌, ◌+◌, ℕ, List, [], ◌∷◌, Option, Some, None, append_assoc, ap, ap₂, arith, inl, inr, length, map, refl, subst, sym, take, is_some, slice_get, true, false, OnOk, Result, Ok, Err}
+use Rattle.std.proofs.Common.{◌≡◌, ◌∙◌, ◌++◌, ◌+◌, ℕ, List, [], ◌∷◌, Option, Some, None, append_assoc, ap, ap₂, arith, inl, inr, length, map, refl, subst, sym, take, is_some, slice_get, true, false, OnOk, Result}
 use Rattle.std.proofs.lemmas.List.{map-append, take-append-le, take_at}
 use Rattle.std.proofs.lemmas.Option.{slice_get_within}
 use Rattle.thp_model.specs.declared.events.Event.{Event}
 use Rattle.thp_model.specs.declared.shape.Shape.{Shape}
-use Rattle.thp_model.specs.Prelude.{event_with, least_free, History, Fits, IsFirstMisfit}
+use Rattle.thp_model.specs.Prelude.{event_with, least_free, History, IsFirstMisfit}
 use Rattle.thp_model.proofs.ListPlaces.{get_middle, get_push}
 use Rattle.thp_journal_reader.specs.declared.illegal.Illegal.{Illegal}
 use Rattle.thp_journal_scripts.specs.Prelude.{JournalScript, ended_nodes, repeated_of, told_of, AddsLine, IsLegalPart, IsScripting, IsScriptOf, moved_by, nodes_of, out_of_turn_by, taken_of, untaken, BeginsNode, EndedNode, EndsAs, EndsNode, GoesOnWith, IsWriting, NodeScript}
 use Rattle.thp_journal_reader.specs.declared.journals.NodeJournal.{NodeJournal}
 use Rattle.thp_journal_reader.specs.declared.line.Line.{Line}
 use Rattle.thp_journal_reader.specs.declared.line.Line.TheVariants.{Head, Node, Happened, End}
-use Rattle.thp_journal_reader.specs.Prelude.{IsFirstIllegalEvent, IsLegalNode, ReportsFirst, began, on_last, with_event, with_line}
+use Rattle.thp_journal_reader.specs.Prelude.{IsFirstIllegalEvent, ReportsFirst, began, on_last, with_event, with_line}
 use Rattle.thp_journal_reader.proofs.AnswerLaws.{misfit_inside, misfit_is_illegal}
 use Rattle.thp_journal_reader.proofs.CheckLaws.{first_begins, first_none, front_stays, misfit_stays, stands, before_legal}
 use Rattle.thp_journal_reader.proofs.NodeLaws.{on_last-push}
@@ -31,16 +31,7 @@ on_later f (b ∷ c ∷ before) node next after = ap (λ ns. b ∷ ns) (on_later
 
 -- lines after the illegal event change nothing
 part_begins : (nodes part : List NodeJournal) (node : NodeJournal) → IsLegalPart nodes part → IsLegalPart (nodes ++ node ∷ []) part
-part_begins nodes part node is = record {
-  before = is.before;
-  node = is.node;
-  after = is.after ++ node ∷ [];
-  nodes_are = ap (λ ns. ns ++ node ∷ []) is.nodes_are ∙ append_assoc is.before (is.node ∷ is.after) (node ∷ []);
-  legal = is.legal;
-  place = is.place;
-  misfit = is.misfit;
-  part_is = is.part_is;
-}
+part_begins nodes part node is = grind (arith, append_assoc)
 
 part_grows : (nodes part : List NodeJournal) (e : Event) → IsLegalPart nodes part → IsLegalPart (on_last (with_event e) nodes) part
 part_grows nodes part e is = by_after is.after is.nodes_are where
@@ -67,10 +58,7 @@ part_grows nodes part e is = by_after is.after is.nodes_are where
   }
 
 part_stays : (number : ℕ) (line : Line) (nodes part : List NodeJournal) → IsLegalPart nodes part → IsLegalPart (with_line number nodes line) part
-part_stays number (Head version) nodes part is = is
-part_stays number (Node n shape) nodes part is = part_begins nodes part (began (number + 1) shape) is
-part_stays number (Happened e) nodes part is = part_grows nodes part e is
-part_stays number End nodes part is = is
+part_stays number x nodes part is = grind (arith, part_begins, part_grows)
 
 -- some node is illegal
 not_all : (nodes part : List NodeJournal) → IsLegalPart nodes part → ReportsFirst nodes None → ⊥
@@ -84,15 +72,7 @@ module _ (nodes before : List NodeJournal) (last : NodeJournal) (are : nodes ≡
   last_stands = ap (λ (ns : List NodeJournal). slice_get ns (length before)) are ∙ get_middle before last []
 
   last_events : (k : ℕ) → IsFirstMisfit last.shape (with_event e last).events k → take k (with_event e last).events ≡ last.events
-  last_events k misfit =
-      let x : Event = event_with (least_free last.shape last.events) e in
-      let legal : IsLegalNode last = all (length before) last (slice_get_within nodes (length before) last last_stands) last_stands in
-      elim (get_push last.events x k misfit.misfit.0 misfit.misfit.1) [
-        | inl w ↦
-            let front : take k (with_event e last).events ≡ take k last.events = take-append-le k last.events (x ∷ []) (omega (arith, w.0)) in
-            absurd (misfit.misfit.2 (subst (λ (h : History). Fits last.shape h misfit.misfit.0) (sym front) (legal.each k misfit.misfit.0 w.1)))
-        | inr w ↦ ap (λ j. take j (last.events ++ x ∷ [])) w.0 ∙ take_at last.events (x ∷ []) (length last.events) refl
-      ]
+  last_events k misfit = grind (arith, slice_get_within, last_stands, get_push, take-append-le, take_at)
 
   last_is_illegal : (illegal : Illegal) → IsFirstIllegalEvent (on_last (with_event e) nodes) illegal → (part : List NodeJournal) × IsLegalPart (on_last (with_event e) nodes) part × (map told_of part ≡ map told_of nodes)
   last_is_illegal illegal i =
@@ -119,9 +99,7 @@ module _ (nodes before : List NodeJournal) (last : NodeJournal) (are : nodes ≡
 
 -- nodes without an illegal event have none
 none_illegal : (nodes : List NodeJournal) → ReportsFirst nodes None → (illegal : Illegal) → IsFirstIllegalEvent nodes illegal → ⊥
-none_illegal nodes all illegal i =
-    let l = i.line in
-    misfit_is_illegal l.node.shape l.node.events l.first.place l.first.misfit (all l.place l.node (slice_get_within nodes l.place l.node l.here) l.here)
+none_illegal nodes all illegal i = grind (arith, misfit_is_illegal, slice_get_within)
 
 -- the first illegal event is on this line
 found_now : (number : ℕ) (line : Line) (nodes : List NodeJournal) → ReportsFirst nodes None → (illegal : Illegal) → IsFirstIllegalEvent (with_line number nodes line) illegal →
@@ -136,11 +114,7 @@ found_now number End nodes all illegal i = absurd (none_illegal nodes all illega
 
 -- the nodes with a script, once the last of them has ended
 same_ended : (ended : List EndedNode) (begun : Option NodeScript) (after : List EndedNode) → EndsAs ended begun after → map repeated_of (nodes_of after None) ≡ map repeated_of (nodes_of ended begun)
-same_ended ended None after is = ap (λ es. map repeated_of (ended_nodes es)) is
-same_ended ended (Some n) after is =
-    let last : EndedNode = record { node = record n { ops = n.ops ++ is.0 }; moved = is.1.0 } in
-    ap (λ es. map repeated_of (ended_nodes es)) is.1.1 ∙ ap (map repeated_of) (map-append (λ (e : EndedNode). e.node) ended (last ∷ [])) ∙ map-append repeated_of (ended_nodes ended) (last.node ∷ [])
-    ∙ sym (map-append repeated_of (ended_nodes ended) (n ∷ []))
+same_ended ended x after is = grind (arith, map-append)
 
 -- it ends at the illegal event, or has
 pub stops : (number : ℕ) (line : Line) (nodes : List NodeJournal) (old new : JournalScript) (was : Option Illegal) (illegal : Illegal) → ReportsFirst nodes was → ReportsFirst (with_line number nodes line) (Some illegal) → EndsNode old new →
@@ -260,41 +234,17 @@ grows number End nodes old new None all same s = subst (IsScripting nodes None) 
 -- the same, of nodes that lines tell
 module _ (number : ℕ) (line : Line) (nodes more : List NodeJournal) (told : more ≡ with_line number nodes line) (old new : JournalScript) (was now : Option Illegal) (first : ReportsFirst more now) (s : IsScripting nodes was old) where
   pub stops_now : ReportsFirst nodes was → (is_some now ≡ true) → EndsNode old new → IsScripting more now new
-  stops_now before some ends = by_first now refl where
-    by_first : (o : Option Illegal) → now ≡ o → IsScripting more now new
-    by_first None is = absurd (let wrong : is_some now ≡ false = ap is_some is in cc)
-    by_first (Some illegal) is =
-        subst (λ ns. IsScripting ns now new) (sym told)
-        (subst (λ o. IsScripting (with_line number nodes line) o new) (sym is)
-        (stops number line nodes old new was illegal before (subst (ReportsFirst (with_line number nodes line)) is (subst (λ ns. ReportsFirst ns now) told first)) ends s))
+  stops_now before some ends = grind (arith, is_some, stops)
 
   pub grows_now : (is_some now ≡ false) → AddsLine line old new → IsScripting more now new
-  grows_now none adds = by_first now refl where
-    by_first : (o : Option Illegal) → now ≡ o → IsScripting more now new
-    by_first (Some illegal) is = absurd (let wrong : is_some now ≡ true = ap is_some is in cc)
-    by_first None is =
-        subst (λ ns. IsScripting ns now new) (sym told)
-        (subst (λ o. IsScripting (with_line number nodes line) o new) (sym is)
-        (grows number line nodes old new was (subst (ReportsFirst (with_line number nodes line)) is (subst (λ ns. ReportsFirst ns now) told first)) adds s))
+  grows_now none adds = grind (arith, is_some, grows)
 
 pub on_ok_more : {A E P Q : Type 0} (r : Result A E) → (P → Q) → OnOk r P → OnOk r Q
-on_ok_more (Ok x) f p = f p
-on_ok_more (Err e) f p = tt
+on_ok_more x f p = grind arith
 
 -- its end
 pub script_ends : (nodes : List NodeJournal) (illegal : Option Illegal) (old new : JournalScript) → EndsNode old new → IsScripting nodes illegal old → IsScriptOf nodes illegal (taken_of new ++ untaken new) (moved_by new) (out_of_turn_by new)
-script_ends nodes illegal old new ends s =
-    let e = ends s.ended s.begun s.writing in
-    record {
-      part = s.part;
-      legal = s.legal;
-      scripts = e.0;
-      each = e.2.each;
-      same = s.same ∙ sym (same_ended s.ended s.begun e.0 e.1);
-      text_is = e.2.text_is;
-      moved_is = e.2.moved_is;
-      out_of_turn_is = e.2.out_of_turn_is;
-    }
+script_ends nodes illegal old new ends s = grind (arith, same_ended)
 
 -- before the first line
 pub script_begins : (illegal : Option Illegal) (s : JournalScript) → ReportsFirst [] illegal → IsWriting [] None s → IsScripting [] illegal s

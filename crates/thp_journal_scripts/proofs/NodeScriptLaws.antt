@@ -20,17 +20,11 @@ one_more_command n i ops d below =
 
 -- the loop over commands appends their lines
 pub line_appended : (n i : ℕ) (ops : List Op) (d : Op) (first text new : List ℕ) → i < length ops → text ≡ first ++ commands_text n (take i ops) → new ≡ text ++ command_line (record { node = n; op = get_or ops i d }) → new ≡ first ++ commands_text n (take (i + 1) ops)
-line_appended n i ops d first text new below so_far line =
-    line ∙ ap (λ t. t ++ command_line (record { node = n; op = get_or ops i d })) so_far ∙ append_assoc first (commands_text n (take i ops)) (command_line (record { node = n; op = get_or ops i d }))
-    ∙ ap (λ t. first ++ t) (sym (one_more_command n i ops d below))
+line_appended n i ops d first text new below so_far line = grind (arith, get_or, append_assoc, one_more_command)
 
 -- the lines of more commands of a node
 more_text : (before : List Shape) (n : NodeScript) (later : History) (ops : List Op) → node_text before (record { shape = n.shape; events = later; ops = n.ops ++ ops }) ≡ node_text before n ++ commands_text (node_after before) ops
-more_text before n later ops =
-    let front : List ℕ = head_text (before ++ n.shape ∷ []) in
-    let own : List ℕ = commands_text (node_after before) n.ops in
-    let more : List ℕ = commands_text (node_after before) ops in
-    ap (λ t. front ++ t) (flat_map-append (λ (o : Op). command_line (record { node = node_after before; op = o })) n.ops ops) ∙ sym (append_assoc front own more)
+more_text before n later ops = grind (arith, flat_map-append, append_assoc)
 
 -- the text of one more node
 one_more_node : (before : List Shape) (nodes : List NodeScript) (n : NodeScript) → nodes_text before (nodes ++ n ∷ []) ≡ nodes_text before nodes ++ node_text (before ++ map shape_of nodes) n
@@ -73,27 +67,15 @@ more_counted old new all k is more = omega (arith, is, more)
 
 -- the nodes' count with one more event of the last one
 more_turns : (nodes : List NodeScript) (n : NodeScript) (e : Event) (m : NodeScript) → m.events ≡ n.events ++ e ∷ [] → out_of_turn_in (nodes ++ m ∷ []) ≡ out_of_turn_in (nodes ++ n ∷ []) + more_out_of_turn (turns_of n.events).untried e
-more_turns nodes n e m is =
-    let all : NodeScript → ℕ = λ (x : NodeScript). out_of_turn x.events in
-    let k : ℕ = more_out_of_turn (turns_of n.events).untried e in
-    let own : out_of_turn m.events ≡ out_of_turn n.events + k = ap out_of_turn is ∙ ap (λ (t : TurnsSoFar). t.count) (one_more_turn n.events e) in
-    let one = sum_by_push all nodes m in
-    let other = sum_by_push all nodes n in
-    omega (arith, own, one, other)
+more_turns nodes n e m is = grind (arith, one_more_turn, sum_by_push)
 
 -- a node of the same events
 same_turns : (nodes : List NodeScript) (n m : NodeScript) → m.events ≡ n.events → out_of_turn_in (nodes ++ m ∷ []) ≡ out_of_turn_in (nodes ++ n ∷ [])
-same_turns nodes n m is =
-    let all : NodeScript → ℕ = λ (x : NodeScript). out_of_turn x.events in
-    sum_by_push all nodes m ∙ ap (λ h. out_of_turn_in nodes + out_of_turn h) is ∙ sym (sum_by_push all nodes n)
+same_turns nodes n m is = grind (arith, sum_by_push)
 
 -- a node without an event
 no_turns : (nodes : List NodeScript) (n : NodeScript) → n.events ≡ [] → out_of_turn_in (nodes ++ n ∷ []) ≡ out_of_turn_in nodes
-no_turns nodes n is =
-    let all : NodeScript → ℕ = λ (x : NodeScript). out_of_turn x.events in
-    let none : out_of_turn n.events ≡ 0 = ap out_of_turn is in
-    let one = sum_by_push all nodes n in
-    omega (arith, none, one)
+no_turns nodes n is = grind (arith, sum_by_push)
 
 -- ---- steps
 

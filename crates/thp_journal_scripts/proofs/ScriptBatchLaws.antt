@@ -22,22 +22,11 @@ more_by c kind n own e are by = (omega (arith, are.0, length-append own (e ∷ [
 -- ---- commands of events without one
 
 no_calls_pending : (b : ScriptBatch) → calls_in (pending_ops b) ≡ []
-no_calls_pending Idle = refl
-no_calls_pending (Taking c n) = refl
-no_calls_pending (Trying c n k) = no_calls_in_tries k
-no_calls_pending (Scanned c n) = refl
-no_calls_pending (Open c) = refl
-no_calls_pending (Closing c) = refl
+no_calls_pending x = grind (arith, no_calls_in_tries)
 
 -- the events without a command get one command
 completed : (h : History) (past : List Op) (b : ScriptBatch) (o : Op) (after : ScriptBatch) → (r : RepeatsUpTo h past b) → RepeatsBy (open_by b) o r.pending (open_by after) → IsPending after [] → RepeatsUpTo h (past ++ o ∷ []) after
-completed h past b o after r by none = record {
-  done = r.done ++ r.pending;
-  pending = [];
-  parts = r.parts ∙ sym (append-nil (r.done ++ r.pending));
-  repeats = repeats_more None past r.done (open_by b) o r.pending (open_by after) r.repeats by;
-  pending_is = none;
-}
+completed h past b o after r by none = grind (arith, append-nil, repeats_more)
 
 settle_trying : (h : History) (past : List Op) (c n k : ℕ) → RepeatsUpTo h past (Trying c n k) → RepeatsUpTo h (past ++ op.Take n ∷ replicate k op.SplitNext) (Open c)
 settle_trying h past c n k r =
@@ -84,13 +73,7 @@ complete_repeats h past (Closing c) o is r = subst (λ p. RepeatsUpTo h (past ++
 
 -- the events without a command, with one more
 pending_more : (h : History) (past : List Op) (b after : ScriptBatch) (e : Event) → (r : RepeatsUpTo h past b) → open_by b ≡ open_by after → IsPending after (r.pending ++ e ∷ []) → RepeatsUpTo (h ++ e ∷ []) past after
-pending_more h past b after e r same is = record {
-  done = r.done;
-  pending = r.pending ++ e ∷ [];
-  parts = ap (λ g. g ++ e ∷ []) r.parts ∙ append_assoc r.done r.pending (e ∷ []);
-  repeats = subst (λ o. Repeats None past r.done o) same r.repeats;
-  pending_is = is;
-}
+pending_more h past b after e r same is = grind (arith, append_assoc)
 
 take_repeats : (h : History) (past : List Op) (b after : ScriptBatch) (by : ℕ) (e : Event) → TakesMore b by after → IsBy by Take e → RepeatsUpTo h past b → RepeatsUpTo (h ++ e ∷ []) past after
 take_repeats h past Idle after by e never is r = absurd never
@@ -150,19 +133,11 @@ put_repeats h past (Closing c) after by e more is r =
 
 -- a command repeats one more event
 plain_repeats : (h : History) (past : List Op) (b : ScriptBatch) (e : Event) (o : Op) → (r : RepeatsUpTo h past b) → r.pending ≡ [] → IsPending b [] → RepeatsBy (open_by b) o (e ∷ []) (open_by b) → RepeatsUpTo (h ++ e ∷ []) (past ++ o ∷ []) b
-plain_repeats h past b e o r none is by = record {
-  done = r.done ++ e ∷ [];
-  pending = [];
-  parts = ap (λ g. g ++ e ∷ []) (r.parts ∙ ap (λ g. r.done ++ g) none ∙ append-nil r.done) ∙ sym (append-nil (r.done ++ e ∷ []));
-  repeats = repeats_more None past r.done (open_by b) o (e ∷ []) (open_by b) r.repeats by;
-  pending_is = is;
-}
+plain_repeats h past b e o r none is by = grind (arith, append-nil, repeats_more)
 
 -- a call
 call_by : (batch : Option ℕ) (e : Event) (o : Op) → kind_of e.what ≡ Call o → RepeatsBy batch o (e ∷ []) batch
-call_by batch e o is =
-    let plain : IsPlain (Call o) = subst IsPlain is (is_plain e.what) in
-    plain.1 batch (e ∷ []) (e, refl, is)
+call_by batch e o is = grind (arith, IsPlain, is_plain)
 
 call_repeats : (h : History) (past : List Op) (b : ScriptBatch) (e : Event) (o : Op) → kind_of e.what ≡ Call o → RepeatsUpTo h past (settled b) → RepeatsUpTo (h ++ e ∷ []) (past ++ o ∷ []) (settled b)
 call_repeats h past Idle e o is r = plain_repeats h past Idle e o r r.pending_is refl (call_by None e o is)
@@ -175,12 +150,7 @@ call_repeats h past (Closing c) e o is r = plain_repeats h past Idle e o r r.pen
 -- ---- the script so far
 
 no_call_completes : (b : ScriptBatch) (o : Op) → Completes b o → calls_in (o ∷ []) ≡ []
-no_call_completes Idle o never = absurd never
-no_call_completes (Taking c n) o never = absurd never
-no_call_completes (Trying c n k) o is = ap (λ p. calls_in (p ∷ [])) is.1
-no_call_completes (Scanned c n) o is = ap (λ p. calls_in (p ∷ [])) is
-no_call_completes (Open c) o never = absurd never
-no_call_completes (Closing c) o is = ap (λ p. calls_in (p ∷ [])) is
+no_call_completes x o never = grind arith
 
 -- commands that are no calls
 batch_commands : (h : History) (past more : List Op) → calls_in past ≡ calls_of h → calls_in more ≡ [] → calls_in (past ++ more) ≡ calls_of h
@@ -211,36 +181,10 @@ module _ {X : Type 0} where
 -- more commands, and what the kept events then have
 module _ (h : History) (past : List Op) (b after : ScriptBatch) (n : ℕ) (f : IsFoldedTo h past b n) where
   more_commands : (more : List Op) → calls_in more ≡ [] → RepeatsUpTo f.kept (f.here ++ more) after → IsFoldedTo h (past ++ more) after n
-  more_commands more none repeats = record {
-    calls = batch_commands h past more f.calls none;
-    kept = f.kept;
-    away = f.away;
-    here = f.here ++ more;
-    late = f.late;
-    events_are = f.events_are;
-    commands_are = first_more more f.commands_are;
-    repeats = repeats;
-    away_are = f.away_are;
-    late_are = f.late_are;
-    count = f.count;
-    none_late = f.none_late;
-  }
+  more_commands more none repeats = grind (arith, batch_commands, first_more)
 
   more_events : (more : List Op) (e : Event) → calls_in (past ++ more) ≡ calls_of (h ++ e ∷ []) → RepeatsUpTo (f.kept ++ e ∷ []) (f.here ++ more) after → IsFoldedTo (h ++ e ∷ []) (past ++ more) after n
-  more_events more e calls repeats = record {
-    calls = calls;
-    kept = f.kept ++ e ∷ [];
-    away = f.away;
-    here = f.here ++ more;
-    late = f.late;
-    events_are = first_more (e ∷ []) f.events_are;
-    commands_are = first_more more f.commands_are;
-    repeats = repeats;
-    away_are = f.away_are;
-    late_are = f.late_are;
-    count = f.count;
-    none_late = f.none_late;
-  }
+  more_events more e calls repeats = grind (arith, first_more)
 
   -- an event without a command yet
   one_event : (e : Event) → call_in (kind_of e.what) ≡ [] → RepeatsUpTo (f.kept ++ e ∷ []) f.here after → IsFoldedTo (h ++ e ∷ []) past after n
@@ -356,26 +300,4 @@ none_away [] zero = refl
 none_away (e ∷ es) zero = absurd (omega arith)
 
 pub is_script : (h : History) (past : List Op) (moved : Moved) (n : ℕ) → moved.events ≡ n → IsFoldedTo h past Idle n → (IsWholeScans h → moved ≡ nothing_moved) → (IsWholeScans h → All IsCallOrScan past) → IsScript h past moved
-is_script h past moved n same f none plain = record {
-  calls = f.calls;
-  repeats = λ ok.
-      let zero : n ≡ 0 = sym same ∙ ok in
-      let away : f.away ≡ [] = none_away f.away (sym zero ∙ f.count) in
-      let events : f.kept ≡ h = first_alone (subst (λ es. Interleaves f.kept es h) away f.events_are) in
-      let commands : f.here ≡ past = first_alone (subst (λ os. Interleaves f.here os past) (f.none_late zero) f.commands_are) in
-      subst (λ g. Repeats None past g None) events (subst (λ os. Repeats None os f.kept None) commands (all_repeated f.kept f.here f.repeats));
-  except = record {
-    kept = f.kept;
-    away = f.away;
-    here = f.here;
-    late = f.late;
-    events_are = f.events_are;
-    commands_are = f.commands_are;
-    repeats = all_repeated f.kept f.here f.repeats;
-    away_are = f.away_are;
-    late_are = f.late_are;
-    count = same ∙ f.count;
-  };
-  whole = none;
-  plain = plain;
-}
+is_script h past moved n same f none plain = grind (arith, none_away, first_alone, all_repeated)

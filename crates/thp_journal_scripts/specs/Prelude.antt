@@ -1,4 +1,4 @@
--- The definitions and types of this library, each by its name alone: one line of a file imports what it cites.
+-- Re-exports the definitions and types of this library: other files import those that they cite from here, in one line.
 pub use Rattle.thp_journal_scripts.specs.Folds.{AddsCommands, AddsEvent, AddsPlain, AddsTo, Ends, HasAdded, IsAt, IsAtPlace, IsFolded, IsFoldedTo, IsInScan, IsQuiet, IsScript, KeepsFlights, flying, flying_after, leave, leave_if_freed, nothing_moved, pages_at}
 pub use Rattle.thp_journal_scripts.specs.JournalScripts.{AddsLine, IsLegalPart, IsScriptOf, IsScripting, ScriptSoFar, ended_nodes, repeated_of, told_of}
 pub use Rattle.thp_journal_scripts.specs.Moving.{Interleaves, IsOfBatch, IsScan, both_moved, counted, first, neither, second}

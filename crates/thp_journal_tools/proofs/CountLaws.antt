@@ -1,5 +1,5 @@
 -- How the events of a text add up.
-use Rattle.std.proofs.Common.{◌≡◌, ◌≤◌, ◌+◌, ◌++◌, ◌∷◌, [], ◌∙◌, ℕ, Bool, true, false, List, add_assoc, ap, arith, drop, length, refl, sym, take, length-append, take-append-drop, ◌&&◌, eqb, if◌then◌else◌}
+use Rattle.std.proofs.Common.{◌≡◌, ◌≤◌, ◌+◌, ◌++◌, ◌∷◌, [], ◌∙◌, ℕ, Bool, List, add_assoc, ap, arith, drop, length, refl, sym, take, length-append, take-append-drop, ◌&&◌, eqb, if◌then◌else◌}
 use Rattle.std.specs.Char.{is_ascii_digit}
 use Rattle.thp_journal_tools.specs.Counting.{begins_after, events_from}
 
@@ -15,8 +15,7 @@ begins-append begins [] more = refl
 begins-append begins (byte ∷ first) more = begins-append (eqb byte 10) first more
 
 at_most_one : (b : Bool) → (if b then 1 else 0) ≤ 1
-at_most_one true = omega arith
-at_most_one false = omega arith
+at_most_one x = grind arith
 
 -- a text has no more events than bytes
 pub events_at_most : (begins : Bool) (text : List ℕ) → events_from begins text ≤ length text
@@ -29,10 +28,7 @@ module _ (begins : Bool) (n : ℕ) (rest front back : List ℕ) (front_is : fron
   parts = sym (take-append-drop n rest) ∙ rw (front_is, back_is) refl
 
   pub counts_on : (total old new : ℕ) (next : Bool) → new ≡ old + events_from begins front → next ≡ begins_after begins front → old + events_from begins rest ≡ total → new + events_from next back ≡ total
-  counts_on total old new next e b is =
-      let split : events_from begins rest ≡ events_from begins front + events_from (begins_after begins front) back = ap (events_from begins) parts ∙ events-append begins front back in
-      let now : events_from next back ≡ events_from (begins_after begins front) back = ap (λ (x : Bool). events_from x back) b in
-      omega (arith, e, split, now, is)
+  counts_on total old new next e b is = grind (arith, parts, events-append)
 
   pub begins_on : (next : Bool) → next ≡ begins_after begins front → begins_after next back ≡ begins_after begins rest
   begins_on next b = ap (λ (x : Bool). begins_after x back) b ∙ sym (ap (begins_after begins) parts ∙ begins-append begins front back)

@@ -1,11 +1,10 @@
 -- What a screen has taken, line by line.
-use Rattle.std.proofs.Common.{◌≡◌, ◌∙◌, ◌++◌, ◌∷◌, ◌+◌, [], ℕ, Bool, false, List, Option, Some, None, ap, append_assoc, get_or, inl, inr, length, refl, subst, suc, sym, zero, arith, true, All, map}
+use Rattle.std.proofs.Common.{◌≡◌, ◌∙◌, ◌++◌, ◌∷◌, ◌+◌, [], ℕ, Bool, false, List, Option, Some, None, ap, append_assoc, get_or, inl, inr, length, refl, subst, sym, arith, true, All}
 use Rattle.std.specs.Io.KnownBytes.{Appends, Consumes}
-use Rattle.std.specs.List.{concat}
 use Rattle.std.proofs.lemmas.List.{append-nil, length-append, map-append}
 use Rattle.std.proofs.lemmas.List.Elements.{All-append, All-nil}
 use Rattle.std.proofs.lemmas.List.Folds.{concat-append}
-use Rattle.thp_cli.specs.Prelude.{Follow, IsTaken, WritesOn, WritesFront, device_of, Device, Takes, Watch}
+use Rattle.thp_cli.specs.Prelude.{Follow, IsTaken, WritesOn, device_of, Device, Takes, Watch}
 use Rattle.thp_cli.specs.declared.calls.DeviceCall.{DeviceCall}
 use Rattle.thp_cli.specs.declared.ending.Program.{Program}
 use Rattle.thp_cli.specs.declared.calls.DeviceCall.TheVariants as call
@@ -20,24 +19,16 @@ use Rattle.thp_journal_tools.proofs.CountLaws.{begins-append, events-append}
 -- more bytes are counted
 pub counts_more : (old new : Progress) (text bytes : List ℕ) → HasCounted old text → new.bytes ≡ old.bytes + length bytes
     → new.counted.events ≡ old.counted.events + events_from old.counted.begins bytes → new.counted.begins ≡ begins_after old.counted.begins bytes → HasCounted new (text ++ bytes)
-counts_more old new text bytes was more_bytes events begins = record {
-  bytes_are = more_bytes ∙ ap (λ (n : ℕ). n + length bytes) was.bytes_are ∙ sym (length-append text bytes);
-  events_are = events ∙ rw (was.events_are, was.begins_is) (sym (events-append true text bytes));
-  begins_is = begins ∙ ap (λ (b : Bool). begins_after b bytes) was.begins_is ∙ sym (begins-append true text bytes);
-}
+counts_more old new text bytes was more_bytes events begins = grind (arith, length-append, events-append, begins-append)
 
 -- ---- calls
 
 one_answered : (c : DeviceCall) → IsAnswered c → All IsAnswered (c ∷ [])
-one_answered c answered zero d inside = answered
-one_answered c answered (suc k) d inside = absurd (omega arith)
+one_answered c answered x d inside = grind arith
 
 -- a write that the device took was answered
 taken_answered : (c : DeviceCall) → IsTaken c → IsAnswered c
-taken_answered (call.Write offered (Some n)) taken = refl
-taken_answered (call.Write offered None) taken = absurd taken
-taken_answered (call.Read room given) taken = absurd taken
-taken_answered (call.Flush done) taken = absurd taken
+taken_answered x taken = grind arith
 
 -- the calls of one text that was taken were answered
 answered_of : (last : DeviceCall) (old new : List DeviceCall) → IsAnswered last → Follow (last ∷ []) old new → AreAnswered false old new
@@ -69,14 +60,10 @@ answers_more true old mid new a b = (
 -- ---- texts that a screen takes one behind the other
 
 appends_nothing : (a : Option (List ℕ)) → Appends a a []
-appends_nothing None = tt
-appends_nothing (Some xs) = sym (append-nil xs)
+appends_nothing x = grind (arith, append-nil)
 
 pub appends_more : (a b c : Option (List ℕ)) (front piece : List ℕ) → Appends a b front → Appends b c piece → Appends a c (front ++ piece)
-appends_more None b c front piece h k = tt
-appends_more (Some xs) None c front piece h k = absurd h
-appends_more (Some xs) (Some ys) None front piece h k = absurd k
-appends_more (Some xs) (Some ys) (Some zs) front piece h k = rw (k, h) (append_assoc xs front piece)
+appends_more x b c front piece h k = grind (arith, append_assoc)
 
 -- nothing was taken
 pub took_nothing : (a : Option (List ℕ)) (failed : Bool) (calls : List DeviceCall) → failed ≡ false → Took (record { before = a; after = a; failed = failed; called = calls; calls = calls }) []
@@ -87,68 +74,36 @@ took_more : (a b c : Option (List ℕ)) (failed : Bool) (called mid calls : List
     → Took (record { before = a; after = b; failed = false; called = called; calls = mid }) text
     → Takes (record { before = b; after = c; failed = failed; called = mid; calls = calls }) piece
     → Took (record { before = a; after = c; failed = failed; called = called; calls = calls }) (text ++ piece)
-took_more a b c false called mid calls text piece t k = record {
-  bytes = appends_more a b c text piece t.bytes k.0;
-  calls = answers_more false called mid calls t.calls (answers_of false mid calls k.1);
-}
-took_more a b c true called mid calls text piece t k = record {
-  bytes = record {
-    front = text ++ k.0.front;
-    back = k.0.back;
-    parts = ap (λ (p : List ℕ). text ++ p) k.0.parts ∙ sym (append_assoc text k.0.front k.0.back);
-    written = appends_more a b c text k.0.front t.bytes k.0.written;
-  };
-  calls = answers_more true called mid calls t.calls (answers_of true mid calls k.1);
-}
+took_more a b c x called mid calls text piece t k = grind (arith, appends_more, answers_more, answers_of, append_assoc)
 
 -- of more than was taken where the screen failed
 took_front : (w : Device) (text more : List ℕ) → w.failed ≡ true → Took w text → Took w (text ++ more)
-took_front w text more e t = record {
-  bytes = rw e (let front : WritesFront w.before w.after text = rw e at t.bytes in record {
-    front = front.front;
-    back = front.back ++ more;
-    parts = ap (λ (p : List ℕ). p ++ more) front.parts ∙ append_assoc front.front front.back more;
-    written = front.written;
-  });
-  calls = t.calls;
-}
+took_front w text more e t = grind (arith, append_assoc)
 
 -- ---- lines
 
 text_more : (program : Program) (lines : List Reached) (line : Reached) → progress_text program (lines ++ line ∷ []) ≡ progress_text program lines ++ progress_line program line
-text_more program lines line =
-    ap concat (map-append (progress_line program) lines (line ∷ []))
-    ∙ concat-append (map (progress_line program) lines) (progress_line program line ∷ [])
-    ∙ ap (λ (t : List ℕ). progress_text program lines ++ t) (append-nil (progress_line program line))
+text_more program lines line = grind (arith, map-append, concat-append, append-nil)
 
 some_more : (lines : List Reached) (line : Reached) → is_some_line (lines ++ line ∷ []) ≡ true
 some_more [] line = refl
 some_more (first ∷ lines) line = refl
 
 last_stands : (lines : List Reached) → is_some_line lines ≡ true → last_removed lines ≡ removal
-last_stands [] e = absurd cc
-last_stands (line ∷ lines) e = refl
+last_stands x e = grind arith
 
 none_stands : (lines : List Reached) → is_some_line lines ≡ false → last_removed lines ≡ []
-none_stands [] e = refl
-none_stands (line ∷ lines) e = absurd cc
+none_stands x e = grind arith
 
 -- what a line tells of a text's front, it tells of a longer text
 reached_more : (text more : List ℕ) (line : Reached) → IsReached text line → IsReached (text ++ more) line
-reached_more text more line r = record {
-  front = r.front;
-  rest = r.rest ++ more;
-  parts = ap (λ (t : List ℕ). t ++ more) r.parts ∙ append_assoc r.front r.rest more;
-  bytes_are = r.bytes_are;
-  events_are = r.events_are;
-}
+reached_more text more line r = grind (arith, append_assoc)
 
 each_more : (text more : List ℕ) (lines : List Reached) → All (IsReached text) lines → All (IsReached (text ++ more)) lines
 each_more text more lines each = λ k d inside. reached_more text more _ (each k d inside)
 
 one_reached : (text : List ℕ) (line : Reached) → IsReached text line → All (IsReached text) (line ∷ [])
-one_reached text line is zero d inside = is
-one_reached text line is (suc k) d inside = absurd (omega arith)
+one_reached text line is x d inside = grind arith
 
 -- a line that tells what was counted
 reached_now : (progress : Progress) (text : List ℕ) (rate : ℕ) → HasCounted progress text → IsReached text (record { bytes = progress.bytes; events = progress.counted.events; rate = rate })
@@ -202,6 +157,4 @@ module _ {S : Type 0} (contents : S → Option (List ℕ)) (start : Watch S) (pr
 
 -- what a reader has given is a front of what it had to give
 pub read_of : (a b : Option (List ℕ)) (bytes : List ℕ) → Consumes a b bytes → IsReadOf a bytes
-read_of None b bytes h = tt
-read_of (Some xs) None bytes h = absurd h
-read_of (Some xs) (Some ys) bytes h = (ys, h)
+read_of x b bytes h = grind arith

@@ -55,17 +55,9 @@ node_texts-more t v nodes i d h =
 -- the whole text
 pub journal_text-whole : (nodes : List NodeHistory) → (ended (version_line (version_of (map journal_of nodes))) ++ node_texts (version_of (map journal_of nodes)) nodes) ++ codes "end\n" ≡ journal_text (map journal_of nodes)
 unfolding journal_text journal_lines
-journal_text-whole nodes = go (version_of (map journal_of nodes)) where
-  go : (v : Version) → (ended (version_line v) ++ node_texts v nodes) ++ codes "end\n" ≡ flat_map ended (version_line v ∷ lines_from v 0 (map journal_of nodes) ++ codes "end" ∷ [])
-  go v =
-      append_assoc (ended (version_line v)) (node_texts v nodes) (codes "end\n")
-      ∙ ap (λ s. ended (version_line v) ++ s) (sym (flat_map-append ended (lines_from v 0 (map journal_of nodes)) (codes "end" ∷ [])))
+journal_text-whole nodes = grind (arith, flat_map, append_assoc, flat_map-append)
 
 -- the same, piece by piece
 pub text_whole : (t0 t1 t2 t3 : List ℕ) (v : Version) (nodes some : List NodeHistory) → t0 ≡ [] → v ≡ version_of (map journal_of nodes) → t1 ≡ t0 ++ ended (version_line v) →
     some ≡ nodes → t2 ≡ t1 ++ node_texts v some → t3 ≡ t2 ++ codes "end\n" → t3 ≡ journal_text (map journal_of nodes)
-text_whole t0 t1 t2 t3 v nodes some e0 is e1 all e2 e3 =
-    e3
-    ∙ ap (λ t. t ++ codes "end\n") (e2 ∙ ap (λ ns. t1 ++ node_texts v ns) all ∙ ap (λ t. t ++ node_texts v nodes) (e1 ∙ ap (λ t. t ++ ended (version_line v)) e0))
-    ∙ ap (λ w. (ended (version_line w) ++ node_texts w nodes) ++ codes "end\n") is
-    ∙ journal_text-whole nodes
+text_whole t0 t1 t2 t3 v nodes some e0 is e1 all e2 e3 = grind (arith, journal_text-whole)

@@ -3,7 +3,6 @@ use Rattle.std.proofs.Common.{◌≡◌, ℕ, ◌+◌, ◌/◌, ◌%◌, ◌<◌
 use Rattle.std.proofs.lemmas.Fmt.{decimal_digit, decimal_step}
 use Rattle.thp_model.specs.declared.events.Event.{Event}
 use Rattle.thp_model.specs.declared.events.What.{What}
-use Rattle.thp_model.specs.declared.events.What.TheVariants.{Alloc, MapWhole, UnmapWhole, MapSub, UnmapSub, SplitPmd, Pin, Unpin, Write, Zero, Taken, Split, Pinned, Used, Back, Dropped, Close}
 use Rattle.thp_journal_writer.specs.Prelude.{line_of, what_words, event_words, event_line, NodeHistory, Version, Plain, Orders, Underused, journal_of, Journal, ended, is_access, node_line, underused_word, tells_underused, has_order_9, version_line, version_number, version_of}
 use Rattle.std.specs.List.{list_any, list_all}
 use Rattle.thp_model.specs.declared.shape.Shape.{Shape}
@@ -15,24 +14,18 @@ two_digits n low high = decimal_step n low (omega arith) ∙ ap (λ ds. ds ++ ((
 
 -- a number of three digits
 pub three_digits : (n : ℕ) → 100 ≤ n → n < 1000 → decimal n ≡ (48 + n / 10 / 10) ∷ (48 + n / 10 % 10) ∷ (48 + n % 10) ∷ []
-three_digits n low high =
-    decimal_step n (omega arith) (omega arith) ∙ ap (λ ds. ds ++ ((48 + n % 10) ∷ [])) (two_digits (n / 10) (omega arith) (omega arith))
+three_digits n low high = grind (arith, decimal_step, two_digits)
 
 -- a number of one, two and three digits behind a text, and a byte behind it
 pub number_of_one : (t : List ℕ) (n d after : ℕ) → n < 10 → d ≡ 48 + n → t ++ (d ∷ after ∷ []) ≡ t ++ decimal n ++ after ∷ []
-number_of_one t n d after h e =
-    ap (λ x. t ++ (x ∷ after ∷ [])) e ∙ sym (append_assoc t ((48 + n) ∷ []) (after ∷ [])) ∙ ap (λ ds. t ++ ds ++ after ∷ []) (sym (decimal_digit n h))
+number_of_one t n d after h e = grind (arith, append_assoc, decimal_digit)
 
 pub number_of_two : (t : List ℕ) (n d e after : ℕ) → 10 ≤ n → n < 100 → d ≡ 48 + n / 10 → e ≡ 48 + n % 10 → t ++ (d ∷ e ∷ after ∷ []) ≡ t ++ decimal n ++ after ∷ []
-number_of_two t n d e after low high f g =
-    ap (λ x. t ++ (x ∷ e ∷ after ∷ [])) f ∙ ap (λ x. t ++ ((48 + n / 10) ∷ x ∷ after ∷ [])) g
-    ∙ sym (append_assoc t ((48 + n / 10) ∷ (48 + n % 10) ∷ []) (after ∷ [])) ∙ ap (λ ds. t ++ ds ++ after ∷ []) (sym (two_digits n low high))
+number_of_two t n d e after low high f g = grind (arith, append_assoc, two_digits)
 
 pub number_of_three : (t : List ℕ) (n d e f after : ℕ) → 100 ≤ n → n < 1000 → d ≡ 48 + n / 10 / 10 → e ≡ 48 + n / 10 % 10 → f ≡ 48 + n % 10 →
     t ++ (d ∷ e ∷ f ∷ after ∷ []) ≡ t ++ decimal n ++ after ∷ []
-number_of_three t n d e f after low high g h i =
-    ap (λ x. t ++ (x ∷ e ∷ f ∷ after ∷ [])) g ∙ ap (λ x. t ++ ((48 + n / 10 / 10) ∷ x ∷ f ∷ after ∷ [])) h ∙ ap (λ x. t ++ ((48 + n / 10 / 10) ∷ (48 + n / 10 % 10) ∷ x ∷ after ∷ [])) i
-    ∙ sym (append_assoc t ((48 + n / 10 / 10) ∷ (48 + n / 10 % 10) ∷ (48 + n % 10) ∷ []) (after ∷ [])) ∙ ap (λ ds. t ++ ds ++ after ∷ []) (sym (three_digits n low high))
+number_of_three t n d e f after low high g h i = grind (arith, append_assoc, three_digits)
 
 -- the line of a node, piece by piece
 pub plain_node : (t t1 t2 t3 : List ℕ) (v : Version) (n blocks : ℕ) (s : Shape) → v ≡ Plain → blocks ≡ s.blocks → t1 ≡ t ++ codes "node " → t2 ≡ t1 ++ decimal n ++ 32 ∷ [] → t3 ≡ t2 ++ codes "blocks " →
@@ -74,31 +67,12 @@ version_orders nodes e f = rw (any_of_map nodes ∙ e, all_of_map nodes ∙ f) r
 
 -- the caller stands before what happened
 caller_first : (digits : List ℕ) (w : What) → line_of (digits ∷ what_words w) ≡ digits ++ 32 ∷ line_of (what_words w)
-caller_first digits (Alloc page block) = refl
-caller_first digits (MapWhole page) = refl
-caller_first digits (UnmapWhole outcome page released) = refl
-caller_first digits (MapSub page first count) = refl
-caller_first digits (UnmapSub outcome page first count released) = refl
-caller_first digits (SplitPmd page) = refl
-caller_first digits (Pin page) = refl
-caller_first digits (Unpin outcome page released) = refl
-caller_first digits (Write page first count) = refl
-caller_first digits (Zero page first count) = refl
-caller_first digits (Taken page) = refl
-caller_first digits (Split page released) = refl
-caller_first digits (Pinned page) = refl
-caller_first digits (Used page) = refl
-caller_first digits (Back page) = refl
-caller_first digits (Dropped page) = refl
-caller_first digits Close = refl
+caller_first digits x = grind arith
 
 -- the line of an event behind a text
 pub event_after : (t t1 : List ℕ) (caller : ℕ) (e : Event) → caller ≡ e.caller → t1 ≡ t ++ decimal caller ++ 32 ∷ [] → t1 ++ ended (line_of (what_words e.what)) ≡ t ++ ended (event_line e)
 unfolding event_line event_words
-event_after t t1 caller e same e1 =
-    go t1 t (decimal caller) (decimal e.caller) (line_of (what_words e.what)) (line_of (decimal e.caller ∷ what_words e.what)) e1 (ap decimal same) (caller_first (decimal e.caller) e.what) where
-      go : (t1 t c d w l : List ℕ) → t1 ≡ t ++ c ++ 32 ∷ [] → c ≡ d → l ≡ d ++ 32 ∷ w → t1 ++ (w ++ 10 ∷ []) ≡ t ++ (l ++ 10 ∷ [])
-      go t1 t c d w l f g h = rw (f, g, h) (simp append_assoc)
+event_after t t1 caller e same e1 = grind (arith, caller_first, append_assoc)
 
 -- the first line, piece by piece
 pub version_after : (t t1 : List ℕ) (n : ℕ) (v : Version) → n ≡ version_number v → t1 ≡ t ++ codes "thp-journal " → t1 ++ decimal n ++ 10 ∷ [] ≡ t ++ ended (version_line v)

@@ -1,5 +1,5 @@
 -- Maximal runs of a set, and the text of runs.
-use Rattle.std.proofs.Common.{◌≡◌, ℕ, zero, suc, ◌+◌, ◌-◌, ◌<◌, ◌≤◌, Bool, true, false, cond, List, [], ◌∷◌, ◌++◌, length, drop, map, get_or, refl, ap, sym, ◌∙◌, subst, arith, nat_eq, eq-eqb, ne_eqb, append_assoc, add-one, inl, inr}
+use Rattle.std.proofs.Common.{◌≡◌, ℕ, zero, suc, ◌+◌, ◌-◌, ◌<◌, ◌≤◌, Bool, true, false, cond, List, [], ◌∷◌, ◌++◌, length, drop, map, get_or, refl, ap, sym, ◌∙◌, arith, nat_eq, eq-eqb, ne_eqb, append_assoc, add-one}
 use Rattle.std.specs.Prelude.{⊤}
 use Rattle.std.proofs.Math.Seq.{drop-cons}
 use Rattle.std.specs.List.{join_with_byte}
@@ -13,16 +13,11 @@ BeginsFrom i [] = ⊤
 BeginsFrom i (run ∷ runs) = i ≤ run.0
 
 later : (i j : ℕ) (runs : List Run) → i ≤ j → BeginsFrom j runs → BeginsFrom i runs
-later i j [] h b = b
-later i j (run ∷ runs) h b = omega arith
+later i j x h b = grind arith
 
 -- a number in front of runs of greater numbers comes first
 with_number-first : (i : ℕ) (runs : List Run) → BeginsFrom i (with_number i runs)
-with_number-first i [] = omega arith
-with_number-first i (run ∷ runs) = go (nat_eq run.0 (i + 1)) where
-  go : (b : Bool) → BeginsFrom i (cond b ((i, run.1) ∷ runs) ((i, i) ∷ run ∷ runs))
-  go true = omega arith
-  go false = omega arith
+with_number-first i x = grind (arith, nat_eq)
 
 -- the runs of truths from i on begin there or later
 runs_from-first : (i : ℕ) (truths : List Bool) → BeginsFrom i (runs_from i truths)
@@ -32,8 +27,7 @@ runs_from-first i (false ∷ truths) = later i (i + 1) (runs_from (i + 1) truths
 
 -- a number that no run follows at once is a run of its own
 with_number-alone : (i : ℕ) (runs : List Run) → BeginsFrom (i + 2) runs → with_number i runs ≡ (i, i) ∷ runs
-with_number-alone i [] h = refl
-with_number-alone i (run ∷ runs) h = ap (λ b. cond b ((i, run.1) ∷ runs) ((i, i) ∷ run ∷ runs)) (ne_eqb run.0 (i + 1) (λ e. absurd (omega arith)))
+with_number-alone i x h = grind (arith, ne_eqb)
 
 -- a number joins the run that follows at once
 with_number-joins : (i last : ℕ) (runs : List Run) → with_number i ((i + 1, last) ∷ runs) ≡ (i, last) ∷ runs
@@ -54,12 +48,7 @@ pass_over set (suc n) i h f =
 
 -- where i isn't in the set, no run begins there
 begins_after : (set : List Bool) (i : ℕ) → (i < length set → get_or set i false ≡ false) → BeginsFrom (i + 1) (runs_from i (drop i set))
-begins_after set i f =
-    let P : List Bool → Type 0 = λ truths. BeginsFrom (i + 1) (runs_from i truths) in
-    elim (cases_lt i (length set)) [
-      | inl y ↦ subst P (sym (at_place set i false y (f y))) (runs_from-first (i + 1) (drop (i + 1) set))
-      | inr y ↦ subst P (sym (drop_all i set y)) tt
-    ]
+begins_after set i f = grind (arith, cases_lt, at_place, runs_from-first, drop_all)
 
 -- numbers in a row that are in the set, up to one that isn't, are a run
 one_run_of : (set : List Bool) (n a : ℕ) → a + suc n ≤ length set → ((k : ℕ) → a ≤ k → k < a + suc n → get_or set k false ≡ true) →
@@ -104,15 +93,7 @@ next_run set i first after e low some high none all out =
 
 -- a run of a number that is in the set isn't empty
 pub run_ends_after : (set : List Bool) (first after : ℕ) → first < 512 → first ≤ after → get_or set first false ≡ true → (after < 512 → get_or set after false ≡ false) → first < after
-run_ends_after set first after small low here out =
-    elim (cases_lt first after) [
-      | inl y ↦ y
-      | inr y ↦
-          let same : first ≡ after = omega arith in
-          let behind : get_or set first false ≡ false = ap (λ k. get_or set k false) same ∙ out (omega arith) in
-          let clash : true ≡ false = sym here ∙ behind in
-          absurd cc
-    ]
+run_ends_after set first after small low here out = grind (arith, cases_lt, get_or)
 
 -- runs, joined by commas
 abbrev pub joined : List Run → List ℕ

@@ -1,4 +1,4 @@
--- The definitions and types of this library, each by its name alone: one line of a file imports what it cites.
+-- Re-exports the definitions and types of this library: other files import those that they cite from here, in one line.
 pub use Rattle.thp_journal_writer.specs.EventLines.{HasSmallNumbers, event_page, line_of, outcome_word, page_words, what_words}
 unfoldable pub use Rattle.thp_journal_writer.specs.EventLines.{event_line, event_words}
 pub use Rattle.thp_journal_writer.specs.Histories.{journal_of}

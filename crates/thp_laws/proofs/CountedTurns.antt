@@ -1,18 +1,18 @@
 -- Tries of which none is counted as out of turn come in the order of the takes.
-use Rattle.std.proofs.Common.{◌≡◌, ◌∙◌, ◌+◌, ◌&&◌, ℕ, Bool, true, false, cond, nat_eq, nat_lt, not, List, [], ◌∷◌, ◌++◌, Option, Some, None, ap, ap₂, arith, drop, eq-eqb, length, length-append, map, refl, subst, sym, eqb-true, lt-ltb}
+use Rattle.std.proofs.Common.{◌≡◌, ◌∙◌, ◌+◌, ◌&&◌, ℕ, Bool, true, false, cond, nat_eq, nat_lt, not, List, [], ◌∷◌, ◌++◌, Option, Some, ap, arith, drop, eq-eqb, length, length-append, map, refl, subst, sym, eqb-true, lt-ltb}
 use Rattle.std.specs.Prelude.{⊤, slice_get, All, if◌then◌else◌}
-use Rattle.std.specs.List.{fold, position_or_len, AllByRecursion}
+use Rattle.std.specs.List.{fold, AllByRecursion}
 use Rattle.std.proofs.lemmas.List.{append-nil, map-append}
 use Rattle.std.proofs.lemmas.List.Elements.{recursion_from_All}
 use Rattle.thp_model.specs.declared.events.Event.{Event}
 use Rattle.thp_model.specs.declared.events.What.{What}
 use Rattle.thp_model.specs.declared.events.What.TheVariants as what
 use Rattle.thp_model.specs.declared.events.What.TheVariants.{Taken, Split, Pinned, Used}
-use Rattle.thp_model.specs.Prelude.{by, History, max_batch}
+use Rattle.thp_model.specs.Prelude.{by, History}
 use Rattle.thp_script.specs.declared.script.Op.{Op}
 use Rattle.thp_journal_scripts.specs.declared.event_kind.EventKind.TheVariants.{Call, Put, Try}
 use Rattle.thp_journal_scripts.specs.declared.turns.UntriedPage.{UntriedPage}
-use Rattle.thp_journal_scripts.specs.Prelude.{kind_of, done_page, is_other, is_out_of_turn, out_of_turn, taken_by, tried_page, turns_after, unless_done, without, TurnsSoFar, once_ended, pages_after, place_of_call, place_of_put, place_of_try, scan_place_after, scan_place_of, Between, Elsewhere, InPuts, InTakes, InTries, IsWholeScans, ScanPlace}
+use Rattle.thp_journal_scripts.specs.Prelude.{kind_of, done_page, is_other, is_out_of_turn, out_of_turn, taken_by, tried_page, turns_after, unless_done, TurnsSoFar, once_ended, place_of_call, place_of_put, place_of_try, scan_place_after, scan_place_of, Between, Elsewhere, InPuts, InTakes, InTries, IsWholeScans, ScanPlace}
 use Rattle.thp_journal_scripts.specs.Turns as counted
 use Rattle.thp_laws.proofs.RepeatedPlaces.{all_elsewhere}
 
@@ -53,10 +53,7 @@ count_from (e ∷ h) pages n =
 
 -- the first event of none that is out of turn isn't, and none of the others is
 none_first : (e : Event) (h : History) (pages : List UntriedPage) → (fold turns_after (turns_from pages 0) (e ∷ h)).count ≡ 0 → (is_out_of_turn pages e ≡ false) × ((fold turns_after (turns_from (counted.untried_after pages e) 0) h).count ≡ 0)
-none_first e h pages none = by_turn (is_out_of_turn pages e) refl where
-  by_turn : (b : Bool) → is_out_of_turn pages e ≡ b → (is_out_of_turn pages e ≡ false) × ((fold turns_after (turns_from (counted.untried_after pages e) 0) h).count ≡ 0)
-  by_turn true is = let more = count_from h (counted.untried_after pages e) (0 + (if is_out_of_turn pages e then 1 else 0)) in let one : ◌≡◌ {A = ℕ} (if is_out_of_turn pages e then 1 else 0) 1 = ap (λ (b : Bool). cond {A = ℕ} b 1 0) is in absurd (omega (arith, more, none, one))
-  by_turn false is = let more = count_from h (counted.untried_after pages e) (0 + (if is_out_of_turn pages e then 1 else 0)) in let one : ◌≡◌ {A = ℕ} (if is_out_of_turn pages e then 1 else 0) 0 = ap (λ (b : Bool). cond {A = ℕ} b 1 0) is in (is, omega (arith, more, none, one))
+none_first e h pages none = grind (arith, count_from)
 
 -- ---- the pages of caller 0
 
@@ -76,25 +73,14 @@ no_pages [] none = refl
 no_pages (p ∷ ps) none = absurd (omega (arith, none))
 
 ended_untried : (s : ScanPlace) (ps : List ℕ) → Untried s ps → Untried (once_ended s) ps
-ended_untried Between ps is = is
-ended_untried (InTakes c qs) ps is = is
-ended_untried (InTries c n k []) ps is = by_end (nat_eq k n) refl where
-  by_end : (b : Bool) → nat_eq k n ≡ b → Untried (cond b Between (InTries c n k [])) ps
-  by_end true end = no_pages ps (let all : k ≡ n = eqb-true k n end in omega (arith, is, all))
-  by_end false end = is
-ended_untried (InTries c n k (q ∷ qs)) ps is = is
-ended_untried (InPuts c []) ps is = is
-ended_untried (InPuts c (q ∷ qs)) ps is = is
-ended_untried Elsewhere ps is = is
+ended_untried x ps is = grind (arith, nat_eq, no_pages, eqb-true)
 
 -- a place that is kept on a condition, else the history leaves whole scans
 if_kept : (b : Bool) (s : ScanPlace) (ps : List ℕ) → (once_ended (cond b s Elsewhere) ≡ Elsewhere → ⊥) → (b ≡ true → Untried s ps) → Untried (once_ended (cond b s Elsewhere)) ps
-if_kept true s ps within is = ended_untried s ps (is refl)
-if_kept false s ps within is = absurd (within refl)
+if_kept x s ps within is = grind (arith, ended_untried)
 
 both_right : (a b : Bool) → (a && b) ≡ true → b ≡ true
-both_right true b is = is
-both_right false b is = absurd (cc)
+both_right x b is = grind arith
 
 -- ---- one event of caller 0
 
@@ -110,66 +96,32 @@ IsWithin w s = once_ended (scan_place_of s (kind_of w) 0 w) ≡ Elsewhere → �
 
 -- nothing is done with no pages
 none_done : (done : Option ℕ) → unless_done done [] ≡ []
-none_done None = refl
-none_done (Some p) = refl
+none_done x = grind arith
 
 -- calls
 module _ (w : What) (o : Op) (is : kind_of w ≡ Call o) where
   call_turn : (ps : List ℕ) → IsInTurn w ps
-  call_turn ps = by_event w is where
-    by_event : (v : What) → kind_of v ≡ Call o → IsInTurn v ps
-    by_event (what.Split p r) kind = absurd (cc)
-    by_event (what.Pinned p) kind = absurd (cc)
-    by_event (what.Used p) kind = absurd (cc)
-    by_event v kind = tt
+  call_turn ps = grind arith
 
   call_untried : (ps : List ℕ) → untried_after w ps ≡ ps
-  call_untried ps = by_event w is where
-    by_event : (v : What) → kind_of v ≡ Call o → untried_after v ps ≡ ps
-    by_event (what.Taken p) kind = absurd (cc)
-    by_event (what.Split p r) kind = absurd (cc)
-    by_event (what.Pinned p) kind = absurd (cc)
-    by_event (what.Used p) kind = absurd (cc)
-    by_event v kind = refl
+  call_untried ps = grind arith
 
   call_takes : taken_by 0 w ≡ []
-  call_takes = by_event w is where
-    by_event : (v : What) → kind_of v ≡ Call o → taken_by 0 v ≡ []
-    by_event (what.Taken p) kind = absurd (cc)
-    by_event v kind = refl
+  call_takes = grind arith
 
   turned_at : (s : ScanPlace) → scan_place_of s (kind_of w) 0 w ≡ place_of_call s → (ps : List ℕ) → Untried s ps → IsWithin w s → (ps ≡ []) × Untried (once_ended (scan_place_of s (kind_of w) 0 w)) []
-  turned_at Between place ps none within = (none, subst (λ t. Untried (once_ended t) []) (sym place) refl)
-  turned_at (InTakes c qs) place ps u within = absurd (within (ap once_ended place))
-  turned_at (InTries c n k qs) place ps u within = absurd (within (ap once_ended place))
-  turned_at (InPuts c qs) place ps u within = absurd (within (ap once_ended place))
-  turned_at Elsewhere place ps u within = absurd (within (ap once_ended place))
+  turned_at x place ps none within = grind arith
 
   call_turned : (s : ScanPlace) (ps : List ℕ) → Untried s ps → IsWithin w s → Turned w s ps
-  call_turned s ps u within =
-      let at = turned_at s (ap (λ k. scan_place_of s k 0 w) is) ps u within in
-      record {
-        in_turn = call_turn ps;
-        same = ap (λ qs. unless_done (done_page w) (map of_0 qs) ++ taken_by 0 w) at.0 ∙ ap₂ (λ us vs. us ++ vs) (none_done (done_page w)) call_takes ∙ ap (map of_0) (sym (call_untried ps ∙ at.0));
-        untried = subst (Untried (once_ended (scan_place_of s (kind_of w) 0 w))) (sym (call_untried ps ∙ at.0)) at.1;
-      }
+  call_turned s ps u within = grind (arith, turned_at, call_turn, none_done, call_takes, call_untried)
 
 -- a take
 take_turned : (p : ℕ) (s : ScanPlace) (ps : List ℕ) → Untried s ps → IsWithin (what.Taken p) s → Turned (what.Taken p) s ps
-take_turned p s ps u within = record { in_turn = tt; same = sym (map-append of_0 ps (p ∷ [])); untried = at s u within } where
-  at : (t : ScanPlace) → Untried t ps → IsWithin (what.Taken p) t → Untried (once_ended (scan_place_of t (kind_of (what.Taken p)) 0 (what.Taken p))) (ps ++ p ∷ [])
-  at Between none in_scans = ap (λ qs. length (qs ++ p ∷ [])) none
-  at (InTakes c qs) same in_scans = if_kept (nat_eq c 0 && nat_lt (length qs) max_batch) (InTakes c (qs ++ p ∷ [])) (ps ++ p ∷ []) in_scans (λ yes. length-append ps (p ∷ []) ∙ ap (λ n. n + 1) same ∙ sym (length-append qs (p ∷ [])))
-  at (InTries c n k qs) same in_scans = absurd (in_scans refl)
-  at (InPuts c qs) same in_scans = absurd (in_scans refl)
-  at Elsewhere same in_scans = absurd (in_scans refl)
+take_turned p s ps u within = grind (arith, map-append, if_kept, nat_eq, nat_lt, length-append)
 
 -- the first page is done
 first_done : (p : ℕ) (u : UntriedPage) (us : List UntriedPage) → nat_eq u.page p ≡ true → unless_done (Some p) (u ∷ us) ≡ us
-first_done p u us is =
-    let n : ℕ = position_or_len (λ (v : UntriedPage). nat_eq v.page p) us in
-    ap (λ b. without (cond (nat_lt (cond (not b) (1 + n) 0) (length (u ∷ us))) (Some (cond (not b) (1 + n) 0)) None) (u ∷ us)) is
-    ∙ ap (λ b. without (cond b (Some 0) None) (u ∷ us)) (lt-ltb 0 (length (u ∷ us)) (omega arith))
+first_done p u us is = grind (arith, nat_eq, nat_lt, lt-ltb)
 
 -- a try that is in turn is of the first page
 first_tried : (p : ℕ) (ps : List ℕ) → is_other (map of_0 ps) 0 (Some p) ≡ false → (rest : List ℕ) × (ps ≡ p ∷ rest)
@@ -182,48 +134,18 @@ first_tried p (q ∷ qs) turn = by_page (nat_eq q p) refl turn where
 -- a try
 module _ (w : What) (p : ℕ) (is : kind_of w ≡ Try) (turns : (ps : List ℕ) → IsInTurn w ps ≡ (slice_get ps 0 ≡ Some p)) (rests : (ps : List ℕ) → untried_after w ps ≡ drop 1 ps) (done : done_page w ≡ Some p) (takes : taken_by 0 w ≡ []) where
   try_at : (s : ScanPlace) (q : ℕ) (rest : List ℕ) → Untried s (q ∷ rest) → IsWithin w s → Untried (once_ended (place_of_try s 0 w)) rest
-  try_at Between q rest u within = absurd (within (ap (λ k. once_ended (scan_place_of Between k 0 w)) is))
-  try_at (InTakes c qs) q rest u within =
-      if_kept (nat_eq c 0) (InTries c (length qs) 1 (pages_after w qs)) rest (λ away. within (ap (λ k. once_ended (scan_place_of (InTakes c qs) k 0 w)) is ∙ away)) (λ yes. omega (arith, u))
-  try_at (InTries c n k qs) q rest u within =
-      if_kept (nat_eq c 0 && nat_lt k n) (InTries c n (k + 1) (pages_after w qs)) rest (λ away. within (ap (λ j. once_ended (scan_place_of (InTries c n k qs) j 0 w)) is ∙ away)) (λ yes. omega (arith, u))
-  try_at (InPuts c qs) q rest u within = absurd (within (ap (λ k. once_ended (scan_place_of (InPuts c qs) k 0 w)) is))
-  try_at Elsewhere q rest u within = absurd (within (ap (λ k. once_ended (scan_place_of Elsewhere k 0 w)) is))
+  try_at x q rest u within = grind (arith, if_kept, nat_eq, nat_lt)
 
   try_turned : (s : ScanPlace) (ps : List ℕ) → Untried s ps → IsWithin w s → is_other (map of_0 ps) 0 (Some p) ≡ false → Turned w s ps
-  try_turned s ps u within turn =
-      let first = first_tried p ps turn in
-      let rest : untried_after w ps ≡ first.0 = rests ps ∙ ap (drop 1) first.1 in
-      record {
-        in_turn = subst (λ (T : Type 0). T) (sym (turns ps)) (ap (λ qs. slice_get qs 0) first.1);
-        same = ap₂ (λ d us. unless_done d (map of_0 ps) ++ us) done takes ∙ ap (λ qs. unless_done (Some p) (map of_0 qs) ++ []) first.1
-            ∙ ap (λ us. us ++ []) (first_done p (of_0 p) (map of_0 first.0) (eq-eqb p p refl)) ∙ append-nil (map of_0 first.0) ∙ ap (map of_0) (sym rest);
-        untried = subst (λ k. Untried (once_ended (scan_place_of s k 0 w)) (untried_after w ps)) (sym is) (subst (Untried (once_ended (place_of_try s 0 w))) (sym rest) (try_at s p first.0 (subst (Untried s) first.1 u) within));
-      }
+  try_turned s ps u within turn = grind (arith, first_tried, first_done, eq-eqb, append-nil, try_at)
 
 -- a page that is put back or dropped
 module _ (w : What) (p : ℕ) (is : kind_of w ≡ Put) (turn : (ps : List ℕ) → IsInTurn w ps) (stays : (ps : List ℕ) → untried_after w ps ≡ ps) (takes : taken_by 0 w ≡ []) where
   put_at : (s : ScanPlace) (ps : List ℕ) → Untried s ps → IsWithin w s → (ps ≡ []) × Untried (once_ended (place_of_put s 0 w)) []
-  put_at Between ps u within = absurd (within (ap (λ k. once_ended (scan_place_of Between k 0 w)) is))
-  put_at (InTakes c qs) ps u within = absurd (within (ap (λ k. once_ended (scan_place_of (InTakes c qs) k 0 w)) is))
-  put_at (InTries c n k qs) ps u within = by_end (nat_eq c 0 && nat_eq k n) refl where
-    by_end : (b : Bool) → (nat_eq c 0 && nat_eq k n) ≡ b → (ps ≡ []) × Untried (once_ended (place_of_put (InTries c n k qs) 0 w)) []
-    by_end true end =
-        let all : k ≡ n = eqb-true k n (both_right (nat_eq c 0) (nat_eq k n) end) in
-        (no_pages ps (omega (arith, u, all)), subst (λ b. Untried (once_ended (cond b (InPuts c (pages_after w qs)) Elsewhere)) []) (sym end) (ended_untried (InPuts c (pages_after w qs)) [] refl))
-    by_end false end = absurd (within (ap (λ j. once_ended (scan_place_of (InTries c n k qs) j 0 w)) is ∙ ap (λ b. once_ended (cond b (InPuts c (pages_after w qs)) Elsewhere)) end))
-  put_at (InPuts c qs) ps u within = (u, if_kept (nat_eq c 0) (InPuts c (pages_after w qs)) [] (λ away. within (ap (λ k. once_ended (scan_place_of (InPuts c qs) k 0 w)) is ∙ away)) (λ yes. refl))
-  put_at Elsewhere ps u within = absurd (within (ap (λ k. once_ended (scan_place_of Elsewhere k 0 w)) is))
+  put_at x ps u within = grind (arith, nat_eq, eqb-true, both_right, no_pages, ended_untried, if_kept)
 
   put_turned : (s : ScanPlace) (ps : List ℕ) → Untried s ps → IsWithin w s → Turned w s ps
-  put_turned s ps u within =
-      let at = put_at s ps u within in
-      let none : untried_after w ps ≡ [] = stays ps ∙ at.0 in
-      record {
-        in_turn = turn ps;
-        same = ap (λ qs. unless_done (done_page w) (map of_0 qs) ++ taken_by 0 w) at.0 ∙ ap₂ (λ us vs. us ++ vs) (none_done (done_page w)) takes ∙ ap (map of_0) (sym none);
-        untried = subst (λ k. Untried (once_ended (scan_place_of s k 0 w)) (untried_after w ps)) (sym is) (subst (Untried (once_ended (place_of_put s 0 w))) (sym none) at.1);
-      }
+  put_turned s ps u within = grind (arith, put_at, none_done)
 
 turned : (w : What) (s : ScanPlace) (ps : List ℕ) → Untried s ps → IsWithin w s → is_other (map of_0 ps) 0 (tried_page w) ≡ false → Turned w s ps
 turned (what.Alloc p b) s ps u within turn = call_turned (what.Alloc p b) _ refl s ps u within

@@ -4,7 +4,6 @@ use Rattle.std.specs.List.{list_all, list_any}
 use Rattle.std.proofs.lemmas.Bool.{and_from}
 use Rattle.thp_model.specs.declared.events.Event.{Event}
 use Rattle.thp_model.specs.declared.events.Outcome.{Outcome}
-use Rattle.thp_model.specs.declared.events.Outcome.TheVariants.{Stays, Queued, Freed}
 use Rattle.thp_model.specs.declared.events.What.{What}
 use Rattle.thp_model.specs.declared.events.What.TheVariants.{Alloc, MapWhole, UnmapWhole, MapSub, UnmapSub, SplitPmd, Pin, Unpin, Write, Zero, Taken, Split, Pinned, Used, Back, Dropped, Close}
 use Rattle.thp_model.specs.Prelude.{event_with, with_block, by}
@@ -23,7 +22,6 @@ use Rattle.thp_journal_reader.specs.declared.event_word.RangeWord.{RangeWord}
 use Rattle.thp_journal_reader.specs.declared.event_word.RangeWord.TheVariants as range
 use Rattle.thp_journal_reader.specs.declared.line.Line.TheVariants.{Happened}
 use Rattle.thp_journal_reader.specs.declared.version.Version.{Version}
-use Rattle.thp_journal_reader.specs.declared.version.Version.TheVariants.{Plain, Orders, Underused}
 use Rattle.thp_journal_reader.specs.Prelude.{caller_number, page_number, range_number, page_event, range_event, loss_event, unmap_event, split_event, close_event, outcome_and_word, event_by, event_of, common_word, later_word, event_word, outcome_of, page_what, range_what, loss_what, line_by, by_words}
 use Rattle.thp_journal_reader.specs.JournalLines as read
 use Rattle.thp_laws.specs.Tellable.{IsOfVersion, IsTellable}
@@ -45,8 +43,7 @@ line_of_words v name words plain =
 -- a line that begins with a number tells an event
 line_by_number : (v : Version) (n : ℕ) (words : List Text) → n < 2 ^ 64 → line_by v (decimal n) words ≡ read.event_line v (decimal n) words
 unfolding line_by
-line_by_number v n words lt =
-    rw (no_number n (codes "thp-journal") lt refl, no_number n (codes "node") lt refl, no_number n (codes "end") lt refl) refl
+line_by_number v n words lt = grind (arith, no_number)
 
 -- ---- operands
 
@@ -69,15 +66,11 @@ range_back n lt = number_back 65535 n (omega arith) (omega arith)
 -- an outcome's word is read as that outcome
 outcome_back : (o : Outcome) → outcome_of (outcome_word o) ≡ Ok o
 unfolding outcome_of
-outcome_back Stays = refl
-outcome_back Queued = refl
-outcome_back Freed = refl
+outcome_back x = grind arith
 
 -- and is a plain word
 outcome_plain : (o : Outcome) → is_plain (outcome_word o) ≡ true
-outcome_plain Stays = refl
-outcome_plain Queued = refl
-outcome_plain Freed = refl
+outcome_plain x = grind arith
 
 -- an outcome, and a word behind it
 ending_back : (o : Outcome) (word : Text) → outcome_and_word (outcome_word o ∷ word ∷ []) ≡ Ok (o, word)
@@ -120,9 +113,7 @@ close_event_back c small = rw (caller_back c small) refl
 
 -- a word of every version
 known : (v : Version) (name : Text) (word : EventWord) → common_word name ≡ Ok word → later_word name ≡ Ok word → event_word v name ≡ Ok word
-known Plain name word common later = common
-known Orders name word common later = common
-known Underused name word common later = later
+known x name word common later = grind arith
 
 -- the event by its word
 event_by_word : (v : Version) (name caller : Text) (words : List Text) (word : EventWord) (e : Event) → event_word v name ≡ Ok word → event_by word caller words ≡ Ok e → event_of v caller (name ∷ words) ≡ Ok e
@@ -131,29 +122,7 @@ event_by_word v name caller words word e is said = ap (λ r. r >>= λ w. event_b
 -- what happened, behind the caller's number
 what_back : (v : Version) (c : ℕ) (w : What) → c < 64 → IsOfVersion v w → HasSmallNumbers w → event_of v (decimal c) (what_words w) ≡ Ok (by c (with_block 0 w))
 unfolding common_word later_word
-what_back v c (Alloc p b) small of fit = event_by_word v (codes "alloc") _ _ (word.OfPage page.Alloc) _ (known v _ _ refl refl) (page_event_back page.Alloc c p small fit)
-what_back v c (MapWhole p) small of fit = event_by_word v (codes "mapwhole") _ _ (word.OfPage page.MapWhole) _ (known v _ _ refl refl) (page_event_back page.MapWhole c p small fit)
-what_back v c (UnmapWhole o p set) small of fit = event_by_word v (codes "unmapwhole") _ _ (word.OfLoss loss.UnmapWhole) _ (known v _ _ refl refl) (loss_event_back loss.UnmapWhole o c p set small fit.0 fit.1)
-what_back v c (MapSub p first count) small of fit = event_by_word v (codes "mapsub") _ _ (word.OfRange range.MapSub) _ (known v _ _ refl refl) (range_event_back range.MapSub c p first count small fit.0 fit.1 fit.2)
-what_back v c (UnmapSub o p first count set) small of fit = event_by_word v (codes "unmapsub") _ _ word.UnmapSub _ (known v _ _ refl refl) (unmap_event_back o c p first count set small fit.0 fit.1 fit.2 fit.3)
-what_back v c (SplitPmd p) small of fit = event_by_word v (codes "splitpmd") _ _ (word.OfPage page.SplitPmd) _ (known v _ _ refl refl) (page_event_back page.SplitPmd c p small fit)
-what_back v c (Pin p) small of fit = event_by_word v (codes "pin") _ _ (word.OfPage page.Pin) _ (known v _ _ refl refl) (page_event_back page.Pin c p small fit)
-what_back v c (Unpin o p set) small of fit = event_by_word v (codes "unpin") _ _ (word.OfLoss loss.Unpin) _ (known v _ _ refl refl) (loss_event_back loss.Unpin o c p set small fit.0 fit.1)
-what_back Underused c (Write p first count) small of fit = event_by_word Underused (codes "write") _ _ (word.OfRange range.Write) _ refl (range_event_back range.Write c p first count small fit.0 fit.1 fit.2)
-what_back Underused c (Zero p first count) small of fit = event_by_word Underused (codes "zero") _ _ (word.OfRange range.Zero) _ refl (range_event_back range.Zero c p first count small fit.0 fit.1 fit.2)
-what_back Plain c (Write p first count) small of fit = absurd of
-what_back Plain c (Zero p first count) small of fit = absurd of
-what_back Orders c (Write p first count) small of fit = absurd of
-what_back Orders c (Zero p first count) small of fit = absurd of
-what_back v c (Taken p) small of fit = event_by_word v (codes "taken") _ _ (word.OfPage page.Taken) _ (known v _ _ refl refl) (page_event_back page.Taken c p small fit)
-what_back v c (Split p set) small of fit = event_by_word v (codes "split") _ _ word.Split _ (known v _ _ refl refl) (split_event_back c p set small fit.0 fit.1)
-what_back v c (Pinned p) small of fit = event_by_word v (codes "pinned") _ _ (word.OfPage page.Pinned) _ (known v _ _ refl refl) (page_event_back page.Pinned c p small fit)
-what_back Underused c (Used p) small of fit = event_by_word Underused (codes "used") _ _ (word.OfPage page.Used) _ refl (page_event_back page.Used c p small fit)
-what_back Plain c (Used p) small of fit = absurd of
-what_back Orders c (Used p) small of fit = absurd of
-what_back v c (Back p) small of fit = event_by_word v (codes "back") _ _ (word.OfPage page.Back) _ (known v _ _ refl refl) (page_event_back page.Back c p small fit)
-what_back v c (Dropped p) small of fit = event_by_word v (codes "dropped") _ _ (word.OfPage page.Dropped) _ (known v _ _ refl refl) (page_event_back page.Dropped c p small fit)
-what_back v c Close small of fit = event_by_word v (codes "close") _ _ word.Close _ (known v _ _ refl refl) (close_event_back c small)
+what_back v c x small of fit = grind (arith, event_by_word, known, page_event_back, loss_event_back, range_event_back, unmap_event_back, split_event_back, close_event_back)
 
 -- ---- its words are plain
 

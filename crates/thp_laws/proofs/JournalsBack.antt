@@ -5,7 +5,6 @@ use Rattle.std.proofs.Math.Nat.{add-zero}
 use Rattle.std.proofs.lemmas.Bool.{and_from, le-ltb}
 use Rattle.thp_model.specs.declared.events.Event.{Event}
 use Rattle.thp_model.specs.declared.events.What.{What}
-use Rattle.thp_model.specs.declared.events.What.TheVariants.{Alloc, MapWhole, UnmapWhole, MapSub, UnmapSub, SplitPmd, Pin, Unpin, Write, Zero, Taken, Split, Pinned, Used, Back, Dropped, Close}
 use Rattle.thp_model.specs.declared.shape.Shape.{Shape}
 use Rattle.thp_model.specs.Prelude.{event_with, with_block, with_least_blocks, least_free, History, by}
 use Rattle.thp_script.specs.Prelude.{Fault, lines_of}
@@ -31,23 +30,7 @@ use Rattle.thp_laws.proofs.Splitting.{all_append, is_without, lines_back}
 
 -- the block that an event had doesn't matter to one that is put in its place
 block_again : (b : ℕ) (w : What) → with_block b (with_block 0 w) ≡ with_block b w
-block_again b (Alloc p c) = refl
-block_again b (MapWhole p) = refl
-block_again b (UnmapWhole o p set) = refl
-block_again b (MapSub p first count) = refl
-block_again b (UnmapSub o p first count set) = refl
-block_again b (SplitPmd p) = refl
-block_again b (Pin p) = refl
-block_again b (Unpin o p set) = refl
-block_again b (Write p first count) = refl
-block_again b (Zero p first count) = refl
-block_again b (Taken p) = refl
-block_again b (Split p set) = refl
-block_again b (Pinned p) = refl
-block_again b (Used p) = refl
-block_again b (Back p) = refl
-block_again b (Dropped p) = refl
-block_again b Close = refl
+block_again b x = grind arith
 
 -- the same of an event with its caller
 event_again : (b : ℕ) (e : Event) → event_with b (event_with 0 e) ≡ event_with b e
@@ -92,11 +75,7 @@ after_events line (e ∷ h) rest = after_events (line + 1) h rest ∙ ap (λ k. 
 -- a node and what stands behind it
 node_back : (line n : ℕ) (j : Journal) (rest : List Line) → EndsEvents rest → nodes_of line (node_told n j ++ rest) ≡ node_journal (line + 1) j.0 j.1 ∷ nodes_of (line + 1 + length j.1) rest
 unfolding node_told
-node_back line n j rest ends =
-    let events : reading.events_of (map happened j.1 ++ rest) ≡ map (event_with 0) j.1 = events_back j.1 rest ends in
-    let least : with_least_blocks j.0 (reading.events_of (map happened j.1 ++ rest)) ≡ with_least_blocks j.0 j.1 = ap (with_least_blocks j.0) events ∙ least_of_none j.0 j.1 in
-    let behind : nodes_of (line + 1) (map happened j.1 ++ rest) ≡ nodes_of (line + 1 + length j.1) rest = after_events (line + 1) j.1 rest in
-    rw (least, behind) refl
+node_back line n j rest ends = grind (arith, happened, events_back, least_of_none, after_events)
 
 -- all nodes
 nodes_back : (line n : ℕ) (js : List Journal) → nodes_of line (nodes_told n js ++ End ∷ []) ≡ nodes_from line js

@@ -27,10 +27,7 @@ fewer_before h k = let few = few_pages (take k h) in let short : length (take k 
 
 -- a range of a page isn't beyond 512
 pub small_range : (s : Shape) (first count : ℕ) → IsShape s → (nat_eq count 0 || nat_lt (subpages s) (first + count)) ≡ false → (first < 2 ^ 16) × (count < 2 ^ 16)
-small_range s first count is fits =
-    let within : first + count ≤ subpages s = ltb-false (subpages s) (first + count) (or_parts (nat_eq count 0) (nat_lt (subpages s) (first + count)) fits).1 in
-    let few : subpages s ≤ 512 = few_subpages s is.most_order in
-    (omega arith, omega arith)
+small_range s first count is fits = grind (arith, ltb-false, or_parts, nat_eq, nat_lt, few_subpages)
 
 -- a set that an event gives back has 512 truths
 full_set : (s : Shape) (h k : History) (p : ℕ) (set : List Bool) → set ≡ released s h k p → length set ≡ 512

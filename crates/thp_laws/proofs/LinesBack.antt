@@ -9,7 +9,7 @@ use Rattle.thp_script.specs.Prelude.{◌>>=◌, fault_after, Text}
 use Rattle.thp_journal_writer.specs.declared.version.Version.{Version as Written}
 use Rattle.thp_journal_writer.specs.EventLines as written
 use Rattle.thp_journal_writer.specs.Journals as journal
-use Rattle.thp_journal_writer.specs.Prelude.{Journal, version_of, lines_of_node, journal_lines}
+use Rattle.thp_journal_writer.specs.Prelude.{Journal, lines_of_node}
 use Rattle.thp_journal_reader.specs.declared.line.Line.{Line}
 use Rattle.thp_journal_reader.specs.declared.line.Line.TheVariants.{Head, Node, Happened, End}
 use Rattle.thp_journal_reader.specs.declared.place.Place.{Place}
@@ -157,6 +157,4 @@ all_say v js some few h =
 -- and the last stands at the end
 pub all_after : (v : Written) (js : List Journal) → place_following Start (told v js) ≡ Ended (read_version v)
 unfolding place_following told
-all_after v js =
-    after_append (Inside (read_version v) 0) (nodes_told 0 js) (End ∷ [])
-    ∙ ap (λ p. place_following p (End ∷ [])) (nodes_after (read_version v) 0 js)
+all_after v js = grind (arith, after_append, place_following, nodes_after)

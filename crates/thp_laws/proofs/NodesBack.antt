@@ -1,12 +1,12 @@
 -- The first line, the lines of nodes and the last line are read back.
-use Rattle.std.proofs.Common.{◌≡◌, ◌<◌, ◌≤◌, ◌-◌, ◌^◌, ℕ, true, List, [], ◌∷◌, Option, Result, Ok, Some, None, refl, ap, ◌∙◌, arith, codes, decimal, le-leb}
+use Rattle.std.proofs.Common.{◌≡◌, ◌<◌, ◌≤◌, ◌-◌, ◌^◌, ℕ, true, List, [], ◌∷◌, Option, Result, Ok, Some, refl, ◌∙◌, arith, codes, decimal, le-leb}
 use Rattle.std.specs.List.{list_all}
 use Rattle.std.proofs.lemmas.Fmt.{decimal_digit}
 use Rattle.std.proofs.Math.Pow.{pow_mono}
 use Rattle.thp_model.specs.declared.shape.Shape.{Shape}
 use Rattle.thp_model.specs.Prelude.{IsShape, subpages}
 use Rattle.thp_script.specs.declared.fault.TextKind.{TextKind}
-use Rattle.thp_script.specs.Prelude.{◌>>=◌, Text}
+use Rattle.thp_script.specs.Prelude.{Text}
 use Rattle.thp_journal_writer.specs.declared.version.Version.{Version as Written}
 use Rattle.thp_journal_writer.specs.declared.version.Version.TheVariants as writing
 use Rattle.thp_journal_writer.specs.EventLines as written
@@ -17,7 +17,7 @@ use Rattle.thp_journal_reader.specs.declared.line.Line.TheVariants.{Head, Node, 
 use Rattle.thp_journal_reader.specs.declared.version.Version.{Version}
 use Rattle.thp_journal_reader.specs.declared.version.Version.TheVariants.{Plain, Orders, Underused}
 use Rattle.thp_journal_reader.specs.JournalLines as read
-use Rattle.thp_journal_reader.specs.Prelude.{by_words, line_by, head_of, node_of, end_of, number_between, threshold_of, node_with, plain_node, ordered_node, underused_node}
+use Rattle.thp_journal_reader.specs.Prelude.{by_words, line_by, head_of, number_between, threshold_of, node_with, plain_node, ordered_node, underused_node}
 use Rattle.thp_laws.specs.Tellable.{read_version, IsToldShape}
 use Rattle.thp_laws.proofs.PlainWords.{decimal_plain, is_plain, no_number}
 use Rattle.thp_laws.proofs.EventsBack.{line_of_words, number_back}
@@ -28,9 +28,7 @@ version_words v = codes "thp-journal" ∷ decimal (journal.version_number v) ∷
 
 -- the number of a version is small
 small_version : (v : Written) → journal.version_number v < 2 ^ 64
-small_version writing.Plain = omega arith
-small_version writing.Orders = omega arith
-small_version writing.Underused = omega arith
+small_version x = grind arith
 
 -- are plain
 pub version_plain : (v : Written) → list_all is_plain (version_words v) ≡ true
@@ -39,9 +37,7 @@ version_plain v = rw (decimal_plain (journal.version_number v) (small_version v)
 -- the version by its number
 head_said : (v : Written) → line_by Plain (codes "thp-journal") (decimal (journal.version_number v) ∷ []) ≡ Ok (Head (read_version v))
 unfolding line_by head_of read.version_of
-head_said writing.Plain = rw (decimal_digit 1 (omega arith)) refl
-head_said writing.Orders = rw (decimal_digit 2 (omega arith)) refl
-head_said writing.Underused = rw (decimal_digit 3 (omega arith)) refl
+head_said x = grind (arith, decimal_digit)
 
 -- the first line tells the version
 pub version_line_back : (v : Written) → read.line_of Plain (journal.version_line v) ≡ Ok (Head (read_version v))
@@ -73,11 +69,7 @@ order_back order low high = between_back 2 9 order low high (omega arith)
 -- a threshold, or none
 threshold_back : (order : ℕ) (underused : Option ℕ) → order ≤ 9 → ((t : ℕ) → underused ≡ Some t → t < 2 ^ order) → threshold_of order (underused_word underused) ≡ Ok underused
 unfolding threshold_of
-threshold_back order None high low = refl
-threshold_back order (Some t) high low =
-    let lt : t < 2 ^ order = low t refl in
-    let most : 2 ^ order ≤ 2 ^ 9 = pow_mono high in
-    rw (no_number t (codes "off") (omega arith) refl, number_back (2 ^ order - 1) t (omega arith) (omega arith)) refl
+threshold_back order x high low = grind (arith, pow_mono, no_number, number_back)
 
 -- the shape that the line told is the node's
 same_shape : (n order : ℕ) (s : Shape) (underused : Option ℕ) → s.order ≡ order → s.underused ≡ underused → said (Node n (record { blocks = s.blocks; order = order; underused = underused })) ≡ said (Node n s)
@@ -87,37 +79,16 @@ same_shape n order s underused e f = rw (← e, ← f) refl
 -- node n of this shape, by its words
 node_said : (v : Written) (n : ℕ) (s : Shape) → n < 8 → IsShape s → IsToldShape (read_version v) s → by_words (read_version v) (node_words v n s) ≡ Ok (Node n s)
 unfolding line_by plain_node ordered_node underused_node said subpages
-node_said writing.Plain n s few is told = node_with_back n s.blocks 9 None few is.some_blocks is.few_blocks ∙ same_shape n 9 s None told.0 told.1
-node_said writing.Orders n s few is told =
-    ap (λ r. r >>= λ order. node_with (decimal n) (decimal s.blocks) order None) (order_back s.order is.least_order is.most_order)
-    ∙ node_with_back n s.blocks s.order None few is.some_blocks is.few_blocks
-    ∙ same_shape n s.order s None refl told
-node_said writing.Underused n s few is told =
-    ap (λ r. r >>= λ order. threshold_of order (underused_word s.underused) >>= λ threshold. node_with (decimal n) (decimal s.blocks) order threshold) (order_back s.order is.least_order is.most_order)
-    ∙ ap (λ r. r >>= λ threshold. node_with (decimal n) (decimal s.blocks) s.order threshold) (threshold_back s.order s.underused is.most_order is.low_threshold)
-    ∙ node_with_back n s.blocks s.order s.underused few is.some_blocks is.few_blocks
+node_said x n s few is told = grind (arith, node_with_back, same_shape, order_back, threshold_back)
 
 -- the word of a threshold is plain
 underused_plain : (s : Shape) → IsShape s → is_plain (underused_word s.underused) ≡ true
 unfolding subpages
-underused_plain s is = go s.underused is.low_threshold where
-  go : (u : Option ℕ) → ((t : ℕ) → u ≡ Some t → t < 2 ^ s.order) → is_plain (underused_word u) ≡ true
-  go None low = refl
-  go (Some t) low = let lt : t < 2 ^ s.order = low t refl in let most : 2 ^ s.order ≤ 2 ^ 9 = pow_mono is.most_order in decimal_plain t (omega arith)
+underused_plain s is = grind (arith, is_plain, pow_mono, decimal_plain)
 
 -- its words are plain
 pub node_plain : (v : Written) (n : ℕ) (s : Shape) → n < 8 → IsShape s → list_all is_plain (node_words v n s) ≡ true
-node_plain v n s few is =
-    let some = is.some_blocks in
-    let blocks : is_plain (decimal s.blocks) ≡ true = let most = is.few_blocks in decimal_plain s.blocks (omega arith) in
-    let number : is_plain (decimal n) ≡ true = decimal_plain n (omega arith) in
-    let order : is_plain (decimal s.order) ≡ true = let most = is.most_order in decimal_plain s.order (omega arith) in
-    go v number blocks order (underused_plain s is)
-  where
-    go : (v : Written) → is_plain (decimal n) ≡ true → is_plain (decimal s.blocks) ≡ true → is_plain (decimal s.order) ≡ true → is_plain (underused_word s.underused) ≡ true → list_all is_plain (node_words v n s) ≡ true
-    go writing.Plain a b c d = rw (a, b) refl
-    go writing.Orders a b c d = rw (a, b, c) refl
-    go writing.Underused a b c d = rw (a, b, c, d) refl
+node_plain v n s few is = grind (arith, is_plain, decimal_plain, underused_plain)
 
 -- the line of a node tells its number and its shape
 pub node_line_back : (v : Written) (n : ℕ) (s : Shape) → n < 8 → IsShape s → IsToldShape (read_version v) s → read.line_of (read_version v) (journal.node_line v n s) ≡ Ok (Node n s)

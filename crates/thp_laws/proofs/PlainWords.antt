@@ -51,9 +51,7 @@ plain_printable word h = all_wider is_solid is_printable solid_printable word (p
 
 -- a line of plain words has those words
 pub words_back : (word : Text) (words : List Text) → list_all is_plain (word ∷ words) ≡ true → words_of (join_with_byte 32 (word ∷ words)) ≡ word ∷ words
-words_back word words h =
-    let t = and_parts _ _ h in
-    joined 32 word words (plain_apart word t.0) (all_wider is_plain (is_without 32) plain_apart words t.1)
+words_back word words h = grind (arith, and_parts, joined, plain_apart, all_wider, is_without)
 
 -- it is printable
 pub line_printable : (words : List Text) → list_all is_plain words ≡ true → list_all is_printable (join_with_byte 32 words) ≡ true

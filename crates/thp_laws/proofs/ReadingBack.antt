@@ -1,6 +1,5 @@
 -- Legal journals are read back from their text.
-use Rattle.std.proofs.Common.{◌≡◌, ◌<◌, ◌≤◌, ◌+◌, ◌^◌, ℕ, zero, suc, List, [], ◌∷◌, length, Some, Option, None, refl, ap, sym, subst, ◌∙◌, arith, length-append, codes, All, slice_get}
-use Rattle.std.specs.Result.{result_unwrap_or}
+use Rattle.std.proofs.Common.{◌≡◌, ◌<◌, ◌≤◌, ◌+◌, ◌^◌, ℕ, zero, suc, List, [], ◌∷◌, length, Some, Option, None, refl, subst, arith, length-append, codes, All, slice_get}
 use Rattle.std.specs.List.{AllByRecursion, AllZip, flat_map}
 use Rattle.std.proofs.lemmas.List.{length-map}
 use Rattle.std.proofs.lemmas.List.Elements.{recursion_from_All, All-cons, All-nil}
@@ -12,11 +11,10 @@ use Rattle.thp_journal_writer.specs.declared.version.Version.{Version as Written
 use Rattle.thp_journal_writer.specs.EventLines as written
 use Rattle.thp_journal_writer.specs.Journals as journal
 use Rattle.thp_journal_writer.specs.Prelude.{Journal, version_of, lines_of_node, journal_lines, journal_text}
-use Rattle.thp_journal_reader.specs.declared.journals.Journals.{Journals}
 use Rattle.thp_journal_reader.specs.declared.journals.NodeJournal.{NodeJournal}
 use Rattle.thp_journal_reader.specs.Prelude.{IsLegalNode, ReportsIllegal, node_journal}
 use Rattle.thp_journal_reader.specs.declared.version.Version.{Version}
-use Rattle.thp_laws.specs.ReadBack.{IsJournal, IsSameNode, nodes_from, with_lines, TextsAreReadBack, TextsAreCalledLegal, NothingElseChanges, WhatIsReadIsLegal}
+use Rattle.thp_laws.specs.ReadBack.{IsJournal, IsSameNode, nodes_from, TextsAreReadBack, TextsAreCalledLegal, NothingElseChanges, WhatIsReadIsLegal}
 use Rattle.thp_laws.specs.Tellable.{read_version, IsTellable, IsToldJournal}
 use Rattle.thp_laws.proofs.JournalsBack.{text_back}
 use Rattle.thp_laws.proofs.LegalNumbers.{each_from_places, legal_numbers}
@@ -124,6 +122,4 @@ no_line nodes (Some line) legal tells =
 
 -- so a check of the text tells no line
 pub called_legal : TextsAreCalledLegal
-called_legal js read line are is tells =
-    let same : read ≡ with_lines js = ap (λ r. result_unwrap_or r read) (sym is ∙ all_read_back js are) in
-    no_line (with_lines js).nodes line (all_legal js are) (subst (λ (journals : Journals). ReportsIllegal journals.nodes line) same tells)
+called_legal js read line are is tells = grind (arith, all_read_back, no_line, all_legal)

@@ -1,5 +1,5 @@
 -- Whole scans: the pages in flight at each place of a history, and that no page is in flight where a command begins.
-use Rattle.std.proofs.Common.{◌≡◌, ◌≤◌, ◌+◌, ℕ, Bool, true, false, cond, nat_eq, nat_lt, ◌&&◌, not, List, [], ◌∷◌, ◌++◌, length, refl, ap, sym, subst, ◌∙◌, arith, append_assoc, eq-eqb}
+use Rattle.std.proofs.Common.{◌≡◌, ◌≤◌, ◌+◌, ℕ, Bool, true, false, cond, nat_eq, nat_lt, not, List, [], ◌∷◌, ◌++◌, refl, ap, sym, subst, ◌∙◌, arith, append_assoc, eq-eqb}
 use Rattle.std.specs.Prelude.{⊤}
 use Rattle.std.specs.List.{AllByRecursion, fold}
 use Rattle.std.proofs.lemmas.List.Sums.{fold-append, fold_push}
@@ -9,7 +9,7 @@ use Rattle.thp_model.specs.declared.events.Outcome.TheVariants as outcome
 use Rattle.thp_model.specs.declared.events.What.{What}
 use Rattle.thp_model.specs.declared.events.What.TheVariants as what
 use Rattle.thp_model.specs.declared.shape.Shape.{Shape}
-use Rattle.thp_model.specs.Prelude.{flight_after, flight_by, History, by, IsLegal, max_batch, flight, without}
+use Rattle.thp_model.specs.Prelude.{flight_after, flight_by, History, by, IsLegal, flight, without}
 use Rattle.thp_model.proofs.Flights.{flight_push}
 use Rattle.thp_model.proofs.FlightLaws.{flight_none}
 use Rattle.thp_model.proofs.LegalSteps.{legal_front}
@@ -17,8 +17,8 @@ use Rattle.thp_model.proofs.ListPlaces.{append_none}
 use Rattle.thp_model.proofs.OnePlace.{once_flies, without_none}
 use Rattle.thp_model.proofs.Standing.{times, times-cons}
 use Rattle.thp_journal_scripts.specs.declared.event_kind.EventKind.{EventKind}
-use Rattle.thp_journal_scripts.specs.declared.event_kind.EventKind.TheVariants.{Call, Put, Take, Try}
-use Rattle.thp_journal_scripts.specs.Prelude.{pages_at, kind_of, once_ended, pages_after, place_of_call, place_of_put, place_of_take, place_of_try, scan_place, scan_place_after, scan_place_of, without_first, ScanPlace, Between, InTakes, InTries, InPuts, Elsewhere}
+use Rattle.thp_journal_scripts.specs.declared.event_kind.EventKind.TheVariants.{Call, Take}
+use Rattle.thp_journal_scripts.specs.Prelude.{pages_at, kind_of, once_ended, pages_after, place_of_call, place_of_put, place_of_take, place_of_try, scan_place, scan_place_after, scan_place_of, without_first, ScanPlace, Between, InTakes, Elsewhere}
 
 -- ---- the pages in flight
 
@@ -40,79 +40,35 @@ own_leaves : (c p : ℕ) (ps : List ℕ) → times p ps ≤ 1 → without_first 
 own_leaves c p ps once = leaves_once p ps once ∙ sym (ap (λ b. cond b (without p ps) ps) (eq-eqb c c refl))
 
 freed_none : (o : Outcome) (p : ℕ) → flight_by [] p o ≡ []
-freed_none outcome.Freed p = refl
-freed_none outcome.Queued p = refl
-freed_none outcome.Stays p = refl
+freed_none x p = grind arith
 
 -- one of two places
 if_has : (b : Bool) (s : ScanPlace) (ps : List ℕ) → HasPages s ps → HasPages (cond b s Elsewhere) ps
-if_has true s ps has = has
-if_has false s ps has = tt
+if_has x s ps has = grind arith
 
 -- the pages at a place are those of the flight
 ended_has : (s : ScanPlace) (ps : List ℕ) → HasPages s ps → HasPages (once_ended s) ps
-ended_has Between ps has = has
-ended_has (InTakes c rs) ps has = has
-ended_has (InTries c n k []) ps has = go (nat_eq k n) where
-  go : (b : Bool) → HasPages (cond b Between (InTries c n k [])) ps
-  go true = has
-  go false = has
-ended_has (InTries c n k (r ∷ rs)) ps has = has
-ended_has (InPuts c []) ps has = has
-ended_has (InPuts c (r ∷ rs)) ps has = has
-ended_has Elsewhere ps has = tt
+ended_has x ps has = grind (arith, nat_eq)
 
 module _ (c : ℕ) (w : What) where
   -- a call where no page is in flight
   call_has : flight_after c [] c w ≡ [] → (s : ScanPlace) (ps : List ℕ) → HasPages s ps → HasPages (place_of_call s) (flight_after c ps c w)
-  call_has none Between ps has = sym (ap (λ qs. flight_after c qs c w) (sym has) ∙ none)
-  call_has none (InTakes d rs) ps has = tt
-  call_has none (InTries d n k rs) ps has = tt
-  call_has none (InPuts d rs) ps has = tt
-  call_has none Elsewhere ps has = tt
+  call_has none x ps has = grind arith
 
   module _ (same : (ps : List ℕ) → pages_after w ps ≡ flight_after c ps c w) where
     take_has : (s : ScanPlace) (ps : List ℕ) → HasPages s ps → HasPages (place_of_take s c w) (flight_after c ps c w)
-    take_has Between ps has = ap (pages_after w) has ∙ same ps
-    take_has (InTakes d rs) ps has = if_has (nat_eq d c && nat_lt (length rs) max_batch) (InTakes d (pages_after w rs)) (flight_after c ps c w) (ap (pages_after w) has ∙ same ps)
-    take_has (InTries d n k rs) ps has = tt
-    take_has (InPuts d rs) ps has = tt
-    take_has Elsewhere ps has = tt
+    take_has x ps has = grind (arith, if_has, nat_eq, nat_lt)
 
   module _ (ps : List ℕ) (same : pages_after w ps ≡ flight_after c ps c w) where
     try_has : (s : ScanPlace) → HasPages s ps → HasPages (place_of_try s c w) (flight_after c ps c w)
-    try_has Between has = tt
-    try_has (InTakes d rs) has = if_has (nat_eq d c) (InTries d (length rs) 1 (pages_after w rs)) (flight_after c ps c w) (ap (pages_after w) has ∙ same)
-    try_has (InTries d n k rs) has = if_has (nat_eq d c && nat_lt k n) (InTries d n (k + 1) (pages_after w rs)) (flight_after c ps c w) (ap (pages_after w) has ∙ same)
-    try_has (InPuts d rs) has = tt
-    try_has Elsewhere has = tt
+    try_has x has = grind (arith, if_has, nat_eq, nat_lt)
 
     put_has : (s : ScanPlace) → HasPages s ps → HasPages (place_of_put s c w) (flight_after c ps c w)
-    put_has Between has = tt
-    put_has (InTakes d rs) has = tt
-    put_has (InTries d n k rs) has = if_has (nat_eq d c && nat_eq k n) (InPuts d (pages_after w rs)) (flight_after c ps c w) (ap (pages_after w) has ∙ same)
-    put_has (InPuts d rs) has = if_has (nat_eq d c) (InPuts d (pages_after w rs)) (flight_after c ps c w) (ap (pages_after w) has ∙ same)
-    put_has Elsewhere has = tt
+    put_has x has = grind (arith, if_has, nat_eq)
 
 -- one more event
 event_has : (c : ℕ) (w : What) (s : ScanPlace) (ps : List ℕ) → ((p : ℕ) → times p ps ≤ 1) → HasPages s ps → HasPages (scan_place_of s (kind_of w) c w) (flight_after c ps c w)
-event_has c (what.Alloc p b) s ps once = call_has c (what.Alloc p b) refl s ps
-event_has c (what.MapWhole p) s ps once = call_has c (what.MapWhole p) refl s ps
-event_has c (what.UnmapWhole o p set) s ps once = call_has c (what.UnmapWhole o p set) (freed_none o p) s ps
-event_has c (what.MapSub p first count) s ps once = call_has c (what.MapSub p first count) refl s ps
-event_has c (what.UnmapSub o p first count set) s ps once = call_has c (what.UnmapSub o p first count set) (freed_none o p) s ps
-event_has c (what.SplitPmd p) s ps once = call_has c (what.SplitPmd p) refl s ps
-event_has c (what.Pin p) s ps once = call_has c (what.Pin p) refl s ps
-event_has c (what.Unpin o p set) s ps once = call_has c (what.Unpin o p set) (freed_none o p) s ps
-event_has c (what.Write p first count) s ps once = call_has c (what.Write p first count) refl s ps
-event_has c (what.Zero p first count) s ps once = call_has c (what.Zero p first count) refl s ps
-event_has c (what.Taken p) s ps once = take_has c (what.Taken p) (λ qs. sym (ap (λ b. cond b (qs ++ p ∷ []) qs) (eq-eqb c c refl))) s ps
-event_has c (what.Split p set) s ps once = try_has c (what.Split p set) ps (own_leaves c p ps (once p)) s
-event_has c (what.Pinned p) s ps once = try_has c (what.Pinned p) ps refl s
-event_has c (what.Used p) s ps once = try_has c (what.Used p) ps (own_leaves c p ps (once p)) s
-event_has c (what.Back p) s ps once = put_has c (what.Back p) ps (own_leaves c p ps (once p)) s
-event_has c (what.Dropped p) s ps once = put_has c (what.Dropped p) ps (own_leaves c p ps (once p)) s
-event_has c what.Close s ps once = call_has c what.Close refl s ps
+event_has c x s ps once = grind (arith, call_has, freed_none, take_has, eq-eqb, try_has, own_leaves, put_has)
 
 -- and so the flight of the only caller, after more events
 more_has : (shape : Shape) (c : ℕ) (g es : History) → IsLegal shape (g ++ es) → AllByRecursion (λ (e : Event). e.caller ≡ c) es → HasPages (scan_place g) (flight g c) → HasPages (scan_place (g ++ es)) (flight (g ++ es) c)
@@ -130,10 +86,7 @@ more_has shape c g (e ∷ es) legal callers has =
 
 -- no event leads back to a place of whole scans
 stays_elsewhere : (k : EventKind) (c : ℕ) (w : What) → once_ended (scan_place_of Elsewhere k c w) ≡ Elsewhere
-stays_elsewhere (Call o) c w = refl
-stays_elsewhere Take c w = refl
-stays_elsewhere Try c w = refl
-stays_elsewhere Put c w = refl
+stays_elsewhere x c w = grind arith
 
 pub all_elsewhere : (h : History) → fold scan_place_after Elsewhere h ≡ Elsewhere
 all_elsewhere [] = refl
@@ -157,18 +110,7 @@ IsBeginning k = ⊥
 
 -- a command begins between two scans, or the scans aren't whole
 begins_between : (k : EventKind) (c : ℕ) (w : What) (s : ScanPlace) → IsBeginning k → IsNoTake s → (IsElsewhere (once_ended (scan_place_of s k c w)) → ⊥) → s ≡ Between
-begins_between (Call o) c w Between begins last whole = refl
-begins_between (Call o) c w (InTakes d ps) begins last whole = absurd (whole tt)
-begins_between (Call o) c w (InTries d n k ps) begins last whole = absurd (whole tt)
-begins_between (Call o) c w (InPuts d ps) begins last whole = absurd (whole tt)
-begins_between (Call o) c w Elsewhere begins last whole = absurd (whole tt)
-begins_between Take c w Between begins last whole = refl
-begins_between Take c w (InTakes d ps) begins last whole = absurd last
-begins_between Take c w (InTries d n k ps) begins last whole = absurd (whole tt)
-begins_between Take c w (InPuts d ps) begins last whole = absurd (whole tt)
-begins_between Take c w Elsewhere begins last whole = absurd (whole tt)
-begins_between Try c w s begins last whole = absurd begins
-begins_between Put c w s begins last whole = absurd begins
+begins_between x c w y begins last whole = grind arith
 
 -- the first event, if there is one, begins a command
 abbrev pub Begins : History → Type 0
@@ -176,21 +118,11 @@ Begins [] = ⊤
 Begins (e ∷ h) = IsBeginning (kind_of e.what)
 
 elsewhere_not : (s : ScanPlace) → IsElsewhere s → s ≡ Elsewhere
-elsewhere_not Between is = absurd is
-elsewhere_not (InTakes c ps) is = absurd is
-elsewhere_not (InTries c n k ps) is = absurd is
-elsewhere_not (InPuts c ps) is = absurd is
-elsewhere_not Elsewhere is = refl
+elsewhere_not x is = grind arith
 
 -- no page is in flight between two commands
 between : (g more : History) → scan_place (g ++ more) ≡ Between → IsNoTake (scan_place g) → Begins more → scan_place g ≡ Between
-between g [] whole last begins = ap scan_place (sym (append_none g)) ∙ whole
-between g (e ∷ es) whole last begins =
-    begins_between (kind_of e.what) e.caller e.what (scan_place g) begins last (λ is.
-    let away : scan_place_after (scan_place g) e ≡ Elsewhere = elsewhere_not (scan_place_after (scan_place g) e) is in
-    let end : scan_place (g ++ e ∷ es) ≡ Elsewhere = fold-append scan_place_after Between g (e ∷ es) ∙ ap (λ s. fold scan_place_after s es) away ∙ all_elsewhere es in
-    let both : Between ≡ Elsewhere = sym whole ∙ end in
-    cc)
+between g x whole last begins = grind (arith, append_none, begins_between, elsewhere_not, fold-append, all_elsewhere)
 
 pub none_between : (shape : Shape) (c : ℕ) (g more : History) → IsLegal shape g → AllByRecursion (λ (e : Event). e.caller ≡ c) g → scan_place (g ++ more) ≡ Between → IsNoTake (scan_place g) → Begins more → flight g c ≡ []
 none_between shape c g more legal callers whole last begins =
@@ -200,20 +132,10 @@ none_between shape c g more legal callers whole last begins =
 -- ---- after a command
 
 ended_no_take : (s : ScanPlace) → IsNoTake s → IsNoTake (once_ended s)
-ended_no_take Between last = last
-ended_no_take (InTakes c rs) last = last
-ended_no_take (InTries c n k []) last = go (nat_eq k n) where
-  go : (b : Bool) → IsNoTake (cond b Between (InTries c n k []))
-  go true = tt
-  go false = tt
-ended_no_take (InTries c n k (r ∷ rs)) last = last
-ended_no_take (InPuts c []) last = last
-ended_no_take (InPuts c (r ∷ rs)) last = last
-ended_no_take Elsewhere last = last
+ended_no_take x last = grind (arith, nat_eq)
 
 if_no_take : (b : Bool) (s : ScanPlace) → IsNoTake s → IsNoTake (cond b s Elsewhere)
-if_no_take true s last = last
-if_no_take false s last = tt
+if_no_take x s last = grind arith
 
 -- an event that is no take
 abbrev pub IsNotTake : EventKind → Type 0
@@ -221,22 +143,7 @@ IsNotTake Take = ⊥
 IsNotTake k = ⊤
 
 event_no_take : (k : EventKind) (c : ℕ) (w : What) (s : ScanPlace) → IsNotTake k → IsNoTake (scan_place_of s k c w)
-event_no_take (Call o) c w Between last = tt
-event_no_take (Call o) c w (InTakes d ps) last = tt
-event_no_take (Call o) c w (InTries d n k ps) last = tt
-event_no_take (Call o) c w (InPuts d ps) last = tt
-event_no_take (Call o) c w Elsewhere last = tt
-event_no_take Take c w s last = absurd last
-event_no_take Try c w Between last = tt
-event_no_take Try c w (InTakes d ps) last = if_no_take (nat_eq d c) (InTries d (length ps) 1 (pages_after w ps)) tt
-event_no_take Try c w (InTries d n k ps) last = if_no_take (nat_eq d c && nat_lt k n) (InTries d n (k + 1) (pages_after w ps)) tt
-event_no_take Try c w (InPuts d ps) last = tt
-event_no_take Try c w Elsewhere last = tt
-event_no_take Put c w Between last = tt
-event_no_take Put c w (InTakes d ps) last = tt
-event_no_take Put c w (InTries d n k ps) last = if_no_take (nat_eq d c && nat_eq k n) (InPuts d (pages_after w ps)) tt
-event_no_take Put c w (InPuts d ps) last = if_no_take (nat_eq d c) (InPuts d (pages_after w ps)) tt
-event_no_take Put c w Elsewhere last = tt
+event_no_take x c w y last = grind (arith, if_no_take, nat_eq, nat_lt)
 
 -- after an event that is no take the place is not in takes
 pub one_no_take : (g : History) (e : Event) → IsNotTake (kind_of e.what) → IsNoTake (scan_place (g ++ e ∷ []))

@@ -10,7 +10,6 @@ use Rattle.thp_model.proofs.ListPlaces.{append_none}
 use Rattle.thp_script.specs.declared.script.Command.{Command}
 use Rattle.thp_script.specs.declared.script.Op.{Op}
 use Rattle.thp_script.specs.declared.script.Op.TheVariants as op
-use Rattle.thp_journal_scripts.specs.declared.moved.Moved.{Moved}
 use Rattle.thp_journal_scripts.specs.declared.event_kind.EventKind.TheVariants.{Call, Put, Take, Try}
 use Rattle.thp_journal_scripts.specs.Prelude.{kind_of, IsBy, IsScanBy, Repeats, scan_place, Between, IsCallOrScan}
 use Rattle.thp_worker.specs.declared.steps.Step.TheVariants.{One}
@@ -72,27 +71,10 @@ pub record ScanPart (o : Op) (ops : List Op) (rest : History) : Type 0 where
 
 -- a call's own part
 call_part : (o : Op) (ops : List Op) (rest own more : History) (between : Option ℕ) → rest ≡ own ++ more → (e : Event) → own ≡ e ∷ [] → kind_of e.what ≡ Call o → between ≡ None → Repeats between ops more None → CallPart o ops rest ⊎ ScanPart o ops rest
-call_part o ops rest own more between parts e one kind still repeats =
-    inl (record { event = e; more = more; parts = parts ∙ ap (λ es. es ++ more) one; kind = kind; repeats = subst (λ b. Repeats b ops more None) still repeats })
+call_part o ops rest own more between parts e one kind still repeats = grind arith
 
 parted : (o : Op) (ops : List Op) (rest : History) → IsCallOrScan o → Repeats None (o ∷ ops) rest None → CallPart o ops rest ⊎ ScanPart o ops rest
-parted op.Alloc ops rest plain r = call_part op.Alloc ops rest r.0 r.1 r.2 r.3 r.4.0.0 r.4.0.1 r.4.0.2 r.4.1 r.5
-parted (op.MapWhole p) ops rest plain r = call_part (op.MapWhole p) ops rest r.0 r.1 r.2 r.3 r.4.0.0 r.4.0.1 r.4.0.2 r.4.1 r.5
-parted (op.UnmapWhole p) ops rest plain r = call_part (op.UnmapWhole p) ops rest r.0 r.1 r.2 r.3 r.4.0.0 r.4.0.1 r.4.0.2 r.4.1 r.5
-parted (op.Map first count p) ops rest plain r = call_part (op.Map first count p) ops rest r.0 r.1 r.2 r.3 r.4.0.0 r.4.0.1 r.4.0.2 r.4.1 r.5
-parted (op.Unmap first count p) ops rest plain r = call_part (op.Unmap first count p) ops rest r.0 r.1 r.2 r.3 r.4.0.0 r.4.0.1 r.4.0.2 r.4.1 r.5
-parted (op.Write first count p) ops rest plain r = call_part (op.Write first count p) ops rest r.0 r.1 r.2 r.3 r.4.0.0 r.4.0.1 r.4.0.2 r.4.1 r.5
-parted (op.Zero first count p) ops rest plain r = call_part (op.Zero first count p) ops rest r.0 r.1 r.2 r.3 r.4.0.0 r.4.0.1 r.4.0.2 r.4.1 r.5
-parted (op.SplitPmd p) ops rest plain r = call_part (op.SplitPmd p) ops rest r.0 r.1 r.2 r.3 r.4.0.0 r.4.0.1 r.4.0.2 r.4.1 r.5
-parted (op.Pin p) ops rest plain r = call_part (op.Pin p) ops rest r.0 r.1 r.2 r.3 r.4.0.0 r.4.0.1 r.4.0.2 r.4.1 r.5
-parted (op.Unpin p) ops rest plain r = call_part (op.Unpin p) ops rest r.0 r.1 r.2 r.3 r.4.0.0 r.4.0.1 r.4.0.2 r.4.1 r.5
-parted op.Close ops rest plain r = call_part op.Close ops rest r.0 r.1 r.2 r.3 r.4.0.0 r.4.0.1 r.4.0.2 r.4.1 r.5
-parted op.Count ops rest plain r = call_part op.Count ops rest r.0 r.1 r.2 r.3 r.4.0.0 r.4.0.1 r.4.0.2 r.4.1 r.5
-parted (op.Scan count) ops rest plain r =
-    inr (record { count = count; is = refl; some = plain; caller = r.4.0; own = r.0; more = r.1; parts = r.3; scan = r.4.2; repeats = subst (λ b. Repeats b ops r.1 None) r.4.3 r.5 })
-parted (op.Take count) ops rest plain r = absurd plain
-parted op.SplitNext ops rest plain r = absurd plain
-parted op.PutBack ops rest plain r = absurd plain
+parted x ops rest plain r = grind (arith, call_part)
 
 -- the first of some events
 first_of : (es : History) (n : ℕ) → length es ≡ n → 1 ≤ n → (e : Event) × ((more : History) × (es ≡ e ∷ more))
@@ -129,20 +111,7 @@ pub record Given (s : Shape) (g rest : History) (ops : List Op) : Type 0 where
 
 -- the rest after a part of it
 given_more : (s : Shape) (g rest own more : History) (o : Op) (ops : List Op) → Given s g rest (o ∷ ops) → rest ≡ own ++ more → Repeats None ops more None → AreInTurn [] more → IsNoTake (scan_place (g ++ own)) → Given s (g ++ own) more ops
-given_more s g rest own more o ops given parts repeats turn no_take =
-    let all : g ++ rest ≡ (g ++ own) ++ more = ap (λ es. g ++ es) parts ∙ sym (append_assoc g own more) in
-    let callers : AllByRecursion IsFirst (own ++ more) = subst (AllByRecursion IsFirst) parts given.callers in
-    record {
-      shape = given.shape;
-      legal = subst (IsLegal s) all given.legal;
-      callers_before = both_all IsFirst g own given.callers_before (front_all IsFirst own more callers);
-      callers = rest_all IsFirst own more callers;
-      repeats = repeats;
-      plain = given.plain.1;
-      in_turn = turn;
-      whole = ap scan_place (sym all) ∙ given.whole;
-      no_take = no_take;
-    }
+given_more s g rest own more o ops given parts repeats turn no_take = grind (arith, append_assoc, both_all, front_all, rest_all)
 
 -- no page is in flight before the rest
 none_flies : (s : Shape) (g rest : History) (ops : List Op) → Given s g rest ops → flight g 0 ≡ []
@@ -232,10 +201,7 @@ module _ (shape : ℕ → Shape) (made : ℕ → History) (limit : ℕ → ℕ) 
             sym is.0 ∙ (subst (AllByRecursion IsFirst) whole given.callers).0
 
     pub command_repeated : Repeated batches t.steps ms t.command.node g rest ops other
-    command_repeated = go (parted t.command.op ops rest given.plain.0 given.repeats) where
-      go : CallPart t.command.op ops rest ⊎ ScanPart t.command.op ops rest → Repeated batches t.steps ms t.command.node g rest ops other
-      go (inl part) = call_repeated part
-      go (inr part) = scan_repeated part
+    command_repeated = grind (arith, parted, call_repeated, scan_repeated)
 
   -- ---- all commands
 
@@ -253,10 +219,7 @@ module _ (shape : ℕ → Shape) (made : ℕ → History) (limit : ℕ → ℕ) 
   one_of_all batches ms other n all = record { front = all.front; walk = all.walk; here = all.same n; elsewhere = λ j away. all.same j }
 
   all_of_one : (batches : ℕ → Option Open) (ms : List Made) (other : ℕ → History) (n : ℕ) (g : History) → Stands shape made 0 limit batches ms n g other → AllStand batches ms (at_node n g other)
-  all_of_one batches ms other n g at = record { front = at.front; walk = at.walk; same = λ j. go j (nat_eq n j) refl } where
-    go : (j : ℕ) (b : Bool) → nat_eq n j ≡ b → SameButBlocks (at.front j) (cond b g (other j))
-    go j true e = subst (λ i. SameButBlocks (at.front i) g) (eqb-true n j e) at.here
-    go j false e = at.elsewhere j (λ there. let yes = eq-eqb n j (sym there) in absurd (cc))
+  all_of_one batches ms other n g at = grind (arith, nat_eq, eqb-true, eq-eqb)
 
   -- the commands on a node, with one more
   ops_here : (j : ℕ) (command : Command) (commands : List Command) → nat_eq command.node j ≡ true → ops_on j (command ∷ commands) ≡ command.op ∷ ops_on j commands
@@ -321,17 +284,7 @@ no_turns (t ∷ ts) e = absurd (cc)
 
 -- the history of a node before the first command
 given_all : (s : Shape) (h : History) (ops : List Op) → IsRepeated s h ops → Given s [] h ops
-given_all s h ops is = record {
-  shape = is.shape;
-  legal = is.legal;
-  callers_before = tt;
-  callers = recursion_from_All IsFirst h is.callers;
-  repeats = is.script.repeats (ap (λ (m : Moved). m.events) (is.script.whole is.scans));
-  plain = recursion_from_All IsCallOrScan ops (is.script.plain is.scans);
-  in_turn = all_in_turn h is.callers is.scans is.in_turn;
-  whole = is.scans;
-  no_take = tt;
-}
+given_all s h ops is = grind (arith, recursion_from_All, all_in_turn)
 
 pub repeats_histories : ScriptsRepeatHistories
 repeats_histories nodes shape script history made sections r only given n =

@@ -1,5 +1,5 @@
 -- The events of a whole scan in a legal history are those of the model's scan.
-use Rattle.std.proofs.Common.{◌≡◌, ◌<◌, ◌+◌, ℕ, Bool, true, false, not, ◌||◌, nat_eq, List, [], ◌∷◌, ◌++◌, map, take, drop, length, Some, refl, ap, ap₂, sym, subst, ◌∙◌, arith, append_assoc, eq-eqb, slice_get, ne_eqb}
+use Rattle.std.proofs.Common.{◌≡◌, ◌<◌, ◌+◌, ℕ, true, false, nat_eq, List, [], ◌∷◌, ◌++◌, map, take, drop, length, Some, refl, ap, ap₂, sym, subst, ◌∙◌, arith, append_assoc, eq-eqb, slice_get, ne_eqb}
 use Rattle.std.specs.List.{AllByRecursion}
 use Rattle.std.proofs.lemmas.List.{length-map}
 use Rattle.thp_model.specs.declared.events.Event.{Event}
@@ -29,8 +29,7 @@ event_by e c w a b = ap₂ (λ d v. by d v) a b
 
 -- a take is of a page
 take_of : (w : What) → kind_of w ≡ Take → (p : ℕ) × (w ≡ what.Taken p)
-take_of (what.Taken p) kind = (p, refl)
-take_of w kind = absurd (cc)
+take_of x kind = grind arith
 
 -- pages that have pins aren't without
 some_pins : (n : ℕ) → 0 < n → nat_eq n 0 ≡ false
@@ -61,10 +60,7 @@ try_of s k c p w left legal kind turn fits = absurd (cc)
 
 -- a try leaves the other pages untried
 untried_of_try : (w : What) (untried : List ℕ) → kind_of w ≡ Try → untried_after w untried ≡ drop 1 untried
-untried_of_try (what.Split p set) untried kind = refl
-untried_of_try (what.Pinned p) untried kind = refl
-untried_of_try (what.Used p) untried kind = refl
-untried_of_try w untried kind = absurd (cc)
+untried_of_try x untried kind = grind arith
 
 -- the event returns the first page of a flight
 pub record Returns (s : Shape) (k : History) (c : ℕ) (w : What) : Type 0 where
@@ -74,27 +70,15 @@ pub record Returns (s : Shape) (k : History) (c : ℕ) (w : What) : Type 0 where
 
 -- a return that fits is the model's
 return_of : (s : Shape) (k : History) (c : ℕ) (w : What) → kind_of w ≡ Put → Fits s k (by c w) → Returns s k c w
-return_of s k c (what.Back p) kind fits = record { page = p; first = fits.0; is = sym (ap (λ b. return_as b c p) (go_back _ _ fits.1 fits.2)) } where
-  go_back : (a b : Bool) → a ≡ false → b ≡ true → (a || not b) ≡ false
-  go_back true b e f = absurd (cc)
-  go_back false true e f = refl
-  go_back false false e f = absurd (cc)
-return_of s k c (what.Dropped p) kind fits = record { page = p; first = fits.0; is = sym (ap (λ b. return_as b c p) fits.1) }
-return_of s k c w kind fits = absurd (cc)
+return_of s k c x kind fits = grind (arith, return_as)
 
 -- a return leaves the same pages untried
 untried_of_put : (w : What) (untried : List ℕ) → kind_of w ≡ Put → untried_after w untried ≡ untried
-untried_of_put (what.Back p) untried kind = refl
-untried_of_put (what.Dropped p) untried kind = refl
-untried_of_put w untried kind = absurd (cc)
+untried_of_put x untried kind = grind arith
 
 -- a call changes none
 pub untried_of_call : (w : What) (o : Op) (untried : List ℕ) → kind_of w ≡ Call o → untried_after w untried ≡ untried
-untried_of_call (what.Taken p) o untried kind = absurd (cc)
-untried_of_call (what.Split p set) o untried kind = absurd (cc)
-untried_of_call (what.Pinned p) o untried kind = absurd (cc)
-untried_of_call (what.Used p) o untried kind = absurd (cc)
-untried_of_call w o untried kind = refl
+untried_of_call x o untried kind = grind arith
 
 -- ---- takes
 
@@ -140,8 +124,7 @@ module _ (s : Shape) (g : History) (c n : ℕ) (legal : IsLegal s g) (none : no_
 
 -- the flight behind its first page
 behind_first : (ps : List ℕ) (p : ℕ) → slice_get ps 0 ≡ Some p → ps ≡ p ∷ drop 1 ps
-behind_first [] p e = absurd (cc)
-behind_first (q ∷ ps) p e = cc
+behind_first x p e = grind arith
 
 same_returns : (s : Shape) (h k : History) (c : ℕ) → ((q : ℕ) → is_dropped s k q ≡ is_dropped s h q) → (p : ℕ) → return_event s k c p ≡ return_event s h c p
 same_returns s h k c same p = ap (λ b. return_as b c p) (same p)

@@ -1,8 +1,8 @@
 -- A call is refused alike at histories that are the same but for blocks.
-use Rattle.std.proofs.Common.{◌≡◌, ℕ, Bool, true, false, cond, not, Some, None, refl, ap, sym, arith}
+use Rattle.std.proofs.Common.{◌≡◌, ℕ, Bool, false, cond, not, Some, None, refl, ap, arith}
 use Rattle.thp_model.specs.declared.refusal.Refusal.TheVariants as reason
 use Rattle.thp_model.specs.declared.shape.Shape.{Shape}
-use Rattle.thp_model.specs.Prelude.{SameButBlocks, block_in_use, History, IsLegal, no_pages, refusal, Call, each_below, page_call}
+use Rattle.thp_model.specs.Prelude.{SameButBlocks, block_in_use, History, IsLegal, no_pages, refusal, each_below, page_call}
 use Rattle.thp_model.specs.Refusals as call
 use Rattle.thp_model.proofs.Alike.{alike, flight_alike}
 use Rattle.thp_model.proofs.LeastBlocks.{as_many, free_by_number}
@@ -17,9 +17,7 @@ use Rattle.thp_laws.proofs.Atoms.{same_allocated, same_closed, same_freed, same_
 
 -- a test that fails at both or at neither
 both_or_none : (a b : Bool) → (a ≡ false → b ≡ false) → (b ≡ false → a ≡ false) → a ≡ b
-both_or_none true true f g = refl
-both_or_none false b f g = sym (f refl)
-both_or_none true false f g = g refl
+both_or_none x y f g = grind arith
 
 module _ (s : Shape) (h k : History) (e : SameButBlocks h k) where
   -- a block is free at both or at neither

@@ -1,5 +1,5 @@
 -- Reports of runs that are the same but for blocks.
-use Rattle.std.proofs.Common.{◌≡◌, ◌<◌, ◌≤◌, ◌⊎◌, inl, inr, ℕ, zero, suc, List, [], ◌∷◌, ◌++◌, map, length, None, Ok, refl, ap, ap₂, sym, subst, ◌∙◌, arith, slice_get}
+use Rattle.std.proofs.Common.{◌≡◌, ◌<◌, ◌≤◌, ℕ, zero, suc, List, [], ◌∷◌, ◌++◌, map, length, None, Ok, refl, ap, ap₂, sym, subst, ◌∙◌, arith, slice_get}
 use Rattle.std.specs.List.{AllZip, flat_map}
 use Rattle.std.proofs.lemmas.Bool.{cases_lt}
 use Rattle.thp_model.specs.declared.shape.Shape.{Shape}
@@ -42,13 +42,7 @@ shape_at s ns n are lt =
 
 -- nodes for the same settings have the same shapes
 same_shape : (s : Settings) (ns ms : List NodeState) → AreNodesFor s ns → AreNodesFor s ms → (n : ℕ) → shapes_of ns n ≡ shapes_of ms n
-same_shape s ns ms a b n = go (cases_lt n s.nodes) where
-  go : (n < s.nodes) ⊎ (s.nodes ≤ n) → shapes_of ns n ≡ shapes_of ms n
-  go (inl lt) = shape_at s ns n a lt ∙ sym (shape_at s ms n b lt)
-  go (inr le) =
-      let ours = a.count in
-      let theirs = b.count in
-      ap nodes.shape_in (none_at ns n (omega (arith, ours, le))) ∙ sym (ap nodes.shape_in (none_at ms n (omega (arith, theirs, le))))
+same_shape s ns ms a b n = grind (arith, cases_lt, shape_at, none_at)
 
 -- nodes with the same shapes whose histories are the same but for blocks
 same_told : (ns ms : List NodeState) → length ns ≡ length ms → ((n : ℕ) → shapes_of ns n ≡ shapes_of ms n) → ((n : ℕ) → SameButBlocks (histories_of ns n) (histories_of ms n)) → AllZip IsSameJournal (map told_of ns) (map told_of ms)
@@ -84,9 +78,7 @@ same_sections shapes (x ∷ xs) (y ∷ ys) same = ap₂ (λ a b. a ++ b) (same_s
 
 -- each report is the same
 same_report : (r : Report) (js ks : List Journal) (xs ys : List SectionLog) → AllZip IsSameJournal js ks → AllZip IsSameSection xs ys → report_of r js xs ≡ report_of r ks ys
-same_report report.Totals js ks xs ys nodes sections = totals_blind js ks (all_bare js ks nodes)
-same_report report.Journal js ks xs ys nodes sections = one_text js ks nodes
-same_report report.Answers js ks xs ys nodes sections = ap (λ shapes. answers_text shapes xs) (told_shapes js ks nodes) ∙ same_sections (map shape_in ks) xs ys sections
+same_report x js ks xs ys nodes sections = grind (arith, totals_blind, all_bare, one_text, told_shapes, same_sections)
 
 -- an input spells one script
 one_script : (script other : Script) (s : Settings) (input : List ℕ) → script_of s input ≡ Ok script → script_of s input ≡ Ok other → other ≡ script

@@ -1,6 +1,6 @@
 -- A caller's section in two runs, side by side: where the nodes were the same before it, the same is done and answered.
 use Rattle.std.proofs.Common.{◌≡◌, ◌+◌, ℕ, suc, Bool, true, false, cond, nat_eq, List, [], ◌∷◌, ◌++◌, map, take, length, Option, refl, ap, sym, subst, ◌∙◌, arith, All, AllPairs, filter, eqb-true, ne_eqb, append-nil}
-use Rattle.std.specs.List.{AllByRecursion, range_with_len}
+use Rattle.std.specs.List.{AllByRecursion}
 use Rattle.std.proofs.lemmas.Grind.{flat_map-append}
 use Rattle.std.proofs.lemmas.List.Elements.{recursion_from_All}
 use Rattle.thp_model.specs.declared.shape.Shape.{Shape}
@@ -139,13 +139,7 @@ module _ (P : ℕ → Type 0) where
   -- a section whose commands are on such nodes makes no step on others
   pub section_among : (nodes : ℕ) (shape : ℕ → Shape) (history : ℕ → History) (c : ℕ) (commands : List Command) (answers : List Answer) (s : IsSection nodes shape history c commands answers) →
       AllByRecursion (λ (command : Command). P command.node) commands → AllByRecursion (λ (m : Made). P m.node) (steps_of (s.turns ++ s.closed))
-  section_among nodes shape history c commands answers s on =
-      let each : AllByRecursion IsTurn (s.turns ++ s.closed) = recursion_from_All IsTurn (s.turns ++ s.closed) s.each in
-      let first : AllByRecursion (λ (m : Made). P m.node) (steps_of s.turns) = turns_among s.turns (all_front IsTurn s.turns s.closed each) (subst (AllByRecursion (λ (command : Command). P command.node)) (sym s.done) on) in
-      let back : AllByRecursion (λ (command : Command). P command.node) (map command_of s.closed) =
-      subst (AllByRecursion (λ (command : Command). P command.node)) (sym s.closes)
-      (back_among (batches_after no_batches (steps_of s.turns)) (open_among no_batches (steps_of s.turns) none_open first) (range_with_len 0 nodes)) in
-      subst (AllByRecursion (λ (m : Made). P m.node)) (sym (steps_of-append s.turns s.closed)) (among_append (steps_of s.turns) (steps_of s.closed) first (turns_among s.closed (all_rest IsTurn s.turns s.closed each) back))
+  section_among nodes shape history c commands answers s on = grind (arith, closed, recursion_from_All, first, turns_among, all_front, done, back_among, open_among, none_open, steps_of-append, among_append, all_rest)
 
   -- steps on such nodes have no events on another
   pub none_elsewhere : (n : ℕ) (ms : List Made) → AllByRecursion (λ (m : Made). P m.node) ms → (P n → ⊥) → own_events n ms ≡ []

@@ -1,5 +1,5 @@
 -- A set of subpages is read back from its text.
-use Rattle.std.proofs.Common.{◌≡◌, ◌==◌, ◌<◌, ◌≤◌, ◌+◌, ℕ, zero, suc, Bool, true, false, cond, not, ◌||◌, List, [], ◌∷◌, ◌++◌, map, length, get_or, Result, Ok, append_assoc, refl, ap, sym, ◌∙◌, arith, inl, inr, codes, decimal, bytes_eq}
+use Rattle.std.proofs.Common.{◌≡◌, ◌==◌, ◌<◌, ◌≤◌, ◌+◌, ℕ, zero, suc, Bool, true, false, cond, not, ◌||◌, List, [], ◌∷◌, ◌++◌, map, length, get_or, Result, Ok, append_assoc, refl, ap, sym, ◌∙◌, arith, codes, decimal, bytes_eq}
 use Rattle.std.specs.Prelude.{⊤}
 use Rattle.std.specs.List.{list_all, list_any, join_with_byte, range_with_len}
 use Rattle.std.proofs.lemmas.Bool.{and_parts, and_from, or_cases, or_left, or_right, eqb-true, eqb-false, eq-eqb, ne_eqb, le-leb, leb-true, lt-ltb, false_from_ne_true, cases_eq, or_from, not_from_false}
@@ -11,15 +11,13 @@ use Rattle.thp_script.specs.declared.fault.TextKind.{TextKind}
 use Rattle.thp_script.specs.Prelude.{◌>>=◌, is_empty, Text, number_of, pieces_at}
 use Rattle.thp_script.proofs.NumberLaws.{number_of-decimal}
 use Rattle.thp_journal_writer.specs.Prelude.{Run, with_number, runs_from, run_text, runs_text, set_text}
-use Rattle.thp_journal_reader.specs.Prelude.{covers_number, set_with, subpage_number, longer_run, run_of_numbers, run_of, run_from, runs_of, set_of_text}
+use Rattle.thp_journal_reader.specs.Prelude.{covers_number, set_with, run_of, run_from, runs_of, set_of_text}
 use Rattle.thp_laws.proofs.Splitting.{all_append, all_joined, cut_once, is_without, joined, single}
 use Rattle.thp_laws.proofs.PlainWords.{decimal_plain, decimal_without, is_plain, is_solid, plain_solid}
 
 -- tests that hold of the same are the same
 same_test : (a b : Bool) → (a ≡ true → b ≡ true) → (b ≡ true → a ≡ true) → a ≡ b
-same_test true b f g = sym (f refl)
-same_test false true f g = g refl
-same_test false false f g = refl
+same_test x b f g = grind arith
 
 -- ---- the runs of a set
 
@@ -37,11 +35,7 @@ apart_from_less least more end (run ∷ runs) le h = let low = h.0 in (omega ari
 -- with the number before them they ascend from that number
 with_number_apart : (i end : ℕ) (runs : List Run) → i < end → AreApart (i + 1) end runs → AreApart i end (with_number i runs)
 unfolding AreApart
-with_number_apart i end [] lt h = (omega arith, omega arith, lt, tt)
-with_number_apart i end (run ∷ runs) lt h = go (run.0 == i + 1) refl where
-  go : (b : Bool) → (run.0 == i + 1) ≡ b → AreApart i end (cond b ((i, run.1) ∷ runs) ((i, i) ∷ run ∷ runs))
-  go true e = let low = h.0 in let grows = h.1 in (omega arith, omega arith, h.2, h.3)
-  go false e = let low = h.0 in let other = eqb-false (run.0) (i + 1) e in (omega arith, omega arith, lt, (omega arith, h.1, h.2, h.3))
+with_number_apart i end x lt h = grind (arith, AreApart, eqb-false)
 
 -- the runs of a set do
 runs_apart : (i end : ℕ) (truths : List Bool) → i + length truths ≤ end → AreApart i end (runs_from i truths)
@@ -60,38 +54,16 @@ covers_from j run low high = and_from _ _ (le-leb (run.0) j low) (le-leb j (run.
 
 -- a run of one
 one_number : (i j : ℕ) → covers_number j (i, i) ≡ (j == i)
-one_number i j = same_test (covers_number j (i, i)) (j == i) parts from where
-  parts : covers_number j (i, i) ≡ true → (j == i) ≡ true
-  parts e = let p = covers_parts j (i, i) e in eq-eqb j i (omega arith)
-
-  from : (j == i) ≡ true → covers_number j (i, i) ≡ true
-  from e = let same = eqb-true j i e in covers_from j (i, i) (omega arith) (omega arith)
+one_number i j = grind (arith, same_test, covers_parts, eq-eqb, eqb-true, covers_from)
 
 -- a run with the number right before it
 longer_by_one : (i j : ℕ) (run : Run) → run.0 ≡ i + 1 → run.0 ≤ run.1 → covers_number j (i, run.1) ≡ ((j == i) || covers_number j run)
-longer_by_one i j run next grows = same_test (covers_number j (i, run.1)) ((j == i) || covers_number j run) parts from where
-  parts : covers_number j (i, run.1) ≡ true → ((j == i) || covers_number j run) ≡ true
-  parts e =
-      let p = covers_parts j (i, run.1) e in
-      elim (cases_eq j i) [
-        | inl same ↦ or_left _ _ (eq-eqb j i same)
-        | inr other ↦ or_right (j == i) _ (covers_from j run (omega arith) (omega arith))
-      ]
-
-  from : ((j == i) || covers_number j run) ≡ true → covers_number j (i, run.1) ≡ true
-  from e = elim (or_cases _ _ e) [
-    | inl same ↦ let is = eqb-true j i same in covers_from j (i, run.1) (omega arith) (omega arith)
-    | inr inside ↦ let p = covers_parts j run inside in covers_from j (i, run.1) (omega arith) (omega arith)
-  ]
+longer_by_one i j run next grows = grind (arith, same_test, covers_parts, cases_eq, or_left, eq-eqb, or_right, covers_from, or_cases, eqb-true)
 
 -- i lies in the runs with i, and what else lies there lay there before
 covers_with : (i j end : ℕ) (runs : List Run) → AreApart (i + 1) end runs → list_any (covers_number j) (with_number i runs) ≡ ((j == i) || list_any (covers_number j) runs)
 unfolding AreApart
-covers_with i j end [] h = ap (λ b. b || false) (one_number i j)
-covers_with i j end (run ∷ runs) h = go (run.0 == i + 1) refl where
-  go : (b : Bool) → (run.0 == i + 1) ≡ b → list_any (covers_number j) (cond b ((i, run.1) ∷ runs) ((i, i) ∷ run ∷ runs)) ≡ ((j == i) || (covers_number j run || list_any (covers_number j) runs))
-  go true e = ap (λ b. b || list_any (covers_number j) runs) (longer_by_one i j run (eqb-true _ _ e) h.1) ∙ or_assoc (j == i) (covers_number j run) (list_any (covers_number j) runs)
-  go false e = ap (λ b. b || (covers_number j run || list_any (covers_number j) runs)) (one_number i j)
+covers_with i j end x h = grind (arith, one_number, longer_by_one, eqb-true, or_assoc)
 
 -- runs from a number on have no smaller one
 none_below : (j least end : ℕ) (runs : List Run) → AreApart least end runs → j < least → list_any (covers_number j) runs ≡ false
@@ -140,24 +112,7 @@ ok_run run = Ok run
 -- one run, with numbers of subpages
 run_back : (run : Run) → run.0 ≤ run.1 → run.1 < 512 → run_of (run_text run) ≡ Ok run
 unfolding run_of ok_run
-run_back run grows lt = go (run.0 == run.1) refl where
-  number : (n : ℕ) → n < 512 → subpage_number (decimal n) ≡ Ok n
-  number n below = rw (number_of-decimal 511 n (omega arith) (omega arith)) refl
-
-  longer : (a b : ℕ) → subpage_number (decimal a) ≡ Ok a → subpage_number (decimal b) ≡ Ok b → a < b → longer_run (decimal a) (decimal b) ≡ Ok (a, b)
-  longer a b first last less = rw (first, last, lt-ltb a b less) refl
-
-  go : (b : Bool) → (run.0 == run.1) ≡ b → run_of_numbers (pieces_at 45 (cond b (decimal run.0) (decimal run.0 ++ codes "-" ++ decimal run.1))) ≡ Ok run
-  go true e =
-      let same : run.0 ≡ run.1 = eqb-true _ _ e in
-      ap run_of_numbers (single 45 (decimal run.0) (decimal_without 45 run.0 (omega arith) refl))
-      ∙ ap (λ r. r >>= λ n. Ok (n, n)) (number run.0 (omega arith))
-      ∙ ap (λ n. ok_run (run.0, n)) same
-  go false e =
-      let less : run.0 < run.1 = let other = eqb-false _ _ e in omega arith in
-      ap (λ text. run_of_numbers (pieces_at 45 text)) (append_assoc (decimal run.0) (codes "-") (decimal run.1))
-      ∙ ap run_of_numbers (cut_once 45 (decimal run.0) (decimal run.1) (decimal_without 45 run.0 (omega arith) refl) ∙ ap (λ ps. decimal run.0 ∷ ps) (single 45 (decimal run.1) (decimal_without 45 run.1 (omega arith) refl)))
-      ∙ longer run.0 run.1 (number run.0 (omega arith)) (number run.1 lt) less
+run_back run grows lt = grind (arith, number_of-decimal, lt-ltb, eqb-true, single, decimal_without, ok_run, eqb-false, append_assoc, cut_once)
 
 -- runs, ascending and apart
 runs_back : (least : ℕ) (runs : List Run) → AreApart least 512 runs → runs_of least (map run_text runs) ≡ Ok runs
@@ -168,10 +123,7 @@ runs_back least (run ∷ runs) h =
 
 -- the text of a run has digits and a dash
 run_text_of : (test : ℕ → Bool) (run : Run) → ((n : ℕ) → n < 512 → list_all test (decimal n) ≡ true) → test 45 ≡ true → run.0 ≤ run.1 → run.1 < 512 → list_all test (run_text run) ≡ true
-run_text_of test run numbers dash grows lt = go (run.0 == run.1) where
-  go : (b : Bool) → list_all test (cond b (decimal run.0) (decimal run.0 ++ codes "-" ++ decimal run.1)) ≡ true
-  go true = numbers run.0 (omega arith)
-  go false = ap (list_all test) (append_assoc (decimal run.0) (codes "-") (decimal run.1)) ∙ all_append test (decimal run.0) (codes "-" ++ decimal run.1) (numbers run.0 (omega arith)) (and_from _ _ dash (numbers run.1 lt))
+run_text_of test run numbers dash grows lt = grind (arith, append_assoc, all_append, and_from)
 
 -- the texts of runs likewise
 run_texts_of : (test : ℕ → Bool) (least : ℕ) (runs : List Run) → ((n : ℕ) → n < 512 → list_all test (decimal n) ≡ true) → test 45 ≡ true → AreApart least 512 runs → list_all (list_all test) (map run_text runs) ≡ true
@@ -203,9 +155,7 @@ text_of_runs_back (run ∷ runs) h =
 -- a set's text is read as that set
 pub set_back : (set : List Bool) → length set ≡ 512 → set_of_text (set_text set) ≡ Ok set
 unfolding set_text
-set_back set full = text_of_runs_back (runs_from 0 set) (runs_apart 0 512 set (omega arith)) ∙ ap ok_set (set_of_its_runs set full) where
-  ok_set : List Bool → Result (List Bool) TextKind
-  ok_set s = Ok s
+set_back set full = grind (arith, text_of_runs_back, runs_apart, set_of_its_runs)
 
 -- the digits of a subpage's number
 solid_digits : (n : ℕ) → n < 512 → list_all is_solid (decimal n) ≡ true
@@ -229,8 +179,7 @@ run_some run lt grows = go (run.0 == run.1) where
 -- runs leave no empty text
 joined_some : (run : Run) (runs : List Run) → AreApart 0 512 (run ∷ runs) → not (is_empty (join_with_byte 44 (map run_text (run ∷ runs)))) ≡ true
 unfolding AreApart
-joined_some run [] h = run_some run h.2 h.1
-joined_some run (next ∷ runs) h = some_of_some (run_text run) (44 ∷ join_with_byte 44 (map run_text (next ∷ runs))) (run_some run h.2 h.1)
+joined_some run x h = grind (arith, run_some, some_of_some)
 
 -- the text of runs is a plain word
 runs_plain : (runs : List Run) → AreApart 0 512 runs → is_plain (runs_text runs) ≡ true

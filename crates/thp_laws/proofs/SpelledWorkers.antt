@@ -1,12 +1,11 @@
 -- How many workers a script has that a text spells.
-use Rattle.std.proofs.Common.{◌≡◌, ℕ, Bool, true, false, cond, List, length, Result, Ok, Err, None, ap, sym, ◌∙◌, arith, nat_lt}
+use Rattle.std.proofs.Common.{◌≡◌, ℕ, List, length, Ok, ◌∙◌, arith, nat_lt}
 use Rattle.std.specs.List.{range_with_len}
 use Rattle.std.proofs.lemmas.List.{length-map}
 use Rattle.std.proofs.lemmas.List.FromFn.{length-range_with_len}
-use Rattle.thp_script.specs.declared.fault.TextKind.TheVariants.{TooLong}
 use Rattle.thp_script.specs.declared.script.Script.{Script}
 use Rattle.thp_script.specs.declared.settings.Settings.{Settings}
-use Rattle.thp_script.specs.Prelude.{◌>>=◌, Fault, Placed, commands_from, commands_in, script_of, script_with, lines_of}
+use Rattle.thp_script.specs.Prelude.{Placed, commands_in, script_of, script_with}
 use Rattle.thp_laws.proofs.WorkersApart.{one_is_apart, place_of}
 use Rattle.thp_laws.specs.OneReport.{OneSettingIsApart, OneWorkerIsApart}
 
@@ -18,13 +17,7 @@ workers_with workers placed = length-map (range_with_len 1 workers) (λ k. comma
 -- as many workers as the settings say
 as_many : (s : Settings) (input : List ℕ) (script : Script) → script_of s input ≡ Ok script → length script.workers ≡ s.workers
 unfolding script_of
-as_many s input script e = go (nat_lt 16777216 (length input)) (commands_from s 1 None (lines_of input)) e where
-  go : (long : Bool) (read : Result (List Placed) Fault) → cond long (Err (0, TooLong)) (read >>= λ placed. Ok (script_with s.workers placed)) ≡ Ok script → length script.workers ≡ s.workers
-  go true read e = absurd cc
-  go false (Err fault) e = absurd cc
-  go false (Ok placed) e =
-      let same : script_with s.workers placed ≡ script = cc in
-      ap (λ (x : Script). length x.workers) (sym same) ∙ workers_with s.workers placed
+as_many s input script e = grind (arith, nat_lt, workers_with)
 
 -- one worker keeps to nodes of its own
 pub one_is_spelled : OneWorkerIsApart
@@ -32,10 +25,4 @@ one_is_spelled s input sole script spelled = one_is_apart script (sole script sp
 
 -- no worker but the first has commands where there is no other
 pub setting_is_apart : OneSettingIsApart
-setting_is_apart s input few = one_is_spelled s input (λ script spelled. (
-  0,
-  λ k commands at other.
-      let many = as_many s input script spelled in
-      let place = place_of script.workers k commands at in
-      absurd (other (omega (arith, many, place, few))),
-))
+setting_is_apart s input few = grind (arith, one_is_spelled, as_many, place_of)

@@ -117,48 +117,9 @@ module _ (shape : ℕ → Shape) (history : ℕ → History) (c : ℕ) (limit : 
   -- what it does
   pub does_next : Does (shape m.node) (front m.node) c (batches m.node) m.told.step m.own m.told.answer m.after
   unfolding Carries
-  does_next =
-      subst (λ (b : Option Open). Does (shape m.node) (front m.node) c b m.told.step m.own m.told.answer m.after) w.carries.0
-      (subst (λ (h : History). Does (shape m.node) h c m.batch m.told.step m.own m.told.answer m.after) history_before w.each.0.does)
+  does_next = grind (arith, history_before)
 
   -- the others are still to come behind it
   pub walk_on : Walk shape history c limit (front_after front m) (with_batch batches m.node m.after) ms
   unfolding Ordered Carries
-  walk_on = record {
-    legal = w.legal;
-    each = w.each.1;
-    order = w.order.1;
-    carries = w.carries.1;
-    above = each_both (IsAbove front) (ComesBefore m) (IsAbove (front_after front m)) higher ms w.above.1 w.order.0;
-    within = w.within.1;
-    full = λ n. fuller n (nat_eq m.node n) refl;
-    stands = λ n. standing n (nat_eq m.node n) refl;
-  } where
-    higher : (x : Made) → IsAbove front x → ComesBefore m x → IsAbove (front_after front m) x
-    higher x low before = go (nat_eq m.node x.node) refl where
-      go : (b : Bool) → nat_eq m.node x.node ≡ b → length (cond b (front x.node ++ m.own) (front x.node)) ≤ x.before
-      go true e =
-          let at : m.node ≡ x.node = eqb-true m.node x.node e in
-          let behind : m.before + length m.own ≤ x.before = before at in
-          let same : length (front m.node) ≡ length (front x.node) = ap (λ k. length (front k)) at in
-          let sum = length-append (front x.node) m.own in
-          let here = stands_next in
-          omega arith
-      go false e = low
-
-    fuller : (n : ℕ) (b : Bool) → nat_eq m.node n ≡ b → length (cond b (front n ++ m.own) (front n)) + length (own_events n ms) ≡ limit n
-    fuller n true e =
-        let both : length (own_events n (m ∷ ms)) ≡ length m.own + length (own_events n ms) = ap length (own_here n m ms e) ∙ length-append m.own (own_events n ms) in
-        let sum = length-append (front n) m.own in
-        let full : length (front n) + length (own_events n (m ∷ ms)) ≡ limit n = w.full n in
-        omega arith
-    fuller n false e =
-        let same : length (own_events n (m ∷ ms)) ≡ length (own_events n ms) = ap length (own_else n m ms e) in
-        let full : length (front n) + length (own_events n (m ∷ ms)) ≡ limit n = w.full n in
-        omega arith
-
-    standing : (n : ℕ) (b : Bool) → nat_eq m.node n ≡ b → take (length (cond b (front n ++ m.own) (front n))) (history n) ≡ cond b (front n ++ m.own) (front n)
-    standing n true e =
-        let at : m.node ≡ n = eqb-true m.node n e in
-        subst (λ k. take (length (front k ++ m.own)) (history k) ≡ front k ++ m.own) at (ap (λ i. take i (history m.node)) (length-append (front m.node) m.own) ∙ stands_after)
-    standing n false e = w.stands n
+  walk_on = grind (arith, each_both, nat_eq, eqb-true, length-append, stands_next, own_here, own_else, stands_after)

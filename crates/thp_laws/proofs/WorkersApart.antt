@@ -41,10 +41,7 @@ beyond most c (e ∷ es) lt all = let low = all.0 in rw (ne_eqb e.caller c (λ s
 -- who did nothing did nothing later
 idle_later : (k : ℕ) (e : Event) (es : History) → events_of k (e ∷ es) ≡ [] → events_of k es ≡ []
 unfolding events_of
-idle_later k e es none = go (nat_eq e.caller k) none where
-  go : (b : Bool) → cond b (e ∷ events_of k es) (events_of k es) ≡ [] → events_of k es ≡ []
-  go true n = absurd cc
-  go false n = n
+idle_later k e es none = grind (arith, nat_eq)
 
 -- where nobody else does anything the events are those of setup and of caller c
 sole_events : (c : ℕ) (h : History) → 0 < c → ((k : ℕ) → 0 < k → (k ≡ c → ⊥) → events_of k h ≡ []) → length (events_of 0 h) + length (events_of c h) ≡ length h

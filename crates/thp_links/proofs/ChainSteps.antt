@@ -27,16 +27,11 @@ chain_pushed i h xs ls ms s inside out first links =
 
 -- the pair of the first index says where the rest begins
 pub first_next : (xs : List ℕ) (ls : List Link) (i : ℕ) (l : Link) → Trail ls xs → slice_get xs 0 ≡ Some i → slice_get ls i ≡ Some l → l.next ≡ get_or (drop 1 xs) 0 NIL
-first_next [] ls i l t first value = absurd (none-some i first)
-first_next (x ∷ xs) ls i l t first value =
-    ap (λ (k : Link). k.next) (same_Some l _ (sym value ∙ ap (λ (k : ℕ). slice_get ls k) (sym (same_Some x i first)) ∙ t.0.1))
+first_next x ls i l t first value = grind (arith, none-some, same_Some, slice_get)
 
 -- a pop leaves the head right
 pub head_popped : (xs : List ℕ) (ls : List Link) (i h : ℕ) (l : Link) → ChainStands xs ls → slice_get xs 0 ≡ Some i → slice_get ls i ≡ Some l → HasHead h xs → HasHead l.next (drop 1 xs)
-head_popped xs ls i h l s first value e = record {
-  first = first_next xs ls i l s.trail first value;
-  real = λ m. e.real (Contains-from_rest xs NIL m);
-}
+head_popped xs ls i h l s first value e = grind (arith, first_next, Contains-from_rest)
 
 -- a pop lets the rest stand
 pub chain_popped : (xs : List ℕ) (ls : List Link) → ChainStands xs ls → ChainStands (drop 1 xs) ls

@@ -1,5 +1,5 @@
 -- Members of lists of indices, lists without repeats, and lists that have nothing in common.
-use Rattle.std.proofs.Common.{◌≡◌, ◌≢◌, ℕ, zero, suc, ◌<◌, ◌≤◌, Bool, cond, not, List, [], ◌∷◌, ◌++◌, length, get_or, drop, Some, None, ◌⊎◌, inl, inr, sym, ap, ◌∙◌, refl, subst, arith, eqb, Contains, slice_get, eqb-true}
+use Rattle.std.proofs.Common.{◌≡◌, ◌≢◌, ℕ, suc, ◌<◌, ◌≤◌, Bool, cond, not, List, [], ◌∷◌, ◌++◌, length, get_or, drop, Some, None, ◌⊎◌, inl, inr, sym, ap, ◌∙◌, refl, subst, arith, eqb, Contains, slice_get, eqb-true}
 use Rattle.std.proofs.lemmas.Bool.Decides.{eqb_tells, Decides-eqb}
 use Rattle.std.proofs.lemmas.List.Elements.{Contains-get_or, Contains-append_left, Contains-append_right, Contains-append_cases, filter-append}
 use Rattle.std.proofs.lemmas.List.Kept.{AllPairs-cons, AllPairs-filter}
@@ -23,8 +23,7 @@ Contains-behind x xs i m = let below : m.0 < length xs = m.1 in (suc m.0, omega 
 
 -- an index of the list is the first or is behind it
 pub Contains-cons_cases : (x : ℕ) (xs : List ℕ) (i : ℕ) → Contains (x ∷ xs) i → (i ≡ x) ⊎ Contains xs i
-Contains-cons_cases x xs i (zero, below, at) = inl (sym at)
-Contains-cons_cases x xs i (suc k, below, at) = inr (k, omega arith, at)
+Contains-cons_cases x xs i y = grind arith
 
 -- what is absent is not the first, and is absent behind it
 pub absent_head : (x : ℕ) (xs : List ℕ) (i : ℕ) → (Contains (x ∷ xs) i → ⊥) → i ≢ x
@@ -56,8 +55,7 @@ Contains-from_first (x ∷ xs) i e = (0, omega arith, same_Some x i e)
 
 -- the list from its first index on
 pub first_and_rest : (xs : List ℕ) (i : ℕ) → slice_get xs 0 ≡ Some i → xs ≡ i ∷ drop 1 xs
-first_and_rest [] i e = absurd (none-some i e)
-first_and_rest (x ∷ xs) i e = ap (λ (k : ℕ). k ∷ xs) (same_Some x i e)
+first_and_rest x i e = grind (arith, none-some, same_Some)
 
 -- a list with no first index is empty
 pub empty_from_first : (xs : List ℕ) → slice_get xs 0 ≡ None → xs ≡ []
@@ -130,13 +128,7 @@ without_absent i (x ∷ xs) out = elim (eqb_tells x i) [
 
 -- taking out an index that stands between two parts joins them
 pub without-middle : (i : ℕ) (xs ys : List ℕ) → (Contains xs i → ⊥) → (Contains ys i → ⊥) → without i (xs ++ i ∷ ys) ≡ xs ++ ys
-without-middle i xs ys f g =
-    filter-append (λ (j : ℕ). not (eqb j i)) xs (i ∷ ys)
-    ∙ ap (λ (zs : List ℕ). zs ++ without i (i ∷ ys)) (without_absent i xs f)
-    ∙ ap (λ (zs : List ℕ). xs ++ zs) (elim (eqb_tells i i) [
-      | inl y ↦ ap (λ (b : Bool). cond (not b) (i ∷ without i ys) (without i ys)) y.0 ∙ without_absent i ys g
-      | inr n ↦ absurd (n.1 refl)
-    ])
+without-middle i xs ys f g = grind (arith, filter-append, without_absent, eqb_tells)
 
 -- what is left after an index was taken out was there before, and is another
 pub Contains-from_without : (i : ℕ) (xs : List ℕ) (j : ℕ) → Contains (without i xs) j → Contains xs j × (j ≢ i)

@@ -185,9 +185,7 @@ module _ (i : ℕ) (xs : List ℕ) (ls : List Link) (small : length ls ≤ NIL) 
 
 -- the pair of the oldest index
 front_pair : (xs : List ℕ) (ls : List Link) (i : ℕ) (l : Link) → Segment ls NIL xs NIL → slice_get xs 0 ≡ Some i → slice_get ls i ≡ Some l → l ≡ between NIL (get_or (drop 1 xs) 0 NIL)
-front_pair [] ls i l s first value = absurd (none-some i first)
-front_pair (x ∷ xs) ls i l s first value =
-    same_Some l _ (sym value ∙ ap (λ (k : ℕ). slice_get ls k) (sym (same_Some x i first)) ∙ s.0)
+front_pair x ls i l s first value = grind (arith, none-some, same_Some, slice_get)
 
 -- the pop of the oldest index lets the rest stand, and changes the pair of the next index alone
 pub stands_popped : (xs : List ℕ) (ls ms : List Link) (i : ℕ) (l : Link) → length ls ≤ NIL → Stands xs ls → slice_get xs 0 ≡ Some i → slice_get ls i ≡ Some l → ms ≡ with_prev ls l.next NIL → Stands (drop 1 xs) ms × SameOutside xs ls ms

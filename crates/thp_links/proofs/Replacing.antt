@@ -1,5 +1,5 @@
 -- Links with one pair, or one side of a pair, replaced.
-use Rattle.std.proofs.Common.{◌≡◌, ◌≢◌, ℕ, zero, suc, ◌<◌, ◌≤◌, List, [], ◌∷◌, length, set, Option, Some, None, ap, ◌∙◌, refl, arith, get_or-set_same, length-set, slice_get}
+use Rattle.std.proofs.Common.{◌≡◌, ◌≢◌, ℕ, zero, suc, ◌<◌, ◌≤◌, List, [], ◌∷◌, length, set, Option, Some, ap, ◌∙◌, refl, arith, get_or-set_same, length-set, slice_get}
 use Rattle.std.proofs.lemmas.Option.{slice_get-get_or, slice_get_past, slice_get_within}
 use Rattle.thp_links.specs.Prelude.{Link, between, next_replaced, prev_replaced, with_next, with_prev}
 
@@ -36,17 +36,11 @@ with_prev_none ls i p past = ap (λ (o : Option Link). prev_replaced ls i p o) (
 
 pub length-with_next : (ls : List Link) (i n : ℕ) → length (with_next ls i n) ≡ length ls
 unfolding with_next
-length-with_next ls i n = go (slice_get ls i) where
-  go : (o : Option Link) → length (next_replaced ls i n o) ≡ length ls
-  go None = refl
-  go (Some l) = length-set ls i (between l.prev n)
+length-with_next ls i n = grind (arith, slice_get, length-set)
 
 pub length-with_prev : (ls : List Link) (i p : ℕ) → length (with_prev ls i p) ≡ length ls
 unfolding with_prev
-length-with_prev ls i p = go (slice_get ls i) where
-  go : (o : Option Link) → length (prev_replaced ls i p o) ≡ length ls
-  go None = refl
-  go (Some l) = length-set ls i (between p l.next)
+length-with_prev ls i p = grind (arith, slice_get, length-set)
 
 -- the pair of i afterwards
 pub with_next-same : (ls : List Link) (i n : ℕ) (l : Link) → slice_get ls i ≡ Some l → slice_get (with_next ls i n) i ≡ Some (between l.prev n)
@@ -60,14 +54,8 @@ with_prev-same ls i p l e =
 -- other pairs stay
 pub with_next-other : (ls : List Link) (i n j : ℕ) → j ≢ i → slice_get (with_next ls i n) j ≡ slice_get ls j
 unfolding with_next
-with_next-other ls i n j ne = go (slice_get ls i) where
-  go : (o : Option Link) → slice_get (next_replaced ls i n o) j ≡ slice_get ls j
-  go None = refl
-  go (Some l) = slice_get-set_other ls i (between l.prev n) j ne
+with_next-other ls i n j ne = grind (arith, slice_get, slice_get-set_other)
 
 pub with_prev-other : (ls : List Link) (i p j : ℕ) → j ≢ i → slice_get (with_prev ls i p) j ≡ slice_get ls j
 unfolding with_prev
-with_prev-other ls i p j ne = go (slice_get ls i) where
-  go : (o : Option Link) → slice_get (prev_replaced ls i p o) j ≡ slice_get ls j
-  go None = refl
-  go (Some l) = slice_get-set_other ls i (between p l.next) j ne
+with_prev-other ls i p j ne = grind (arith, slice_get, slice_get-set_other)

@@ -1,4 +1,4 @@
--- The definitions and types of this library, each by its name alone: one line of a file imports what it cites.
+-- Re-exports the definitions and types of this library: other files import those that they cite from here, in one line.
 pub use Rattle.thp_links.specs.Ends.{HasEnds, HasHead}
 pub use Rattle.thp_links.specs.Indices.{Apart, Distinct, last_or, without}
 pub use Rattle.thp_links.specs.Neighbours.{next_replaced, prev_replaced}

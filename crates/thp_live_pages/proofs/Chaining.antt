@@ -70,21 +70,11 @@ chain_new allocs one bs c = (
 
 -- a chain in more allocations
 pub chain_kept : (allocs : List Allocation) (x : Allocation) (at : Option ℕ) (bs : List ℕ) → IsChain allocs (length allocs) at bs → IsChain (allocs ++ x ∷ []) (length (allocs ++ x ∷ [])) at bs
-chain_kept allocs x at bs c =
-    chain_wider (allocs ++ x ∷ []) (length allocs) (length (allocs ++ x ∷ [])) at bs (omega (arith, length-append allocs (x ∷ []))) (chain_more allocs x (length allocs) at bs c)
+chain_kept allocs x at bs c = grind (arith, chain_wider, length-append, chain_more)
 
 -- the walk begins
 pub walk_first : (allocs : List Allocation) (first : Option ℕ) (counts : List ℕ) → IsCovered allocs first counts → IsWalked allocs first first counts counts
-walk_first allocs first counts c = record {
-  all = c.blocks;
-  rest = c.blocks;
-  limit = length allocs;
-  chained = c.chained;
-  goes_on = c.chained;
-  covered = c.covered;
-  given = λ b. refl;
-  size = refl;
-}
+walk_first allocs first counts c = grind arith
 
 -- the place stands among the allocations
 pub walk_inside : (allocs : List Allocation) (first at : Option ℕ) (old now : List ℕ) (place : ℕ) → at ≡ Some place → IsWalked allocs first at old now → place < length allocs
@@ -206,5 +196,4 @@ read_one allocs place one h e = slice_get-get_or allocs place one h ∙ ap (λ (
 
 -- what is no number
 pub none_left : (o : Option ℕ) → ((x : ℕ) → o ≡ Some x → ⊥) → o ≡ None
-none_left None f = refl
-none_left (Some x) f = absurd (f x refl)
+none_left x f = grind arith

@@ -29,8 +29,7 @@ all_pass : (n : ℕ) (f : ℕ → Bool) → ((i : ℕ) → i < n → f i ≡ tru
 all_pass n f t = each_below-ext n f (λ i. true) t ∙ each-not n (λ i. false) ∙ ap not (some_no n (λ i. false) (λ i l. refl))
 
 double_not : (b : Bool) → b ≡ not (not b)
-double_not true = refl
-double_not false = refl
+double_not x = grind arith
 
 one_fails : (n : ℕ) (f : ℕ → Bool) (b : ℕ) → b < n → f b ≡ false → each_below n f ≡ false
 one_fails n f b l e =

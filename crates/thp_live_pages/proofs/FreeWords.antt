@@ -1,5 +1,5 @@
 -- Sets of blocks as words of 64 bits.
-use Rattle.std.proofs.Common.{◌≡◌, ◌≢◌, ℕ, suc, zero, ◌+◌, ◌*◌, ◌/◌, ◌%◌, ◌^◌, ◌<◌, ◌≤◌, Bool, true, false, cond, List, length, set, get_or, refl, ap, sym, ◌∙◌, arith, inl, inr, nat_eq, nat_lt, eq-eqb, ne_eqb, replicate, bit_and, bit_or}
+use Rattle.std.proofs.Common.{◌≡◌, ℕ, suc, zero, ◌+◌, ◌*◌, ◌/◌, ◌%◌, ◌^◌, ◌<◌, ◌≤◌, Bool, true, false, cond, List, length, set, get_or, refl, ap, sym, ◌∙◌, arith, inl, inr, nat_eq, nat_lt, eq-eqb, ne_eqb, replicate, bit_and, bit_or}
 use Rattle.std.specs.Int.{bit_at, w64, bit_not, trailing_zeros}
 use Rattle.std.proofs.lemmas.List.{get_or-set_same, get_or-set_other, get_or_past}
 use Rattle.std.proofs.lemmas.Nat.Bits.{bit_at_set_same, bit_at_set_other, bit_at_clear_same, bit_at_clear_other, bit_at-zero, bit_at-trailing_zeros}
@@ -11,40 +11,14 @@ use Rattle.thp_model.specs.Prelude.{in_words}
 in-set : (ws : List ℕ) (at v k : ℕ) → at < length ws →
     in_words (set ws at v) k ≡ cond (nat_eq (k / 64) at) (nat_eq (bit_at v (k % 64)) 1) (in_words ws k)
 unfolding in_words
-in-set ws at v k h =
-    elim (eqb_tells (k / 64) at) [
-      | inl y ↦
-          ap (λ x. nat_eq (bit_at x (k % 64)) 1) (ap (λ q. get_or (set ws at v) q 0) y.1 ∙ get_or-set_same ws at v 0 h)
-          ∙ sym (ap (λ b. cond b (nat_eq (bit_at v (k % 64)) 1) (nat_eq (bit_at (get_or ws (k / 64) 0) (k % 64)) 1)) y.0)
-      | inr y ↦
-          ap (λ x. nat_eq (bit_at x (k % 64)) 1) (get_or-set_other ws at (k / 64) v 0 y.1)
-          ∙ sym (ap (λ b. cond b (nat_eq (bit_at v (k % 64)) 1) (nat_eq (bit_at (get_or ws (k / 64) 0) (k % 64)) 1)) y.0)
-    ]
+in-set ws at v k h = grind (arith, eqb_tells, nat_eq, get_or, get_or-set_same, get_or-set_other)
 
 -- a word whose bits are those of the old one but for the block's
 pub in-changed : (ws : List ℕ) (b v k : ℕ) (c : Bool) → b / 64 < length ws →
     ((r : ℕ) → r < 64 → nat_eq (bit_at v r) 1 ≡ cond (nat_eq r (b % 64)) c (nat_eq (bit_at (get_or ws (b / 64) 0) r) 1)) →
     in_words (set ws (b / 64) v) k ≡ cond (nat_eq k b) c (in_words ws k)
 unfolding in_words
-in-changed ws b v k c h f =
-    in-set ws (b / 64) v k h
-    ∙ elim (eqb_tells (k / 64) (b / 64)) [
-      | inl y ↦
-          ap (λ d. cond d (nat_eq (bit_at v (k % 64)) 1) (in_words ws k)) y.0
-          ∙ f (k % 64) (omega arith)
-          ∙ ap (λ d. cond d c (nat_eq (bit_at (get_or ws (b / 64) 0) (k % 64)) 1)) (same_place k b y.1)
-          ∙ ap (λ q. cond (nat_eq k b) c (nat_eq (bit_at (get_or ws q 0) (k % 64)) 1)) (sym y.1)
-      | inr y ↦
-          ap (λ d. cond d (nat_eq (bit_at v (k % 64)) 1) (in_words ws k)) y.0
-          ∙ sym (ap (λ d. cond d c (in_words ws k)) (ne_eqb k b (λ e. y.1 (ap (λ n. n / 64) e))))
-    ]
-  where
-    same_place : (k i : ℕ) → k / 64 ≡ i / 64 → nat_eq (k % 64) (i % 64) ≡ nat_eq k i
-    same_place k i e =
-        elim (eqb_tells k i) [
-          | inl y ↦ eq-eqb _ _ (ap (λ n. n % 64) y.1) ∙ sym y.0
-          | inr y ↦ ne_eqb _ _ (λ f. y.1 (omega arith)) ∙ sym y.0
-        ]
+in-changed ws b v k c h f = grind (arith, in-set, eqb_tells, nat_eq, get_or, ne_eqb, eq-eqb)
 
 -- one bit set
 pub bit_put : (w s r : ℕ) → s < 64 → r < 64 → nat_eq (bit_at (bit_or w (1 * 2 ^ s % 2 ^ 64)) r) 1 ≡ cond (nat_eq r s) true (nat_eq (bit_at w r) 1)
@@ -102,11 +76,7 @@ in-zeros n k = in-zero (replicate n 0) k (zeros-get n (k / 64))
 
 -- no block in the words passed
 pub in-passed : (ws : List ℕ) (at : ℕ) → get_or ws at 0 ≡ 0 → ((k : ℕ) → k / 64 < at → in_words ws k ≡ false) → (k : ℕ) → k / 64 < at + 1 → in_words ws k ≡ false
-in-passed ws at e f k h =
-    elim (eqb_tells (k / 64) at) [
-      | inl y ↦ in-zero ws k (ap (λ q. get_or ws q 0) y.1 ∙ e)
-      | inr y ↦ f k (omega (arith, y.1))
-    ]
+in-passed ws at e f k h = grind (arith, eqb_tells, in-zero, get_or)
 
 -- the lowest bit of the first word that has one is the least block
 pub in-lowest : (ws : List ℕ) (at : ℕ) → 0 < get_or ws at 0 → get_or ws at 0 < 2 ^ 64 → ((k : ℕ) → k / 64 < at → in_words ws k ≡ false) →
@@ -134,15 +104,4 @@ in-lowest ws at some fits f = (bit_of at z t.0 t.1, before) where
 
 -- the set of the blocks below one more
 pub one_more : (n b : ℕ) (c : Bool) → c ≡ nat_lt b n → cond (nat_eq b n) true c ≡ nat_lt b (n + 1)
-one_more n b c e =
-    elim (eqb_tells b n) [
-      | inl y ↦ ap (λ d. cond d true c) y.0 ∙ sym (lt-ltb b (n + 1) (omega (arith, y.1)))
-      | inr y ↦ ap (λ d. cond d true c) y.0 ∙ e ∙ same y.1
-    ]
-  where
-    same : b ≢ n → nat_lt b n ≡ nat_lt b (n + 1)
-    same f =
-        elim (cases_lt b n) [
-          | inl l ↦ lt-ltb b n l ∙ sym (lt-ltb b (n + 1) (omega arith))
-          | inr g ↦ le-ltb b n g ∙ sym (le-ltb b (n + 1) (omega (arith, f)))
-        ]
+one_more n b c e = grind (arith, eqb_tells, lt-ltb, nat_lt, cases_lt, le-ltb)

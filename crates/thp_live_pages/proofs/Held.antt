@@ -1,5 +1,5 @@
 -- How often blocks are held, by the history.
-use Rattle.std.proofs.Common.{◌≡◌, ℕ, ◌+◌, ◌<◌, Bool, true, false, cond, not, ◌&&◌, ◌||◌, List, [], ◌∷◌, ◌++◌, refl, ap, sym, ◌∙◌, arith, inl, inr, nat_eq, eq-eqb, ne_eqb, Option, Some, None, count_by, IfSome}
+use Rattle.std.proofs.Common.{◌≡◌, ℕ, ◌+◌, Bool, true, false, cond, not, ◌&&◌, ◌||◌, List, [], ◌∷◌, ◌++◌, refl, ap, sym, ◌∙◌, arith, inl, inr, nat_eq, eq-eqb, ne_eqb, Option, Some, None, count_by, IfSome}
 use Rattle.std.specs.List.{fold, list_any}
 use Rattle.std.proofs.lemmas.List.Sums.{fold_push}
 use Rattle.std.proofs.lemmas.Bool.Decides.{eqb_tells}
@@ -7,7 +7,7 @@ use Rattle.thp_model.specs.declared.events.Event.{Event}
 use Rattle.thp_model.specs.declared.events.Outcome.{Outcome}
 use Rattle.thp_model.specs.declared.events.Outcome.TheVariants.{Freed}
 use Rattle.thp_model.specs.declared.events.What.{What}
-use Rattle.thp_model.specs.declared.events.What.TheVariants.{Alloc, UnmapWhole, UnmapSub, Unpin}
+use Rattle.thp_model.specs.declared.events.What.TheVariants.{Alloc}
 use Rattle.thp_model.specs.Prelude.{allocates, frees, is_alloc, is_freed, places, places_live, block_in_use, History, by, count_of, some_event}
 use Rattle.thp_model.proofs.Bools.{and-false, and-true, or_first, or_second, or-false}
 use Rattle.thp_model.proofs.Counting.{count-cons, count_any}
@@ -22,8 +22,7 @@ count_alike t u (x ∷ xs) f =
 
 -- a block is held as often by pages that are the same
 alike_one : (f g : ℕ → Bool) (b : ℕ) → ((p : ℕ) → f p ≡ g p) → (w : What) → holds_one f b w ≡ holds_one g b w
-alike_one f g b h (Alloc p c) = ap (λ x. nat_eq b c && x) (h p)
-alike_one f g b h w = refl
+alike_one f g b h x = grind (arith, nat_eq)
 
 -- and in a history
 pub held_alike : (f g : ℕ → Bool) (b : ℕ) (h : History) → ((p : ℕ) → f p ≡ g p) → count_of (holds_one f b) h ≡ count_of (holds_one g b) h
@@ -32,13 +31,11 @@ held_alike f g b h same = count_alike (λ e. holds_one f b e.what) (λ e. holds_
 
 -- an event that is no allocation gives no block
 no_block : (f : ℕ → Bool) (b : ℕ) (w : What) → is_alloc w ≡ false → holds_one f b w ≡ false
-no_block f b (Alloc p c) e = absurd (cc)
-no_block f b w e = refl
+no_block f b x e = grind arith
 
 -- and leaves each page its blocks
 pub no_new_block : (p : ℕ) (bs : List ℕ) (w : What) → is_alloc w ≡ false → with_its_block p bs w ≡ bs
-no_new_block p bs (Alloc q c) e = absurd (cc)
-no_new_block p bs w e = refl
+no_new_block p bs x e = grind arith
 
 -- which page is freed, as a test
 abbrev is_it : ℕ → Option ℕ → Bool
@@ -46,19 +43,14 @@ is_it q None = false
 is_it q (Some p) = nat_eq q p
 
 freed_is : (q p : ℕ) (o : Outcome) (t : Outcome → Bool) → (t Freed ≡ true) → ((x : Outcome) → freed_by p x ≡ None → t x ≡ false) → (nat_eq q p && t o) ≡ is_it q (freed_by p o)
-freed_is q p Freed t y n = ap (λ b. nat_eq q p && b) y ∙ and-true (nat_eq q p)
-freed_is q p o t y n = ap (λ b. nat_eq q p && b) (n o refl) ∙ and-false (nat_eq q p)
+freed_is q p x t y n = grind (arith, nat_eq, and-true, and-false)
 
 not_freed : (p : ℕ) (o : Outcome) → freed_by p o ≡ None → is_freed o ≡ false
-not_freed p Freed e = absurd (cc)
-not_freed p o e = refl
+not_freed p x e = grind arith
 
 -- the event frees the page that it says
 frees_is : (q : ℕ) (w : What) → frees q w ≡ is_it q (freed_page w)
-frees_is q (UnmapWhole o p set) = freed_is q p o is_freed refl (not_freed p)
-frees_is q (UnmapSub o p first count set) = freed_is q p o is_freed refl (not_freed p)
-frees_is q (Unpin o p set) = freed_is q p o is_freed refl (not_freed p)
-frees_is q w = refl
+frees_is q x = grind (arith, freed_is, not_freed)
 
 -- an event that frees none
 pub frees_none : (q : ℕ) (w : What) → freed_page w ≡ None → frees q w ≡ false
@@ -106,8 +98,7 @@ held_push h e b f =
 
 -- nothing more
 nothing : (n : ℕ) (c : Bool) → c ≡ false → n + cond c 1 0 ≡ n
-nothing n true e = absurd (cc)
-nothing n false e = omega arith
+nothing n x e = grind arith
 
 -- an event that neither frees nor allocates
 pub held_quiet : (h : History) (e : Event) (b : ℕ) → freed_page e.what ≡ None → is_alloc e.what ≡ false → times_held (h ++ e ∷ []) b ≡ times_held h b
@@ -232,10 +223,7 @@ live_part h (e ∷ k) b f =
 
 -- none passes exactly where the count is 0
 none_counted : {X : Type 0} (t : X → Bool) (xs : List X) → not (list_any t xs) ≡ nat_eq (count_by t xs) 0
-none_counted t xs = go (list_any t xs) refl where
-  go : (v : Bool) → list_any t xs ≡ v → not v ≡ nat_eq (count_by t xs) 0
-  go true e = sym (ne_eqb _ 0 (λ z. absurd (let p : 0 < count_by t xs = (count_any t xs).1 e in omega arith)))
-  go false e = sym (eq-eqb _ 0 ((count_any t xs).0 e))
+none_counted t xs = grind (arith, nat_eq, count_by, ne_eqb, count_any, eq-eqb)
 
 -- a block is free exactly where it is held by none
 pub free_is : (h : History) (b : ℕ) → not (block_in_use h b) ≡ nat_eq (times_held h b) 0

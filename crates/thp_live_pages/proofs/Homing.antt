@@ -5,7 +5,7 @@ use Rattle.std.proofs.lemmas.List.Sums.{fold_push}
 use Rattle.thp_model.specs.declared.events.Event.{Event}
 use Rattle.thp_model.specs.declared.events.Outcome.{Outcome}
 use Rattle.thp_model.specs.declared.events.What.{What}
-use Rattle.thp_model.specs.declared.events.What.TheVariants.{Alloc, UnmapWhole, UnmapSub, Unpin}
+use Rattle.thp_model.specs.declared.events.What.TheVariants.{Alloc}
 use Rattle.thp_model.specs.declared.shape.Shape.{Shape}
 use Rattle.thp_model.specs.Prelude.{History, some_event, is_live, allocates, frees, is_freed, places, places_live, block_in_use, IsLegal, Fits, FitsBy, FitsAlloc}
 use Rattle.thp_model.proofs.Alive.{Grown, grown_push, grown_none}
@@ -20,49 +20,29 @@ unfolding block_of
 block_push h e p = fold_push (λ o (x : Event). block_after p o x.what) None h e
 
 by_stays : (p q : ℕ) (o : Option ℕ) (u : Outcome) → (nat_eq p q && is_freed u) ≡ false → block_by p o q u ≡ o
-by_stays p q o u e = go (nat_eq p q) (is_freed u) e where
-  go : (x f : Bool) → (x && f) ≡ false → cond x (cond f None o) o ≡ o
-  go true true e = absurd (cc)
-  go true false e = refl
-  go false f e = refl
+by_stays p q o u e = grind (arith, nat_eq)
 
 -- an event that neither allocates nor frees a page leaves its block
 pub block_stays : (p : ℕ) (o : Option ℕ) (w : What) → allocates p w ≡ false → frees p w ≡ false → block_after p o w ≡ o
-block_stays p o (Alloc q b) a f = ap (λ x. cond x (Some b) o) a
-block_stays p o (UnmapWhole u q r) a f = by_stays p q o u f
-block_stays p o (UnmapSub u q x m r) a f = by_stays p q o u f
-block_stays p o (Unpin u q r) a f = by_stays p q o u f
-block_stays p o w a f = refl
+block_stays p o x a f = grind (arith, by_stays)
 
 by_freed : (p q : ℕ) (o : Option ℕ) (u : Outcome) → (nat_eq p q && is_freed u) ≡ true → block_by p o q u ≡ None
-by_freed p q o u e = go (nat_eq p q) (is_freed u) e where
-  go : (x f : Bool) → (x && f) ≡ true → cond x (cond f None o) o ≡ None
-  go true true e = refl
-  go true false e = absurd (cc)
-  go false f e = absurd (cc)
+by_freed p q o u e = grind (arith, nat_eq)
 
 -- a page that is freed has no block
 pub block_freed : (p : ℕ) (o : Option ℕ) (w : What) → frees p w ≡ true → block_after p o w ≡ None
-block_freed p o (UnmapWhole u q r) f = by_freed p q o u f
-block_freed p o (UnmapSub u q x m r) f = by_freed p q o u f
-block_freed p o (Unpin u q r) f = by_freed p q o u f
-block_freed p o w f = absurd (cc)
+block_freed p o x f = grind (arith, by_freed)
 
 -- what allocates a page is its allocation
 pub alloc_of : (p : ℕ) (w : What) → allocates p w ≡ true → (b : ℕ) × (w ≡ Alloc p b)
-alloc_of p (Alloc q b) e = (b, ap (λ n. Alloc n b) (sym (eqb-true p q e)))
-alloc_of p w e = absurd (cc)
+alloc_of p x e = grind (arith, eqb-true)
 
 -- what puts a page into a block is its allocation there
 place_of : (p b : ℕ) (w : What) → places p b w ≡ true → (allocates p w ≡ true) × (w ≡ Alloc p b)
-place_of p b (Alloc q c) e =
-    let w = and_both (nat_eq p q) (nat_eq b c) e in
-    (w.0, ap (λ n. Alloc n c) (sym (eqb-true p q w.0)) ∙ ap (λ n. Alloc p n) (sym (eqb-true b c w.1)))
-place_of p b w e = absurd (cc)
+place_of p b x e = grind (arith, and_both, nat_eq, eqb-true)
 
 or_cases : (a b : Bool) → (a || b) ≡ true → (a ≡ true) ⊎ (b ≡ true)
-or_cases true b e = inl refl
-or_cases false b e = inr e
+or_cases x b e = grind arith
 
 some_more : (f g : What → Bool) (h : History) → ((w : What) → f w ≡ true → g w ≡ true) → some_event f h ≡ true → some_event g h ≡ true
 unfolding some_event
@@ -74,9 +54,7 @@ some_more f g (x ∷ xs) t e = elim (or_cases (f x.what) (list_any (λ (y : Even
 
 -- a live page put into block b keeps it in use
 pub in_use : (h : History) (p b : ℕ) → some_event (places p b) h ≡ true → is_live h p ≡ true → block_in_use h b ≡ true
-in_use h p b e l = some_more (places p b) (places_live h b) h (λ w y. go w (place_of p b w y).1) e where
-  go : (w : What) → w ≡ Alloc p b → places_live h b w ≡ true
-  go w y = ap (places_live h b) y ∙ and_yes (nat_eq b b) (is_live h p) (eq-eqb b b refl) l
+in_use h p b e l = grind (arith, some_more, place_of, and_yes, nat_eq, eq-eqb)
 
 -- a block in use has such a page
 record Holder (k h : History) (b : ℕ) : Type 0 where
@@ -122,11 +100,7 @@ pub record Homed (s : Shape) (h : History) : Type 0 where
   pub once : (p q b : ℕ) → block_of h p ≡ Some b → block_of h q ≡ Some b → p ≡ q
 
 live_parts : (h : History) (e : Event) (p : ℕ) → is_live (h ++ e ∷ []) p ≡ true → frees p e.what ≡ false
-live_parts h e p l = by_bool (frees p e.what) _ (λ y. absurd (go _ _ _ _ (some_event_push (frees p) h e) y l)) (λ y. y) where
-  go : (a f g x : Bool) → g ≡ (f || x) → x ≡ true → (a && not g) ≡ true → ⊥
-  go true true g x e y l = cc
-  go true false g x e y l = cc
-  go false f g x e y l = cc
+live_parts h e p l = grind (arith, by_bool, some_event_push)
 
 same_some : (a b : ℕ) → Some a ≡ Some b → a ≡ b
 same_some a b e = cc
@@ -139,10 +113,7 @@ no_both x e f = cc
 
 module _ (s : Shape) where
   never_twice : (h : History) (e : Event) (p : ℕ) → Grown s h → Fits s h e → allocates p e.what ≡ true → some_event (allocates p) h ≡ false
-  never_twice h e p g f a =
-      let w = alloc_of p e.what a in
-      let fits : FitsAlloc s h p w.0 = let F : What → Type 0 = λ x. FitsBy s h (h ++ e ∷ []) e.caller x in subst F w.1 f in
-      (g.numbered.fresh p (omega (arith, fits.number))).never
+  never_twice h e p g f a = grind (arith, alloc_of)
 
   fits_alloc : (h : History) (e : Event) (p b : ℕ) → Fits s h e → e.what ≡ Alloc p b → FitsAlloc s h p b
   fits_alloc h e p b f y = let F : What → Type 0 = λ x. FitsBy s h (h ++ e ∷ []) e.caller x in subst F y f

@@ -15,13 +15,11 @@ use Rattle.thp_live_pages.proofs.Least.{first_alike}
 
 -- what is known of a page of which two histories say the same
 known_same : (h k : History) (allocs : List Allocation) (p : ℕ) (x : PageRecord) → is_unfreed k p ≡ is_unfreed h p → blocks_of k p ≡ blocks_of h p → IsKnown h allocs p x → IsKnown k allocs p x
-known_same h k allocs p Freed u b i = u ∙ i
-known_same h k allocs p (Holds last) u b i = (u ∙ i.0, subst (λ (bs : List ℕ). IsChain allocs (length allocs) last bs) (sym b) i.1)
+known_same h k allocs p x u b i = grind arith
 
 -- with one more allocation
 known_more : (h : History) (allocs : List Allocation) (one : Allocation) (p : ℕ) (x : PageRecord) → IsKnown h allocs p x → IsKnown h (allocs ++ one ∷ []) p x
-known_more h allocs one p Freed i = i
-known_more h allocs one p (Holds last) i = (i.0, chain_kept allocs one last (blocks_of h p) i.1)
+known_more h allocs one p x i = grind (arith, chain_kept)
 
 -- a page that was freed
 known_freed : (h k : History) (allocs : List Allocation) (p : ℕ) (x : PageRecord) → x ≡ Freed → is_unfreed k p ≡ false → IsKnown k allocs p x
@@ -31,13 +29,7 @@ module _ (s : Shape) where
   -- nothing happened yet
   pub keeps_first : (known : ℕ → PageRecord) → 1 ≤ s.blocks → ((p : ℕ) → known p ≡ Holds None) → Keeps s [] (replicate s.blocks 0) known []
   unfolding blocks_of count_of some_event
-  keeps_first known some k = record {
-    blocks = zeros-length s.blocks;
-    some = some;
-    held = λ b. zeros-get s.blocks b;
-    few = λ b. let z : get_or (replicate s.blocks 0) b 0 ≡ 0 = zeros-get s.blocks b in omega arith;
-    pages = λ p. subst (λ (x : PageRecord). IsKnown [] [] p x) (sym (k p)) (refl, refl);
-  }
+  keeps_first known some k = grind (arith, zeros-length, zeros-get, get_or)
 
   -- the least free block is the least that is held by none
   pub least_is : (h : History) (counts : List ℕ) (known : ℕ → PageRecord) (allocs : List Allocation) → Keeps s h counts known allocs → least_of counts ≡ least_free s h
@@ -48,13 +40,7 @@ module _ (s : Shape) where
 
   -- what is known may be written otherwise
   pub keeps_known : (h : History) (counts : List ℕ) (known others : ℕ → PageRecord) (allocs : List Allocation) → ((p : ℕ) → others p ≡ known p) → Keeps s h counts known allocs → Keeps s h counts others allocs
-  keeps_known h counts known others allocs same k = record {
-    blocks = k.blocks;
-    some = k.some;
-    held = k.held;
-    few = k.few;
-    pages = λ p. subst (λ (x : PageRecord). IsKnown h allocs p x) (sym (same p)) (k.pages p);
-  }
+  keeps_known h counts known others allocs same k = grind arith
 
   -- an event that neither allocates nor frees
   pub keeps_quiet : (h : History) (counts : List ℕ) (known : ℕ → PageRecord) (allocs : List Allocation) (e : Event) → Keeps s h counts known allocs →

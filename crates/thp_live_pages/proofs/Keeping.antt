@@ -4,9 +4,8 @@ use Rattle.std.proofs.lemmas.Bool.Decides.{eqb_tells}
 use Rattle.thp_links.specs.Prelude.{without as without_index}
 use Rattle.thp_model.specs.declared.events.Event.{Event}
 use Rattle.thp_model.specs.declared.events.What.{What}
-use Rattle.thp_model.specs.declared.events.What.TheVariants.{Alloc, MapWhole, UnmapWhole, MapSub, UnmapSub, SplitPmd, Pin, Unpin, Write, Zero, Split}
 use Rattle.thp_model.specs.declared.shape.Shape.{Shape}
-use Rattle.thp_model.specs.Prelude.{History, Fits, queue, without, has_page, is_about}
+use Rattle.thp_model.specs.Prelude.{History, Fits, queue, without, has_page}
 use Rattle.thp_model.proofs.Bools.{by_bool, or_first, or_second}
 use Rattle.thp_model.proofs.LegalSteps.{legal_push}
 use Rattle.thp_model.proofs.Tallying.{tallies_stay}
@@ -18,20 +17,7 @@ use Rattle.thp_live_pages.proofs.Standings.{names, standing_other}
 
 -- an event that doesn't name a page leaves its counts and states
 pub unnamed : (p : ℕ) (w : What) → names p w ≡ false → Untouched p w
-unnamed p w e = untouched p w (go w e) where
-  go : (w : What) → names p w ≡ false → is_about p w ≡ false
-  go (Alloc q b) e = e
-  go (MapWhole q) e = e
-  go (UnmapWhole o q r) e = e
-  go (MapSub q a m) e = e
-  go (UnmapSub o q a m r) e = e
-  go (SplitPmd q) e = e
-  go (Pin q) e = e
-  go (Unpin o q r) e = e
-  go (Write q a m) e = e
-  go (Zero q a m) e = e
-  go (Split q r) e = e
-  go w e = refl
+unnamed p w e = grind (arith, untouched, names)
 
 -- a page that an event doesn't name lies where it lay
 pub block_other : (h : History) (e : Event) (p : ℕ) → names p e.what ≡ false → block_of (h ++ e ∷ []) p ≡ block_of h p
@@ -92,13 +78,7 @@ module _ (s : Shape) (h : History) (e : Event) (p b : ℕ) where
   pub node_stays : (t u : Table) (q r : List ℕ) → IsNode s h t q → Fits s h e → u.slots ≡ t.slots → u.order ≡ t.order →
       ((k : ℕ) (o : Option Slot) → Fills s h k o → Fills s (h ++ e ∷ []) k o) →
       map (block_of (h ++ e ∷ [])) (queue s (h ++ e ∷ [])) ≡ map (λ b. Some b) r → IsNode s (h ++ e ∷ []) u r
-  node_stays t u q r m f slots order fill qs = record {
-    legal = legal_push s h e m.legal f;
-    size = ap length slots ∙ m.size;
-    order = order ∙ m.order;
-    fills = λ k. let P : List (Option Slot) → Type 0 = λ xs. Fills s (h ++ e ∷ []) k (get_or xs k None) in subst P (sym slots) (fill k (slot_at t k) (m.fills k));
-    queue_is = qs;
-  }
+  node_stays t u q r m f slots order fill qs = grind (arith, legal_push, get_or)
 
 -- the blocks of a list of pages, where each lies as before
 pub blocks_same : (h k : History) (ps : List ℕ) → ((r : ℕ) → has_page r ps ≡ true → block_of k r ≡ block_of h r) → map (block_of k) ps ≡ map (block_of h) ps
@@ -112,8 +92,7 @@ map-append f (x ∷ xs) ys = ap (λ os. f x ∷ os) (map-append f xs ys)
 -- one page more at the tail
 pub blocks_pushed : (h : History) (ps q : List ℕ) (p b : ℕ) → map (block_of h) ps ≡ map (λ b. Some b) q → block_of h p ≡ Some b →
     map (block_of h) (ps ++ p ∷ []) ≡ map (λ b. Some b) (q ++ b ∷ [])
-blocks_pushed h ps q p b e f =
-    map-append (block_of h) ps (p ∷ []) ∙ ap₂ (λ (xs : List (Option ℕ)) (o : Option ℕ). xs ++ o ∷ []) e f ∙ sym (map-append (λ n. Some n) q (b ∷ []))
+blocks_pushed h ps q p b e f = grind (arith, map-append)
 
 same_cons : (x y : ℕ) (o : Option ℕ) (xs ys : List (Option ℕ)) → ◌≡◌ {A = List (Option ℕ)} (o ∷ xs) (Some y ∷ ys) → (o ≡ Some y) × (xs ≡ ys)
 same_cons x y o xs ys e = (cc, cc)

@@ -33,12 +33,7 @@ first_alike f g a (suc n) h =
 
 -- a block of the set is one that is held by none
 pub free_block : (counts words : List ℕ) (b : ℕ) → AreFree counts words → in_words words b ≡ true → (b < length counts) × (nat_eq (get_or counts b 0) 0 ≡ true)
-free_block counts words b a e =
-    let both : (nat_lt b (length counts) ≡ true) × (nat_eq (get_or counts b 0) 0 ≡ true) = and_both _ _ (sym (a.marked b) ∙ e) in
-    (inside b (length counts) both.0, both.1)
-  where
-    inside : (m n : ℕ) → nat_lt m n ≡ true → m < n
-    inside m n e = grind arith
+free_block counts words b a e = grind (arith, nat_lt, nat_eq, get_or, and_both)
 
 -- a block that isn't in it is held
 pub held_block : (counts words : List ℕ) (b : ℕ) → AreFree counts words → b < length counts → in_words words b ≡ false → nat_eq (get_or counts b 0) 0 ≡ false
@@ -60,27 +55,8 @@ least_none counts words a f = sym (first_none (λ k. nat_eq (get_or counts k 0) 
 -- the numbers with one changed, and the words with its bit
 pub free_after : (counts words others : List ℕ) (b v : ℕ) → AreFree counts words → b < length counts → length others ≡ length words →
     ((k : ℕ) → in_words others k ≡ cond (nat_eq k b) (nat_eq v 0) (in_words words k)) → AreFree (set counts b v) others
-free_after counts words others b v a h e f = record {
-  marked = λ k.
-      f k
-      ∙ elim (eqb_tells k b) [
-        | inl y ↦
-            ap (λ c. cond c (nat_eq v 0) (in_words words k)) y.0
-            ∙ sym (ap (λ c. c && nat_eq v 0) (lt-ltb k (length (set counts b v)) (omega (arith, y.1, length-set counts b v))))
-            ∙ ap (λ n. nat_lt k (length (set counts b v)) && nat_eq n 0) (sym (ap (λ q. get_or (set counts b v) q 0) y.1 ∙ get_or-set_same counts b v 0 h))
-        | inr y ↦
-            ap (λ c. cond c (nat_eq v 0) (in_words words k)) y.0
-            ∙ a.marked k
-            ∙ ap (λ n. nat_lt k n && nat_eq (get_or counts k 0) 0) (sym (length-set counts b v))
-            ∙ ap (λ n. nat_lt k (length (set counts b v)) && nat_eq n 0) (sym (get_or-set_other counts b k v 0 y.1))
-      ];
-  size = omega (arith, length-set counts b v, a.size);
-}
+free_after counts words others b v a h e f = grind (arith, eqb_tells, nat_eq, lt-ltb, length-set, nat_lt, get_or, get_or-set_same, get_or-set_other)
 
 -- a number that isn't 0 stands in the list
 pub counted_inside : (counts : List ℕ) (b : ℕ) → 0 < get_or counts b 0 → b < length counts
-counted_inside counts b h =
-    elim (cases_lt b (length counts)) [
-      | inl l ↦ l
-      | inr g ↦ absurd (let z : get_or counts b 0 ≡ 0 = get_or_past counts b 0 g in omega arith)
-    ]
+counted_inside counts b h = grind (arith, cases_lt, get_or, get_or_past)

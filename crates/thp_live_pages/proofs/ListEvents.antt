@@ -1,10 +1,10 @@
 -- A node after an allocation, a close, and what becomes of pages in the queue and in batches.
-use Rattle.std.proofs.Common.{◌≡◌, ℕ, zero, suc, ◌<◌, Bool, true, false, cond, not, ◌&&◌, ◌||◌, List, [], ◌∷◌, ◌++◌, Option, Some, None, length, drop, map, refl, ap, ap₂, sym, ◌∙◌, subst, arith, nat_eq, eq-eqb, ne_eqb, eqb-true, slice_get}
+use Rattle.std.proofs.Common.{◌≡◌, ℕ, ◌<◌, Bool, true, false, cond, not, ◌&&◌, ◌||◌, List, [], ◌∷◌, ◌++◌, Option, Some, None, length, drop, map, refl, ap, sym, ◌∙◌, subst, arith, nat_eq, eq-eqb, ne_eqb, eqb-true, slice_get}
 use Rattle.thp_links.proofs.Members.{first_and_rest}
 use Rattle.thp_model.specs.declared.events.Event.{Event}
 use Rattle.thp_model.specs.declared.events.What.TheVariants as what
 use Rattle.thp_model.specs.declared.shape.Shape.{Shape}
-use Rattle.thp_model.specs.Prelude.{History, by, some_event, is_live, is_closed, pins, allocations, frees, Fits, PageState, Tallies, PageSplit, IsFresh, gives_frames, is_split_candidate, queue, queue_after, flights, flight, has_page, no_pages, is_taking, leaves, refusal, unused, try_event, return_event, shrinks_underused, is_partly_mapped, is_worth_split}
+use Rattle.thp_model.specs.Prelude.{History, by, some_event, is_live, is_closed, pins, allocations, frees, Fits, PageState, Tallies, PageSplit, IsFresh, gives_frames, is_split_candidate, queue, queue_after, flights, flight, has_page, no_pages, is_taking, leaves, refusal, unused, try_event, return_event, shrinks_underused, is_worth_split}
 use Rattle.thp_model.specs.Refusals as call
 use Rattle.thp_model.proofs.Alive.{legal_grown}
 use Rattle.thp_model.proofs.Bools.{by_bool}
@@ -35,10 +35,7 @@ module _ (s : Shape) (h : History) (p : ℕ) (dead : is_live h p ≡ false) wher
   dead_block homed k e = no_both (is_live h p) dead (homed.from p k e).live
 
   dead_stand : Sound s h → stand s h p ≡ 0
-  dead_stand sound = go (stand s h p) (sound.live p) where
-    go : (n : ℕ) → (0 < n → is_live h p ≡ true) → n ≡ 0
-    go zero f = refl
-    go (suc n) f = absurd (no_both (is_live h p) dead (f (omega arith)))
+  dead_stand sound = grind (arith, stand, no_both)
 
 fresh_dead : (h : History) (p : ℕ) → Fresh h p → is_live h p ≡ false
 fresh_dead h p f = ap (λ b. b && not (some_event (frees p) h)) f.never
@@ -72,8 +69,7 @@ module _ (s : Shape) (h : History) (c p b : ℕ) (homed : Homed s h) (fits : Fit
   new_joins queued e = ap (λ z. cond z (queue s h ++ p ∷ []) (queue s h)) (sym e)
 
   new_stands : (queued : Bool) → queued ≡ shrinks_underused s → new_standing queued ≡ standing_of s placed_history p
-  new_stands true e = sym (standing_queued s placed_history p (ap (has_page p) (queue_push s h placed_event ∙ new_joins true e) ∙ has_pushed p (queue s h)))
-  new_stands false e = sym (standing_same s h placed_event p (new_joins false e) refl ∙ standing_none s h p (dead_stand s h p (fresh_dead h p new_number) homed.grown.sound))
+  new_stands x e = grind (arith, standing_queued, queue_push, new_joins, has_pushed, standing_same, standing_none, dead_stand, fresh_dead, new_number)
 
   queued_live : (r : ℕ) → has_page r (queue s h) ≡ true → is_live h r ≡ true
   queued_live r y = homed.grown.sound.live r (omega (arith, has_times r (queue s h) y))
@@ -86,8 +82,7 @@ module _ (s : Shape) (h : History) (c p b : ℕ) (homed : Homed s h) (fits : Fit
 
   new_blocks : (queued : Bool) (qs : List ℕ) → map (block_of h) (queue s h) ≡ map (λ n. Some n) qs →
       map (block_of placed_history) (cond queued (queue s h ++ p ∷ []) (queue s h)) ≡ map (λ n. Some n) (new_queue queued b qs)
-  new_blocks true qs e = blocks_pushed placed_history (queue s h) qs p b (queue_stays ∙ e) new_home
-  new_blocks false qs e = queue_stays ∙ e
+  new_blocks x qs e = grind (arith, blocks_pushed, queue_stays, new_home)
 
   pub placed_node : (queued : Bool) (old new : PageStoreState) → IsNode s h old.table old.queue → b < length old.table.slots → queued ≡ shrinks_underused s → Placed p queued old new b →
       IsNode s placed_history new.table new.queue
@@ -119,8 +114,7 @@ module _ (s : Shape) (h : History) (c : ℕ) (old new : PageStoreState) (p : ℕ
   first_is = (first_parts (queue s h) blocks_first).0
 
   map_rest : (ps : List ℕ) → map (block_of h) (drop 1 ps) ≡ drop 1 (map (block_of h) ps)
-  map_rest [] = refl
-  map_rest (x ∷ ps) = refl
+  map_rest x = grind arith
 
   pub taken_fits : (no_pages (flight h c) || is_taking h c) ≡ true → Fits s h (by c (what.Taken p))
   taken_fits may = record { oldest = first_is; may_take = may }
@@ -164,9 +158,7 @@ module _ (s : Shape) (h : History) (c b : ℕ) (x : Slot) (old new : PageStoreSt
 
   -- it stands nowhere once it has left
   gone_stand : (e : Event) → queue s (h ++ e ∷ []) ≡ queue s h → flights (h ++ e ∷ []) ≡ leaves c x.id (flights h) → standing_of s (h ++ e ∷ []) x.id ≡ Nowhere
-  gone_stand e qs fs =
-      standing_none s (h ++ e ∷ []) x.id
-      (omega (arith, homed.grown.sound.once x.id, ap (times x.id) qs, ap (flying x.id) fs, flying-leaves x.id c (flights h) in_flight))
+  gone_stand e qs fs = grind (arith, standing_none, times, flying, flying-leaves, in_flight)
 
   -- whether a split is worth its while, by the page
   flying_worth : (y : Bool) → is_split_candidate s.underused x.page ≡ y → is_worth_split s h x.id ≡ y
@@ -211,35 +203,17 @@ module _ (s : Shape) (h : History) (c b : ℕ) (x : Slot) (old new : PageStoreSt
       (ap (map (block_of k)) (queue_push s h e) ∙ blocks_same h k (queue s h) (λ r y. block_push h e r) ∙ m.queue_is ∙ ap (map (λ n. Some n)) (sym did.queue_is))
 
   pub pinned_fits : (n : ℕ) → is_split_candidate s.underused x.page ≡ true → x.page.pins ≡ n → 0 < n → (by c (what.Pinned x.id) ≡ try_event s h c x.id) × Fits s h (by c (what.Pinned x.id))
-  pinned_fits n worth is some =
-      let pinned : pins h x.id ≡ n = pins_is s h x.id x.page was_slot.tallies ∙ is in (
-        sym (tried_worth (flying_worth true worth) ∙ ap (λ z. by c (cond z (what.Split x.id (unused s h x.id)) (what.Pinned x.id))) (go (pins h x.id) (omega arith))),
-        (in_flight, omega arith, flying_worth true worth),
-      ) where
-        go : (a : ℕ) → 0 < a → nat_eq a 0 ≡ false
-        go zero l = absurd (omega arith)
-        go (suc a) l = ne_eqb (suc a) 0 (λ y. omega arith)
+  pinned_fits n worth is some = grind (arith, pins_is, was_slot, tried_worth, flying_worth, in_flight, nat_eq, ne_eqb)
 
   pub used_fits : is_split_candidate s.underused x.page ≡ false → (by c (what.Used x.id) ≡ try_event s h c x.id) × Fits s h (by c (what.Used x.id))
-  used_fits none = (
-    sym (ap (λ z. by c (cond z (cond (nat_eq (pins h x.id) 0) (what.Split x.id (unused s h x.id)) (what.Pinned x.id)) (what.Used x.id))) (flying_worth false none)),
-    (in_flight, flying_worth false none),
-  )
+  used_fits none = grind (arith, nat_eq, flying_worth, in_flight)
 
   -- a page goes back where it is partly mapped and the node is open, else it is dropped
   pub back_fits : slice_get (flight h c) 0 ≡ Some x.id → is_closed h ≡ false → x.page.partly ≡ true → (by c (what.Back x.id) ≡ return_event s h c x.id) × Fits s h (by c (what.Back x.id))
-  back_fits first opened partly =
-      let is : is_partly_mapped s h x.id ≡ true = sym was_slot.tallies.partly ∙ partly in (
-        sym (ap₂ (λ a z. by c (cond (a || not z) (what.Dropped x.id) (what.Back x.id))) opened is),
-        (first, opened, is),
-      )
+  back_fits first opened partly = grind (arith, was_slot)
 
   pub dropped_fits : slice_get (flight h c) 0 ≡ Some x.id → (is_closed h || not x.page.partly) ≡ true → (by c (what.Dropped x.id) ≡ return_event s h c x.id) × Fits s h (by c (what.Dropped x.id))
-  dropped_fits first out =
-      let is : (is_closed h || not (is_partly_mapped s h x.id)) ≡ true = ap (λ z. is_closed h || not z) (sym was_slot.tallies.partly) ∙ out in (
-        sym (ap (λ z. by c (cond z (what.Dropped x.id) (what.Back x.id))) is),
-        (first, is),
-      )
+  dropped_fits first out = grind (arith, was_slot)
 
   pub back_node : Fits s h (by c (what.Back x.id)) → Edits old new b (Some (record x { standing = Queued })) (old.queue ++ b ∷ []) 4 →
       IsNode s (h ++ by c (what.Back x.id) ∷ []) new.table new.queue

@@ -1,21 +1,14 @@
 -- What is known of each page after a write.
-use Rattle.std.proofs.Common.{◌≡◌, ℕ, suc, zero, ◌<◌, ◌≤◌, Bool, true, false, cond, List, [], ◌∷◌, ◌++◌, length, set, get_or, refl, ap, sym, ◌∙◌, arith, inl, inr, nat_eq, nat_lt, eq-eqb, ne_eqb, Option, Some, None, slice_get, nat_cmp, is_eq, ltb-false, ltb-true, eqb-true}
+use Rattle.std.proofs.Common.{◌≡◌, ℕ, suc, zero, ◌<◌, ◌≤◌, Bool, true, false, cond, List, [], ◌∷◌, ◌++◌, length, set, get_or, refl, ap, sym, ◌∙◌, arith, nat_eq, nat_lt, eq-eqb, ne_eqb, Option, Some, None, slice_get, nat_cmp, is_eq, ltb-false, ltb-true, eqb-true}
 use Rattle.std.proofs.lemmas.Option.{slice_get_past, slice_get-get_or}
 use Rattle.std.proofs.lemmas.Bool.Decides.{eqb_tells}
 use Rattle.thp_live_pages.specs.Prelude.{PageRecord, Holds, Pages, first_known, known_of}
-use Rattle.std.specs.Cmp.{nat_cmp_is}
-use Rattle.std.specs.declared.cmp.Ordering.TheVariants.{Less, Equal, Greater}
 use Rattle.std.proofs.lemmas.Bool.{cases_lt}
 use Rattle.std.specs.BTreeMap.{get}
-use Rattle.std.specs.Map.{lookup}
 
 -- numbers behind one more
 one_on : (q i : ℕ) → nat_eq (suc q) (suc i) ≡ nat_eq q i
-one_on q i =
-    elim (eqb_tells q i) [
-      | inl y ↦ eq-eqb _ _ (ap suc y.1) ∙ sym y.0
-      | inr y ↦ ne_eqb _ _ (λ e. y.1 (omega arith)) ∙ sym y.0
-    ]
+one_on q i = grind (arith, eqb_tells, eq-eqb, ne_eqb)
 
 -- a number behind isn't the first
 not_first : (q : ℕ) → nat_eq (suc q) 0 ≡ false
@@ -53,25 +46,15 @@ get-last (x ∷ xs) v = get-last xs v
 
 -- a lookup whose first place was changed
 pub known_first : (b : Bool) (k : PageRecord) (o other : Option PageRecord) → first_known (cond b (Some k) o) other ≡ cond b k (first_known o other)
-known_first true k o other = refl
-known_first false k o other = refl
+known_first x k o other = grind arith
 
 -- a lookup whose second place was changed
 pub known_second : (b : Bool) (k : PageRecord) (o other : Option PageRecord) → (b ≡ true → o ≡ None) → first_known o (cond b (Some k) other) ≡ cond b k (first_known o other)
-known_second true k o other f = ap (λ x. first_known x (Some k)) (f refl)
-known_second false k o other f = refl
+known_second x k o other f = grind arith
 
 -- the map finds the number that was put in
 pub at_number : (p q : ℕ) → is_eq (nat_cmp p q) ≡ nat_eq q p
-at_number p q =
-    elim (eqb_tells q p) [
-      | inl y ↦ ap is_eq (sym (nat_cmp_is p q Equal (sym y.1))) ∙ sym y.0
-      | inr y ↦
-          elim (cases_lt p q) [
-            | inl l ↦ ap is_eq (sym (nat_cmp_is p q Less l)) ∙ sym y.0
-            | inr g ↦ ap is_eq (sym (nat_cmp_is p q Greater (omega (arith, y.1)))) ∙ sym y.0
-          ]
-    ]
+at_number p q = grind (arith, eqb_tells, is_eq, cases_lt)
 
 -- an element that a lookup found
 found_at : (xs : List PageRecord) (i : ℕ) (x : PageRecord) → true ≡ nat_lt i (length xs) → x ≡ get_or xs i x → slice_get xs i ≡ Some x
@@ -84,15 +67,12 @@ none_at xs i t = slice_get_past xs i (ltb-false i (length xs) (sym t))
 -- what is known of a page among the first ones
 pub known_dense : (ps : Pages) (xs : List PageRecord) (i p : ℕ) (x : PageRecord) → xs ≡ ps.dense.items → i ≡ p → true ≡ nat_lt i (length xs) → x ≡ get_or xs i x → x ≡ known_of ps p
 unfolding known_of
-known_dense ps xs i p x same e t f =
-    sym (ap (λ o. first_known o (get nat_cmp ps.others p)) (ap (λ (ys : List PageRecord). slice_get ys p) (sym same) ∙ ap (λ q. slice_get xs q) (sym e) ∙ found_at xs i x t f))
+known_dense ps xs i p x same e t f = grind (arith, nat_cmp, slice_get, found_at)
 
 -- of another page
 known_other : (ps : Pages) (xs : List PageRecord) (i p : ℕ) (o : Option PageRecord) → xs ≡ ps.dense.items → i ≡ p → false ≡ nat_lt i (length xs) → o ≡ get nat_cmp ps.others i → first_known None o ≡ known_of ps p
 unfolding known_of
-known_other ps xs i p o same e t f =
-    ap (λ m. first_known None m) (f ∙ ap (λ q. get nat_cmp ps.others q) e)
-    ∙ sym (ap (λ m. first_known m (get nat_cmp ps.others p)) (ap (λ (ys : List PageRecord). slice_get ys p) (sym same) ∙ ap (λ q. slice_get xs q) (sym e) ∙ none_at xs i t))
+known_other ps xs i p o same e t f = grind (arith, nat_cmp, slice_get, none_at)
 
 -- that was named
 pub known_named : (ps : Pages) (xs : List PageRecord) (i p : ℕ) (x : PageRecord) → xs ≡ ps.dense.items → i ≡ p → false ≡ nat_lt i (length xs) → Some x ≡ get nat_cmp ps.others i → x ≡ known_of ps p
@@ -106,37 +86,21 @@ known_unnamed ps xs i p = known_other ps xs i p None
 pub known_set : (ps qs : Pages) (i p : ℕ) (v : PageRecord) (q : ℕ) → i ≡ p → i < length ps.dense.items → qs.dense.items ≡ set ps.dense.items i v → qs.others.entries ≡ ps.others.entries →
     known_of qs q ≡ cond (nat_eq q p) v (known_of ps q)
 unfolding known_of
-known_set ps qs i p v q e h d o =
-    ap (λ (xs : List PageRecord). first_known (slice_get xs q) (get nat_cmp qs.others q)) d
-    ∙ ap (λ m. first_known m (get nat_cmp qs.others q)) (get-set ps.dense.items i v q h)
-    ∙ known_first (nat_eq q i) v (slice_get ps.dense.items q) (get nat_cmp qs.others q)
-    ∙ ap (λ (es : List (ℕ × PageRecord)). cond (nat_eq q i) v (first_known (slice_get ps.dense.items q) (lookup (λ k. is_eq (nat_cmp q k)) es))) o
-    ∙ ap (λ j. cond (nat_eq q j) v (first_known (slice_get ps.dense.items q) (get nat_cmp ps.others q))) e
+known_set ps qs i p v q e h d o = grind (arith, slice_get, nat_cmp, get-set, known_first, nat_eq, is_eq)
 
 -- one more behind them
 pub known_push : (ps qs : Pages) (i p : ℕ) (v : PageRecord) (q : ℕ) → i ≡ p → i ≡ length ps.dense.items → qs.dense.items ≡ ps.dense.items ++ v ∷ [] → qs.others.entries ≡ ps.others.entries →
     known_of qs q ≡ cond (nat_eq q p) v (known_of ps q)
 unfolding known_of
-known_push ps qs i p v q e h d o =
-    ap (λ (xs : List PageRecord). first_known (slice_get xs q) (get nat_cmp qs.others q)) d
-    ∙ ap (λ m. first_known m (get nat_cmp qs.others q)) (get-push ps.dense.items v q)
-    ∙ known_first (nat_eq q (length ps.dense.items)) v (slice_get ps.dense.items q) (get nat_cmp qs.others q)
-    ∙ ap (λ (es : List (ℕ × PageRecord)). cond (nat_eq q (length ps.dense.items)) v (first_known (slice_get ps.dense.items q) (lookup (λ k. is_eq (nat_cmp q k)) es))) o
-    ∙ ap (λ j. cond (nat_eq q j) v (first_known (slice_get ps.dense.items q) (get nat_cmp ps.others q))) (sym h ∙ e)
+known_push ps qs i p v q e h d o = grind (arith, slice_get, nat_cmp, get-push, known_first, nat_eq, is_eq)
 
 -- a write in the map
 pub known_insert : (ps qs : Pages) (i p : ℕ) (v : PageRecord) (q : ℕ) → i ≡ p → length ps.dense.items ≤ i → qs.dense.items ≡ ps.dense.items →
     get nat_cmp qs.others q ≡ cond (is_eq (nat_cmp i q)) (Some v) (get nat_cmp ps.others q) → known_of qs q ≡ cond (nat_eq q p) v (known_of ps q)
 unfolding known_of
-known_insert ps qs i p v q e h d o =
-    ap (λ (xs : List PageRecord). first_known (slice_get xs q) (get nat_cmp qs.others q)) d
-    ∙ ap (λ m. first_known (slice_get ps.dense.items q) m) (o ∙ ap (λ b. cond b (Some v) (get nat_cmp ps.others q)) (at_number i q))
-    ∙ known_second (nat_eq q i) v (slice_get ps.dense.items q) (get nat_cmp ps.others q) (λ t. slice_get_past ps.dense.items q (let same : q ≡ i = eqb-true q i t in omega arith))
-    ∙ ap (λ j. cond (nat_eq q j) v (first_known (slice_get ps.dense.items q) (get nat_cmp ps.others q))) e
+known_insert ps qs i p v q e h d o = grind (arith, slice_get, nat_cmp, at_number, known_second, nat_eq, slice_get_past, eqb-true)
 
 -- nothing written
 pub known_stays : (ps qs : Pages) (q : ℕ) → qs.dense.items ≡ ps.dense.items → qs.others.entries ≡ ps.others.entries → known_of qs q ≡ known_of ps q
 unfolding known_of
-known_stays ps qs q d o =
-    ap (λ (xs : List PageRecord). first_known (slice_get xs q) (get nat_cmp qs.others q)) d
-    ∙ ap (λ (es : List (ℕ × PageRecord)). first_known (slice_get ps.dense.items q) (lookup (λ k. is_eq (nat_cmp q k)) es)) o
+known_stays ps qs q d o = grind (arith, slice_get, nat_cmp, is_eq)

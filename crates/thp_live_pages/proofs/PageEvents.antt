@@ -1,5 +1,5 @@
 -- A node after a call about one page: its slot, its place and the queue are what the history with the event says.
-use Rattle.std.proofs.Common.{◌≡◌, ℕ, ◌<◌, Bool, true, false, cond, not, ◌&&◌, List, [], ◌∷◌, ◌++◌, Option, Some, None, length, map, refl, ap, ap₂, sym, ◌∙◌, subst, arith, nat_eq, if◌then◌else◌, get_or, eq-eqb, eqb-true, zero, suc}
+use Rattle.std.proofs.Common.{◌≡◌, ℕ, ◌<◌, Bool, true, false, ◌&&◌, List, [], ◌∷◌, ◌++◌, Option, Some, None, length, map, refl, ap, sym, ◌∙◌, subst, arith, nat_eq, if◌then◌else◌, get_or, eq-eqb, eqb-true, zero, suc}
 use Rattle.thp_links.specs.Prelude.{without as without_index}
 use Rattle.thp_model.specs.declared.events.Event.{Event}
 use Rattle.thp_model.specs.declared.events.Outcome.{Outcome}
@@ -23,7 +23,7 @@ use Rattle.thp_model.specs.declared.page_call.Loss.{Loss}
 use Rattle.thp_model.specs.declared.page_call.Loss.TheVariants as loss
 use Rattle.thp_model.specs.declared.page_call.PageCall.{PageCall}
 use Rattle.thp_model.specs.declared.page_call.PageCall.TheVariants as either
-use Rattle.thp_live_pages.specs.Prelude.{PageStoreState, Edits, Lost, slot_after, batch_of, left_by, is_nowhere, IsSlot, Fills, IsNode, block_of, block_after, block_by, standing_of, flier}
+use Rattle.thp_live_pages.specs.Prelude.{PageStoreState, Edits, Lost, slot_after, IsSlot, Fills, IsNode, block_of, block_after, block_by, flier}
 use Rattle.thp_live_pages.specs.PageStoreState as blocks
 use Rattle.thp_live_pages.proofs.Homing.{Homed, block_push}
 use Rattle.thp_live_pages.proofs.Keeping.{node_moved, OnlyIn, blocks_same, blocks_pushed, blocks_without}
@@ -31,15 +31,7 @@ use Rattle.thp_live_pages.proofs.Standings.{names, standing_same, standing_queue
 
 -- the refusal of a call about a live page, by the page's state
 pub refusal_is : (s : Shape) (h : History) (p : ℕ) (t : PageState) (a : PageCall) → Tallies s h p t → is_live h p ≡ true → refusal s h (page_call a p) ≡ page_refusal t (page_call a p)
-refusal_is s h p t (either.Gain gain.MapWhole) m l = refusal_map_whole s h p t m l
-refusal_is s h p t (either.Gain (gain.MapSub f n)) m l = refusal_map_sub s h p f n t m l
-refusal_is s h p t (either.Gain gain.SplitPmd) m l = refusal_split_pmd s h p t m l
-refusal_is s h p t (either.Gain gain.Pin) m l = refusal_pin s h p t m l
-refusal_is s h p t (either.Gain (gain.Write f n)) m l = refusal_write s h p f n t m l
-refusal_is s h p t (either.Gain (gain.Zero f n)) m l = refusal_zero s h p f n t m l
-refusal_is s h p t (either.Loss loss.UnmapWhole) m l = refusal_unmap_whole s h p t m l
-refusal_is s h p t (either.Loss (loss.UnmapSub f n)) m l = refusal_unmap_sub s h p f n t m l
-refusal_is s h p t (either.Loss loss.Unpin) m l = refusal_unpin s h p t m l
+refusal_is s h p t x m l = grind (arith, refusal_map_whole, refusal_map_sub, refusal_split_pmd, refusal_pin, refusal_write, refusal_zero, refusal_unmap_whole, refusal_unmap_sub, refusal_unpin)
 
 -- what is the same of all gains
 record Plain (s : Shape) (w : What) (p : ℕ) : Type 0 where
@@ -49,20 +41,10 @@ record Plain (s : Shape) (w : What) (p : ℕ) : Type 0 where
   homes : (r : ℕ) (o : Option ℕ) → block_after r o w ≡ o
 
 plain_gain : (s : Shape) (g : Gain) (p : ℕ) → Plain s (gain_what g p) p
-plain_gain s gain.MapWhole p = record { named = λ r. refl; in_queue = λ ps. refl; in_flights = λ fs c. refl; homes = λ r o. refl }
-plain_gain s (gain.MapSub f n) p = record { named = λ r. refl; in_queue = λ ps. refl; in_flights = λ fs c. refl; homes = λ r o. refl }
-plain_gain s gain.SplitPmd p = record { named = λ r. refl; in_queue = λ ps. refl; in_flights = λ fs c. refl; homes = λ r o. refl }
-plain_gain s gain.Pin p = record { named = λ r. refl; in_queue = λ ps. refl; in_flights = λ fs c. refl; homes = λ r o. refl }
-plain_gain s (gain.Write f n) p = record { named = λ r. refl; in_queue = λ ps. refl; in_flights = λ fs c. refl; homes = λ r o. refl }
-plain_gain s (gain.Zero f n) p = record { named = λ r. refl; in_queue = λ ps. refl; in_flights = λ fs c. refl; homes = λ r o. refl }
+plain_gain s x p = grind arith
 
 fits_gain : (s : Shape) (h : History) (c p : ℕ) (g : Gain) → refusal s h (gain_call g p) ≡ None → Fits s h (by c (gain_what g p))
-fits_gain s h c p gain.MapWhole e = e
-fits_gain s h c p (gain.MapSub f n) e = e
-fits_gain s h c p gain.SplitPmd e = e
-fits_gain s h c p gain.Pin e = e
-fits_gain s h c p (gain.Write f n) e = e
-fits_gain s h c p (gain.Zero f n) e = e
+fits_gain s h c p x e = grind arith
 
 pub tallies_gain : (s : Shape) (h : History) (c p : ℕ) (g : Gain) (old new : PageState) → refusal s h (gain_call g p) ≡ None → Tallies s h p old → Gains g old new →
     Tallies s (h ++ by c (gain_what g p) ∷ []) p new
@@ -128,15 +110,11 @@ pub record ByOutcome (s : Shape) (w : What) (p : ℕ) (o : Outcome) : Type 0 whe
   pub no_alloc : (r : ℕ) → allocates r w ≡ false
 
 pub by_outcome : (s : Shape) (l : Loss) (p : ℕ) (o : Outcome) (r : List Bool) → ByOutcome s (loss_what l p o r) p o
-by_outcome s loss.UnmapWhole p o r = record { named = λ r. refl; in_queue = λ ps. refl; in_flights = λ fs c. refl; homes = λ r a. refl; freed = λ r. refl; no_alloc = λ r. refl }
-by_outcome s (loss.UnmapSub f n) p o r = record { named = λ r. refl; in_queue = λ ps. refl; in_flights = λ fs c. refl; homes = λ r a. refl; freed = λ r. refl; no_alloc = λ r. refl }
-by_outcome s loss.Unpin p o r = record { named = λ r. refl; in_queue = λ ps. refl; in_flights = λ fs c. refl; homes = λ r a. refl; freed = λ r. refl; no_alloc = λ r. refl }
+by_outcome s x p o r = grind arith
 
 fits_loss : (s : Shape) (h : History) (c p : ℕ) (l : Loss) (o : Outcome) (r : List Bool) → refusal s h (loss_call l p) ≡ None → Gives s h (h ++ by c (loss_what l p o r) ∷ []) p o r →
     Fits s h (by c (loss_what l p o r))
-fits_loss s h c p loss.UnmapWhole o r e g = (e, g)
-fits_loss s h c p (loss.UnmapSub f n) o r e g = (e, g)
-fits_loss s h c p loss.Unpin o r e g = (e, g)
+fits_loss s h c p x o r e g = grind arith
 
 pub tallies_loss : (s : Shape) (h : History) (c p : ℕ) (l : Loss) (o : Outcome) (r : List Bool) (old new : PageState) → Tallies s h p old → Loses l old new →
     Tallies s (h ++ by c (loss_what l p o r) ∷ []) p new
@@ -147,8 +125,7 @@ tallies_loss s h c p loss.Unpin o r old new m w = tallies_unpin s h c p o r old 
 -- the outcome of a loss is the history's
 pub outcome_told : (s : Shape) (h : History) (b : ℕ) (x : Slot) (l : Loss) (closed : Bool) (old new : PageStoreState) (done : Done) (left : Option ℕ) → IsSlot s h b x →
     closed ≡ is_closed h → (lost : Lost l closed x old new b done left) → done.outcome ≡ page_outcome x.page lost.page (is_closed h) (stands s h x.id)
-outcome_told s h b x l closed old new done left was shut lost =
-    lost.outcome_is ∙ ap₂ (λ a z. page_outcome x.page lost.page a z) shut (ap (λ z. not (is_nowhere z)) was.stands ∙ sym (stands_is s h x.id))
+outcome_told s h b x l closed old new done left was shut lost = grind (arith, stands_is)
 
 -- the event of what a page lost fits, with the outcome and the frames that it tells
 pub record LossFits (s : Shape) (h : History) (c p : ℕ) (l : Loss) (done : Done) : Type 0 where
@@ -171,11 +148,7 @@ loss_fits s h c b x l closed old new done left homed was shut allowed lost =
 -- the caller that a loss names is that whose flight the page leaves: the one in which it is, where it is freed
 pub loss_left : (s : Shape) (h : History) (b : ℕ) (x : Slot) (l : Loss) (closed : Bool) (old new : PageStoreState) (done : Done) (left : Option ℕ) → Homed s h → IsSlot s h b x →
     Lost l closed x old new b done left → left ≡ if is_freed done.outcome then flier x.id (flights h) else None
-loss_left s h b x l closed old new done left homed was lost = lost.left_is ∙ ap (left_by done.outcome) was.stands ∙ go done.outcome where
-  go : (o : Outcome) → left_by o (standing_of s h x.id) ≡ if is_freed o then flier x.id (flights h) else None
-  go outcome.Freed = batch_is s h x.id homed.grown.sound
-  go outcome.Queued = refl
-  go outcome.Stays = refl
+loss_left s h b x l closed old new done left homed was lost = grind (arith, batch_is)
 
 -- the refusal of a call about a page that doesn't live
 pub refusal_gone : (s : Shape) (h : History) (p : ℕ) (a : PageCall) → is_live h p ≡ false → refusal s h (page_call a p) ≡ Some reason.NoPage
@@ -190,10 +163,7 @@ refusal_gone s h p (either.Loss (loss.UnmapSub f n)) e = (refused_gone s h p e).
 refusal_gone s h p (either.Loss loss.Unpin) e = (refused_gone s h p e).6
 
 by_home : (r p : ℕ) (a : Option ℕ) (o : Outcome) → is_freed o ≡ false → block_by r a p o ≡ a
-by_home r p a o f = go (nat_eq r p) (is_freed o) f where
-  go : (x y : Bool) → y ≡ false → cond x (cond y None a) a ≡ a
-  go true y e = ap (λ z. cond z None a) e
-  go false y e = refl
+by_home r p a o f = grind (arith, nat_eq)
 
 no_both : (z : Bool) → z ≡ false → z ≡ true → ⊥
 no_both z e f = cc
@@ -251,13 +221,10 @@ module _ (s : Shape) (h : History) (c b : ℕ) (x : Slot) (l : Loss) (r : List B
       ∙ blocks_same h (lost_history outcome.Queued) (queue s h ++ x.id ∷ []) (λ q y. homes_stay outcome.Queued refl q) ∙ pushed ∙ ap (map (λ n. Some n)) (sym did.queue_is))
 
   freed_home : (q : ℕ) → nat_eq q x.id ≡ false → block_of (lost_history outcome.Freed) q ≡ block_of h q
-  freed_home q n =
-      block_push h (lost_event outcome.Freed) q ∙ (by_outcome s l x.id outcome.Freed r).homes q (block_of h q) ∙ ap (λ z. cond z (cond true None (block_of h q)) (block_of h q)) n
+  freed_home q n = grind (arith, block_push, by_outcome)
 
   freed_none : block_of (lost_history outcome.Freed) x.id ≡ None
-  freed_none =
-      block_push h (lost_event outcome.Freed) x.id ∙ (by_outcome s l x.id outcome.Freed r).homes x.id (block_of h x.id)
-      ∙ ap (λ z. cond z (cond true None (block_of h x.id)) (block_of h x.id)) (eq-eqb x.id x.id refl)
+  freed_none = grind (arith, block_push, by_outcome, eq-eqb)
 
   lost_freed : Homed s h → IsNode s h old.table old.queue → slot_at old.table b ≡ Some x → Fits s h (lost_event outcome.Freed) →
       Edits old new b None (without_index b old.queue) 6 → IsNode s (lost_history outcome.Freed) new.table new.queue

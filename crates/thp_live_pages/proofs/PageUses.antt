@@ -2,7 +2,6 @@
 use Rattle.std.proofs.Common.{◌≡◌, ℕ, ◌<◌, ◌^◌, Bool, true, false, cond, not, ◌&&◌, ◌||◌, refl, ap, sym, ◌∙◌, arith, nat_eq, nat_lt}
 use Rattle.std.proofs.lemmas.Bool.Decides.{nat_tests}
 use Rattle.thp_model.specs.declared.events.Outcome.{Outcome}
-use Rattle.thp_model.specs.declared.events.Outcome.TheVariants.{Freed, Queued, Stays}
 use Rattle.thp_model.specs.Prelude.{is_freed, PageState, size, total_at, zero_at, holds, has_use, page_outcome, page_released, set_of, Loses}
 use Rattle.thp_model.proofs.Below.{some_none}
 use Rattle.thp_model.proofs.Bools.{by_bool}
@@ -22,52 +21,31 @@ below_size i n e = grind (arith, nat_tests)
 
 -- a loss leaves the order of its page, and whether it is split
 pub loss_order : (l : Loss) (old new : PageState) → Loses l old new → old.order ≡ new.order
-loss_order loss.UnmapWhole old new w = sym w.order
-loss_order (loss.UnmapSub f n) old new w = sym w.order
-loss_order loss.Unpin old new w = w.order
+loss_order x old new w = grind arith
 
 pub loss_split : (l : Loss) (old new : PageState) → Loses l old new → old.split ≡ new.split
-loss_split loss.UnmapWhole old new w = sym w.split
-loss_split (loss.UnmapSub f n) old new w = sym w.split
-loss_split loss.Unpin old new w = w.split
+loss_split x old new w = grind arith
 
 -- the outcome, by the change
 pub outcome_is_by : (l : Loss) (old new : PageState) (change : Change) (closed nowhere : Bool) → Loses l old new → IsChange old new change →
     outcome_by new change closed nowhere ≡ page_outcome old new closed (not nowhere)
-outcome_is_by l old new change closed nowhere w c =
-    go _ _ _ _ _ _ nowhere c.used_left c.unused (sym (loss_split l old new w)) where
-      go : (a a' b b' s s' n : Bool) → a ≡ a' → b ≡ b' → s ≡ s' →
-          cond (not a && nat_eq new.pins 0) Freed (cond (not s && (b && (a && (not closed && n)))) Queued Stays)
-          ≡ cond (not a' && nat_eq new.pins 0) Freed (cond (not s' && (b' && (a' && (not closed && not (not n))))) Queued Stays)
-      go a a' b b' s s' true e f g = cc
-      go a a' b b' s s' false e f g = cc
+outcome_is_by l old new change closed nowhere w c = grind (arith, loss_split, nat_eq)
 
 freed_unused : (old new : PageState) (closed standing : Bool) (o : Outcome) → is_freed o ≡ true → o ≡ page_outcome old new closed standing → has_use new ≡ false
-freed_unused old new closed standing o f e = go o (has_use new) (nat_eq new.pins 0) _ f e where
-  go : (o : Outcome) (a b : Bool) (r : Bool) → is_freed o ≡ true → o ≡ cond (not a && b) Freed (cond r Queued Stays) → a ≡ false
-  go o true b true f e = absurd (let g : o ≡ Queued = e in cc)
-  go o true b false f e = absurd (let g : o ≡ Stays = e in cc)
-  go o false b r f e = refl
+freed_unused old new closed standing o f e = grind (arith, nat_eq)
 
 power_size : (t : PageState) → 2 ^ t.order ≡ size t
 unfolding size
 power_size t = refl
 
 not_held : (x s u : Bool) → s ≡ true → (x ≡ true → u ≡ false) → (x && (not s || u)) ≡ false
-not_held true true u e f = f refl
-not_held true false u e f = absurd (cc)
-not_held false s u e f = refl
+not_held x y u e f = grind arith
 
 partly_kept : (a b f : Bool) → f ≡ true → b ≡ false → (a && not b) ≡ (a && (f || not b))
 partly_kept a b f e g = cc
 
 whole_gone : (x y s u f h : Bool) → x ≡ y → s ≡ false → f ≡ true → x ≡ ((y && (not s || u)) && (f || not h))
-whole_gone true true false u true h d e g = refl
-whole_gone true true false u false h d e g = absurd (cc)
-whole_gone true true true u f h d e g = absurd (cc)
-whole_gone true false s u f h d e g = absurd (cc)
-whole_gone false true s u f h d e g = absurd (cc)
-whole_gone false false s u f h d e g = refl
+whole_gone x y z u v h d e g = grind arith
 
 -- the frames given back, by the change
 pub released_is_by : (l : Loss) (old new : PageState) (change : Change) (closed standing : Bool) (o : Outcome) → Loses l old new → IsChange old new change →

@@ -1,5 +1,5 @@
 -- The queue after an edit of one block: it still stands, with the blocks that it should have. What an edit does to one slot.
-use Rattle.std.proofs.Common.{◌≡◌, ◌≢◌, ℕ, true, false, zero, suc, ◌+◌, ◌<◌, ◌≤◌, List, [], ◌∷◌, ◌++◌, Option, Some, None, IsSome, length, drop, refl, ap, ap₂, sym, ◌∙◌, subst, arith, inl, inr, get_or, length-set, slice_set, slice_get, Contains, IfSome, get_or-set_same, get_or-set_other}
+use Rattle.std.proofs.Common.{◌≡◌, ◌≢◌, ℕ, true, false, zero, suc, ◌+◌, ◌<◌, ◌≤◌, List, [], ◌∷◌, ◌++◌, Option, Some, None, IsSome, length, drop, refl, ap, sym, ◌∙◌, subst, arith, inl, inr, get_or, length-set, slice_set, slice_get, Contains, IfSome, get_or-set_same, get_or-set_other}
 use Rattle.std.proofs.lemmas.List.Elements.{Contains-append_cases}
 use Rattle.std.proofs.lemmas.Bool.Decides.{eqb_tells}
 use Rattle.thp_links.specs.declared.link.Link.{Link}
@@ -14,8 +14,7 @@ use Rattle.thp_page.proofs.TableSlots.{slot_at-with_slot-same, slot_at-inside}
 use Rattle.thp_live_pages.specs.Prelude.{PageStoreState, Edits, EmptyLinksStay, Placed, slot_after, queue_after, IsQueued, IsListed, IsLinked}
 
 queued_none : (o : Option Slot) → IsQueued o → o ≡ None → ⊥
-queued_none None q e = q
-queued_none (Some x) q e = cc
+queued_none x q e = grind arith
 
 -- a list's other members stay
 pub record SameBut (xs ys : List ℕ) (b : ℕ) : Type 0 where
@@ -41,16 +40,10 @@ same_pushed xs b = record {
   ]
 
 pub same_front : (xs : List ℕ) (b : ℕ) → SameBut xs (b ∷ xs) b
-same_front xs b = record {
-  to = λ k n m. Contains-behind b xs k m;
-  from = λ k n m. elim (Contains-cons_cases b xs k m) [ inl e ↦ absurd (n e) | inr y ↦ y ];
-}
+same_front xs b = grind (arith, Contains-behind, Contains-cons_cases)
 
 pub same_rest : (xs : List ℕ) (b : ℕ) → slice_get xs 0 ≡ Some b → SameBut xs (drop 1 xs) b
-same_rest xs b first = record {
-  to = λ k n m. let P : List ℕ → Type 0 = λ ys. Contains ys k in elim (Contains-cons_cases b (drop 1 xs) k (subst P (first_and_rest xs b first) m)) [ inl e ↦ absurd (n e) | inr y ↦ y ];
-  from = λ k n m. Contains-from_rest xs k m;
-}
+same_rest xs b first = grind (arith, Contains-cons_cases, first_and_rest, Contains-from_rest)
 
 pub same_without : (xs : List ℕ) (b : ℕ) → SameBut xs (without b xs) b
 same_without xs b = record {
@@ -61,22 +54,7 @@ same_without xs b = record {
 -- the queue after an edit of the slot of block b
 relinked : (t u : Table) (q r : List ℕ) (b : ℕ) (o : Option Slot) → IsLinked t q → u.slots ≡ slice_set t.slots b o → b < length t.slots → length u.links ≡ length t.links →
     Stands r u.links → SameBut q r b → IsListed o r b → IsLinked u r
-relinked t u q r b o m slots inside links queue same at = record {
-  sizes = ap length slots ∙ length-set t.slots b o ∙ m.sizes ∙ sym links;
-  queue_stands = queue;
-  listed = λ k.
-      elim (eqb_tells k b) [
-        | inl y ↦
-            let P : Option Slot → Type 0 = λ z. IsListed z r k in
-            let Q : ℕ → Type 0 = λ z. IsListed o r z in
-            subst P (sym (ap (slot_at u) y.1 ∙ ap (λ xs. get_or xs b None) slots ∙ get_or-set_same t.slots b o None inside)) (subst Q (sym y.1) at)
-        | inr y ↦
-            let P : Option Slot → Type 0 = λ z. IsListed z r k in
-            let old = m.listed k in
-            subst P (sym (ap (λ xs. get_or xs k None) slots ∙ get_or-set_other t.slots b k o None y.1))
-            (record { queued = λ i. old.queued (same.from k y.1 i); in_queue = λ i. same.to k y.1 (old.in_queue i) })
-      ];
-}
+relinked t u q r b o m slots inside links queue same at = grind (arith, length-set, eqb_tells, get_or, get_or-set_same, get_or-set_other)
 
 -- what stands in a block is in the queue exactly where the queue has the block
 listed_at : (t : Table) (q : List ℕ) (b : ℕ) (o : Option Slot) → IsLinked t q → slot_at t b ≡ o → IsListed o q b
@@ -146,13 +124,11 @@ links_seen n t u q b e m = subst (λ (z : PageStoreState). EmptyLinksStay z.tabl
 
 -- after an edit of block b, an edit of it
 pub links_then : (t u v : Table) (b : ℕ) (o : Option Slot) → u.slots ≡ slice_set t.slots b o → EmptyLinksStay t u b → EmptyLinksStay u v b → EmptyLinksStay t v b
-links_then t u v b o slots first second k n none =
-    second k n (ap (λ xs. get_or xs k None) slots ∙ get_or-set_other t.slots b k o None n ∙ none) ∙ first k n none
+links_then t u v b o slots first second k n none = grind (arith, get_or, get_or-set_other)
 
 -- what stands in an occupied block
 pub taken : (o : Option Slot) → IsSome o → (x : Slot) × (o ≡ Some x)
-taken None h = absurd (cc)
-taken (Some x) h = (x, refl)
+taken x h = grind arith
 
 -- a write over a write
 pub set_twice : (xs : List (Option Slot)) (b : ℕ) (x y : Option Slot) → slice_set (slice_set xs b x) b y ≡ slice_set xs b y
@@ -162,8 +138,7 @@ set_twice (z ∷ xs) (suc b) x y = ap (λ zs. z ∷ zs) (set_twice xs b x y)
 
 -- a slot whose page stands elsewhere now
 pub stood_slot : (t u : Table) (b : ℕ) (x : Slot) (w : Standing) → slot_at t b ≡ Some x → u ≡ with_slot t b (stood (slot_at t b) w) → slot_at u b ≡ Some (record x { standing = w })
-stood_slot t u b x w at e =
-    ap (λ (v : Table). slot_at v b) e ∙ slot_at-with_slot-same t b (stood (slot_at t b) w) (slot_at-inside t b x at) ∙ ap (λ (o : Option Slot). stood o w) at
+stood_slot t u b x w at e = grind (arith, slot_at-with_slot-same, slot_at-inside)
 
 pub stood_slots : (t u : Table) (b : ℕ) (x : Slot) (w : Standing) → slot_at t b ≡ Some x → u ≡ with_slot t b (stood (slot_at t b) w) → u.slots ≡ slice_set t.slots b (Some (record x { standing = w }))
 stood_slots t u b x w at e = ap (λ (v : Table). v.slots) e ∙ ap (λ (o : Option Slot). slice_set t.slots b (stood o w)) at
@@ -178,9 +153,7 @@ page_there u b y p at e = same_page p y.page (e ∙ ap page_in at)
 -- a slot whose page stands elsewhere and then changes
 pub stood_paged : (t u : Table) (b : ℕ) (x : Slot) (w : Standing) (p : PageState) → slot_at t b ≡ Some x → u ≡ with_slot t b (stood (slot_at t b) w) →
     slice_set u.slots b (paged (slot_at u b) p) ≡ slice_set t.slots b (Some (record x { page = p; standing = w }))
-stood_paged t u b x w p at e =
-    ap₂ (λ (xs : List (Option Slot)) (o : Option Slot). slice_set xs b (paged o p)) (stood_slots t u b x w at e) (stood_slot t u b x w at e)
-    ∙ set_twice t.slots b (Some (record x { standing = w })) (Some (record x { page = p; standing = w }))
+stood_paged t u b x w p at e = grind (arith, slice_set, stood_slots, stood_slot, set_twice)
 
 -- what stands in the block that was edited
 pub edited_slot : (old new : PageStoreState) (b : ℕ) (x : Slot) (o : Option Slot) (q : List ℕ) (most : ℕ) → slot_at old.table b ≡ Some x → Edits old new b o q most → slot_at new.table b ≡ o
@@ -239,6 +212,4 @@ pub if_at : (o : Option Slot) (x : Slot) (P : Slot → Type 0) → o ≡ Some x 
 if_at o x P e h = subst (λ (z : Option Slot). IfSome z P) e h
 
 pub same_slot : (o : Option Slot) (x y : Slot) → o ≡ Some x → o ≡ Some y → y ≡ x
-same_slot o x y e f = go x y (sym e ∙ f) where
-  go : (x y : Slot) → Some x ≡ Some y → y ≡ x
-  go x y e = cc
+same_slot o x y e f = grind arith

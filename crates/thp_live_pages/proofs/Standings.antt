@@ -1,14 +1,13 @@
 -- Where a page stands along a history: in the queue, in one flight, or nowhere.
-use Rattle.std.proofs.Common.{◌≡◌, ℕ, ◌+◌, ◌<◌, ◌≤◌, Bool, true, false, cond, not, ◌&&◌, ◌||◌, List, [], ◌∷◌, ◌++◌, Option, Some, None, drop, refl, ap, ap₂, sym, ◌∙◌, arith, nat_eq, inl, inr, eq-eqb, eqb-true, slice_get, is_some, filter}
+use Rattle.std.proofs.Common.{◌≡◌, ℕ, ◌+◌, ◌<◌, ◌≤◌, Bool, true, false, cond, not, ◌||◌, List, [], ◌∷◌, ◌++◌, Option, Some, None, drop, refl, ap, ap₂, sym, ◌∙◌, arith, nat_eq, inl, inr, eq-eqb, eqb-true, slice_get, is_some, filter}
 use Rattle.std.proofs.lemmas.List.Folds.{list_any-append}
 use Rattle.std.proofs.lemmas.Bool.Decides.{eqb_tells}
 use Rattle.thp_model.specs.declared.events.Event.{Event}
 use Rattle.thp_model.specs.declared.events.Outcome.{Outcome}
-use Rattle.thp_model.specs.declared.events.Outcome.TheVariants.{Freed, Queued as ToQueue, Stays}
 use Rattle.thp_model.specs.declared.events.What.{What}
 use Rattle.thp_model.specs.declared.events.What.TheVariants.{Alloc, MapWhole, UnmapWhole, MapSub, UnmapSub, SplitPmd, Pin, Unpin, Write, Zero, Taken, Split, Pinned, Used, Back, Dropped, Close}
 use Rattle.thp_model.specs.declared.shape.Shape.{Shape}
-use Rattle.thp_model.specs.Prelude.{History, Fits, FitsBy, queue, flights, flight, has_page, stands, queue_after, queue_by, flights_after, flights_by, without, leaves, shrinks_underused}
+use Rattle.thp_model.specs.Prelude.{History, Fits, FitsBy, queue, flights, flight, has_page, stands, queue_after, queue_by, flights_after, flights_by, without, leaves}
 use Rattle.thp_model.proofs.Bools.{by_bool, or_none, or-false}
 use Rattle.thp_model.proofs.Counting.{count_any}
 use Rattle.thp_model.proofs.Pushes.{queue_push, flights_push}
@@ -43,10 +42,7 @@ has_push : (q p : ℕ) (ps : List ℕ) → nat_eq q p ≡ false → has_page q (
 has_push q p ps e = list_any-append (λ x. nat_eq x q) ps (p ∷ []) ∙ ap (λ b. has_page q ps || (b || false)) (turn q p e) ∙ or-false (has_page q ps)
 
 pub has_pushed : (p : ℕ) (ps : List ℕ) → has_page p (ps ++ p ∷ []) ≡ true
-has_pushed p ps = list_any-append (λ x. nat_eq x p) ps (p ∷ []) ∙ go (has_page p ps) (nat_eq p p) (eq-eqb p p refl) where
-  go : (a b : Bool) → b ≡ true → (a || (b || false)) ≡ true
-  go true b e = refl
-  go false b e = ap (λ x. x || false) e
+has_pushed p ps = grind (arith, list_any-append, nat_eq, eq-eqb)
 
 has_without : (q p : ℕ) (ps : List ℕ) → nat_eq q p ≡ false → has_page q (without p ps) ≡ has_page q ps
 has_without q p [] e = refl
@@ -83,49 +79,23 @@ apart_entry : (q p : ℕ) (f : ℕ × ℕ) → nat_eq q p ≡ false → nat_eq f
 apart_entry q p f e g = ap (λ n. nat_eq n p) (eqb-true f.1 q g) ∙ e
 
 flier_leaves : (q p c : ℕ) (fs : List (ℕ × ℕ)) → nat_eq q p ≡ false → flier q (leaves c p fs) ≡ flier q fs
-flier_leaves q p c fs e =
-    flier_filter q (λ (f : ℕ × ℕ). not (nat_eq f.0 c && nat_eq f.1 p)) fs (λ f g. go (nat_eq f.0 c) (nat_eq f.1 p) (apart_entry q p f e g)) where
-      go : (a b : Bool) → b ≡ false → not (a && b) ≡ true
-      go true b e = cc
-      go false b e = refl
+flier_leaves q p c fs e = grind (arith, flier_filter, nat_eq, apart_entry)
 
 flier_by : (q p : ℕ) (o : Outcome) (fs : List (ℕ × ℕ)) → nat_eq q p ≡ false → flier q (flights_by fs p o) ≡ flier q fs
-flier_by q p Freed fs e = flier_filter q (λ (f : ℕ × ℕ). not (nat_eq f.1 p)) fs (λ f g. ap not (apart_entry q p f e g))
-flier_by q p ToQueue fs e = refl
-flier_by q p Stays fs e = refl
+flier_by q p x fs e = grind (arith, flier_filter, nat_eq, apart_entry)
 
 has_by : (q p : ℕ) (o : Outcome) (ps : List ℕ) → nat_eq q p ≡ false → has_page q (queue_by ps p o) ≡ has_page q ps
-has_by q p Freed ps e = has_without q p ps e
-has_by q p ToQueue ps e = has_push q p ps e
-has_by q p Stays ps e = refl
+has_by q p x ps e = grind (arith, has_without, has_push)
 
 has_rest : (q p : ℕ) (ps : List ℕ) → slice_get ps 0 ≡ Some p → nat_eq q p ≡ false → has_page q (drop 1 ps) ≡ has_page q ps
-has_rest q p [] f e = refl
-has_rest q p (x ∷ ps) f e = sym (ap (λ b. b || has_page q ps) (let same : x ≡ p = cc in ap (λ n. nat_eq n q) same ∙ turn q p e))
+has_rest q p x f e = grind (arith, nat_eq, turn)
 
 -- the queue and the fliers of a page that an event doesn't name
 queue_other : (s : Shape) (h k : History) (c : ℕ) (w : What) (q : ℕ) → FitsBy s h k c w → names q w ≡ false → has_page q (queue_after s (queue s h) w) ≡ has_page q (queue s h)
-queue_other s h k c (Alloc p b) q f e = go (shrinks_underused s) where
-  go : (on : Bool) → has_page q (cond on (queue s h ++ p ∷ []) (queue s h)) ≡ has_page q (queue s h)
-  go true = has_push q p (queue s h) e
-  go false = refl
-queue_other s h k c (UnmapWhole o p r) q f e = has_by q p o (queue s h) e
-queue_other s h k c (UnmapSub o p a m r) q f e = has_by q p o (queue s h) e
-queue_other s h k c (Unpin o p r) q f e = has_by q p o (queue s h) e
-queue_other s h k c (Taken p) q f e = has_rest q p (queue s h) f.oldest e
-queue_other s h k c (Back p) q f e = has_push q p (queue s h) e
-queue_other s h k c w q f e = refl
+queue_other s h k c x q f e = grind (arith, has_push, has_by, has_rest)
 
 flier_other : (h : History) (c : ℕ) (w : What) (q : ℕ) → names q w ≡ false → flier q (flights_after (flights h) c w) ≡ flier q (flights h)
-flier_other h c (UnmapWhole o p r) q e = flier_by q p o (flights h) e
-flier_other h c (UnmapSub o p a m r) q e = flier_by q p o (flights h) e
-flier_other h c (Unpin o p r) q e = flier_by q p o (flights h) e
-flier_other h c (Taken p) q e = flier_push q p c (flights h) e
-flier_other h c (Split p r) q e = flier_leaves q p c (flights h) e
-flier_other h c (Used p) q e = flier_leaves q p c (flights h) e
-flier_other h c (Back p) q e = flier_leaves q p c (flights h) e
-flier_other h c (Dropped p) q e = flier_leaves q p c (flights h) e
-flier_other h c w q e = refl
+flier_other h c x q e = grind (arith, flier_by, flier_push, flier_leaves)
 
 -- the last event changes where a page stands so
 pub standing_push : (s : Shape) (h : History) (e : Event) (p : ℕ) →
@@ -136,8 +106,7 @@ standing_push s h e p = ap₂ (λ ps fs. stands_by (has_page p ps) (flier p fs))
 -- a page that an event doesn't name stands where it stood
 pub standing_other : (s : Shape) (h : History) (e : Event) (q : ℕ) → Fits s h e → names q e.what ≡ false → standing_of s (h ++ e ∷ []) q ≡ standing_of s h q
 unfolding standing_of
-standing_other s h e q f n =
-    standing_push s h e q ∙ ap₂ stands_by (queue_other s h (h ++ e ∷ []) e.caller e.what q f n) (flier_other h e.caller e.what q n)
+standing_other s h e q f n = grind (arith, standing_push, queue_other, flier_other)
 
 -- an event that leaves the queue and the flights leaves each page where it stands
 pub standing_same : (s : Shape) (h : History) (e : Event) (q : ℕ) → queue_after s (queue s h) e.what ≡ queue s h → flights_after (flights h) e.caller e.what ≡ flights h →
@@ -161,8 +130,7 @@ some_of p ps e = (count_any (λ q. nat_eq q p) ps).1 e
 
 no_flying : (p : ℕ) (fs : List (ℕ × ℕ)) → flying p fs ≡ 0 → flier p fs ≡ None
 unfolding flying
-no_flying p fs e =
-    no_flier p fs (by_bool (has_page p (pages fs)) _ (λ y. absurd (let g = (count_any (λ (f : ℕ × ℕ). nat_eq f.1 p) fs).1 (sym (any-pages p fs) ∙ y) in omega arith)) (λ y. y))
+no_flying p fs e = grind (arith, no_flier, by_bool, pages, count_any, nat_eq, any-pages)
 
 -- the flier of a page has it in its flight
 pub flier_has : (p c : ℕ) (fs : List (ℕ × ℕ)) → flier p fs ≡ Some c → has_page p (pages (filter (λ (f : ℕ × ℕ). nat_eq f.0 c) fs)) ≡ true
@@ -213,18 +181,14 @@ standing_none s h p e = ap₂ stands_by (none_of p (queue s h) (omega arith)) (n
 
 -- the other way round: what a standing says
 by_standing : (b : Bool) (o : Option ℕ) → stands_by b o ≡ Queued → b ≡ true
-by_standing true o e = refl
-by_standing false None e = absurd (cc)
-by_standing false (Some c) e = absurd (cc)
+by_standing x o e = grind arith
 
 pub queued_has : (s : Shape) (h : History) (p : ℕ) → standing_of s h p ≡ Queued → has_page p (queue s h) ≡ true
 unfolding standing_of
 queued_has s h p e = by_standing _ _ e
 
 by_batch : (b : Bool) (o : Option ℕ) (c : ℕ) → stands_by b o ≡ Batch c → (b ≡ false) × (o ≡ Some c)
-by_batch true o c e = absurd (cc)
-by_batch false None c e = absurd (cc)
-by_batch false (Some d) c e = (refl, cc)
+by_batch x o c e = grind arith
 
 -- a page that stands in the batch of a caller is in its flight, and not in the queue
 pub batch_has : (s : Shape) (h : History) (p c : ℕ) → standing_of s h p ≡ Batch c → (has_page p (flight h c) ≡ true) × (flier p (flights h) ≡ Some c) × (has_page p (queue s h) ≡ false)
@@ -234,11 +198,7 @@ batch_has s h p c e = let w = by_batch _ _ c e in (flier_has p c (flights h) w.1
 -- the flier of a page is told by where the page stands
 pub batch_is : (s : Shape) (h : History) (p : ℕ) → Sound s h → batch_of (standing_of s h p) ≡ flier p (flights h)
 unfolding standing_of
-batch_is s h p sound = go (has_page p (queue s h)) (flier p (flights h)) (λ y. no_flying p (flights h) (omega (arith, sound.once p, some_of p (queue s h) y))) where
-  go : (b : Bool) (o : Option ℕ) → (b ≡ true → o ≡ None) → batch_of (stands_by b o) ≡ o
-  go true o f = sym (f refl)
-  go false None f = refl
-  go false (Some c) f = refl
+batch_is s h p sound = grind (arith, no_flying, some_of)
 
 has_pages : (p : ℕ) (fs : List (ℕ × ℕ)) → has_page p (pages fs) ≡ is_some (flier p fs)
 has_pages p [] = refl
@@ -250,9 +210,4 @@ has_pages p (f ∷ fs) = go (nat_eq f.1 p) (has_pages p fs) where
 -- whether a page stands in the queue or a flight is told by where it stands
 pub stands_is : (s : Shape) (h : History) (p : ℕ) → stands s h p ≡ not (is_nowhere (standing_of s h p))
 unfolding standing_of
-stands_is s h p =
-    list_any-append (λ q. nat_eq q p) (queue s h) (pages (flights h)) ∙ ap (λ b. has_page p (queue s h) || b) (has_pages p (flights h)) ∙ go (has_page p (queue s h)) (flier p (flights h)) where
-      go : (b : Bool) (o : Option ℕ) → (b || is_some o) ≡ not (is_nowhere (stands_by b o))
-      go true o = refl
-      go false None = refl
-      go false (Some c) = refl
+stands_is s h p = grind (arith, list_any-append, nat_eq, pages, has_pages, is_some)

@@ -1,4 +1,4 @@
--- The definitions and types of this library, each by its name alone: one line of a file imports what it cites.
+-- Re-exports the definitions and types of this library: other files import those that they cite from here, in one line.
 pub use Rattle.thp_live_pages.specs.BlockHolders.{AreFree}
 unfoldable pub use Rattle.thp_live_pages.specs.BlockHolders.{least_of}
 pub use Rattle.thp_live_pages.specs.Chains.{IsChain, IsCovered, IsWalked, place_after}

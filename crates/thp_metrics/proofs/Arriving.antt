@@ -28,9 +28,7 @@ history_so s p k n (e ∷ h) = history_so s p (k ++ e ∷ []) (cond (waits s (k 
 
 pub waited_push : (s : Shape) (h : History) (e : Event) (p : ℕ) → waited s (h ++ e ∷ []) p ≡ cond (waits s (h ++ e ∷ []) p) (waited s h p + 1) 0
 unfolding waited
-waited_push s h e p =
-    ap (λ (k : History × ℕ). k.1) (fold_push (add_wait s p) ([], 0) h e)
-    ∙ ap (λ k. cond (waits s (k ++ e ∷ []) p) ((fold (add_wait s p) ([], 0) h).1 + 1) 0) (history_so s p [] 0 h)
+waited_push s h e p = grind (arith, fold_push, history_so)
 
 -- at the start nothing waits
 pub waited_none : (s : Shape) (p : ℕ) → waited s [] p ≡ 0
@@ -38,22 +36,17 @@ unfolding waited
 waited_none s p = refl
 
 home_parts : (stage : Option Stage) (block : Option ℕ) (b : ℕ) → home_by stage block ≡ Some b → (waits_in stage ≡ true) × (block ≡ Some b)
-home_parts stage block b e = go (waits_in stage) refl e where
-  go : (w : Bool) → waits_in stage ≡ w → cond w block None ≡ Some b → (waits_in stage ≡ true) × (block ≡ Some b)
-  go true y e = (y, e)
-  go false y e = absurd (cc)
+home_parts stage block b e = grind arith
 
 -- a page with a home waits, and lies there
 pub home_waits : (s : Shape) (h : History) (p b : ℕ) → home s h p ≡ Some b → (waits s h p ≡ true) × (block_of h p ≡ Some b)
 home_waits s h p b e = home_parts (stage_of s h p) (block_of h p) b e
 
 stage_is : (o : Option Stage) → waits_in o ≡ true → (x : Stage) × (o ≡ Some x)
-stage_is (Some x) e = (x, refl)
-stage_is None e = absurd (cc)
+stage_is x e = grind arith
 
 live_in : (live : Bool) (x y : Stage) → cond live (Some y) None ≡ Some x → live ≡ true
-live_in true x y e = refl
-live_in false x y e = absurd (cc)
+live_in z x y e = grind arith
 
 pub waits_live : (s : Shape) (h : History) (p : ℕ) → waits s h p ≡ true → is_live h p ≡ true
 waits_live s h p e = let x = stage_is (stage_of s h p) e in live_in (is_live h p) x.0 _ x.1
@@ -65,10 +58,7 @@ waits_home s h p l e =
     (w.0, ap (λ t. cond t (block_of h p) None) e ∙ w.1)
 
 homeless : (s : Shape) (h : History) (p : ℕ) → IsLegal s h → home s h p ≡ None → waits s h p ≡ false
-homeless s h p l e = go (waits s h p) refl where
-  go : (w : Bool) → waits s h p ≡ w → w ≡ false
-  go false y = refl
-  go true y = absurd (let x = waits_home s h p l y in let some = x.1 in cc)
+homeless s h p l e = grind (arith, waits_home)
 
 -- two pages with one home are one
 one_home : (s : Shape) (h : History) (p q b : ℕ) → IsLegal s h → home s h p ≡ Some b → home s h q ≡ Some b → p ≡ q
@@ -76,9 +66,7 @@ one_home s h p q b l e f = (legal_homed s h l).once p q b (home_waits s h p b e)
 
 -- a page that an event doesn't name stays at home
 pub home_stays : (s : Shape) (h : History) (e : Event) (q : ℕ) → Fits s h e → names q e.what ≡ false → home s (h ++ e ∷ []) q ≡ home s h q
-home_stays s h e q f n =
-    let u : Untouched q e.what = untouched q e.what (not_about q e.what n) in
-    rw (stage_stays s h e q f n, block_push h e q, block_stays q (block_of h q) e.what u.no_alloc u.no_free) refl
+home_stays s h e q f n = grind (arith, Untouched, untouched, not_about, stage_stays, block_push, block_stays)
 
 same_some : (a b : ℕ) → Some a ≡ Some b → a ≡ b
 same_some a b e = cc
@@ -377,14 +365,7 @@ nothing_waits s a none size = record {
 
 -- the first came by an event that there was
 pub first_was : (s : Shape) (h : History) (n : ℕ) (a : Arrived) (since : ℕ) → KeepsWaits s h n a → first_since a ≡ Some since → (0 < since) × (since ≤ n)
-first_was s h n a since k e = go a.order refl e where
-  go : (bs : List ℕ) → a.order ≡ bs → first_of bs a.since ≡ Some since → (0 < since) × (since ≤ n)
-  go [] is e = absurd (cc)
-  go (b ∷ bs) is e =
-      let P : List ℕ → Type 0 = λ xs. Contains xs b in
-      let here : Contains a.order b = subst P (sym is) (Contains-head b bs) in
-      let same : get_or a.since b 0 ≡ since = cc in
-      (omega (arith, same, k.from_one b here), omega (arith, same, k.early b here, k.events_are))
+first_was s h n a since k e = grind (arith, Contains-head, get_or)
 
 -- the page of an event comes to wait in block b
 pub comes_of : (s : Shape) (h : History) (e : Event) (b : ℕ) (page : Option ℕ) → Fits s h e → event_page e.what ≡ page → None ≡ option_and_then (home s h) page → Some b ≡ option_and_then (home s (h ++ e ∷ [])) page →
@@ -406,16 +387,11 @@ stay_at s h e p f is same q = go (nat_eq q p) refl where
 
 -- it doesn't wait before and after, or waits before and after
 pub stays_out : (s : Shape) (h : History) (e : Event) (page : Option ℕ) → Fits s h e → event_page e.what ≡ page → None ≡ option_and_then (home s h) page → None ≡ option_and_then (home s (h ++ e ∷ [])) page → (q : ℕ) → home s (h ++ e ∷ []) q ≡ home s h q
-stays_out s h e None f is before after q = home_stays s h e q f (none_named e.what q is)
-stays_out s h e (Some p) f is before after q = stay_at s h e p f is (sym after ∙ before) q
+stays_out s h e x f is before after q = grind (arith, home_stays, none_named, stay_at)
 
 pub stays_in : (s : Shape) (h : History) (e : Event) (b c : ℕ) (page : Option ℕ) → IsLegal s h → Fits s h e → event_page e.what ≡ page → Some b ≡ option_and_then (home s h) page → Some c ≡ option_and_then (home s (h ++ e ∷ [])) page → (q : ℕ) → home s (h ++ e ∷ []) q ≡ home s h q
-stays_in s h e b c None l f is before after q = absurd (cc)
-stays_in s h e b c (Some p) l f is before after q = stay_at s h e p f is (sym after ∙ ap (λ (x : ℕ). Some x) (sym (same_home s h e p b c l f (sym before) (sym after))) ∙ before) q
+stays_in s h e b c x l f is before after q = grind (arith, stay_at, same_home)
 
 -- the first of an order
 pub first_is : (order since : List ℕ) (b v : ℕ) → slice_get order 0 ≡ Some b → b < length since → v ≡ get_or since b v → Some v ≡ first_of order since
-first_is [] since b v e inside is = absurd (cc)
-first_is (x ∷ xs) since b v e inside is =
-    let same : x ≡ b = cc in
-    ap (λ (i : ℕ). Some i) (is ∙ any_number since b v 0 inside ∙ ap (λ i. get_or since i 0) (sym same))
+first_is x since b v e inside is = grind (arith, any_number, get_or)

@@ -1,5 +1,5 @@
 -- The pages of all batches, counted.
-use Rattle.std.proofs.Common.{◌≡◌, ℕ, ◌+◌, Bool, true, false, not, cond, ◌&&◌, List, [], ◌∷◌, ◌++◌, Option, Some, None, length, refl, ap, sym, ◌∙◌, subst, arith, length-append, nat_eq, eq-eqb, filter}
+use Rattle.std.proofs.Common.{◌≡◌, ℕ, ◌+◌, Bool, true, false, not, cond, ◌&&◌, List, [], ◌∷◌, ◌++◌, Option, Some, None, length, refl, ap, sym, ◌∙◌, arith, length-append, nat_eq, eq-eqb, filter}
 use Rattle.thp_model.specs.declared.events.Event.{Event}
 use Rattle.thp_model.specs.declared.events.Outcome.{Outcome}
 use Rattle.thp_model.specs.declared.events.Outcome.TheVariants as outcome
@@ -28,64 +28,20 @@ filter_moves u p (f ∷ fs) out = go (u f) refl (filter_moves u p fs out) where
   go false y rest = omega (arith, flying-cons p f.0 f.1 fs, ap (λ b. cond {A = ℕ} b 1 0) (out f y), rest)
 
 second : (a b : Bool) → not (a && b) ≡ false → b ≡ true
-second true true e = refl
-second true false e = absurd (cc)
-second false b e = absurd (cc)
+second x y e = grind arith
 
 leave_moves : (c p : ℕ) (fs : List (ℕ × ℕ)) → length (leaves c p fs) + flying p fs ≡ length fs + flying p (leaves c p fs)
 leave_moves c p fs = filter_moves (λ (f : ℕ × ℕ). not (nat_eq f.0 c && nat_eq f.1 p)) p fs (λ f e. second (nat_eq f.0 c) (nat_eq f.1 p) e)
 
 free_moves : (p : ℕ) (o : Outcome) (fs : List (ℕ × ℕ)) → length (flights_by fs p o) + flying p fs ≡ length fs + flying p (flights_by fs p o)
-free_moves p outcome.Freed fs = filter_moves (λ (f : ℕ × ℕ). not (nat_eq f.1 p)) p fs (λ f e. second true (nat_eq f.1 p) e)
-free_moves p outcome.Queued fs = refl
-free_moves p outcome.Stays fs = refl
+free_moves p x fs = grind (arith, filter_moves, nat_eq, second)
 
 -- what an event takes out of the flights, or puts there, is of its page
 flights_move : (c : ℕ) (w : What) (p : ℕ) (fs : List (ℕ × ℕ)) → event_page w ≡ Some p → length (flights_after fs c w) + flying p fs ≡ length fs + flying p (flights_after fs c w)
-flights_move c (what.Taken q) p fs is =
-    let same : nat_eq q p ≡ true = eq-eqb q p cc in
-    omega (arith, length-append fs ((c, q) ∷ []), flying_push p q c fs, ap (λ b. cond {A = ℕ} b 1 0) same)
-flights_move c (what.UnmapWhole o q set) p fs is =
-    let P : ℕ → Type 0 = λ x. length (flights_after fs c (what.UnmapWhole o x set)) + flying p fs ≡ length fs + flying p (flights_after fs c (what.UnmapWhole o x set)) in
-    subst P (sym cc) (free_moves p o fs)
-flights_move c (what.UnmapSub o q a k set) p fs is =
-    let P : ℕ → Type 0 = λ x. length (flights_after fs c (what.UnmapSub o x a k set)) + flying p fs ≡ length fs + flying p (flights_after fs c (what.UnmapSub o x a k set)) in
-    subst P (sym cc) (free_moves p o fs)
-flights_move c (what.Unpin o q set) p fs is =
-    let P : ℕ → Type 0 = λ x. length (flights_after fs c (what.Unpin o x set)) + flying p fs ≡ length fs + flying p (flights_after fs c (what.Unpin o x set)) in
-    subst P (sym cc) (free_moves p o fs)
-flights_move c (what.Split q set) p fs is =
-    let P : ℕ → Type 0 = λ x. length (flights_after fs c (what.Split x set)) + flying p fs ≡ length fs + flying p (flights_after fs c (what.Split x set)) in
-    subst P (sym cc) (leave_moves c p fs)
-flights_move c (what.Used q) p fs is =
-    let P : ℕ → Type 0 = λ x. length (flights_after fs c (what.Used x)) + flying p fs ≡ length fs + flying p (flights_after fs c (what.Used x)) in
-    subst P (sym cc) (leave_moves c p fs)
-flights_move c (what.Back q) p fs is =
-    let P : ℕ → Type 0 = λ x. length (flights_after fs c (what.Back x)) + flying p fs ≡ length fs + flying p (flights_after fs c (what.Back x)) in
-    subst P (sym cc) (leave_moves c p fs)
-flights_move c (what.Dropped q) p fs is =
-    let P : ℕ → Type 0 = λ x. length (flights_after fs c (what.Dropped x)) + flying p fs ≡ length fs + flying p (flights_after fs c (what.Dropped x)) in
-    subst P (sym cc) (leave_moves c p fs)
-flights_move c w p fs is = refl
+flights_move c x p fs is = grind (arith, nat_eq, eq-eqb, length-append, flying_push, flying, free_moves, leave_moves)
 
 none_moves : (c : ℕ) (w : What) (fs : List (ℕ × ℕ)) → event_page w ≡ None → flights_after fs c w ≡ fs
-none_moves c what.Close fs e = refl
-none_moves c (what.Alloc r b) fs e = absurd (cc)
-none_moves c (what.MapWhole r) fs e = absurd (cc)
-none_moves c (what.UnmapWhole o r set) fs e = absurd (cc)
-none_moves c (what.MapSub r a k) fs e = absurd (cc)
-none_moves c (what.UnmapSub o r a k set) fs e = absurd (cc)
-none_moves c (what.SplitPmd r) fs e = absurd (cc)
-none_moves c (what.Pin r) fs e = absurd (cc)
-none_moves c (what.Unpin o r set) fs e = absurd (cc)
-none_moves c (what.Write r a k) fs e = absurd (cc)
-none_moves c (what.Zero r a k) fs e = absurd (cc)
-none_moves c (what.Taken r) fs e = absurd (cc)
-none_moves c (what.Split r set) fs e = absurd (cc)
-none_moves c (what.Pinned r) fs e = absurd (cc)
-none_moves c (what.Used r) fs e = absurd (cc)
-none_moves c (what.Back r) fs e = absurd (cc)
-none_moves c (what.Dropped r) fs e = absurd (cc)
+none_moves c x fs e = grind arith
 
 -- 1 for a page in a batch, by where it stands
 by_place : Bool → Bool → Standing → Bool → ℕ
@@ -93,16 +49,11 @@ by_place live split place partly = one InBatch (cond live (Some (stage_by split 
 
 queued_isnt : (live split partly : Bool) → by_place live split at.Queued partly ≡ 0
 unfolding by_place
-queued_isnt false split partly = refl
-queued_isnt true true partly = refl
-queued_isnt true false partly = refl
+queued_isnt x split partly = grind arith
 
 nowhere_isnt : (live split partly : Bool) → by_place live split at.Nowhere partly ≡ 0
 unfolding by_place
-nowhere_isnt false split partly = refl
-nowhere_isnt true true partly = refl
-nowhere_isnt true false true = refl
-nowhere_isnt true false false = refl
+nowhere_isnt x split partly = grind arith
 
 -- a page is in a batch where it stands in the flights
 batch_is_flight : (s : Shape) (h : History) (p : ℕ) → IsLegal s h → one InBatch (stage_of s h p) ≡ flying p (flights h)

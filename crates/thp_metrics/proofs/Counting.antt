@@ -16,7 +16,6 @@ use Rattle.thp_model.proofs.Standing.{legal_sound}
 use Rattle.thp_model.proofs.SumsBelow.{sum_below-const, sum_below-ext, sum_below_suc}
 use Rattle.thp_model.proofs.Untouched.{Untouched, untouched}
 use Rattle.thp_journal_writer.specs.Prelude.{event_page}
-use Rattle.thp_page.specs.declared.standing.Standing.{Standing}
 use Rattle.thp_page.specs.declared.standing.Standing.TheVariants as at
 use Rattle.thp_live_pages.specs.Prelude.{standing_of}
 use Rattle.thp_live_pages.proofs.Standings.{batch_has, names, standing_flying, standing_other}
@@ -43,10 +42,7 @@ a_bit c n some = ap (λ b. cond b (2 ^ c) 0) (lt-ltb 0 n some)
 
 bit_fits : (c n : ℕ) → bit c n ≤ 2 ^ c
 unfolding bit
-bit_fits c n = go (nat_lt 0 n) where
-  go : (b : Bool) → cond b (2 ^ c) 0 ≤ 2 ^ c
-  go true = omega arith
-  go false = omega arith
+bit_fits c n = grind (arith, nat_lt)
 
 sum_fits : (m : ℕ) (f : ℕ → ℕ) → ((c : ℕ) → f c ≤ 2 ^ c) → sum_below m f < 2 ^ m
 unfolding sum_below
@@ -87,41 +83,17 @@ its_own c = ap (λ b. cond {A = ℕ} b 1 0) (eq-eqb c c refl)
 
 gone_at : (counts : List ℕ) (o : Option ℕ) (c : ℕ) → length counts ≡ 64 → c < 64 → MayGo counts o → count_at (count_gone counts o) c + b1 c o ≡ count_at counts c
 unfolding b1
-gone_at counts None c size low may = omega arith
-gone_at counts (Some d) c size low may = go (nat_lt d 64) refl (nat_eq d c) refl where
-  go : (b : Bool) → nat_lt d 64 ≡ b → (t : Bool) → nat_eq d c ≡ t → get_or (cond b (set counts d (get_or counts d 0 - 1)) counts) c 0 + cond t 1 0 ≡ get_or counts c 0
-  go false y true z = absurd (omega (arith, ltb-false d 64 y, low, eqb-true d c z))
-  go false y false z = omega arith
-  go true y true z =
-      let same : d ≡ c = eqb-true d c z in
-      omega (arith, ap (λ i. get_or (set counts d (get_or counts d 0 - 1)) i 0) (sym same), get_or-set_same counts d (get_or counts d 0 - 1) 0 (omega (arith, size, ltb-true d 64 y)), may (ltb-true d 64 y), ap (λ i. get_or counts i 0) same)
-  go true y false z = omega (arith, get_or-set_other counts d c (get_or counts d 0 - 1) 0 (λ e. absurd (let yes = eq-eqb d c (sym e) in cc)))
+gone_at counts x c size low may = grind (arith, nat_lt, nat_eq, get_or, ltb-false, eqb-true, get_or-set_same, ltb-true, get_or-set_other, eq-eqb)
 
 more_at : (counts : List ℕ) (o : Option ℕ) (c : ℕ) → length counts ≡ 64 → c < 64 → count_at (count_more counts o) c ≡ count_at counts c + b1 c o
 unfolding b1
-more_at counts None c size low = omega arith
-more_at counts (Some d) c size low = go (nat_lt d 64) refl (nat_eq d c) refl where
-  go : (b : Bool) → nat_lt d 64 ≡ b → (t : Bool) → nat_eq d c ≡ t → get_or (cond b (set counts d (get_or counts d 0 + 1)) counts) c 0 ≡ get_or counts c 0 + cond t 1 0
-  go false y true z = absurd (omega (arith, ltb-false d 64 y, low, eqb-true d c z))
-  go false y false z = omega arith
-  go true y true z =
-      let same : d ≡ c = eqb-true d c z in
-      omega (arith, ap (λ i. get_or (set counts d (get_or counts d 0 + 1)) i 0) (sym same), get_or-set_same counts d (get_or counts d 0 + 1) 0 (omega (arith, size, ltb-true d 64 y)), ap (λ i. get_or counts i 0) same)
-  go true y false z = omega (arith, get_or-set_other counts d c (get_or counts d 0 + 1) 0 (λ e. absurd (let yes = eq-eqb d c (sym e) in cc)))
+more_at counts x c size low = grind (arith, nat_lt, nat_eq, get_or, ltb-false, eqb-true, get_or-set_same, ltb-true, get_or-set_other, eq-eqb)
 
 gone_size : (counts : List ℕ) (o : Option ℕ) → length (count_gone counts o) ≡ length counts
-gone_size counts None = refl
-gone_size counts (Some d) = go (nat_lt d 64) where
-  go : (b : Bool) → length (cond b (set counts d (get_or counts d 0 - 1)) counts) ≡ length counts
-  go true = length-set counts d (get_or counts d 0 - 1)
-  go false = refl
+gone_size counts x = grind (arith, nat_lt, get_or, length-set)
 
 more_size : (counts : List ℕ) (o : Option ℕ) → length (count_more counts o) ≡ length counts
-more_size counts None = refl
-more_size counts (Some d) = go (nat_lt d 64) where
-  go : (b : Bool) → length (cond b (set counts d (get_or counts d 0 + 1)) counts) ≡ length counts
-  go true = length-set counts d (get_or counts d 0 + 1)
-  go false = refl
+more_size counts x = grind (arith, nat_lt, get_or, length-set)
 
 -- a page that an event doesn't name stays in its batch
 batch_stays : (s : Shape) (h : History) (e : Event) (q : ℕ) → Fits s h e → names q e.what ≡ false → batch_of s (h ++ e ∷ []) q ≡ batch_of s h q
@@ -134,8 +106,7 @@ unfolding b1
 in_none s h p c e = ap (λ (b : Bool). cond {A = ℕ} (is_caller c (cond b (batch_by (standing_of s h p)) None)) 1 0) e
 
 alloc_number : (s : Shape) (h : History) (c : ℕ) (w : What) (p : ℕ) → Fits s h (record { caller = c; what = w }) → is_alloc w ≡ true → event_page w ≡ Some p → p ≡ allocations h
-alloc_number s h c (what.Alloc q b) p f a is = let same : p ≡ q = cc in same ∙ f.number
-alloc_number s h c w p f a is = absurd (cc)
+alloc_number s h c x p f a is = grind arith
 
 batched_are : (s : Shape) (h : History) (c : ℕ) → batched s h c ≡ sum_below (allocations h) (λ i. b1 c (batch_of s h i))
 unfolding b1
@@ -184,12 +155,7 @@ batched_stays s h e c f none =
     ∙ sym (batched_are s h c)
 
 batch_has_it : (s : Shape) (h : History) (p c : ℕ) → batch_of s h p ≡ Some c → (is_live h p ≡ true) × (standing_of s h p ≡ at.Batch c)
-batch_has_it s h p c e = go (is_live h p) refl (standing_of s h p) refl e where
-  go : (b : Bool) → is_live h p ≡ b → (st : Standing) → standing_of s h p ≡ st → cond b (batch_by st) None ≡ Some c → (is_live h p ≡ true) × (standing_of s h p ≡ at.Batch c)
-  go true y (at.Batch d) z e = let same : d ≡ c = cc in (y, z ∙ ap (λ i. at.Batch i) same)
-  go true y at.Queued z e = absurd (cc)
-  go true y at.Nowhere z e = absurd (cc)
-  go false y st z e = absurd (cc)
+batch_has_it s h p c e = grind arith
 
 some_batched : (s : Shape) (h : History) (p c : ℕ) → IsLegal s h → batch_of s h p ≡ Some c → 0 < batched s h c
 some_batched s h p c l e =
@@ -197,14 +163,10 @@ some_batched s h p c l e =
     omega (arith, batched_are s h c, part_of (allocations h) (λ i. b1 c (batch_of s h i)) p below, ap (b1 c) e, its_own c)
 
 pub may_go : (r : Replayed) (counts : List ℕ) (o : Option ℕ) (page : Option ℕ) → IsLegal r.shape r.history → CountsBatches r counts → o ≡ option_and_then (batch_of r.shape r.history) page → MayGo counts o
-may_go r counts None page l k is = tt
-may_go r counts (Some c) None l k is = absurd (cc)
-may_go r counts (Some c) (Some p) l k is = λ low. omega (arith, k.each c low, some_batched r.shape r.history p c l (sym is))
+may_go r counts x page l k is = grind (arith, some_batched)
 
 pub may_count : (r : Replayed) (counts : List ℕ) (o u : Option ℕ) → CountsBatches r counts → length r.history + 1 < 2 ^ 64 → MayGo counts o → MayCount (count_gone counts o) u
-may_count r counts o None k few may = tt
-may_count r counts o (Some c) k few may = λ low.
-    omega (arith, gone_at counts o c k.size low may, k.each c low, no_more (allocations r.history) (λ p. is_caller c (batch_of r.shape r.history p)), few_events is_alloc r.history, few)
+may_count r counts o x k few may = grind (arith, gone_at, no_more, few_events)
 
 pub counts_on : (r : Replayed) (e : Event) (counts : List ℕ) (o u : Option ℕ) → IsLegal r.shape r.history → Fits r.shape r.history e → CountsBatches r counts → MayGo counts o →
     o ≡ option_and_then (batch_of r.shape r.history) (event_page e.what) → u ≡ option_and_then (batch_of r.shape (r.history ++ e ∷ [])) (event_page e.what) → CountsBatches (with_event r e) (count_more (count_gone counts o) u)
@@ -270,5 +232,4 @@ caller_is s h c n l is = go (flight h c) refl where
         ∙ ap batch_by (standing_flying s h p c (legal_sound s h l) has)
 
 pub callers_told : (r : Replayed) (counts : List ℕ) → IsLegal r.shape r.history → CountsBatches r counts → callers_in counts ≡ callers_at r.history
-callers_told r counts l k = sum_below-ext 64 (λ c. cond (nat_lt 0 (count_at counts c)) (2 ^ c) 0) (λ c. cond (no_pages (flight r.history c)) 0 (2 ^ c))
-    (λ c low. caller_is r.shape r.history c (count_at counts c) l (k.each c low))
+callers_told r counts l k = grind (arith, sum_below-ext, nat_lt, caller_is)

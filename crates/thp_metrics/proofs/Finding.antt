@@ -4,7 +4,7 @@ use Rattle.thp_model.specs.declared.events.Event.{Event}
 use Rattle.thp_model.specs.declared.events.What.{What}
 use Rattle.thp_model.specs.declared.events.What.TheVariants as what
 use Rattle.thp_model.specs.declared.shape.Shape.{Shape}
-use Rattle.thp_model.specs.Prelude.{allocates, allocations, frees, is_alloc, is_split, History, by, count_of, Fits, IsLegal, flight, has_page, is_partly_mapped}
+use Rattle.thp_model.specs.Prelude.{allocates, allocations, is_alloc, is_split, History, by, count_of, Fits, IsLegal, flight, has_page, is_partly_mapped}
 use Rattle.thp_model.proofs.Alive.{legal_grown}
 use Rattle.thp_model.proofs.LegalSteps.{legal_push}
 use Rattle.thp_model.proofs.Numbers.{live_below}
@@ -16,7 +16,7 @@ use Rattle.thp_live_pages.specs.Prelude.{block_after, block_of, standing_of}
 use Rattle.thp_live_pages.proofs.Homing.{block_freed, block_push, block_stays, legal_homed}
 use Rattle.thp_live_pages.proofs.Standings.{standing_flying}
 use Rattle.thp_live_pages.proofs.Starting.{few_events}
-use Rattle.thp_metrics.specs.Prelude.{PinCount, HasRoom, KeepsFinds, MayNote, counted, noted, home, stage_by, finds, finds_pinned, waits, waits_in}
+use Rattle.thp_metrics.specs.Prelude.{PinCount, KeepsFinds, MayNote, counted, noted, home, stage_by, finds, finds_pinned, waits, waits_in}
 use Rattle.thp_metrics.proofs.Arriving.{home_waits, waits_home}
 
 set_same : (xs : List PinCount) (i : ℕ) (v : PinCount) → i < length xs → slice_get (set xs i v) i ≡ Some v
@@ -45,13 +45,7 @@ some_is a b e = cc
 
 -- a page that lies somewhere and isn't new lay there
 lay_there : (h : History) (e : Event) (q b : ℕ) → allocates q e.what ≡ false → block_of (h ++ e ∷ []) q ≡ Some b → block_of h q ≡ Some b
-lay_there h e q b a y = go (frees q e.what) refl where
-  now : block_after q (block_of h q) e.what ≡ Some b
-  now = sym (block_push h e q) ∙ y
-
-  go : (t : Bool) → frees q e.what ≡ t → block_of h q ≡ Some b
-  go true z = absurd (let gone = block_freed q (block_of h q) e.what z in let here = now in cc)
-  go false z = sym (block_stays q (block_of h q) e.what a z) ∙ now
+lay_there h e q b a y = grind (arith, block_push, block_freed, block_stays)
 
 same_flight : (h : History) (c p : ℕ) → flight (h ++ by c (what.Pinned p) ∷ []) c ≡ flight h c
 same_flight h c p = ap (λ (fs : List (ℕ × ℕ)). map (λ (f : ℕ × ℕ). f.1) (filter (λ (f : ℕ × ℕ). nat_eq f.0 c) fs)) (flights_push h (by c (what.Pinned p)))
@@ -79,15 +73,7 @@ finds_live s h e p l f is = go e.caller e.what f is where
 -- there is room for what happens
 pub may_note : (s : Shape) (h : History) (e : Event) (found : List PinCount) (u : Option ℕ) → IsLegal s h → Fits s h e → KeepsFinds s h found → length h + 1 < 2 ^ 64 →
     u ≡ option_and_then (home s (h ++ e ∷ [])) (event_page e.what) → MayNote found e.what u
-may_note s h e found u l f k few is = go e.caller e.what u refl f is where
-  go : (c : ℕ) (w : What) (u : Option ℕ) → e.what ≡ w → Fits s h (by c w) → u ≡ option_and_then (home s (h ++ e ∷ [])) (event_page w) → MayNote found w u
-  go c (what.Alloc p b) u same f is = omega (arith, k.size, f.inside)
-  go c (what.Pinned p) (Some b) same f is =
-      let at : block_of h p ≡ Some b = lay_there h e p b (ap (allocates p) same) (home_waits s (h ++ e ∷ []) p b (sym is)).1 in
-      let P : Option PinCount → Type 0 = HasRoom in
-      subst P (sym (k.each p b at)) (omega (arith, few_events (finds_pinned p) h, few))
-  go c (what.Pinned p) None same f is = tt
-  go c w u same f is = tt
+may_note s h e found u l f k few is = grind (arith, option_and_then, lay_there, home_waits, few_events)
 
 module _ (s : Shape) (h : History) (e : Event) (found : List PinCount) (l : IsLegal s h) (f : Fits s h e) (k : KeepsFinds s h found) where
   abbrev after : History
@@ -110,9 +96,7 @@ module _ (s : Shape) (h : History) (e : Event) (found : List PinCount) (l : IsLe
   unfound q y = omega (arith, finds_push h e q, ap (λ (b : Bool). cond {A = ℕ} b 1 0) y)
 
   kept : (q b : ℕ) → allocates q e.what ≡ false → finds_pinned q e.what ≡ false → block_of after q ≡ Some b → slice_get found b ≡ Some (record { page = q; finds = finds after q })
-  kept q b a y at = k.each q b (lay_there h e q b a at) ∙ ap (λ (n : ℕ). Some (told q n)) (sym (unfound q y)) where
-    told : ℕ → ℕ → PinCount
-    told q n = record { page = q; finds = n }
+  kept q b a y at = grind (arith, lay_there, unfound)
 
   pub finds_on : (u : Option ℕ) (more : List PinCount) → u ≡ option_and_then (home s after) (event_page e.what) → more ≡ noted found e.what u → KeepsFinds s after more
   finds_on u more is told = let P : List PinCount → Type 0 = KeepsFinds s after in subst P (sym told) (go e.caller e.what u refl f is) where
@@ -185,8 +169,4 @@ module _ (s : Shape) (h : History) (e : Event) (found : List PinCount) (l : IsLe
 
 pub nothing_found : (s : Shape) (found : List PinCount) → length found ≡ s.blocks → KeepsFinds s [] found
 unfolding count_of block_of
-nothing_found s found size = record {
-  size = size;
-  each = λ p b y. absurd (cc);
-  never = λ p high. refl;
-}
+nothing_found s found size = grind (arith, never)

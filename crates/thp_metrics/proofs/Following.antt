@@ -5,14 +5,13 @@ use Rattle.std.proofs.lemmas.List.{ext_get_or, get_or-set_other, get_or-set_same
 use Rattle.std.proofs.lemmas.List.FromFn.{get_or-map-range_with_len, length-map-range_with_len, map-range_with_len_more}
 use Rattle.thp_model.specs.declared.events.Event.{Event}
 use Rattle.thp_model.specs.declared.shape.Shape.{Shape}
-use Rattle.thp_model.specs.Prelude.{allocations, is_alloc, is_live, is_split, thp_split_page, thp_split_page_failed, thp_underused_split_page, frames_given, frames_held, History, count_of, some_event, Fits, IsLegal, flights, queue, sum_below, is_partly_mapped}
+use Rattle.thp_model.specs.Prelude.{allocations, is_live, thp_split_page, thp_split_page_failed, thp_underused_split_page, frames_given, frames_held, History, count_of, some_event, Fits, IsLegal, queue, sum_below}
 use Rattle.thp_model.proofs.Alive.{legal_grown}
 use Rattle.thp_model.proofs.LegalSteps.{legal_none, legal_push}
 use Rattle.thp_model.proofs.Numbers.{live_below}
-use Rattle.thp_live_pages.specs.Prelude.{standing_of}
 use Rattle.thp_live_pages.proofs.Starting.{few_events}
 use Rattle.thp_check.specs.Prelude.{Replayed, with_event}
-use Rattle.thp_metrics.specs.Prelude.{Numbers, Pages, Stage, Allocated, PartlyMapped, Queued, InBatch, Split, count_in, entered, left, staged, GoesAlong, MayEnter, MayLeave, numbers_at, series, is_stage, pages_at, pages_in, stage_by, stage_of, stages_at, callers_at, longest_wait}
+use Rattle.thp_metrics.specs.Prelude.{Numbers, Pages, Stage, Allocated, PartlyMapped, Queued, InBatch, Split, count_in, entered, left, staged, GoesAlong, MayEnter, MayLeave, numbers_at, series, pages_at, pages_in, stage_of, stages_at, callers_at, longest_wait}
 use Rattle.thp_journal_writer.specs.Prelude.{event_page}
 use Rattle.thp_metrics.proofs.Batches.{in_batches_are}
 use Rattle.thp_metrics.proofs.Moving.{count_moves, count_stays, none_named, not_named, no_more, one, part_of, stage_stays}
@@ -43,74 +42,17 @@ length_of_series s h = length-map-range_with_len (λ i. numbers_at s (take i h))
 -- numbers are told by the parts
 pub numbers_are : (s : Shape) (h : History) (n : Numbers) → IsLegal s h → n.queue ≡ length (queue s h) → n.in_batches ≡ n.pages.in_batch → n.held ≡ frames_held s h → n.given ≡ frames_given h
     → n.splits ≡ thp_split_page h → n.underused_splits ≡ thp_underused_split_page s h → n.pinned_tries ≡ thp_split_page_failed h → n.wait ≡ longest_wait s h → n.callers ≡ callers_at h → n.pages ≡ pages_at s h → n.stages ≡ stages_at s h → n ≡ numbers_at s h
-numbers_are s h n l a b c d e f g o u i j =
-    let batches : n.in_batches ≡ length (flights h) = b ∙ ap (λ (p : Pages). p.in_batch) i ∙ in_batches_are s h l in
-    let is : n ≡ record { queue = n.queue; in_batches = n.in_batches; held = n.held; given = n.given; splits = n.splits; underused_splits = n.underused_splits; pinned_tries = n.pinned_tries; wait = n.wait; callers = n.callers; pages = n.pages; stages = n.stages } = refl in
-    is ∙ rw (a, batches, c, d, e, f, g, o, u, i, j) refl
+numbers_are s h n l a b c d e f g o u i j = grind (arith, in_batches_are)
 
 count_at : (s : Shape) (h : History) (x : Stage) → count_in (pages_at s h) x ≡ pages_in s h x
-count_at s h Allocated = refl
-count_at s h PartlyMapped = refl
-count_at s h Queued = refl
-count_at s h InBatch = refl
-count_at s h Split = refl
+count_at s h x = grind arith
 
 -- a page that leaves was counted
 count_left : (n : Pages) (x : Stage) (o : Option Stage) → MayLeave n o → count_in (left n o) x + one x o ≡ count_in n x
-count_left n x None may = omega arith
-count_left n Allocated (Some Allocated) may = omega (arith, may)
-count_left n PartlyMapped (Some Allocated) may = omega arith
-count_left n Queued (Some Allocated) may = omega arith
-count_left n InBatch (Some Allocated) may = omega arith
-count_left n Split (Some Allocated) may = omega arith
-count_left n Allocated (Some PartlyMapped) may = omega arith
-count_left n PartlyMapped (Some PartlyMapped) may = omega (arith, may)
-count_left n Queued (Some PartlyMapped) may = omega arith
-count_left n InBatch (Some PartlyMapped) may = omega arith
-count_left n Split (Some PartlyMapped) may = omega arith
-count_left n Allocated (Some Queued) may = omega arith
-count_left n PartlyMapped (Some Queued) may = omega arith
-count_left n Queued (Some Queued) may = omega (arith, may)
-count_left n InBatch (Some Queued) may = omega arith
-count_left n Split (Some Queued) may = omega arith
-count_left n Allocated (Some InBatch) may = omega arith
-count_left n PartlyMapped (Some InBatch) may = omega arith
-count_left n Queued (Some InBatch) may = omega arith
-count_left n InBatch (Some InBatch) may = omega (arith, may)
-count_left n Split (Some InBatch) may = omega arith
-count_left n Allocated (Some Split) may = omega arith
-count_left n PartlyMapped (Some Split) may = omega arith
-count_left n Queued (Some Split) may = omega arith
-count_left n InBatch (Some Split) may = omega arith
-count_left n Split (Some Split) may = omega (arith, may)
+count_left n x y may = grind arith
 
 count_entered : (n : Pages) (x : Stage) (o : Option Stage) → count_in (entered n o) x ≡ count_in n x + one x o
-count_entered n x None = omega arith
-count_entered n Allocated (Some Allocated) = omega arith
-count_entered n PartlyMapped (Some Allocated) = omega arith
-count_entered n Queued (Some Allocated) = omega arith
-count_entered n InBatch (Some Allocated) = omega arith
-count_entered n Split (Some Allocated) = omega arith
-count_entered n Allocated (Some PartlyMapped) = omega arith
-count_entered n PartlyMapped (Some PartlyMapped) = omega arith
-count_entered n Queued (Some PartlyMapped) = omega arith
-count_entered n InBatch (Some PartlyMapped) = omega arith
-count_entered n Split (Some PartlyMapped) = omega arith
-count_entered n Allocated (Some Queued) = omega arith
-count_entered n PartlyMapped (Some Queued) = omega arith
-count_entered n Queued (Some Queued) = omega arith
-count_entered n InBatch (Some Queued) = omega arith
-count_entered n Split (Some Queued) = omega arith
-count_entered n Allocated (Some InBatch) = omega arith
-count_entered n PartlyMapped (Some InBatch) = omega arith
-count_entered n Queued (Some InBatch) = omega arith
-count_entered n InBatch (Some InBatch) = omega arith
-count_entered n Split (Some InBatch) = omega arith
-count_entered n Allocated (Some Split) = omega arith
-count_entered n PartlyMapped (Some Split) = omega arith
-count_entered n Queued (Some Split) = omega arith
-count_entered n InBatch (Some Split) = omega arith
-count_entered n Split (Some Split) = omega arith
+count_entered n x y = grind arith
 
 pages_of : ℕ → ℕ → ℕ → ℕ → ℕ → Pages
 pages_of a b c d e = record { allocated = a; partly_mapped = b; queued = c; in_batch = d; split = e }
@@ -125,17 +67,10 @@ same_pages n m same =
     ∙ ap (λ x. pages_of m.allocated m.partly_mapped m.queued m.in_batch x) (same Split)
 
 live_of : (s : Shape) (h : History) (p : ℕ) (x : Stage) → stage_of s h p ≡ Some x → is_live h p ≡ true
-live_of s h p x e = go (is_live h p) (stage_by (is_split h p) (standing_of s h p) (is_partly_mapped s h p)) e where
-  go : (b : Bool) (y : Stage) → cond b (Some y) None ≡ Some x → b ≡ true
-  go true y e = refl
-  go false y e = absurd (cc)
+live_of s h p x e = grind arith
 
 is_itself : (x : Stage) → one x (Some x) ≡ 1
-is_itself Allocated = refl
-is_itself PartlyMapped = refl
-is_itself Queued = refl
-is_itself InBatch = refl
-is_itself Split = refl
+is_itself x = grind arith
 
 some_in : (s : Shape) (h : History) (p : ℕ) (x : Stage) → IsLegal s h → stage_of s h p ≡ Some x → 0 < pages_in s h x
 some_in s h p x l e =
@@ -144,15 +79,10 @@ some_in s h p x l e =
     omega (arith, here, part_of (allocations h) (λ i. one x (stage_of s h i)) p below)
 
 pub may_leave : (s : Shape) (h : History) (n : Pages) (o : Option Stage) (page : Option ℕ) → IsLegal s h → n ≡ pages_at s h → o ≡ option_and_then (stage_of s h) page → MayLeave n o
-may_leave s h n None page l same is = tt
-may_leave s h n (Some x) None l same is = absurd (cc)
-may_leave s h n (Some x) (Some page) l same is =
-    subst (λ (m : Pages). 0 < count_in m x) (sym same) (subst (λ (k : ℕ). 0 < k) (sym (count_at s h x)) (some_in s h page x l (sym is)))
+may_leave s h n x page l same is = grind (arith, count_at, some_in)
 
 pub may_enter : (s : Shape) (h : History) (n m : Pages) (o u : Option Stage) → n ≡ pages_at s h → length h + 1 < 2 ^ 64 → MayLeave n o → m ≡ left n o → MayEnter m u
-may_enter s h n m o None same few may is = tt
-may_enter s h n m o (Some x) same few may is =
-    omega (arith, ap (λ (k : Pages). count_in k x) is, count_left n x o may, ap (λ (k : Pages). count_in k x) same, count_at s h x, no_more (allocations h) (λ i. is_stage x (stage_of s h i)), few_events is_alloc h, few)
+may_enter s h n m o x same few may is = grind (arith, count_left, count_at, no_more, few_events)
 
 -- how many pages are in each stage, with one more event
 pages_push : (s : Shape) (h : History) (e : Event) (n : Pages) (o u : Option Stage) → IsLegal s h → Fits s h e → n ≡ pages_at s h → MayLeave n o → o ≡ option_and_then (stage_of s h) (event_page e.what) → u ≡ option_and_then (stage_of s (h ++ e ∷ [])) (event_page e.what) →
@@ -168,11 +98,7 @@ pages_push s h e n o u l f same may before after = same_pages (entered (left n o
 
 -- the stages of the pages that were allocated first, with one more event
 same_stages : (f g : ℕ → Option Stage) → ((i : ℕ) → i < 60 → f i ≡ g i) → map f (range_with_len 0 60) ≡ map g (range_with_len 0 60)
-same_stages f g same =
-    ext_get_or None (map f (range_with_len 0 60)) (map g (range_with_len 0 60)) (length-map-range_with_len f 0 60 ∙ sym (length-map-range_with_len g 0 60))
-    (λ i low.
-    let below : i < 60 = omega (arith, low, length-map-range_with_len f 0 60) in
-    get_or-map-range_with_len f 0 60 i i None below (omega arith) ∙ same i below ∙ sym (get_or-map-range_with_len g 0 60 i i None below (omega arith)))
+same_stages f g same = grind (arith, ext_get_or, length-map-range_with_len, get_or-map-range_with_len)
 
 one_staged : (f g : ℕ → Option Stage) (p : ℕ) → p < 60 → ((i : ℕ) → (i ≢ p) → f i ≡ g i) → set (map f (range_with_len 0 60)) p (g p) ≡ map g (range_with_len 0 60)
 one_staged f g p inside same =
@@ -239,6 +165,4 @@ begins_along r n ss cs numbers none no_page no_stage told is =
     }) told
 
 pub same_replays : (r t : Replayed) → r.shape ≡ t.shape → r.history ≡ t.history → r ≡ t
-same_replays r t shapes events = ap (λ (s : Shape). with_both s r.history) shapes ∙ ap (with_both t.shape) events where
-  with_both : Shape → History → Replayed
-  with_both s h = record { shape = s; history = h }
+same_replays r t shapes events = grind arith

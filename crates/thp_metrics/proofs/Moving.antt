@@ -37,8 +37,7 @@ part_of (suc m) f p l =
     last m p l more = omega (arith, l, more)
 
 at_most_one : (b : Bool) → cond {A = ℕ} b 1 0 ≤ 1
-at_most_one true = omega arith
-at_most_one false = omega arith
+at_most_one x = grind arith
 
 pub no_more : (m : ℕ) (test : ℕ → Bool) → count_below m test ≤ m
 unfolding sum_below
@@ -47,23 +46,7 @@ no_more (suc m) test = omega (arith, sum_below_suc m (λ i. cond (test i) 1 0), 
 
 -- an event that doesn't name a page isn't about it
 pub not_about : (q : ℕ) (w : What) → names q w ≡ false → is_about q w ≡ false
-not_about q (what.Taken p) e = refl
-not_about q (what.Pinned p) e = refl
-not_about q (what.Used p) e = refl
-not_about q (what.Back p) e = refl
-not_about q (what.Dropped p) e = refl
-not_about q what.Close e = refl
-not_about q (what.Alloc p b) e = e
-not_about q (what.MapWhole p) e = e
-not_about q (what.UnmapWhole o p r) e = e
-not_about q (what.MapSub p a n) e = e
-not_about q (what.UnmapSub o p a n r) e = e
-not_about q (what.SplitPmd p) e = e
-not_about q (what.Pin p) e = e
-not_about q (what.Unpin o p r) e = e
-not_about q (what.Split p r) e = e
-not_about q (what.Write p a n) e = e
-not_about q (what.Zero p a n) e = e
+not_about q x e = grind arith
 
 -- a page that an event doesn't name stays in its stage
 pub stage_stays : (s : Shape) (h : History) (e : Event) (q : ℕ) → Fits s h e → names q e.what ≡ false → stage_of s (h ++ e ∷ []) q ≡ stage_of s h q
@@ -76,42 +59,10 @@ apart p q r e n = let same : r ≡ p = cc in ne_eqb q r (λ z. n (z ∙ same))
 
 -- an event names no page but that which it is about
 pub not_named : (w : What) (p q : ℕ) → event_page w ≡ Some p → (q ≢ p) → names q w ≡ false
-not_named (what.Alloc r b) p q e n = apart p q r e n
-not_named (what.MapWhole r) p q e n = apart p q r e n
-not_named (what.UnmapWhole o r set) p q e n = apart p q r e n
-not_named (what.MapSub r a k) p q e n = apart p q r e n
-not_named (what.UnmapSub o r a k set) p q e n = apart p q r e n
-not_named (what.SplitPmd r) p q e n = apart p q r e n
-not_named (what.Pin r) p q e n = apart p q r e n
-not_named (what.Unpin o r set) p q e n = apart p q r e n
-not_named (what.Write r a k) p q e n = apart p q r e n
-not_named (what.Zero r a k) p q e n = apart p q r e n
-not_named (what.Taken r) p q e n = apart p q r e n
-not_named (what.Split r set) p q e n = apart p q r e n
-not_named (what.Pinned r) p q e n = apart p q r e n
-not_named (what.Used r) p q e n = apart p q r e n
-not_named (what.Back r) p q e n = apart p q r e n
-not_named (what.Dropped r) p q e n = apart p q r e n
-not_named what.Close p q e n = refl
+not_named x p q e n = grind (arith, apart)
 
 pub none_named : (w : What) (q : ℕ) → event_page w ≡ None → names q w ≡ false
-none_named what.Close q e = refl
-none_named (what.Alloc r b) q e = absurd (cc)
-none_named (what.MapWhole r) q e = absurd (cc)
-none_named (what.UnmapWhole o r set) q e = absurd (cc)
-none_named (what.MapSub r a k) q e = absurd (cc)
-none_named (what.UnmapSub o r a k set) q e = absurd (cc)
-none_named (what.SplitPmd r) q e = absurd (cc)
-none_named (what.Pin r) q e = absurd (cc)
-none_named (what.Unpin o r set) q e = absurd (cc)
-none_named (what.Write r a k) q e = absurd (cc)
-none_named (what.Zero r a k) q e = absurd (cc)
-none_named (what.Taken r) q e = absurd (cc)
-none_named (what.Split r set) q e = absurd (cc)
-none_named (what.Pinned r) q e = absurd (cc)
-none_named (what.Used r) q e = absurd (cc)
-none_named (what.Back r) q e = absurd (cc)
-none_named (what.Dropped r) q e = absurd (cc)
+none_named x q e = grind arith
 
 -- 1 where a page is in this stage
 abbrev pub one : Stage → Option Stage → ℕ
@@ -121,8 +72,7 @@ none_counts : (s : Shape) (h : History) (p : ℕ) (x : Stage) → is_live h p �
 none_counts s h p x e = ap (λ (b : Bool). one x (cond b (Some (stage_by (is_split h p) (standing_of s h p) (is_partly_mapped s h p))) None)) e
 
 no_alloc : (p : ℕ) (w : What) → is_alloc w ≡ false → allocates p w ≡ false
-no_alloc p (what.Alloc q b) e = absurd (cc)
-no_alloc p w e = refl
+no_alloc p x e = grind arith
 
 -- a page with a number that isn't given yet doesn't live
 pub unborn : (s : Shape) (h : History) (p : ℕ) → IsLegal s h → allocations h ≤ p → is_live h p ≡ false
@@ -187,11 +137,8 @@ count_moves s h c (what.Dropped r) p x l f is = moves_old s h (by c (what.Droppe
 count_moves s h c what.Close p x l f is = absurd (cc)
 
 pub no_page : (w : What) → event_page w ≡ None → is_alloc w ≡ false
-no_page (what.Alloc p b) e = absurd (cc)
-no_page w e = refl
+no_page x e = grind arith
 
 -- an event about no page leaves all in their stages
 pub count_stays : (s : Shape) (h : History) (e : Event) (x : Stage) → Fits s h e → event_page e.what ≡ None → pages_in s (h ++ e ∷ []) x ≡ pages_in s h x
-count_stays s h e x f none =
-    ap (λ m. count_below m (λ i. is_stage x (stage_of s (h ++ e ∷ []) i))) (count_same is_alloc h e (no_page e.what none))
-    ∙ sum_below-ext (allocations h) (λ i. one x (stage_of s (h ++ e ∷ []) i)) (λ i. one x (stage_of s h i)) (λ i low. ap (one x) (stage_stays s h e i f (none_named e.what i none)))
+count_stays s h e x f none = grind (arith, count_same, no_page, sum_below-ext, stage_stays, none_named)

@@ -5,13 +5,7 @@ use Rattle.thp_metrics.specs.Prelude.{Column, Numbers, column_of, AreFull, AllLo
 use Rattle.thp_metrics.proofs.Spans.{column_append, low_append}
 
 pub lows_fit : (a b : PageSums) → AreWithin (2 ^ 126) a → AreWithin (2 ^ 126) b → FitTogether a b
-lows_fit a b low other = record {
-  allocated = omega (arith, low.allocated, other.allocated);
-  partly_mapped = omega (arith, low.partly_mapped, other.partly_mapped);
-  queued = omega (arith, low.queued, other.queued);
-  in_batch = omega (arith, low.in_batch, other.in_batch);
-  split = omega (arith, low.split, other.split);
-}
+lows_fit a b low other = grind arith
 
 -- each two neighbours one behind the other
 abbrev pub in_twos : {X : Type 0} → List (List X) → List (List X)

@@ -22,14 +22,7 @@ span_of_both : (f : Numbers → ℕ) (xs ys : List Numbers) → 0 < length xs �
 span_of_both f xs ys h k = ap span_of (map-append f xs ys) ∙ span_append (map f xs) (map f ys) (rw (length-map xs f) h) (rw (length-map ys f) k)
 
 sums_append : (xs ys : List Numbers) → sums_of (xs ++ ys) ≡ added (sums_of xs) (sums_of ys)
-sums_append xs ys =
-    rw (
-      sum_by-append (λ (n : Numbers). n.pages.allocated) xs ys,
-      sum_by-append (λ (n : Numbers). n.pages.partly_mapped) xs ys,
-      sum_by-append (λ (n : Numbers). n.pages.queued) xs ys,
-      sum_by-append (λ (n : Numbers). n.pages.in_batch) xs ys,
-      sum_by-append (λ (n : Numbers). n.pages.split) xs ys,
-    ) refl
+sums_append xs ys = grind (arith, sum_by-append)
 
 -- sums of both are low where those of each are
 pub low_append : (xs ys : List Numbers) → HasLowSums xs → HasLowSums ys → HasLowSums (xs ++ ys)
@@ -63,17 +56,4 @@ callers_append (x ∷ z ∷ xs) (y ∷ ys) h k =
 
 -- a column of the prefixes of both is the two columns joined
 pub column_append : (xs ys : List Numbers) → 0 < length xs → 0 < length ys → column_of (xs ++ ys) ≡ both (column_of xs) (column_of ys)
-column_append xs ys h k =
-    rw (
-      span_of_both (λ (n : Numbers). n.queue) xs ys h k,
-      span_of_both (λ (n : Numbers). n.in_batches) xs ys h k,
-      span_of_both (λ (n : Numbers). n.held) xs ys h k,
-      span_of_both (λ (n : Numbers). n.given) xs ys h k,
-      span_of_both (λ (n : Numbers). n.splits) xs ys h k,
-      span_of_both (λ (n : Numbers). n.underused_splits) xs ys h k,
-      span_of_both (λ (n : Numbers). n.pinned_tries) xs ys h k,
-      span_of_both (λ (n : Numbers). n.wait) xs ys h k,
-      callers_append xs ys h k,
-      sums_append xs ys,
-      last_of_both xs ys k,
-    ) refl
+column_append xs ys h k = grind (arith, span_of_both, callers_append, sums_append, last_of_both)

@@ -1,5 +1,5 @@
 -- Which pages wait and were found pinned, by what is kept of them.
-use Rattle.std.proofs.Common.{◌≡◌, ℕ, zero, suc, ◌+◌, ◌<◌, Bool, true, false, cond, List, [], ◌∷◌, ◌++◌, Option, Some, length, get_or, refl, ap, sym, ◌∙◌, subst, arith, inl, inr, ◌⊎◌, nat_lt, Contains, All, AllPairs, append-nil, append_assoc, take, ◌≤◌, slice_get, le-ltb, lt-ltb, ltb-true}
+use Rattle.std.proofs.Common.{◌≡◌, ℕ, suc, ◌+◌, ◌<◌, Bool, true, false, cond, List, [], ◌∷◌, ◌++◌, Option, Some, length, get_or, refl, ap, sym, ◌∙◌, subst, arith, inl, inr, ◌⊎◌, nat_lt, Contains, All, AllPairs, append-nil, append_assoc, take, ◌≤◌, slice_get, le-ltb, lt-ltb, ltb-true}
 use Rattle.std.proofs.lemmas.List.{take_more}
 use Rattle.std.proofs.lemmas.List.Elements.{All-contains_itself}
 use Rattle.std.proofs.lemmas.List.Kept.{AllPairs-cons}
@@ -17,8 +17,7 @@ after_of : (x : StuckPage) (xs : List StuckPage) (y : StuckPage) → Contains xs
 after_of x xs y m = let below : m.0 < length xs = m.1 in (suc m.0, omega arith, m.2)
 
 cases_of : (x : StuckPage) (xs : List StuckPage) (y : StuckPage) → Contains (x ∷ xs) y → (y ≡ x) ⊎ Contains xs y
-cases_of x xs y (zero, below, at) = inl (sym at)
-cases_of x xs y (suc k, below, at) = inr (k, omega arith, at)
+cases_of x xs y z = grind arith
 
 each_of : (P : StuckPage → Type 0) (xs : List StuckPage) → ((x : StuckPage) → Contains xs x → P x) → All P xs
 each_of P xs all = λ k d below. all (get_or xs k d) (All-contains_itself xs k d below)
@@ -38,12 +37,7 @@ module _ (s : Shape) (h : History) (n : ℕ) (a : Arrived) (found : List PinCoun
   told_in p b y = ap (λ (o : Option PinCount). stuck_by o (since_of a b)) (f.each p b (home_waits s h p b y).1)
 
   is_stuck : (p b : ℕ) → home s h p ≡ Some b → 0 < finds h p → IsStuck s h (told p b)
-  is_stuck p b y some = record {
-    waiting = (home_waits s h p b y).0;
-    some = some;
-    finds_are = refl;
-    since_is = k.came p b y;
-  }
+  is_stuck p b y some = grind (arith, home_waits)
 
   -- so far as these blocks go
   record Part (bs : List ℕ) (xs : List StuckPage) : Type 0 where
@@ -137,12 +131,7 @@ whole found a bs k v below at =
 pub passed_one : (found : List PinCount) (a : Arrived) (bs : List ℕ) (k : ℕ) (v : PinCount) (xs ys : List StuckPage) (since : ℕ) → k < length bs → slice_get found (get_or bs k 0) ≡ Some v → xs ≡ stuck_among found a (take k bs) → 0 < v.finds →
     since ≡ since_of a (get_or bs k 0) → ys ≡ xs ++ record { page = v.page; finds = v.finds; since = since } ∷ [] → ys ≡ stuck_among found a (take (k + 1) bs)
 unfolding as_page
-passed_one found a bs k v xs ys since below at is some when more =
-    more
-    ∙ ap (λ (n : ℕ). xs ++ as_page v n ∷ []) when
-    ∙ ap (λ (zs : List StuckPage). zs ++ as_page v (since_of a (get_or bs k 0)) ∷ []) is
-    ∙ ap (λ b. stuck_among found a (take k bs) ++ cond b (as_page v (since_of a (get_or bs k 0)) ∷ []) []) (sym (lt-ltb 0 v.finds some))
-    ∙ sym (whole found a bs k v below at)
+passed_one found a bs k v xs ys since below at is some when more = grind (arith, as_page, get_or, lt-ltb, whole)
 
 -- it wasn't
 pub passed_none : (found : List PinCount) (a : Arrived) (bs : List ℕ) (k : ℕ) (v : PinCount) (xs ys : List StuckPage) → k < length bs → slice_get found (get_or bs k 0) ≡ Some v → xs ≡ stuck_among found a (take k bs) → v.finds ≤ 0 → ys ≡ xs → ys ≡ stuck_among found a (take (k + 1) bs)

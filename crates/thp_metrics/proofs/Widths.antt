@@ -1,5 +1,5 @@
 -- How wide the columns are, and that they are the parts of the prefixes.
-use Rattle.std.proofs.Common.{◌≡◌, ◌⊎◌, ℕ, zero, suc, ◌+◌, ◌*◌, ◌^◌, ◌<◌, ◌≤◌, List, [], ◌∷◌, ◌++◌, length, map, drop, refl, ap, sym, ◌∙◌, inl, inr, subst, arith, append_assoc, length-append, take_at, drop_at, pow_pos}
+use Rattle.std.proofs.Common.{◌≡◌, ◌⊎◌, ℕ, zero, suc, ◌+◌, ◌*◌, ◌^◌, ◌<◌, ◌≤◌, List, [], ◌∷◌, ◌++◌, length, map, drop, ap, sym, ◌∙◌, inl, inr, subst, arith, append_assoc, length-append, take_at, drop_at, pow_pos}
 use Rattle.std.proofs.Math.Nat.{pow-suc, mul-le-mul_left, mul-le-mul_right}
 use Rattle.std.proofs.lemmas.List.{take_all, drop_all, length-map, map-append}
 use Rattle.thp_metrics.specs.Prelude.{Column, Folded, Numbers, column_of, columns_of, parts, sums_of, IsWidth, AreLow, AreWithin, AreFull, AllLow, HasLowSums, all_of, Folds, HasRoomForOne}
@@ -24,13 +24,7 @@ narrow past f h few = elim h.needed [
 ]
 
 low_sums : (ns : List Numbers) → length ns ≤ 2 ^ 62 → HasLowSums ns → AreWithin (2 ^ 126) (sums_of ns)
-low_sums ns few low = record {
-  allocated = omega (arith, few, low.allocated);
-  partly_mapped = omega (arith, few, low.partly_mapped);
-  queued = omega (arith, few, low.queued);
-  in_batch = omega (arith, few, low.in_batch);
-  split = omega (arith, few, low.split);
-}
+low_sums ns few low = grind arith
 
 columns_are_low : (w : ℕ) (xss : List (List Numbers)) → w ≤ 2 ^ 62 → AreFull w xss → AllLow xss → AreLow (map column_of xss)
 columns_are_low w [] few full low = tt
@@ -57,15 +51,10 @@ powers zero (suc k) = inl (omega (arith, pow_pos (suc k)))
 powers (suc j) (suc k) = elim (powers j k) [ inl few ↦ inl (rw (pow-suc 2 j, pow-suc 2 k) (omega (arith, few))) | inr many ↦ inr (rw (pow-suc 2 j, pow-suc 2 k) (omega (arith, many))) ]
 
 serves : (a l n w r : ℕ) → n ≡ a * w + l → l + r ≡ w → a < 600 → n ≤ 600 * w
-serves a l n w r count room few =
-    let most : (a + 1) * w ≤ 600 * w = mul-le-mul_right w (omega (arith, few)) in
-    let one : (a + 1) * w ≡ a * w + w = grind arith in
-    omega (arith, most, one, count, room)
+serves a l n w r count room few = grind (arith, mul-le-mul_right)
 
 too_few : (a l n w v : ℕ) → n ≡ a * w + l → 0 < l → 600 ≤ 2 * a → 2 * v ≤ w → n ≤ 600 * v → ⊥
-too_few a l n w v count some many wide fits =
-    let much : 300 * w ≤ a * w = mul-le-mul_right w (omega (arith, many)) in
-    omega (arith, much, count, some, wide, fits)
+too_few a l n w v count some many wide fits = grind (arith, mul-le-mul_right)
 
 pub width_is : (past : List Numbers) (f : Folded) → Folds past f → IsWidth (length past) f.width
 width_is past f h = record {
@@ -82,15 +71,11 @@ width_is past f h = record {
 }
 
 pub one_width : (n v w : ℕ) → IsWidth n v → IsWidth n w → v ≡ w
-one_width n v w a b =
-    let below : v ≤ w = subst (λ (x : ℕ). v ≤ x) (sym b.power_is) (a.least b.power (subst (λ (x : ℕ). n ≤ 600 * x) b.power_is b.serves)) in
-    let above : w ≤ v = subst (λ (x : ℕ). w ≤ x) (sym a.power_is) (b.least a.power (subst (λ (x : ℕ). n ≤ 600 * x) a.power_is a.serves)) in
-    omega (arith, below, above)
+one_width n v w a b = grind (arith, serves)
 
 -- full lists and one more, joined, are cut into the same parts
 parts_of_none : (m w : ℕ) → parts {X = Numbers} m w [] ≡ []
-parts_of_none zero w = refl
-parts_of_none (suc m) w = refl
+parts_of_none x w = grind arith
 
 parts_back : (m w : ℕ) (xss : List (List Numbers)) (last : List Numbers) → 0 < w → AreFull w xss → 0 < length last → length last ≤ w → length xss < m → parts m w (all_of xss ++ last) ≡ xss ++ last ∷ []
 parts_back m w [] [] wide full some fits enough = absurd (omega (arith, some))
@@ -106,9 +91,7 @@ parts_back (suc m) w ((x ∷ xs) ∷ xss) last wide full some fits enough =
     ∙ ap (λ rest. (x ∷ xs) ∷ rest) (parts_back m w xss last wide full.1 some fits (omega (arith, enough)))
 
 enough_parts : (a l n w : ℕ) → n ≡ a * w + l → 0 < l → 0 < w → a < n
-enough_parts a l n w count some wide =
-    let more : a * 1 ≤ a * w = mul-le-mul_left a wide in
-    omega (arith, more, count, some)
+enough_parts a l n w count some wide = grind (arith, mul-le-mul_left)
 
 pub columns_are : (past : List Numbers) (f : Folded) (cs : List Column) → Folds past f → cs ≡ f.full.items ++ f.last ∷ [] → cs ≡ columns_of f.width past
 columns_are past f cs h e =

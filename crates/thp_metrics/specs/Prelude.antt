@@ -1,4 +1,4 @@
--- The definitions and types of this library, each by its name alone: one line of a file imports what it cites.
+-- Re-exports the definitions and types of this library: other files import those that they cite from here, in one line.
 pub use Rattle.thp_metrics.specs.Arrivals.{Arrived, Ascends, KeepsWaits, first_of, first_since, since_of}
 pub use Rattle.thp_metrics.specs.Columns.{IsWidth, all_callers, column_of, columns_of, last_stages, parts, sums_of}
 pub use Rattle.thp_metrics.specs.Counting.{MayCount, MayGo, callers_in, count_at, count_gone, count_more}

@@ -1,8 +1,8 @@
 -- Histories that are equal but for their blocks say the same of all else.
 use Rattle.std.proofs.Common.{◌≡◌, ℕ, ◌+◌, ◌-◌, ◌<◌, Bool, true, false, cond, not, ◌&&◌, ◌||◌, List, [], ◌∷◌, ◌++◌, Option, Some, None, map, refl, ap, ap₂, sym, ◌∙◌, arith, nat_eq, nat_lt, slice_get}
-use Rattle.std.specs.List.{fold, list_any, filter}
+use Rattle.std.specs.List.{fold, filter}
 use Rattle.std.proofs.lemmas.List.{map-append}
-use Rattle.thp_model.specs.Prelude.{Event, Outcome, Freed, Queued, Stays, What, Alloc, MapWhole, UnmapWhole, MapSub, UnmapSub, SplitPmd, Pin, Unpin, Write, Zero, Taken, Split, Used, Back, Dropped, Close, Refusal, NoPage, BadRange, IsSplit, NotMapped, Gone, NotPinned, TooMany, Closed, Shape, with_block, event_with, without_blocks, SameButBlocks, maps, unmaps, maps_whole, unmaps_whole, pins_page, unpins_page, is_alloc, allocates, frees, splits, closes, total, whole, pins, is_live, is_split, is_closed, allocations, shrinks_underused, zero_after, is_zero_filled, unmaps_some, unmaps_part, add_unmap, is_partly_mapped, is_above, is_worth_split, is_held, released, outcome, History, by, count_of, some_event, FitsBy, Gives, is_dropped, queue, queue_after, flights, flights_after, flight, is_taking, takes_by, stands, has_page, no_pages, refusal, most, covers, subpages}
+use Rattle.thp_model.specs.Prelude.{Event, Outcome, Freed, Queued, Stays, What, Alloc, MapWhole, UnmapWhole, MapSub, UnmapSub, SplitPmd, Pin, Unpin, Write, Zero, Taken, Split, Used, Back, Dropped, Close, Refusal, NoPage, BadRange, IsSplit, NotMapped, Gone, NotPinned, TooMany, Closed, Shape, with_block, event_with, without_blocks, SameButBlocks, maps, unmaps, maps_whole, unmaps_whole, pins_page, unpins_page, is_alloc, allocates, frees, splits, closes, total, whole, pins, is_live, is_split, is_closed, allocations, shrinks_underused, zero_after, is_zero_filled, unmaps_some, unmaps_part, add_unmap, is_partly_mapped, is_worth_split, is_held, released, outcome, History, count_of, some_event, FitsBy, Gives, is_dropped, queue, queue_after, flights, flights_after, flight, is_taking, takes_by, stands, has_page, no_pages, refusal, most, covers, subpages}
 use Rattle.thp_model.specs.declared.events.What.TheVariants.{Pinned}
 use Rattle.thp_model.specs.Refusals as call
 use Rattle.thp_model.proofs.Below.{some_below-ext}
@@ -36,83 +36,67 @@ fold_bare f g s (e ∷ h) = ap (λ t. fold f t (without_blocks h)) (g s e) ∙ f
 
 -- no count and no state of a page looks at the block
 pub maps_blind : (p i : ℕ) → Blind (maps p i)
-maps_blind p i (Alloc q b) = refl
-maps_blind p i w = refl
+maps_blind p i x = grind arith
 
 -- the same of mappings taken away
 pub unmaps_blind : (p i : ℕ) → Blind (unmaps p i)
-unmaps_blind p i (Alloc q b) = refl
-unmaps_blind p i w = refl
+unmaps_blind p i x = grind arith
 
 -- the same of whole mappings
 maps_whole_blind : (p : ℕ) → Blind (maps_whole p)
-maps_whole_blind p (Alloc q b) = refl
-maps_whole_blind p w = refl
+maps_whole_blind p x = grind arith
 
 -- the same of whole mappings taken away
 unmaps_whole_blind : (p : ℕ) → Blind (unmaps_whole p)
-unmaps_whole_blind p (Alloc q b) = refl
-unmaps_whole_blind p w = refl
+unmaps_whole_blind p x = grind arith
 
 -- the same of pins
 pub pin_blind : (p : ℕ) → Blind (pins_page p)
-pin_blind p (Alloc q b) = refl
-pin_blind p w = refl
+pin_blind p x = grind arith
 
 -- the same of pins taken away
 pub unpin_blind : (p : ℕ) → Blind (unpins_page p)
-unpin_blind p (Alloc q b) = refl
-unpin_blind p w = refl
+unpin_blind p x = grind arith
 
 -- the same of allocations
 alloc_blind : Blind is_alloc
-alloc_blind (Alloc q b) = refl
-alloc_blind w = refl
+alloc_blind x = grind arith
 
 -- the same of the allocation of one page
 pub allocates_blind : (p : ℕ) → Blind (allocates p)
-allocates_blind p (Alloc q b) = refl
-allocates_blind p w = refl
+allocates_blind p x = grind arith
 
 -- the same of what frees a page
 pub frees_blind : (p : ℕ) → Blind (frees p)
-frees_blind p (Alloc q b) = refl
-frees_blind p w = refl
+frees_blind p x = grind arith
 
 -- the same of splits
 pub splits_blind : (p : ℕ) → Blind (splits p)
-splits_blind p (Alloc q b) = refl
-splits_blind p w = refl
+splits_blind p x = grind arith
 
 -- the same of closes
 closes_blind : Blind closes
-closes_blind (Alloc q b) = refl
-closes_blind w = refl
+closes_blind x = grind arith
 
 -- the queue doesn't look at the block
 queue_blind : (shape : Shape) (ps : List ℕ) (w : What) → queue_after shape ps (with_block 0 w) ≡ queue_after shape ps w
-queue_blind shape ps (Alloc q b) = refl
-queue_blind shape ps w = refl
+queue_blind shape ps x = grind arith
 
 -- nor does what is zero-filled
 zero_blind : (p i : ℕ) (b : Bool) (w : What) → zero_after p i b (with_block 0 w) ≡ zero_after p i b w
-zero_blind p i b (Alloc q c) = refl
-zero_blind p i b w = refl
+zero_blind p i b x = grind arith
 
 -- nor does an unmap
 unmaps_some_blind : (p : ℕ) → Blind (unmaps_some p)
-unmaps_some_blind p (Alloc q b) = refl
-unmaps_some_blind p w = refl
+unmaps_some_blind p x = grind arith
 
 -- nor do the flights
 flights_blind : (fs : List (ℕ × ℕ)) (c : ℕ) (w : What) → flights_after fs c (with_block 0 w) ≡ flights_after fs c w
-flights_blind fs c (Alloc q b) = refl
-flights_blind fs c w = refl
+flights_blind fs c x = grind arith
 
 -- nor does it matter for the last take
 taking_blind : (c d : ℕ) (w : What) → takes_by c d (with_block 0 w) ≡ takes_by c d w
-taking_blind c d (Alloc q b) = refl
-taking_blind c d w = refl
+taking_blind c d x = grind arith
 
 -- what two histories say alike
 pub record Alike (h k : History) : Type 0 where
@@ -168,12 +152,7 @@ total_alike p i h k e = ap₂ (λ a b. a - b) (count_alike (maps p i) (maps_blin
 -- one more event of both, without its block in one of them
 same_step : (k h : History) (e : Event) → SameButBlocks k h → SameButBlocks (k ++ event_with 0 e ∷ []) (h ++ e ∷ [])
 unfolding without_blocks
-same_step k h e s =
-    map-append (event_with 0) k (event_with 0 e ∷ []) ∙ ap (λ x. x ++ event_with 0 (event_with 0 e) ∷ []) s
-    ∙ ap (λ w. map (event_with 0) h ++ by e.caller w ∷ []) (twice e.what) ∙ sym (map-append (event_with 0) h (e ∷ [])) where
-      twice : (w : What) → with_block 0 (with_block 0 w) ≡ with_block 0 w
-      twice (Alloc p b) = refl
-      twice w = refl
+same_step k h e s = grind (arith, map-append)
 
 -- an event unmaps a part of a page at both or at neither
 part_alike : (shape : Shape) (p : ℕ) (k h : History) (e : Event) → SameButBlocks k h → unmaps_part shape p k (event_with 0 e) ≡ unmaps_part shape p h e
@@ -252,9 +231,7 @@ module _ (shape : Shape) (h k : History) (a : Alike h k) where
   held_alike p i = held-by (nat_lt i (subpages shape)) (shrinks_underused shape) _ _ _ _ _ _ _ _ (a.live p) (a.split p) (a.total p i) (a.zero p i)
 
   pub worth_alike : (p : ℕ) → is_worth_split shape h p ≡ is_worth_split shape k p
-  worth_alike p =
-      ap₂ (λ x y. x || y) (a.partly shape p)
-      (ap (λ n. is_above shape.underused n) (sum_below-ext (subpages shape) _ _ (λ i l. ap (λ b. cond {A = ℕ} b 1 0) (a.zero p i))))
+  worth_alike p = grind (arith, sum_below-ext)
 
   pub dropped_alike : (p : ℕ) → is_dropped shape h p ≡ is_dropped shape k p
   dropped_alike p = ap₂ (λ x y. x || not y) a.closed (a.partly shape p)
@@ -320,10 +297,7 @@ module _ (shape : Shape) (h k : History) (a : Alike h k) where
   close_alike = one _ _ Closed a.closed
 
   pub stands_alike : (p : ℕ) → stands shape h p ≡ stands shape k p
-  stands_alike p = go _ _ _ _ (a.queue shape) a.flights where
-    go : (q q' : List ℕ) (f f' : List (ℕ × ℕ)) → q ≡ q' → f ≡ f' →
-        list_any (λ x. nat_eq x p) (q ++ map (λ (f : ℕ × ℕ). f.1) f) ≡ list_any (λ x. nat_eq x p) (q' ++ map (λ (f : ℕ × ℕ). f.1) f')
-    go q q' f f' e g = cc
+  stands_alike p = grind (arith, nat_eq)
 
   pub flight_alike : (c : ℕ) → flight h c ≡ flight k c
   flight_alike c = ap (λ fs. map (λ (f : ℕ × ℕ). f.1) (filter (λ (f : ℕ × ℕ). nat_eq f.0 c) fs)) a.flights

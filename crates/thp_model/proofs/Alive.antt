@@ -1,7 +1,7 @@
 -- A live page is mapped or pinned, a split page has no pins, and so a live page holds a frame.
-use Rattle.std.proofs.Common.{◌≡◌, ℕ, ◌+◌, ◌-◌, Bool, true, false, cond, not, ◌&&◌, ◌||◌, [], ◌∷◌, ◌++◌, refl, ap, sym, ◌∙◌, subst, arith, nat_eq, nat_lt, inl, inr, eq-eqb, lt-ltb}
+use Rattle.std.proofs.Common.{◌≡◌, ℕ, ◌+◌, ◌-◌, Bool, true, false, not, ◌&&◌, ◌||◌, [], ◌∷◌, ◌++◌, refl, ap, sym, ◌∙◌, subst, arith, nat_eq, nat_lt, inl, inr, eq-eqb, lt-ltb}
 use Rattle.std.proofs.lemmas.Bool.Decides.{eqb_tells, nat_tests}
-use Rattle.thp_model.specs.Prelude.{Event, Outcome, Freed, Queued, Stays, What, Alloc, UnmapWhole, UnmapSub, Pin, Unpin, Split, Shape, History, count_of, some_event, by, is_freed, maps, unmaps, pins_page, unpins_page, allocates, frees, splits, total, pins, is_live, is_split, is_closed, stands, is_held, outcome, some_below, subpages, shrinks_underused, is_zero_filled, IsLegal, Fits, FitsBy}
+use Rattle.thp_model.specs.Prelude.{Event, Outcome, What, Alloc, UnmapWhole, UnmapSub, Pin, Unpin, Split, Shape, History, count_of, some_event, by, is_freed, maps, unmaps, pins_page, unpins_page, allocates, frees, splits, total, pins, is_live, is_split, is_held, outcome, some_below, subpages, shrinks_underused, is_zero_filled, IsLegal, Fits, FitsBy}
 use Rattle.thp_model.proofs.Allowed.{allowed_pin}
 use Rattle.thp_model.proofs.Below.{some_yes, some_no, some_more}
 use Rattle.thp_model.proofs.Bools.{by_bool, and_no}
@@ -23,31 +23,15 @@ pub record Alive (shape : Shape) (h : History) : Type 0 where
 
 -- busy still, where more is mapped and no fewer pins stand
 busy_by : (a b a' b' : Bool) → (a ≡ true → a' ≡ true) → (b' ≡ true → b ≡ true) → (not a && b) ≡ false → (not a' && b') ≡ false
-busy_by true b a' b' f g e = let t : a' ≡ true = f refl in rw t refl
-busy_by false true a' b' f g e = absurd (cc)
-busy_by false false a' true f g e = absurd (let t : false ≡ true = g refl in cc)
-busy_by false false true false f g e = refl
-busy_by false false false false f g e = refl
+busy_by x b a' b' f g e = grind arith
 
 -- an event that unmaps nothing from page p leaves it busy
 stays_busy : (shape : Shape) (h : History) (e : Event) (p : ℕ) → ((i : ℕ) → unmaps p i e.what ≡ false) → unpins_page p e.what ≡ false → idle shape h p ≡ false → idle shape (h ++ e ∷ []) p ≡ false
-stays_busy shape h e p t u b =
-    busy_by (some_below (subpages shape) (λ i. nat_lt 0 (total h p i))) (nat_eq (pins h p) 0) (some_below (subpages shape) (λ i. nat_lt 0 (total (h ++ e ∷ []) p i))) (nat_eq (pins (h ++ e ∷ []) p) 0)
-    (some_more (subpages shape) _ _ (λ i l y. up _ _ _ _ _ (count_of_push (maps p i) h e) (count_same (unmaps p i) h e (t i)) y))
-    (λ y. down _ _ _ _ _ (count_of_push (pins_page p) h e) (count_same (unpins_page p) h e u) y) b where
-      up : (a d t a' t' : ℕ) → a' ≡ a + d → t' ≡ t → nat_lt 0 (a - t) ≡ true → nat_lt 0 (a' - t') ≡ true
-      up a d t a' t' e f g = grind (arith, nat_tests)
-
-      down : (a d t a' t' : ℕ) → a' ≡ a + d → t' ≡ t → nat_eq (a' - t') 0 ≡ true → nat_eq (a - t) 0 ≡ true
-      down a d t a' t' e f g = grind (arith, nat_tests)
+stays_busy shape h e p t u b = grind (arith, busy_by, nat_lt, nat_eq, some_more, count_of_push, count_same, nat_tests)
 
 -- an unmap or unpin that didn't free its page leaves it busy
 busy_after : (shape : Shape) (h k : History) (p : ℕ) (o : Outcome) → o ≡ outcome shape h k p → is_freed o ≡ false → idle shape k p ≡ false
-busy_after shape h k p o e f =
-    go (idle shape k p) (not (is_split h p) && (some_below (subpages shape) (λ i. nat_lt 0 (total h p i) && nat_eq (total k p i) 0) && (some_below (subpages shape) (λ i. nat_lt 0 (total k p i)) && (not (is_closed h) && not (stands shape h p))))) o e f where
-      go : (a q : Bool) (o : Outcome) → o ≡ cond a Freed (cond q Queued Stays) → is_freed o ≡ false → a ≡ false
-      go true q o e f = absurd (let g : is_freed o ≡ true = ap is_freed e in cc)
-      go false q o e f = refl
+busy_after shape h k p o e f = grind (arith, nat_lt, nat_eq)
 
 -- of page q, after an unmap or unpin of p
 unmapped : (shape : Shape) (h : History) (e : Event) (p q : ℕ) (o : Outcome) → frees q e.what ≡ (nat_eq q p && is_freed o) → allocates q e.what ≡ false → o ≡ outcome shape h (h ++ e ∷ []) p →
@@ -137,11 +121,7 @@ pub record Grown (shape : Shape) (h : History) : Type 0 where
 
 -- one more event that fits keeps all of it
 pub grown_push : (shape : Shape) (h : History) (e : Event) → Grown shape h → Fits shape h e → Grown shape (h ++ e ∷ [])
-grown_push shape h e g f = record {
-  sound = sound_push shape h e g.sound g.numbered f;
-  numbered = numbered_push shape h e g.sound g.numbered f;
-  alive = alive_push shape h e g.numbered g.alive f;
-}
+grown_push shape h e g f = grind (arith, sound_push, numbered_push, alive_push)
 
 -- all of it holds of the empty history
 pub grown_none : (shape : Shape) → Grown shape []

@@ -43,12 +43,10 @@ partly_next s h k e p before after below is was now =
 
 -- a part of a conjunction that is known
 pub and_then : (x a b : Bool) → x ≡ a → x ≡ true → b ≡ (a && b)
-and_then x true b e t = refl
-and_then x false b e t = absurd (cc)
+and_then x y b e t = grind arith
 
 pub and_else : (x a b : Bool) → x ≡ a → x ≡ false → false ≡ (a && b)
-and_else x true b e t = absurd (cc)
-and_else x false b e t = refl
+and_else x y b e t = grind arith
 
 -- numbers that aren't i are below i where they are below the next
 below_same : (i k : ℕ) → (k ≢ i) → nat_lt k i ≡ nat_lt k (i + 1)
@@ -56,19 +54,11 @@ below_same i k f = elim (cases_lt k i) [ inl y ↦ lt-ltb k i y ∙ sym (lt-ltb 
 
 -- the numbers below i that pass, and i where it passes
 below_step : (t : ℕ → Bool) (i k : ℕ) → t i ≡ true → (nat_eq k i || (nat_lt k i && t k)) ≡ (nat_lt k (i + 1) && t k)
-below_step t i k e =
-    elim (eqb_tells k i) [
-      | inl y ↦ rw (y.1) (rw (eq-eqb i i refl, lt-ltb i (i + 1) (omega arith), e) refl)
-      | inr y ↦ rw (y.0, below_same i k y.1) refl
-    ]
+below_step t i k e = grind (arith, eqb_tells, eq-eqb, lt-ltb, below_same)
 
 -- the numbers below i that pass, where i doesn't
 below_stay : (t : ℕ → Bool) (i k : ℕ) → t i ≡ false → (nat_lt k i && t k) ≡ (nat_lt k (i + 1) && t k)
-below_stay t i k e =
-    elim (eqb_tells k i) [
-      | inl y ↦ rw (y.1, e) (and-false (nat_lt i i) ∙ sym (and-false (nat_lt i (i + 1))))
-      | inr y ↦ ap (λ b. b && t k) (below_same i k y.1)
-    ]
+below_stay t i k e = grind (arith, eqb_tells, and-false, nat_lt, below_same)
 
 -- a set of the numbers below i that pass, and i
 pub set_more : (t : ℕ → Bool) (i : ℕ) → i < 512 → t i ≡ true → set (set_of (λ j. nat_lt j i && t j)) i true ≡ set_of (λ j. nat_lt j (i + 1) && t j)
@@ -123,12 +113,10 @@ flight_next fs c k f below is =
 
 -- an alternative whose first part is known
 pub or_then : (x y b : Bool) → x ≡ (y || b) → y ≡ true → x ≡ true
-or_then x true b e f = e
-or_then x false b e f = absurd (cc)
+or_then x y b e f = grind arith
 
 pub or_else : (x y b : Bool) → x ≡ (y || b) → y ≡ false → x ≡ b
-or_else x true b e f = absurd (cc)
-or_else x false b e f = e
+or_else x y b e f = grind arith
 
 -- each number passes where none fails
 pub each_where : (n : ℕ) (f : ℕ → Bool) → not (some_below n (λ i. not (f i))) ≡ each_below n f
@@ -139,11 +127,7 @@ each_where n f = sym (each-not n (λ i. not (f i))) ∙ each_below-ext n (λ i. 
 
 -- no refusal, by the test that says so
 pub none_is : (r : Option Refusal) (b : Bool) → is_some r ≡ not b → b ≡ true → r ≡ None
-none_is None b e t = refl
-none_is (Some x) true e t = absurd (cc)
-none_is (Some x) false e t = absurd (cc)
+none_is x b e t = grind arith
 
 pub some_is : (r : Option Refusal) (b : Bool) → is_some r ≡ not b → b ≡ false → r ≡ None → ⊥
-some_is None true e t n = absurd (cc)
-some_is None false e t n = absurd (cc)
-some_is (Some x) b e t n = absurd (cc)
+some_is x y e t n = grind arith

@@ -1,5 +1,5 @@
 -- Which blocks are in use, and by which pages.
-use Rattle.std.proofs.Common.{◌≡◌, ℕ, ◌<◌, Bool, true, false, cond, not, ◌&&◌, ◌||◌, List, [], ◌∷◌, ◌++◌, map, refl, ap, sym, ◌∙◌, subst, arith, nat_eq, inl, inr, eq-eqb, ne_eqb, eqb-true}
+use Rattle.std.proofs.Common.{◌≡◌, ℕ, ◌<◌, Bool, true, false, cond, not, ◌&&◌, ◌||◌, List, [], ◌∷◌, ◌++◌, map, refl, ap, sym, ◌∙◌, subst, arith, nat_eq, eq-eqb, ne_eqb, eqb-true}
 use Rattle.std.specs.Cmp.{IsEquivalence}
 use Rattle.std.specs.List.{fold, filter, list_any, IsDistinct, AllByRecursion}
 use Rattle.std.proofs.lemmas.Bool.Decides.{eqb_tells}
@@ -8,7 +8,7 @@ use Rattle.std.proofs.lemmas.List.Elements.{filter-append}
 use Rattle.std.proofs.lemmas.List.Folds.{list_any-append}
 use Rattle.std.proofs.lemmas.List.Sums.{fold_push}
 use Rattle.std.proofs.lemmas.Map.Keys.{IsDistinct-push}
-use Rattle.thp_model.specs.Prelude.{Event, Outcome, Freed, What, Alloc, UnmapWhole, UnmapSub, Unpin, Shape, History, some_event, by, allocates, frees, is_live, is_freed, block_in_use, places_live, IsLegal, Fits, FitsBy}
+use Rattle.thp_model.specs.Prelude.{Event, Outcome, Freed, What, Alloc, UnmapWhole, UnmapSub, Unpin, Shape, History, some_event, by, allocates, frees, is_live, is_freed, block_in_use, IsLegal, Fits, FitsBy}
 use Rattle.thp_model.proofs.Alive.{Grown, grown_push, grown_none}
 use Rattle.thp_model.proofs.Bools.{or_none, or-false}
 use Rattle.thp_model.proofs.LegalSteps.{legal_all}
@@ -62,8 +62,7 @@ on_alloc g w = false
 
 -- a test of the allocations after an event
 any_put : (g : ℕ × ℕ → Bool) (bs : List (ℕ × ℕ)) (w : What) → list_any g (put bs w) ≡ (list_any g bs || on_alloc g w)
-any_put g bs (Alloc p b) = list_any-append g bs ((b, p) ∷ []) ∙ ap (λ x. list_any g bs || x) (or-false (g (b, p)))
-any_put g bs w = sym (or-false (list_any g bs))
+any_put g bs x = grind (arith, list_any-append, or-false)
 
 -- a test of the allocations from a history on
 any_from : (g : ℕ × ℕ → Bool) (bs : List (ℕ × ℕ)) (h : History) →
@@ -137,39 +136,15 @@ pub record Blocked (shape : Shape) (h : History) : Type 0 where
 
 -- equality of numbers is an equivalence
 pub eqb_laws : IsEquivalence nat_eq
-eqb_laws = record {
-  refl = λ x. eq-eqb x x refl;
-  symm = λ x y. elim (eqb_tells x y) [ inl e ↦ e.0 ∙ sym (eq-eqb y x (sym e.1)) | inr e ↦ e.0 ∙ sym (ne_eqb y x (λ z. e.1 (sym z))) ];
-  congr = λ x y z e. ap (λ w. nat_eq w z) (eqb-true x y e);
-}
+eqb_laws = grind (arith, eq-eqb, eqb_tells, ne_eqb, nat_eq, eqb-true)
 
 -- a block is in use where it is one of these
 pub in_use_is : (shape : Shape) (h : History) (b : ℕ) → Blocked shape h → block_in_use h b ≡ list_any (nat_eq b) (blocks_in_use h)
-in_use_is shape h b s =
-    some_event-ext (places_live h b) (on_alloc (λ (f : ℕ × ℕ). nat_eq b f.0 && is_live h f.1)) same h
-    ∙ sym (any_allocs (λ (f : ℕ × ℕ). nat_eq b f.0 && is_live h f.1) h)
-    ∙ any-ext _ _ (λ (f : ℕ × ℕ). turn (nat_eq b f.0) (is_live h f.1)) (allocs h)
-    ∙ sym (any-filter (λ (f : ℕ × ℕ). nat_eq b f.0) (λ (f : ℕ × ℕ). is_live h f.1) (allocs h))
-    ∙ ap (λ bs. list_any (λ (f : ℕ × ℕ). nat_eq b f.0) bs) (sym s.as_live)
-    ∙ sym (any-map (nat_eq b) (λ (f : ℕ × ℕ). f.0) (occupied h)) where
-      same : (w : What) → places_live h b w ≡ on_alloc (λ (f : ℕ × ℕ). nat_eq b f.0 && is_live h f.1) w
-      same (Alloc p c) = refl
-      same w = refl
-
-      turn : (x y : Bool) → (x && y) ≡ (y && x)
-      turn true true = refl
-      turn true false = refl
-      turn false true = refl
-      turn false false = refl
+in_use_is shape h b s = grind (arith, some_event-ext, nat_eq, any_allocs, any-ext, any-filter, any-map)
 
 -- one more event
 live_of_alloc : (h : History) (e : Event) (p : ℕ) → Fresh h p → allocates p e.what ≡ true → frees p e.what ≡ false → is_live (h ++ e ∷ []) p ≡ true
-live_of_alloc h e p s a f = go _ _ _ _ (some_event_push (allocates p) h e) a (some_same (frees p) h e f ∙ s.not_freed) where
-  go : (a a' f b : Bool) → a' ≡ (a || b) → b ≡ true → f ≡ false → (a' && not f) ≡ true
-  go a true true b e g h = absurd (cc)
-  go a true false b e g h = refl
-  go true false f b e g h = absurd (cc)
-  go false false f b e g h = absurd (cc)
+live_of_alloc h e p s a f = grind (arith, some_event_push, some_same)
 
 -- an event that leaves who lives
 living_same : (h : History) (e : Event) → put (allocs h) e.what ≡ allocs h → occupied_after (occupied h) e.what ≡ occupied h → ((q : ℕ) → allocates q e.what ≡ false) → ((q : ℕ) → frees q e.what ≡ false) → occupied h ≡ living h →
@@ -256,8 +231,7 @@ record Good (blocks : ℕ) (bs : List (ℕ × ℕ)) : Type 0 where
 
 -- blocks in use after an outcome stay apart and below the limit
 good_by : (blocks : ℕ) (bs : List (ℕ × ℕ)) (p : ℕ) (o : Outcome) → Good blocks bs → Good blocks (occupied_by bs p o)
-good_by blocks bs p Freed g = record { apart = apart_filter (λ (f : ℕ × ℕ). not (nat_eq f.1 p)) bs g.apart; in_range = λ b e. g.in_range b (in_filter b (λ (f : ℕ × ℕ). not (nat_eq f.1 p)) bs e) }
-good_by blocks bs p o g = g
+good_by blocks bs p x g = grind (arith, apart_filter, nat_eq, in_filter)
 
 -- the same after any event that fits
 good_step : (shape : Shape) (h k : History) (c : ℕ) (w : What) → ((b : ℕ) → block_in_use h b ≡ list_any (nat_eq b) (blocks_in_use h)) → FitsBy shape h k c w → Good shape.blocks (occupied h) → Good shape.blocks (occupied_after (occupied h) w)

@@ -1,7 +1,7 @@
 -- Each frame of each page allocated is held, or was given back once.
 use Rattle.std.proofs.Common.{◌≡◌, ◌≢◌, ℕ, ◌+◌, ◌<◌, ◌≤◌, Bool, true, false, cond, not, ◌&&◌, ◌||◌, List, [], ◌∷◌, ◌++◌, refl, ap, sym, ◌∙◌, subst, arith, nat_eq, nat_lt, inl, inr, lt-ltb}
 use Rattle.std.proofs.lemmas.Bool.Decides.{eqb_tells, nat_tests}
-use Rattle.thp_model.specs.Prelude.{Event, What, Alloc, MapWhole, UnmapWhole, MapSub, UnmapSub, Unpin, Write, Zero, Split, Shape, History, count_of, some_event, by, is_live, is_split, is_alloc, allocates, frees, splits, allocations, gives_frame, is_held, released, IsLegal, Fits, FitsBy, flights, has, subpages, get_or-set_of}
+use Rattle.thp_model.specs.Prelude.{Event, What, Alloc, MapWhole, UnmapWhole, MapSub, UnmapSub, Unpin, Write, Zero, Split, Shape, History, count_of, some_event, by, is_live, is_split, allocates, frees, splits, allocations, gives_frame, is_held, released, IsLegal, Fits, FitsBy, flights, has, subpages, get_or-set_of}
 use Rattle.thp_model.proofs.Allowed.{allowed_map_whole, allowed_write, allowed_zero}
 use Rattle.thp_model.proofs.Bools.{and_no, and_both}
 use Rattle.thp_model.proofs.Holding.{whole_held, held_still, held_falls, unsplit_same, kept_map_sub, still_unmap_whole, still_unmap_sub, still_unpin, still_split}
@@ -17,11 +17,7 @@ Turns shape h e p i = cond (is_held shape (h ++ e ∷ []) p i) 1 0 + cond (gives
 
 -- an event that leaves the frame
 same_turn : (shape : Shape) (h : History) (e : Event) (p i : ℕ) → is_held shape (h ++ e ∷ []) p i ≡ is_held shape h p i → gives_frame p i e.what ≡ false → allocates p e.what ≡ false → Turns shape h e p i
-same_turn shape h e p i s g a = go _ _ _ _ s g a where
-  go : (x y g a : Bool) → x ≡ y → g ≡ false → a ≡ false → cond {A = ℕ} x 1 0 + cond g 1 0 ≡ cond y 1 0 + cond a 1 0
-  go x y true a e f g = absurd (cc)
-  go x y false true e f g = absurd (cc)
-  go x y false false e f g = ap (λ b. cond {A = ℕ} b 1 0 + 0) e
+same_turn shape h e p i s g a = grind arith
 
 -- an event that gives back frames of page q
 release_turn : (shape : Shape) (h : History) (e : Event) (q : ℕ) (r : List Bool) (p i : ℕ) → shape.order ≤ 9 → i < subpages shape → allocates p e.what ≡ false → gives_frame p i e.what ≡ (nat_eq p q && has r i) →
@@ -42,11 +38,7 @@ release_turn shape h e q r p i small below a g is falls still =
 
 -- a page without events holds nothing
 fresh_held : (shape : Shape) (h : History) (p i : ℕ) → Fresh h p → is_held shape h p i ≡ false
-fresh_held shape h p i f = go (nat_lt i (subpages shape)) (some_event (allocates p) h) (some_event (frees p) h) _ f.never where
-  go : (x a b v : Bool) → a ≡ false → (x && ((a && not b) && v)) ≡ false
-  go true true b v e = absurd (cc)
-  go true false b v e = refl
-  go false a b v e = refl
+fresh_held shape h p i f = grind (arith, nat_lt)
 
 -- an event that fits gives a frame back exactly where it ends its being held, and an allocation begins it
 turn : (shape : Shape) (h : History) (c : ℕ) (w : What) (p i : ℕ) → shape.order ≤ 9 → i < subpages shape → Sound shape h → Numbered h → FitsBy shape h (h ++ by c w ∷ []) c w → Turns shape h (by c w) p i
@@ -112,12 +104,7 @@ turn shape h c w p i small below s t f =
 -- how many pages are numbered below
 more_step : (shape : Shape) (h : History) (c : ℕ) (w : What) (p : ℕ) → FitsBy shape h (h ++ by c w ∷ []) c w →
     cond (nat_lt p (allocations (h ++ by c w ∷ []))) 1 0 ≡ cond (nat_lt p (allocations h)) 1 0 + cond (allocates p w) 1 0
-more_step shape h c (Alloc q b) p f = go p q _ _ f.number (count_more is_alloc h (by c (Alloc q b)) refl) where
-  go : (p q m m' : ℕ) → q ≡ m → m' ≡ m + 1 → cond {A = ℕ} (nat_lt p m') 1 0 ≡ cond (nat_lt p m) 1 0 + cond (nat_eq p q) 1 0
-  go p q m m' e f = grind (arith, nat_tests)
-more_step shape h c w p f = ap (λ m. cond {A = ℕ} (nat_lt p m) 1 0) (count_same is_alloc h (by c w) refl) ∙ plus (cond {A = ℕ} (nat_lt p (allocations h)) 1 0) where
-  plus : (m : ℕ) → m ≡ m + 0
-  plus m = omega arith
+more_step shape h c x p f = grind (arith, count_more, nat_lt, nat_eq, nat_tests, count_same)
 
 -- each frame of each page allocated so far is held, or was given back once
 record Once (shape : Shape) (h : History) : Type 0 where
@@ -137,15 +124,7 @@ once_push shape h e small s f = record {
 -- it holds of the empty history
 once_none : (shape : Shape) → Once shape []
 unfolding count_of some_event
-once_none shape = record { sound = sound_none shape; numbered = numbered_none; each = λ p i below. go (nat_lt i (subpages shape)) (nat_lt p 0) (none_lt p) } where
-  go : (x y : Bool) → y ≡ false → cond {A = ℕ} (x && false) 1 0 + 0 ≡ cond y 1 0
-  go true true e = absurd (cc)
-  go true false e = refl
-  go false true e = absurd (cc)
-  go false false e = refl
-
-  none_lt : (p : ℕ) → nat_lt p 0 ≡ false
-  none_lt p = grind (arith, nat_tests)
+once_none shape = grind (arith, sound_none, numbered_none, nat_lt, nat_tests)
 
 -- and of every legal history
 pub each_frame_once : (shape : Shape) (h : History) → shape.order ≤ 9 → IsLegal shape h → (p i : ℕ) → i < subpages shape →

@@ -2,7 +2,7 @@
 use Rattle.std.proofs.Common.{◌≡◌, ℕ, suc, ◌<◌, Bool, true, false, cond, not, ◌&&◌, ◌||◌, List, [], ◌∷◌, ◌++◌, Some, length, take, drop, refl, ap, sym, ◌∙◌, subst, arith, nat_eq, eq-eqb, eqb-true, append_assoc, slice_get, filter}
 use Rattle.std.proofs.lemmas.List.Elements.{filter-append}
 use Rattle.std.proofs.lemmas.List.Folds.{list_any-append}
-use Rattle.thp_model.specs.Prelude.{Event, Outcome, Freed, Queued, What, Alloc, MapWhole, UnmapWhole, MapSub, UnmapSub, SplitPmd, Pin, Unpin, Write, Zero, Taken, Split, Used, Back, Dropped, Close, Shape, History, by, some_event, is_live, is_split, is_closed, is_queued, is_freed, allocates, frees, flight_after, flight_by, outcome, IsLegal, FitsBy, enters, takes_of, is_others, acts_on, queue, flight, flights, has_page, stands, still_flying}
+use Rattle.thp_model.specs.Prelude.{Event, Outcome, Freed, What, Alloc, MapWhole, UnmapWhole, MapSub, UnmapSub, SplitPmd, Pin, Unpin, Write, Zero, Taken, Split, Used, Back, Dropped, Close, Shape, History, by, some_event, is_live, is_split, is_closed, is_queued, is_freed, allocates, frees, flight_after, flight_by, outcome, IsLegal, FitsBy, enters, takes_of, is_others, acts_on, queue, flight, flights, has_page, stands, still_flying}
 use Rattle.thp_model.specs.declared.events.What.TheVariants.{Pinned}
 use Rattle.thp_model.proofs.Alive.{legal_grown}
 use Rattle.thp_model.proofs.Allowed.{allowed_alloc, allowed_map_whole, allowed_unmap_whole, allowed_map_sub, allowed_unmap_sub, allowed_split_pmd, allowed_pin, allowed_unpin, allowed_write, allowed_zero}
@@ -19,13 +19,7 @@ use Rattle.thp_model.proofs.Standing.{Sound, legal_sound, stand, times, flying, 
 -- a page that stands is live and not split
 pub up_by : (shape : Shape) (h : History) (p : ℕ) → stands shape h p ≡ true → 0 < stand shape h p
 unfolding times flying
-up_by shape h p e =
-    by_bool (has_page p (queue shape h)) _
-    (λ y. omega (arith, (count_any (λ q. nat_eq q p) (queue shape h)).1 y))
-    (λ y. omega (arith, (count_any (λ (f : ℕ × ℕ). nat_eq f.1 p) (flights h)).1 (sym (any-pages p (flights h)) ∙ second _ _ y (sym (list_any-append (λ q. nat_eq q p) (queue shape h) (pages (flights h))) ∙ e)))) where
-      second : (a b : Bool) → a ≡ false → (a || b) ≡ true → b ≡ true
-      second true b e f = absurd (cc)
-      second false b e f = f
+up_by shape h p e = grind (arith, by_bool, count_any, nat_eq, any-pages, list_any-append, pages)
 
 -- a page that stands is live and not split
 pub stands_whole : (shape : Shape) (h : History) → IsLegal shape h → (p : ℕ) → stands shape h p ≡ true → (is_live h p ≡ true) × (is_split h p ≡ false)
@@ -33,8 +27,7 @@ stands_whole shape h l p e = let s : Sound shape h = legal_sound shape h l in (s
 
 -- nothing enters after a close
 not_queued : (shape : Shape) (h k : History) (p : ℕ) (o : Outcome) → is_closed h ≡ true → o ≡ outcome shape h k p → is_queued o ≡ false
-not_queued shape h k p Queued c e = absurd (let f : is_closed h ≡ false = (outcome_queued shape h k p e).2 in cc)
-not_queued shape h k p o c e = refl
+not_queued shape h k p x c e = grind (arith, outcome_queued)
 
 -- an event that fits a closed node puts no page in
 no_enter : (shape : Shape) (h k : History) (c : ℕ) (w : What) → is_closed h ≡ true → FitsBy shape h k c w → enters w ≡ false
@@ -79,8 +72,7 @@ by_free ps q o = sym (filter_same (λ p. not (nat_eq p q && false)) (λ p. true)
 
 -- a choice not taken
 skip : (b : Bool) (qs ps : List ℕ) → b ≡ false → cond b qs ps ≡ ps
-skip true qs ps e = absurd (cc)
-skip false qs ps e = refl
+skip x qs ps e = grind arith
 
 -- another caller's event takes out what it frees
 after_other : (c d : ℕ) (ps : List ℕ) (w : What) → nat_eq d c ≡ false → flight_after c ps d w ≡ filter (λ p. not (frees p w)) ps
@@ -112,14 +104,7 @@ others_free h (e ∷ es) c o =
 -- a live page lives on unless an event frees it
 pub still_live : (h es : History) (p : ℕ) → is_live h p ≡ true → not (some_event (frees p) es) ≡ is_live (h ++ es) p
 unfolding some_event
-still_live h es p l =
-    sym (ap (λ b. b && not (some_event (frees p) (h ++ es))) (list_any-append (λ (e : Event). allocates p e.what) h es)
-    ∙ ap (λ b. (some_event (allocates p) h || some_event (allocates p) es) && not b) (list_any-append (λ (e : Event). frees p e.what) h es)
-    ∙ go (some_event (allocates p) h) (some_event (frees p) h) (some_event (allocates p) es) (some_event (frees p) es) l) where
-      go : (a f b g : Bool) → (a && not f) ≡ true → ((a || b) && not (f || g)) ≡ not g
-      go true true b g e = absurd (cc)
-      go true false b g e = refl
-      go false f b g e = absurd (cc)
+still_live h es p l = grind (arith, list_any-append)
 
 -- others' events leave the pages that are still live, in order
 pub others_only_free : (shape : Shape) (h es : History) (c : ℕ) → IsLegal shape h → is_others c es ≡ true → flight (h ++ es) c ≡ filter (is_live (h ++ es)) (flight h c)
@@ -129,8 +114,7 @@ others_only_free shape h es c l o =
 -- a front of a flight stays in front, without the pages that were freed
 pub fronts_stay : (shape : Shape) (h es : History) (c : ℕ) (ps qs : List ℕ) → IsLegal shape h → is_others c es ≡ true → flight h c ≡ ps ++ qs →
     flight (h ++ es) c ≡ filter (is_live (h ++ es)) ps ++ filter (is_live (h ++ es)) qs
-fronts_stay shape h es c ps qs l o e =
-    others_only_free shape h es c l o ∙ ap (filter (is_live (h ++ es))) e ∙ filter-append (is_live (h ++ es)) ps qs
+fronts_stay shape h es c ps qs l o e = grind (arith, others_only_free, filter-append)
 
 -- a page is among those a filter keeps where it was there and passes
 in_filter : (t : ℕ → Bool) (p : ℕ) (ps : List ℕ) → has_page p (filter t ps) ≡ (has_page p ps && t p)
@@ -148,13 +132,7 @@ in_filter t p (q ∷ ps) = one (t q) (nat_eq q p) refl refl (in_filter t p ps) w
 -- what is left of a batch stays in front of its flight
 pub batch_in_front : (shape : Shape) (h es : History) (c : ℕ) (ps qs : List ℕ) → IsLegal shape h → is_others c es ≡ true → flight h c ≡ still_flying h c ps ++ qs →
     flight (h ++ es) c ≡ still_flying (h ++ es) c ps ++ filter (is_live (h ++ es)) qs
-batch_in_front shape h es c ps qs l o e =
-    let k : History = h ++ es in
-    let now : flight k c ≡ filter (is_live k) (flight h c) = others_only_free shape h es c l o in
-    now ∙ ap (λ x. filter (is_live k) x) e ∙ filter-append (is_live k) (still_flying h c ps) qs
-    ∙ ap (λ x. x ++ filter (is_live k) qs)
-    (filter-filter (is_live k) (λ p. has_page p (flight h c)) ps
-    ∙ filter_same _ _ ps (λ p. sym (ap (λ x. has_page p x) now ∙ in_filter (is_live k) p (flight h c))))
+batch_in_front shape h es c ps qs l o e = grind (arith, others_only_free, filter-append, filter-filter, filter_same, in_filter)
 
 -- the page of an event that fits is live
 acts_live : (shape : Shape) (h k : History) (c : ℕ) (w : What) (p : ℕ) → IsLegal shape h → FitsBy shape h k c w → acts_on p w ≡ true → is_live h p ≡ true

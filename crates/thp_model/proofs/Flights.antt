@@ -1,6 +1,6 @@
 -- A caller's flight, one event at a time.
 use Rattle.std.proofs.Common.{◌≡◌, ℕ, Bool, true, false, cond, not, ◌&&◌, List, [], ◌∷◌, ◌++◌, map, refl, ap, sym, ◌∙◌, arith, nat_eq, eq-eqb, eqb-true, filter}
-use Rattle.thp_model.specs.Prelude.{Outcome, Freed, Queued, Stays, What, UnmapWhole, UnmapSub, Unpin, Taken, Split, Used, Back, Dropped, History, by, flight_after, flight_by, flights, flight, flights_by, without, leaves}
+use Rattle.thp_model.specs.Prelude.{Outcome, What, History, by, flight_after, flight_by, flight, flights_by, without, leaves}
 use Rattle.std.proofs.lemmas.Bool.Decides.{nat_tests}
 use Rattle.thp_model.proofs.Pushes.{flights_push}
 
@@ -14,10 +14,7 @@ front b p ps = cond b (p ∷ ps) ps
 
 -- one more entry in front
 of-cons : (c : ℕ) (f : ℕ × ℕ) (fs : List (ℕ × ℕ)) → of c (f ∷ fs) ≡ front (nat_eq f.0 c) f.1 (of c fs)
-of-cons c f fs = go (nat_eq f.0 c) (filter (λ (f : ℕ × ℕ). nat_eq f.0 c) fs) where
-  go : (b : Bool) (gs : List (ℕ × ℕ)) → map (λ (f : ℕ × ℕ). f.1) (cond b (f ∷ gs) gs) ≡ front b f.1 (map (λ (f : ℕ × ℕ). f.1) gs)
-  go true gs = refl
-  go false gs = refl
+of-cons c f fs = grind (arith, nat_eq)
 
 -- one more entry at the end
 of_push : (c d p : ℕ) (fs : List (ℕ × ℕ)) → of c (fs ++ (d, p) ∷ []) ≡ cond (nat_eq d c) (of c fs ++ p ∷ []) (of c fs)
@@ -65,18 +62,8 @@ of-leaves c d p fs = go (nat_eq d c) refl where
 
 -- an outcome, for one caller
 by_freed : (c p : ℕ) (o : Outcome) (fs : List (ℕ × ℕ)) → of c (flights_by fs p o) ≡ flight_by (of c fs) p o
-by_freed c p Freed fs = of-filter c (λ f. not (nat_eq f.1 p)) (λ q. not (nat_eq q p)) fs (λ f g. refl)
-by_freed c p Queued fs = refl
-by_freed c p Stays fs = refl
+by_freed c p x fs = grind (arith, of-filter, nat_eq)
 
 -- the last event changes a flight so
 pub flight_push : (h : History) (c d : ℕ) (w : What) → flight (h ++ by d w ∷ []) c ≡ flight_after c (flight h c) d w
-flight_push h c d (UnmapWhole o p r) = ap (of c) (flights_push h (by d (UnmapWhole o p r))) ∙ by_freed c p o (flights h)
-flight_push h c d (UnmapSub o p f n r) = ap (of c) (flights_push h (by d (UnmapSub o p f n r))) ∙ by_freed c p o (flights h)
-flight_push h c d (Unpin o p r) = ap (of c) (flights_push h (by d (Unpin o p r))) ∙ by_freed c p o (flights h)
-flight_push h c d (Taken p) = ap (of c) (flights_push h (by d (Taken p))) ∙ of_push c d p (flights h)
-flight_push h c d (Split p r) = ap (of c) (flights_push h (by d (Split p r))) ∙ of-leaves c d p (flights h)
-flight_push h c d (Used p) = ap (of c) (flights_push h (by d (Used p))) ∙ of-leaves c d p (flights h)
-flight_push h c d (Back p) = ap (of c) (flights_push h (by d (Back p))) ∙ of-leaves c d p (flights h)
-flight_push h c d (Dropped p) = ap (of c) (flights_push h (by d (Dropped p))) ∙ of-leaves c d p (flights h)
-flight_push h c d w = ap (of c) (flights_push h (by d w))
+flight_push h c d x = grind (arith, flights_push, by_freed, of_push, of-leaves)

@@ -1,7 +1,7 @@
 -- The frames that a page holds, after one more event.
-use Rattle.std.proofs.Common.{◌≡◌, ◌≢◌, ℕ, ◌+◌, ◌-◌, Bool, true, false, cond, not, ◌&&◌, ◌||◌, List, [], ◌∷◌, ◌++◌, refl, ap, sym, ◌∙◌, arith, nat_eq, nat_lt, ltb-true, None}
+use Rattle.std.proofs.Common.{◌≡◌, ◌≢◌, ℕ, ◌+◌, ◌-◌, Bool, true, false, not, ◌&&◌, ◌||◌, List, [], ◌∷◌, ◌++◌, refl, sym, ◌∙◌, arith, nat_eq, nat_lt, ltb-true, None}
 use Rattle.std.proofs.lemmas.Bool.Decides.{nat_tests}
-use Rattle.thp_model.specs.Prelude.{Event, Outcome, What, UnmapWhole, MapSub, UnmapSub, Unpin, Split, Shape, History, count_of, some_event, by, maps, unmaps, total, is_split, is_live, allocates, frees, splits, is_held, keeps_frame, shrinks_underused, is_zero_filled, writes, zeroes, refusal, covers, subpages}
+use Rattle.thp_model.specs.Prelude.{Event, Outcome, What, UnmapWhole, MapSub, UnmapSub, Unpin, Split, Shape, History, by, maps, unmaps, is_split, is_live, allocates, frees, splits, is_held, shrinks_underused, writes, zeroes, refusal, covers, subpages}
 use Rattle.thp_model.specs.Refusals as call
 use Rattle.thp_model.proofs.Allowed.{allowed_map_sub}
 use Rattle.thp_model.proofs.Below.{some_none}
@@ -29,17 +29,11 @@ held-ap n i on l l' s s' a a' t t' z z' e f g h j = cc
 
 -- an event that leaves them leaves what is held
 pub held_still : (shape : Shape) (h : History) (e : Event) (p i : ℕ) → Still p e.what → is_held shape (h ++ e ∷ []) p i ≡ is_held shape h p i
-held_still shape h e p i u =
-    held-ap (subpages shape) i (shrinks_underused shape) _ _ _ _ _ _ _ _ _ _ (live_stays h e p u.no_alloc u.no_free) (some_same (splits p) h e u.no_split) (count_same (maps p i) h e (u.no_maps i)) (count_same (unmaps p i) h e (u.no_unmaps i))
-    (zero_stays h e p i (u.no_zeroes i) (u.no_writes i))
+held_still shape h e p i u = grind (arith, held-ap, live_stays, some_same, count_same, zero_stays)
 
 -- held stays so backwards where the totals only fall
 mono : (x l l' s u u' z : Bool) → (l' ≡ true → l ≡ true) → (u' ≡ true → u ≡ true) → (x && (l' && (not s || ((l' && u') && not z)))) ≡ true → (x && (l && (not s || ((l && u) && not z)))) ≡ true
-mono false l l' s u u' z f g h = h
-mono true l false s u u' z f g h = absurd (cc)
-mono true l true false u u' z f g h = let e : l ≡ true = f refl in rw e refl
-mono true l true true u true z f g h = let e : l ≡ true = f refl in rw (e, g refl) h
-mono true l true true u false z f g h = absurd (cc)
+mono x l l' s u u' z f g h = grind arith
 
 -- a total that an unmap lessens was positive
 fewer : (a t d : ℕ) → nat_lt 0 (a - (t + d)) ≡ true → nat_lt 0 (a - t) ≡ true
@@ -47,21 +41,12 @@ fewer a t d h = grind (arith, nat_tests)
 
 -- a page that lives after an event that doesn't allocate it lived before
 pub live_back : (h : History) (e : Event) (p : ℕ) → allocates p e.what ≡ false → is_live (h ++ e ∷ []) p ≡ true → is_live h p ≡ true
-live_back h e p a l = go (some_event (allocates p) h) (some_event (frees p) h) (frees p e.what) (sym (ap (λ b. b && not (some_event (frees p) (h ++ e ∷ []))) (some_same (allocates p) h e a) ∙ ap (λ b. some_event (allocates p) h && not b) (some_event_push (frees p) h e)) ∙ l) where
-  go : (a f g : Bool) → (a && not (f || g)) ≡ true → (a && not f) ≡ true
-  go true true g e = absurd (cc)
-  go true false g e = refl
-  go false f g e = absurd (cc)
+live_back h e p a l = grind (arith, some_same, some_event_push)
 
 -- an event that adds no mapping leaves no frame held that wasn't
 pub held_falls : (shape : Shape) (h : History) (e : Event) (p i : ℕ) → ((j : ℕ) → maps p j e.what ≡ false) → allocates p e.what ≡ false → splits p e.what ≡ false →
     zeroes p i e.what ≡ false → writes p i e.what ≡ false → is_held shape (h ++ e ∷ []) p i ≡ true → is_held shape h p i ≡ true
-held_falls shape h e p i no_maps no_alloc no_split no_zeroes no_writes f =
-    mono (nat_lt i (subpages shape)) (is_live h p) (is_live (h ++ e ∷ []) p) (is_split h p) (nat_lt 0 (total h p i)) (nat_lt 0 (count_of (maps p i) h - (count_of (unmaps p i) h + cond (unmaps p i e.what) 1 0)))
-    (shrinks_underused shape && is_zero_filled h p i)
-    (live_back h e p no_alloc) (fewer (count_of (maps p i) h) (count_of (unmaps p i) h) (cond (unmaps p i e.what) 1 0))
-    (sym (held-ap (subpages shape) i (shrinks_underused shape) (is_live (h ++ e ∷ []) p) (is_live (h ++ e ∷ []) p) _ _ _ _ _ _ _ _ refl (some_same (splits p) h e no_split) (count_same (maps p i) h e (no_maps i)) (count_of_push (unmaps p i) h e)
-    (zero_stays h e p i no_zeroes no_writes)) ∙ f)
+held_falls shape h e p i no_maps no_alloc no_split no_zeroes no_writes f = grind (arith, mono, nat_lt, live_back, fewer, held-ap, some_same, count_same, count_of_push, zero_stays)
 
 -- an unmap of another page
 pub still_unmap_whole : (q p : ℕ) (o : Outcome) (r : List Bool) → (q ≢ p) → Still q (UnmapWhole o p r)
@@ -81,38 +66,17 @@ still_split q p r f = record { no_maps = λ i. refl; no_unmaps = λ i. refl; no_
 
 -- a live page that isn't split holds each of its frames
 pub whole_held : (shape : Shape) (h : History) (p i : ℕ) → is_live h p ≡ true → is_split h p ≡ false → nat_lt i (subpages shape) ≡ true → is_held shape h p i ≡ true
-whole_held shape h p i l w x = go (nat_lt i (subpages shape)) (is_live h p) (is_split h p) (keeps_frame shape h p i) x l w where
-  go : (x l w u : Bool) → x ≡ true → l ≡ true → w ≡ false → (x && (l && (not w || u))) ≡ true
-  go true true false u e f g = refl
-  go true true true u e f g = absurd (cc)
-  go true false w u e f g = absurd (cc)
-  go false l w u e f g = absurd (cc)
+whole_held shape h p i l w x = grind (arith, nat_lt)
 
 -- what a page holds that isn't split hangs on its life alone
 pub unsplit_same : (shape : Shape) (h : History) (e : Event) (p i : ℕ) → is_split h p ≡ false → allocates p e.what ≡ false → frees p e.what ≡ false → splits p e.what ≡ false →
     is_held shape (h ++ e ∷ []) p i ≡ is_held shape h p i
-unsplit_same shape h e p i w a f g =
-    go (nat_lt i (subpages shape)) _ _ _ _ _ _ (live_stays h e p a f) (some_same (splits p) h e g ∙ w) w where
-      go : (x l l' s s' u u' : Bool) → l' ≡ l → s' ≡ false → s ≡ false → (x && (l' && (not s' || u'))) ≡ (x && (l && (not s || u)))
-      go x l l' true s' u u' e f g = absurd (cc)
-      go x l l' false true u u' e f g = absurd (cc)
-      go x l l' false false u u' e f g = ap (λ b. x && (b && true)) e
+unsplit_same shape h e p i w a f g = grind (arith, nat_lt, live_stays, some_same)
 
 -- one more mapping of a frame that is held
 held_more : (shape : Shape) (h : History) (e : Event) (p i : ℕ) → is_held shape h p i ≡ true → allocates p e.what ≡ false → frees p e.what ≡ false → splits p e.what ≡ false →
     unmaps p i e.what ≡ false → zeroes p i e.what ≡ false → writes p i e.what ≡ false → is_held shape (h ++ e ∷ []) p i ≡ true
-held_more shape h e p i f a g w t z y =
-    held-ap (subpages shape) i (shrinks_underused shape) _ _ _ _ _ _ _ _ _ _ (live_stays h e p a g) (some_same (splits p) h e w) (count_of_push (maps p i) h e) (count_same (unmaps p i) h e t) (zero_stays h e p i z y)
-    ∙ go (nat_lt i (subpages shape)) (is_live h p) (is_split h p) _ _ (shrinks_underused shape && is_zero_filled h p i) (more (count_of (maps p i) h) (count_of (unmaps p i) h) (cond (maps p i e.what) 1 0)) f where
-      more : (a t d : ℕ) → nat_lt 0 (a - t) ≡ true → nat_lt 0 (a + d - t) ≡ true
-      more a t d h = grind (arith, nat_tests)
-
-      go : (x l s u u' z : Bool) → (u ≡ true → u' ≡ true) → (x && (l && (not s || ((l && u) && not z)))) ≡ true → (x && (l && (not s || ((l && u') && not z)))) ≡ true
-      go true true true true u' z f e = rw (f refl) e
-      go true true true false u' z f e = absurd (cc)
-      go true true false u u' z f e = refl
-      go true false s u u' z f e = absurd (cc)
-      go false l s u u' z f e = absurd (cc)
+held_more shape h e p i f a g w t z y = grind (arith, held-ap, live_stays, some_same, count_of_push, count_same, zero_stays, nat_lt, nat_tests)
 
 -- an allowed mapping of subpages leaves what is held
 pub kept_map_sub : (shape : Shape) (h : History) (c p a d i : ℕ) → refusal shape h (call.map_sub p a d) ≡ None →

@@ -1,6 +1,6 @@
 -- Each frame of each page allocated is held or was given back: their sum.
 use Rattle.std.proofs.Common.{◌≡◌, ◌≢◌, ℕ, suc, ◌+◌, ◌-◌, ◌*◌, ◌<◌, ◌≤◌, Bool, true, false, cond, not, ◌&&◌, ◌||◌, List, [], ◌∷◌, ◌++◌, refl, ap, sym, ◌∙◌, subst, arith, nat_eq, nat_lt, inl, inr, eq-eqb, ne_eqb, lt-ltb, Option, Some, None}
-use Rattle.std.specs.List.{filter_map, sum_by, cons_option}
+use Rattle.std.specs.List.{sum_by, cons_option}
 use Rattle.std.proofs.lemmas.Bool.Decides.{eqb_tells, nat_tests}
 use Rattle.std.proofs.lemmas.List.Sums.{sum_by-append, sum_by-cons}
 use Rattle.thp_model.specs.Prelude.{Event, What, Alloc, MapWhole, UnmapWhole, MapSub, UnmapSub, Unpin, Write, Zero, Split, Shape, History, count_of, some_event, by, is_live, is_split, is_alloc, allocates, frees, splits, allocations, is_held, released, given, gives_back, frames_given, frames_held, FitsBy, IsLegal, flights, set_size, sum_below, count_below, subpages}
@@ -21,27 +21,19 @@ size_given (Some g) = set_size g.1
 
 -- the frames that one event gives back
 one_given : (o : Option (ℕ × List Bool)) → sum_by (λ (g : ℕ × List Bool). set_size g.1) (cons_option o []) ≡ size_given o
-one_given None = refl
-one_given (Some g) = sum_by-cons (λ (g : ℕ × List Bool). set_size g.1) g [] ∙ omega arith
+one_given x = grind (arith, sum_by-cons)
 
 -- how many frames were given back, after one more event
 pub frames_given_push : (h : History) (e : Event) → frames_given (h ++ e ∷ []) ≡ frames_given h + size_given (gives_back e)
-frames_given_push h e =
-    ap (sum_by (λ (g : ℕ × List Bool). set_size g.1)) (given_push h e)
-    ∙ sum_by-append (λ (g : ℕ × List Bool). set_size g.1) (given h) (filter_map gives_back (e ∷ []))
-    ∙ ap (λ n. frames_given h + n) (one_given (gives_back e))
+frames_given_push h e = grind (arith, given_push, sum_by-append, one_given)
 
 -- of what was held, what is held still and what was released
 pub parts : (a b : Bool) → (b ≡ true → a ≡ true) → cond {A = ℕ} a 1 0 ≡ cond b 1 0 + cond (a && not b) 1 0
-parts true true f = refl
-parts true false f = refl
-parts false true f = absurd (let e : false ≡ true = f refl in cc)
-parts false false f = refl
+parts x y f = grind arith
 
 -- a conjunction that doesn't hold counts none
 off : (a b c : Bool) → a ≡ false → cond {A = ℕ} ((a && b) && c) 1 0 ≡ 0
-off true b c e = absurd (cc)
-off false b c e = refl
+off x b c e = grind arith
 
 -- what was held is what is still held and what was given back
 released_size : (shape : Shape) (h k : History) (p : ℕ) → shape.order ≤ 9 → ((i : ℕ) → is_held shape k p i ≡ true → is_held shape h p i ≡ true) →
@@ -59,14 +51,7 @@ released_size shape h k p small f =
 -- one event that gives nothing back and leaves each page's frames
 quiet : (shape : Shape) (h : History) (e : Event) → is_alloc e.what ≡ false → size_given (gives_back e) ≡ 0 → ((q i : ℕ) → is_held shape (h ++ e ∷ []) q i ≡ is_held shape h q i) →
     subpages shape * allocations h ≡ frames_held shape h + frames_given h → subpages shape * allocations (h ++ e ∷ []) ≡ frames_held shape (h ++ e ∷ []) + frames_given (h ++ e ∷ [])
-quiet shape h e a g s m =
-    let k : History = h ++ e ∷ [] in
-    let as_many : allocations k ≡ allocations h = count_same is_alloc h e a in
-    let same : frames_held shape k ≡ frames_held shape h =
-    ap (λ x. sum_below x (λ p. count_below (subpages shape) (is_held shape k p))) as_many
-    ∙ sum_below-ext (allocations h) _ _ (λ q below. sum_below-ext (subpages shape) _ _ (λ i under. ap (λ b. cond b 1 0) (s q i))) in
-    let given : frames_given k ≡ frames_given h + 0 = frames_given_push h e ∙ ap (λ x. frames_given h + x) g in
-    ap (λ x. subpages shape * x) as_many ∙ m ∙ omega (arith, same, given)
+quiet shape h e a g s m = grind (arith, count_same, sum_below-ext, frames_given_push)
 
 -- one event that gives back frames of page p
 release : (shape : Shape) (h : History) (e : Event) (p : ℕ) (r : List Bool) → shape.order ≤ 9 → p < allocations h → is_alloc e.what ≡ false → size_given (gives_back e) ≡ set_size r →

@@ -5,7 +5,7 @@ use Rattle.std.proofs.lemmas.Bool.{cases_lt}
 use Rattle.std.proofs.lemmas.List.{map-append, length-map}
 use Rattle.std.proofs.lemmas.List.Folds.{fold_along}
 use Rattle.std.proofs.lemmas.List.Sums.{fold_push}
-use Rattle.thp_model.specs.Prelude.{Event, Outcome, Freed, What, Alloc, UnmapWhole, UnmapSub, Unpin, Closed, NoBlock, Shape, with_block, event_with, without_blocks, SameButBlocks, first_that, least_free, with_least_blocks, is_closed, block_in_use, History, by, IsLegal, Fits, FitsBy, IsFirstMisfit, refusal, each_below}
+use Rattle.thp_model.specs.Prelude.{Event, Outcome, Freed, What, Alloc, UnmapWhole, UnmapSub, Unpin, Shape, with_block, event_with, without_blocks, SameButBlocks, first_that, least_free, with_least_blocks, is_closed, block_in_use, History, by, IsLegal, Fits, FitsBy, IsFirstMisfit, refusal, each_below}
 use Rattle.thp_model.specs.Refusals as call
 use Rattle.thp_model.proofs.Alike.{alike, fits_alike, fold_alike, Alike}
 use Rattle.thp_model.proofs.Allowed.{allowed_alloc}
@@ -43,8 +43,7 @@ pages_after ps _ = ps
 
 -- they don't look at the block
 pages_blind : (ps : List ℕ) (w : What) → pages_after ps (with_block 0 w) ≡ pages_after ps w
-pages_blind ps (Alloc q b) = refl
-pages_blind ps w = refl
+pages_blind ps x = grind arith
 
 -- the pages of blocks in use
 abbrev pages_of : List (ℕ × ℕ) → List ℕ
@@ -65,11 +64,7 @@ of_by bs p o = refl
 
 -- the pages after an event
 of_after : (bs : List (ℕ × ℕ)) (w : What) → pages_of (occupied_after bs w) ≡ pages_after (pages_of bs) w
-of_after bs (Alloc p b) = map-append (λ (f : ℕ × ℕ). f.1) bs ((b, p) ∷ [])
-of_after bs (UnmapWhole o p r) = of_by bs p o
-of_after bs (UnmapSub o p f n r) = of_by bs p o
-of_after bs (Unpin o p r) = of_by bs p o
-of_after bs w = refl
+of_after bs x = grind (arith, map-append, of_by)
 
 -- the pages of the blocks in use are the live pages in order
 pages_placed : (h : History) → pages_of (occupied h) ≡ fold (λ ps (e : Event). pages_after ps e.what) [] h
@@ -92,13 +87,11 @@ least_push shape h e = fold_push (λ k (e : Event). k ++ event_with (least_free 
 
 -- a block put in twice
 again : (b : ℕ) (w : What) → with_block b (with_block 0 w) ≡ with_block b w
-again b (Alloc p c) = refl
-again b w = refl
+again b x = grind arith
 
 -- a block taken out that was put in
 back : (b : ℕ) (w : What) → with_block 0 (with_block b w) ≡ with_block 0 w
-back b (Alloc p c) = refl
-back b w = refl
+back b x = grind arith
 
 -- one more event without its block
 pub without_blocks_push : (h : History) (e : Event) → without_blocks (h ++ e ∷ []) ≡ without_blocks h ++ event_with 0 e ∷ []
@@ -108,22 +101,16 @@ without_blocks_push h e = map-append (event_with 0) h (e ∷ [])
 -- the least blocks hang on all but the blocks
 pub least_alike : (shape : Shape) (h k : History) → SameButBlocks h k → with_least_blocks shape h ≡ with_least_blocks shape k
 unfolding with_least_blocks
-least_alike shape h k e =
-    fold_alike (λ k (e : Event). k ++ event_with (least_free shape k) e ∷ []) (λ k x. ap (λ w. k ++ by x.caller w ∷ []) (again (least_free shape k) x.what)) [] h k e
+least_alike shape h k e = grind (arith, fold_alike, again)
 
 -- one more event, with another block
 same_push : (h k : History) (e : Event) (b : ℕ) → SameButBlocks h k → SameButBlocks (h ++ e ∷ []) (k ++ event_with b e ∷ [])
-same_push h k e b s =
-    without_blocks_push h e ∙ ap (λ x. x ++ event_with 0 e ∷ []) s ∙ ap (λ w. without_blocks k ++ by e.caller w ∷ []) (sym (back b e.what)) ∙ sym (without_blocks_push k (event_with b e))
+same_push h k e b s = grind (arith, without_blocks_push, back)
 
 -- an open node with a free block refuses no page
 not_refused : (shape : Shape) (h : History) → is_closed h ≡ false → each_below shape.blocks (block_in_use h) ≡ false → refusal shape h call.alloc_page ≡ None
 unfolding refusal
-not_refused shape h c e = go _ _ c e where
-  go : (a b : Bool) → a ≡ false → b ≡ false → cond a (Some Closed) (cond b (Some NoBlock) None) ≡ None
-  go true b e f = absurd (cc)
-  go false true e f = absurd (cc)
-  go false false e f = refl
+not_refused shape h c e = grind arith
 
 -- the least free block is free where one is
 next_free : (shape : Shape) (k : History) → each_below shape.blocks (block_in_use k) ≡ false → (least_free shape k < shape.blocks) × (block_in_use k (least_free shape k) ≡ false)

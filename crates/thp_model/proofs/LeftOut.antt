@@ -22,8 +22,7 @@ first_passes t a (suc m) e = go (t a) refl (first_passes t (a + 1) m) e where
 
 -- not not so
 not-not : (b : Bool) → not (not b) ≡ b
-not-not true = refl
-not-not false = refl
+not-not x = grind arith
 
 -- each passes where none fails
 each_as : (n : ℕ) (f : ℕ → Bool) → each_below n f ≡ not (some_below n (λ i. not (f i)))
@@ -32,17 +31,7 @@ each_as n f = each_below-ext n f (λ i. not (not (f i))) (λ i b. sym (not-not (
 -- some number below n fails where not each passes
 pub fails_first : (n : ℕ) (f : ℕ → Bool) → each_below n f ≡ false → (f (first_that (λ i. not (f i)) (range_with_len 0 n)) ≡ false) × (first_that (λ i. not (f i)) (range_with_len 0 n) < n)
 unfolding some_below
-fails_first n f e =
-    let some : list_any (λ i. not (f i)) (range_with_len 0 n) ≡ true = yes _ (sym (each_as n f) ∙ e) in
-    let first : (not (f (first_that (λ i. not (f i)) (range_with_len 0 n))) ≡ true) × (first_that (λ i. not (f i)) (range_with_len 0 n) < 0 + n) = first_passes (λ i. not (f i)) 0 n some in
-    (no _ first.0, omega (arith, first.1)) where
-      yes : (b : Bool) → not b ≡ false → b ≡ true
-      yes true e = refl
-      yes false e = absurd (cc)
-
-      no : (b : Bool) → not b ≡ true → b ≡ false
-      no true e = absurd (cc)
-      no false e = refl
+fails_first n f e = grind (arith, each_as, first_passes)
 
 -- where each passes, each does
 pub passes_each : (n : ℕ) (f : ℕ → Bool) → each_below n f ≡ true → (i : ℕ) → i < n → f i ≡ true

@@ -10,17 +10,7 @@ legal_none shape = record { each = λ k e h. absurd (cc) }
 
 -- a legal history and an event that fits it are a legal history
 pub legal_push : (shape : Shape) (h : History) (e : Event) → IsLegal shape h → Fits shape h e → IsLegal shape (h ++ e ∷ [])
-legal_push shape h e l f = record {
-  each = λ k x g.
-      elim (get_push h e k x g) [
-        | inl w ↦ rw (take-append-le k h (e ∷ []) (omega (arith, w.0))) (l.each k x w.1)
-        | inr w ↦
-            let at_end : take k (h ++ e ∷ []) ≡ h = take_at h (e ∷ []) k (sym w.0) in
-            let p : History → Type 0 = λ t. Fits shape t x in
-            let q : Event → Type 0 = λ y. Fits shape h y in
-            subst p (sym at_end) (subst q (sym w.1) f)
-      ];
-}
+legal_push shape h e l f = grind (arith, get_push, take-append-le, take_at)
 
 -- an event of a legal history fits what is before it
 pub legal_at : (shape : Shape) (h : History) (e : Event) (es : History) → IsLegal shape (h ++ e ∷ es) → Fits shape h e

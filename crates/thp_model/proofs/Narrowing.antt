@@ -1,5 +1,5 @@
 -- A range of which an operand was kept in 16 bits is refused as the range itself is.
-use Rattle.std.proofs.Common.{◌≡◌, ℕ, ◌+◌, ◌≤◌, min, Bool, true, false, not, ◌||◌, cond, nat_eq, nat_lt, Option, Some, None, refl, ap₂, sym, ◌∙◌, arith, Result, OnOk, IfOk, Ok, Err}
+use Rattle.std.proofs.Common.{◌≡◌, ℕ, ◌+◌, ◌≤◌, min, Bool, true, false, not, ◌||◌, cond, nat_eq, nat_lt, Option, Some, None, arith, Result, OnOk, IfOk}
 use Rattle.std.proofs.lemmas.Bool.Decides.{nat_tests}
 use Rattle.std.specs.Result.{result_err}
 use Rattle.thp_model.specs.Prelude.{Refusal, Shape, History, is_live, subpages, refusal, PageState, page_refusal, size}
@@ -25,18 +25,13 @@ kept_same n first count few good = (grind (arith, nat_tests), grind (arith, nat_
 -- what is one value at every bad range is the same at a range and at what is kept of it
 alike : {A : Type 0} (n : ℕ) (r : ℕ → ℕ → A) (a : A) → n ≤ 512 → ((f c : ℕ) → is_bad n f c ≡ true → r f c ≡ a) → (first count : ℕ) →
     r (kept first) (kept count) ≡ r first count
-alike n r a few bad first count =
-    by_bool (is_bad n first count) _
-    (λ y. bad (kept first) (kept count) (bad_alike n first count few ∙ y) ∙ sym (bad first count y))
-    (λ g. ap₂ r (kept_same n first count few g).0 (kept_same n first count few g).1)
+alike n r a few bad first count = grind (arith, by_bool, bad_alike, kept_same)
 
 at_first : (b : Bool) (r : Refusal) (rest : Option Refusal) → b ≡ true → cond b (Some r) rest ≡ Some r
-at_first true r rest e = refl
-at_first false r rest e = absurd (cc)
+at_first x r rest e = grind arith
 
 at_second : (a b : Bool) (q r : Refusal) (rest : Option Refusal) → b ≡ true → cond a (Some q) (cond b (Some r) rest) ≡ cond a (Some q) (Some r)
-at_second a true q r rest e = refl
-at_second a false q r rest e = absurd (cc)
+at_second a x q r rest e = grind arith
 
 -- a page refuses the range as kept where it refuses the range, for the same reason
 pub page_map_sub : (t : PageState) (p first count : ℕ) → size t ≤ 512 → page_refusal t (call.map_sub p (kept first) (kept count)) ≡ page_refusal t (call.map_sub p first count)
@@ -76,9 +71,7 @@ unfolding refusal unknown
 zero_fill s h p first count low = alike (subpages s) (λ f c. refusal s h (call.zero_fill p f c)) (unknown h p) (few_subpages s low) (λ f c y. at_second _ _ _ _ _ y) first count
 
 good_node : (a b : Bool) (q r : Refusal) (rest : Option Refusal) → cond a (Some q) (cond b (Some r) rest) ≡ None → b ≡ false
-good_node true b q r rest e = absurd (cc)
-good_node false true q r rest e = absurd (cc)
-good_node false false q r rest e = refl
+good_node x b q r rest e = grind arith
 
 -- both operands are kept as they are
 abbrev pub Whole : ℕ → ℕ → Type 0
@@ -102,14 +95,11 @@ zero_fill-whole s h p first count low e = kept_same (subpages s) first count (fe
 
 -- what holds of an answer that isn't a refusal
 pub on_ok : {A : Type 0} (r : Result A Refusal) (P Q : Type 0) → OnOk r P → (result_err r ≡ None → P → Q) → OnOk r Q
-on_ok (Ok x) P Q h f = f refl h
-on_ok (Err x) P Q h f = h
+on_ok x y z h f = grind arith
 
 -- what holds of both of two answers to one call
 pub both_ok : {A : Type 0} (r : Result A Refusal) (P Q R : Type 0) → OnOk r P → OnOk r Q → (P → Q → R) → OnOk r R
-both_ok (Ok x) P Q R p q f = f p q
-both_ok (Err x) P Q R p q f = p
+both_ok x y z u p q f = grind arith
 
 pub both_if : {A : Type 0} (r : Result A Refusal) (P : Type 0) (Q R : A → Type 0) → OnOk r P → IfOk r Q → ((x : A) → P → Q x → R x) → IfOk r R
-both_if (Ok x) P Q R p q f = f x p q
-both_if (Err x) P Q R p q f = q
+both_if x y z u p q f = grind arith

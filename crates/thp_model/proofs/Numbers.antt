@@ -1,5 +1,5 @@
 -- Pages are numbered in the order of their allocation: one that isn't allocated yet had no event.
-use Rattle.std.proofs.Common.{◌≡◌, ℕ, ◌<◌, ◌≤◌, Bool, true, false, not, ◌&&◌, [], ◌∷◌, ◌++◌, refl, ◌∙◌, arith, nat_eq, inl, inr, ne_eqb}
+use Rattle.std.proofs.Common.{◌≡◌, ℕ, ◌<◌, ◌≤◌, Bool, true, false, not, ◌&&◌, [], ◌∷◌, ◌++◌, ◌∙◌, arith, nat_eq, inl, inr, ne_eqb}
 use Rattle.std.proofs.lemmas.Bool.{cases_lt}
 use Rattle.thp_model.specs.Prelude.{Event, Shape, History, count_of, some_event, maps, unmaps, maps_whole, unmaps_whole, pins_page, unpins_page, is_live, allocates, frees, splits, allocations, is_partly_mapped}
 use Rattle.thp_model.proofs.Pushes.{count_same, some_same, partly_stays, is_partly_mapped_none}
@@ -55,18 +55,4 @@ fresh_push h e p u f = record {
 -- they hold of the empty history
 pub numbered_none : Numbered []
 unfolding some_event count_of
-numbered_none = record {
-  fresh = λ p above.
-      record {
-        no_maps = λ i. refl;
-        no_unmaps = λ i. refl;
-        no_maps_whole = refl;
-        no_unmaps_whole = refl;
-        no_pins = refl;
-        no_unpins = refl;
-        never = refl;
-        not_freed = refl;
-        not_split = refl;
-        not_partly = λ shape. is_partly_mapped_none shape p;
-      };
-}
+numbered_none = grind (arith, is_partly_mapped_none)

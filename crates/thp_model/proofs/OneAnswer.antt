@@ -9,13 +9,11 @@ use Rattle.thp_model.proofs.WordLemmas.{set_of-ext}
 
 -- as many events pass a blind test after two events that it tells alike
 count_one : (test : What → Bool) → Blind test → (h k : History) (e f : Event) → SameButBlocks h k → test e.what ≡ test f.what → count_of test (h ++ e ∷ []) ≡ count_of test (k ++ f ∷ [])
-count_one test b h k e f s t =
-    count_of_push test h e ∙ ap (λ m. m + cond (test e.what) 1 0) (count_alike test b h k s) ∙ ap (λ x. count_of test k + cond x 1 0) t ∙ sym (count_of_push test k f)
+count_one test b h k e f s t = grind (arith, count_of_push, count_alike)
 
 -- and some does in both or in neither
 some_one : (test : What → Bool) → Blind test → (h k : History) (e f : Event) → SameButBlocks h k → test e.what ≡ test f.what → some_event test (h ++ e ∷ []) ≡ some_event test (k ++ f ∷ [])
-some_one test b h k e f s t =
-    some_event_push test h e ∙ ap (λ x. x || test e.what) (some_alike test b h k s) ∙ ap (λ x. some_event test k || x) t ∙ sym (some_event_push test k f)
+some_one test b h k e f s t = grind (arith, some_event_push, some_alike)
 
 -- differences of equal numbers
 less : (a a' t t' : ℕ) → a ≡ a' → t ≡ t' → a - t ≡ a' - t'
@@ -87,10 +85,7 @@ never m m' p p' e f g = omega arith
 
 -- a page that goes back to the queue isn't dropped
 no_return : (b x d : Bool) → b ≡ false → x ≡ true → (b || not x) ≡ d → d ≡ true → ⊥
-no_return true x d e f g h = absurd (cc)
-no_return false false d e f g h = absurd (cc)
-no_return false true true e f g h = absurd (cc)
-no_return false true false e f g h = absurd (cc)
+no_return y x d e f g h = grind arith
 
 -- the same request has one answer, but for its block
 pub one_answer : (shape : Shape) (h k : History) (c : ℕ) (v w : What) → SameButBlocks h k → asked v ≡ asked w →

@@ -71,9 +71,7 @@ without_none p (q ∷ ps) e = go (nat_eq q p) refl (without_none p ps) where
 
 -- a list without its first page, which stands in it once
 pub without_first : (p : ℕ) (ps : List ℕ) → times p (p ∷ ps) ≤ 1 → without p (p ∷ ps) ≡ ps
-without_first p ps l =
-    ap (λ b. cond (not b) (p ∷ without p ps) (without p ps)) (eq-eqb p p refl)
-    ∙ without_none p ps (omega (arith, l, times-cons p p ps, ap (λ b. cond {A = ℕ} b 1 0) (eq-eqb p p refl)))
+without_first p ps l = grind (arith, eq-eqb, without_none, times-cons)
 
 -- the same behind a front that hasn't the page
 pub without_middle : (p : ℕ) (ps qs : List ℕ) → times p (ps ++ p ∷ qs) ≤ 1 → without p (ps ++ p ∷ qs) ≡ ps ++ qs
@@ -98,5 +96,4 @@ turned p q e = grind (arith, nat_tests)
 
 -- a page that stands once isn't in front of itself
 pub not_before : (p : ℕ) (xs ys : List ℕ) → times p (xs ++ p ∷ ys) ≤ 1 → has_page p xs ≡ false
-not_before p xs ys l =
-    hasnt_times p xs (omega (arith, l, times-append p xs (p ∷ ys), times-cons p p ys, ap (λ b. cond {A = ℕ} b 1 0) (eq-eqb p p refl)))
+not_before p xs ys l = grind (arith, hasnt_times, times-append, times-cons, eq-eqb)

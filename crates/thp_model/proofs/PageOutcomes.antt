@@ -1,6 +1,6 @@
 -- The outcome of an unmap or an unpin and the frames that an event gives back, by the page's state before and after.
-use Rattle.std.proofs.Common.{◌≡◌, ℕ, ◌<◌, Bool, true, false, cond, not, ◌&&◌, ◌||◌, [], ◌∷◌, ◌++◌, refl, ap, sym, ◌∙◌, arith, nat_eq, nat_lt, ltb-true, eq-eqb}
-use Rattle.thp_model.specs.Prelude.{Event, Outcome, Freed, Queued, Stays, Shape, has, subpages, History, is_live, is_closed, is_freed, is_used, is_mapped, loses_use, total, allocates, frees, shrinks_underused, stands, is_held, outcome, released, Gives, unused, PageState, size, total_at, has_use, drops_use, holds, gives_frames, Tallies, PageSplit, page_outcome, page_released}
+use Rattle.std.proofs.Common.{◌≡◌, ℕ, ◌<◌, Bool, true, false, not, ◌&&◌, ◌||◌, [], ◌∷◌, ◌++◌, refl, ap, sym, ◌∙◌, arith, nat_eq, nat_lt, ltb-true, eq-eqb}
+use Rattle.thp_model.specs.Prelude.{Event, Outcome, Shape, has, subpages, History, is_live, is_closed, is_freed, is_used, is_mapped, loses_use, total, allocates, frees, shrinks_underused, stands, outcome, released, Gives, unused, PageState, size, total_at, has_use, drops_use, gives_frames, Tallies, PageSplit, page_outcome, page_released}
 use Rattle.thp_model.proofs.Bools.{by_bool}
 use Rattle.thp_model.proofs.PageRefusals.{some_is, held_is, held_gone}
 use Rattle.thp_model.proofs.Pushes.{some_same, some_event_push}
@@ -13,50 +13,26 @@ mapped_is shape h p t m = some_is shape h p t _ _ m (λ i below. ap (λ n. nat_l
 
 -- whether a subpage went out of use
 pub loses_is : (shape : Shape) (h k : History) (p : ℕ) (old new : PageState) → Tallies shape h p old → Tallies shape k p new → loses_use shape h k p ≡ drops_use old new
-loses_is shape h k p old new a b =
-    some_is shape h p old _ _ a (λ i below. both _ _ _ _ (total_is shape h p i old a below) (total_is shape k p i new b below)) where
-      both : (x x' y y' : ℕ) → x ≡ x' → y ≡ y' → (nat_lt 0 x && nat_eq y 0) ≡ (nat_lt 0 x' && nat_eq y' 0)
-      both x x' y y' e f = cc
+loses_is shape h k p old new a b = grind (arith, some_is, total_is, nat_lt, nat_eq)
 
 -- the outcome of what makes of h the history k
 pub outcome_is : (shape : Shape) (h k : History) (p : ℕ) (old new : PageState) → Tallies shape h p old → Tallies shape k p new →
     outcome shape h k p ≡ page_outcome old new (is_closed h) (stands shape h p)
-outcome_is shape h k p old new a b =
-    parts _ _ _ _ _ _ _ _ (is_closed h) (stands shape h p) (mapped_is shape k p new b) (pins_is shape k p new b) (sym a.split) (loses_is shape h k p old new a b) where
-      parts : (y y' : Bool) (n n' : ℕ) (s s' x x' c t : Bool) → y ≡ y' → n ≡ n' → s ≡ s' → x ≡ x' →
-          cond (not y && nat_eq n 0) Freed (cond (not s && (x && (y && (not c && not t)))) Queued Stays)
-          ≡ cond (not y' && nat_eq n' 0) Freed (cond (not s' && (x' && (y' && (not c && not t)))) Queued Stays)
-      parts y y' n n' s s' x x' c t e f g h = cc
+outcome_is shape h k p old new a b = grind (arith, mapped_is, pins_is, loses_is, nat_eq)
 
 -- a live page lives on unless the event frees it
 pub lives_on : (h : History) (e : Event) (p : ℕ) → is_live h p ≡ true → allocates p e.what ≡ false → is_live (h ++ e ∷ []) p ≡ not (frees p e.what)
-lives_on h e p l a =
-    go _ _ _ _ (frees p e.what) (some_same (allocates p) h e a) (some_event_push (frees p) h e) l where
-      go : (a a' f f' g : Bool) → a' ≡ a → f' ≡ (f || g) → (a && not f) ≡ true → (a' && not f') ≡ not g
-      go true a' true f' g e i l = absurd (cc)
-      go true a' false f' g e i l = rw (e, i) refl
-      go false a' f f' g e i l = absurd (cc)
+lives_on h e p l a = grind (arith, some_same, some_event_push)
 
 -- what is given back where the page lives on, and where it is freed
 pub released_is : (shape : Shape) (h k : History) (p : ℕ) (o : Outcome) (old new : PageState) → Tallies shape h p old → Tallies shape k p new → is_live h p ≡ true →
     is_live k p ≡ not (is_freed o) → released shape h k p ≡ page_released old new o
-released_is shape h k p o old new a b l after =
-    set_of-ext _ _ (λ i below. by_bool (is_freed o) _ (λ y. freed i (is_freed o) y (held_gone shape k p i (after ∙ ap not y))) (λ y. stays i (is_freed o) y (held_is shape k p i new b (after ∙ ap not y)))) where
-      freed : (i : ℕ) (x : Bool) → x ≡ true → is_held shape k p i ≡ false → (is_held shape h p i && not (is_held shape k p i)) ≡ (holds old i && (x || not (holds new i)))
-      freed i true e g = ap (λ b. is_held shape h p i && not b) g ∙ ap (λ b. b && true) (held_is shape h p i old a l)
-      freed i false e g = absurd (cc)
-
-      stays : (i : ℕ) (x : Bool) → x ≡ false → is_held shape k p i ≡ holds new i → (is_held shape h p i && not (is_held shape k p i)) ≡ (holds old i && (x || not (holds new i)))
-      stays i true e g = absurd (cc)
-      stays i false e g = ap (λ b. is_held shape h p i && not b) g ∙ ap (λ b. b && not (holds new i)) (held_is shape h p i old a l)
+released_is shape h k p o old new a b l after = grind (arith, set_of-ext, by_bool, held_gone, held_is)
 
 -- what is given back by an event that doesn't free the page
 pub released_alive : (shape : Shape) (h k : History) (p : ℕ) (old new : PageState) → Tallies shape h p old → Tallies shape k p new → is_live h p ≡ true → is_live k p ≡ true →
     released shape h k p ≡ gives_frames old new
-released_alive shape h k p old new a b l after =
-    set_of-ext _ _ (λ i below. both _ _ _ _ (held_is shape h p i old a l) (held_is shape k p i new b after)) where
-      both : (x x' y y' : Bool) → x ≡ x' → y ≡ y' → (x && not y) ≡ (x' && not y')
-      both x x' y y' e f = cc
+released_alive shape h k p old new a b l after = grind (arith, set_of-ext, held_is)
 
 -- a split of a page gives back the frames of its subpages that aren't in use
 pub unused_is : (shape : Shape) (h : History) (p : ℕ) (old new : PageState) → Tallies shape h p old → is_live h p ≡ true → old.split ≡ false → PageSplit (shrinks_underused shape) old new →
@@ -90,10 +66,7 @@ lives_by h e p o l a f = lives_on h e p l a ∙ ap not (f ∙ ap (λ b. b && is_
 -- the outcome and the frames that an event must name
 pub gives_is : (shape : Shape) (h k : History) (p : ℕ) (o : Outcome) (old new : PageState) → Tallies shape h p old → Tallies shape k p new → is_live h p ≡ true →
     is_live k p ≡ not (is_freed o) → o ≡ page_outcome old new (is_closed h) (stands shape h p) → Gives shape h k p o (page_released old new o)
-gives_is shape h k p o old new a b l after e = record {
-  outcome_is = e ∙ sym (outcome_is shape h k p old new a b);
-  set_is = sym (released_is shape h k p o old new a b l after);
-}
+gives_is shape h k p o old new a b l after e = grind (arith, outcome_is, released_is)
 
 -- whether a subpage of a live page is in use
 pub used_is : (shape : Shape) (h : History) (p i : ℕ) (t : PageState) → Tallies shape h p t → is_live h p ≡ true → i < subpages shape → is_used h p i ≡ nat_lt 0 (total_at t i)

@@ -1,7 +1,7 @@
 -- While the switch is off each page that stands is partly mapped, so none is found in use or split as underused.
-use Rattle.std.proofs.Common.{◌≡◌, ℕ, ◌+◌, ◌-◌, ◌<◌, ◌≤◌, Bool, true, false, cond, not, ◌&&◌, ◌||◌, [], ◌∷◌, ◌++◌, Some, take, refl, ap, ap₂, sym, ◌∙◌, arith, nat_eq, nat_lt, eq-eqb, inl, inr, ◌⊎◌, slice_get}
+use Rattle.std.proofs.Common.{◌≡◌, ℕ, ◌+◌, ◌-◌, ◌<◌, ◌≤◌, Bool, true, false, cond, not, ◌&&◌, ◌||◌, [], ◌∷◌, ◌++◌, Some, take, refl, ap, sym, ◌∙◌, arith, nat_eq, nat_lt, eq-eqb, inl, inr, ◌⊎◌, slice_get}
 use Rattle.std.proofs.lemmas.Bool.Decides.{eqb_tells, nat_tests}
-use Rattle.thp_model.specs.Prelude.{Event, Outcome, Freed, Queued, Stays, What, Alloc, UnmapWhole, UnmapSub, Unpin, Taken, Split, Used, Back, Dropped, Shape, thp_underused_split_page, splits_underused, maps, unmaps, total, pins, is_split, is_closed, is_mapped, loses_use, outcome, History, by, IsLegal, Fits, FitsBy, queue, queue_after, queue_by, flights, flights_after, flights_by, flight, stands, has_page, subpages, shrinks_underused, unmaps_some, unmaps_part, is_partly_mapped, finds_used}
+use Rattle.thp_model.specs.Prelude.{Event, Outcome, Freed, Queued, Stays, What, Alloc, UnmapWhole, UnmapSub, Unpin, Taken, Split, Used, Back, Dropped, Shape, thp_underused_split_page, splits_underused, maps, unmaps, is_mapped, loses_use, outcome, History, by, IsLegal, Fits, FitsBy, queue, queue_after, queue_by, flights, flights_after, flights_by, flight, stands, has_page, shrinks_underused, unmaps_some, unmaps_part, is_partly_mapped, finds_used}
 use Rattle.thp_model.proofs.Below.{some_no}
 use Rattle.thp_model.proofs.Bools.{or-true}
 use Rattle.thp_model.proofs.FlightLaws.{up_by}
@@ -16,15 +16,11 @@ queued_parts y m s x k t e = grind arith
 
 -- a page is queued only where a subpage went out of use and another is in use
 queued_loses : (shape : Shape) (h k : History) (p : ℕ) → Queued ≡ outcome shape h k p → (loses_use shape h k p && is_mapped shape k p) ≡ true
-queued_loses shape h k p e =
-    queued_parts (is_mapped shape k p) (nat_eq (pins k p) 0) (is_split h p) (loses_use shape h k p) (is_closed h) (stands shape h p) e
+queued_loses shape h k p e = grind (arith, queued_parts, nat_eq)
 
 -- an unpin takes no subpage out of use
 unpin_loses : (shape : Shape) (h : History) (e : Event) (p : ℕ) → ((i : ℕ) → maps p i e.what ≡ false) → ((i : ℕ) → unmaps p i e.what ≡ false) → loses_use shape h (h ++ e ∷ []) p ≡ false
-unpin_loses shape h e p m u =
-    some_no (subpages shape) _ (λ i below. never (total h p i) (total (h ++ e ∷ []) p i) (ap₂ (λ a b. a - b) (count_same (maps p i) h e (m i)) (count_same (unmaps p i) h e (u i)))) where
-      never : (t t' : ℕ) → t' ≡ t → (nat_lt 0 t && nat_eq t' 0) ≡ false
-      never t t' e = grind (arith, nat_tests)
+unpin_loses shape h e p m u = grind (arith, some_no, count_same, nat_lt, nat_eq, nat_tests)
 
 -- page q stood before, or this event left it partly mapped
 abbrev Came : Shape → History → Event → ℕ → ℕ → Type 0
@@ -38,19 +34,11 @@ fewer shape h e q m le up = inl (omega arith)
 by_outcome : (shape : Shape) (h : History) (e : Event) (p q : ℕ) (o : Outcome) → o ≡ outcome shape h (h ++ e ∷ []) p →
     (Queued ≡ outcome shape h (h ++ e ∷ []) p → unmaps_part shape p h e ≡ true) →
     Came shape h e q (times q (queue_by (queue shape h) p o) + flying q (flights_by (flights h) p o))
-by_outcome shape h e p q Stays is part = fewer shape h e q _ (omega arith)
-by_outcome shape h e p q Queued is part =
-    elim (eqb_tells p q) [
-      | inl y ↦ λ up. inr (ap (λ x. unmaps_part shape x h e) (sym y.1) ∙ part is)
-      | inr y ↦ fewer shape h e q _ (omega (arith, times_push q p (queue shape h), ap (λ b. cond {A = ℕ} b 1 0) y.0))
-    ]
-by_outcome shape h e p q Freed is part =
-    fewer shape h e q _ (omega (arith, times-filter (λ x. not (nat_eq x p)) q (queue shape h), flying-filter (λ (f : ℕ × ℕ). not (nat_eq f.1 p)) q (flights h)))
+by_outcome shape h e p q x is part = grind (arith, fewer, eqb_tells, times_push, times-filter, nat_eq, flying-filter)
 
 -- an unmap that queues its page leaves it partly mapped
 unmap_part : (shape : Shape) (h : History) (e : Event) (p : ℕ) → unmaps_some p e.what ≡ nat_eq p p → Queued ≡ outcome shape h (h ++ e ∷ []) p → unmaps_part shape p h e ≡ true
-unmap_part shape h e p u is =
-    ap (λ b. b && (loses_use shape h (h ++ e ∷ []) p && is_mapped shape (h ++ e ∷ []) p)) (u ∙ eq-eqb p p refl) ∙ queued_loses shape h (h ++ e ∷ []) p is
+unmap_part shape h e p u is = grind (arith, eq-eqb, queued_loses)
 
 -- a page that stands after an event that fits stood before, or was left partly mapped
 came : (shape : Shape) (h : History) (c : ℕ) (w : What) (q : ℕ) → shrinks_underused shape ≡ false → FitsBy shape h (h ++ by c w ∷ []) c w →
@@ -78,8 +66,7 @@ record ArePartly (shape : Shape) (h : History) : Type 0 where
 
 -- a split is of a page that stands
 none_more : (shape : Shape) (h : History) (c : ℕ) (w : What) → ArePartly shape h → FitsBy shape h (h ++ by c w ∷ []) c w → splits_underused shape h w ≡ 0
-none_more shape h c (Split p r) s f = ap (λ b. cond {A = ℕ} b 0 1) (s.each p (flies_stands shape h c p f.in_flight))
-none_more shape h c w s f = refl
+none_more shape h c x s f = grind (arith, flies_stands)
 
 -- one more event that fits keeps this
 partly_step : (shape : Shape) → shrinks_underused shape ≡ false → (h : History) (e : Event) → ArePartly shape h → Fits shape h e → ArePartly shape (h ++ e ∷ [])
@@ -115,11 +102,7 @@ partly_flies shape h c p off l e = (legal_partly shape h off l).each p (flies_st
 
 -- no page is found in use
 not_used : (shape : Shape) (h k : History) (c : ℕ) (w : What) → shrinks_underused shape ≡ false → IsLegal shape h → FitsBy shape h k c w → finds_used w ≡ false
-not_used shape h k c (Used p) off l f = absurd (no _ _ (partly_flies shape h c p off l f.0) f.1) where
-  no : (a b : Bool) → a ≡ true → (a || b) ≡ false → ⊥
-  no true b e g = absurd (cc)
-  no false b e g = absurd (cc)
-not_used shape h k c w off l f = refl
+not_used shape h k c x off l f = grind (arith, partly_flies)
 
 -- in no legal history
 pub none_used : (shape : Shape) (h : History) → shrinks_underused shape ≡ false → IsLegal shape h → (k : ℕ) (e : Event) → slice_get h k ≡ Some e → finds_used e.what ≡ false

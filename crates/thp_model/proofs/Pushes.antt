@@ -1,5 +1,5 @@
 -- Each definition at a history with one more event.
-use Rattle.std.proofs.Common.{◌≡◌, ℕ, ◌+◌, Bool, true, false, cond, not, ◌&&◌, ◌||◌, [], ◌∷◌, ◌++◌, refl, ap, sym, ◌∙◌, arith, append_assoc, filter_map, fold}
+use Rattle.std.proofs.Common.{◌≡◌, ℕ, ◌+◌, Bool, true, false, cond, ◌||◌, [], ◌∷◌, ◌++◌, refl, ap, sym, ◌∙◌, arith, append_assoc, filter_map, fold}
 use Rattle.std.proofs.lemmas.List.Elements.{filter_map-append}
 use Rattle.std.proofs.lemmas.List.Sums.{sum_by_push, fold_push}
 use Rattle.std.proofs.lemmas.List.Folds.{list_any-append}
@@ -15,8 +15,7 @@ count_of_push test h e = sum_by_push (λ (x : Event). cond (test x.what) 1 0) h 
 -- whether some event passes a test
 pub some_event_push : (test : What → Bool) (h : History) (e : Event) → some_event test (h ++ e ∷ []) ≡ (some_event test h || test e.what)
 unfolding some_event
-some_event_push test h e =
-    list_any-append (λ (x : Event). test x.what) h (e ∷ []) ∙ ap (λ b. some_event test h || b) (or-false (test e.what))
+some_event_push test h e = grind (arith, list_any-append, or-false)
 
 -- the queue
 pub queue_push : (shape : Shape) (h : History) (e : Event) → queue shape (h ++ e ∷ []) ≡ queue_after shape (queue shape h) e.what
@@ -35,9 +34,7 @@ is_taking_push h c e = fold_push (λ before (x : Event). takes_by c x.caller x.w
 
 -- an event that doesn't pass a test
 pub count_same : (test : What → Bool) (h : History) (e : Event) → test e.what ≡ false → count_of test (h ++ e ∷ []) ≡ count_of test h
-count_same test h e f = count_of_push test h e ∙ ap (λ b. count_of test h + cond b 1 0) f ∙ none (count_of test h) where
-  none : (n : ℕ) → n + 0 ≡ n
-  none n = omega arith
+count_same test h e f = grind (arith, count_of_push)
 
 -- an event that passes
 pub count_more : (test : What → Bool) (h : History) (e : Event) → test e.what ≡ true → count_of test (h ++ e ∷ []) ≡ count_of test h + 1
@@ -49,9 +46,7 @@ some_same test h e f = some_event_push test h e ∙ ap (λ b. some_event test h 
 
 -- an event that neither allocates nor frees page p leaves whether it lives
 pub live_stays : (h : History) (e : Event) (p : ℕ) → allocates p e.what ≡ false → frees p e.what ≡ false → is_live (h ++ e ∷ []) p ≡ is_live h p
-live_stays h e p a f =
-    ap (λ b. b && not (some_event (frees p) (h ++ e ∷ []))) (some_same (allocates p) h e a)
-    ∙ ap (λ b. some_event (allocates p) h && not b) (some_same (frees p) h e f)
+live_stays h e p a f = grind (arith, some_same)
 
 -- the count of split PMD mappings goes along the history
 history_of : (k : History) (n : ℕ) (h : History) → (fold add_split_pmds (k, n) h).0 ≡ k ++ h
@@ -61,9 +56,7 @@ history_of k n (e ∷ h) = history_of (k ++ e ∷ []) (n + splits_pmds k e.what)
 -- how many PMD mappings were split
 pub thp_split_pmd_push : (h : History) (e : Event) → thp_split_pmd (h ++ e ∷ []) ≡ thp_split_pmd h + splits_pmds h e.what
 unfolding thp_split_pmd
-thp_split_pmd_push h e =
-    ap (λ (k : History × ℕ). k.1) (fold_push add_split_pmds ([], 0) h e)
-    ∙ ap (λ k. (fold add_split_pmds ([], 0) h).1 + splits_pmds k e.what) (history_of [] 0 h)
+thp_split_pmd_push h e = grind (arith, fold_push, history_of)
 
 -- the count of underused pages split goes along the history too
 history_so : (shape : Shape) (k : History) (n : ℕ) (h : History) → (fold (add_split_underused shape) (k, n) h).0 ≡ k ++ h
@@ -74,9 +67,7 @@ history_so shape k n (e ∷ h) = history_so shape (k ++ e ∷ []) (n + splits_un
 pub thp_underused_split_page_push : (shape : Shape) (h : History) (e : Event) →
     thp_underused_split_page shape (h ++ e ∷ []) ≡ thp_underused_split_page shape h + splits_underused shape h e.what
 unfolding thp_underused_split_page
-thp_underused_split_page_push shape h e =
-    ap (λ (k : History × ℕ). k.1) (fold_push (add_split_underused shape) ([], 0) h e)
-    ∙ ap (λ k. (fold (add_split_underused shape) ([], 0) h).1 + splits_underused shape k e.what) (history_so shape [] 0 h)
+thp_underused_split_page_push shape h e = grind (arith, fold_push, history_so)
 
 -- at the start none was split
 pub thp_underused_split_page_none : (shape : Shape) → thp_underused_split_page shape [] ≡ 0
@@ -91,12 +82,7 @@ is_zero_filled_push p i h e = fold_push (λ before (x : Event). zero_after p i b
 -- an event that fills no subpage of page p
 pub zero_stays : (h : History) (e : Event) (p i : ℕ) → zeroes p i e.what ≡ false → writes p i e.what ≡ false →
     is_zero_filled (h ++ e ∷ []) p i ≡ is_zero_filled h p i
-zero_stays h e p i z w = is_zero_filled_push p i h e ∙ go _ _ _ z w where
-  go : (b x y : Bool) → x ≡ false → y ≡ false → (x || (b && not y)) ≡ b
-  go b true y e f = absurd (cc)
-  go b false true e f = absurd (cc)
-  go true false false e f = refl
-  go false false false e f = refl
+zero_stays h e p i z w = grind (arith, is_zero_filled_push)
 
 -- whether a page is partly mapped goes along the history
 history_by : (shape : Shape) (p : ℕ) (k : History) (b : Bool) (h : History) → (fold (add_unmap shape p) (k, b) h).0 ≡ k ++ h
@@ -107,9 +93,7 @@ history_by shape p k b (e ∷ h) = history_by shape p (k ++ e ∷ []) (b || unma
 pub is_partly_mapped_push : (shape : Shape) (h : History) (e : Event) (p : ℕ) →
     is_partly_mapped shape (h ++ e ∷ []) p ≡ (is_partly_mapped shape h p || unmaps_part shape p h e)
 unfolding is_partly_mapped
-is_partly_mapped_push shape h e p =
-    ap (λ (k : History × Bool). k.1) (fold_push (add_unmap shape p) ([], false) h e)
-    ∙ ap (λ k. (fold (add_unmap shape p) ([], false) h).1 || unmaps_part shape p k e) (history_by shape p [] false h)
+is_partly_mapped_push shape h e p = grind (arith, fold_push, history_by)
 
 -- no page of the empty history is
 pub is_partly_mapped_none : (shape : Shape) (p : ℕ) → is_partly_mapped shape [] p ≡ false
@@ -119,9 +103,7 @@ is_partly_mapped_none shape p = refl
 -- an event that unmaps nothing of page p
 pub partly_stays : (shape : Shape) (h : History) (e : Event) (p : ℕ) → unmaps_some p e.what ≡ false →
     is_partly_mapped shape (h ++ e ∷ []) p ≡ is_partly_mapped shape h p
-partly_stays shape h e p f =
-    is_partly_mapped_push shape h e p
-    ∙ ap (λ b. is_partly_mapped shape h p || b) (and_no _ _ f) ∙ or-false (is_partly_mapped shape h p)
+partly_stays shape h e p f = grind (arith, is_partly_mapped_push, and_no, or-false)
 
 -- the record of frames given back
 pub given_push : (h : History) (e : Event) → given (h ++ e ∷ []) ≡ given h ++ filter_map gives_back (e ∷ [])

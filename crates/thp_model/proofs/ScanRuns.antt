@@ -51,8 +51,7 @@ map_same f g s (p ∷ ps) = ap₂ (λ x xs. x ∷ xs) (s p) (map_same f g s ps)
 
 -- a flight without pages
 nothing_flies : (ps : List ℕ) → no_pages ps ≡ true → ps ≡ []
-nothing_flies [] e = refl
-nothing_flies (p ∷ ps) e = absurd (cc)
+nothing_flies x e = grind arith
 
 -- the flight of a scan is the pages taken
 scan_flight : (shape : Shape) (h : History) (c n : ℕ) → IsLegal shape h → no_pages (flight h c) ≡ true → flight (scan_taken shape h c n) c ≡ take n (queue shape h)
@@ -76,10 +75,7 @@ pub record NextTry (shape : Shape) (h : History) (c n i p : ℕ) : Type 0 where
 
 -- a list cut at the page that is next
 split_at : (i : ℕ) (ps : List ℕ) (p : ℕ) → slice_get (drop i ps) 0 ≡ Some p → ps ≡ take i ps ++ p ∷ drop 1 (drop i ps)
-split_at i ps p e = sym (take-append-drop i ps) ∙ ap (λ x. take i ps ++ x) (first_of_list p (drop i ps) e) where
-  first_of_list : (p : ℕ) (xs : List ℕ) → slice_get xs 0 ≡ Some p → xs ≡ p ∷ drop 1 xs
-  first_of_list p [] e = absurd (cc)
-  first_of_list p (x ∷ xs) e = cc
+split_at i ps p e = grind (arith, take-append-drop, slice_get)
 
 -- a page behind a front
 in_middle : (p : ℕ) (xs ys : List ℕ) → has_page p (xs ++ p ∷ ys) ≡ true

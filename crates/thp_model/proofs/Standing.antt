@@ -4,7 +4,7 @@ use Rattle.std.specs.List.{filter, list_any}
 use Rattle.std.proofs.lemmas.List.Sums.{sum_by_push, sum_by-cons, sum_by-append}
 use Rattle.std.proofs.lemmas.List.Folds.{list_any-append}
 use Rattle.std.proofs.lemmas.Bool.Decides.{eqb_tells}
-use Rattle.thp_model.specs.Prelude.{Event, Outcome, Freed, Queued, Stays, What, Alloc, MapWhole, UnmapWhole, MapSub, UnmapSub, SplitPmd, Pin, Unpin, Write, Zero, Taken, Split, Used, Back, Dropped, Close, Shape, History, some_event, by, total, pins, is_closed, is_freed, is_live, is_split, frees, splits, allocates, is_alloc, allocations, standing, stands, queue, flights, queue_after, flights_after, queue_by, flights_by, without, leaves, has_page, flight, IsLegal, Fits, FitsBy, outcome, some_below, subpages, shrinks_underused, is_about}
+use Rattle.thp_model.specs.Prelude.{Event, Outcome, Freed, Queued, Stays, What, Alloc, MapWhole, UnmapWhole, MapSub, UnmapSub, SplitPmd, Pin, Unpin, Write, Zero, Taken, Split, Used, Back, Dropped, Close, Shape, History, by, total, is_closed, is_freed, is_live, is_split, frees, splits, allocates, is_alloc, allocations, standing, stands, queue, flights, queue_after, flights_after, queue_by, flights_by, without, leaves, has_page, flight, IsLegal, Fits, FitsBy, outcome, some_below, subpages, shrinks_underused, is_about}
 use Rattle.thp_model.specs.declared.events.What.TheVariants.{Pinned}
 use Rattle.thp_model.proofs.Allowed.{allowed_map_whole, allowed_unmap_whole, allowed_map_sub, allowed_unmap_sub, allowed_split_pmd, allowed_pin, allowed_unpin, allowed_write, allowed_zero}
 use Rattle.thp_model.proofs.Bools.{or_none, and-false, one_if, none_if}
@@ -54,28 +54,17 @@ flying-filter test p fs = omega (arith, count-filter (λ (f : ℕ × ℕ). nat_e
 
 -- a truth and not its opposite
 both : (b : Bool) → b ≡ true → (b && not (not b)) ≡ true
-both true e = refl
-both false e = absurd (cc)
+both x e = grind arith
 
 -- a list without page p has it no more
 pub times-without : (p : ℕ) (ps : List ℕ) → times p (without p ps) ≡ 0
 unfolding times
-times-without p ps =
-    omega (
-      arith,
-      count-filter (λ q. nat_eq q p) (λ q. not (nat_eq q p)) ps,
-      count-le (λ q. nat_eq q p) (λ q. nat_eq q p && not (not (nat_eq q p))) ps (λ q e. both (nat_eq q p) e),
-    )
+times-without p ps = grind (arith, count-filter, nat_eq, count-le, both)
 
 -- the same of the flights
 pub flying-without : (p : ℕ) (fs : List (ℕ × ℕ)) → flying p (filter (λ (f : ℕ × ℕ). not (nat_eq f.1 p)) fs) ≡ 0
 unfolding flying
-flying-without p fs =
-    omega (
-      arith,
-      count-filter (λ (f : ℕ × ℕ). nat_eq f.1 p) (λ (f : ℕ × ℕ). not (nat_eq f.1 p)) fs,
-      count-le (λ (f : ℕ × ℕ). nat_eq f.1 p) (λ (f : ℕ × ℕ). nat_eq f.1 p && not (not (nat_eq f.1 p))) fs (λ f e. both (nat_eq f.1 p) e),
-    )
+flying-without p fs = grind (arith, count-filter, nat_eq, count-le, both)
 
 -- a page in the flight of c
 abbrev pub pages : List (ℕ × ℕ) → List ℕ
@@ -84,9 +73,7 @@ pages fs = map (λ (f : ℕ × ℕ). f.1) fs
 -- one more entry of a flight
 in_step : (a b : Bool) (f : ℕ × ℕ) (p : ℕ) (fs : List (ℕ × ℕ)) (n : ℕ) → nat_eq f.1 p ≡ b → (has_page p (pages fs) ≡ true → 0 < n) →
     has_page p (pages (cond a (f ∷ fs) fs)) ≡ true → 0 < cond (a && b) 1 0 + n
-in_step true true f p fs n e g h = omega arith
-in_step true false f p fs n e g h = omega (arith, g (ap (λ v. v || has_page p (pages fs)) (sym e) ∙ h))
-in_step false b f p fs n e g h = omega (arith, g h)
+in_step x y f p fs n e g h = grind arith
 
 -- a page of the flight of c stands in the flights, by c
 pub in_flight : (p c : ℕ) (fs : List (ℕ × ℕ)) → has_page p (pages (filter (λ (f : ℕ × ℕ). nat_eq f.0 c) fs)) ≡ true →
@@ -98,21 +85,13 @@ in_flight p c (f ∷ fs) h =
 
 -- a conjunction the other way round
 swap_and : (a b : Bool) → (a && b) ≡ true → (b && not (not (a && b))) ≡ true
-swap_and true true e = refl
-swap_and true false e = absurd (cc)
-swap_and false b e = absurd (cc)
+swap_and x y e = grind arith
 
 -- a page that leaves the flight of c stands in the flights once less
 pub flying-leaves : (p c : ℕ) (fs : List (ℕ × ℕ)) → has_page p (pages (filter (λ (f : ℕ × ℕ). nat_eq f.0 c) fs)) ≡ true →
     flying p (leaves c p fs) + 1 ≤ flying p fs
 unfolding flying
-flying-leaves p c fs h =
-    omega (
-      arith,
-      in_flight p c fs h,
-      count-filter (λ (f : ℕ × ℕ). nat_eq f.1 p) (λ (f : ℕ × ℕ). not (nat_eq f.0 c && nat_eq f.1 p)) fs,
-      count-le (λ (f : ℕ × ℕ). nat_eq f.0 c && nat_eq f.1 p) (λ (f : ℕ × ℕ). nat_eq f.1 p && not (not (nat_eq f.0 c && nat_eq f.1 p))) fs (λ f e. swap_and (nat_eq f.0 c) (nat_eq f.1 p) e),
-    )
+flying-leaves p c fs h = grind (arith, in_flight, count-filter, nat_eq, count-le, swap_and)
 
 -- the first page of a list is in it
 pub first_has : (p : ℕ) (qs : List ℕ) → slice_get qs 0 ≡ Some p → has_page p qs ≡ true
@@ -121,8 +100,7 @@ first_has p (q ∷ qs) e = let same : q ≡ p = cc in rw same (ap (λ v. v || ha
 
 -- the first of the queue, taken out
 pub times-drop : (p q : ℕ) (qs : List ℕ) → slice_get qs 0 ≡ Some p → times q qs ≡ cond (nat_eq p q) 1 0 + times q (drop 1 qs)
-times-drop p q [] e = absurd (cc)
-times-drop p q (x ∷ qs) e = let same : x ≡ p = cc in rw (times-cons q x qs, same)
+times-drop p q x e = grind (arith, times-cons)
 
 -- how often a page stands
 abbrev pub stand : Shape → History → ℕ → ℕ
@@ -142,19 +120,11 @@ any-pages p (f ∷ fs) = ap (λ b. nat_eq f.1 p || b) (any-pages p fs)
 -- a page that stands nowhere is counted nowhere
 pub stands_not : (shape : Shape) (h : History) (p : ℕ) → has_page p (queue shape h ++ pages (flights h)) ≡ false → stand shape h p ≡ 0
 unfolding times flying
-stands_not shape h p e =
-    let split : (has_page p (queue shape h) || has_page p (pages (flights h))) ≡ false = sym (list_any-append (λ q. nat_eq q p) (queue shape h) (pages (flights h))) ∙ e in
-    let apart : (has_page p (queue shape h) ≡ false) × (has_page p (pages (flights h)) ≡ false) = or_none _ _ split in
-    omega (arith, (count_any (λ q. nat_eq q p) (queue shape h)).0 apart.0, (count_any (λ (f : ℕ × ℕ). nat_eq f.1 p) (flights h)).0 (sym (any-pages p (flights h)) ∙ apart.1))
+stands_not shape h p e = grind (arith, list_any-append, nat_eq, or_none, count_any, any-pages)
 
 -- a page lives on through an event that doesn't free it
 pub live_push : (h : History) (e : Event) (p : ℕ) → is_live h p ≡ true → frees p e.what ≡ false → is_live (h ++ e ∷ []) p ≡ true
-live_push h e p l f = rw (some_event_push (allocates p) h e, some_event_push (frees p) h e) (go (some_event (allocates p) h) (some_event (frees p) h) (allocates p e.what) (frees p e.what) l f) where
-  go : (a b c d : Bool) → (a && not b) ≡ true → d ≡ false → ((a || c) && not (b || d)) ≡ true
-  go true false c false l f = refl
-  go true false c true l f = absurd (cc)
-  go true true c d l f = absurd (cc)
-  go false b c d l f = absurd (cc)
+live_push h e p l f = grind (arith, some_event_push)
 
 -- a page stays whole through an event that doesn't split it
 pub split_push : (h : History) (e : Event) (p : ℕ) → is_split h p ≡ false → splits p e.what ≡ false → is_split (h ++ e ∷ []) p ≡ false
@@ -180,22 +150,12 @@ gone h q n a b e = record { few = omega arith; good = λ up. absurd (omega arith
 -- a page that joined, and stood nowhere
 entered : (shape : Shape) (h : History) (p q n : ℕ) (a b : Bool) → Sound shape h → is_live h p ≡ true → is_split h p ≡ false → stand shape h p ≡ 0 →
     n ≡ stand shape h q + cond (nat_eq p q) 1 0 → a ≡ false → b ≡ false → Next h q n a b
-entered shape h p q n a b s l w none e f g =
-    elim (eqb_tells p q) [
-      | inl y ↦
-          let one : cond {A = ℕ} (nat_eq p q) 1 0 ≡ 1 = one_if (nat_eq p q) y.0 in
-          let here : stand shape h q ≡ 0 = ap (stand shape h) (sym y.1) ∙ none in
-          record { few = omega arith; good = λ up. (ap (is_live h) (sym y.1) ∙ l, ap (is_split h) (sym y.1) ∙ w, f, g) }
-      | inr y ↦
-          let none : cond {A = ℕ} (nat_eq p q) 1 0 ≡ 0 = none_if (nat_eq p q) y.0 in
-          less shape h q n a b s (omega arith) f g
-    ]
+entered shape h p q n a b s l w none e f g = grind (arith, eqb_tells, nat_eq, one_if, none_if, less)
 
 -- a page that is p, or isn't
 unless_same : (shape : Shape) (h : History) (p q n : ℕ) (a b : Bool) → Sound shape h → n ≤ stand shape h q → (q ≡ p → n ≡ 0) →
     (nat_eq q p ≡ false → (a ≡ false) × (b ≡ false)) → Next h q n a b
-unless_same shape h p q n a b s le f g =
-    elim (eqb_tells q p) [ inl y ↦ gone h q n a b (f y.1) | inr y ↦ less shape h q n a b s le (g y.0).0 (g y.0).1 ]
+unless_same shape h p q n a b s le f g = grind (arith, eqb_tells, gone, less)
 
 -- what holds at p
 at : (q p : ℕ) (f : ℕ → ℕ) → f p ≡ 0 → q ≡ p → f q ≡ 0
@@ -204,9 +164,7 @@ at q p f e y = ap f y ∙ e
 -- a page is queued only where it isn't split, stands nowhere, the node is open and some subpage is in use
 pub outcome_queued : (shape : Shape) (h k : History) (p : ℕ) → Queued ≡ outcome shape h k p →
     (is_split h p ≡ false) × (stands shape h p ≡ false) × (is_closed h ≡ false) × (some_below (subpages shape) (λ i. nat_lt 0 (total k p i)) ≡ true)
-outcome_queued shape h k p e =
-    queued_is (not (some_below (subpages shape) (λ i. nat_lt 0 (total k p i))) && nat_eq (pins k p) 0) (is_split h p)
-    (some_below (subpages shape) (λ i. nat_lt 0 (total h p i) && nat_eq (total k p i) 0)) (some_below (subpages shape) (λ i. nat_lt 0 (total k p i))) (is_closed h) (stands shape h p) e
+outcome_queued shape h k p e = grind (arith, queued_is, nat_lt, nat_eq)
 
 -- an outcome of a live page keeps this
 by_outcome : (shape : Shape) (h k : History) (p q : ℕ) (o : Outcome) → Sound shape h → is_live h p ≡ true → o ≡ outcome shape h k p →
@@ -223,17 +181,7 @@ by_outcome shape h k p q Freed s l e =
 -- a page that leaves the flight of c makes room for one entry
 pub moves : (p q c : ℕ) (fs : List (ℕ × ℕ)) → has_page p (pages (filter (λ (f : ℕ × ℕ). nat_eq f.0 c) fs)) ≡ true →
     cond (nat_eq p q) 1 0 + flying q (leaves c p fs) ≤ flying q fs
-moves p q c fs h =
-    elim (eqb_tells p q) [
-      | inl y ↦
-          let one : cond {A = ℕ} (nat_eq p q) 1 0 ≡ 1 = one_if (nat_eq p q) y.0 in
-          let here : flying q (leaves c p fs) + 1 ≤ flying q fs =
-          let P : ℕ → Type 0 = λ x. flying x (leaves c p fs) + 1 ≤ flying x fs in subst P y.1 (flying-leaves p c fs h) in
-          omega arith
-      | inr y ↦
-          let none : cond {A = ℕ} (nat_eq p q) 1 0 ≡ 0 = none_if (nat_eq p q) y.0 in
-          omega (arith, flying-filter (λ (x : ℕ × ℕ). not (nat_eq x.0 c && nat_eq x.1 p)) q fs)
-    ]
+moves p q c fs h = grind (arith, eqb_tells, nat_eq, one_if, flying-leaves, none_if, flying-filter)
 
 -- an event that fits keeps this
 step : (shape : Shape) (h k : History) (c : ℕ) (w : What) (q : ℕ) → is_alloc w ≡ false → Sound shape h → FitsBy shape h k c w →
@@ -283,8 +231,7 @@ about_step shape h c Close q s t f g = refl
 
 -- a page that joins where a test holds
 new_stands : (b : Bool) (q p : ℕ) (ps : List ℕ) → times q (cond b (ps ++ p ∷ []) ps) ≡ times q ps + cond (b && nat_eq p q) 1 0
-new_stands true q p ps = times_push q p ps
-new_stands false q p ps = omega arith
+new_stands x q p ps = grind (arith, times_push)
 
 -- a new page stands in the queue where the switch is on, and nowhere else
 sound_alloc : (shape : Shape) (h : History) (c p b : ℕ) → Sound shape h → Numbered h → p ≡ allocations h → Sound shape (h ++ by c (Alloc p b) ∷ [])
@@ -336,20 +283,11 @@ sound_alloc shape h c p b s t is =
 
 -- an event that is no allocation
 sound_other : (shape : Shape) (h : History) (e : Event) → is_alloc e.what ≡ false → Sound shape h → Fits shape h e → Sound shape (h ++ e ∷ [])
-sound_other shape h e un s f =
-    let stands_as : (q : ℕ) → stand shape (h ++ e ∷ []) q ≡ times q (queue_after shape (queue shape h) e.what) + flying q (flights_after (flights h) e.caller e.what) =
-    λ q. ap (λ ps. times q ps + flying q (flights (h ++ e ∷ []))) (queue_push shape h e) ∙ ap (λ fs. times q (queue_after shape (queue shape h) e.what) + flying q fs) (flights_push h e) in
-    let next = λ (q : ℕ). step shape h (h ++ e ∷ []) e.caller e.what q un s f in
-    record {
-      once = λ q. rw (stands_as q) (next q).few;
-      live = λ q up. let g = (next q).good (rw (stands_as q) at up) in live_push h e q g.0 g.2;
-      whole_page = λ q up. let g = (next q).good (rw (stands_as q) at up) in split_push h e q g.1 g.3;
-    }
+sound_other shape h e un s f = grind (arith, queue_push, flights_push, step, at, live_push, split_push)
 
 -- what a caller does
 sound_by : (shape : Shape) (h : History) (c : ℕ) (w : What) → Sound shape h → Numbered h → FitsBy shape h (h ++ by c w ∷ []) c w → Sound shape (h ++ by c w ∷ [])
-sound_by shape h c (Alloc p b) s t f = sound_alloc shape h c p b s t f.number
-sound_by shape h c w s t f = sound_other shape h (by c w) refl s f
+sound_by shape h c x s t f = grind (arith, sound_alloc, sound_other)
 
 -- one more event that fits
 pub sound_push : (shape : Shape) (h : History) (e : Event) → Sound shape h → Numbered h → Fits shape h e → Sound shape (h ++ e ∷ [])

@@ -54,10 +54,8 @@ take_events_more shape h c i p e = ap (takes_of c) (more_taken i (queue shape h)
 
 -- a caller has nothing in flight exactly where its flight's length is 0
 pub none_flies : (ps : List ℕ) → length ps ≡ 0 → no_pages ps ≡ true
-none_flies [] e = refl
-none_flies (p ∷ ps) e = absurd (omega arith)
+none_flies x e = grind arith
 
 -- and the other way round
 pub none_length : (ps : List ℕ) → no_pages ps ≡ true → length ps ≡ 0
-none_length [] e = refl
-none_length (p ∷ ps) e = absurd (cc)
+none_length x e = grind arith

@@ -1,6 +1,6 @@
 -- A page's state along a history: after each event it is what the history says of the page.
 use Rattle.std.proofs.Common.{◌≡◌, ℕ, ◌+◌, ◌-◌, ◌^◌, ◌<◌, Bool, true, false, cond, not, ◌&&◌, ◌||◌, List, [], ◌∷◌, ◌++◌, refl, ap, sym, ◌∙◌, arith, nat_eq, nat_lt, eq-eqb, slice_index_or}
-use Rattle.thp_model.specs.Prelude.{Event, Outcome, What, Alloc, MapWhole, UnmapWhole, MapSub, UnmapSub, SplitPmd, Pin, Unpin, Write, Zero, Split, Shape, covers, has, some_below, count_below, subpages, History, count_of, by, maps, unmaps, maps_whole, unmaps_whole, pins_page, unpins_page, is_split, splits, total, whole, own, pins, is_mapped, loses_use, shrinks_underused, zeroes, writes, unmaps_some, is_zero_filled, is_partly_mapped, is_worth_split, is_above, zero_filled, PageState, size, own_at, total_at, zero_at, zero_count, has_use, drops_use, partly_after, is_split_candidate, KeepsZero, KeepsCounts, WholeMapped, WholeUnmapped, RangeMapped, RangeUnmapped, PmdSplit, PageSplit, RangeWritten, RangeZeroed, IsFresh, Tallies}
+use Rattle.thp_model.specs.Prelude.{Event, Outcome, What, Alloc, MapWhole, UnmapWhole, MapSub, UnmapSub, SplitPmd, Pin, Unpin, Write, Zero, Split, Shape, covers, has, subpages, History, count_of, by, maps, unmaps, maps_whole, unmaps_whole, pins_page, unpins_page, is_split, splits, total, whole, own, pins, shrinks_underused, zeroes, writes, unmaps_some, is_zero_filled, is_partly_mapped, is_worth_split, zero_filled, PageState, size, own_at, total_at, zero_at, zero_count, partly_after, is_split_candidate, KeepsZero, KeepsCounts, WholeMapped, WholeUnmapped, RangeMapped, RangeUnmapped, PmdSplit, PageSplit, RangeWritten, RangeZeroed, IsFresh, Tallies}
 use Rattle.thp_model.specs.Pages.{Pinned}
 use Rattle.thp_model.proofs.Below.{some_below-ext}
 use Rattle.thp_model.proofs.Bools.{by_bool, or_first}
@@ -24,16 +24,11 @@ pins_is shape h p t m = omega (arith, m.pins_of)
 
 -- the same of its whole map count
 pub whole_is : (shape : Shape) (h : History) (p : ℕ) (t : PageState) → Tallies shape h p t → whole h p ≡ t.whole
-whole_is shape h p t m =
-    by_bool (is_split h p) _
-    (λ e. ap (λ b. cond b 0 (count_of (maps_whole p) h - count_of (unmaps_whole p) h)) e ∙ sym (m.no_whole e))
-    (λ e. ap (λ b. cond b 0 (count_of (maps_whole p) h - count_of (unmaps_whole p) h)) e ∙ omega (arith, m.whole_of e))
+whole_is shape h p t m = grind (arith, by_bool)
 
 -- the same of the own map count of a subpage
 pub own_is : (shape : Shape) (h : History) (p i : ℕ) (t : PageState) → Tallies shape h p t → i < subpages shape → own h p i ≡ own_at t i
-own_is shape h p i t m below = go _ _ _ _ (total_is shape h p i t m below) (whole_is shape h p t m) where
-  go : (a b w o : ℕ) → a ≡ w + o → b ≡ w → a - b ≡ o
-  go a b w o e f = omega arith
+own_is shape h p i t m below = grind (arith, total_is, whole_is)
 
 -- pages of one order
 pub same_size : (a b : PageState) → a.order ≡ b.order → size a ≡ size b
@@ -59,33 +54,11 @@ partly_kept shape h e p old new m same f = same ∙ m.partly ∙ sym (partly_sta
 partly_unmapped : (shape : Shape) (h : History) (e : Event) (p : ℕ) (old new : PageState) → Tallies shape h p old → new.order ≡ old.order →
     ((i : ℕ) → i < subpages shape → count_of (maps p i) (h ++ e ∷ []) ≡ count_of (unmaps p i) (h ++ e ∷ []) + total_at new i) →
     new.partly ≡ partly_after old new → unmaps_some p e.what ≡ true → new.partly ≡ is_partly_mapped shape (h ++ e ∷ []) p
-partly_unmapped shape h e p old new m o totals is f =
-    let k : History = h ++ e ∷ [] in
-    let now : (i : ℕ) → i < subpages shape → total k p i ≡ total_at new i = λ i below. omega (arith, totals i below) in
-    let loses : loses_use shape h k p ≡ drops_use old new =
-    some_below-ext (subpages shape) _ _ (λ i below. pair _ _ _ _ (total_is shape h p i old m below) (now i below)) ∙ ap (λ n. some_below n (λ i. nat_lt 0 (total_at old i) && nat_eq (total_at new i) 0)) (sym (size_is shape h p old m)) in
-    let mapped : is_mapped shape k p ≡ has_use new =
-    some_below-ext (subpages shape) _ _ (λ i below. ap (λ n. nat_lt 0 n) (now i below)) ∙ ap (λ n. some_below n (λ i. nat_lt 0 (total_at new i))) (sym (same_size new old o ∙ size_is shape h p old m)) in
-    is ∙ sym (is_partly_mapped_push shape h e p ∙ parts _ _ _ _ _ _ _ (sym m.partly) f loses mapped) where
-      pair : (x x' y y' : ℕ) → x ≡ x' → y ≡ y' → (nat_lt 0 x && nat_eq y 0) ≡ (nat_lt 0 x' && nat_eq y' 0)
-      pair x x' y y' e f = cc
-
-      parts : (a a' u x x' y y' : Bool) → a ≡ a' → u ≡ true → x ≡ x' → y ≡ y' → (a || (u && (x && y))) ≡ (a' || (x' && y'))
-      parts a a' u x x' y y' e f g h = rw (e, f, g, h) refl
+partly_unmapped shape h e p old new m o totals is f = grind (arith, some_below-ext, total_is, nat_lt, nat_eq, size_is, same_size, is_partly_mapped_push)
 
 -- an event that isn't about the page
 pub tallies_stay : (shape : Shape) (h : History) (e : Event) (p : ℕ) (t : PageState) → Untouched p e.what → Tallies shape h p t → Tallies shape (h ++ e ∷ []) p t
-tallies_stay shape h e p t u m = record {
-  order = m.order;
-  totals = λ i below. omega (arith, count_same (maps p i) h e (u.no_maps i), m.totals i below, count_same (unmaps p i) h e (u.no_unmaps i));
-  whole_of = λ f. omega (arith, count_same (maps_whole p) h e u.no_maps_whole, m.whole_of (sym (some_same (splits p) h e u.no_split) ∙ f), count_same (unmaps_whole p) h e u.no_unmaps_whole);
-  no_whole = λ f. m.no_whole (sym (some_same (splits p) h e u.no_split) ∙ f);
-  pins_of = omega (arith, count_same (pins_page p) h e u.no_pin, m.pins_of, count_same (unpins_page p) h e u.no_unpin);
-  split = m.split ∙ sym (some_same (splits p) h e u.no_split);
-  zero = λ i below. m.zero i below ∙ sym (zero_stays h e p i (u.no_zeroes i) (u.no_writes i));
-  partly = m.partly ∙ sym (partly_stays shape h e p u.no_unmap);
-  freed_zero_frames = m.freed_zero_frames;
-}
+tallies_stay shape h e p t u m = grind (arith, count_same, some_same, zero_stays, partly_stays)
 
 -- a subpage of the node's pages is one of the page
 in_size : (shape : Shape) (h : History) (p : ℕ) (t : PageState) → Tallies shape h p t → (i : ℕ) → i < subpages shape → i < size t
@@ -147,21 +120,7 @@ tallies_map_whole shape h c p old new t s w =
 -- one mapping of the whole page less
 pub tallies_unmap_whole : (shape : Shape) (h : History) (c p : ℕ) (o : Outcome) (r : List Bool) (old new : PageState) → Tallies shape h p old → WholeUnmapped old new →
     Tallies shape (h ++ by c (UnmapWhole o p r) ∷ []) p new
-tallies_unmap_whole shape h c p o r old new t w =
-    let e : Event = by c (UnmapWhole o p r) in
-    let totals : (i : ℕ) → i < subpages shape → count_of (maps p i) (h ++ e ∷ []) ≡ count_of (unmaps p i) (h ++ e ∷ []) + total_at new i =
-    λ i below. omega (arith, count_same (maps p i) h e refl, count_more (unmaps p i) h e (eq-eqb p p refl), t.totals i below, w.whole, w.own i (in_size shape h p old t i below)) in
-    record {
-      order = w.order ∙ t.order;
-      totals = totals;
-      whole_of = λ g. omega (arith, count_same (maps_whole p) h e refl, count_more (unmaps_whole p) h e (eq-eqb p p refl), t.whole_of (sym (some_same (splits p) h e refl) ∙ g), w.whole);
-      no_whole = λ g. omega (arith, t.no_whole (sym (some_same (splits p) h e refl) ∙ g), w.whole);
-      pins_of = omega (arith, count_same (pins_page p) h e refl, count_same (unpins_page p) h e refl, t.pins_of, w.pins);
-      split = w.split ∙ t.split ∙ sym (some_same (splits p) h e refl);
-      zero = zero_kept shape h e p old new t w.kept (λ i. refl) (λ i. refl);
-      partly = partly_unmapped shape h e p old new t w.order totals w.partly (eq-eqb p p refl);
-      freed_zero_frames = gave_kept shape h p old new t w.kept w.split;
-    }
+tallies_unmap_whole shape h c p o r old new t w = grind (arith, count_same, count_more, eq-eqb, in_size, some_same, zero_kept, partly_unmapped, gave_kept)
 
 -- one more mapping of each subpage of a range
 pub tallies_map_sub : (shape : Shape) (h : History) (c p first count : ℕ) (old new : PageState) → Tallies shape h p old → RangeMapped first count old new →
@@ -184,22 +143,7 @@ tallies_map_sub shape h c p first count old new t u =
 -- one mapping of each subpage of a range less
 pub tallies_unmap_sub : (shape : Shape) (h : History) (c p first count : ℕ) (o : Outcome) (r : List Bool) (old new : PageState) → Tallies shape h p old → RangeUnmapped first count old new →
     Tallies shape (h ++ by c (UnmapSub o p first count r) ∷ []) p new
-tallies_unmap_sub shape h c p first count o r old new t u =
-    let e : Event = by c (UnmapSub o p first count r) in
-    let totals : (i : ℕ) → i < subpages shape → count_of (maps p i) (h ++ e ∷ []) ≡ count_of (unmaps p i) (h ++ e ∷ []) + total_at new i =
-    λ i below.
-    omega (arith, count_same (maps p i) h e refl, count_of_push (unmaps p i) h e ∙ ap (λ b. count_of (unmaps p i) h + cond b 1 0) (covered p first count i), t.totals i below, u.whole, u.own i (in_size shape h p old t i below)) in
-    record {
-      order = u.order ∙ t.order;
-      totals = totals;
-      whole_of = λ g. omega (arith, count_same (maps_whole p) h e refl, count_same (unmaps_whole p) h e refl, t.whole_of (sym (some_same (splits p) h e refl) ∙ g), u.whole);
-      no_whole = λ g. u.whole ∙ t.no_whole (sym (some_same (splits p) h e refl) ∙ g);
-      pins_of = omega (arith, count_same (pins_page p) h e refl, count_same (unpins_page p) h e refl, t.pins_of, u.pins);
-      split = u.split ∙ t.split ∙ sym (some_same (splits p) h e refl);
-      zero = zero_kept shape h e p old new t u.kept (λ i. refl) (λ i. refl);
-      partly = partly_unmapped shape h e p old new t u.order totals u.partly (eq-eqb p p refl);
-      freed_zero_frames = gave_kept shape h p old new t u.kept u.split;
-    }
+tallies_unmap_sub shape h c p first count o r old new t u = grind (arith, count_same, count_of_push, covered, in_size, some_same, zero_kept, partly_unmapped, eq-eqb, gave_kept)
 
 -- a mapping of the whole page made into one of each subpage
 pub tallies_split_pmd : (shape : Shape) (h : History) (c p : ℕ) (old new : PageState) → Tallies shape h p old → PmdSplit old new →
@@ -317,11 +261,8 @@ tallies_zero shape h c p first count old new t w =
 
 -- how many subpages are zero-filled
 zero_count_is : (shape : Shape) (h : History) (p : ℕ) (t : PageState) → Tallies shape h p t → zero_filled shape h p ≡ zero_count t
-zero_count_is shape h p t m =
-    sum_below-ext (subpages shape) _ _ (λ i below. ap (λ b. cond b 1 0) (sym (m.zero i below))) ∙ ap (λ n. count_below n (zero_at t)) (sym (size_is shape h p t m))
+zero_count_is shape h p t m = grind (arith, sum_below-ext, size_is)
 
 -- whether a split of the page is worth its while
 pub worth_is : (shape : Shape) (h : History) (p : ℕ) (t : PageState) → Tallies shape h p t → is_worth_split shape h p ≡ is_split_candidate shape.underused t
-worth_is shape h p t m = both _ _ _ _ (sym m.partly) (ap (λ n. is_above shape.underused n) (zero_count_is shape h p t m)) where
-  both : (a a' b b' : Bool) → a ≡ a' → b ≡ b' → (a || b) ≡ (a' || b')
-  both a a' b b' e f = cc
+worth_is shape h p t m = grind (arith, zero_count_is)

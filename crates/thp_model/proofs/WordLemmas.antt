@@ -1,5 +1,5 @@
 -- Sets as words.
-use Rattle.std.proofs.Common.{rules, ◌≡◌, ◌≢◌, ℕ, suc, zero, ◌+◌, ◌-◌, ◌*◌, ◌/◌, ◌%◌, ◌^◌, ◌<◌, ◌≤◌, max, min, Bool, true, false, cond, not, ◌&&◌, ◌||◌, List, [], ◌∷◌, ◌++◌, length, map, set, get_or, refl, ap, sym, ◌∙◌, subst, arith, inl, inr, nat_eq, nat_lt, All, eq-eqb, ne_eqb, lt-ltb, bit_and, bit_or, bit_xor, count_ones, count_by, sum_by, if◌then◌else◌, Decides}
+use Rattle.std.proofs.Common.{rules, ◌≡◌, ◌≢◌, ℕ, suc, zero, ◌+◌, ◌-◌, ◌*◌, ◌/◌, ◌%◌, ◌^◌, ◌<◌, max, min, Bool, true, false, cond, not, ◌&&◌, ◌||◌, List, [], ◌∷◌, ◌++◌, length, map, set, get_or, refl, ap, sym, ◌∙◌, subst, arith, inl, inr, nat_eq, nat_lt, All, eq-eqb, ne_eqb, lt-ltb, bit_and, bit_or, bit_xor, count_ones, count_by, sum_by, if◌then◌else◌, Decides}
 use Rattle.std.specs.Int.{bit_at, w64}
 use Rattle.std.specs.List.{range_with_len}
 use Rattle.std.proofs.lemmas.List.{same_lists, length-append, get_or_append_left, get_or-append_right, length-set, get_or-set_same, get_or-set_other, get_or_default}
@@ -56,17 +56,7 @@ at_least ws a k d h = a.fit k d (omega (arith, a.eight))
 
 -- words of which one is another are words
 pub AreWords-set : (ws : List ℕ) (k w : ℕ) → AreWords ws → k < 8 → w < 2 ^ 64 → AreWords (set ws k w)
-AreWords-set ws k w a h fits = record {
-  eight = length-set ws k w ∙ a.eight;
-  fit = λ j d below.
-      let in_range : j < length ws = omega (arith, length-set ws k w) in
-      elim (eqb_tells j k) [
-        | inl y ↦
-            let P : ℕ → Type 0 = λ q. get_or (set ws k w) q d < 2 ^ 64 in
-            subst P (sym y.1) (rw (get_or-set_same ws k w d (omega (arith, a.eight))) fits)
-        | inr y ↦ rw (get_or-set_other ws k j w d y.1) (a.fit j d in_range)
-      ];
-}
+AreWords-set ws k w a h fits = grind (arith, length-set, eqb_tells, get_or, get_or-set_same, get_or-set_other)
 
 -- words with one bit set are words
 pub with_bit-AreWords : (ws : List ℕ) (i : ℕ) → i < 512 → AreWords ws → AreWords (with_bit ws i)
@@ -84,11 +74,7 @@ put_bit w r s h =
 
 -- numbers in one word differ in their bit
 same_place : (k i : ℕ) → k / 64 ≡ i / 64 → nat_eq (k % 64) (i % 64) ≡ nat_eq k i
-same_place k i e =
-    elim (eqb_tells k i) [
-      | inl y ↦ eq-eqb _ _ (ap (λ n. n % 64) y.1) ∙ sym y.0
-      | inr y ↦ ne_eqb _ _ (λ f. y.1 (omega arith)) ∙ sym y.0
-    ]
+same_place k i e = grind (arith, eqb_tells, eq-eqb, ne_eqb)
 
 -- numbers in different words differ
 other_place : (k i : ℕ) → (k / 64 ≢ i / 64) → nat_eq k i ≡ false
@@ -97,28 +83,11 @@ other_place k i f = ne_eqb k i (λ e. f (ap (λ n. n / 64) e))
 -- a number is among them if it is the new one or was there
 with_bit-in : (ws : List ℕ) (i k : ℕ) → i < 512 → length ws ≡ 8 → in_words (with_bit ws i) k ≡ (nat_eq k i || in_words ws k)
 unfolding in_words
-with_bit-in ws i k h e =
-    elim (eqb_tells (k / 64) (i / 64)) [
-      | inl y ↦
-          let v : ℕ = bit_or (get_or ws (i / 64) 0) (1 * 2 ^ (i % 64) % 2 ^ 64) in
-          let read : get_or (set ws (i / 64) v) (k / 64) 0 ≡ v = ap (λ q. get_or (set ws (i / 64) v) q 0) y.1 ∙ get_or-set_same ws (i / 64) v 0 (omega arith) in
-          ap (λ x. nat_eq (bit_at x (k % 64)) 1) read ∙ put_bit (get_or ws (i / 64) 0) (k % 64) (i % 64) (omega arith)
-          ∙ ap (λ b. b || nat_eq (bit_at (get_or ws (i / 64) 0) (k % 64)) 1) (same_place k i y.1)
-          ∙ ap (λ q. nat_eq k i || nat_eq (bit_at (get_or ws q 0) (k % 64)) 1) (sym y.1)
-      | inr y ↦
-          ap (λ x. nat_eq (bit_at x (k % 64)) 1) (get_or-set_other ws (i / 64) (k / 64) _ 0 y.1)
-          ∙ sym (ap (λ b. b || nat_eq (bit_at (get_or ws (k / 64) 0) (k % 64)) 1) (other_place k i y.1))
-    ]
+with_bit-in ws i k h e = grind (arith, eqb_tells, bit_or, get_or, get_or-set_same, nat_eq, put_bit, same_place, get_or-set_other, other_place)
 
 -- a set with one more number
 pub set_set_of : (t : List Bool) (i : ℕ) → length t ≡ 512 → i < 512 → set t i true ≡ set_of (λ k. nat_eq k i || has t k)
-set_set_of t i e h =
-    set_of_is (set t i true) _ (length-set t i true ∙ e)
-    (λ k below.
-    elim (eqb_tells k i) [
-      | inl y ↦ ap (λ q. get_or (set t i true) q false) y.1 ∙ get_or-set_same t i true false (omega arith) ∙ sym (ap (λ b. b || has t k) y.0)
-      | inr y ↦ get_or-set_other t i k true false y.1 ∙ sym (ap (λ b. b || has t k) y.0)
-    ])
+set_set_of t i e h = grind (arith, set_of_is, length-set, eqb_tells, get_or, get_or-set_same, get_or-set_other)
 
 -- the words with one bit set are the set with one more number
 pub with_bit-set_of : (ws : List ℕ) (i : ℕ) → i < 512 → length ws ≡ 8 → set_of (in_words (with_bit ws i)) ≡ set (set_of (in_words ws)) i true
@@ -164,13 +133,7 @@ ones_below n k = 2 ^ min 64 (n - 64 * k) - 1
 
 -- a bit of them
 pub below_bit : (n k r : ℕ) → r < 64 → nat_eq (bit_at (ones_below n k) r) 1 ≡ nat_lt (64 * k + r) n
-below_bit n k r h =
-    elim (cases_lt r (min 64 (n - 64 * k))) [
-      | inl y ↦ eq-eqb _ 1 (bit_at_ones (min 64 (n - 64 * k)) r y) ∙ sym (lt-ltb (64 * k + r) n (omega arith))
-      | inr y ↦ ap (λ x. nat_eq x 1) (bit_at_ones_above (min 64 (n - 64 * k)) r y) ∙ sym (le-ltb_false (64 * k + r) n (omega arith))
-    ] where
-      le-ltb_false : (a b : ℕ) → b ≤ a → nat_lt a b ≡ false
-      le-ltb_false a b l = grind (arith, nat_tests)
+below_bit n k r h = grind (arith, cases_lt, eq-eqb, bit_at_ones, lt-ltb, nat_eq, bit_at_ones_above, nat_lt, nat_tests)
 
 -- the bits of the first that aren't of the second
 abbrev pub without_words : List ℕ → List ℕ → List ℕ
@@ -245,12 +208,7 @@ xor_words-AreWords ws vs a b = record {
 
 -- a bit of one alone
 odd_bit : (a b : ℕ) → a < 2 → b < 2 → nat_eq ((a + b) % 2) 1 ≡ one_alone (nat_eq a 1) (nat_eq b 1)
-odd_bit zero zero f g = refl
-odd_bit zero (suc zero) f g = refl
-odd_bit (suc zero) zero f g = refl
-odd_bit (suc zero) (suc zero) f g = refl
-odd_bit (suc (suc a)) b f g = absurd (omega arith)
-odd_bit a (suc (suc b)) f g = absurd (omega arith)
+odd_bit x y f g = grind arith
 
 -- they are the set of the numbers of one alone
 pub xor_words-set_of : (ws vs : List ℕ) → set_of (in_words (xor_words ws vs)) ≡ set_of (λ i. one_alone (has (set_of (in_words ws)) i) (has (set_of (in_words vs)) i))

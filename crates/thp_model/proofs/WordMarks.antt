@@ -1,5 +1,5 @@
 -- The first number from a place on that is in a set, or that isn't: word by word, as the code looks for it.
-use Rattle.std.proofs.Common.{◌≡◌, ℕ, ◌+◌, ◌-◌, ◌/◌, ◌%◌, ◌^◌, ◌<◌, ◌≤◌, Bool, true, false, cond, not, List, length, get_or, ap, sym, ◌∙◌, subst, arith, nat_eq, eq-eqb, ne_eqb, inl, inr, pow-add}
+use Rattle.std.proofs.Common.{◌≡◌, ℕ, ◌+◌, ◌-◌, ◌/◌, ◌%◌, ◌^◌, ◌<◌, ◌≤◌, Bool, true, false, cond, not, List, length, get_or, ap, sym, ◌∙◌, arith, nat_eq, eq-eqb, ne_eqb, inl, inr, pow-add}
 use Rattle.std.specs.Int.{bit_at, trailing_zeros, w64}
 use Rattle.std.proofs.lemmas.Bool.{cases_lt}
 use Rattle.std.proofs.lemmas.Nat.Bits.{bit_at-zero, bit_at-lt, bit_at_not, bit_at_above, bit_at-trailing_zeros}
@@ -16,8 +16,7 @@ marks is_in w = cond is_in w (18446744073709551615 - w)
 
 -- they fit a word
 marks_fit : (b : Bool) (w : ℕ) → w < 2 ^ 64 → marks b w < 2 ^ 64
-marks_fit true w f = f
-marks_fit false w f = omega arith
+marks_fit x w f = grind arith
 
 -- a mark tells that the number is in the set as was asked for
 marked : (b : Bool) (w r : ℕ) → w < 2 ^ 64 → r < 64 → bit_at (marks b w) r ≡ 1 → nat_eq (bit_at w r) 1 ≡ b
@@ -46,9 +45,7 @@ word_fits ws at a h = a.fit (at / 64) 0 (omega (arith, a.eight))
 
 -- a number of this word at or behind a place
 parse_bit_fast : (m at i : ℕ) → at ≤ i → i / 64 ≡ at / 64 → bit_at m (i % 64) ≡ bit_at (m / 2 ^ (at % 64)) (i - at)
-parse_bit_fast m at i h e = ap (λ r. bit_at m r) (there at i h e) ∙ sym (bit_at-shifted m (at % 64) (i - at)) where
-  there : (at i : ℕ) → at ≤ i → i / 64 ≡ at / 64 → i % 64 ≡ at % 64 + (i - at)
-  there at i h e = omega arith
+parse_bit_fast m at i h e = grind (arith, bit_at-shifted)
 
 -- where no mark is ahead in the word, none of its numbers from here on is as was asked for
 pub parse_none_fast : (ws : List ℕ) (b : Bool) (at i : ℕ) → AreWords ws → at < 512 → marks b (get_or ws (at / 64) 0) / 2 ^ (at % 64) ≡ 0 →
@@ -109,15 +106,11 @@ parse_first_fast ws b at a h pos =
 -- the same of a set and of marks by their equations, as the code knows them
 pub parse_found_fast : (ws : List ℕ) (set : List Bool) (b : Bool) (at m : ℕ) → set_of (in_words ws) ≡ set → m ≡ marks b (get_or ws (at / 64) 0) → AreWords ws → at < 512 →
     0 < m / 2 ^ (at % 64) → FastFirst set b at (trailing_zeros w64 (m / 2 ^ (at % 64)))
-parse_found_fast ws set b at m view e a h pos =
-    let P : List Bool → Type 0 = λ t. FastFirst t b at (trailing_zeros w64 (m / 2 ^ (at % 64))) in
-    let Q : ℕ → Type 0 = λ n. 0 < n / 2 ^ (at % 64) → FastFirst (set_of (in_words ws)) b at (trailing_zeros w64 (n / 2 ^ (at % 64))) in
-    subst P view (subst Q (sym e) (λ p. parse_first_fast ws b at a h p) pos)
+parse_found_fast ws set b at m view e a h pos = grind (arith, parse_first_fast)
 
 pub parse_nothing_fast : (ws : List ℕ) (set : List Bool) (b : Bool) (at m : ℕ) → set_of (in_words ws) ≡ set → m ≡ marks b (get_or ws (at / 64) 0) → AreWords ws → at < 512 →
     m / 2 ^ (at % 64) ≡ 0 → (i : ℕ) → at ≤ i → i < at + (64 - at % 64) → has set i ≡ not b
-parse_nothing_fast ws set b at m view e a h none i low high =
-    ap (λ t. has t i) (sym view) ∙ parse_none_fast ws b at i a h (ap (λ n. n / 2 ^ (at % 64)) (sym e) ∙ none) low high
+parse_nothing_fast ws set b at m view e a h none i low high = grind (arith, parse_none_fast)
 
 -- a set is a list of 512 truths
 pub size_is : (ws : List ℕ) (set : List Bool) → set_of (in_words ws) ≡ set → length set ≡ 512

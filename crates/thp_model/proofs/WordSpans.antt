@@ -36,44 +36,22 @@ out_of ws k i a h e = in_set ws k 0 i a h e ∙ ap (λ x. nat_eq x 1) (bit_at-ze
 
 -- one word less at the front
 pub spans_less : (ws : List ℕ) (k : ℕ) → AreWords ws → k < 8 → Spans (64 * k) 512 ws → Spans (64 * (k + 1)) 512 (set ws k 0)
-spans_less ws k a h spans i short =
-    elim (eqb_tells (i / 64) k) [
-      | inl y ↦ out_of ws k i a h y.1 ∙ here y.1
-      | inr y ↦ in_other ws k 0 i y.1 ∙ spans i short ∙ there y.1
-    ] where
-      here : i / 64 ≡ k → false ≡ (nat_lt i 512 && nat_le (64 * (k + 1)) i)
-      here e = grind (arith, nat_tests)
-
-      there : i / 64 ≢ k → (nat_lt i 512 && nat_le (64 * k) i) ≡ (nat_lt i 512 && nat_le (64 * (k + 1)) i)
-      there g = grind (arith, nat_tests)
+spans_less ws k a h spans i short = grind (arith, eqb_tells, out_of, in_other, nat_lt, nat_le, nat_tests)
 
 -- the words have the numbers from `first` on, but for those from `end` on and below `to`
 abbrev pub SpansBut : ℕ → ℕ → ℕ → List ℕ → Type 0
 SpansBut first end to ws = (i : ℕ) → i < 512 → in_words ws i ≡ ((nat_lt i end || nat_le to i) && nat_le first i)
 
 pub spans_but : (first end : ℕ) (ws : List ℕ) → Spans first 512 ws → SpansBut first end end ws
-spans_but first end ws spans i short = spans i short ∙ go where
-  go : (nat_lt i 512 && nat_le first i) ≡ ((nat_lt i end || nat_le end i) && nat_le first i)
-  go = grind (arith, nat_tests)
+spans_but first end ws spans i short = grind (arith, nat_lt, nat_le, nat_tests)
 
 -- one word less behind the range
 pub spans_but_less : (ws : List ℕ) (first end k : ℕ) → AreWords ws → k < 8 → end ≤ 64 * k → SpansBut first end (64 * k) ws → SpansBut first end (64 * (k + 1)) (set ws k 0)
-spans_but_less ws first end k a h least spans i short =
-    elim (eqb_tells (i / 64) k) [
-      | inl y ↦ out_of ws k i a h y.1 ∙ here y.1
-      | inr y ↦ in_other ws k 0 i y.1 ∙ spans i short ∙ there y.1
-    ] where
-      here : i / 64 ≡ k → false ≡ ((nat_lt i end || nat_le (64 * (k + 1)) i) && nat_le first i)
-      here e = grind (arith, nat_tests)
-
-      there : i / 64 ≢ k → ((nat_lt i end || nat_le (64 * k) i) && nat_le first i) ≡ ((nat_lt i end || nat_le (64 * (k + 1)) i) && nat_le first i)
-      there g = grind (arith, nat_tests)
+spans_but_less ws first end k a h least spans i short = grind (arith, eqb_tells, out_of, in_other, nat_lt, nat_le, nat_tests)
 
 -- once no word is left behind it
 pub spans_cut : (first end to : ℕ) (ws : List ℕ) → to ≡ 8 → SpansBut first end (64 * to) ws → Spans first end ws
-spans_cut first end to ws all spans i short = spans i short ∙ go where
-  go : ((nat_lt i end || nat_le (64 * to) i) && nat_le first i) ≡ (nat_lt i end && nat_le first i)
-  go = grind (arith, nat_tests)
+spans_cut first end to ws all spans i short = grind (arith, nat_lt, nat_le, nat_tests)
 
 -- a bit of both
 both_bits : (x y : ℕ) → x < 2 → y < 2 → nat_eq (min x y) 1 ≡ (nat_eq x 1 && nat_eq y 1)
@@ -113,24 +91,7 @@ spans_from ws first end start below a h is e fits spans i short =
 -- the last word without the numbers behind the range
 pub spans_up_to : (ws : List ℕ) (first end last to above : ℕ) → AreWords ws → last < 8 → 0 < end → last ≡ (end - 1) / 64 → to ≡ last + 1 → above ≡ ones_below end last →
     Spans first (64 * to) ws → Spans first end (set ws last (bit_and (get_or ws last 0) above))
-spans_up_to ws first end last to above a h some is behind e spans i short =
-    let w : ℕ = get_or ws last 0 in
-    elim (eqb_tells (i / 64) last) [
-      | inl y ↦
-          let place : 64 * last + i % 64 ≡ i = omega (arith, y.1) in
-          in_set ws last _ i a h y.1
-          ∙ ap (λ x. nat_eq x 1) (bit_at_and w above (i % 64))
-          ∙ both_bits (bit_at w (i % 64)) (bit_at above (i % 64)) (bit_at-lt w (i % 64)) (bit_at-lt above (i % 64))
-          ∙ ap₂ (λ p q. p && q) (known_bit ws last i y.1 ∙ spans i short) (ap (λ v. nat_eq (bit_at v (i % 64)) 1) e ∙ below_bit end last (i % 64) (omega arith) ∙ ap (λ j. nat_lt j end) place)
-          ∙ here (nat_le first i) y.1
-      | inr y ↦ in_other ws last _ i y.1 ∙ spans i short ∙ ap (λ p. p && nat_le first i) (there y.1)
-    ] where
-      here : (b : Bool) → i / 64 ≡ last → ((nat_lt i (64 * to) && b) && nat_lt i end) ≡ (nat_lt i end && b)
-      here true e = grind (arith, nat_tests)
-      here false e = grind (arith, nat_tests)
-
-      there : i / 64 ≢ last → nat_lt i (64 * to) ≡ nat_lt i end
-      there g = grind (arith, nat_tests)
+spans_up_to ws first end last to above a h some is behind e spans i short = grind (arith, get_or, eqb_tells, in_set, nat_eq, bit_at_and, both_bits, bit_at-lt, known_bit, below_bit, nat_lt, nat_le, in_other, nat_tests)
 
 -- a word may lose bits
 pub AreWords-less : (ws : List ℕ) (k w : ℕ) → AreWords ws → k < 8 → AreWords (set ws k (bit_and (get_or ws k 0) w))
@@ -138,15 +99,8 @@ AreWords-less ws k w a h = AreWords-set ws k _ a h (omega (arith, and_le_l (get_
 
 -- so the words are the range
 pub spans_all : (ws : List ℕ) (first count : ℕ) → Spans first (first + count) ws → set_of (in_words ws) ≡ set_of (covers first count)
-spans_all ws first count spans = set_of-ext (in_words ws) (covers first count) (λ i below. spans i below ∙ go (nat_lt i (first + count)) (nat_le first i)) where
-  go : (a b : Bool) → (a && b) ≡ (b && a)
-  go true true = refl
-  go true false = refl
-  go false true = refl
-  go false false = refl
+spans_all ws first count spans = grind (arith, set_of-ext, nat_lt, nat_le)
 
 -- a range of no subpage is the empty set
 pub covers_none : (first count : ℕ) → count ≡ 0 → set_of (λ i. false) ≡ set_of (covers first count)
-covers_none first count e = set_of-ext _ _ (λ i below. none first count i e) where
-  none : (first count i : ℕ) → count ≡ 0 → false ≡ covers first count i
-  none first count i e = grind (arith, nat_tests)
+covers_none first count e = grind (arith, set_of-ext, nat_tests)

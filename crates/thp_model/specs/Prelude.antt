@@ -1,4 +1,4 @@
--- The definitions and types of this library, each by its name alone: one line of a file imports what it cites.
+-- Re-exports the definitions and types of this library: other files import those that they cite from here, in one line.
 pub use Rattle.thp_model.specs.Asking.{AsksBelow, AsksEvents}
 pub use Rattle.thp_model.specs.BlockLaws.{SameButBlocks, event_with, first_that, with_block}
 unfoldable pub use Rattle.thp_model.specs.BlockLaws.{least_free, with_least_blocks, without_blocks}

@@ -14,7 +14,7 @@ use Rattle.thp_model.proofs.Pushes.{queue_push, is_taking_push}
 use Rattle.thp_model.proofs.TakeRuns.{more_taken, take_events_more}
 use Rattle.thp_node.specs.Prelude.{Tried, tried, Did, NodeState, Took}
 use Rattle.thp_node.specs.declared.answers.Tried.TheVariants as answer
-use Rattle.thp_live_pages.specs.Prelude.{PageStoreState, AtSlot, Edits, IsFlyingAt, IsUnpinnedAt, IsNode, IsSlot, block_of}
+use Rattle.thp_live_pages.specs.Prelude.{PageStoreState, AtSlot, Edits, IsFlyingAt, IsUnpinnedAt, IsNode, IsSlot}
 use Rattle.thp_page.specs.declared.standing.Standing.{Standing}
 use Rattle.thp_page.specs.declared.standing.Standing.TheVariants.{Nowhere, Queued, Batch}
 use Rattle.thp_page.specs.Prelude.{slot_at, Slot, Table}
@@ -27,13 +27,11 @@ use Rattle.thp_live_pages.proofs.Standings.{batch_has}
 
 -- the node once its journal has recorded an event
 pub node_recorded : (s t : Shape) (k h : History) (e : Event) (b : PageStoreState) → s ≡ t → k ≡ h ++ e ∷ [] → IsNode t (h ++ e ∷ []) b.table b.queue → IsNode s k b.table b.queue
-node_recorded s t k h e b same is m =
-    subst (λ x. IsNode s x b.table b.queue) (sym is) (subst (λ x. IsNode x (h ++ e ∷ []) b.table b.queue) (sym same) m)
+node_recorded s t k h e b same is m = grind arith
 
 -- as many pages stand in the queue as blocks
 pub queue_length : (s : Shape) (h : History) (t : Table) (q : List ℕ) → IsNode s h t q → length (queue s h) ≡ length q
-queue_length s h t q m =
-    sym (length-map (queue s h) (block_of h)) ∙ ap length m.queue_is ∙ length-map q (λ n. let o : Option ℕ = Some n in o)
+queue_length s h t q m = grind (arith, length-map)
 
 -- nothing was taken yet
 pub took_none : (old now : NodeState) (c : ℕ) → now ≡ old → IsLegal old.shape old.journal → no_pages (flight old.journal c) ≡ true → Took old now c 0
@@ -64,17 +62,11 @@ some_left i n qs l m = omega (arith, length-drop i qs)
 -- a take is refused where the caller has pages in flight, and only there
 pub refused_take : (s : Shape) (h : History) (c : ℕ) → 0 < length (flight h c) → refusal s h (call.take c) ≡ Some reason.HasBatch
 unfolding refusal
-refused_take s h c l = go (flight h c) l where
-  go : (ps : List ℕ) → 0 < length ps → cond (not (no_pages ps)) (Some reason.HasBatch) None ≡ Some reason.HasBatch
-  go [] l = absurd (omega arith)
-  go (p ∷ ps) l = refl
+refused_take s h c l = grind arith
 
 pub unrefused_take : (s : Shape) (h : History) (c : ℕ) → length (flight h c) ≡ 0 → refusal s h (call.take c) ≡ None
 unfolding refusal
-unrefused_take s h c e = go (flight h c) e where
-  go : (ps : List ℕ) → length ps ≡ 0 → cond (not (no_pages ps)) (Some reason.HasBatch) None ≡ None
-  go [] e = refl
-  go (p ∷ ps) e = absurd (omega arith)
+unrefused_take s h c e = grind arith
 
 -- whether a page is in a caller's flight is told by where the page of its block stands
 pub flies_there : (s : Shape) (h : History) (t : Table) (q : List ℕ) (c p b : ℕ) → IsNode s h t q → (w : Found s h t p b) → w.slot.standing ≡ Batch c → has_page p (flight h c) ≡ true
@@ -135,9 +127,7 @@ module _ (s : Shape) (h : History) (c p b : ℕ) (old : PageStoreState) (m : IsN
   whole_there = ap (whole h) (sym w.id_is) ∙ whole_is s h w.slot.id w.slot.page is_slot.tallies
 
   pub ready_there : w.slot.page.pins ≡ 0 → (x : Slot) → slot_at old.table b ≡ Some x → (x.page.split ≡ false) × (x.page.pins ≡ 0) × (x.standing ≢ Queued)
-  ready_there none x at =
-      let P : Slot → Type 0 = λ y. (y.page.split ≡ false) × (y.page.pins ≡ 0) × (y.standing ≢ Queued) in
-      subst P (same_slot w.slot x (sym w.at ∙ at)) (flying_whole s h c b w.slot old old homed m w.at w.stands, none, not_queued w.slot.standing c w.stands)
+  ready_there none x at = grind (arith, same_slot, flying_whole, homed, not_queued)
 
   pub worth_there : is_worth_split s h p ≡ is_split_candidate s.underused w.slot.page
   worth_there = ap (is_worth_split s h) (sym w.id_is) ∙ worth_is s h w.slot.id w.slot.page is_slot.tallies

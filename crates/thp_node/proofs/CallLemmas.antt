@@ -1,5 +1,5 @@
 -- What a call did, put together from what its parts did.
-use Rattle.std.proofs.Common.{◌≡◌, Option, Some, None, inl, inr, ℕ, zero, suc, ◌+◌, ◌<◌, ◌≤◌, List, [], ◌∷◌, ◌++◌, length, refl, ap, sym, ◌∙◌, arith, get_or, length-append, append_assoc, All}
+use Rattle.std.proofs.Common.{◌≡◌, Option, Some, None, ℕ, zero, suc, ◌+◌, ◌<◌, ◌≤◌, List, [], ◌∷◌, ◌++◌, length, ap, ◌∙◌, arith, get_or, length-append, append_assoc, All}
 use Rattle.std.proofs.lemmas.Bool.{cases_lt}
 use Rattle.thp_model.specs.declared.refusal.Refusal.{Refusal}
 use Rattle.thp_model.specs.declared.events.Event.{Event}
@@ -18,10 +18,7 @@ pub own_none : (c : ℕ) → All (λ (e : Event). e.caller ≡ c) []
 own_none c = λ k d l. absurd (let below : k < 0 = l in omega arith)
 
 pub own_more : (c : ℕ) (w : What) (es : List Event) → All (λ (e : Event). e.caller ≡ c) es → All (λ (e : Event). e.caller ≡ c) (by c w ∷ es)
-own_more c w es a = go where
-  go : (k : ℕ) (d : Event) → k < length (by c w ∷ es) → (get_or (by c w ∷ es) k d).caller ≡ c
-  go zero d l = refl
-  go (suc k) d l = a k d (omega arith)
+own_more c w es a = grind (arith, get_or)
 
 pub own-append : (c : ℕ) (es fs : List Event) → All (λ (e : Event). e.caller ≡ c) es → All (λ (e : Event). e.caller ≡ c) fs → All (λ (e : Event). e.caller ≡ c) (es ++ fs)
 own-append c [] fs a b = b
@@ -34,26 +31,12 @@ own-append c (e ∷ es) fs a b =
 -- nothing was done
 pub did_none : (old new : NodeState) (c : ℕ) → new.shape ≡ old.shape → new.journal ≡ old.journal → IsLegal new.shape new.journal → old.room ≤ new.room →
     new.table.accesses ≡ old.table.accesses → Did old new c []
-did_none old new c s j l r w = record {
-  shape = s;
-  journal = j ∙ sym (append_none old.journal);
-  own = own_none c;
-  legal = l;
-  room = omega arith;
-  work = omega arith;
-}
+did_none old new c s j l r w = grind (arith, append_none, own_none)
 
 -- one event was recorded, once there was room for it
 pub did_one : (old new : NodeState) (c : ℕ) (w : What) (room most : ℕ) → new.shape ≡ old.shape → new.journal ≡ old.journal ++ by c w ∷ [] → IsLegal new.shape new.journal →
     old.room ≤ room → new.room + 1 ≡ room → new.table.accesses ≤ old.table.accesses + most → most ≤ 8 → Did old new c (by c w ∷ [])
-did_one old new c w room most s j l r g k m = record {
-  shape = s;
-  journal = j;
-  own = own_more c w [] (own_none c);
-  legal = l;
-  room = omega arith;
-  work = omega arith;
-}
+did_one old new c w room most s j l r g k m = grind (arith, own_more, own_none)
 
 -- one run of events after another
 pub did_then : (a b d : NodeState) (c : ℕ) (es fs : List Event) → Did a b c es → Did b d c fs → Did a d c (es ++ fs)
@@ -69,7 +52,4 @@ did_then a b d c es fs m n = record {
 -- a call that was refused once room was looked for: only a call that isn't refused makes room
 pub refused_by : (old mid new : NodeState) (why : Option Refusal) (r : Refusal) → new ≡ mid → why ≡ Some r → (0 < old.room → mid ≡ old) → (old.room ≡ 0 → why ≡ None) →
     Refused old new why 1 r
-refused_by old mid new why r kept is same none = elim (cases_lt 0 old.room) [
-  | inl some ↦ record { same = kept ∙ same some; cause = inl is }
-  | inr full ↦ absurd (let no : why ≡ None = none (omega arith) in cc (is, no))
-]
+refused_by old mid new why r kept is same none = grind (arith, cases_lt)

@@ -1,11 +1,10 @@
 -- The chain of free blocks, while pages come, change and go.
-use Rattle.std.proofs.Common.{◌≡◌, ◌≢◌, ℕ, ◌<◌, Bool, List, ◌∷◌, Option, Some, None, IsSome, length, drop, refl, ap, sym, ◌∙◌, subst, arith, inl, inr, get_or, length-set, slice_get, Contains, get_or-set_other, get_or-set_same}
+use Rattle.std.proofs.Common.{◌≡◌, ◌≢◌, ℕ, ◌<◌, Bool, List, ◌∷◌, Option, Some, None, IsSome, length, drop, ap, sym, ◌∙◌, subst, arith, inl, inr, get_or, length-set, slice_get, Contains, get_or-set_other, get_or-set_same}
 use Rattle.std.proofs.lemmas.Bool.Decides.{eqb_tells}
 use Rattle.thp_links.specs.Prelude.{Distinct}
 use Rattle.thp_links.proofs.Members.{Contains-head, Contains-behind, Contains-cons_cases, Contains-from_first, Contains-from_rest, Distinct-head, first_and_rest}
 use Rattle.thp_model.specs.declared.events.Outcome.{Outcome}
 use Rattle.thp_model.specs.declared.events.Outcome.TheVariants as outcome
-use Rattle.thp_page.specs.declared.standing.Standing.TheVariants.{Queued}
 use Rattle.thp_page.specs.Prelude.{slot_at, Slot, Table}
 use Rattle.thp_page.proofs.TableSlots.{slot_at-inside}
 use Rattle.thp_model.specs.declared.page_call.Done.{Done}
@@ -96,14 +95,7 @@ freed_there loss closed now old new b done left is some lost e =
 -- a loss that didn't
 pub loss_keeps : (loss : Loss) (closed : Bool) (x : Slot) (old new : PageStoreState) (b : ℕ) (done : Done) (left : Option ℕ) → Lost loss closed x old new b done left → (done.outcome ≡ outcome.Freed → ⊥) →
     KeepsPage old new b
-loss_keeps loss closed x old new b done left lost unfreed = go done.outcome unfreed lost.edits where
-  y : Slot
-  y = record x { page = lost.page }
-
-  go : (o : Outcome) → (o ≡ outcome.Freed → ⊥) → Edits old new b (slot_after o y) (queue_after o b old.queue) 6 → KeepsPage old new b
-  go outcome.Stays n e = record { slot = y; queue = queue_after outcome.Stays b old.queue; most = 6; edits = e }
-  go outcome.Queued n e = record { slot = record y { standing = Queued }; queue = queue_after outcome.Queued b old.queue; most = 6; edits = e }
-  go outcome.Freed n e = absurd (n refl)
+loss_keeps loss closed x old new b done left lost unfreed = grind arith
 
 -- the first block of the chain has no page; where the chain is empty every block has one
 pub chain_some : (t : Table) (f : List ℕ) (b : ℕ) → HasChain t f → slice_get f 0 ≡ Some b → HasFree t

@@ -1,14 +1,14 @@
 -- Batches stay in front of their flights, whatever is done but a take by their caller.
-use Rattle.std.proofs.Common.{◌≡◌, ◌≢◌, ℕ, suc, Bool, true, false, cond, not, ◌&&◌, ◌||◌, List, [], ◌∷◌, ◌++◌, map, refl, ap, sym, ◌∙◌, subst, nat_eq, eqb-true, eq-eqb, append_assoc, arith, Option, Some, None, ap₂}
+use Rattle.std.proofs.Common.{◌≡◌, ◌≢◌, ℕ, suc, Bool, true, false, cond, not, ◌&&◌, ◌||◌, List, [], ◌∷◌, ◌++◌, map, refl, ap, sym, ◌∙◌, subst, nat_eq, eqb-true, eq-eqb, append_assoc, arith}
 use Rattle.std.specs.List.{filter, list_all, All}
 use Rattle.std.proofs.lemmas.List.Elements.{filter-append}
 use Rattle.thp_model.specs.declared.events.Event.{Event}
 use Rattle.thp_model.specs.declared.events.Outcome.{Outcome}
 use Rattle.thp_model.specs.declared.events.Outcome.TheVariants.{Freed}
 use Rattle.thp_model.specs.declared.events.What.{What}
-use Rattle.thp_model.specs.declared.events.What.TheVariants.{UnmapWhole, UnmapSub, Unpin, Taken, Split, Pinned, Used, Back, Dropped}
+use Rattle.thp_model.specs.declared.events.What.TheVariants.{UnmapWhole, UnmapSub, Unpin, Taken, Split, Used, Back, Dropped}
 use Rattle.thp_model.specs.declared.shape.Shape.{Shape}
-use Rattle.thp_model.specs.Prelude.{History, by, pins, is_dropped, is_worth_split, flight_after, flight_by, flight, has_page, takes_by, without, still_flying, next_page, split_next_events, tries_of, put_back_events, return_event, unused, gain_what, loss_what}
+use Rattle.thp_model.specs.Prelude.{History, by, is_dropped, flight_after, flight_by, flight, has_page, takes_by, without, still_flying, split_next_events, put_back_events, return_event, gain_what, loss_what}
 use Rattle.thp_model.proofs.Blocks.{filter-filter}
 use Rattle.thp_model.proofs.Bools.{by_bool, and_both, and_yes, not_true}
 use Rattle.thp_model.proofs.Flights.{flight_push}
@@ -119,28 +119,13 @@ fronts_did old new c es did = λ b apart f.
 
 -- the events of the calls that take nothing
 pub gain_takes_none : (d c p : ℕ) (g : Gain) → takes_none d (by c (gain_what g p) ∷ []) ≡ true
-gain_takes_none d c p gain.MapWhole = refl
-gain_takes_none d c p (gain.MapSub first count) = refl
-gain_takes_none d c p gain.SplitPmd = refl
-gain_takes_none d c p gain.Pin = refl
-gain_takes_none d c p (gain.Write first count) = refl
-gain_takes_none d c p (gain.Zero first count) = refl
+gain_takes_none d c p x = grind arith
 
 pub loss_takes_none : (d c p : ℕ) (l : Loss) (o : Outcome) (set : List Bool) → takes_none d (by c (loss_what l p o set) ∷ []) ≡ true
-loss_takes_none d c p loss.UnmapWhole o set = refl
-loss_takes_none d c p (loss.UnmapSub first count) o set = refl
-loss_takes_none d c p loss.Unpin o set = refl
+loss_takes_none d c p x o set = grind arith
 
 pub try_takes_none : (d : ℕ) (s : Shape) (h : History) (c : ℕ) (rest : List ℕ) → takes_none d (split_next_events s h c rest) ≡ true
-try_takes_none d s h c rest = go (next_page h c rest) where
-  one : (a b : Bool) (p : ℕ) (set : List Bool) → takes_none d (by c (cond a (cond b (Split p set) (Pinned p)) (Used p)) ∷ []) ≡ true
-  one true true p set = refl
-  one true false p set = refl
-  one false b p set = refl
-
-  go : (o : Option ℕ) → takes_none d (tries_of s h c o) ≡ true
-  go None = refl
-  go (Some p) = one (is_worth_split s h p) (nat_eq (pins h p) 0) p (unused s h p)
+try_takes_none d s h c rest = grind (arith, nat_eq)
 
 pub return_takes_none : (d : ℕ) (s : Shape) (h : History) (c : ℕ) (ps : List ℕ) → takes_none d (put_back_events s h c ps) ≡ true
 return_takes_none d s h c ps = go (still_flying h c ps) where
@@ -164,12 +149,7 @@ front_whole h b e = record {
 
 -- how far a batch was tried doesn't matter
 pub front_advanced : (h k : History) (a b : BatchState) → b.caller ≡ a.caller → b.pages ≡ a.pages → (IsInFront h a → IsInFront k a) → IsInFront h a → IsInFront k b
-front_advanced h k a b c p stays f =
-    let g : IsInFront k a = stays f in
-    record {
-      others = g.others;
-      front = ap (flight k) c ∙ g.front ∙ sym (ap₂ (λ x y. still_flying k x y ++ g.others) c p);
-    }
+front_advanced h k a b c p stays f = grind arith
 
 -- a batch none of whose pages is in flight is in front, and so is every batch of a caller that has no flight
 front_spent : (h : History) (b : BatchState) → still_flying h b.caller b.pages ≡ [] → IsInFront h b
@@ -182,9 +162,7 @@ filter_none t (p ∷ ps) a =
 
 -- older batches of a caller whose flight is that of one take
 pub older_in_front : (h : History) (c : ℕ) (ps : List ℕ) → flight h c ≡ ps → OlderAreInFront c ps h
-older_in_front h c ps e b who none =
-    front_spent h b
-    (ap (λ (d : ℕ). filter (λ p. has_page p (flight h d)) b.pages) who ∙ ap (λ xs. filter (λ p. has_page p xs) b.pages) e ∙ filter_none (λ p. has_page p ps) b.pages none)
+older_in_front h c ps e b who none = grind (arith, front_spent, filter_none)
 
 -- batches stay in front over the events of a caller that leave it no flight
 pub fronts_emptied : (old new : NodeState) (c : ℕ) (es : List Event) → Did old new c es → flight new.journal c ≡ [] → FrontsStay old.journal new.journal

@@ -1,13 +1,13 @@
 -- How large the numbers that a history gives can be, and how a caller's flight grows and shrinks.
-use Rattle.std.proofs.Common.{◌≡◌, ℕ, ◌+◌, ◌*◌, ◌<◌, ◌≤◌, Bool, true, false, cond, not, List, [], ◌∷◌, ◌++◌, length, Some, None, refl, ap, ap₂, sym, ◌∙◌, arith, nat_eq, eqb-true, eq-eqb, filter}
+use Rattle.std.proofs.Common.{◌≡◌, ℕ, ◌+◌, ◌*◌, ◌<◌, ◌≤◌, Bool, true, false, cond, not, List, [], ◌∷◌, ◌++◌, length, Some, None, refl, ap, sym, ◌∙◌, arith, nat_eq, eqb-true, eq-eqb, filter}
 use Rattle.std.proofs.Math.Nat.{mul-le-mul}
 use Rattle.std.proofs.lemmas.List.{length_push}
 use Rattle.thp_model.specs.declared.events.Outcome.{Outcome}
 use Rattle.thp_model.specs.declared.events.Outcome.TheVariants.{Freed, Queued, Stays}
 use Rattle.thp_model.specs.declared.events.What.{What}
-use Rattle.thp_model.specs.declared.events.What.TheVariants.{UnmapWhole, UnmapSub, Unpin, Taken, Split, Used, Back, Dropped}
+use Rattle.thp_model.specs.declared.events.What.TheVariants.{Taken}
 use Rattle.thp_model.specs.declared.shape.Shape.{Shape}
-use Rattle.thp_model.specs.Prelude.{IsShape, subpages, History, by, is_alloc, allocations, frames_given, frames_held, flight_after, flight_by, IsLegal, FitsBy, flights, flight, without, has_page}
+use Rattle.thp_model.specs.Prelude.{IsShape, subpages, History, by, allocations, frames_given, frames_held, flight_after, flight_by, IsLegal, FitsBy, flights, flight, without, has_page}
 use Rattle.thp_model.proofs.Bools.{one_if, none_if}
 use Rattle.thp_model.proofs.Flights.{flight_push}
 use Rattle.thp_model.proofs.Kept.{frames_kept}
@@ -20,14 +20,12 @@ use Rattle.thp_node.specs.Prelude.{leaves_of, left_by, joins_of, one_for}
 
 -- each page had 512 frames at most to give back
 pub few_frames_given : (shape : Shape) (h : History) → shape.order ≤ 9 → IsLegal shape h → frames_given h ≤ 512 * length h
-few_frames_given shape h small l =
-    omega (arith, frames_kept shape h small l, mul-le-mul (few_subpages shape small) (few_events is_alloc h))
+few_frames_given shape h small l = grind (arith, frames_kept, mul-le-mul, few_subpages, few_events)
 
 -- the frames of all pages ever allocated are those held and those given back
 pub all_frames : (shape : Shape) (h : History) (n m g : ℕ) → IsShape shape → IsLegal shape h →
     n ≡ subpages shape → m ≡ allocations h → g ≡ frames_given h → n * m ≡ frames_held shape h + g
-all_frames shape h n m g s l e f i =
-    ap₂ (λ x y. x * y) e f ∙ frames_kept shape h s.most_order l ∙ ap (λ x. frames_held shape h + x) (sym i)
+all_frames shape h n m g s l e f i = grind (arith, frames_kept)
 
 -- the pages that c has among those in flight
 abbrev of : ℕ → List (ℕ × ℕ) → List ℕ
@@ -65,13 +63,7 @@ one_flying shape h c p l f = omega (arith, has_times p (flight h c) f, once_flie
 -- a page that leaves the flight of c
 leaving : (h : History) (c d p : ℕ) → times p (flight h c) ≡ 1 →
     length (cond (nat_eq c d) (without p (flight h d)) (flight h d)) + one_for (Some c) d ≡ length (flight h d) + 0
-leaving h c d p one = go (nat_eq c d) refl where
-  go : (b : Bool) → nat_eq c d ≡ b →
-      length (cond b (without p (flight h d)) (flight h d)) + cond b 1 0 ≡ length (flight h d) + 0
-  go true e =
-      let here : times p (flight h d) ≡ 1 = ap (λ x. times p (flight h x)) (sym (eqb-true c d e)) ∙ one in
-      omega (arith, here, length-without p (flight h d))
-  go false e = refl
+leaving h c d p one = grind (arith, nat_eq, times, eqb-true, length-without)
 
 -- a page that an outcome may free
 by_outcome : (shape : Shape) (h : History) (c d p : ℕ) (o : Outcome) → IsLegal shape h →
@@ -83,33 +75,19 @@ by_outcome shape h c d p Stays l = refl
 
 moves : (shape : Shape) (h k : History) (c d : ℕ) (w : What) → IsLegal shape h → FitsBy shape h k c w →
     length (flight_after d (flight h d) c w) + one_for (leaves_of h c w) d ≡ length (flight h d) + one_for (joins_of c w) d
-moves shape h k c d (UnmapWhole o p r) l f = by_outcome shape h c d p o l
-moves shape h k c d (UnmapSub o p a n r) l f = by_outcome shape h c d p o l
-moves shape h k c d (Unpin o p r) l f = by_outcome shape h c d p o l
-moves shape h k c d (Taken p) l f = go (nat_eq c d) where
-  go : (b : Bool) → length (cond b (flight h d ++ p ∷ []) (flight h d)) + 0 ≡ length (flight h d) + cond b 1 0
-  go true = omega (arith, length_push (flight h d) p)
-  go false = refl
-moves shape h k c d (Split p r) l f = leaving h c d p (one_flying shape h c p l f.in_flight)
-moves shape h k c d (Used p) l f = leaving h c d p (one_flying shape h c p l f.0)
-moves shape h k c d (Back p) l f = leaving h c d p (one_flying shape h c p l (first_has p (flight h c) f.0))
-moves shape h k c d (Dropped p) l f = leaving h c d p (one_flying shape h c p l (first_has p (flight h c) f.0))
-moves shape h k c d w l f = refl
+moves shape h k c d x l f = grind (arith, by_outcome, nat_eq, length_push, leaving, one_flying, first_has)
 
 -- an event that fits takes a page out of the flight that it names, and puts one into that of a caller that takes
 pub flight_moves : (shape : Shape) (h : History) (c d : ℕ) (w : What) → IsLegal shape h → FitsBy shape h (h ++ by c w ∷ []) c w →
     length (flight (h ++ by c w ∷ []) d) + one_for (leaves_of h c w) d ≡ length (flight h d) + one_for (joins_of c w) d
-flight_moves shape h c d w l f =
-    ap (λ ps. length ps + one_for (leaves_of h c w) d) (flight_push h d c w) ∙ moves shape h (h ++ by c w ∷ []) c d w l f
+flight_moves shape h c d w l f = grind (arith, flight_push, moves)
 
 -- a page that is taken joins the taker's flight
 pub flight_grows : (h : History) (c p : ℕ) → length (flight (h ++ by c (Taken p) ∷ []) c) ≡ length (flight h c) + 1
-flight_grows h c p =
-    ap length (flight_push h c c (Taken p)) ∙ (ap (λ b. length (cond b (flight h c ++ p ∷ []) (flight h c))) (eq-eqb c c refl) ∙ length_push (flight h c) p)
+flight_grows h c p = grind (arith, flight_push, eq-eqb, length_push)
 
 apart : (h : History) (c d : ℕ) (w : What) → Some d ≡ leaves_of h c w → joins_of c w ≡ None
-apart h c d (Taken p) e = absurd (cc)
-apart h c d w e = refl
+apart h c d x e = grind arith
 
 -- a flight that a page leaves has one
 pub leaves_one : (shape : Shape) (h : History) (c d : ℕ) (w : What) → IsLegal shape h → FitsBy shape h (h ++ by c w ∷ []) c w → Some d ≡ leaves_of h c w →

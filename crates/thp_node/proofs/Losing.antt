@@ -1,14 +1,13 @@
 -- What a call that takes mappings or a pin from a page records, once it is admitted.
-use Rattle.std.proofs.Common.{◌≡◌, ℕ, ◌+◌, ◌≤◌, Bool, List, [], ◌∷◌, ◌++◌, Option, Some, None, length, map, get_or, refl, ap, sym, ◌∙◌, subst, arith, if◌then◌else◌}
+use Rattle.std.proofs.Common.{◌≡◌, ℕ, ◌+◌, ◌≤◌, Bool, List, [], ◌∷◌, ◌++◌, Option, Some, None, get_or, ap, ◌∙◌, subst, arith, if◌then◌else◌}
 use Rattle.thp_model.specs.declared.shape.Shape.{Shape}
 use Rattle.thp_model.specs.declared.events.Outcome.{Outcome}
-use Rattle.thp_model.specs.declared.events.Outcome.TheVariants.{Freed, Queued, Stays}
 use Rattle.thp_model.specs.Prelude.{History, by, is_closed, is_freed, flights, Fits, Gives, refusal, loss_call, loss_what}
 use Rattle.thp_page.specs.Prelude.{Slot, slot_at}
 use Rattle.thp_model.specs.declared.page_call.Done.{Done}
 use Rattle.thp_model.specs.declared.page_call.Loss.{Loss}
 use Rattle.thp_model.specs.declared.page_call.Loss.TheVariants as loss
-use Rattle.thp_live_pages.specs.Prelude.{PageStoreState, IsNode, Fills, block_of, flier, Relinks}
+use Rattle.thp_live_pages.specs.Prelude.{PageStoreState, IsNode, block_of, flier, Relinks}
 use Rattle.thp_node.specs.Prelude.{FreedFrom, LostChained, context_of}
 use Rattle.thp_live_pages.proofs.Admitting.{Found, at_home}
 use Rattle.thp_live_pages.proofs.Homing.{legal_homed}
@@ -16,32 +15,12 @@ use Rattle.thp_live_pages.proofs.PageEvents.{LossFits, loss_fits, loss_left, los
 
 -- a node whose links alone changed
 pub node_relinked : (s : Shape) (h : History) (old new : PageStoreState) (n : ℕ) → Relinks old new n → IsNode s h old.table old.queue → IsNode s h new.table new.queue
-node_relinked s h old new n r m = record {
-  legal = m.legal;
-  size = ap length r.slots ∙ m.size;
-  order = r.order ∙ m.order;
-  fills = λ b. let P : List (Option Slot) → Type 0 = λ xs. Fills s h b (get_or xs b None) in subst P (sym r.slots) (m.fills b);
-  queue_is = m.queue_is ∙ ap (map (λ b. let o : Option ℕ = Some b in o)) (sym r.queue_is);
-}
+node_relinked s h old new n r m = grind (arith, get_or)
 
 -- out of whose flight a loss freed its page is what its event leaves unsaid
 loss_unsaid : (s : Shape) (h : History) (c p : ℕ) (l : Loss) (o : Outcome) (set : List Bool) →
     FreedFrom (if is_freed o then flier p (flights h) else None) ≡ context_of s h (loss_what l p o set)
-loss_unsaid s h c p l Freed set = by_loss l where
-  by_loss : (l : Loss) → FreedFrom (flier p (flights h)) ≡ context_of s h (loss_what l p Freed set)
-  by_loss loss.UnmapWhole = refl
-  by_loss (loss.UnmapSub first count) = refl
-  by_loss loss.Unpin = refl
-loss_unsaid s h c p l Queued set = by_loss l where
-  by_loss : (l : Loss) → FreedFrom None ≡ context_of s h (loss_what l p Queued set)
-  by_loss loss.UnmapWhole = refl
-  by_loss (loss.UnmapSub first count) = refl
-  by_loss loss.Unpin = refl
-loss_unsaid s h c p l Stays set = by_loss l where
-  by_loss : (l : Loss) → FreedFrom None ≡ context_of s h (loss_what l p Stays set)
-  by_loss loss.UnmapWhole = refl
-  by_loss (loss.UnmapSub first count) = refl
-  by_loss loss.Unpin = refl
+loss_unsaid s h c p l x set = grind arith
 
 -- the event fits and tells what it did, with out of whose flight the page went, and the node holds what it should
 pub record Losing (s : Shape) (h : History) (c p : ℕ) (l : Loss) (old new : PageStoreState) (done : Done) (left : Option ℕ) : Type 0 where

@@ -1,14 +1,13 @@
 -- What a journal keeps: with no event, and with one more.
-use Rattle.std.proofs.Common.{◌≡◌, ℕ, zero, suc, ◌+◌, ◌^◌, ◌<◌, ◌≤◌, Bool, true, false, cond, not, if◌then◌else◌, ◌||◌, List, [], ◌∷◌, ◌++◌, length, replicate, Option, Some, None, IfSome, slice_index_or, refl, ap, sym, ◌∙◌, arith}
+use Rattle.std.proofs.Common.{◌≡◌, ℕ, zero, suc, ◌+◌, ◌^◌, ◌<◌, ◌≤◌, Bool, false, ◌||◌, List, [], ◌∷◌, ◌++◌, length, replicate, Option, None, IfSome, slice_index_or, refl, ap, sym, ◌∙◌, arith}
 use Rattle.std.specs.Int.{from_bool}
 use Rattle.std.proofs.lemmas.List.{length_push}
 use Rattle.thp_model.specs.declared.events.Event.{Event}
 use Rattle.thp_model.specs.declared.events.What.{What}
-use Rattle.thp_model.specs.declared.events.What.TheVariants.{UnmapWhole, UnmapSub, SplitPmd, Unpin, Split, Used, Back, Dropped}
 use Rattle.thp_model.specs.declared.events.Outcome.{Outcome}
 use Rattle.thp_model.specs.declared.page_call.Loss.{Loss}
 use Rattle.thp_model.specs.declared.page_call.Loss.TheVariants as loss
-use Rattle.thp_model.specs.Prelude.{loss_what, set_size, History, by, count_of, some_event, IsShape, is_partly_mapped, is_alloc, closes, is_queued, splits_pmds, is_page_split, is_failed_try, queues, thp_split_pmd, splits_underused, thp_underused_split_page, given, frames_given, gives_back, flights, flight, IsLegal, Fits}
+use Rattle.thp_model.specs.Prelude.{loss_what, set_size, History, by, count_of, some_event, IsShape, is_alloc, closes, is_queued, splits_pmds, is_page_split, is_failed_try, queues, thp_split_pmd, splits_underused, thp_underused_split_page, given, frames_given, flights, flight, IsLegal, Fits}
 use Rattle.thp_model.specs.declared.shape.Shape.{Shape}
 use Rattle.thp_model.proofs.Kept.{frames_given_push, size_given}
 use Rattle.thp_model.proofs.LegalSteps.{legal_none, legal_push}
@@ -47,68 +46,36 @@ journal_none shape s = record {
 
 -- a journal that memory has room for counts so few events that each number has room for one more
 pub count_room : (shape : Shape) (h : History) (t : Tally) → IsJournal shape h t → length h + 1 < 2 ^ 64 → HasCountRoom t
-count_room shape h t j few = record {
-  next = omega (arith, few, j.next_is, few_events is_alloc h);
-  frames_given = omega (arith, few, j.given_is, few_frames_given shape h j.has_shape.most_order j.legal);
-  split_page = omega (arith, few, ap (λ (k : Counters). k.split_page) j.counters_are, few_events is_page_split h);
-  split_page_failed = omega (arith, few, ap (λ (k : Counters). k.split_page_failed) j.counters_are, few_events is_failed_try h);
-  deferred_split_page = omega (arith, few, ap (λ (k : Counters). k.deferred_split_page) j.counters_are, few_events queues h);
-  underused_split_page = omega (arith, few, ap (λ (k : Counters). k.underused_split_page) j.counters_are, j.few_underused);
-  split_pmd = omega (arith, few, ap (λ (k : Counters). k.split_pmd) j.counters_are, j.few_split_pmds);
-}
+count_room shape h t j few = grind (arith, few_events, few_frames_given)
 
 -- a count of the events that pass a test, with one more event
 counted : (test : What → Bool) (h : History) (c : ℕ) (w : What) (n m : ℕ) →
     n ≡ count_of test h → m ≡ n + from_bool (test w) → m ≡ count_of test (h ++ by c w ∷ [])
-counted test h c w n m e f = rw (count_of_push test h (by c w)) (omega (arith, e, f ∙ ap (λ k. n + k) (go (test w)))) where
-  go : (b : Bool) → from_bool b ≡ cond b 1 0
-  go true = refl
-  go false = refl
+counted test h c w n m e f = grind (arith, count_of_push)
 
 -- the frames given back, with one more event
 frames_counted : (h : History) (c : ℕ) (w : What) (n m : ℕ) →
     n ≡ frames_given h → m ≡ n + frames_of w → m ≡ frames_given (h ++ by c w ∷ [])
-frames_counted h c w n m e f = rw (frames_given_push h (by c w)) (omega (arith, e, f ∙ ap (λ k. n + k) (go w))) where
-  go : (w : What) → frames_of w ≡ size_given (gives_back (by c w))
-  go (UnmapWhole o p r) = refl
-  go (UnmapSub o p a b r) = refl
-  go (Unpin o p r) = refl
-  go (Split p r) = refl
-  go w = refl
+frames_counted h c w n m e f = grind (arith, frames_given_push, size_given)
 
 -- the count of the caller whose flight a page leaves isn't 0
 pub may_leave : (shape : Shape) (h : History) (c : ℕ) (w : What) (flying : List ℕ) (o : Option ℕ) → IsLegal shape h → Fits shape h (by c w) →
     o ≡ leaves_of h c w → ((d : ℕ) → slice_index_or flying d 0 ≡ length (flight h d)) → IfSome o (CanLeave flying)
-may_leave shape h c w flying None l f e g = tt
-may_leave shape h c w flying (Some d) l f e g = omega (arith, g d, leaves_one shape h c d w l f e)
+may_leave shape h c w flying x l f e g = grind (arith, leaves_one)
 
 -- what an event leaves unsaid tells out of which flight its page goes, and how many PMD mappings it splits
 pub leaves_told : (s : Shape) (h : History) (c : ℕ) (w : What) → leaves_by c w (context_of s h w) ≡ leaves_of h c w
-leaves_told s h c (UnmapWhole o p r) = refl
-leaves_told s h c (UnmapSub o p a n r) = refl
-leaves_told s h c (Unpin o p r) = refl
-leaves_told s h c (Split p r) = refl
-leaves_told s h c (Used p) = refl
-leaves_told s h c (Back p) = refl
-leaves_told s h c (Dropped p) = refl
-leaves_told s h c w = refl
+leaves_told s h c x = grind arith
 
 pmds_told : (s : Shape) (h : History) (w : What) → pmds_by w (context_of s h w) ≡ splits_pmds h w
-pmds_told s h (SplitPmd p) = refl
-pmds_told s h (Split p r) = refl
-pmds_told s h w = refl
+pmds_told s h x = grind arith
 
 -- and whether it splits an underused page
 underused_told : (s : Shape) (h : History) (w : What) → from_bool (splits_as_underused w (context_of s h w)) ≡ splits_underused s h w
-underused_told s h (Split p r) = go (is_partly_mapped s h p) where
-  go : (b : Bool) → from_bool (not b) ≡ if b then 0 else 1
-  go true = refl
-  go false = refl
-underused_told s h w = refl
+underused_told s h x = grind arith
 
 pub few_one : (b : Bool) → from_bool b ≤ 1
-few_one true = omega arith
-few_one false = omega arith
+few_one x = grind arith
 
 same_counters : (a b c d e f g h i j : ℕ) → a ≡ f → b ≡ g → c ≡ h → d ≡ i → e ≡ j →
     ◌≡◌ {A = Counters} (record { split_page = a; split_page_failed = b; deferred_split_page = c; underused_split_page = d; split_pmd = e })
@@ -153,36 +120,15 @@ lost : (old new : Tally) (c : ℕ) (w : What) (o : Outcome) (set : List Bool) (u
     is_alloc w ≡ false → closes w ≡ false → joins_of c w ≡ None → leaves_by c w u ≡ freed_from u → frames_of w ≡ set_size set →
     is_page_split w ≡ false → is_failed_try w ≡ false → queues w ≡ is_queued o → splits_as_underused w u ≡ false → pmds_by w u ≡ 0 →
     Counts old new c w u
-lost old new c w o set u moves e new_page closing joins leaves frames splits fails queued under pmds = record {
-  next = ap (λ (t : Tally). t.next) e ∙ none old.next (is_alloc w) new_page;
-  closed = ap (λ (t : Tally). t.closed) e ∙ or_none old.closed (closes w) closing;
-  flying = λ d. omega (arith, moves d, ap (λ o. one_for o d) leaves, ap (λ o. one_for o d) joins);
-  frames_given = ap (λ (t : Tally). t.frames_given) e ∙ ap (λ n. old.frames_given + n) (sym frames);
-  split_page = ap (λ (t : Tally). t.counters.split_page) e ∙ none old.counters.split_page (is_page_split w) splits;
-  split_page_failed = ap (λ (t : Tally). t.counters.split_page_failed) e ∙ none old.counters.split_page_failed (is_failed_try w) fails;
-  deferred_split_page = ap (λ (t : Tally). t.counters.deferred_split_page) e ∙ ap (λ b. old.counters.deferred_split_page + from_bool b) (sym queued);
-  underused_split_page = ap (λ (t : Tally). t.counters.underused_split_page) e ∙ none old.counters.underused_split_page (splits_as_underused w u) under;
-  split_pmd = omega (arith, ap (λ (t : Tally). t.counters.split_pmd) e, pmds);
-  few_split_pmds = omega (arith, pmds);
-} where
-  none : (n : ℕ) (b : Bool) → b ≡ false → n ≡ n + from_bool b
-  none n b e = omega (arith, ap from_bool e)
-
-  or_none : (a b : Bool) → b ≡ false → a ≡ (a || b)
-  or_none true b e = refl
-  or_none false b e = sym e
+lost old new c w o set u moves e new_page closing joins leaves frames splits fails queued under pmds = grind arith
 
 -- out of whose flight its page goes
 pub left_told : (s : Shape) (h : History) (c p : ℕ) (l : Loss) (o : Outcome) (set : List Bool) (left : Option ℕ) → FreedFrom left ≡ context_of s h (loss_what l p o set) →
     left ≡ leaves_of h c (loss_what l p o set)
-left_told s h c p loss.UnmapWhole o set left e = ap freed_from e
-left_told s h c p (loss.UnmapSub a n) o set left e = ap freed_from e
-left_told s h c p loss.Unpin o set left e = ap freed_from e
+left_told s h c p x o set left e = grind arith
 
 -- what it adds to the numbers
 pub counts_lost : (old new : Tally) (c p : ℕ) (l : Loss) (o : Outcome) (set : List Bool) (u : EventContext) → Moves old.flying new.flying None (freed_from u) →
     new ≡ record old { flying = new.flying; frames_given = old.frames_given + set_size set; counters = record old.counters { deferred_split_page = old.counters.deferred_split_page + from_bool (is_queued o) } } →
     Counts old new c (loss_what l p o set) u
-counts_lost old new c p loss.UnmapWhole o set u moves e = lost old new c (UnmapWhole o p set) o set u moves e refl refl refl refl refl refl refl refl refl refl
-counts_lost old new c p (loss.UnmapSub a n) o set u moves e = lost old new c (UnmapSub o p a n set) o set u moves e refl refl refl refl refl refl refl refl refl refl
-counts_lost old new c p loss.Unpin o set u moves e = lost old new c (Unpin o p set) o set u moves e refl refl refl refl refl refl refl refl refl refl
+counts_lost old new c p x o set u moves e = grind (arith, lost)

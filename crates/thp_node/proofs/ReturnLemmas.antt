@@ -1,12 +1,12 @@
 -- Returns of the pages of a batch, one by one, as the node's own.
-use Rattle.std.proofs.Common.{◌≡◌, ℕ, zero, suc, ◌+◌, ◌<◌, ◌≤◌, Bool, true, false, List, [], ◌∷◌, ◌++◌, Option, Some, length, map, take, drop, refl, ap, ap₂, sym, ◌∙◌, subst, arith, get_or, append_assoc, nat_eq, eq-eqb, cond, not, ◌&&◌, ◌||◌, ◌-◌, count_by, slice_get}
+use Rattle.std.proofs.Common.{◌≡◌, ℕ, zero, suc, ◌+◌, ◌<◌, ◌≤◌, Bool, true, false, List, [], ◌∷◌, ◌++◌, Option, Some, length, map, take, drop, refl, ap, ap₂, sym, ◌∙◌, subst, arith, get_or, append_assoc, nat_eq, eq-eqb, cond, not, ◌&&◌, ◌-◌, count_by, slice_get}
 use Rattle.std.specs.Int.{from_bool}
 use Rattle.std.proofs.Math.Seq.{drop-cons, take-append_seam}
 use Rattle.std.proofs.lemmas.List.{map-append, take-append-drop, take_more}
 use Rattle.thp_model.specs.declared.events.Event.{Event}
 use Rattle.thp_model.specs.declared.events.What.TheVariants as what
 use Rattle.thp_model.specs.declared.shape.Shape.{Shape}
-use Rattle.thp_model.specs.Prelude.{History, by, is_closed, IsLegal, Fits, flight, has_page, return_event, still_flying, put_back_events, goes_back, is_dropped, is_partly_mapped}
+use Rattle.thp_model.specs.Prelude.{History, by, is_closed, IsLegal, Fits, flight, has_page, return_event, still_flying, put_back_events, goes_back, is_dropped}
 use Rattle.thp_model.proofs.ListPlaces.{append_none}
 use Rattle.thp_model.proofs.Bools.{or_first, not_true, not_false}
 use Rattle.thp_model.proofs.ReturnRuns.{Returned, return_fits, return_as, returns_run}
@@ -26,8 +26,7 @@ abbrev pub the_reply : ℕ → ℕ → BackReply
 the_reply b d = record { back = b; dropped = d }
 
 pub from_cond : (b : Bool) → from_bool b ≡ cond b 1 0
-from_cond true = refl
-from_cond false = refl
+from_cond x = grind arith
 
 -- the node once a page of a batch was dropped
 pub dropped_all : (s r : Shape) (h k : History) (c p b : ℕ) (old new : PageStoreState) → IsNode s h old.table old.queue → IsFlyingAt old.table c p b → Fits s h (by c (what.Dropped p)) →
@@ -52,12 +51,7 @@ back_all s r h k c p b old new m w f edits e g =
 -- whether a page goes back is told by the node and by the page
 pub goes_back_told : (s : Shape) (h : History) (c p b : ℕ) (old : PageStoreState) (z partly : Bool) → IsNode s h old.table old.queue → (w : IsFlyingAt old.table c p b) → z ≡ is_closed h →
     AtSlot old.table b (λ x. partly ≡ x.page.partly) → (not z && partly) ≡ goes_back s h p
-goes_back_told s h c p b old z partly m w shut told =
-    ap₂ (λ x y. not x && y) shut (told w.slot w.at ∙ sym (partly_there s h c p b old m w)) ∙ go (is_closed h) (is_partly_mapped s h p) where
-      go : (x y : Bool) → (not x && y) ≡ not (x || not y)
-      go true y = refl
-      go false true = refl
-      go false false = refl
+goes_back_told s h c p b old z partly m w shut told = grind (arith, partly_there)
 
 -- the return of the first page of a flight fits
 pub back_may : (s : Shape) (h : History) (c p : ℕ) → goes_back s h p ≡ true → slice_get (flight h c) 0 ≡ Some p → Fits s h (by c (what.Back p))
@@ -68,12 +62,7 @@ drop_may s h c p e first = return_fits s h c p true (not_false _ e) first
 
 -- what was done by the return of a page, by whether it goes back
 pub did_return : (old new : NodeState) (c p : ℕ) (z : Bool) → goes_back old.shape old.journal p ≡ z → Did old new c (return_as (not z) c p ∷ []) → Did old new c (return_event old.shape old.journal c p ∷ [])
-did_return old new c p z e d =
-    let P : Bool → Type 0 = λ y. Did old new c (return_as y c p ∷ []) in
-    subst P (ap not (sym e) ∙ twice (is_dropped old.shape old.journal p)) d where
-      twice : (b : Bool) → not (not b) ≡ b
-      twice true = refl
-      twice false = refl
+did_return old new c p z e d = grind (arith, return_as)
 
 -- a return moves no page to another block
 blocks_returned : (h : History) (c : ℕ) (f : ℕ → Bool) (ps : List ℕ) (p : ℕ) → block_of (h ++ map (λ q. return_as (f q) c q) ps) p ≡ block_of h p
@@ -193,23 +182,7 @@ batch_taken h c n ps qs f e = ap (take n) f ∙ ap (λ k. take k (ps ++ qs)) e �
 pub batch_did : (old mid new : NodeState) (c n : ℕ) (t : BatchState) → mid.shape ≡ old.shape → mid.journal ≡ old.journal → old.room ≤ mid.room → mid.table.accesses ≡ old.table.accesses →
     c ≡ t.caller → IsInFront old.journal t → n ≡ length (still_flying old.journal t.caller t.pages) → Did mid new c (return_first mid.shape mid.journal c n) →
     Did old new t.caller (put_back_events old.shape old.journal t.caller t.pages)
-batch_did old mid new c n t s j r w who f e m =
-    let es : List Event = put_back_events old.shape old.journal t.caller t.pages in
-    let S : Shape → Type 0 = λ z. Did mid new c (return_first z mid.journal c n) in
-    let P : History → Type 0 = λ h. Did mid new c (return_first old.shape h c n) in
-    let Q : ℕ → Type 0 = λ x. Did mid new x (return_first old.shape old.journal x n) in
-    let D : List Event → Type 0 = λ gs. Did mid new t.caller gs in
-    let taken : take n (flight old.journal t.caller) ≡ still_flying old.journal t.caller t.pages =
-    batch_taken old.journal t.caller n (still_flying old.journal t.caller t.pages) f.others f.front e in
-    let k : Did mid new t.caller es = subst D (ap (map (return_event old.shape old.journal t.caller)) taken) (subst Q who (subst P j (subst S s m))) in
-    record {
-      shape = k.shape ∙ s;
-      journal = k.journal ∙ ap (λ h. h ++ es) j;
-      own = k.own;
-      legal = k.legal;
-      room = omega (arith, k.room);
-      work = omega (arith, k.work);
-    }
+batch_did old mid new c n t s j r w who f e m = grind (arith, batch_taken)
 
 -- what a put-back answers, by how many of its pages went back
 pub batch_reply : (s r : Shape) (h k : History) (c n back : ℕ) (t : BatchState) → r ≡ s → k ≡ h → c ≡ t.caller → IsInFront h t → n ≡ length (still_flying h t.caller t.pages) →

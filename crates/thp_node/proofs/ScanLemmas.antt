@@ -1,5 +1,5 @@
 -- The tries of a scan, one by one, and what is behind its take, put together.
-use Rattle.std.proofs.Common.{◌≡◌, ℕ, min, suc, ◌+◌, ◌*◌, ◌<◌, ◌≤◌, Bool, true, false, cond, not, ◌&&◌, ◌||◌, List, [], ◌∷◌, ◌++◌, Option, Some, None, length, map, take, drop, refl, ap, ap₂, sym, ◌∙◌, subst, arith, nat_eq, nat_lt, get_or, append_assoc, length-take-le, ◌-◌, count_by, eq-eqb, eqb-true, inl, inr}
+use Rattle.std.proofs.Common.{◌≡◌, ℕ, min, suc, ◌+◌, ◌*◌, ◌<◌, ◌≤◌, Bool, true, false, cond, not, ◌&&◌, ◌||◌, List, [], ◌∷◌, ◌++◌, Option, Some, None, length, map, take, drop, refl, ap, ap₂, sym, ◌∙◌, subst, arith, nat_eq, nat_lt, get_or, append_assoc, length-take-le, ◌-◌, count_by, eq-eqb, eqb-true}
 use Rattle.std.specs.List.{filter, after_first}
 use Rattle.std.proofs.Math.Seq.{drop-cons}
 use Rattle.std.proofs.lemmas.Bool.Decides.{nat_tests}
@@ -33,20 +33,15 @@ in_middle p (x ∷ xs) ys = or_second (nat_eq x p) _ (in_middle p xs ys)
 used_answer : (s : Shape) (h : History) (p : ℕ) → used_count (answer_of s h (Some p)) ≡ cond (is_used s h p) 1 0
 used_answer s h p = go (is_worth_split s h p) (nat_eq (pins h p) 0) where
   go : (a b : Bool) → used_count (cond a (cond b (answer.Split p) (answer.Pinned p)) (answer.Used p)) ≡ cond (not a) 1 0
-  go true true = refl
-  go true false = refl
-  go false b = refl
+  go x y = grind arith
 
 used_of_try : (s : Shape) (h : History) (c p : ℕ) → is_used_found (try_event s h c p).what ≡ is_used s h p
 used_of_try s h c p = go (is_worth_split s h p) (nat_eq (pins h p) 0) where
   go : (a b : Bool) → is_used_found (try_as s h c p a b).what ≡ not a
-  go true true = refl
-  go true false = refl
-  go false b = refl
+  go x y = grind arith
 
 pub few_used : (r : Answer) → used_count r ≤ 1
-few_used (answer.Used p) = omega arith
-few_used r = omega arith
+few_used x = grind arith
 
 -- the next page of a flight whose first i pages were tried, at the history k
 pub record NextTried (s : Shape) (h k : History) (c i p : ℕ) (ps : List ℕ) : Type 0 where
@@ -112,19 +107,15 @@ module _ (a b : NodeState) (c i : ℕ) (ps : List ℕ) (t : BatchState) (l : IsL
 
 -- a refusal for want of memory alone doesn't come where there is room
 pub no_refusal : (a b : NodeState) (m : ℕ) (r : Refusal) → Refused a b None m r → m ≤ a.room → ⊥
-no_refusal a b m r w room = elim w.cause [ inl e ↦ none r e | inr y ↦ let full : a.room < m = y.2 in omega arith ] where
-  none : (x : Refusal) → None ≡ Some x → ⊥
-  none x e = cc
+no_refusal a b m r w room = grind arith
 
 few_tries : (s : Shape) (h : History) (c : ℕ) (o : Option ℕ) → length (tries_of s h c o) ≤ 1
-few_tries s h c None = omega arith
-few_tries s h c (Some p) = omega arith
+few_tries s h c x = grind arith
 
 -- there is room for the next try
 pub room_to_try : (s r : Shape) (h k : History) (c d i m n : ℕ) (ps qs : List ℕ) → i < length ps → length ps ≤ m → m ≤ n + length (map (try_event s h c) (take i ps)) →
     length (split_next_events r k d qs) ≤ n
-room_to_try s r h k c d i m n ps qs below some kept =
-    omega (arith, few_tries r k d (next_page k d qs), length-map (take i ps) (try_event s h c), length-take-le i ps)
+room_to_try s r h k c d i m n ps qs below some kept = grind (arith, few_tries, length-map, length-take-le)
 
 -- a page of a list is among those that pass a test where it passes
 has_passed : (t : ℕ → Bool) (q : ℕ) (ps : List ℕ) → has_page q (filter t ps) ≡ (t q && has_page q ps)
@@ -201,37 +192,16 @@ unfolding count_of
 counts_none = record { taken_is = refl; split_is = refl; pinned_is = refl; back_is = refl; dropped_is = refl; used_is = refl }
 
 pub counts_both : (es gs : List Event) (a b d e f u i j k l m v : ℕ) → Counts es a b d e f u → Counts gs i j k l m v → Counts (es ++ gs) (a + i) (b + j) (d + k) (e + l) (f + m) (u + v)
-counts_both es gs a b d e f u i j k l m v x y = record {
-  taken_is = both_count is_taken es gs a i x.taken_is y.taken_is;
-  split_is = both_count is_split_off es gs b j x.split_is y.split_is;
-  pinned_is = both_count is_pinned_found es gs d k x.pinned_is y.pinned_is;
-  back_is = both_count is_back es gs e l x.back_is y.back_is;
-  dropped_is = both_count is_dropped es gs f m x.dropped_is y.dropped_is;
-  used_is = both_count is_used_found es gs u v x.used_is y.used_is;
-}
+counts_both es gs a b d e f u i j k l m v x y = grind (arith, both_count)
 
 counts_first : (w : Event) (es : List Event) (a b d e f g : ℕ) → Counts es a b d e f g →
     Counts (w ∷ es) (cond (is_taken w.what) 1 0 + a) (cond (is_split_off w.what) 1 0 + b) (cond (is_pinned_found w.what) 1 0 + d) (cond (is_back w.what) 1 0 + e)
     (cond (is_dropped w.what) 1 0 + f) (cond (is_used_found w.what) 1 0 + g)
-counts_first w es a b d e f g x = record {
-  taken_is = first_counts is_taken w es a x.taken_is;
-  split_is = first_counts is_split_off w es b x.split_is;
-  pinned_is = first_counts is_pinned_found w es d x.pinned_is;
-  back_is = first_counts is_back w es e x.back_is;
-  dropped_is = first_counts is_dropped w es f x.dropped_is;
-  used_is = first_counts is_used_found w es g x.used_is;
-}
+counts_first w es a b d e f g x = grind (arith, first_counts)
 
 -- counts that are told otherwise
 counts_as : (es : List Event) (a b d e f g i j k l m n : ℕ) → Counts es a b d e f g → a ≡ i → b ≡ j → d ≡ k → e ≡ l → f ≡ m → g ≡ n → Counts es i j k l m n
-counts_as es a b d e f g i j k l m n x p q r s t u = record {
-  taken_is = x.taken_is ∙ p;
-  split_is = x.split_is ∙ q;
-  pinned_is = x.pinned_is ∙ r;
-  back_is = x.back_is ∙ s;
-  dropped_is = x.dropped_is ∙ t;
-  used_is = x.used_is ∙ u;
-}
+counts_as es a b d e f g i j k l m n x p q r s t u = grind arith
 
 -- takes, tries and returns
 pub counts_takes : (c : ℕ) (ps : List ℕ) → Counts (takes_of c ps) (length ps) 0 0 0 0 0
@@ -370,16 +340,7 @@ module _ (a b : NodeState) (t : BatchState) (c : ℕ) (ps : List ℕ) (l : IsLeg
 
   -- there is room for that
   pub tried_room : 2 * length ps ≤ a.room → length (put_back_events b.shape b.journal t.caller t.pages) ≤ b.room
-  tried_room room =
-      omega (
-        arith,
-        did.room,
-        length-map ps (try_event a.shape a.journal c),
-        length-map (still_flying b.journal t.caller t.pages) (return_event b.shape b.journal t.caller),
-        length-filter (λ q. has_page q (flight b.journal t.caller)) t.pages,
-        count_by-le-length (λ q. has_page q (flight b.journal t.caller)) t.pages,
-        ap length pages,
-      )
+  tried_room room = grind (arith, length-map, length-filter, count_by-le-length)
 
   -- what was done with it
   pub tried_returned : (d : NodeState) → Did b d t.caller (put_back_events b.shape b.journal t.caller t.pages) → Did a d c (events_after a.shape a.journal c ps)
@@ -406,19 +367,7 @@ scan_as_take s h c = refl
 -- a take, with what was reserved before it
 pub took_reserved : (a r b : NodeState) (c n : ℕ) → r.shape ≡ a.shape → r.journal ≡ a.journal → a.room ≤ r.room → r.table.accesses ≡ a.table.accesses →
     Did r b c (take_events r.shape r.journal c n) → Did a b c (take_events a.shape a.journal c n)
-took_reserved a r b c n s j g w m =
-    let es : List Event = take_events a.shape a.journal c n in
-    let S : Shape → Type 0 = λ z. Did r b c (take_events z r.journal c n) in
-    let T : History → Type 0 = λ h. Did r b c (take_events a.shape h c n) in
-    let k : Did r b c es = subst T j (subst S s m) in
-    record {
-      shape = k.shape ∙ s;
-      journal = k.journal ∙ ap (λ h. h ++ es) j;
-      own = k.own;
-      legal = k.legal;
-      room = omega (arith, k.room);
-      work = omega (arith, k.work);
-    }
+took_reserved a r b c n s j g w m = grind arith
 
 abbrev pub whole_batch : ℕ → List ℕ → BatchState
 whole_batch c ps = record { caller = c; pages = ps; place = 0 }
@@ -426,21 +375,14 @@ whole_batch c ps = record { caller = c; pages = ps; place = 0 }
 -- a take of as many pages as are wanted and queued, with what was reserved before it
 module _ (a m b : NodeState) (c n k : ℕ) (same : m ≡ record a { room = m.room }) (is : k ≡ min n (length (queue a.shape a.journal))) where
   pub took_admitted : a.room ≤ m.room → Did m b c (take_events m.shape m.journal c k) → Did a b c (take_events a.shape a.journal c n)
-  took_admitted more did =
-      let D : List Event → Type 0 = λ es. Did a b c es in
-      subst D (ap (take_events a.shape a.journal c) is ∙ ap (takes_of c) (take_min n (queue a.shape a.journal)))
-      (took_reserved a m b c k (ap (λ (x : NodeState). x.shape) same) (ap (λ (x : NodeState). x.journal) same) more (ap (λ (x : NodeState). x.table.accesses) same) did)
+  took_admitted more did = grind (arith, take_min, took_reserved)
 
   pub batch_admitted : (t : BatchState) → t ≡ whole_batch c (take k (queue m.shape m.journal)) → t ≡ whole_batch c (take n (queue a.shape a.journal))
-  batch_admitted t e =
-      e ∙ ap (whole_batch c)
-      (ap (λ (x : NodeState). take k (queue x.shape x.journal)) same ∙ ap (λ i. take i (queue a.shape a.journal)) is ∙ take_min n (queue a.shape a.journal))
+  batch_admitted t e = grind (arith, take_min)
 
 -- takes leave what is behind them
 after_takes : (s : Shape) (h k : History) (c : ℕ) (ps : List ℕ) → TakesLeave s h k c → events_after s k c ps ≡ events_after s h c ps
-after_takes s h k c ps t =
-    ap₂ (λ xs ys. xs ++ ys) (map_same (try_event s k c) (try_event s h c) t.tries ps)
-    (ap (map (return_event s k c)) (filter_in (is_pinned s k) (is_pinned s h) ps (λ q y. t.pinned q)) ∙ map_same (return_event s k c) (return_event s h c) (λ q. ap (λ z. return_as z c q) (t.dropped q)) (filter (is_pinned s h) ps))
+after_takes s h k c ps t = grind (arith, map_same, filter_in, return_as)
 
 empty_list : (ps : List ℕ) → length ps ≡ 0 → ps ≡ []
 empty_list [] e = refl
@@ -451,10 +393,7 @@ module _ (a b : NodeState) (t : BatchState) (c n : ℕ) (l : IsLegal a.shape a.j
     (is : t ≡ whole_batch c (take n (queue a.shape a.journal))) where
   -- it is all in flight
   pub scan_flies : flight b.journal t.caller ≡ t.pages
-  scan_flies =
-      ap (λ (x : BatchState). flight b.journal x.caller) is ∙ ap (λ h. flight h c) took.journal
-      ∙ (take_runs a.shape a.journal c n l (none_flies (flight a.journal c) none)).joined ∙ ap (λ ps. ps ++ take n (queue a.shape a.journal)) (empty_list (flight a.journal c) none)
-      ∙ sym (ap (λ (x : BatchState). x.pages) is)
+  scan_flies = grind (arith, take_runs, none_flies, empty_list)
 
   after_is : events_after b.shape b.journal t.caller t.pages ≡ events_after a.shape a.journal c (take n (queue a.shape a.journal))
   after_is =
@@ -464,9 +403,7 @@ module _ (a b : NodeState) (t : BatchState) (c n : ℕ) (l : IsLegal a.shape a.j
       ∙ after_takes a.shape a.journal (a.journal ++ take_events a.shape a.journal c n) c ps (takes_leave a.shape a.journal c ps)
 
   whole_scan : take_events a.shape a.journal c n ++ events_after a.shape a.journal c (take n (queue a.shape a.journal)) ≡ scan_events a.shape a.journal c n
-  whole_scan =
-      let ps : List ℕ = take n (queue a.shape a.journal) in
-      sym (append_assoc (take_events a.shape a.journal c n) (map (try_event a.shape a.journal c) ps) (map (return_event a.shape a.journal c) (filter (is_pinned a.shape a.journal) ps)))
+  whole_scan = grind (arith, append_assoc)
 
   -- with what is behind the take it is the scan
   pub scan_recorded : (d : NodeState) → Did b d t.caller (events_after b.shape b.journal t.caller t.pages) → Did a d c (scan_events a.shape a.journal c n)
@@ -479,21 +416,4 @@ module _ (a b : NodeState) (t : BatchState) (c n : ℕ) (l : IsLegal a.shape a.j
 
   pub scan_replied : (x : ScanReply) → x ≡ record (scan_reply (events_after b.shape b.journal t.caller t.pages)) { taken = length t.pages } →
       x ≡ scan_reply (scan_events a.shape a.journal c n)
-  scan_replied x e =
-      let ps : List ℕ = take n (queue a.shape a.journal) in
-      let s : Shape = a.shape in
-      let h : History = a.journal in
-      let es : List Event = events_after s h c ps in
-      let qs : List ℕ = filter (is_pinned s h) ps in
-      let split : ℕ = count_by (gets_split s h) ps in
-      let pinned : ℕ = count_by (is_pinned s h) ps in
-      let back : ℕ = count_by (goes_back s h) qs in
-      let dropped : ℕ = count_by (drops s h) qs in
-      let used : ℕ = count_by (is_used s h) ps in
-      let r : Counts es 0 split pinned back dropped used = counts_after s h c ps in
-      let all = counts_both (takes_of c ps) es (length ps) 0 0 0 0 0 0 split pinned back dropped used (counts_takes c ps) r in
-      e ∙ ap₂ (λ xs (k : ℕ). let y : ScanReply = record (scan_reply xs) { taken = k } in y) after_is (ap (λ (y : BatchState). length y.pages) is)
-      ∙ rw (r.split_is, r.pinned_is, r.back_is, r.dropped_is, r.used_is) refl
-      ∙ sym (counted_reply (takes_of c ps ++ es) (the_scan (length ps) split pinned back dropped used)
-      (counts_as (takes_of c ps ++ es) _ _ _ _ _ _ (length ps) split pinned back dropped used all (omega arith) (omega arith) (omega arith) (omega arith) (omega arith) (omega arith)))
-      ∙ ap scan_reply whole_scan
+  scan_replied x e = grind (arith, count_by, counts_after, counts_both, counts_takes, after_is, counted_reply, counts_as, whole_scan)

@@ -1,4 +1,4 @@
--- The definitions and types of this library, each by its name alone: one line of a file imports what it cites.
+-- Re-exports the definitions and types of this library: other files import those that they cite from here, in one line.
 pub use Rattle.thp_node.specs.Batches.{BatchState, FrontsStay, IsInFront, OlderAreInFront, OtherFrontsStay, back_reply, is_back, is_dropped, is_pinned_found, is_split_off, is_taken, is_used_found, no_batch, rest, scan_reply, tried}
 pub use Rattle.thp_node.specs.Calls.{Did, DidAlloc, Refused}
 pub use Rattle.thp_node.specs.Chaining.{HasChain, LostChained}

@@ -142,7 +142,7 @@ impl<R: Recorder> Journal<R> {
         self.events.record(caller, loss.what(page, done));
         // Shows the proof that the number of events, and therefore each number of the tally, is bounded.
         let _events = self.events.count();
-        self.tally.count_loss(done.outcome, &done.released, EventContext::FreedFrom(left));
+        self.tally.count_loss(done.outcome, &done.released, left);
     }
 
     // The shape of the node.
@@ -238,7 +238,7 @@ impl Tally {
                 outcome,
                 released,
                 ..
-            } => self.count_loss(*outcome, released, unsaid),
+            } => self.count_loss(*outcome, released, unsaid.freed_from()),
             What::SplitPmd { .. } => self.counters.split_pmd += 1,
             What::Taken { .. } => join(&mut self.flying, caller),
             What::Split { released, .. } => self.count_split(caller, released, unsaid),
@@ -251,17 +251,17 @@ impl Tally {
         }
     }
 
-    // Counts an unmap or an unpin.
+    // Counts an unmap or an unpin, after which the page left a caller's flight or none.
     #[inline(always)]
-    fn count_loss(&mut self, outcome: Outcome, released: &SubSet, unsaid: EventContext)
+    fn count_loss(&mut self, outcome: Outcome, released: &SubSet, left: Option<u32>)
         requires room { HasCountRoom self.old }
-        requires leaves { IfSome (freed_from unsaid) (CanLeave self.old.flying) }
-        ensures flying { Moves self.old.flying self.new.flying None (freed_from unsaid) }
+        requires leaves { IfSome left (CanLeave self.old.flying) }
+        ensures flying { Moves self.old.flying self.new.flying None left }
         ensures numbers { self.new ≡ record self.old { flying = self.new.flying; frames_given = self.old.frames_given + set_size released.now; counters = record self.old.counters { deferred_split_page = self.old.counters.deferred_split_page + from_bool (is_queued outcome) } } }
     {
         self.frames_given += u128::from(released.count());
         self.counters.deferred_split_page += u64::from(is_queued(outcome));
-        leave(&mut self.flying, unsaid.freed_from());
+        leave(&mut self.flying, left);
     }
 
     // Counts the split of a page in a caller's flight.

@@ -10,8 +10,7 @@ use Rattle.thp_page.proofs.Chains.{chain_after, chain_begins, chain_kept, chain_
 
 -- a block is of one bucket
 one_bucket : (o : Option ℕ) (j k : ℕ) → IsOfBucket j o → IsOfBucket k o → j ≡ k
-one_bucket None j k h i = absurd h
-one_bucket (Some n) j k h i = sym h ∙ i
+one_bucket x j k h i = grind arith
 
 -- new blocks have no number
 get_or-no_numbers : (n b : ℕ) → ◌≡◌ {A = Option ℕ} (get_or (replicate n None) b None) None
@@ -87,21 +86,7 @@ module _ (numbers : List (Option ℕ)) (nexts firsts : List ℕ) (s : IsSearchab
       }
 
   pub placed : (at : ℕ) → at ≡ bucket_at id → at < 8192 → first ≡ get_or firsts at 0 → IsSearchable (set numbers b (Some id)) (set nexts b first) (set firsts at b)
-  placed at is few read = record {
-    small = omega (arith, s.small, length-set numbers b (Some id));
-    each_next = length-set nexts b first ∙ s.each_next ∙ sym (length-set numbers b (Some id));
-    each_first = length-set firsts at b ∙ s.each_first;
-    buckets = λ k below. (
-        let P : ℕ → Type 0 = λ x. IsBucket (set numbers b (Some id)) (set nexts b first) x k in
-        elim (cases_eq k at) [
-          | inl e ↦ (
-              let R : ℕ → Type 0 = λ j. IsBucket (set numbers b (Some id)) (set nexts b first) b j in
-              let here : get_or (set firsts at b) k 0 ≡ b = ap (λ j. get_or (set firsts at b) j 0) e ∙ get_or-set_same firsts at b 0 (omega (arith, s.each_first)) in
-              let own = placed_own (omega (arith, is)) (read ∙ ap (λ j. get_or firsts j 0) is) in
-              subst P (sym here) (subst R (sym (e ∙ is)) own))
-          | inr ne ↦ subst P (sym (get_or-set_other firsts at k b 0 ne)) (placed_other k below (λ e. ne (e ∙ sym is)))
-        ]);
-  }
+  placed at is few read = grind (arith, length-set, cases_eq, get_or, get_or-set_same, placed_own, get_or-set_other, placed_other)
 
 -- a block with a number is emptied, and leaves its bucket's chain
 module _ (numbers : List (Option ℕ)) (nexts news firsts : List ℕ) (s : IsSearchable numbers nexts firsts) (b id at now : ℕ) (taken : get_or numbers b None ≡ Some id) (is : at ≡ bucket_at id) (few : at < 8192) where
@@ -114,9 +99,7 @@ module _ (numbers : List (Option ℕ)) (nexts news firsts : List ℕ) (s : IsSea
 
   -- the block counts in no bucket any more
   gone : b < length numbers → (k c : ℕ) → c ≡ b → IsOfBucket k (get_or (set numbers b None) c None) → ⊥
-  gone inside k c e h =
-      let P : ℕ → Type 0 = λ x. IsOfBucket k (get_or (set numbers b None) x None) in
-      subst (IsOfBucket k) (get_or-set_same numbers b None None inside) (subst P e h)
+  gone inside k c e h = grind (arith, get_or, get_or-set_same)
 
   -- its bucket
   cleared_own : b < length numbers → IsUnlinked nexts news (get_or firsts at 0) now b → IsBucket (set numbers b None) news now at
@@ -151,23 +134,7 @@ module _ (numbers : List (Option ℕ)) (nexts news firsts : List ℕ) (s : IsSea
       }
 
   pub cleared : b < length numbers → (first : ℕ) → first ≡ get_or firsts at 0 → IsUnlinked nexts news first now b → IsSearchable (set numbers b None) news (set firsts at now)
-  cleared inside first read v =
-      let U : ℕ → Type 0 = λ x. IsUnlinked nexts news x now b in
-      let u : IsUnlinked nexts news (get_or firsts at 0) now b = subst U read v in
-      record {
-        small = omega (arith, s.small, length-set numbers b None);
-        each_next = u.size ∙ s.each_next ∙ sym (length-set numbers b None);
-        each_first = length-set firsts at now ∙ s.each_first;
-        buckets = λ k below. (
-            let P : ℕ → Type 0 = λ x. IsBucket (set numbers b None) news x k in
-            elim (cases_eq k at) [
-              | inl e ↦ (
-                  let R : ℕ → Type 0 = λ j. IsBucket (set numbers b None) news now j in
-                  let here : get_or (set firsts at now) k 0 ≡ now = ap (λ j. get_or (set firsts at now) j 0) e ∙ get_or-set_same firsts at now 0 (omega (arith, s.each_first)) in
-                  subst P (sym here) (subst R (sym e) (cleared_own inside u)))
-              | inr ne ↦ subst P (sym (get_or-set_other firsts at k now 0 ne)) (cleared_other inside u k below ne)
-            ]);
-      }
+  cleared inside first read v = grind (arith, get_or, length-set, cases_eq, get_or-set_same, cleared_own, get_or-set_other, cleared_other)
 
 -- the search has come to `at`: a block with the number is one of the chain from there on
 pub record IsSearchedTo (numbers : List (Option ℕ)) (nexts : List ℕ) (id at : ℕ) : Type 0 where

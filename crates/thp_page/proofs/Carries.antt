@@ -1,5 +1,5 @@
 -- What planes count: one of them turned, one more of them, and how large a count they can keep.
-use Rattle.std.proofs.Common.{◌≡◌, ◌≢◌, ℕ, suc, zero, ◌+◌, ◌*◌, ◌^◌, ◌<◌, ◌≤◌, Bool, true, false, ◌&&◌, cond, List, [], length, set, get_or, refl, ap, sym, ◌∙◌, subst, arith, inl, inr}
+use Rattle.std.proofs.Common.{◌≡◌, ◌≢◌, ℕ, suc, zero, ◌+◌, ◌^◌, ◌<◌, ◌≤◌, Bool, true, false, ◌&&◌, cond, List, [], length, set, get_or, refl, ap, sym, ◌∙◌, subst, arith, inl, inr}
 use Rattle.std.proofs.lemmas.Bool.Decides.{eqb_tells}
 use Rattle.std.proofs.lemmas.List.{get_or-set_same, get_or-set_other, get_or_default}
 use Rattle.std.proofs.lemmas.Bool.{cases_lt}
@@ -77,67 +77,39 @@ replaced planes n k i t h inside =
 -- a plane behind those that count isn't seen
 pub behind : (planes : List (List Bool)) (n i : ℕ) (t : List Bool) → count_in (set planes n t) n i ≡ count_in planes n i
 unfolding count_in
-behind planes n i t =
-    sum_below-ext n (worth (set planes n t) i) (worth planes i)
-    (λ j below. ap (λ s. cond (has s i) (2 ^ j) 0) (get_or-set_other planes n j t [] (other j n below))) where
-      other : (j n : ℕ) → j < n → j ≢ n
-      other j n h = λ e. let less : j < n = h in let same : j ≡ n = e in absurd (omega arith)
+behind planes n i t = grind (arith, sum_below-ext, get_or-set_other)
 
 -- the next plane written, and counted
 pub opened : (planes : List (List Bool)) (n i : ℕ) (t : List Bool) → n < length planes → count_in (set planes n t) (n + 1) i ≡ count_in planes n i + cond (has t i) (2 ^ n) 0
-opened planes n i t inside =
-    one_more (set planes n t) n i ∙ ap (λ m. m + worth (set planes n t) i n) (behind planes n i t)
-    ∙ ap (λ s. count_in planes n i + cond (has s i) (2 ^ n) 0) (get_or-set_same planes n t [] inside)
+opened planes n i t inside = grind (arith, one_more, behind, get_or-set_same)
 
 -- a carry into plane k leaves one into the next where the plane had the subpage: together they count the same
 pub carried : (planes : List (List Bool)) (n k i : ℕ) (t : List Bool) (carry next : Bool) (total : ℕ) → k < n → k < length planes →
     has t i ≡ one_alone (has (plane planes k) i) carry → next ≡ (carry && has (plane planes k) i) →
     count_in planes n i + cond carry (2 ^ k) 0 ≡ total → count_in (set planes k t) n i + cond next (2 ^ (k + 1)) 0 ≡ total
-carried planes n k i t carry next total h inside turned left kept =
-    ap (λ b. count_in (set planes k t) n i + cond b (2 ^ (k + 1)) 0) left
-    ∙ go (has (plane planes k) i) carry _ (count_in planes n i) (2 ^ k) (2 ^ (k + 1)) (replaced planes n k i t h inside ∙ ap (λ b. count_in planes n i + cond b (2 ^ k) 0) turned) (pow_more 2 k)
-    ∙ kept where
-      go : (here carry : Bool) (u v p q : ℕ) → u + cond here p 0 ≡ v + cond (one_alone here carry) p 0 → q ≡ p * 2 → u + cond (carry && here) q 0 ≡ v + cond carry p 0
-      go true true u v p q e f = omega arith
-      go true false u v p q e f = omega arith
-      go false true u v p q e f = omega arith
-      go false false u v p q e f = omega arith
+carried planes n k i t carry next total h inside turned left kept = grind (arith, replaced, pow_more)
 
 -- a borrow from plane k becomes one from the next where the plane didn't have the subpage
 pub borrowed : (planes : List (List Bool)) (n k i : ℕ) (t : List Bool) (borrow next : Bool) (old less : ℕ) → k < n → k < length planes →
     has t i ≡ one_alone (has (plane planes k) i) borrow → next ≡ (borrow && has t i) →
     count_in planes n i + less ≡ old + cond borrow (2 ^ k) 0 → count_in (set planes k t) n i + less ≡ old + cond next (2 ^ (k + 1)) 0
-borrowed planes n k i t borrow next old less h inside turned left kept =
-    go (has (plane planes k) i) borrow _ (count_in planes n i) (2 ^ k) (2 ^ (k + 1)) (replaced planes n k i t h inside ∙ ap (λ b. count_in planes n i + cond b (2 ^ k) 0) turned) (pow_more 2 k) kept
-    ∙ sym (ap (λ b. old + cond b (2 ^ (k + 1)) 0) (left ∙ ap (λ b. borrow && b) turned)) where
-      go : (here borrow : Bool) (u v p q : ℕ) → u + cond here p 0 ≡ v + cond (one_alone here borrow) p 0 → q ≡ p * 2 → v + less ≡ old + cond borrow p 0 →
-          u + less ≡ old + cond (borrow && one_alone here borrow) q 0
-      go true true u v p q e f g = omega arith
-      go true false u v p q e f g = omega arith
-      go false true u v p q e f g = omega arith
-      go false false u v p q e f g = omega arith
+borrowed planes n k i t borrow next old less h inside turned left kept = grind (arith, replaced, pow_more)
 
 -- sixteen planes keep a carry out of them nowhere, and none comes where counts fit 16 bits
 pub no_carry_out : (new old p : ℕ) (chosen carry : Bool) → new + cond carry (2 ^ 16) 0 ≡ old + cond chosen p 0 → old < 2 ^ 16 → (chosen ≡ true → old + p ≤ 65535) → new ≡ old + cond chosen p 0
-no_carry_out new old p chosen false e h small = omega (arith, e)
-no_carry_out new old p true true e h small = absurd (omega (arith, e, small refl))
-no_carry_out new old p false true e h small = absurd (omega (arith, e))
+no_carry_out new old p chosen x e h small = grind arith
 
 -- a borrow from behind the planes comes only where a count was 0
 pub no_borrow_out : (new old most : ℕ) (chosen borrow : Bool) → new + cond chosen 1 0 ≡ old + cond borrow most 0 → new < most → (chosen ≡ true → 1 ≤ old) → new + cond chosen 1 0 ≡ old
-no_borrow_out new old most chosen false e h positive = omega (arith, e)
-no_borrow_out new old most true true e h positive = absurd (omega (arith, e, positive refl))
-no_borrow_out new old most false true e h positive = absurd (omega (arith, e))
+no_borrow_out new old most chosen x e h positive = grind arith
 
 -- without a carry the planes count all
 pub ends_without : (count total p : ℕ) (carry : Bool) → carry ≡ false → count + cond carry p 0 ≡ total → count ≡ total
-ends_without count total p true e h = absurd (cc)
-ends_without count total p false e h = omega (arith, h)
+ends_without count total p x e h = grind arith
 
 -- without a borrow as many are taken as were to be
 pub ends_even : (count less old p : ℕ) (borrow : Bool) → borrow ≡ false → count + less ≡ old + cond borrow p 0 → count + less ≡ old
-ends_even count less old p true e h = absurd (cc)
-ends_even count less old p false e h = omega (arith, h)
+ends_even count less old p x e h = grind arith
 
 -- no set of 512 truths has a number behind them
 has_after : (test : ℕ → Bool) (i : ℕ) → 512 ≤ i → has (set_of test) i ≡ false

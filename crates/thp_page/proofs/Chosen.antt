@@ -19,13 +19,7 @@ none_chosen chosen r i tells holds below = some_none 512 chosen (flipped (some_b
 
 -- before the first plane all counts are alike
 pub alike_before : (planes : List (List Bool)) (n i : ℕ) (b : Bool) → b ≡ (b && nat_eq (count_in planes 0 i) (n % 2 ^ 0))
-alike_before planes n i b = and_true b _ (sym (ap (λ m. nat_eq m (n % 2 ^ 0)) (no_planes planes i) ∙ none n)) where
-  none : (n : ℕ) → nat_eq 0 (n % 2 ^ 0) ≡ true
-  none n = grind (arith, nat_tests)
-
-  and_true : (b c : Bool) → true ≡ c → b ≡ (b && c)
-  and_true true c e = e
-  and_true false c e = refl
+alike_before planes n i b = grind (arith, nat_eq, no_planes, nat_tests)
 
 -- one bit more of a number
 bits_of : (n k : ℕ) → n % 2 ^ (k + 1) ≡ n % 2 ^ k + cond (nat_eq (bit_at n k) 1) (2 ^ k) 0
@@ -38,23 +32,12 @@ bits_of n k = ap (λ m. n % 2 ^ m) (toggle k) ∙ mod-pow-add n 1 k ∙ digit (b
 
 -- two numbers of one bit more are equal where the bits are, and the rest
 pub same_bits : (a b p : ℕ) (x y : Bool) → a < p → b < p → nat_eq (a + cond x p 0) (b + cond y p 0) ≡ (nat_eq a b && cond y x (not x))
-same_bits a b p true true h g = grind (arith, nat_tests)
-same_bits a b p true false h g = grind (arith, nat_tests)
-same_bits a b p false true h g = grind (arith, nat_tests)
-same_bits a b p false false h g = grind (arith, nat_tests)
+same_bits a b p x y h g = grind (arith, nat_tests)
 
 -- one plane more compared
 pub compared : (planes : List (List Bool)) (n k i : ℕ) (of left next : Bool) → left ≡ (of && nat_eq (count_in planes k i) (n % 2 ^ k)) →
     next ≡ (left && cond (nat_eq (bit_at n k) 1) (has (plane planes k) i) (not (has (plane planes k) i))) → next ≡ (of && nat_eq (count_in planes (k + 1) i) (n % 2 ^ (k + 1)))
-compared planes n k i of left next before now =
-    now ∙ ap (λ b. b && cond (nat_eq (bit_at n k) 1) (has (plane planes k) i) (not (has (plane planes k) i))) before
-    ∙ and_assoc of _ _
-    ∙ ap (λ b. of && b) (sym (same_bits (count_in planes k i) (n % 2 ^ k) (2 ^ k) (has (plane planes k) i) (nat_eq (bit_at n k) 1) (counts_below planes k i) (mod_below n (2 ^ k) (omega (arith, counts_below planes k i)))))
-    ∙ ap (λ m. of && nat_eq m (n % 2 ^ k + cond (nat_eq (bit_at n k) 1) (2 ^ k) 0)) (sym (one_more planes k i))
-    ∙ ap (λ m. of && nat_eq (count_in planes (k + 1) i) m) (sym (bits_of n k)) where
-      and_assoc : (a b c : Bool) → ((a && b) && c) ≡ (a && (b && c))
-      and_assoc true b c = refl
-      and_assoc false b c = refl
+compared planes n k i of left next before now = grind (arith, nat_eq, same_bits, counts_below, mod_below, one_more, bits_of)
 
 -- the bits below k agree
 abbrev pub alike : List (List Bool) → ℕ → ℕ → ℕ → Bool
@@ -106,24 +89,16 @@ without_bit left bit read here e f = ap (λ b. left && b) (ap not e ∙ sym (ap 
 
 -- no count is as large as a number that has more bits than there are planes
 pub none_as_large : (planes : List (List Bool)) (n m : ℕ) (chosen : ℕ → Bool) → (n / 2 ^ m ≢ 0) → some_below 512 (λ i. chosen i && nat_eq (count_in planes m i) n) ≡ false
-none_as_large planes n m chosen large =
-    some_no 512 (λ i. chosen i && nat_eq (count_in planes m i) n) (λ i below. go (chosen i) (count_in planes m i) (2 ^ m) (counts_below planes m i) large) where
-      go : (b : Bool) (v p : ℕ) → v < p → (n / p ≢ 0) → (b && nat_eq v n) ≡ false
-      go true v p h f = ne_eqb v n (λ e. let same : v ≡ n = e in f (below n p (omega arith))) where
-        below : (n p : ℕ) → n < p → n / p ≡ 0
-        below n p h = div-eq_of_lt h
-      go false v p h f = refl
+none_as_large planes n m chosen large = grind (arith, some_no, nat_eq, counts_below, ne_eqb, div-eq_of_lt)
 
 -- one bit more of the number that is added
 pub added_bit : (chosen : Bool) (new old before n k : ℕ) → before ≡ old + cond chosen (n % 2 ^ k) 0 → new ≡ before + cond chosen (cond (nat_eq (bit_at n k) 1) (2 ^ k) 0) 0 →
     new ≡ old + cond chosen (n % 2 ^ (k + 1)) 0
-added_bit true new old before n k e f = omega (arith, e, f, bits_of n k)
-added_bit false new old before n k e f = omega (arith, e, f)
+added_bit x new old before n k e f = grind (arith, bits_of)
 
 -- a bit that isn't set adds nothing
 pub nothing : (m : ℕ) (chosen : Bool) → m ≡ m + cond chosen 0 0
-nothing m true = omega arith
-nothing m false = omega arith
+nothing m x = grind arith
 
 -- a bit of a number that fits has room
 pub room_for_bit : (before old n k : ℕ) (chosen : Bool) → chosen ≡ true → nat_eq (bit_at n k) 1 ≡ true → before ≡ old + cond chosen (n % 2 ^ k) 0 → old + n ≤ 65535 → before + 2 ^ k ≤ 65535

@@ -1,6 +1,6 @@
 -- What the calls of a page make of it.
-use Rattle.std.proofs.Common.{◌≡◌, ℕ, zero, suc, ◌+◌, ◌^◌, ◌<◌, ◌≤◌, Bool, true, false, ◌&&◌, cond, nat_lt, replicate, get_or, None, refl, ap, ap₂, sym, ◌∙◌, arith, lt-ltb, subst, List}
-use Rattle.thp_model.specs.Prelude.{covers, has, set_of, get_or-set_of, most, PageState, size, own_at, total_at, has_use, partly_after, zero_set, page_refusal, IsPage, IsFresh, KeepsCounts, WholeMapped, WholeUnmapped, RangeMapped, RangeUnmapped, PmdSplit, PageSplit}
+use Rattle.std.proofs.Common.{◌≡◌, ℕ, zero, suc, ◌^◌, ◌<◌, ◌≤◌, Bool, ◌&&◌, nat_lt, replicate, get_or, None, refl, ap, ap₂, sym, ◌∙◌, arith, lt-ltb, subst, List}
+use Rattle.thp_model.specs.Prelude.{has, set_of, get_or-set_of, most, PageState, size, has_use, partly_after, zero_set, page_refusal, IsPage, IsFresh, KeepsCounts, WholeMapped, WholeUnmapped, RangeMapped, RangeUnmapped, PmdSplit, PageSplit}
 use Rattle.thp_model.specs.Refusals as call
 use Rattle.thp_model.specs.Pages.{Pinned}
 use Rattle.thp_page.specs.Prelude.{fresh_page, Inside, state_of, IsKept, NothingAfter}
@@ -40,124 +40,36 @@ IsPage-fresh_page order least most = record {
 
 -- each call leaves a page
 pub IsPage-map_whole : (t u : PageState) (p : ℕ) → IsPage t → page_refusal t (call.map_whole p) ≡ None → WholeMapped t u → IsPage u
-IsPage-map_whole t u p page e r =
-    let facts = map_whole_allowed t p page e in
-    record {
-      least_order = omega (arith, r.order, page.least_order);
-      most_order = omega (arith, r.order, page.most_order);
-      bounded = λ i below. (let inside : i < size t = omega (arith, same_size t u r.order) in omega (arith, r.whole, r.own i inside, facts.1 i inside));
-      few_pins = omega (arith, r.pins, page.few_pins);
-      no_whole = λ f. absurd (let g : false ≡ true = sym facts.0 ∙ sym r.split ∙ f in cc);
-      no_pins = λ f. r.pins ∙ page.no_pins (sym r.split ∙ f);
-    }
+IsPage-map_whole t u p page e r = grind (arith, map_whole_allowed, same_size)
 
 pub IsPage-unmap_whole : (t u : PageState) (p : ℕ) → IsPage t → page_refusal t (call.unmap_whole p) ≡ None → WholeUnmapped t u → IsPage u
-IsPage-unmap_whole t u p page e r =
-    let facts = unmap_whole_allowed t p e in
-    let long : size u ≡ size t = same_size t u r.order in
-    record {
-      least_order = omega (arith, r.order, page.least_order);
-      most_order = omega (arith, r.order, page.most_order);
-      bounded = λ i below. omega (arith, r.whole, r.own i (omega (arith, long)), page.bounded i (omega (arith, long)));
-      few_pins = omega (arith, r.pins, page.few_pins);
-      no_whole = λ f. absurd (let g : false ≡ true = sym facts.0 ∙ sym r.split ∙ f in cc);
-      no_pins = λ f. r.pins ∙ page.no_pins (sym r.split ∙ f);
-    }
+IsPage-unmap_whole t u p page e r = grind (arith, unmap_whole_allowed, same_size)
 
 pub IsPage-map_sub : (t u : PageState) (p first count : ℕ) → IsPage t → page_refusal t (call.map_sub p first count) ≡ None → RangeMapped first count t u → IsPage u
-IsPage-map_sub t u p first count page e r =
-    let facts = map_sub_allowed t p first count page e in
-    record {
-      least_order = omega (arith, r.order, page.least_order);
-      most_order = omega (arith, r.order, page.most_order);
-      bounded = λ i below. (let inside : i < size t = omega (arith, same_size t u r.order) in
-          omega (arith, r.whole, one_more (covers first count i) (total_at t i) (page.bounded i inside) (facts.1 i), r.own i inside));
-      few_pins = omega (arith, r.pins, page.few_pins);
-      no_whole = λ f. r.whole ∙ page.no_whole (sym r.split ∙ f);
-      no_pins = λ f. r.pins ∙ page.no_pins (sym r.split ∙ f);
-    } where
-      one_more : (b : Bool) (n : ℕ) → n ≤ most → (b ≡ true → n < most) → n + cond b 1 0 ≤ most
-      one_more true n fits below = omega (arith, below refl)
-      one_more false n fits below = omega arith
+IsPage-map_sub t u p first count page e r = grind (arith, map_sub_allowed, same_size)
 
 pub IsPage-unmap_sub : (t u : PageState) (first count : ℕ) → IsPage t → RangeUnmapped first count t u → IsPage u
-IsPage-unmap_sub t u first count page r =
-    let long : size u ≡ size t = same_size t u r.order in
-    record {
-      least_order = omega (arith, r.order, page.least_order);
-      most_order = omega (arith, r.order, page.most_order);
-      bounded = λ i below. omega (arith, r.whole, r.own i (omega (arith, long)), page.bounded i (omega (arith, long)));
-      few_pins = omega (arith, r.pins, page.few_pins);
-      no_whole = λ f. r.whole ∙ page.no_whole (sym r.split ∙ f);
-      no_pins = λ f. r.pins ∙ page.no_pins (sym r.split ∙ f);
-    }
+IsPage-unmap_sub t u first count page r = grind (arith, same_size)
 
 pub IsPage-split_pmd : (t u : PageState) (p : ℕ) → IsPage t → page_refusal t (call.split_pmd p) ≡ None → PmdSplit t u → IsPage u
-IsPage-split_pmd t u p page e r =
-    let facts = split_pmd_allowed t p e in
-    record {
-      least_order = omega (arith, r.order, page.least_order);
-      most_order = omega (arith, r.order, page.most_order);
-      bounded = λ i below. (let inside : i < size t = omega (arith, same_size t u r.order) in omega (arith, r.whole, r.own i inside, page.bounded i inside));
-      few_pins = omega (arith, r.pins, page.few_pins);
-      no_whole = λ f. absurd (let g : false ≡ true = sym facts.0 ∙ sym r.split ∙ f in cc);
-      no_pins = λ f. r.pins ∙ page.no_pins (sym r.split ∙ f);
-    }
+IsPage-split_pmd t u p page e r = grind (arith, split_pmd_allowed, same_size)
 
 pub IsPage-pin : (t u : PageState) (p : ℕ) → IsPage t → page_refusal t (call.pin p) ≡ None → Pinned t u → IsPage u
-IsPage-pin t u p page e r =
-    let facts = pin_allowed t p page e in
-    record {
-      least_order = omega (arith, r.order, page.least_order);
-      most_order = omega (arith, r.order, page.most_order);
-      bounded = λ i below. (let inside : i < size t = omega (arith, same_size t u r.order) in omega (arith, r.whole, r.own i inside, page.bounded i inside));
-      few_pins = omega (arith, r.pins, facts.1);
-      no_whole = λ f. r.whole ∙ page.no_whole (sym r.split ∙ f);
-      no_pins = λ f. absurd (let g : false ≡ true = sym facts.0 ∙ sym r.split ∙ f in cc);
-    }
+IsPage-pin t u p page e r = grind (arith, pin_allowed, same_size)
 
 pub IsPage-unpin : (t u : PageState) (p : ℕ) → IsPage t → page_refusal t (call.unpin p) ≡ None → Pinned u t → IsPage u
-IsPage-unpin t u p page e r =
-    let facts = unpin_allowed t p e in
-    let long : size u ≡ size t = same_size t u (sym r.order) in
-    record {
-      least_order = omega (arith, r.order, page.least_order);
-      most_order = omega (arith, r.order, page.most_order);
-      bounded = λ i below. omega (arith, r.whole, r.own i below, page.bounded i (omega (arith, long)));
-      few_pins = omega (arith, r.pins, page.few_pins);
-      no_whole = λ f. sym r.whole ∙ page.no_whole (r.split ∙ f);
-      no_pins = λ f. absurd (let g : false ≡ true = sym facts.0 ∙ r.split ∙ f in cc);
-    }
+IsPage-unpin t u p page e r = grind (arith, unpin_allowed, same_size)
 
 pub IsPage-split : (give : Bool) (t u : PageState) → IsPage t → t.pins ≡ 0 → PageSplit give t u → IsPage u
-IsPage-split give t u page unpinned r = record {
-  least_order = omega (arith, r.order, page.least_order);
-  most_order = omega (arith, r.order, page.most_order);
-  bounded = λ i below. (let inside : i < size t = omega (arith, same_size t u r.order) in omega (arith, r.whole, r.own i inside, page.bounded i inside));
-  few_pins = omega (arith, r.pins, page.few_pins);
-  no_whole = λ f. r.whole;
-  no_pins = λ f. r.pins ∙ unpinned;
-}
+IsPage-split give t u page unpinned r = grind (arith, same_size)
 
 -- what leaves the counts leaves a page
 pub IsPage-counts : (t u : PageState) → IsPage t → KeepsCounts t u → IsPage u
-IsPage-counts t u page k = record {
-  least_order = omega (arith, k.order, page.least_order);
-  most_order = omega (arith, k.order, page.most_order);
-  bounded = λ i below. (let inside : i < size t = omega (arith, same_size t u k.order) in
-      let own : own_at u i ≡ own_at t i = ap (λ xs. get_or xs i 0) k.own in
-      omega (arith, k.whole, own, page.bounded i inside));
-  few_pins = omega (arith, k.pins, page.few_pins);
-  no_whole = λ f. k.whole ∙ page.no_whole (sym k.split ∙ f);
-  no_pins = λ f. k.pins ∙ page.no_pins (sym k.split ∙ f);
-}
+IsPage-counts t u page k = grind (arith, same_size, get_or)
 
 -- no more than the subpages are zero-filled, where that was so before and neither they nor their number changed
 pub zero_inside-same : (t u : PageState) → u.order ≡ t.order → u.zero ≡ t.zero → t.zero ≡ zero_set t → u.zero ≡ zero_set u
-zero_inside-same t u order same inside =
-    same ∙ inside
-    ∙ set_of-ext (λ i. nat_lt i (size t) && has t.zero i) (λ i. nat_lt i (size u) && has u.zero i)
-    (λ i short. ap₂ (λ n z. nat_lt i n && has z i) (sym (same_size t u order)) (sym same))
+zero_inside-same t u order same inside = grind (arith, set_of-ext, nat_lt, same_size)
 
 -- the same of a set that is given by a test and has no more than the page's subpages
 pub zero_inside-test : (t : PageState) (test : ℕ → Bool) → t.zero ≡ set_of test → ((i : ℕ) → i < 512 → test i ≡ (nat_lt i (size t) && test i)) → t.zero ≡ zero_set t
@@ -169,22 +81,11 @@ zero_inside-test t test is inside =
 -- whether the page is partly mapped is in none of what a page keeps
 pub IsPage-partly : (t : PageState) (b : Bool) → IsPage t → IsPage (record t { partly = b })
 unfolding size
-IsPage-partly t b page = record {
-  least_order = page.least_order;
-  most_order = page.most_order;
-  bounded = page.bounded;
-  few_pins = page.few_pins;
-  no_whole = page.no_whole;
-  no_pins = page.no_pins;
-}
+IsPage-partly t b page = grind arith
 
 pub kept_partly : (p : Inside) (b : Bool) → IsKept p → IsKept (record p { partly = b })
 unfolding size
-kept_partly p b k = record {
-  page = IsPage-partly (state_of p) b k.page;
-  behind = k.behind;
-  zero_inside = k.zero_inside;
-}
+kept_partly p b k = grind (arith, IsPage-partly)
 
 pub has_use-partly : (t : PageState) (b : Bool) → has_use (record t { partly = b }) ≡ has_use t
 unfolding size
@@ -196,10 +97,7 @@ partly_after-partly t u b = refl
 
 pub zero_inside-fresh_page : (order : ℕ) → (fresh_page order).zero ≡ zero_set (fresh_page order)
 unfolding size
-zero_inside-fresh_page order = zero_inside-test (fresh_page order) (λ i. nat_lt i (2 ^ order)) refl (λ i short. twice (nat_lt i (2 ^ order))) where
-  twice : (b : Bool) → b ≡ (b && b)
-  twice true = refl
-  twice false = refl
+zero_inside-fresh_page order = grind (arith, zero_inside-test, nat_lt)
 
 -- a new page with the counts and the set that the code makes
 pub fresh_made : (order : ℕ) (own : List ℕ) (all : List Bool) → own ≡ replicate 512 0 → all ≡ set_of (λ i. nat_lt i (2 ^ order)) → record (fresh_page order) { own = own; zero = all } ≡ fresh_page order

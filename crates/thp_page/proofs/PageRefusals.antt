@@ -1,24 +1,19 @@
 -- What is known of a page that doesn't refuse a call.
-use Rattle.std.proofs.Common.{◌≡◌, ℕ, ◌+◌, ◌<◌, ◌≤◌, Bool, true, false, ◌&&◌, ◌||◌, cond, nat_eq, nat_lt, Some, None, refl, ap, ◌∙◌, arith}
+use Rattle.std.proofs.Common.{◌≡◌, ℕ, ◌+◌, ◌<◌, ◌≤◌, Bool, true, false, ◌&&◌, ◌||◌, cond, nat_eq, nat_lt, Some, None, ap, ◌∙◌, arith}
 use Rattle.std.proofs.lemmas.Bool.Decides.{nat_tests}
 use Rattle.thp_model.specs.declared.refusal.Refusal.{Refusal}
 use Rattle.thp_model.specs.declared.refusal.Refusal.TheVariants as reason
-use Rattle.thp_model.specs.Prelude.{covers, most, PageState, size, own_at, total_at, some_in_range, page_refusal, IsPage}
+use Rattle.thp_model.specs.Prelude.{covers, most, PageState, size, own_at, total_at, page_refusal, IsPage}
 use Rattle.thp_model.specs.Refusals as call
 use Rattle.thp_page.proofs.RangeLemmas.{covers_true}
 use Rattle.thp_model.proofs.Below.{some_none}
 
 -- none of the tests made in turn holds
 neither : (a b : Bool) (r q : Refusal) → cond a (Some r) (cond b (Some q) None) ≡ None → (a ≡ false) × (b ≡ false)
-neither true b r q e = absurd (cc)
-neither false true r q e = absurd (cc)
-neither false false r q e = (refl, refl)
+neither x b r q e = grind arith
 
 none_of_three : (a b c : Bool) (r q o : Refusal) → cond a (Some r) (cond b (Some q) (cond c (Some o) None)) ≡ None → (a ≡ false) × (b ≡ false) × (c ≡ false)
-none_of_three true b c r q o e = absurd (cc)
-none_of_three false true c r q o e = absurd (cc)
-none_of_three false false true r q o e = absurd (cc)
-none_of_three false false false r q o e = (refl, refl, refl)
+none_of_three x b c r q o e = grind arith
 
 below_limit : (n : ℕ) → n ≤ most → nat_eq n most ≡ false → n < most
 below_limit n fits e = grind (arith, nat_tests)
@@ -27,8 +22,7 @@ positive : (n : ℕ) → nat_eq n 0 ≡ false → 1 ≤ n
 positive n e = grind (arith, nat_tests)
 
 second : (a b : Bool) → a ≡ true → (a && b) ≡ false → b ≡ false
-second true b e f = f
-second false b e f = absurd (cc)
+second x b e f = grind arith
 
 good_range : (n first count : ℕ) → (nat_eq count 0 || nat_lt n (first + count)) ≡ false → first + count ≤ n
 good_range n first count e = grind (arith, nat_tests)
@@ -95,13 +89,11 @@ unmap_sub_allowed t p first count e =
 -- the range stands in the page, for a write of data and of zeros
 pub write_allowed : (t : PageState) (p first count : ℕ) → page_refusal t (call.write p first count) ≡ None → first + count ≤ size t
 unfolding page_refusal
-write_allowed t p first count e =
-    good_range (size t) first count (none_of_three _ t.split (some_in_range t first count (λ i. nat_eq (total_at t i) 0)) _ reason.IsSplit reason.NotMapped e).0
+write_allowed t p first count e = grind (arith, good_range, none_of_three, nat_eq)
 
 pub zero_fill_allowed : (t : PageState) (p first count : ℕ) → page_refusal t (call.zero_fill p first count) ≡ None → first + count ≤ size t
 unfolding page_refusal
-zero_fill_allowed t p first count e =
-    good_range (size t) first count (none_of_three _ t.split (some_in_range t first count (λ i. nat_eq (total_at t i) 0)) _ reason.IsSplit reason.NotMapped e).0
+zero_fill_allowed t p first count e = grind (arith, good_range, none_of_three, nat_eq)
 
 -- what isn't refused of a page isn't refused of its fields' state
 pub allowed_as : (t u : PageState) (k : call.Call) → t ≡ u → page_refusal u k ≡ None → page_refusal t k ≡ None

@@ -1,5 +1,5 @@
 -- How many subpages a page has, and tests of them as tests of a range.
-use Rattle.std.proofs.Common.{◌≡◌, ℕ, ◌+◌, ◌*◌, ◌^◌, ◌%◌, ◌≤◌, Bool, true, false, ◌&&◌, refl, ap, arith}
+use Rattle.std.proofs.Common.{◌≡◌, ℕ, ◌+◌, ◌*◌, ◌^◌, ◌%◌, ◌≤◌, Bool, true, ◌&&◌, ap, arith}
 use Rattle.std.proofs.Math.Pow.{pow_mono}
 use Rattle.std.proofs.lemmas.Nat.{one_shl}
 use Rattle.thp_model.specs.Prelude.{covers, some_below, PageState, size, some_in_range}
@@ -26,8 +26,7 @@ unfolding size
 shifted_is_size t most = one_shl t.order 64 (omega arith)
 
 both_true : (a b : Bool) → (a && b) ≡ true → (a ≡ true) × (b ≡ true)
-both_true true b e = (refl, e)
-both_true false b e = absurd (cc)
+both_true x b e = grind arith
 
 and_true : (a b : Bool) → a ≡ true → b ≡ true → (a && b) ≡ true
 and_true a b e f = cc
@@ -35,19 +34,12 @@ and_true a b e f = cc
 -- a test of a range of the page's subpages
 pub range_test : (n first count : ℕ) (test : ℕ → Bool) → first + count ≤ n → n ≤ 512 →
     some_below n (λ i. covers first count i && test i) ≡ some_below 512 (λ i. covers first count i && test i)
-range_test n first count test inside most =
-    some_below-same n 512 (λ i. covers first count i && test i) (λ i. covers first count i && test i)
-    (λ i below e. (omega arith, e))
-    (λ i below e. (let at = covers_true first count i (both_true (covers first count i) (test i) e).0 in omega (arith, at.1), e))
+range_test n first count test inside most = grind (arith, some_below-same, covers_true, both_true)
 
 -- a test of all its subpages
 pub whole_test : (n : ℕ) (test : ℕ → Bool) → n ≤ 512 → some_below n test ≡ some_below 512 (λ i. covers 0 n i && test i)
-whole_test n test most =
-    some_below-same n 512 test (λ i. covers 0 n i && test i)
-    (λ i below e. (omega arith, and_true (covers 0 n i) (test i) (covers_inside 0 n i (omega arith) (omega arith)) e))
-    (λ i below e. let both = both_true (covers 0 n i) (test i) e in (let at = covers_true 0 n i both.0 in omega (arith, at.1), both.1))
+whole_test n test most = grind (arith, some_below-same, and_true, covers_inside, both_true, covers_true)
 
 -- the range of all its subpages
 pub whole_range : (t : PageState) (n : ℕ) (test : ℕ → Bool) → n ≡ size t → some_in_range t 0 n test ≡ some_below (size t) test
-whole_range t n test long =
-    some_below-ext (size t) (λ i. covers 0 n i && test i) test (λ i below. ap (λ b. b && test i) (covers_inside 0 n i (omega arith) (omega arith)))
+whole_range t n test long = grind (arith, some_below-ext, covers_inside)

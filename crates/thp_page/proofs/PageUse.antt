@@ -19,25 +19,15 @@ has_use-mapped t least mapped =
 
 -- another is where a subpage has a mapping of its own
 pub has_use-unmapped : (t : PageState) → t.whole ≡ 0 → has_use t ≡ some_below (size t) (λ i. nat_lt 0 (own_at t i))
-has_use-unmapped t unmapped =
-    some_below-ext (size t) (λ i. nat_lt 0 (total_at t i)) (λ i. nat_lt 0 (own_at t i)) (λ i below. go t.whole (own_at t i) unmapped) where
-      go : (w x : ℕ) → w ≡ 0 → nat_lt 0 (w + x) ≡ nat_lt 0 x
-      go w x h = grind (arith, nat_tests)
+has_use-unmapped t unmapped = grind (arith, some_below-ext, nat_lt, nat_tests)
 
 -- the last whole mapping goes: a subpage goes out of use where not each has a mapping of its own
 pub drops_use-last : (t u : PageState) → WholeUnmapped t u → t.whole ≡ 1 → drops_use t u ≡ some_below (size t) (λ i. nat_eq (own_at t i) 0)
-drops_use-last t u r last =
-    some_below-ext (size t) (λ i. nat_lt 0 (total_at t i) && nat_eq (total_at u i) 0) (λ i. nat_eq (own_at t i) 0)
-    (λ i below. go t.whole u.whole (own_at t i) (own_at u i) last r.whole (sym (r.own i below))) where
-      go : (w v x y : ℕ) → w ≡ 1 → w ≡ v + 1 → x ≡ y → (nat_lt 0 (w + x) && nat_eq (v + y) 0) ≡ nat_eq x 0
-      go w v x y e f g = grind (arith, nat_tests)
+drops_use-last t u r last = grind (arith, some_below-ext, nat_lt, nat_eq, nat_tests)
 
 -- a whole mapping is left: no subpage goes out of use
 pub drops_use-mapped : (t u : PageState) → 0 < u.whole → drops_use t u ≡ false
-drops_use-mapped t u mapped =
-    some_no (size t) (λ i. nat_lt 0 (total_at t i) && nat_eq (total_at u i) 0) (λ i below. go u.whole (own_at u i) (nat_lt 0 (total_at t i)) mapped) where
-      go : (v y : ℕ) (b : Bool) → 0 < v → (b && nat_eq (v + y) 0) ≡ false
-      go v y b h = grind (arith, nat_tests)
+drops_use-mapped t u mapped = grind (arith, some_no, nat_lt, nat_eq, nat_tests)
 
 -- no whole mapping, and one mapping of each subpage of a range goes: those that had just one go out of use
 pub drops_use-range : (t u : PageState) (first count : ℕ) → t.order ≤ 9 → RangeUnmapped first count t u → first + count ≤ size t → t.whole ≡ 0 →
@@ -52,12 +42,7 @@ drops_use-range t u first count most r inside unmapped =
 
 -- a page that isn't split gives back nothing
 pub gives_frames-unsplit : (t u : PageState) → u.order ≡ t.order → t.split ≡ false → u.split ≡ false → gives_frames t u ≡ set_of (λ i. false)
-gives_frames-unsplit t u order whole still =
-    set_of-ext (λ i. holds t i && not (holds u i)) (λ i. false)
-    (λ i below. go (nat_lt i (size t)) (nat_lt i (size u)) t.split u.split (nat_lt 0 (total_at t i) && not (t.freed_zero_frames && zero_at t i)) (nat_lt 0 (total_at u i) && not (u.freed_zero_frames && zero_at u i)) (ap (λ n. nat_lt i n) (same_size t u order)) whole still) where
-      go : (a b s v x y : Bool) → b ≡ a → s ≡ false → v ≡ false → ((a && (not s || x)) && not (b && (not v || y))) ≡ false
-      go true b s v x y e f g = cc
-      go false b s v x y e f g = refl
+gives_frames-unsplit t u order whole still = grind (arith, set_of-ext, nat_lt, same_size)
 
 -- a split page gives back the frames of the subpages of the range that have no mapping any more, but those that its split gave
 pub gives_frames-range : (t u : PageState) (first count : ℕ) (bare : List Bool) → RangeUnmapped first count t u → first + count ≤ size t → t.split ≡ true → t.whole ≡ 0 →
@@ -87,26 +72,7 @@ gives_frames-range t u first count bare r inside split unmapped is =
 
 -- a page that is split gives back the frames of the subpages that aren't in use, and of zero-filled ones where it is to
 pub gives_frames-split : (give : Bool) (t u : PageState) → PageSplit give t u → t.split ≡ false → gives_frames t u ≡ split_set give t
-gives_frames-split give t u r whole =
-    set_of-ext (λ i. holds t i && not (holds u i)) (λ i. nat_lt i (size t) && (not (nat_lt 0 (total_at t i)) || (give && zero_at t i)))
-    (λ i short. elim (cases_lt i (size t)) [
-      | inl below ↦
-          let given : (u.freed_zero_frames && zero_at u i) ≡ (give && zero_at t i) = ap₂ (λ a z. a && has z i) r.freed_zero_frames r.zero in
-          here i (size t) (size u) t.split u.split (total_at t i) (total_at u i) (nat_lt 0 (total_at t i) && not (t.freed_zero_frames && zero_at t i)) (give && zero_at t i) (u.freed_zero_frames && zero_at u i)
-          below (same_size t u r.order) whole r.split (now (total_at t i) u.whole (own_at u i) r.whole (r.own i below)) given
-      | inr above ↦
-          there i (size t) (not t.split || (nat_lt 0 (total_at t i) && not (t.freed_zero_frames && zero_at t i))) (not (holds u i)) (not (nat_lt 0 (total_at t i)) || (give && zero_at t i)) above
-    ]) where
-      now : (n w y : ℕ) → w ≡ 0 → y ≡ n → w + y ≡ n
-      now n w y e f = omega arith
-
-      here : (i n m : ℕ) (s v : Bool) (x y : ℕ) (a g g' : Bool) → i < n → m ≡ n → s ≡ false → v ≡ true → y ≡ x → g' ≡ g →
-          ((nat_lt i n && (not s || a)) && not (nat_lt i m && (not v || (nat_lt 0 y && not g')))) ≡ (nat_lt i n && (not (nat_lt 0 x) || g))
-      here i n m s v x y a true g' below long e f g same_given = grind (arith, nat_tests)
-      here i n m s v x y a false g' below long e f g same_given = grind (arith, nat_tests)
-
-      there : (i n : ℕ) (a b c : Bool) → n ≤ i → ((nat_lt i n && a) && b) ≡ (nat_lt i n && c)
-      there i n a b c above = grind (arith, nat_tests)
+gives_frames-split give t u r whole = grind (arith, set_of-ext, nat_lt, cases_lt, same_size, nat_tests)
 
 -- the subpages that no entry maps
 abbrev pub unused_set : PageState → List Bool
@@ -114,13 +80,7 @@ unused_set t = set_of (λ i. nat_lt i (size t) && not (nat_lt 0 (total_at t i)))
 
 -- they are what a split gives back that gives no zeros
 pub split_set-none : (t : PageState) → unused_set t ≡ split_set false t
-split_set-none t =
-    set_of-ext (λ i. nat_lt i (size t) && not (nat_lt 0 (total_at t i))) (λ i. nat_lt i (size t) && (not (nat_lt 0 (total_at t i)) || (false && zero_at t i)))
-    (λ i short. go (nat_lt i (size t)) (nat_lt 0 (total_at t i)) (zero_at t i)) where
-      go : (a b z : Bool) → (a && not b) ≡ (a && (not b || (false && z)))
-      go true true z = refl
-      go true false z = refl
-      go false b z = refl
+split_set-none t = grind (arith, set_of-ext, nat_lt)
 
 -- another gives back the zero-filled ones too
 pub split_set-zeros : (t : PageState) (unused : List Bool) → unused ≡ unused_set t → t.zero ≡ zero_set t → set_of (λ i. has unused i || has t.zero i) ≡ split_set true t
@@ -147,27 +107,16 @@ unused_set-unmapped t all mapped unmapped e f =
       go b w x e = grind (arith, nat_tests)
 
 pub unused_set-mapped : (t : PageState) → t.whole ≢ 0 → set_of (λ i. false) ≡ unused_set t
-unused_set-mapped t mapped =
-    set_of-ext (λ i. false) (λ i. nat_lt i (size t) && not (nat_lt 0 (total_at t i))) (λ i short. go (nat_lt i (size t)) t.whole (own_at t i) mapped) where
-      go : (b : Bool) (w x : ℕ) → w ≢ 0 → false ≡ (b && not (nat_lt 0 (w + x)))
-      go b w x f = grind (arith, nat_tests)
+unused_set-mapped t mapped = grind (arith, set_of-ext, nat_lt, nat_tests)
 
 -- each subpage of a page that is mapped whole is in use
 pub used_set-mapped : (t : PageState) → 0 < t.whole → set_of (λ i. nat_lt i (2 ^ t.order)) ≡ used_set t
 unfolding size
-used_set-mapped t mapped =
-    set_of-ext (λ i. nat_lt i (2 ^ t.order)) (λ i. nat_lt i (size t) && nat_lt 0 (total_at t i)) (λ i short. go (nat_lt i (size t)) t.whole (own_at t i) mapped) where
-      go : (b : Bool) (w x : ℕ) → 0 < w → b ≡ (b && nat_lt 0 (w + x))
-      go b w x h = grind (arith, nat_tests)
+used_set-mapped t mapped = grind (arith, set_of-ext, nat_lt, nat_tests)
 
 -- the subpages of another page that are in use are those that have a mapping of their own
 pub used_set-unmapped : (t : PageState) (mapped : List Bool) → NothingAfter t → t.whole ≡ 0 → mapped ≡ set_of (λ i. nat_lt 0 (own_at t i)) → mapped ≡ used_set t
-used_set-unmapped t mapped none unmapped e =
-    e
-    ∙ set_of-ext (λ i. nat_lt 0 (own_at t i)) (λ i. nat_lt i (size t) && nat_lt 0 (total_at t i))
-    (λ i short. mapped_inside t i none short ∙ go (nat_lt i (size t)) t.whole (own_at t i) unmapped) where
-      go : (b : Bool) (w x : ℕ) → w ≡ 0 → (b && nat_lt 0 x) ≡ (b && nat_lt 0 (w + x))
-      go b w x e = grind (arith, nat_tests)
+used_set-unmapped t mapped none unmapped e = grind (arith, set_of-ext, nat_lt, mapped_inside, nat_tests)
 
 same_sizes : (a b : PageState) → a.order ≡ b.order → size a ≡ size b
 unfolding size
@@ -178,11 +127,7 @@ neither a b e = grind (arith, nat_tests)
 
 same_use : (x x' s s' g g' z z' : Bool) (a b : ℕ) → x ≡ x' → s ≡ s' → g ≡ g' → z ≡ z' → (x ≡ true → a ≡ b) →
     (x && (not s || (nat_lt 0 a && not (g && z)))) ≡ (x' && (not s' || (nat_lt 0 b && not (g' && z'))))
-same_use true true s s' g g' z z' a b e f i j t =
-    ap₂ (λ (p q : Bool). not p || q) f (ap₂ (λ (n : ℕ) (r : Bool). nat_lt 0 n && not r) (t refl) (ap₂ (λ (u v : Bool). u && v) i j))
-same_use true false s s' g g' z z' a b e f i j t = absurd (cc)
-same_use false true s s' g g' z z' a b e f i j t = absurd (cc)
-same_use false false s s' g g' z z' a b e f i j t = refl
+same_use x y s s' g g' z z' a b e f i j t = grind (arith, nat_lt)
 
 below_size : (i n : ℕ) → nat_lt i n ≡ true → i < n
 below_size i n e = grind (arith, nat_tests)
@@ -190,18 +135,4 @@ below_size i n e = grind (arith, nat_tests)
 -- an unpin changes the use of no subpage
 pub unpin_change : (old new : PageState) (used : Bool) (none : List Bool) → Pinned new old → used ≡ has_use new → none ≡ set_of (λ i. false) →
     IsChange old new (record { unused = false; used_left = used; released = none })
-unpin_change old new used none p u n = record {
-  unused = sym (some_no (size old) _ (λ i below. neither (total_at old i) (total_at new i) (totals i below)));
-  used_left = u;
-  released = n ∙ set_of-ext _ _ (λ i below. sym (gone (holds old i) (holds new i) (same i)));
-} where
-  totals : (i : ℕ) → i < size old → total_at old i ≡ total_at new i
-  totals i below = ap₂ (λ a b. a + b) p.whole (p.own i (omega (arith, same_sizes old new p.order)))
-
-  same : (i : ℕ) → holds old i ≡ holds new i
-  same i = same_use _ _ _ _ _ _ _ _ _ _ (ap (nat_lt i) (same_sizes old new p.order)) p.split p.kept.freed_zero_frames (ap (λ (set : List Bool). has set i) p.kept.zero) (λ y. totals i (below_size i (size old) y))
-
-  gone : (a b : Bool) → a ≡ b → (a && not b) ≡ false
-  gone true true e = refl
-  gone true false e = absurd (cc)
-  gone false b e = refl
+unpin_change old new used none p u n = grind (arith, some_no, neither, set_of-ext, same_sizes, same_use, nat_lt, below_size)

@@ -1,5 +1,5 @@
 -- The laws of the bridge from a page to the history of its node.
-use Rattle.std.proofs.Common.{◌≡◌, ℕ, Bool, true, false, not, ◌&&◌, ◌||◌, [], ◌∷◌, ◌++◌, refl, sym, ◌∙◌, eq-eqb, arith}
+use Rattle.std.proofs.Common.{◌≡◌, ℕ, true, false, [], ◌∷◌, ◌++◌, refl, sym, ◌∙◌, eq-eqb, arith}
 use Rattle.thp_model.specs.declared.events.Event.{Event}
 use Rattle.thp_model.specs.declared.events.Outcome.{Outcome}
 use Rattle.thp_model.specs.declared.events.What.TheVariants.{Alloc, MapWhole, UnmapWhole, MapSub, UnmapSub, SplitPmd, Pin, Unpin, Write, Zero, Split}
@@ -18,15 +18,7 @@ use Rattle.thp_model.specs.declared.page_call.PageCall.TheVariants as either
 use Rattle.thp_page.proofs.PageRefusals.{map_whole_unsplit}
 
 pub refusals_agree : RefusalsAgree
-refusals_agree shape h p t at (either.Gain gain.MapWhole) = refusal_map_whole shape h p t at.tallies at.live
-refusals_agree shape h p t at (either.Gain (gain.MapSub first count)) = refusal_map_sub shape h p first count t at.tallies at.live
-refusals_agree shape h p t at (either.Gain gain.SplitPmd) = refusal_split_pmd shape h p t at.tallies at.live
-refusals_agree shape h p t at (either.Gain gain.Pin) = refusal_pin shape h p t at.tallies at.live
-refusals_agree shape h p t at (either.Gain (gain.Write first count)) = refusal_write shape h p first count t at.tallies at.live
-refusals_agree shape h p t at (either.Gain (gain.Zero first count)) = refusal_zero shape h p first count t at.tallies at.live
-refusals_agree shape h p t at (either.Loss loss.UnmapWhole) = refusal_unmap_whole shape h p t at.tallies at.live
-refusals_agree shape h p t at (either.Loss (loss.UnmapSub first count)) = refusal_unmap_sub shape h p first count t at.tallies at.live
-refusals_agree shape h p t at (either.Loss loss.Unpin) = refusal_unpin shape h p t at.tallies at.live
+refusals_agree shape h p t at x = grind (arith, refusal_map_whole, refusal_map_sub, refusal_split_pmd, refusal_pin, refusal_write, refusal_zero, refusal_unmap_whole, refusal_unmap_sub, refusal_unpin)
 
 pub others_leave_pages : OthersLeavePages
 others_leave_pages shape h e p t at other =
@@ -35,11 +27,7 @@ others_leave_pages shape h e p t at other =
 
 -- a page that is allocated for the first time lives
 lives_new : (h : History) (e : Event) (p : ℕ) → allocates p e.what ≡ true → frees p e.what ≡ false → some_event (frees p) h ≡ false → is_live (h ++ e ∷ []) p ≡ true
-lives_new h e p new kept never =
-    both (some_event (allocates p) h) (allocates p e.what) (some_event (frees p) h) (frees p e.what) (some_event_push (allocates p) h e) (some_event_push (frees p) h e) new kept never where
-      both : {a' f' : Bool} (a b f g : Bool) → a' ≡ (a || b) → f' ≡ (f || g) → b ≡ true → g ≡ false → f ≡ false → (a' && not f') ≡ true
-      both true b f g x y i j k = cc
-      both false b f g x y i j k = cc
+lives_new h e p new kept never = grind (arith, some_event_push)
 
 pub fresh_page_is_recorded : FreshPageIsRecorded
 fresh_page_is_recorded shape h c b new legal fresh =

@@ -1,5 +1,5 @@
 -- The counts that the fields stand for, and the set of the mapped subpages beside them.
-use Rattle.std.proofs.Common.{◌≡◌, ne_eqb, ℕ, suc, zero, ◌+◌, ◌<◌, Bool, true, false, not, ◌&&◌, ◌||◌, cond, List, get_or, nat_eq, nat_lt, refl, ap, sym, ◌∙◌, arith, replicate}
+use Rattle.std.proofs.Common.{◌≡◌, ne_eqb, ℕ, ◌+◌, ◌<◌, Bool, true, false, not, ◌&&◌, ◌||◌, cond, List, get_or, nat_eq, nat_lt, ap, sym, ◌∙◌, arith, replicate}
 use Rattle.std.proofs.lemmas.Bool.Decides.{nat_tests}
 use Rattle.std.proofs.lemmas.List.{get_or-replicate}
 use Rattle.std.proofs.lemmas.Grind.{same_number_lists}
@@ -36,10 +36,7 @@ mapped_at planes n i mapped e below = ap (λ s. has s i) e ∙ get_or-set_of (λ
 
 -- a set is empty where a test that agrees with it finds none
 pub some_found : (r : Bool) (chosen test : ℕ → Bool) → r ≡ not (some_below 512 chosen) → ((i : ℕ) → i < 512 → chosen i ≡ test i) → not r ≡ some_below 512 test
-some_found r chosen test e same = ap not e ∙ twice (some_below 512 chosen) ∙ some_below-ext 512 chosen test same where
-  twice : (b : Bool) → not (not b) ≡ b
-  twice true = refl
-  twice false = refl
+some_found r chosen test e same = grind (arith, some_below-ext)
 
 -- a count is 0 where the subpage isn't mapped
 pub not_mapped : (n : ℕ) → not (nat_lt 0 n) ≡ nat_eq n 0
@@ -47,48 +44,26 @@ not_mapped n = grind (arith, nat_tests)
 
 -- one of two truths, where the other is known
 alone_false : (b : Bool) → one_alone b false ≡ b
-alone_false true = refl
-alone_false false = refl
+alone_false x = grind arith
 
 alone_not : (b : Bool) → one_alone b (not b) ≡ true
-alone_not true = refl
-alone_not false = refl
+alone_not x = grind arith
 
 positive : (n : ℕ) → 0 < n → true ≡ nat_lt 0 n
 positive n h = grind (arith, nat_tests)
 
 -- the mapped subpages after those chosen were mapped once more
 pub mapped_more : (mapped chosen out : Bool) (old new : ℕ) → mapped ≡ nat_lt 0 old → out ≡ (chosen && not mapped) → new ≡ old + cond chosen 1 0 → one_alone mapped out ≡ nat_lt 0 new
-mapped_more mapped true out old new e f g = ap (λ b. one_alone mapped b) f ∙ alone_not mapped ∙ positive new (omega (arith, g))
-mapped_more mapped false out old new e f g = ap (λ b. one_alone mapped b) f ∙ alone_false mapped ∙ e ∙ ap (λ m. nat_lt 0 m) (same old new g) where
-  same : (old new : ℕ) → new ≡ old + 0 → old ≡ new
-  same old new h = omega arith
+mapped_more mapped x out old new e f g = grind (arith, alone_not, positive, alone_false, nat_lt)
 
 -- after those chosen lost a mapping: some of them, whose count is 0, aren't mapped any more
 pub mapped_less : (mapped chosen out : Bool) (old new : ℕ) → mapped ≡ nat_lt 0 old → out ≡ (chosen && nat_eq new 0) → new + cond chosen 1 0 ≡ old → one_alone mapped out ≡ nat_lt 0 new
-mapped_less mapped true out old new e f g = ap (λ b. one_alone mapped b) f ∙ ap (λ b. one_alone b (nat_eq new 0)) (e ∙ sym (positive old (omega (arith, g)))) ∙ rest new where
-  rest : (n : ℕ) → one_alone true (nat_eq n 0) ≡ nat_lt 0 n
-  rest zero = refl
-  rest (suc n) = ap (λ b. one_alone true b) (ne_eqb (suc n) 0 (λ e. let z : suc n ≡ 0 = e in absurd (omega arith))) ∙ positive (suc n) (omega arith)
-mapped_less mapped false out old new e f g = ap (λ b. one_alone mapped b) f ∙ alone_false mapped ∙ e ∙ ap (λ m. nat_lt 0 m) (same old new g) where
-  same : (old new : ℕ) → new + 0 ≡ old → old ≡ new
-  same old new h = omega arith
+mapped_less mapped x out old new e f g = grind (arith, nat_eq, positive, nat_lt, ne_eqb, alone_false)
 
 -- they were mapped once
 pub was_one : (chosen out : Bool) (old new : ℕ) → out ≡ (chosen && nat_eq new 0) → new + cond chosen 1 0 ≡ old → out ≡ (chosen && nat_eq old 1)
-was_one true out old new e g = e ∙ go old new g where
-  go : (old new : ℕ) → new + 1 ≡ old → nat_eq new 0 ≡ nat_eq old 1
-  go old new h = grind (arith, nat_tests)
-was_one false out old new e g = e
+was_one x out old new e g = grind (arith, nat_eq, nat_tests)
 
 -- after a number was added to those chosen
 pub mapped_any : (mapped chosen : Bool) (n old new : ℕ) → 0 < n → mapped ≡ nat_lt 0 old → new ≡ old + cond chosen n 0 → (mapped || chosen) ≡ nat_lt 0 new
-mapped_any true true n old new some e g = positive new (omega (arith, g))
-mapped_any false true n old new some e g = positive new (omega (arith, g))
-mapped_any mapped false n old new some e g = or_false mapped ∙ e ∙ ap (λ m. nat_lt 0 m) (same old new g) where
-  or_false : (b : Bool) → (b || false) ≡ b
-  or_false true = refl
-  or_false false = refl
-
-  same : (old new : ℕ) → new ≡ old + 0 → old ≡ new
-  same old new h = omega arith
+mapped_any x y n old new some e g = grind (arith, positive, nat_lt)

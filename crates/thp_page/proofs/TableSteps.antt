@@ -1,5 +1,5 @@
 -- From the fields of a table to what contracts see: reads and writes of one block.
-use Rattle.std.proofs.Common.{◌≡◌, ◌≢◌, ◌∙◌, ◌<◌, ℕ, zero, suc, List, [], ◌∷◌, length, get_or, set, replicate, cond, Option, Some, None, ap, ap₂, sym, subst, refl, arith, is_some, IsSome, IfSome, IfNone}
+use Rattle.std.proofs.Common.{◌≡◌, ◌≢◌, ◌∙◌, ◌<◌, ℕ, zero, suc, List, [], ◌∷◌, length, get_or, set, replicate, cond, Option, Some, None, ap, sym, refl, arith, is_some, IsSome, IfSome, IfNone}
 use Rattle.std.proofs.lemmas.List.{length-map, set-get_or}
 use Rattle.thp_links.specs.declared.link.Link.{Link}
 use Rattle.thp_model.specs.Prelude.{PageState}
@@ -72,31 +72,24 @@ HoldsPage-number (n ∷ ns) (d ∷ ds) (suc b) id same is = HoldsPage-number ns 
 
 -- a slot with another page, and with another standing
 pub slot_of-page : (o : Option ℕ) (d : Descriptor) (p : PageState) → slot_of o (with_page d p) ≡ paged (slot_of o d) p
-slot_of-page None d p = refl
-slot_of-page (Some n) d p = refl
+slot_of-page x d p = grind arith
 
 pub slot_of-standing : (o : Option ℕ) (d : Descriptor) (w : Standing) → slot_of o (record d { standing = w }) ≡ stood (slot_of o d) w
-slot_of-standing None d w = refl
-slot_of-standing (Some n) d w = refl
+slot_of-standing x d w = grind arith
 
 -- what a slot has
 pub number_in-slot_of : (o : Option ℕ) (d : Descriptor) → number_in (slot_of o d) ≡ o
-number_in-slot_of None d = refl
-number_in-slot_of (Some n) d = refl
+number_in-slot_of x d = grind arith
 
 pub standing_in-slot_of : (o : Option ℕ) (d : Descriptor) → IfSome (slot_of o d) (λ s. d.standing ≡ s.standing)
-standing_in-slot_of None d = tt
-standing_in-slot_of (Some n) d = refl
+standing_in-slot_of x d = grind arith
 
 pub page_in-slot_of : (o : Option ℕ) (d : Descriptor) → page_in (slot_of o d) ≡ cond (is_some o) (Some d.page) None
-page_in-slot_of None d = refl
-page_in-slot_of (Some n) d = refl
+page_in-slot_of x d = grind arith
 
 -- a block inside what contracts see is inside the fields
 pub block_inside : (order : ℕ) (ns : List (Option ℕ)) (ds : List Descriptor) (n b : ℕ) (t : Table) → table_of order ns ds n ≡ t → b < length t.links → b < length ds
-block_inside order ns ds n b t view inside =
-    let same : length (links_of ds) ≡ length t.links = ap (λ (u : Table). length u.links) view in
-    omega (arith, same, length-map ds (λ (k : Descriptor). k.link))
+block_inside order ns ds n b t view inside = grind (arith, length-map)
 
 -- a read of a block
 pub slot_read : (order : ℕ) (ns : List (Option ℕ)) (ds : List Descriptor) (n b : ℕ) (d : Descriptor) (t : Table) → table_of order ns ds n ≡ t → length ns ≡ length ds → b < length t.links → d ≡ get_or ds b d → slot_at t b ≡ slot_of (get_or ns b None) d
@@ -130,24 +123,18 @@ some_number order ns ds n b t view same inside taken = ap is_some (sym (number_r
 
 -- the block of a number, and a number that no block has
 pub number_found : (order : ℕ) (ns : List (Option ℕ)) (ds : List Descriptor) (n id : ℕ) (t : Table) (r : Option ℕ) → table_of order ns ds n ≡ t → length ns ≡ length ds → IfSome r (λ b. get_or ns b None ≡ Some id) → IfSome r (λ b. HoldsPage (slot_at t b) id)
-number_found order ns ds n id t None view same is = tt
-number_found order ns ds n id t (Some b) view same is = subst (λ (u : Table). HoldsPage (slot_at u b) id) view (HoldsPage-number ns ds b id same is)
+number_found order ns ds n id t x view same is = grind (arith, HoldsPage-number)
 
 pub number_absent : (order : ℕ) (ns : List (Option ℕ)) (ds : List Descriptor) (n id : ℕ) (t : Table) (r : Option ℕ) → table_of order ns ds n ≡ t → IfNone r ((b : ℕ) → get_or ns b None ≢ Some id) → IfNone r ((b : ℕ) → HoldsPage (slot_at t b) id → ⊥)
-number_absent order ns ds n id t (Some b) view none = tt
-number_absent order ns ds n id t None view none = λ b held. none b (number-held ns ds b id (subst (λ (u : Table). HoldsPage (slot_at u b) id) (sym view) held))
+number_absent order ns ds n id t x view none = grind (arith, number-held)
 
 -- a descriptor written, with its pair kept
 pub descriptor_written : (order : ℕ) (ns : List (Option ℕ)) (ds : List Descriptor) (n b : ℕ) (d e : Descriptor) (t : Table) → table_of order ns ds n ≡ t → d ≡ get_or ds b d → e.link ≡ d.link → table_of order ns (set ds b e) n ≡ with_slot t b (slot_of (get_or ns b None) e)
-descriptor_written order ns ds n b d e t view is same =
-    let made : List Link → List (Option Slot) → Table = λ ls os. record { order = order; links = ls; slots = os; accesses = n } in
-    ap₂ made (links_of-set ds b d e is same) (slots_of-set ns ds b e) ∙ ap (λ (u : Table). with_slot u b (slot_of (get_or ns b None) e)) view
+descriptor_written order ns ds n b d e t view is same = grind (arith, links_of-set, slots_of-set, get_or)
 
 -- a descriptor written as it was
 pub descriptor_kept : (order : ℕ) (ns : List (Option ℕ)) (ds : List Descriptor) (n b : ℕ) (d : Descriptor) (t : Table) → table_of order ns ds n ≡ t → d ≡ get_or ds b d → table_of order ns (set ds b d) n ≡ t
-descriptor_kept order ns ds n b d t view is =
-    let same : set ds b d ≡ ds = ap (λ (k : Descriptor). set ds b k) is ∙ set-get_or ds b d in
-    ap (λ (es : List Descriptor). table_of order ns es n) same ∙ view
+descriptor_kept order ns ds n b d t view is = grind (arith, set-get_or)
 
 -- a number taken away
 pub number_cleared : (order : ℕ) (ns ms : List (Option ℕ)) (ds : List Descriptor) (n b : ℕ) (t : Table) → table_of order ns ds n ≡ t → ms ≡ set ns b None → table_of order ms ds n ≡ with_slot t b None
@@ -159,11 +146,7 @@ number_cleared order ns ms ds n b t view is =
 
 -- a number and a descriptor written, with its pair kept
 pub both_written : (order : ℕ) (ns ms : List (Option ℕ)) (ds : List Descriptor) (n b id : ℕ) (d e : Descriptor) (t : Table) → table_of order ns ds n ≡ t → ms ≡ set ns b (Some id) → d ≡ get_or ds b d → e.link ≡ d.link → table_of order ms (set ds b e) n ≡ with_slot t b (slot_of (Some id) e)
-both_written order ns ms ds n b id d e t view placed is same =
-    let made : List Link → List (Option Slot) → Table = λ ls os. record { order = order; links = ls; slots = os; accesses = n } in
-    ap (λ (ks : List (Option ℕ)). table_of order ks (set ds b e) n) placed
-    ∙ ap₂ made (links_of-set ds b d e is same) (slots_of-both ns ds b (Some id) e)
-    ∙ ap (λ (u : Table). with_slot u b (slot_of (Some id) e)) view
+both_written order ns ms ds n b id d e t view placed is same = grind (arith, links_of-set, slots_of-both)
 
 -- a new table has no page
 pub slots_of-blank : (n : ℕ) (d : Descriptor) → slots_of (replicate n None) (replicate n d) ≡ replicate n None

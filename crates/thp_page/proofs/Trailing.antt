@@ -1,5 +1,5 @@
 -- Nothing behind a page's last subpage is mapped, as mappings come and go.
-use Rattle.std.proofs.Common.{◌≡◌, ℕ, ◌+◌, ◌^◌, ◌<◌, ◌≤◌, Bool, false, cond, nat_lt, List, ◌&&◌, ap, ◌∙◌, arith, inl, inr}
+use Rattle.std.proofs.Common.{◌≡◌, ℕ, ◌+◌, ◌^◌, ◌<◌, ◌≤◌, Bool, false, cond, nat_lt, List, ◌&&◌, ap, ◌∙◌, arith}
 use Rattle.std.proofs.lemmas.Bool.{cases_lt}
 use Rattle.std.proofs.lemmas.Bool.Decides.{nat_tests}
 use Rattle.thp_model.specs.Prelude.{covers, has, set_of, some_below, get_or-set_of, PageState, size, own_at}
@@ -15,17 +15,11 @@ behind-same t u order same none = λ i above short. same i ∙ none i (omega (ar
 -- a mapping more or less of each subpage of a range
 pub behind-map : (t u : PageState) (first count : ℕ) → u.order ≡ t.order → first + count ≤ size t →
     ((i : ℕ) → i < 512 → own_at u i ≡ own_at t i + cond (covers first count i) 1 0) → NothingAfter t → NothingAfter u
-behind-map t u first count order inside added none = λ i above short.
-    go (own_at u i) (own_at t i) (covers first count i) (added i short) (covers_after first count i (omega (arith, above, same_size t u order))) (none i (omega (arith, above, same_size t u order)) short) where
-      go : (x y : ℕ) (b : Bool) → x ≡ y + cond b 1 0 → b ≡ false → y ≡ 0 → x ≡ 0
-      go x y b e f g = omega (arith, e ∙ ap (λ c. y + cond c 1 0) f, g)
+behind-map t u first count order inside added none = grind (arith, covers_after, same_size)
 
 pub behind-unmap : (t u : PageState) (first count : ℕ) → u.order ≡ t.order →
     ((i : ℕ) → i < 512 → own_at t i ≡ own_at u i + cond (covers first count i) 1 0) → NothingAfter t → NothingAfter u
-behind-unmap t u first count order taken none = λ i above short.
-    go (own_at u i) (own_at t i) _ (taken i short) (none i (omega (arith, above, same_size t u order)) short) where
-      go : (x y z : ℕ) → y ≡ x + z → y ≡ 0 → x ≡ 0
-      go x y z e f = omega arith
+behind-unmap t u first count order taken none = grind (arith, same_size)
 
 -- mappings more of each subpage of the page
 pub behind-split : (t u : PageState) (all : List Bool) (n : ℕ) → u.order ≡ t.order → all ≡ set_of (λ i. nat_lt i (2 ^ t.order)) →
@@ -46,23 +40,8 @@ zero_is n e = grind (arith, nat_tests)
 
 -- so some subpage is mapped where one of the page's is
 pub some_inside : (t : PageState) → t.order ≤ 9 → NothingAfter t → some_below 512 (λ i. nat_lt 0 (own_at t i)) ≡ some_below (size t) (λ i. nat_lt 0 (own_at t i))
-some_inside t most none =
-    some_below-same 512 (size t) (λ i. nat_lt 0 (own_at t i)) (λ i. nat_lt 0 (own_at t i))
-    (λ i short mapped. elim (cases_lt i (size t)) [
-      | inl below ↦ (below, mapped)
-      | inr above ↦ absurd (let unmapped : nat_lt 0 (own_at t i) ≡ false = zero_is (own_at t i) (none i above short) in cc)
-    ])
-    (λ i below mapped. (omega (arith, size_most t most), mapped))
+some_inside t most none = grind (arith, some_below-same, nat_lt, cases_lt, zero_is, size_most)
 
 -- and the mapped subpages are subpages of the page
 pub mapped_inside : (t : PageState) (i : ℕ) → NothingAfter t → i < 512 → nat_lt 0 (own_at t i) ≡ (nat_lt i (size t) && nat_lt 0 (own_at t i))
-mapped_inside t i none short =
-    elim (cases_lt i (size t)) [
-      | inl below ↦ here i (size t) (nat_lt 0 (own_at t i)) below
-      | inr above ↦ there i (size t) (own_at t i) above (none i above short)
-    ] where
-      here : (i n : ℕ) (b : Bool) → i < n → b ≡ (nat_lt i n && b)
-      here i n b h = grind (arith, nat_tests)
-
-      there : (i n x : ℕ) → n ≤ i → x ≡ 0 → nat_lt 0 x ≡ (nat_lt i n && nat_lt 0 x)
-      there i n x h e = grind (arith, nat_tests)
+mapped_inside t i none short = grind (arith, cases_lt, nat_lt, nat_tests)

@@ -20,27 +20,12 @@ first_alone : (x y : ℕ) → x < 2 → y < 2 → nat_eq (min x (1 - y)) 1 ≡ (
 first_alone x y f g = grind (arith, nat_tests)
 
 one_of : (x y : ℕ) → x < 2 → y < 2 → nat_eq ((x + y) % 2) 1 ≡ one_alone (nat_eq x 1) (nat_eq y 1)
-one_of zero zero f g = refl
-one_of zero (suc zero) f g = refl
-one_of (suc zero) zero f g = refl
-one_of (suc zero) (suc zero) f g = refl
-one_of (suc (suc x)) y f g = absurd (omega arith)
-one_of x (suc (suc y)) f g = absurd (omega arith)
+one_of x y f g = grind arith
 
 -- those that a set has too
 pub word_within : (set : List Bool) (at bits word i : ℕ) → ((j : ℕ) → j / 64 ≡ at → nat_eq (bit_at word (j % 64)) 1 ≡ has set j) →
     in_word at (bit_and bits word) i ≡ (in_word at bits i && has set i)
-word_within set at bits word i tells =
-    elim (eqb_tells (i / 64) at) [
-      | inl y ↦
-          ap (λ b. b && nat_eq (bit_at (bit_and bits word) (i % 64)) 1) y.0
-          ∙ ap (λ n. nat_eq n 1) (bit_at_and bits word (i % 64)) ∙ both _ _ (bit_at-lt bits (i % 64)) (bit_at-lt word (i % 64))
-          ∙ ap (λ b. nat_eq (bit_at bits (i % 64)) 1 && b) (tells i y.1)
-          ∙ sym (ap (λ b. (b && nat_eq (bit_at bits (i % 64)) 1) && has set i) y.0)
-      | inr y ↦
-          ap (λ b. b && nat_eq (bit_at (bit_and bits word) (i % 64)) 1) y.0
-          ∙ sym (ap (λ b. (b && nat_eq (bit_at bits (i % 64)) 1) && has set i) y.0)
-    ]
+word_within set at bits word i tells = grind (arith, eqb_tells, nat_eq, bit_and, bit_at_and, both, bit_at-lt)
 
 -- those that it hasn't
 pub word_outside : (set : List Bool) (at bits word i : ℕ) → word < 2 ^ 64 → ((j : ℕ) → j / 64 ≡ at → nat_eq (bit_at word (j % 64)) 1 ≡ has set j) →
@@ -61,22 +46,7 @@ word_outside set at bits word i fits tells =
 -- a set with that word written
 pub word_turned : (old new : List Bool) (at bits word : ℕ) → ((j : ℕ) → j / 64 ≡ at → nat_eq (bit_at word (j % 64)) 1 ≡ has old j) →
     new ≡ set_of (λ j. if nat_eq (j / 64) at then nat_eq (bit_at (bit_xor word bits) (j % 64)) 1 else has old j) → new ≡ set_of (λ i. one_alone (has old i) (in_word at bits i))
-word_turned old new at bits word tells written =
-    written ∙ set_of-ext _ _
-    (λ i below. elim (eqb_tells (i / 64) at) as (λ _. (if nat_eq (i / 64) at then nat_eq (bit_at (bit_xor word bits) (i % 64)) 1 else has old i) ≡ one_alone (has old i) (in_word at bits i)) [
-      | inl y ↦
-          ap (λ b. if b then nat_eq (bit_at (bit_xor word bits) (i % 64)) 1 else has old i) y.0
-          ∙ ap (λ n. nat_eq n 1) (bit_at_xor word bits (i % 64)) ∙ one_of _ _ (bit_at-lt word (i % 64)) (bit_at-lt bits (i % 64))
-          ∙ ap (λ b. one_alone b (nat_eq (bit_at bits (i % 64)) 1)) (tells i y.1)
-          ∙ sym (ap (λ b. one_alone (has old i) (b && nat_eq (bit_at bits (i % 64)) 1)) y.0)
-      | inr y ↦
-          ap (λ b. if b then nat_eq (bit_at (bit_xor word bits) (i % 64)) 1 else has old i) y.0
-          ∙ alone (has old i)
-          ∙ sym (ap (λ b. one_alone (has old i) (b && nat_eq (bit_at bits (i % 64)) 1)) y.0)
-    ]) where
-      alone : (b : Bool) → b ≡ one_alone b false
-      alone true = refl
-      alone false = refl
+word_turned old new at bits word tells written = grind (arith, set_of-ext, eqb_tells, nat_eq, bit_xor, bit_at_xor, one_of, bit_at-lt)
 
 -- the set of them
 pub word_set : (empty new : List Bool) (at bits i : ℕ) → i < 512 → empty ≡ set_of (λ j. false) →
@@ -151,30 +121,4 @@ moved count shift some one =
 -- the subpages of a range that stands in one word
 pub word_range : (first count i : ℕ) → 0 < count → first % 64 + count ≤ 64 →
     in_word (first / 64) (18446744073709551615 / 2 ^ (64 - count) * 2 ^ (first % 64) % 2 ^ 64) i ≡ covers first count i
-word_range first count i some one =
-    ap (λ m. in_word (first / 64) m i) (moved count (first % 64) some one)
-    ∙ elim (eqb_tells (i / 64) (first / 64)) as (λ _. in_word (first / 64) (2 ^ (first % 64 + count) - 2 ^ (first % 64)) i ≡ covers first count i) [
-      | inl y ↦ ap (λ b. b && nat_eq (bit_at (2 ^ (first % 64 + count) - 2 ^ (first % 64)) (i % 64)) 1) y.0 ∙ here (first % 64) (i % 64) y.1
-      | inr y ↦ ap (λ b. b && nat_eq (bit_at (2 ^ (first % 64 + count) - 2 ^ (first % 64)) (i % 64)) 1) y.0 ∙ sym (elsewhere y.1)
-    ] where
-      elsewhere : i / 64 ≢ first / 64 → covers first count i ≡ false
-      elsewhere f = grind (arith, nat_tests)
-
-      here : (low r : ℕ) → i / 64 ≡ first / 64 → nat_eq (bit_at (2 ^ (first % 64 + count) - 2 ^ (first % 64)) (i % 64)) 1 ≡ covers first count i
-      here low r same =
-          elim (cases_lt i first) [
-            | inl h ↦ ap (λ n. nat_eq n 1) (bit_at_mask_below (first % 64) (first % 64 + count) (i % 64) (omega (arith, same))) ∙ sym (before h)
-            | inr h ↦
-                elim (cases_lt i (first + count)) [
-                  | inl l ↦ ap (λ n. nat_eq n 1) (bit_at_mask_inside (first % 64) (first % 64 + count) (i % 64) (omega (arith, same)) (omega (arith, same))) ∙ sym (inside h l)
-                  | inr l ↦ ap (λ n. nat_eq n 1) (bit_at_mask_above (first % 64) (first % 64 + count) (i % 64) (omega (arith, same))) ∙ sym (after l)
-                ]
-          ] where
-            before : i < first → covers first count i ≡ false
-            before h = grind (arith, nat_tests)
-
-            inside : first ≤ i → i < first + count → covers first count i ≡ true
-            inside h l = grind (arith, nat_tests)
-
-            after : first + count ≤ i → covers first count i ≡ false
-            after l = grind (arith, nat_tests)
+word_range first count i some one = grind (arith, moved, eqb_tells, nat_eq, nat_tests, cases_lt, bit_at_mask_below, bit_at_mask_inside, bit_at_mask_above)

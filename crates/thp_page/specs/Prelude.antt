@@ -1,4 +1,4 @@
--- The definitions and types of this library, each by its name alone: one line of a file imports what it cites.
+-- Re-exports the definitions and types of this library: other files import those that they cite from here, in one line.
 pub use Rattle.thp_page.specs.Bridge.{CandidatesAgree, FreshPageIsRecorded, GainIsRecorded, LossIsRecorded, OthersLeavePages, RefusalsAgree, SplitIsRecorded}
 pub use Rattle.thp_page.specs.Changes.{IsChange, split_set}
 pub use Rattle.thp_page.specs.Descriptors.{blank_descriptor, links_of, slot_of, slots_of}

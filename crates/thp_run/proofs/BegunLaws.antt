@@ -4,7 +4,7 @@ use Rattle.atomic_table.specs.Seated.{TableId}
 use Rattle.thp_cell.specs.Prelude.{PassState}
 use Rattle.thp_cli.specs.Prelude.{ReadsOn, IsInputOf, run_fault}
 use Rattle.thp_cli.proofs.CallLaws.{reading_ended, reading_none}
-use Rattle.thp_script.specs.Prelude.{max_input, after_setup, read_after, spelled_with, ReadSoFar, script_of, Fault, ReportsFault}
+use Rattle.thp_script.specs.Prelude.{max_input, after_setup, spelled_with, ReadSoFar, script_of, Fault, ReportsFault}
 use Rattle.thp_cli.specs.declared.calls.DeviceCall.{DeviceCall}
 use Rattle.thp_run.specs.InParts.{HasBegun}
 use Rattle.thp_run.proofs.BegunRunLaws.{begun_all, begun_nodes, starts_new}
@@ -46,14 +46,12 @@ reads_none failed calls is = rw is (reading_ended max_input max_input false call
 -- all that was read, and what was read behind the commands that are done
 pub read_whole : (s : Settings) (script script' : ReadSoFar) (q q' : Passes) (setup setup' : SectionInParts) (bytes : List ℕ) (rest : Script) → (r : HasRead script q setup bytes script' q' setup') → spelled_with script bytes ≡ script_of s bytes
     → spelled_with script' [] ≡ Ok rest → script_of s bytes ≡ Ok (after_setup r.commands rest)
-read_whole s script script' q q' setup setup' bytes rest r begins is =
-    sym begins ∙ ap (spelled_with script) (sym (append-nil bytes)) ∙ r.text [] ∙ ap (read_after r.commands) is
+read_whole s script script' q q' setup setup' bytes rest r begins is = grind (arith, append-nil)
 
 -- the first error of what was read after the commands that are done
 read_faulty : (s : Settings) (script script' : ReadSoFar) (q q' : Passes) (setup setup' : SectionInParts) (bytes : List ℕ) (fault : Fault) → (r : HasRead script q setup bytes script' q' setup') → spelled_with script bytes ≡ script_of s bytes
     → spelled_with script' [] ≡ Err fault → script_of s bytes ≡ Err fault
-read_faulty s script script' q q' setup setup' bytes fault r begins is =
-    sym begins ∙ ap (spelled_with script) (sym (append-nil bytes)) ∙ r.text [] ∙ ap (read_after r.commands) is
+read_faulty s script script' q q' setup setup' bytes fault r begins is = grind (arith, append-nil)
 
 -- a script with an error, or too little memory for it, ends before its run
 pub ends_at_fault : {A : Type 0} (s : Settings) (known : Option (List ℕ)) (failed : Bool) (script script' : ReadSoFar) (q q' : Passes) (setup setup' : SectionInParts) (bytes : List ℕ) → IfSome known (IsInputOf bytes) → (r : HasRead script q setup bytes script' q' setup')

@@ -1,5 +1,5 @@
 -- Runs whose `setup` comes in parts.
-use Rattle.std.proofs.Common.{◌≡◌, ◌∙◌, ◌+◌, ◌++◌, ◌≤◌, ap, ℕ, List, length, map, refl, sym, subst, arith, All}
+use Rattle.std.proofs.Common.{◌≡◌, ◌∙◌, ◌+◌, ◌++◌, ◌≤◌, ap, ℕ, List, length, map, sym, subst, arith, All}
 use Rattle.atomic_table.specs.Seated.{TableId}
 use Rattle.thp_cell.specs.Prelude.{PassState}
 use Rattle.thp_script.specs.declared.script.Command.{Command}
@@ -40,9 +40,7 @@ module _ (s : Settings) (cells : List TableId) (passes : List PassState) (new : 
 
 module _ (s : Settings) (cells : List TableId) (old : List PassState) (first : Fronts) (before : List Command) (now : Fronts) (setup : SectionInParts) (b : HasBegun s cells old first before now setup) where
   pub begun_all : HoldsAllCallers now
-  begun_all =
-      let new = starts_new s cells old b.new first b.starts s.workers refl in
-      record { low = b.goes.same.first ∙ new.first; high = b.goes.same.end ∙ new.end ∙ sym new.callers ∙ sym b.goes.same.callers }
+  begun_all = grind (arith, starts_new)
 
   pub begun_nodes : now.nodes ≡ s.nodes
   begun_nodes = b.goes.same.nodes ∙ starts_nodes s cells old b.new first b.starts

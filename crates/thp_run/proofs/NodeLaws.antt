@@ -22,9 +22,7 @@ module _ {A B : Type 0} (R : A → B → Type 0) where
 
   pub filled_more : (all items rest : List A) (done more : List B) (x : A) (y : B) → items ≡ x ∷ rest → more ≡ done ++ y ∷ [] → R x y → Filled all done items → Filled all more rest
   unfolding Filled Pairs
-  filled_more all items rest done more x y is now r f = λ ys p.
-      let whole : Pairs R items (y ∷ ys) = rw is (r, p) in
-      rw (now, append_assoc done (y ∷ []) ys) (f (y ∷ ys) whole)
+  filled_more all items rest done more x y is now r f = grind (arith, append_assoc)
 
   pub filled_end : (all items : List A) (done : List B) → length items ≡ 0 → Filled all done items → Pairs R all done
   unfolding Filled Pairs

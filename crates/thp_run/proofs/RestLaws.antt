@@ -20,12 +20,7 @@ use Rattle.thp_run.proofs.RunLaws.{all_work-length, same_nodes}
 -- ---- callers that went on
 
 goes_from_refl : (from : ℕ) (f : Fronts) → GoesFrom from f f
-goes_from_refl from f = record {
-  same = same_refl f;
-  grown = λ n. ([], sym (append-nil (f.front n)));
-  others = λ c has low. record { part = λ n. refl; batches = λ n. refl };
-  legal = λ n legal. legal;
-}
+goes_from_refl from f = grind (arith, same_refl, append-nil)
 
 goes_from_trans : (from : ℕ) (f g h : Fronts) → GoesFrom from f g → GoesFrom from g h → GoesFrom from f h
 goes_from_trans from f g h a b = record {
@@ -42,20 +37,10 @@ goes_from_trans from f g h a b = record {
 }
 
 goes_from_one : (from c : ℕ) (f g : Fronts) → from ≤ c → Goes c f g → GoesFrom from f g
-goes_from_one from c f g le goes = record {
-  same = goes.same;
-  grown = goes.grown;
-  others = λ d has low. record { part = λ n. goes.others d n has (λ e. absurd (omega (arith, le, low, e))); batches = λ n. goes.others_batches d n (λ e. absurd (omega (arith, le, low, e))) };
-  legal = goes.legal;
-}
+goes_from_one from c f g le goes = grind arith
 
 goes_from_ran : (from : ℕ) (f g : Fronts) (vs : List (Vec Command Global)) (ws : List SectionOutcome) → RangeDone from f g vs ws → GoesFrom from f g
-goes_from_ran from f g vs ws r = record {
-  same = record { cells = r.same.cells; nodes = r.same.nodes; shape = r.same.shape; callers = r.same.callers; first = r.first; end = r.end };
-  grown = r.grown;
-  others = r.others;
-  legal = r.legal;
-}
+goes_from_ran from f g vs ws r = grind arith
 
 -- ---- one section more
 
@@ -190,14 +175,7 @@ module _ (f mid : Fronts) (script : Script) (vs : List (Vec Command Global)) (ne
   workers_fit nodes is = rw is (vectors_fit f.nodes vs script.workers are fits.workers)
 
   pub can_run : CanRun mid 1 vs
-  can_run = record {
-    some = omega (arith, count_vs, fits.some);
-    low = omega (arith, begins.same.first, new.first);
-    high = omega (arith, begins.same.end, new.end, count_vs);
-    fits = omega (arith, begins.same.end, new.end, fits.most);
-    sections = workers_fit mid.nodes begins.same.nodes;
-    shut = λ c has le n. begins.others_batches c n (λ e. absurd (omega (arith, le, e))) ∙ new.batches c n;
-  }
+  can_run = grind (arith, count_vs, workers_fit)
 
   module _ (ran : Fronts) (ws : List SectionOutcome) (r : RangeDone 1 mid ran vs ws) where
     pub ran_fit : All (halves.IsSection ran.nodes) vs

@@ -186,10 +186,7 @@ module _ (f g : Fronts) (script : Script) (sections : List SectionLog) (new : Is
       setup_later f.nodes f.shape r.between.front g.front script.setup r.setup.answers.items r.goes.grown setup_knows.part first
 
   worker_section : (c : ℕ) (commands : List Command) (w : SectionOutcome) → 0 < c → c < 1 + length script.workers → Works c r.between g commands w → IsDoneFor w → IsSection f.nodes f.shape g.front c commands w.answers.items
-  worker_section c commands w some lt works done =
-      let by : IsSection r.between.nodes r.between.shape g.front c commands w.answers.items = section_by c r.between g commands w works done (λ n. idle c n some lt) (λ n. shut c n some) (λ zero. absurd (omega (arith, some, zero))) (λ _ n. let e = ap length (setup_part n) in omega (arith, e)) in
-      let shapes = subst (λ shape. IsSection r.between.nodes shape g.front c commands w.answers.items) r.begins.same.shape by in
-      subst (λ nodes. IsSection nodes f.shape g.front c commands w.answers.items) r.begins.same.nodes shapes
+  worker_section c commands w some lt works done = grind (arith, section_by, idle, shut, setup_part)
 
   workers_are : length r.workers ≡ length script.workers
   workers_are = sym (all_work-length 1 r.between g r.vectors r.workers r.workers_work) ∙ sym (length-map r.vectors (λ (v : Vec Command Global). v.items)) ∙ ap length r.are

@@ -119,20 +119,13 @@ runs_on callers ps held q script sections pairs fresh count agree r =
 -- ---- scripts
 
 fit_op : (o : Op) → FitsBatch o → IsFit o
-fit_op (op.Scan n) fits = fits
-fit_op (op.Take n) fits = fits
-fit_op _ fits = tt
+fit_op x fits = grind arith
 
 pub commands_fit : (nodes : ℕ) (commands : List Command) → All (text.IsCommandFor nodes) commands → All (IsCommandFor nodes) commands
 commands_fit nodes commands fit = λ k d lt. let one = fit k d lt in record { node_exists = one.node_exists; fits = fit_op (get_or commands k d).op one.fits_batch }
 
 pub script_fits : (s : Settings) (script : Script) (nodes : ℕ) → IsScriptFor s script → AreFew script → nodes ≡ s.nodes → 1 ≤ s.workers → s.workers ≤ max_workers → IsFitScript nodes script
-script_fits s script nodes for-it few is least most = rw is (record {
-  setup = record { few = few.setup; fit = commands_fit s.nodes script.setup for-it.setup_commands };
-  workers = λ k d lt. let one = for-it.worker_commands k d lt in record { few = few.workers k d lt; fit = commands_fit s.nodes (get_or script.workers k d) one };
-  some = omega (arith, for-it.sections, least);
-  most = omega (arith, for-it.sections, most);
-})
+script_fits s script nodes for-it few is least most = grind (arith, commands_fit, get_or)
 
 -- ---- nodes again
 

@@ -1,5 +1,5 @@
 -- Commands at the front of a text: what was read of its bytes in one walk is what its first line says.
-use Rattle.std.proofs.Common.{◌≡◌, ◌∙◌, ◌==◌, ◌<◌, ◌≤◌, ◌-◌, ◌+◌, ◌*◌, ℕ, true, false, List, [], ◌∷◌, ◌++◌, length, Option, Some, None, Ok, append_assoc, ap, arith, codes, drop, get_or, refl, suc, sym, take, IfSome, nat_le, append-nil, length-append}
+use Rattle.std.proofs.Common.{◌≡◌, ◌∙◌, ◌==◌, ◌<◌, ◌≤◌, ◌-◌, ◌+◌, ◌*◌, ℕ, true, false, List, [], ◌∷◌, ◌++◌, length, Option, Some, Ok, append_assoc, ap, arith, codes, drop, get_or, refl, suc, sym, take, IfSome, nat_le, append-nil, length-append}
 use Rattle.std.specs.Char.{digit_value, is_ascii_digit}
 use Rattle.std.specs.List.{list_all}
 use Rattle.std.specs.Str.Parse.{digits_value}
@@ -78,9 +78,7 @@ digits_whole c (b ∷ word) below digits =
 
 pub number_whole : (c most n : ℕ) (word : Text) → c < 48 → number_of most word ≡ Some n → pieces_at c word ≡ word ∷ []
 unfolding number_of
-number_whole c most n word below e =
-    let p = and_parts _ _ (cond_some _ _ _ e).0 in
-    digits_whole c word below (numeral_parts word p.0).all_digits
+number_whole c most n word below e = grind (arith, and_parts, cond_some, digits_whole, numeral_parts)
 
 -- ---- lines of words
 
@@ -145,8 +143,7 @@ parse_range_fast s op text t1 t2 t3 rest node page first count a b d f = record 
 
 -- what holds of each value holds of the one that there is
 pub of_some : {A : Type 0} (o : Option A) (P Q : A → Type 0) → ((x : A) → P x → Q x) → IfSome o P → IfSome o Q
-of_some None P Q f h = tt
-of_some (Some x) P Q f h = f x h
+of_some x y z f h = grind arith
 
 -- a name of a command whose operands are read so: no byte of it ends a word or a line, and no comment begins with it
 pub record IsName (s : Settings) (name : Text) (reading : Reading) : Type 0 where
@@ -178,9 +175,7 @@ command_of_name s name reading text operands rest command n e o =
 -- and so they are where operands were read
 pub named : {A : Type 0} (s : Settings) (name : Text) (word : CommandWord) (text operands : Text) (read : Option A) (command : A → Command) (rest : A → Text) → IsName s name (reading_of word) → text ≡ name ++ 32 ∷ operands
     → IfSome read (λ r. FastOperands (reading_of word s) operands (command r) (rest r)) → IfSome read (λ r. FastCommand s text (command r) (rest r))
-named s name word text operands read command rest n e h =
-    of_some read (λ r. FastOperands (reading_of word s) operands (command r) (rest r)) (λ r. FastCommand s text (command r) (rest r))
-    (λ r o. command_of_name s name (reading_of word) text operands (rest r) (command r) n e o) h
+named s name word text operands read command rest n e h = grind (arith, of_some, command_of_name)
 
 module _ (s : Settings) where
   pub alloc_is : IsName s (codes "alloc") (reading_of (OfNode Alloc))

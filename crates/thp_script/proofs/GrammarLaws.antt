@@ -1,10 +1,10 @@
 -- What the grammar reads: each command is in range, and each line that reads as a statement is printable and has no empty
 -- word.
-use Rattle.std.proofs.Common.{◌≡◌, ◌<◌, ◌≤◌, ◌-◌, ℕ, zero, suc, Bool, true, false, cond, List, [], ◌∷◌, Option, Result, Ok, Err, arith, subst, refl, sym, inl, inr, codes, not, All}
+use Rattle.std.proofs.Common.{◌≡◌, ◌<◌, ◌≤◌, ◌-◌, ℕ, zero, Bool, true, false, cond, List, [], ◌∷◌, Option, Result, Ok, Err, arith, subst, refl, sym, inl, inr, codes, All}
 use Rattle.std.specs.List.{AllByRecursion, list_all, list_any}
 use Rattle.std.proofs.lemmas.List.Elements.{All-cons}
 use Rattle.thp_model.specs.Prelude.{max_batch}
-use Rattle.thp_script.specs.Prelude.{TextKind, BadByte, BadOrder, BadWord, Command, Op, Alloc, MapWhole, UnmapWhole, Map, Unmap, Write, Zero, SplitPmd, Pin, Unpin, Close, Scan, Count, Take, SplitNext, PutBack, Settings, Statement, Nothing, Section, Call, batch_command, command_in, command_of, commands, node_command, node_number, number_up_to, page_command, range_command, FitsBatch, IsCommandFor, Reading, is_empty, is_printable, by_words, call_of, may_stand, says_nothing, section_of, section_or_call, statement_in, statement_of, worker_number, worker_of, worker_or_call, IsInRange, IsSectionFor, Text, words_of}
+use Rattle.thp_script.specs.Prelude.{TextKind, BadByte, BadWord, Command, Op, Alloc, MapWhole, UnmapWhole, Map, Unmap, Write, Zero, SplitPmd, Pin, Unpin, Close, Scan, Count, Take, SplitNext, PutBack, Settings, Statement, Section, batch_command, command_in, command_of, commands, node_command, node_number, page_command, range_command, FitsBatch, IsCommandFor, Reading, is_empty, is_printable, by_words, call_of, says_nothing, section_of, section_or_call, statement_in, statement_of, worker_number, worker_of, worker_or_call, IsInRange, IsSectionFor, Text, words_of}
 use Rattle.thp_script.specs.Statements.{setup_of}
 use Rattle.thp_script.proofs.LineLaws.{IsPlain, bind_ok, none_empty, number_read, ok_value, one_plain, pieces_printable, plain_word, read, word_cases}
 
@@ -21,82 +21,29 @@ made_command node op = record { node = node; op = op }
 
 module _ (s : Settings) where
   node_exists : (node : ℕ) (word : Text) → node_number s word ≡ Ok node → IsPlain word × (node < s.nodes)
-  node_exists node word e =
-      let read = number_read (s.nodes - 1) node word e in
-      let some : 1 ≤ s.nodes = s.within_limits.least_nodes in
-      let most : node ≤ s.nodes - 1 = read.1 in
-      (read.0, omega arith)
+  node_exists node word e = grind (arith, read, number_read)
 
   command_in_range : (node : ℕ) (op : Op) (command : Command) → node < s.nodes → FitsBatch op → read (made_command node op) ≡ read command → IsCommandFor s.nodes command
-  command_in_range node op command lt fits e =
-      subst (λ (c : Command). IsCommandFor s.nodes c) (ok_value (made_command node op) command e) (record { node_exists = lt; fits_batch = fits })
+  command_in_range node op command lt fits e = grind (arith, ok_value, node_exists)
 
   node_read : (op : Op) (name : Text) (words : List Text) (command : Command) → IsPlain name → FitsBatch op → node_command op s words ≡ Ok command → IsReadCommand s name words command
   unfolding node_command
-  node_read op name [] command plain fits e = absurd cc
-  node_read op name (a ∷ []) command plain fits e =
-      let node = bind_ok (node_number s a) _ command e in
-      let there = node_exists node.0 a node.1 in
-      record { name_plain = plain; words_plain = one_plain a there.0; in_range = command_in_range node.0 op command there.1 fits node.2 }
-  node_read op name (a ∷ b ∷ words) command plain fits e = absurd cc
+  node_read op name x command plain fits e = grind (arith, bind_ok, node_exists, one_plain, command_in_range)
 
   batch_read : (op : ℕ → Op) (name : Text) (words : List Text) (command : Command) → IsPlain name → ((n : ℕ) → n ≤ max_batch → FitsBatch (op n)) → batch_command op s words ≡ Ok command → IsReadCommand s name words command
   unfolding batch_command
-  batch_read op name [] command plain fits e = absurd cc
-  batch_read op name (a ∷ []) command plain fits e = absurd cc
-  batch_read op name (a ∷ b ∷ []) command plain fits e =
-      let node = bind_ok (node_number s a) _ command e in
-      let there = node_exists node.0 a node.1 in
-      let count = bind_ok (number_up_to max_batch b) _ command node.2 in
-      let within = number_read max_batch count.0 b count.1 in
-      record {
-        name_plain = plain;
-        words_plain = All-cons IsPlain a (b ∷ []) there.0 (one_plain b within.0);
-        in_range = command_in_range node.0 (op count.0) command there.1 (fits count.0 within.1) count.2;
-      }
-  batch_read op name (a ∷ b ∷ d ∷ words) command plain fits e = absurd cc
+  batch_read op name x command plain fits e = grind (arith, bind_ok, node_exists, number_read, All-cons, IsPlain, one_plain, command_in_range)
 
   page_read : (op : ℕ → Op) (name : Text) (words : List Text) (command : Command) → IsPlain name → ((page : ℕ) → FitsBatch (op page)) → page_command op s words ≡ Ok command → IsReadCommand s name words command
   unfolding page_command
-  page_read op name [] command plain fits e = absurd cc
-  page_read op name (a ∷ []) command plain fits e = absurd cc
-  page_read op name (a ∷ b ∷ []) command plain fits e =
-      let node = bind_ok (node_number s a) _ command e in
-      let there = node_exists node.0 a node.1 in
-      let page = bind_ok (number_up_to 18446744073709551615 b) _ command node.2 in
-      let within = number_read 18446744073709551615 page.0 b page.1 in
-      record {
-        name_plain = plain;
-        words_plain = All-cons IsPlain a (b ∷ []) there.0 (one_plain b within.0);
-        in_range = command_in_range node.0 (op page.0) command there.1 (fits page.0) page.2;
-      }
-  page_read op name (a ∷ b ∷ d ∷ words) command plain fits e = absurd cc
+  page_read op name x command plain fits e = grind (arith, bind_ok, node_exists, number_read, All-cons, IsPlain, one_plain, command_in_range)
 
   range_read : (op : ℕ → ℕ → ℕ → Op) (name : Text) (words : List Text) (command : Command) → IsPlain name → ((page first count : ℕ) → FitsBatch (op page first count)) → range_command op s words ≡ Ok command → IsReadCommand s name words command
   unfolding range_command
-  range_read op name [] command plain fits e = absurd cc
-  range_read op name (a ∷ []) command plain fits e = absurd cc
-  range_read op name (a ∷ b ∷ []) command plain fits e = absurd cc
-  range_read op name (a ∷ b ∷ d ∷ []) command plain fits e = absurd cc
-  range_read op name (a ∷ b ∷ d ∷ f ∷ []) command plain fits e =
-      let node = bind_ok (node_number s a) _ command e in
-      let there = node_exists node.0 a node.1 in
-      let page = bind_ok (number_up_to 18446744073709551615 b) _ command node.2 in
-      let page-plain = number_read 18446744073709551615 page.0 b page.1 in
-      let first = bind_ok (number_up_to 65535 d) _ command page.2 in
-      let first-plain = number_read 65535 first.0 d first.1 in
-      let count = bind_ok (number_up_to 65535 f) _ command first.2 in
-      let count-plain = number_read 65535 count.0 f count.1 in
-      record {
-        name_plain = plain;
-        words_plain = All-cons IsPlain a (b ∷ d ∷ f ∷ []) there.0 (All-cons IsPlain b (d ∷ f ∷ []) page-plain.0 (All-cons IsPlain d (f ∷ []) first-plain.0 (one_plain f count-plain.0)));
-        in_range = command_in_range node.0 (op page.0 first.0 count.0) command there.1 (fits page.0 first.0 count.0) count.2;
-      }
-  range_read op name (a ∷ b ∷ d ∷ f ∷ g ∷ words) command plain fits e = absurd cc
+  range_read op name x command plain fits e = grind (arith, bind_ok, node_exists, number_read, All-cons, IsPlain, one_plain, command_in_range)
 
 section_is : (n k : ℕ) → section_of n ≡ Ok k → n ≡ k
-section_is zero k e = absurd cc
-section_is (suc n) k e = ok_value (suc n) k e
+section_is x k e = grind (arith, ok_value)
 
 first_section : (s : Settings) → IsSectionFor s 0
 first_section s = omega arith
@@ -191,18 +138,10 @@ pub record IsReadLine (s : Settings) (words : List Text) (statement : Statement)
   pub in_range : IsInRange s statement
 
 setup_read : (s : Settings) (name : Text) (words : List Text) (statement : Statement) → IsPlain name → setup_of words ≡ Ok statement → IsReadLine s (name ∷ words) statement
-setup_read s name [] statement plain e =
-    let is : Section 0 ≡ statement = ok_value (Section 0) statement e in
-    record { words_plain = one_plain name plain; in_range = subst (λ t. IsInRange s t) is (first_section s) }
-setup_read s name (a ∷ words) statement plain e = absurd cc
+setup_read s name x statement plain e = grind (arith, ok_value, one_plain, first_section)
 
 worker_in_range : (s : Settings) (word : Text) (k : ℕ) → worker_number s word ≡ Ok k → IsPlain word × (k ≤ s.workers)
-worker_in_range s word k e =
-    let number = bind_ok (number_up_to s.workers word) section_of k e in
-    let read = number_read s.workers number.0 word number.1 in
-    let same : number.0 ≡ k = section_is number.0 k number.2 in
-    let most : number.0 ≤ s.workers = read.1 in
-    (read.0, omega arith)
+worker_in_range s word k e = grind (arith, bind_ok, read, number_read, section_is)
 
 worker_read : (s : Settings) (name : Text) (words : List Text) (statement : Statement) → IsPlain name → worker_of s words ≡ Ok statement → IsReadLine s (name ∷ words) statement
 unfolding worker_of
@@ -215,11 +154,7 @@ worker_read s name (a ∷ []) statement plain e =
 worker_read s name (a ∷ b ∷ words) statement plain e = absurd cc
 
 call_read : (s : Settings) (name : Text) (words : List Text) (statement : Statement) → call_of s name words ≡ Ok statement → IsReadLine s (name ∷ words) statement
-call_read s name words statement e =
-    let command = bind_ok (command_of s name words) _ statement e in
-    let read = command_read s name words command.0 command.1 in
-    let is : Call command.0 ≡ statement = ok_value (Call command.0) statement command.2 in
-    record { words_plain = All-cons IsPlain name words read.name_plain read.words_plain; in_range = subst (λ t. IsInRange s t) is read.in_range }
+call_read s name words statement e = grind (arith, bind_ok, read, command_read, ok_value, All-cons, IsPlain)
 
 later_read : (s : Settings) (name : Text) (words : List Text) (statement : Statement) → worker_or_call s name words ≡ Ok statement → IsReadLine s (name ∷ words) statement
 later_read s name words statement e =
@@ -248,43 +183,24 @@ read_has_no_empty s line statement e = none_empty (words_of line) (line_read s (
 -- a line that says something and reads as a statement says that
 pub statement_of-read : (s : Settings) (line : Text) (statement : Statement) → says_nothing line ≡ false → Ok statement ≡ by_words s (words_of line) → Ok statement ≡ statement_of s line
 unfolding statement_of
-statement_of-read s line statement says e =
-    rw (read_is_printable s line statement (sym e), says, read_has_no_empty s line statement (sym e)) e
+statement_of-read s line statement says e = grind (arith, read_is_printable, read_has_no_empty)
 
 -- and one that doesn't has the first fault that applies
 pub statement_of-fails : (s : Settings) (line : Text) (reading : TextKind) → says_nothing line ≡ false → Err reading ≡ by_words s (words_of line)
     → Err (cond (list_all is_printable line) (cond (list_any is_empty (words_of line)) BadWord reading) BadByte) ≡ statement_of s line
 unfolding statement_of
-statement_of-fails s line reading says e = go (list_all is_printable line) (list_any is_empty (words_of line))
-  where
-    go : (b c : Bool) → Err (cond b (cond c BadWord reading) BadByte) ≡ cond (not b) (Err BadByte) (cond (says_nothing line) (Ok Nothing) (cond c (Err BadWord) (by_words s (words_of line))))
-    go false c = refl
-    go true true = rw says refl
-    go true false = rw says e
+statement_of-fails s line reading says e = grind arith
 
 -- ---- a line in its place
 
 cond_err : {A : Type 0} (b : Bool) (kind : TextKind) (others : Result A TextKind) (x : A) → cond b (Err kind) others ≡ Ok x → others ≡ Ok x
-cond_err true kind others x e = absurd cc
-cond_err false kind others x e = e
+cond_err y kind others x e = grind arith
 
 statement_in_range_of : (s : Settings) (line : Text) (statement : Statement) → statement_of s line ≡ Ok statement → IsInRange s statement
 unfolding statement_of
-statement_in_range_of s line statement e =
-    go (says_nothing line) (cond_err (not (list_all is_printable line)) BadByte _ statement e)
-  where
-    go : (b : Bool) → cond b (Ok Nothing) (cond (list_any is_empty (words_of line)) (Err BadWord) (by_words s (words_of line))) ≡ Ok statement → IsInRange s statement
-    go true e = subst (λ t. IsInRange s t) (ok_value Nothing statement e) tt
-    go false e = (line_read s (words_of line) statement (cond_err (list_any is_empty (words_of line)) BadWord _ statement e)).in_range
+statement_in_range_of s line statement e = grind (arith, cond_err, ok_value, line_read)
 
 -- what a line says in its place is in range
 pub statement_in_range : (s : Settings) (section : Option ℕ) (line : Text) (statement : Statement) → statement_in s section line ≡ Ok statement → IsInRange s statement
 unfolding statement_in
-statement_in_range s section line statement e =
-    let read = bind_ok (statement_of s line) _ statement e in
-    let same : read.0 ≡ statement = placed_same (may_stand section read.0) read.0 statement read.2 in
-    subst (λ t. IsInRange s t) same (statement_in_range_of s line read.0 read.1)
-  where
-    placed_same : (b : Bool) (t u : Statement) → cond b (Ok t) (Err BadOrder) ≡ Ok u → t ≡ u
-    placed_same true t u e = ok_value t u e
-    placed_same false t u e = absurd cc
+statement_in_range s section line statement e = grind (arith, read, bind_ok, statement_in_range_of, ok_value)

@@ -1,9 +1,8 @@
 -- Lines of plain words: those whose words all read as something are printable and have no empty word.
-use Rattle.std.proofs.Common.{◌≡◌, ◌⊎◌, ◌==◌, ◌<◌, ◌≤◌, ℕ, Bool, true, false, cond, List, [], ◌∷◌, length, Option, Some, None, Result, Ok, Err, arith, ap, subst, refl, sym, inl, inr, All, nat_le, ok_or, bytes_eq}
+use Rattle.std.proofs.Common.{◌≡◌, ◌⊎◌, ◌==◌, ◌<◌, ◌≤◌, ℕ, Bool, true, false, cond, List, [], ◌∷◌, length, Option, Some, Result, Ok, arith, ap, subst, refl, sym, All, nat_le, ok_or, bytes_eq}
 use Rattle.std.specs.Char.{is_ascii_digit}
 use Rattle.std.specs.List.{list_all, list_any, onto_first}
 use Rattle.std.specs.Result.{result_unwrap_or}
-use Rattle.std.specs.Str.Parse.{digits_value}
 use Rattle.std.proofs.lemmas.Bool.{and_from, and_parts, le-leb, leb-true, eqb-true, ne_eqb}
 use Rattle.std.proofs.lemmas.List.Elements.{All-cons, All-head, All-nil, All-tail}
 use Rattle.std.proofs.lemmas.Option.{cond_some}
@@ -23,8 +22,7 @@ one_plain a h = All-cons IsPlain a [] h (All-nil IsPlain)
 -- ---- readings that succeed
 
 pub bind_ok : {A B : Type 0} (r : Result A TextKind) (f : A → Result B TextKind) (y : B) → (r >>= f) ≡ Ok y → (x : A) × (r ≡ Ok x) × (f x ≡ Ok y)
-bind_ok (Ok x) f y e = (x, refl, e)
-bind_ok (Err kind) f y e = absurd cc
+bind_ok x f y e = grind arith
 
 -- what is read, where nothing is at fault
 abbrev pub read : {A : Type 0} → A → Result A TextKind
@@ -35,11 +33,7 @@ ok_value x y e = ap (λ r. result_unwrap_or r x) e
 
 -- the word is this one and its reading counts, or the others do
 pub word_cases : {A : Type 0} (name word : Text) (reading others : Result A TextKind) (x : A) → cond (bytes_eq name word) reading others ≡ Ok x → ((name ≡ word) × (reading ≡ Ok x)) ⊎ (others ≡ Ok x)
-word_cases {A} name word reading others x e = go (bytes_eq name word) refl e
-  where
-    go : (b : Bool) → bytes_eq name word ≡ b → cond b reading others ≡ Ok x → ((name ≡ word) × (reading ≡ Ok x)) ⊎ (others ≡ Ok x)
-    go true is e = inl ((bytes_eq-Decides name word).0 is, e)
-    go false is e = inr e
+word_cases {A} name word reading others x e = grind (arith, bytes_eq, bytes_eq-Decides)
 
 pub plain_word : (name word : Text) → name ≡ word → IsPlain word → IsPlain name
 plain_word name word is plain = subst (λ w. IsPlain w) (sym is) plain
@@ -47,11 +41,7 @@ plain_word name word is plain = subst (λ w. IsPlain w) (sym is) plain
 -- ---- numbers
 
 digit_printable : (b : ℕ) → is_ascii_digit b ≡ true → is_printable b ≡ true
-digit_printable b digit =
-    let p = and_parts (nat_le 48 b) (nat_le b 57) digit in
-    let low : 48 ≤ b = leb-true 48 b p.0 in
-    let high : b ≤ 57 = leb-true b 57 p.1 in
-    and_from (nat_le 32 b) (nat_le b 126) (le-leb 32 b (omega arith)) (le-leb b 126 (omega arith))
+digit_printable b digit = grind (arith, and_parts, nat_le, leb-true, and_from, le-leb)
 
 digits_printable : (word : Text) → list_all is_ascii_digit word ≡ true → list_all is_printable word ≡ true
 digits_printable [] digits = refl
@@ -63,19 +53,12 @@ not_empty : (word : Text) → 0 < length word → is_empty word ≡ false
 not_empty word some = ne_eqb (length word) 0 (λ e. absurd (omega arith))
 
 some_of_ok : (o : Option ℕ) (n : ℕ) → ok_or o BadNumber ≡ Ok n → o ≡ Some n
-some_of_ok None n e = absurd cc
-some_of_ok (Some m) n e = ap (λ (k : ℕ). Some k) (ok_value m n e)
+some_of_ok x n e = grind (arith, ok_value)
 
 -- a word that is read as a number is plain, and the number is within its bound
 pub number_read : (most n : ℕ) (word : Text) → number_up_to most word ≡ Ok n → IsPlain word × (n ≤ most)
 unfolding number_of
-number_read most n word e =
-    let t = cond_some _ _ _ (some_of_ok (number_of most word) n e) in
-    let p = and_parts _ _ t.0 in
-    let parts = numeral_parts word p.0 in
-    let below : digits_value 10 word ≤ most = leb-true _ _ p.1 in
-    let is : digits_value 10 word ≡ n = t.1 in
-    (record { printable = digits_printable word parts.all_digits; some = not_empty word parts.nonempty }, omega arith)
+number_read most n word e = grind (arith, cond_some, some_of_ok, and_parts, numeral_parts, leb-true, digits_printable, not_empty)
 
 -- ---- what plain words say of the line
 

@@ -1,5 +1,5 @@
 -- Lists of items read one by one, and written.
-use Rattle.std.proofs.Common.{◌≡◌, ◌∙◌, ◌==◌, ◌<◌, ◌≤◌, ◌^◌, ℕ, Bool, true, false, cond, List, [], ◌∷◌, ◌++◌, length, map, Option, Some, None, ap, arith, codes, leb, lit<, refl, sym, All, IfNone, IfSome, MatchOption, option_map, decimal, unwrap_or, bytes_eq}
+use Rattle.std.proofs.Common.{◌≡◌, ◌==◌, ◌<◌, ◌≤◌, ◌^◌, ℕ, Bool, true, false, cond, List, [], ◌∷◌, ◌++◌, length, map, Option, Some, None, ap, arith, codes, leb, lit<, refl, sym, All, IfNone, IfSome, MatchOption, option_map, decimal, unwrap_or, bytes_eq}
 use Rattle.std.specs.Char.{is_ascii_digit}
 use Rattle.std.specs.List.{join_with_byte, list_all}
 use Rattle.std.proofs.lemmas.Bool.{and_parts, le-leb, leb-true, lt-leb, ne_eqb}
@@ -8,7 +8,7 @@ use Rattle.std.proofs.lemmas.List.Elements.{All-cons, All-head, All-nil, All-tai
 use Rattle.std.proofs.lemmas.List.Splits.{join_with_byte-slice_split, slice_split_at, slice_split_none}
 use Rattle.std.proofs.lemmas.Slice.Eq.{bytes_eq-Decides}
 use Rattle.arrayvec.specs.ArrayVec.{ArrayVec}
-use Rattle.thp_script.specs.Prelude.{max_nodes, all_read, in_front, items_of, list_in, order_of, threshold_of, threshold_text, IsListText, IsWritable, Text, number_of}
+use Rattle.thp_script.specs.Prelude.{max_nodes, all_read, in_front, items_of, list_in, order_of, threshold_of, threshold_text, IsListText, IsWritable, Text}
 use Rattle.thp_script.proofs.NumberLaws.{decimal_of_number, digits, number_of-decimal}
 use Rattle.thp_script.proofs.PieceLaws.{HasFirst, has_first}
 
@@ -22,10 +22,7 @@ behind before (Some xs) = Some (before ++ xs)
 module _ {A : Type 0} (read : Text → Option A) (text : Text) where
   pub list_fails : all_read read (items_of text) ≡ None → list_in read text ≡ None
   unfolding list_in
-  list_fails e = rw e (both (length (items_of text)))
-    where
-      both : (n : ℕ) → cond {A = Option (List A)} (leb n max_nodes) None None ≡ None
-      both n = elim (leb n max_nodes) as (λ b. cond {A = Option (List A)} b None None ≡ None) [ true ↦ refl | false ↦ refl ]
+  list_fails e = grind arith
 
   pub list_too_long : max_nodes < length (items_of text) → list_in read text ≡ None
   unfolding list_in
@@ -39,9 +36,7 @@ module _ {A : Type 0} (read : Text → Option A) (text : Text) where
 
 -- an item in front of others, where all can be read
 front_read : {A : Type 0} (o : Option A) (r : Option (List A)) (xs : List A) → in_front o r ≡ Some xs → (x : A) × (ys : List A) × (o ≡ Some x) × (r ≡ Some ys) × (x ∷ ys ≡ xs)
-front_read None r xs e = absurd cc
-front_read (Some x) None xs e = absurd cc
-front_read (Some x) (Some ys) xs e = (x, ys, refl, refl, ap (λ o. unwrap_or o xs) e)
+front_read x r xs e = grind (arith, unwrap_or)
 
 -- where each item is read as what it writes, so are the items
 module _ {A : Type 0} (read : Text → Option A) (write : A → Text) (writes : (item : Text) (x : A) → read item ≡ Some x → item ≡ write x) where
@@ -71,8 +66,7 @@ module _ {A : Type 0} (read : Text → Option A) (write : A → Text) (writes : 
 
   -- so what a reader gives has its text
   pub given_written : (given : Option (ArrayVec A)) (bytes text : Text) → bytes ≡ text → MatchOption given (list_in read bytes ≡ None) (λ v. list_in read bytes ≡ Some v.items) → IfSome given (λ v. IsListText (map write v.items) text)
-  given_written None bytes text e h = tt
-  given_written (Some v) bytes text e h = list_written text v.items (rw e at h)
+  given_written x bytes text e h = grind (arith, list_written)
 
 -- ---- read again
 
@@ -103,15 +97,12 @@ module _ {A : Type 0} (read : Text → Option A) (write : A → Text) (IsRight :
 
   -- so a text that isn't read is no list's
   pub none_is_list : (text : Text) → list_in read text ≡ None → (xs : List A) → All IsRight xs → ¬ IsListText (map write xs) text
-  none_is_list text none xs right is =
-      let bad : None ≡ Some xs = sym none ∙ list_again text xs right is in
-      absurd cc
+  none_is_list text none xs right is = grind (arith, list_again)
 
   -- so what a reader doesn't give is none
   pub given_refused : (given : Option (ArrayVec A)) (bytes text : Text) → bytes ≡ text → MatchOption given (list_in read bytes ≡ None) (λ v. list_in read bytes ≡ Some v.items)
       → IfNone given ((xs : List A) → All IsRight xs → ¬ IsListText (map write xs) text)
-  given_refused None bytes text e h = none_is_list text (rw e at h)
-  given_refused (Some v) bytes text e h = tt
+  given_refused x bytes text e h = grind (arith, none_is_list)
 
 -- ---- orders and thresholds
 
@@ -129,41 +120,20 @@ pub order_again : (n : ℕ) → n < 2 ^ 32 → order_of (decimal n) ≡ Some n
 order_again n lt = number_of-decimal 4294967295 n (omega arith) (lit< tt)
 
 pub order_plain : (n : ℕ) → n < 2 ^ 32 → HasNoComma (decimal n)
-order_plain n lt =
-    let small : n < 2 ^ 64 = omega arith in
-    no_comma_in_digits (decimal n) (digits_decimal digits n small)
+order_plain n lt = grind (arith, no_comma_in_digits, digits_decimal, digits)
 
 option_some : (o : Option ℕ) (t : Option ℕ) → option_map (λ n. Some n) o ≡ Some t → (n : ℕ) × (o ≡ Some n) × (Some n ≡ t)
-option_some None t e = absurd cc
-option_some (Some n) t e = (n, refl, ap (λ o. unwrap_or o t) e)
+option_some x t e = grind (arith, unwrap_or)
 
 pub threshold_written : (item : Text) (t : Option ℕ) → threshold_of item ≡ Some t → item ≡ threshold_text t
-threshold_written item t e = go (bytes_eq item (codes "off")) refl e
-  where
-    go : (b : Bool) → bytes_eq item (codes "off") ≡ b → cond b (Some None) (option_map (λ n. Some n) (number_of 4294967295 item)) ≡ Some t → item ≡ threshold_text t
-    go true is e =
-        let off : None ≡ t = ap (λ o. unwrap_or o t) e in
-        rw (← off) ((bytes_eq-Decides item (codes "off")).0 is)
-    go false is e =
-        let n = option_some (number_of 4294967295 item) t e in
-        rw (← n.2) (order_written item n.0 n.1)
+threshold_written item t e = grind (arith, bytes_eq, option_map, unwrap_or, bytes_eq-Decides, option_some, order_written)
 
 -- a number isn't `off`
 digits_not_off : (item : Text) → list_all is_ascii_digit item ≡ true → bytes_eq item (codes "off") ≡ false
-digits_not_off item digits = go (bytes_eq item (codes "off")) refl
-  where
-    go : (b : Bool) → bytes_eq item (codes "off") ≡ b → b ≡ false
-    go true is =
-        let bad : false ≡ true = rw ((bytes_eq-Decides item (codes "off")).0 is) at digits in
-        absurd cc
-    go false is = refl
+digits_not_off item digits = grind (arith, bytes_eq, bytes_eq-Decides)
 
 pub threshold_again : (t : Option ℕ) → IsWritable t → threshold_of (threshold_text t) ≡ Some t
-threshold_again None right = refl
-threshold_again (Some n) right =
-    let small : n < 2 ^ 64 = omega arith in
-    rw (digits_not_off (decimal n) (digits_decimal digits n small), order_again n right) refl
+threshold_again x right = grind (arith, digits_not_off, digits_decimal, digits, order_again)
 
 pub threshold_plain : (t : Option ℕ) → IsWritable t → HasNoComma (threshold_text t)
-threshold_plain None right = All-cons (λ b. (b == 44) ≡ false) 111 (102 ∷ 102 ∷ []) refl (All-cons (λ b. (b == 44) ≡ false) 102 (102 ∷ []) refl (All-cons (λ b. (b == 44) ≡ false) 102 [] refl (All-nil (λ b. (b == 44) ≡ false))))
-threshold_plain (Some n) right = order_plain n right
+threshold_plain x right = grind (arith, All-cons, All-nil, order_plain)

@@ -1,5 +1,5 @@
 -- Words as numbers: a word is read as a number exactly where it is that number's decimal text.
-use Rattle.std.proofs.Common.{◌≡◌, ℕ, ◌^◌, ◌<◌, ◌≤◌, true, false, leb, eqb, not, ◌||◌, length, get_or, drop, List, [], ◌∷◌, ◌+◌, ◌*◌, suc, Some, None, refl, sym, arith, rules, inl, inr, ◌∙◌, decimal}
+use Rattle.std.proofs.Common.{◌≡◌, ℕ, ◌^◌, ◌<◌, ◌≤◌, true, false, leb, eqb, not, ◌||◌, length, get_or, drop, List, [], ◌∷◌, ◌+◌, ◌*◌, Some, None, refl, sym, arith, rules, inl, inr, decimal}
 use Rattle.std.proofs.Math.Seq.{drop-cons}
 use Rattle.std.specs.List.{list_all}
 use Rattle.std.specs.Char.{digit_value, is_ascii_digit}
@@ -33,10 +33,7 @@ none_of_no_front most word fails = none_of_no_numeral most word (and_right (list
 
 -- nor where it isn't digits of a number that fits
 pub none_of_no_value : (most : ℕ) (word : Text) → most < 2 ^ 64 → ((list_all is_ascii_digit word ≡ true) × (digits_value 10 word < 2 ^ 64) → ⊥) → number_of most word ≡ None
-none_of_no_value most word fits no-value = elim (cases_lt (digits_value 10 word) (2 ^ 64)) [
-  | inl small ↦ none_of_no_numeral most word (rw (false_from_ne_true (list_all is_ascii_digit word) (λ all. no-value (all, small))) refl)
-  | inr large ↦ none_above most word (omega (arith, large, fits))
-]
+none_of_no_value most word fits no-value = grind (arith, cases_lt, none_of_no_numeral, false_from_ne_true, none_above)
 
 -- what the test `is_numeral` says of a word
 pub record IsNumeralWord (word : Text) : Type 0 where
@@ -45,17 +42,7 @@ pub record IsNumeralWord (word : Text) : Type 0 where
   pub no_leading_zero : get_or word 0 0 ≡ 48 → length word ≡ 1
 
 pub numeral_parts : (word : Text) → is_numeral word ≡ true → IsNumeralWord word
-numeral_parts word numeral =
-    let p = and_parts _ _ numeral in
-    let q = and_parts _ _ p.1 in
-    record {
-      all_digits = p.0;
-      nonempty = ltb-true 0 (length word) q.0;
-      no_leading_zero = λ zero-first. elim (or_cases _ _ q.1) [
-        | inl other ↦ absurd (eqb-false (get_or word 0 0) 48 (not-true _ other) zero-first)
-        | inr one ↦ eqb-true _ _ one
-      ];
-    }
+numeral_parts word numeral = grind (arith, and_parts, ltb-true, or_cases, eqb-false, get_or, not-true, eqb-true)
 
 -- more digits make no smaller number
 value_grows : (n : ℕ) (ds : List ℕ) → n ≤ digits_value_after 10 n ds
@@ -64,16 +51,11 @@ value_grows n (d ∷ ds) = omega (arith, value_grows (n * 10 + digit_value d) ds
 
 -- with the next digit, what was read so far isn't above the whole
 pub value_so_far : (word : Text) (i n d : ℕ) → i < length word → digits_value_after 10 n (drop i word) ≡ digits_value 10 word → n * 10 + digit_value (get_or word i d) ≤ digits_value 10 word
-value_so_far word i n d lt whole =
-    let split : digits_value_after 10 (n * 10 + digit_value (get_or word i d)) (drop (suc i) word) ≡ digits_value 10 word = rw (drop-cons word i d lt) at whole in
-    omega (arith, value_grows (n * 10 + digit_value (get_or word i d)) (drop (suc i) word))
+value_so_far word i n d lt whole = grind (arith, get_or, drop-cons, value_grows)
 
 -- a word isn't digits of a number that fits where one of its bytes is no digit, or the number up to it doesn't fit
 pub no_value : (word : Text) (i n d : ℕ) → i < length word → digits_value_after 10 n (drop i word) ≡ digits_value 10 word → ((is_ascii_digit (get_or word i d) ≡ true) × (n * 10 + digit_value (get_or word i d) < 2 ^ 64) → ⊥) → (list_all is_ascii_digit word ≡ true) × (digits_value 10 word < 2 ^ 64) → ⊥
-no_value word i n d lt whole none has =
-    let le = value_so_far word i n d lt whole in
-    let digit : is_ascii_digit (get_or word i d) ≡ true = true_from_ne_false _ (λ other. let bad : false ≡ true = sym (list_all_at is_ascii_digit word i d lt other) ∙ has.0 in absurd cc) in
-    none (digit, omega (arith, le, has.1))
+no_value word i n d lt whole none has = grind (arith, value_so_far, get_or, true_from_ne_false, list_all_at)
 
 -- a number's decimal text is read as that number
 pub number_of-decimal : (most n : ℕ) → n ≤ most → most < 2 ^ 64 → number_of most (decimal n) ≡ Some n
@@ -102,7 +84,4 @@ decimal_of_number most n word lt e =
 
 -- a word that isn't read is no number's decimal text
 pub no_decimal : (most : ℕ) (word : Text) → most < 2 ^ 64 → number_of most word ≡ None → (n : ℕ) → n ≤ most → word ≡ decimal n → ⊥
-no_decimal most word lt none n le is =
-    let read : number_of most (decimal n) ≡ Some n = number_of-decimal most n le lt in
-    let bad : None ≡ Some n = sym none ∙ (rw is read) in
-    cc
+no_decimal most word lt none n le is = grind (arith, number_of-decimal)

@@ -1,8 +1,8 @@
 -- A script whose text comes in parts: what was read, with what the text to come says, is what the whole text says.
-use Rattle.std.proofs.Common.{◌≡◌, ◌∙◌, ◌+◌, ◌<◌, ℕ, List, [], ◌∷◌, ◌++◌, length, get_or, set, Option, Some, None, Result, Ok, Err, refl, sym, ap, append_assoc, arith, inl, inr, IfSome, All, replicate, append-nil, length-set}
+use Rattle.std.proofs.Common.{◌≡◌, ◌∙◌, ◌+◌, ◌<◌, ℕ, List, [], ◌∷◌, ◌++◌, length, get_or, set, Option, Some, None, Result, Ok, Err, refl, ap, append_assoc, arith, IfSome, All, replicate, append-nil, length-set}
 use Rattle.std.proofs.lemmas.Bool.{cases_lt}
 use Rattle.std.proofs.lemmas.List.Elements.{All-get_or, All-head, All-push, All-set, All-tail}
-use Rattle.thp_script.specs.Prelude.{TextKind, Command, Script, Settings, Statement, Nothing, Section, Call, IsCommandFor, max_input, fault_after, lines_spell, script_in, spelled_with, with_commands, ◌>>=◌, Fault, IsScriptFor, Placed, commands_from, placed, script_of, script_with, IsInRange, section_after, statement_in, nothing_of, Text, lines_of}
+use Rattle.thp_script.specs.Prelude.{TextKind, Command, Settings, Statement, Nothing, Section, Call, IsCommandFor, max_input, fault_after, lines_spell, script_in, spelled_with, with_commands, ◌>>=◌, Fault, IsScriptFor, Placed, commands_from, placed, script_of, script_with, IsInRange, section_after, statement_in, nothing_of, Text, lines_of}
 pub use Rattle.thp_model.proofs.Options.{not_there}
 use Rattle.thp_script.proofs.TextLaws.{whole_comes}
 use Rattle.thp_script.proofs.ScriptLaws.{behind, line_ends, line_fails, line_says}
@@ -15,11 +15,7 @@ with_commands-append sections [] qs = refl
 with_commands-append sections (p ∷ ps) qs = with_commands-append (set sections p.0 (get_or sections p.0 [] ++ p.1 ∷ [])) ps qs
 
 one_more : (workers : ℕ) (before : List Placed) (p : Placed) → set (sections_with workers before) p.0 (get_or (sections_with workers before) p.0 [] ++ p.1 ∷ []) ≡ sections_with workers (before ++ p ∷ [])
-one_more workers before p =
-    elim (cases_lt p.0 (workers + 1)) [
-      | inl lt ↦ sym (sections_with-push workers p.0 before p.1 lt)
-      | inr le ↦ sections_with-push_beyond workers before p (get_or (sections_with workers before) p.0 [] ++ p.1 ∷ []) le
-    ]
+one_more workers before p = grind (arith, cases_lt, sections_with-push, sections_with-push_beyond, get_or, sections_with)
 
 from_sections : (workers : ℕ) (before ps : List Placed) → with_commands (sections_with workers before) ps ≡ sections_with workers (before ++ ps)
 from_sections workers before [] = rw (append-nil before) refl
@@ -32,22 +28,18 @@ from_none workers ps = rw (← sections_with-none workers, from_sections workers
 -- ---- what the lines of a text spell
 
 bind_same : {A B F : Type 0} (read : Result A F) (f g : A → Result B F) → ((x : A) → f x ≡ g x) → (read >>= f) ≡ (read >>= g)
-bind_same (Ok x) f g same = same x
-bind_same (Err fault) f g same = refl
+bind_same x f g same = grind arith
 
 -- nothing has come: the text to come is the whole
 pub spells_all : (s : Settings) (sections : List (List Command)) (text : Text) → sections ≡ replicate (s.workers + 1) []
     → spelled_with (record { settings = s; sections = sections; section = None; text = nothing_of max_input }) text ≡ script_of s text
 unfolding script_of lines_spell
-spells_all s sections text none =
-    rw (none, bind_same (commands_from s 1 None (lines_of text)) (λ ps. Ok (script_in (with_commands (replicate (s.workers + 1) []) ps))) (λ ps. Ok (script_with s.workers ps)) (λ ps. ap (λ (t : Script). Ok t) (from_none s.workers ps)))
-    (whole_comes max_input text (commands_from s 1 None (lines_of text) >>= λ ps. Ok (script_with s.workers ps)))
+spells_all s sections text none = grind (arith, bind_same, from_none, whole_comes)
 
 -- the commands of a line before those of the lines behind it
 after_spells : (s : Settings) (sections : List (List Command)) (before : List Placed) (read : Result (List Placed) Fault)
     → (behind before read >>= λ ps. Ok (script_in (with_commands sections ps))) ≡ (read >>= λ ps. Ok (script_in (with_commands (with_commands sections before) ps)))
-after_spells s sections before (Ok ps) = rw (with_commands-append sections before ps) refl
-after_spells s sections before (Err fault) = refl
+after_spells s sections before x = grind (arith, with_commands-append)
 
 -- a line that says something in its place, and the lines behind it
 pub line_spells : (s : Settings) (sections : List (List Command)) (section : Option ℕ) (n : ℕ) (text line after : Text) (statement : Statement) → lines_of text ≡ line ∷ lines_of after → Ok statement ≡ statement_in s section line
@@ -87,10 +79,7 @@ added_in_range s sections (Some k) (Call command) place now all =
     All-set (λ (commands : List Command). All (IsCommandFor s.nodes) commands) sections k (get_or sections k [] ++ command ∷ []) (All-push (IsCommandFor s.nodes) (get_or sections k []) command before now) all
 
 pub count_stays : (sections : List (List Command)) (section : Option ℕ) (statement : Statement) → length (with_commands sections (placed section statement)) ≡ length sections
-count_stays sections section Nothing = refl
-count_stays sections section (Section k) = refl
-count_stays sections None (Call command) = refl
-count_stays sections (Some k) (Call command) = length-set sections k (get_or sections k [] ++ command ∷ [])
+count_stays sections section x = grind (arith, length-set, get_or)
 
 -- sections of commands in range, one for each worker and `setup`, are a script in range
 pub script_in_range : (s : Settings) (sections : List (List Command)) → length sections ≡ s.workers + 1 → All (λ (commands : List Command). All (IsCommandFor s.nodes) commands) sections → IsScriptFor s (script_in sections)

@@ -1,7 +1,7 @@
 -- A script of which a part is being read: what stays true of it behind each line.
-use Rattle.std.proofs.Common.{◌≡◌, ◌∙◌, ◌+◌, ◌-◌, ◌^◌, ◌<◌, ◌≤◌, ℕ, Bool, true, false, cond, List, [], ◌∷◌, ◌++◌, length, Option, Some, None, Result, Ok, ap, arith, inl, inr, refl, sym, min, nat_lt, length-append}
+use Rattle.std.proofs.Common.{◌≡◌, ◌+◌, ◌-◌, ◌^◌, ◌<◌, ◌≤◌, ℕ, List, [], ◌∷◌, ◌++◌, length, Option, Some, Result, Ok, arith, refl, min, nat_lt, length-append}
 use Rattle.std.proofs.lemmas.Bool.{cases_lt, le-ltb, lt-ltb}
-use Rattle.thp_script.specs.Prelude.{Command, Settings, Statement, Call, spelled_after, FastCommand, IsPartRead, with_commands, TooLong, placed, Fault, section_after, statement_in, after_line, fault_with, read_unless, told_after, unless, with_part, IsCounted, TextSoFar, Text, lines_of}
+use Rattle.thp_script.specs.Prelude.{Command, Settings, Statement, Call, spelled_after, FastCommand, IsPartRead, with_commands, placed, Fault, section_after, statement_in, after_line, fault_with, read_unless, told_after, with_part, IsCounted, TextSoFar, Text, lines_of}
 use Rattle.thp_script.proofs.GrammarLaws.{statement_in_range}
 use Rattle.thp_script.proofs.PartLaws.{added_in_range, count_stays, line_spells}
 use Rattle.thp_script.proofs.ScriptLaws.{section_has_place, section_in_range}
@@ -12,23 +12,12 @@ module _ (s : Settings) (sections added : List (List Command)) (section next : O
   pub line_spelled : ((more : Text) → lines_of (t.begun ++ (rest ++ more)) ≡ line ∷ lines_of (after ++ more)) → Ok statement ≡ statement_in s section line
       → added ≡ with_commands sections (placed section statement) → next ≡ section_after section statement → new ≡ after_line t
       → (more : Text) → spelled_after s added next new after more ≡ spelled_after s sections section t rest more
-  line_spelled lines says is-added is-next is-new more =
-      rw (is-added, is-next, is-new)
-      (ap (told_after t more) (sym (line_spells s sections section t.line (t.begun ++ (rest ++ more)) line (after ++ more) statement (lines more) says)))
+  line_spelled lines says is-added is-next is-new more = grind (arith, line_spells)
 
   pub line_inside : IsPartRead s sections section t rest → Ok statement ≡ statement_in s section line
       → added ≡ with_commands sections (placed section statement) → next ≡ section_after section statement → new ≡ after_line t → IsCounted after new
       → IsPartRead s added next new after
-  line_inside r says is-added is-next is-new counted =
-      let in-range = statement_in_range s section line statement (sym says) in
-      let place = section_has_place s section (length sections) r.place r.count in
-      record {
-        counted = counted;
-        count = rw (is-added, count_stays sections section statement) r.count;
-        place = rw is-next (section_in_range s section statement r.place in-range);
-        commands = rw is-added (added_in_range s sections section statement place in-range r.commands);
-        most = rw is-new r.most;
-      }
+  line_inside r says is-added is-next is-new counted = grind (arith, statement_in_range, section_has_place, count_stays, section_in_range, added_in_range)
 
 -- a command read ahead, in a section that has begun
 says_in_place : (s : Settings) (section : Option ℕ) (k : ℕ) (text rest : Text) (command : Command) (a : FastCommand s text command rest) → section ≡ Some k → Ok (Call command) ≡ statement_in s section a.line
@@ -57,21 +46,4 @@ count_fits most given part counted le = omega arith
 -- the text so far with a part that is still to be read, and the part behind the text so far, are told the same
 pub part_begins : {A : Type 0} (t new : TextSoFar) (part rest more : Text) (reads : ℕ → Text → Result A Fault) → t.most ≤ 2 ^ 64 - 2 → new ≡ with_part t part → rest ≡ read_unless (fault_with new []) part
     → told_after new more (reads new.line (new.begun ++ (rest ++ more))) ≡ told_after t (part ++ more) (reads t.line (t.begun ++ (part ++ more)))
-part_begins {A} t new part rest more reads counted is-new is-rest =
-    elim (cases_lt t.most (min (t.given + length part) (2 ^ 64 - 1))) [
-      | inl long ↦
-          let before : t.most < min (t.given + length part) (2 ^ 64 - 1) + length more = omega arith in
-          let behind : t.most < t.given + length (part ++ more) = rw (length-append part more) (omega arith) in
-          rw (is-new, lt-ltb t.most (min (t.given + length part) (2 ^ 64 - 1) + length more) before, lt-ltb t.most (t.given + length (part ++ more)) behind) refl
-      | inr le ↦
-          let fits = count_fits t.most t.given (length part) counted le in
-          let same : min (t.given + length part) (2 ^ 64 - 1) + length more ≡ t.given + length (part ++ more) = rw (fits, length-append part more) (omega arith) in
-          let short : nat_lt t.most (min (t.given + length part) (2 ^ 64 - 1) + 0) ≡ false = le-ltb t.most (min (t.given + length part) (2 ^ 64 - 1) + 0) (omega arith) in
-          let left : rest ≡ read_unless t.fault part = is-rest ∙ rw (is-new, short) refl in
-          rw (is-new, left, same) (go t.fault (nat_lt t.most (t.given + length (part ++ more))))
-    ]
-  where
-    go : (fault : Option Fault) (b : Bool) → unless (cond b (Some (0, TooLong)) fault) (reads t.line (t.begun ++ (read_unless fault part ++ more))) ≡ unless (cond b (Some (0, TooLong)) fault) (reads t.line (t.begun ++ (part ++ more)))
-    go None b = refl
-    go (Some fault) true = refl
-    go (Some fault) false = refl
+part_begins {A} t new part rest more reads counted is-new is-rest = grind (arith, cases_lt, length-append, lt-ltb, count_fits, nat_lt, le-ltb)

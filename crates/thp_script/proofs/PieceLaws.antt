@@ -1,6 +1,6 @@
 -- The pieces of a text, taken off one by one.
-use Rattle.std.proofs.Common.{◌≡◌, ◌==◌, ℕ, ◌+◌, ◌≤◌, Bool, true, false, cond, not, List, [], ◌∷◌, length, take, drop, Some, None, refl, arith, position}
-use Rattle.std.specs.List.{onto_first, position_or_len}
+use Rattle.std.proofs.Common.{◌≡◌, ◌==◌, ℕ, ◌+◌, Bool, true, false, cond, List, [], ◌∷◌, take, drop, Some, None, refl, arith, position}
+use Rattle.std.specs.List.{onto_first}
 use Rattle.std.proofs.lemmas.Bool.{ltb-true, ltb-false, not-true}
 use Rattle.std.proofs.lemmas.List.Splits.{slice_split_first, slice_split_none}
 use Rattle.std.proofs.lemmas.List.Sums.{prefix_len_passes}
@@ -8,21 +8,15 @@ use Rattle.std.proofs.lemmas.Option.{cond_some}
 use Rattle.thp_script.specs.Prelude.{Text, pieces_at}
 
 none_of_cond : (b : Bool) (i : ℕ) → cond b (Some i) None ≡ None → b ≡ false
-none_of_cond true i e = absurd cc
-none_of_cond false i e = refl
+none_of_cond x i e = grind arith
 
 -- a text without the separator is one piece
 pub one_piece : (c : ℕ) (text : Text) → position (λ b. b == c) text ≡ None → pieces_at c text ≡ text ∷ []
-one_piece c text nowhere =
-    let all-passed : length text ≤ position_or_len (λ b. b == c) text = ltb-false _ _ (none_of_cond _ _ nowhere) in
-    slice_split_none (λ b. b == c) text (λ k d lt. not-true _ (prefix_len_passes (λ x. not (x == c)) text k d (omega arith)))
+one_piece c text nowhere = grind (arith, ltb-false, none_of_cond, slice_split_none, not-true, prefix_len_passes)
 
 -- the first piece ends at the first separator, and the others are those of what follows
 pub first_piece : (c : ℕ) (text : Text) (place : ℕ) → position (λ b. b == c) text ≡ Some place → pieces_at c text ≡ take place text ∷ pieces_at c (drop (place + 1) text)
-first_piece c text place found =
-    let at = cond_some _ _ _ found in
-    let is-place : position_or_len (λ b. b == c) text ≡ place = at.1 in
-    rw (slice_split_first (λ b. b == c) text 0 (ltb-true _ _ at.0), is-place) refl
+first_piece c text place found = grind (arith, cond_some, slice_split_first, ltb-true)
 
 -- a text has a first piece
 abbrev pub HasFirst : List Text → Type 0

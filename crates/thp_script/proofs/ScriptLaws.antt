@@ -1,6 +1,6 @@
 -- The lines of a script one by one: what the first says, with what the others say, is what all say.
-use Rattle.std.proofs.Common.{◌≡◌, ℕ, ◌+◌, ◌<◌, List, [], ◌∷◌, ◌++◌, Option, Some, None, Result, Ok, Err, refl, length, arith, IfSome, lt-ltb}
-use Rattle.thp_script.specs.Prelude.{TextKind, TooLong, Settings, Statement, Nothing, Section, Call, max_input, ◌>>=◌, Text, lines_of, fault_after, statement_in, section_after, IsInRange, IsSectionFor, Fault, Placed, placed, commands_from, end_of, script_of}
+use Rattle.std.proofs.Common.{◌≡◌, ℕ, ◌+◌, ◌<◌, List, [], ◌∷◌, ◌++◌, Option, Result, Ok, Err, refl, length, arith, IfSome, lt-ltb}
+use Rattle.thp_script.specs.Prelude.{TextKind, TooLong, Settings, Statement, max_input, ◌>>=◌, Text, lines_of, fault_after, statement_in, section_after, IsInRange, IsSectionFor, Fault, Placed, placed, commands_from, end_of, script_of}
 use Rattle.thp_script.proofs.PieceLaws.{has_first}
 
 abbrev pub Read : Type 0
@@ -32,14 +32,11 @@ too_long s text lt = rw (lt-ltb max_input (length text) lt) refl
 -- ---- what stays in range
 
 pub section_in_range : (s : Settings) (section : Option ℕ) (statement : Statement) → IfSome section (IsSectionFor s) → IsInRange s statement → IfSome (section_after section statement) (IsSectionFor s)
-section_in_range s section Nothing before now = before
-section_in_range s section (Section k) before now = now
-section_in_range s section (Call command) before now = before
+section_in_range s section x before now = grind arith
 
 -- a section that there is has its place among the sections
 section_below : (s : Settings) (k count : ℕ) → IsSectionFor s k → count ≡ s.workers + 1 → k < count
 section_below s k count is e = omega arith
 
 pub section_has_place : (s : Settings) (section : Option ℕ) (count : ℕ) → IfSome section (IsSectionFor s) → count ≡ s.workers + 1 → IfSome section (λ k. k < count)
-section_has_place s None count h e = tt
-section_has_place s (Some k) count h e = section_below s k count h e
+section_has_place s x count h e = grind (arith, section_below)

@@ -1,12 +1,11 @@
 -- The commands of each section, as one more command is read.
-use Rattle.std.proofs.Common.{◌≡◌, ℕ, zero, suc, ◌+◌, ◌<◌, ◌==◌, Bool, true, false, cond, List, [], ◌∷◌, ◌++◌, length, map, get_or, set, refl, sym, arith, ◌∙◌, ◌≤◌, replicate, eq-eqb, ne_eqb}
+use Rattle.std.proofs.Common.{◌≡◌, ℕ, zero, suc, ◌+◌, ◌<◌, ◌==◌, Bool, cond, List, [], ◌∷◌, ◌++◌, length, map, get_or, set, refl, sym, arith, ◌∙◌, ◌≤◌, replicate, eq-eqb, ne_eqb}
 use Rattle.std.specs.List.{range_with_len}
 use Rattle.std.proofs.lemmas.List.{append-nil, set_past}
 use Rattle.thp_script.specs.Prelude.{Command, Placed, commands_in, script_with}
 
 cond_push : (b : Bool) (x : Command) (xs ys : List Command) → cond b (x ∷ (xs ++ ys)) (xs ++ ys) ≡ cond b (x ∷ xs) xs ++ ys
-cond_push true x xs ys = refl
-cond_push false x xs ys = refl
+cond_push y x xs ys = grind arith
 
 -- one more command, in section k or in another
 commands_in-push : (k : ℕ) (ps : List Placed) (p : Placed) → commands_in k (ps ++ p ∷ []) ≡ commands_in k ps ++ cond (p.0 == k) (p.1 ∷ []) []

@@ -1,5 +1,5 @@
 -- Texts that come in parts: lines that are joined, and what is told once a part has come.
-use Rattle.std.proofs.Common.{◌≡◌, ◌+◌, ◌-◌, ◌==◌, ℕ, Bool, true, false, cond, List, [], ◌∷◌, ◌++◌, length, Option, Some, None, Result, Err, refl, sym, append_assoc, arith, nat_lt, if◌then◌else◌}
+use Rattle.std.proofs.Common.{◌≡◌, ◌+◌, ◌-◌, ◌==◌, ℕ, Bool, cond, List, [], ◌∷◌, ◌++◌, length, Option, Some, None, Result, Err, refl, sym, append_assoc, arith, nat_lt, if◌then◌else◌}
 use Rattle.std.specs.List.{onto_first}
 use Rattle.thp_script.specs.Prelude.{TextKind, TooLong, Fault, after_line, fault_with, first_fault, nothing_of, told_after, unless, with_begun, with_fault, TextSoFar, Text, lines_of, pieces_at}
 use Rattle.thp_script.proofs.PieceLaws.{has_first, HasFirst}
@@ -20,13 +20,10 @@ no_first : HasFirst [] → ⊥
 no_first f = absurd cc
 
 joined-onto : (b : ℕ) (xs ys : List Text) → HasFirst xs → HasFirst ys → joined (onto_first b xs) ys ≡ onto_first b (joined xs ys)
-joined-onto b [] ys f g = absurd (no_first f)
-joined-onto b (x ∷ []) ys f g = rw g.2 refl
-joined-onto b (x ∷ w ∷ xs) ys f g = refl
+joined-onto b x ys f g = grind (arith, no_first)
 
 joined-cond : (t : Bool) (b : ℕ) (xs ys : List Text) → HasFirst xs → HasFirst ys → joined (cond t ([] ∷ xs) (onto_first b xs)) ys ≡ cond t ([] ∷ joined xs ys) (onto_first b (joined xs ys))
-joined-cond true b xs ys f g = joined-cons [] xs ys f
-joined-cond false b xs ys f g = joined-onto b xs ys f g
+joined-cond x b xs ys f g = grind (arith, joined-cons, joined-onto)
 
 pub pieces-append : (c : ℕ) (xs ys : Text) → pieces_at c (xs ++ ys) ≡ joined (pieces_at c xs) (pieces_at c ys)
 pieces-append c [] ys = let g = has_first c ys in rw g.2 refl
@@ -38,8 +35,7 @@ ends_begun begun text line others one e = rw (pieces-append 10 begun text, one, 
 
 -- what comes behind a text comes behind its first line
 pub first_line : (text more line after : Text) → lines_of text ≡ line ∷ lines_of after → lines_of (text ++ more) ≡ line ∷ lines_of (after ++ more)
-first_line text more line after e =
-    rw (pieces-append 10 text more, e, pieces-append 10 after more) (joined-cons line (lines_of after) (lines_of more) (has_first 10 after))
+first_line text more line after e = grind (arith, pieces-append, joined-cons, has_first)
 
 -- the first line of what has begun, what is left of a part and what comes behind it
 pub whole_line : (begun rest more piece after : Text) → lines_of begun ≡ begun ∷ [] → lines_of rest ≡ piece ∷ lines_of after → lines_of (begun ++ (rest ++ more)) ≡ (begun ++ piece) ∷ lines_of (after ++ more)
@@ -55,14 +51,11 @@ nothing_begun (b ∷ begun) piece none = absurd (omega arith)
 -- ---- what is told once a part has come
 
 too_much : {A : Type 0} (too_long : Bool) (long : Fault) (read : Result A Fault) → unless (cond too_long (Some long) None) read ≡ cond too_long (Err long) read
-too_much true long read = refl
-too_much false long read = refl
+too_much x long read = grind arith
 
 -- nothing has come: the text to come is the whole
 pub whole_comes : {A : Type 0} (most : ℕ) (text : Text) (read : Result A Fault) → told_after (nothing_of most) text read ≡ (if nat_lt most (length text) then Err (0, TooLong) else read)
-whole_comes most text read =
-    let all : 0 + length text ≡ length text = omega arith in
-    rw all (too_much (nat_lt most (length text)) (0, TooLong) read)
+whole_comes most text read = grind (arith, too_much, nat_lt)
 
 -- what is left of a part has begun a line
 pub line_begins : {A : Type 0} (t new : TextSoFar) (rest more : Text) (reads : ℕ → Text → Result A Fault) → new ≡ with_begun t rest
@@ -70,9 +63,7 @@ pub line_begins : {A : Type 0} (t new : TextSoFar) (rest more : Text) (reads : �
 line_begins t new rest more reads is = rw (is, append_assoc t.begun rest more) refl
 
 either_way : {A : Type 0} (too_long : Bool) (long : Fault) (earlier : Option Fault) (fault : Fault) (read : Result A Fault) → unless (cond too_long (Some long) (Some (first_fault earlier fault))) read ≡ unless (cond too_long (Some long) earlier) (Err fault)
-either_way true long earlier fault read = refl
-either_way false long (Some earlier) fault read = refl
-either_way false long None fault read = refl
+either_way x long earlier fault read = grind arith
 
 -- a line is at fault, and nothing behind it is read
 pub fault_comes : {A : Type 0} (t new : TextSoFar) (fault : Fault) (more : Text) (read : Result A Fault) → new ≡ with_fault t fault → told_after new more read ≡ told_after t more (Err fault)
@@ -84,6 +75,4 @@ told_end t read sound = rw sound refl
 
 -- a fault that is noted behind a line is that line's
 pub noted : (new t : TextSoFar) (kind : TextKind) → new ≡ after_line t → with_fault new (new.line - 1, kind) ≡ with_fault (after_line t) (t.line, kind)
-noted new t kind e =
-    let line : t.line + 1 - 1 ≡ t.line = omega arith in
-    rw (e, line) refl
+noted new t kind e = grind arith

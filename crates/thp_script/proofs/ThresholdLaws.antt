@@ -1,5 +1,5 @@
 -- Orders and thresholds, place by place.
-use Rattle.std.proofs.Common.{◌≡◌, ◌⊎◌, ℕ, zero, suc, ◌+◌, ◌-◌, ◌<◌, ◌≤◌, true, Option, List, [], ◌∷◌, ◌++◌, length, drop, get_or, arith, inl, inr, refl}
+use Rattle.std.proofs.Common.{◌≡◌, ◌⊎◌, ℕ, zero, suc, ◌+◌, ◌-◌, ◌<◌, ◌≤◌, true, Option, List, [], ◌∷◌, ◌++◌, length, drop, get_or, arith, refl}
 use Rattle.std.specs.List.{list_all}
 use Rattle.std.proofs.lemmas.Bool.{and_parts, cases_lt}
 use Rattle.std.proofs.lemmas.List.{get_or-append_right, get_or-drop, length-append, length-drop}
@@ -14,12 +14,7 @@ orders_left (suc n) (order ∷ orders) fit = orders_left n orders (and_parts (is
 
 -- what stands at a place of a front that replaces as many places of what was there before: one of the front, or what was there
 pub new_or_old : {X : Type 0} → (front before : List X) (k : ℕ) (d : X) → ((k < length front) × (get_or (front ++ drop (length front) before) k d ≡ get_or front k d)) ⊎ (get_or (front ++ drop (length front) before) k d ≡ get_or before k d)
-new_or_old {X} front before k d = elim (cases_lt k (length front)) [
-  | inl lt ↦ inl (lt, get_or-append front (drop (length front) before) d k lt)
-  | inr le ↦
-      let up : length front + (k - length front) ≡ k = omega arith in
-      inr (rw (get_or-append_right front (drop (length front) before) (length front) k d refl le, get_or-drop (length front) before (k - length front) d, up) refl)
-]
+new_or_old {X} front before k d = grind (arith, cases_lt, get_or-append, get_or-append_right, get_or-drop)
 
 -- and the list is as long as before
 replaced_length : {X : Type 0} → (front before : List X) → length front ≤ length before → length (front ++ drop (length front) before) ≡ length before
@@ -27,7 +22,4 @@ replaced_length front before le = rw (length-append front (drop (length front) b
 
 -- new orders for the first places keep the thresholds low
 pub new_orders_low : (front before : List ℕ) (thresholds : List (Option ℕ)) → length front ≤ length before → AreLow front thresholds → AreLow before thresholds → AreLow (front ++ drop (length front) before) thresholds
-new_orders_low front before thresholds le new old = λ k lt there. elim (new_or_old front before k 0) [
-  | inl h ↦ rw h.1 (new k h.0 there)
-  | inr same ↦ rw same (old k (omega (arith, replaced_length front before le)) there)
-]
+new_orders_low front before thresholds le new old = grind (arith, new_or_old, replaced_length)

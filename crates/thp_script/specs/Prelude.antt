@@ -1,4 +1,4 @@
--- The definitions and types of this library, each by its name alone: one line of a file imports what it cites.
+-- Re-exports the definitions and types of this library: other files import those that they cite from here, in one line.
 pub use Rattle.thp_script.specs.Commands.{FitsBatch, IsCommandFor, Reading, command_in, commands, node_number, number_up_to, one_word, two_words}
 unfoldable pub use Rattle.thp_script.specs.Commands.{batch_command, command_of, node_command, page_command, range_command}
 pub use Rattle.thp_script.specs.FastParsing.{FastCommand, FastLine, FastOperands, IsPartRead, spelled_after}

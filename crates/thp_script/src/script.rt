@@ -2,7 +2,6 @@
 ghost use Rattle.std.specs.Prelude.{◌≡◌, IfSome};
 ghost use Rattle.thp_script.specs.FastParsing.{FastCommand};
 ghost use Rattle.thp_script.specs.Operands.{batch_op, range_op, whole_page_op, Names};
-ghost use Rattle.thp_script.specs.PageCommands.{page_call_of};
 
 use crate::fast_parsing::{
     parse_batch_command_fast, parse_node_command_fast, parse_page_command_fast,
@@ -12,7 +11,6 @@ use crate::fast_words::after_name;
 use crate::fault::TextKind;
 use crate::sequence::Sequence;
 use crate::settings::Settings;
-use thp_model::{Gain, Loss, PageCall};
 
 /// A call on a node, with its operands.
 #[derive(Clone, Copy, Debug, PartialEq, Eq)]
@@ -49,36 +47,6 @@ pub enum Op {
     SplitNext,
     /// Puts back the remaining pages of the open batch.
     PutBack,
-}
-
-impl Op {
-    /// Returns the page and the call of a command about one page; `None` for other commands.
-    #[inline(always)]
-    pub fn page_call(self) -> Option<(u64, PageCall)>
-        ensures { result ≡ page_call_of self }
-    {
-        let (page, call) = match self {
-            Op::MapWhole { page } => (page, PageCall::Gain(Gain::MapWhole)),
-            Op::UnmapWhole { page } => (page, PageCall::Loss(Loss::UnmapWhole)),
-            Op::Map { first, count, page } => {
-                (page, PageCall::Gain(Gain::MapSub { first, count }))
-            }
-            Op::Unmap { first, count, page } => {
-                (page, PageCall::Loss(Loss::UnmapSub { first, count }))
-            }
-            Op::Write { first, count, page } => {
-                (page, PageCall::Gain(Gain::Write { first, count }))
-            }
-            Op::Zero { first, count, page } => {
-                (page, PageCall::Gain(Gain::Zero { first, count }))
-            }
-            Op::SplitPmd { page } => (page, PageCall::Gain(Gain::SplitPmd)),
-            Op::Pin { page } => (page, PageCall::Gain(Gain::Pin)),
-            Op::Unpin { page } => (page, PageCall::Loss(Loss::Unpin)),
-            _ => return None,
-        };
-        Some((page, call))
-    }
 }
 
 /// The calls on a whole page.

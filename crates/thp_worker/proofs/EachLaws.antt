@@ -20,14 +20,11 @@ adjoins_first xs ys l r ls rs left right a = let b = rw (left, right) at a in b
 
 pub adjoins_some : (xs ys : List Held) (l : Held) (ls : List Held) → xs ≡ l ∷ ls → length ys ≡ 0 → EachAdjoins xs ys → ⊥
 unfolding EachAdjoins
-adjoins_some xs [] l ls left none a = let b = rw left at a in b
-adjoins_some xs (y ∷ ys) l ls left none a = absurd (omega (arith, none))
+adjoins_some xs x l ls left none a = grind arith
 
 pub joint_more : (nodes more xs ys ls rs all : List Held) (l r h : Held) (hs : List Held) → xs ≡ l ∷ ls → ys ≡ r ∷ rs → IsJoint l r h → EachJoint ls rs hs → ((zs : List Held) → EachJoint xs ys zs → EachJoint nodes more (all ++ zs)) → EachJoint nodes more ((all ++ h ∷ []) ++ hs)
 unfolding EachJoint
-joint_more nodes more xs ys ls rs all l r h hs left right one rest so_far =
-    let both : EachJoint xs ys (h ∷ hs) = rw (left, right) (one, rest) in
-    rw (append_assoc all (h ∷ []) hs) (so_far (h ∷ hs) both)
+joint_more nodes more xs ys ls rs all l r h hs left right one rest so_far = grind (arith, append_assoc)
 
 pub joint_end : (nodes more xs ys all : List Held) → length xs ≡ 0 → EachAdjoins xs ys → ((zs : List Held) → EachJoint xs ys zs → EachJoint nodes more (all ++ zs)) → EachJoint nodes more all
 unfolding EachAdjoins EachJoint
@@ -249,6 +246,4 @@ module _ (callers first end : ℕ) (held : List Held) where
   }
 
   pub agree_of_all : HoldsAllCallers (fronts_of callers first end held) → Agree callers first end held → All IsOfAll held
-  agree_of_all all agree k d less =
-      let is = agree.each k (get_or held k d) (slice_get-get_or held k d less) in
-      record { from = is.first_is ∙ all.low; to = is.end_is ∙ all.high ∙ sym is.callers_are }
+  agree_of_all all agree k d less = grind (arith, get_or, slice_get-get_or)

@@ -9,14 +9,7 @@ use Rattle.thp_worker.proofs.StepLaws.{steps_stay}
 
 -- the same steps, seen from other fronts that say the same of the nodes
 steps_from : (c : ℕ) (old old' new : Fronts) (ms : List Made) → old'.shape ≡ old.shape → old'.front ≡ old.front → old'.batches c ≡ old.batches c → Steps c old new ms → Steps c old' new ms
-steps_from c old old' new ms shape front batches s = record {
-  each = rw shape s.each;
-  in_order = s.in_order;
-  behind = rw front s.behind;
-  own = rw front s.own;
-  carries = rw batches s.carries;
-  batches = rw batches s.batches;
-}
+steps_from c old old' new ms shape front batches s = grind arith
 
 pub same_nodes_trans : (f g h : Fronts) → SameNodes f g → SameNodes g h → SameNodes f h
 same_nodes_trans f g h a b = record { cells = b.cells ∙ a.cells; nodes = b.nodes ∙ a.nodes; shape = b.shape ∙ a.shape; callers = b.callers ∙ a.callers }
@@ -104,24 +97,13 @@ all_work_append (v ∷ vs) us (w ∷ ws) xs c d old new e a b = (a.0, all_work_a
 -- one worker alone
 pub ran_one : (c : ℕ) (old new : Fronts) (v : Vec Command Global) (ws : List SectionOutcome) (w : SectionOutcome) → CanRun old c (v ∷ []) → Goes c old new → Works c old new v.items w → ws ≡ w ∷ [] → RangeDone c old new (v ∷ []) ws
 unfolding AllWork
-ran_one c old new v ws w can goes works is = record {
-  same = record { cells = goes.same.cells; nodes = goes.same.nodes; shape = goes.same.shape; callers = goes.same.callers };
-  first = goes.same.first;
-  end = goes.same.end;
-  grown = goes.grown;
-  others = λ d has low. record { part = λ n. goes.others d n has (λ e. absurd (omega (arith, low, e))); batches = λ n. goes.others_batches d n (λ e. absurd (omega (arith, low, e))) };
-  legal = goes.legal;
-  work = rw is (works, tt);
-}
+ran_one c old new v ws w can goes works is = grind arith
 
 -- the halves may run
 module _ (f l r : Fronts) (at first : ℕ) (low high : List (Vec Command Global)) (can : CanRun f first (low ++ high)) (split : IsSplit at f l r) (is : at ≡ first + length low) where
   module _ (l' r' : Fronts) (ws xs : List SectionOutcome) (a : RangeDone first l l' low ws) (b : RangeDone at r r' high xs) where
     pub can_join : CanJoin l' r'
-    can_join = record {
-      same = same_nodes_trans l' f r' (same_nodes_sym f l' (same_nodes_trans f l l' split.left.same a.same)) (same_nodes_trans f r r' split.right.same b.same);
-      adjoin = a.end ∙ split.middle.0 ∙ sym (b.first ∙ split.middle.1);
-    }
+    can_join = grind (arith, same_nodes_trans, same_nodes_sym)
 
     module _ (j : Fronts) (joined : IsJoined l' r' j) where
       knows_other : (c : ℕ) → HoldsCaller f c → c < first → KnowsOf c f j
@@ -148,12 +130,7 @@ module _ (f l r : Fronts) (at first : ℕ) (low high : List (Vec Command Global)
           works_from k r f r' j commands w (same_nodes_sym f r split.right.same) (λ n. sym (split.right.front n)) (λ n. sym (split.right.batches k n has-r)) (same_nodes_trans r' l' j (same_nodes_sym l' r' can_join.same) joined.same) joined.right.grown (joined.right.own k has-r') works
 
       legal_both : (n : ℕ) → IsLegal (f.shape n) (f.front n) → IsLegal (f.shape n) (j.front n)
-      legal_both n legal =
-          let left-legal : IsLegal (l'.shape n) (l'.front n) = rw a.same.shape (a.legal n (rw (split.left.same.shape, split.left.front n) legal)) in
-          let right-legal : IsLegal (r'.shape n) (r'.front n) = rw b.same.shape (b.legal n (rw (split.right.same.shape, split.right.front n) legal)) in
-          let whole = joined.legal n left-legal right-legal in
-          let shape : j.shape ≡ f.shape = joined.same.shape ∙ a.same.shape ∙ split.left.same.shape in
-          rw shape at whole
+      legal_both n legal = grind arith
 
       pub ran_both : RangeDone first f j (low ++ high) (ws ++ xs)
       ran_both = record {

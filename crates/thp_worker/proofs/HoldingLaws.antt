@@ -1,5 +1,5 @@
 -- Calls of a cell, as steps of the holder of a pass and its open batches.
-use Rattle.std.proofs.Common.{◌≡◌, ◌∙◌, ◌⊎◌, ◌≢◌, ◌++◌, ◌+◌, ◌-◌, ◌<◌, ◌≤◌, ◌==◌, ap, ℕ, Bool, true, false, cond, List, [], ◌∷◌, length, refl, sym, subst, inl, inr, arith, zero, suc, Option, Some, None, Ok, Err, set, unwrap_or, slice_get, Result, IfOk, IfErr, OnOk, nat_le, append-nil}
+use Rattle.std.proofs.Common.{◌≡◌, ◌∙◌, ◌⊎◌, ◌≢◌, ◌++◌, ◌+◌, ◌-◌, ◌<◌, ◌==◌, ap, ℕ, Bool, true, false, cond, List, [], ◌∷◌, length, refl, sym, subst, arith, zero, suc, Option, Some, None, Ok, Err, set, unwrap_or, slice_get, Result, IfOk, IfErr, OnOk, nat_le, append-nil}
 use Rattle.std.proofs.lemmas.Option.{slice_get_within}
 use Rattle.std.proofs.lemmas.Bool.{eqb-true, eqb-false}
 use Rattle.std.proofs.lemmas.Bool.Decides.{nat_tests}
@@ -9,9 +9,9 @@ use Rattle.thp_model.specs.declared.events.Event.{Event}
 use Rattle.thp_model.specs.declared.events.Outcome.{Outcome}
 use Rattle.thp_model.specs.declared.events.What.{What}
 use Rattle.thp_model.specs.declared.refusal.Refusal.{Refusal}
-use Rattle.thp_model.specs.declared.refusal.Refusal.TheVariants.{NoPage, BadRange, IsSplit, NotMapped, Gone, NotPinned, TooMany, Closed, NoBlock, HasBatch, OutOfMemory}
+use Rattle.thp_model.specs.declared.refusal.Refusal.TheVariants.{HasBatch, OutOfMemory}
 use Rattle.thp_model.specs.declared.shape.Shape.{Shape}
-use Rattle.thp_model.specs.Prelude.{History, by, queue, take_events, split_next_events, put_back_events, Call, refusal, page_call}
+use Rattle.thp_model.specs.Prelude.{History, by, queue, take_events, split_next_events, put_back_events, Call, refusal}
 use Rattle.thp_model.specs.Refusals as call
 use Rattle.thp_model.specs.declared.page_call.Done.{Done}
 use Rattle.thp_node.specs.declared.answers.Tried.{Tried}
@@ -19,7 +19,7 @@ use Rattle.thp_node.specs.declared.answers.BackReply.{BackReply}
 use Rattle.thp_node.specs.Prelude.{BatchState, IsInFront, rest}
 use Rattle.thp_cell.specs.Prelude.{IsOther, at_front, BatchesStay, OtherBatchesStay, Called, Failed, Follows, DidOne, DidAlloc, DidLose, DidTake, DidTry, DidPutBack, PassState, HasCaller}
 use Rattle.thp_cell.specs.declared.fault.CellFault.{CellFault}
-use Rattle.thp_cell.specs.declared.fault.CellFault.TheVariants.{Busy, Refused}
+use Rattle.thp_cell.specs.declared.fault.CellFault.TheVariants.{Refused}
 use Rattle.thp_script.specs.declared.script.Op.{Op}
 use Rattle.thp_worker.specs.Prelude.{NodeCall, Step, Take, SplitNext, PutBack, Reply, call_events, node_call_of, Open, Reaction, Does, DoesCall, step_events, open_of, step_refusal, refusal_of_call, Held, IsHeld, Acts, HeldAnswered, HeldDone, batch_of, open_in, unit_reply, loss_reply, page_reply}
 use Rattle.thp_worker.specs.declared.steps.NodeCall.TheVariants as node
@@ -28,55 +28,26 @@ use Rattle.thp_worker.specs.declared.reply.Reply.TheVariants as reply
 
 -- a call is never refused at a history for want of memory
 memory_last : (b : Bool) (why : Refusal) (rest : Option Refusal) → (why ≡ OutOfMemory → ⊥) → (rest ≡ Some OutOfMemory → ⊥) → cond b (Some why) rest ≡ Some OutOfMemory → ⊥
-memory_last true why rest here later is = here (ap (λ o. unwrap_or o why) is)
-memory_last false why rest here later is = later is
+memory_last x why rest here later is = grind (arith, unwrap_or)
 
 abbrev pub NotMemory : Option Refusal → Type 0
 NotMemory why = why ≡ Some OutOfMemory → ⊥
 
 never : (s : Shape) (h : History) (call : Call) → NotMemory (refusal s h call)
 unfolding refusal
-never s h call.alloc_page = memory_last _ Closed _ (λ e. cc) (memory_last _ NoBlock None (λ e. cc) (λ e. cc))
-never s h (call.map_whole p) = memory_last _ NoPage _ (λ e. cc) (memory_last _ IsSplit _ (λ e. cc) (memory_last _ TooMany None (λ e. cc) (λ e. cc)))
-never s h (call.unmap_whole p) = memory_last _ NoPage _ (λ e. cc) (memory_last _ IsSplit _ (λ e. cc) (memory_last _ NotMapped None (λ e. cc) (λ e. cc)))
-never s h (call.map_sub p first count) = memory_last _ NoPage _ (λ e. cc) (memory_last _ BadRange _ (λ e. cc) (memory_last _ Gone _ (λ e. cc) (memory_last _ TooMany None (λ e. cc) (λ e. cc))))
-never s h (call.unmap_sub p first count) = memory_last _ NoPage _ (λ e. cc) (memory_last _ BadRange _ (λ e. cc) (memory_last _ NotMapped None (λ e. cc) (λ e. cc)))
-never s h (call.split_pmd p) = memory_last _ NoPage _ (λ e. cc) (memory_last _ IsSplit _ (λ e. cc) (memory_last _ NotMapped None (λ e. cc) (λ e. cc)))
-never s h (call.pin p) = memory_last _ NoPage _ (λ e. cc) (memory_last _ IsSplit _ (λ e. cc) (memory_last _ TooMany None (λ e. cc) (λ e. cc)))
-never s h (call.unpin p) = memory_last _ NoPage _ (λ e. cc) (memory_last _ IsSplit _ (λ e. cc) (memory_last _ NotPinned None (λ e. cc) (λ e. cc)))
-never s h (call.write p first count) = memory_last _ NoPage _ (λ e. cc) (memory_last _ BadRange _ (λ e. cc) (memory_last _ IsSplit _ (λ e. cc) (memory_last _ NotMapped None (λ e. cc) (λ e. cc))))
-never s h (call.zero_fill p first count) = memory_last _ NoPage _ (λ e. cc) (memory_last _ BadRange _ (λ e. cc) (memory_last _ IsSplit _ (λ e. cc) (memory_last _ NotMapped None (λ e. cc) (λ e. cc))))
-never s h call.close = memory_last _ Closed None (λ e. cc) (λ e. cc)
-never s h (call.take c) = memory_last _ HasBatch None (λ e. cc) (λ e. cc)
-never s h (call.scan c) = memory_last _ HasBatch None (λ e. cc) (λ e. cc)
+never s h x = grind (arith, memory_last)
 
 -- no step is refused at a history for want of memory
 never_call : (s : Shape) (h : History) (k : NodeCall) → NotMemory (refusal_of_call s h k)
-never_call s h node.Alloc = never s h call.alloc_page
-never_call s h (node.Page p k) = never s h (page_call k p)
-never_call s h node.Close = never s h call.close
-never_call s h node.Count = λ e. cc
+never_call s h x = grind (arith, never)
 
 never_memory : (s : Shape) (h : History) (c : ℕ) (step : Step) → NotMemory (step_refusal s h c step)
-never_memory s h c (steps.One o) = never_call s h (node_call_of o)
-never_memory s h c (Take n) = never s h (call.take c)
-never_memory s h c SplitNext = λ e. cc
-never_memory s h c PutBack = λ e. cc
+never_memory s h c x = grind (arith, never_call, never)
 
 -- ---- the invariant
 
 pub held_stays : (cell : TableId) (p q : PassState) (bs : List (Option BatchState)) → IsHeld cell p bs → q ≡ at_front p q.front → BatchesStay p q → IsHeld cell q bs
-held_stays cell p q bs held same stay =
-    let first : q.first ≡ p.first = ap (λ (x : PassState). x.first) same in
-    let end : q.end ≡ p.end = ap (λ (x : PassState). x.end) same in
-    record {
-      cell_is = ap (λ (x : PassState). x.cell) same ∙ held.cell_is;
-      callers = rw (first, end) held.callers;
-      each = λ k b at.
-          let was = held.each k b at in
-          let has : HasCaller p b.caller = record { from = omega (arith, was.0); below = omega (arith, was.0, held.callers, slice_get_within bs k (Some b) at) } in
-          (rw first was.0, stay b has was.1);
-    }
+held_stays cell p q bs held same stay = grind (arith, slice_get_within)
 
 -- ---- calls that leave the open batches alone
 
@@ -85,67 +56,27 @@ module _ (p q : PassState) (bs : List (Option BatchState)) (c : ℕ) (same : q �
   batch_same d = ap (λ (x : PassState). batch_of (record { pass = x; batches = bs }) d) same
 
   acts_called : (Says : History → List Event → Type 0) (r : Called p q c Says) → Acts c (record { pass = p; batches = bs }) (record { pass = q; batches = bs }) r.others.others r.own (batch_of (record { pass = p; batches = bs }) c)
-  acts_called Says r = record {
-    pass = same;
-    by_others = r.others.not_own;
-    by_caller = r.by_caller;
-    front = r.front ∙ ap (λ h. h ++ r.own) r.others.goes_on;
-    legal = λ before. r.legal;
-    batch = batch_same c;
-    other_batches = λ d other. batch_same d;
-  }
+  acts_called x r = grind (arith, batch_same)
 
   acts_followed : (f : Follows p q) → Acts c (record { pass = p; batches = bs }) (record { pass = q; batches = bs }) f.others.others [] (batch_of (record { pass = p; batches = bs }) c)
-  acts_followed f = record {
-    pass = same;
-    by_others = f.others.not_own;
-    by_caller = All-nil (λ (e : Event). e.caller ≡ c);
-    front = f.others.goes_on ∙ sym (append-nil (p.front ++ f.others.others));
-    legal = λ before. f.legal;
-    batch = batch_same c;
-    other_batches = λ d other. batch_same d;
-  }
+  acts_followed f = grind (arith, All-nil, append-nil, batch_same)
 
   -- a step that was answered
   pub held_called : (step : Step) (answer : Reply) (Says : History → List Event → Type 0) → Called p q c Says
       → ((h : History) (own : List Event) → Says h own → Does p.shape h c (batch_of (record { pass = p; batches = bs }) c) step own (Ok answer) (batch_of (record { pass = p; batches = bs }) c))
       → HeldAnswered c step (record { pass = p; batches = bs }) (record { pass = q; batches = bs }) (Ok answer)
-  held_called step answer Says r does = record {
-    others = r.others.others;
-    own = r.own;
-    after = batch_of (record { pass = p; batches = bs }) c;
-    acts = acts_called Says r;
-    does = rw r.others.goes_on at (does r.found r.own r.says);
-  }
+  held_called step answer x r does = grind (arith, acts_called)
 
   refused_done : (step : Step) (why : Refusal) (f : Follows p q) → ((h : History) → step_refusal p.shape h c step ≡ Some why → Does p.shape h c (batch_of (record { pass = p; batches = bs }) c) step [] (Err why) (batch_of (record { pass = p; batches = bs }) c))
       → (step_refusal p.shape (p.front ++ f.others.others) c step ≡ Some why) ⊎ ((step_refusal p.shape (p.front ++ f.others.others) c step ≡ None) × (why ≡ OutOfMemory) × (0 < step_events p.shape (p.front ++ f.others.others) c (batch_of (record { pass = p; batches = bs }) c) step))
       → HeldDone c step (record { pass = p; batches = bs }) (record { pass = q; batches = bs }) (Err (Refused why))
-  refused_done step OutOfMemory f does cause =
-      elim cause [
-        | inl e ↦ absurd (never_memory p.shape (p.front ++ f.others.others) c step e)
-        | inr none ↦ record { others = f.others.others; acts = acts_followed f; allowed = none.0; needs = none.2 }
-      ]
-  refused_done step why f does cause =
-      elim cause [
-        | inl e ↦ record { others = f.others.others; own = []; after = batch_of (record { pass = p; batches = bs }) c; acts = acts_followed f; does = does (p.front ++ f.others.others) e }
-        | inr none ↦ let e = none.1 in absurd (cc)
-      ]
+  refused_done step x f does cause = grind (arith, never_memory, acts_followed)
 
   -- a step that failed
   pub held_failed : (step : Step) (fault : CellFault) → Failed p q (step_refusal q.shape q.front c step) (step_events q.shape q.front c (batch_of (record { pass = p; batches = bs }) c) step) fault
       → ((h : History) (why : Refusal) → step_refusal p.shape h c step ≡ Some why → Does p.shape h c (batch_of (record { pass = p; batches = bs }) c) step [] (Err why) (batch_of (record { pass = p; batches = bs }) c))
       → HeldDone c step (record { pass = p; batches = bs }) (record { pass = q; batches = bs }) (Err fault)
-  held_failed step Busy failed does = (λ i. record { pass = failed.same i; batches = bs }, λ all. failed.shared (record { from = all.from; to = all.to }))
-  held_failed step (Refused why) failed does =
-      let f = failed.follows in
-      let shape : q.shape ≡ p.shape = ap (λ (x : PassState). x.shape) same in
-      let cause = failed.cause in
-      refused_done step why f (λ h e. does h why e)
-      (elim cause [
-        | inl e ↦ inl (rw (shape, f.others.goes_on) at e)
-        | inr none ↦ inr (rw (shape, f.others.goes_on) at none.0, none.1, rw (shape, f.others.goes_on) at none.2)
-      ])
+  held_failed step x failed does = grind (arith, refused_done)
 
 does_refused : (s : Shape) (h : History) (c : ℕ) (o : Op) (k : NodeCall) → node_call_of o ≡ k → (batch : Option Open) (why : Refusal) → refusal_of_call s h k ≡ Some why → Does s h c batch (steps.One o) [] (Err why) batch
 unfolding Does
@@ -157,9 +88,7 @@ does_call s h c o k call batch own answer e does = rw (call, e) (does, refl)
 
 -- a page was allocated
 pub alloc_done : (o : Op) → node_call_of o ≡ node.Alloc → (p q : PassState) (bs : List (Option BatchState)) (c : ℕ) (page : ℕ) → q ≡ at_front p q.front → Called p q c (DidAlloc p.shape c page) → HeldAnswered c (steps.One o) (record { pass = p; batches = bs }) (record { pass = q; batches = bs }) (Ok (reply.Page page))
-alloc_done o is p q bs c page same r =
-    held_called p q bs c same (steps.One o) (reply.Page page) (DidAlloc p.shape c page) r
-    (λ h own d. does_call p.shape h c o node.Alloc is _ own (reply.Page page) d.allowed (d.block, rw d.number at d.recorded, rw d.number refl))
+alloc_done o is p q bs c page same r = grind (arith, held_called, does_call)
 
 pub count_done : (o : Op) → node_call_of o ≡ node.Count → (p q : PassState) (bs : List (Option BatchState)) (c n : ℕ) → Follows p q → n ≡ length (queue q.shape q.front) → HeldAnswered c (steps.One o) (record { pass = p; batches = bs }) (record { pass = q; batches = bs }) (Ok (reply.Count n))
 count_done o call p q bs c n f is = record {
@@ -172,30 +101,24 @@ count_done o call p q bs c n f is = record {
 
 pub call_failed : (o : Op) (k : NodeCall) → node_call_of o ≡ k → (p q : PassState) (bs : List (Option BatchState)) (c : ℕ) (fault : CellFault) → q ≡ at_front p q.front → Failed p q (refusal_of_call q.shape q.front k) (call_events k) fault
     → HeldDone c (steps.One o) (record { pass = p; batches = bs }) (record { pass = q; batches = bs }) (Err fault)
-call_failed o k is p q bs c fault same failed =
-    held_failed p q bs c same (steps.One o) fault (rw is failed) (λ h why e. does_refused p.shape h c o k is _ why (rw is at e))
+call_failed o k is p q bs c fault same failed = grind (arith, held_failed, does_refused)
 
 -- an allocation, done or not
 pub alloc_told : (o : Op) → node_call_of o ≡ node.Alloc → (p q : PassState) (bs : List (Option BatchState)) (c : ℕ) (r : Result ℕ CellFault) → q ≡ at_front p q.front → IfOk r (λ page. Called p q c (DidAlloc p.shape c page)) → IfErr r (Failed p q (refusal_of_call q.shape q.front node.Alloc) 1)
     → HeldDone c (steps.One o) (record { pass = p; batches = bs }) (record { pass = q; batches = bs }) (page_reply r)
-alloc_told o is p q bs c (Ok page) same called failed = alloc_done o is p q bs c page same called
-alloc_told o is p q bs c (Err fault) same called failed = call_failed o node.Alloc is p q bs c fault same failed
+alloc_told o is p q bs c x same called failed = grind (arith, alloc_done, call_failed)
 
 -- a call that tells nothing
 pub unit_done : (o : Op) (k : NodeCall) → node_call_of o ≡ k → (p q : PassState) (bs : List (Option BatchState)) (c : ℕ) (w : What) (r : Result (Unit {0}) CellFault) (call : Call) → q ≡ at_front p q.front → OnOk r (Called p q c (DidOne p.shape call c w)) → IfErr r (Failed p q (refusal_of_call q.shape q.front k) (call_events k))
     → ((s : Shape) (h : History) → refusal_of_call s h k ≡ refusal s h call) → ((s : Shape) (h : History) (own : List Event) → own ≡ by c w ∷ [] → DoesCall s h c k own (Ok reply.Unit))
     → HeldDone c (steps.One o) (record { pass = p; batches = bs }) (record { pass = q; batches = bs }) (unit_reply r)
-unit_done o k at p q bs c w (Ok x) call same called failed is does =
-    held_called p q bs c same (steps.One o) reply.Unit (DidOne p.shape call c w) called (λ h own d. does_call p.shape h c o k at _ own reply.Unit (is p.shape h ∙ d.allowed) (does p.shape h own d.recorded))
-unit_done o k at p q bs c w (Err fault) call same called failed is does = call_failed o k at p q bs c fault same failed
+unit_done o k at p q bs c w x call same called failed is does = grind (arith, held_called, does_call, call_failed)
 
 -- a call that may give frames back
 pub loss_done : (o : Op) (k : NodeCall) → node_call_of o ≡ k → (p q : PassState) (bs : List (Option BatchState)) (c page : ℕ) (w : Outcome → List Bool → What) (r : Result Done CellFault) (call : Call) → q ≡ at_front p q.front → IfOk r (λ d. Called p q c (DidLose p.shape call c page w d)) → IfErr r (Failed p q (refusal_of_call q.shape q.front k) (call_events k))
     → ((s : Shape) (h : History) → refusal_of_call s h k ≡ refusal s h call) → ((s : Shape) (h : History) (own : List Event) (d : Done) → own ≡ by c (w d.outcome d.released) ∷ [] → DoesCall s h c k own (Ok (reply.Done d)))
     → HeldDone c (steps.One o) (record { pass = p; batches = bs }) (record { pass = q; batches = bs }) (loss_reply r)
-loss_done o k at p q bs c page w (Ok done) call same called failed is does =
-    held_called p q bs c same (steps.One o) (reply.Done done) (DidLose p.shape call c page w done) called (λ h own d. does_call p.shape h c o k at _ own (reply.Done done) (is p.shape h ∙ d.allowed) (does p.shape h own done d.recorded))
-loss_done o k at p q bs c page w (Err fault) call same called failed is does = call_failed o k at p q bs c fault same failed
+loss_done o k at p q bs c page w x call same called failed is does = grind (arith, held_called, does_call, call_failed)
 
 -- ---- calls that change an open batch
 
@@ -265,49 +188,19 @@ held_set cell p q bs c place x held same stay at lt for =
 
 module _ (p q : PassState) (bs : List (Option BatchState)) (c place : ℕ) (same : q ≡ at_front p q.front) (at : place + p.first ≡ c) (lt : place < length bs) where
   batch_new : (x : Option BatchState) → batch_of (record { pass = q; batches = set bs place x }) c ≡ open_in (Some x)
-  batch_new x =
-      let first : q.first ≡ p.first = ap (λ (x : PassState). x.first) same in
-      let low : nat_le p.first c ≡ true = grind (arith, nat_tests, at) in
-      let is : c - p.first ≡ place = omega (arith, at) in
-      rw (first, low, is, slice_get-set_same bs place x lt) refl
+  batch_new x = grind (arith, nat_le, nat_tests, slice_get-set_same)
 
   pub batch_old : batch_of (record { pass = p; batches = bs }) c ≡ open_in (slice_get bs place)
-  batch_old =
-      let low : nat_le p.first c ≡ true = grind (arith, nat_tests, at) in
-      let is : c - p.first ≡ place = omega (arith, at) in
-      rw (low, is) refl
+  batch_old = grind (arith, nat_le, nat_tests)
 
   batch_other : (x : Option BatchState) (d : ℕ) → d ≢ c → batch_of (record { pass = q; batches = set bs place x }) d ≡ batch_of (record { pass = p; batches = bs }) d
-  batch_other x d other = by_test (nat_le p.first d) refl
-    where
-      by_test : (t : Bool) → nat_le p.first d ≡ t → batch_of (record { pass = q; batches = set bs place x }) d ≡ batch_of (record { pass = p; batches = bs }) d
-      by_test true e =
-          let first : q.first ≡ p.first = ap (λ (x : PassState). x.first) same in
-          let le : p.first ≤ d = grind (arith, nat_tests, e) in
-          rw (first, e, slice_get-set_other bs place (d - p.first) x (λ f. other (omega (arith, at, f, le)))) refl
-      by_test false e =
-          let first : q.first ≡ p.first = ap (λ (x : PassState). x.first) same in
-          rw (first, e) refl
+  batch_other x d other = grind (arith, nat_le, nat_tests, slice_get-set_other)
 
   -- a step that was answered, and left this batch
   pub held_changed : (x : Option BatchState) (step : Step) (answer : Reply) (Says : History → List Event → Type 0) → Called p q c Says
       → ((h : History) (own : List Event) → Says h own → Does p.shape h c (open_in (slice_get bs place)) step own (Ok answer) (open_in (Some x)))
       → HeldAnswered c step (record { pass = p; batches = bs }) (record { pass = q; batches = set bs place x }) (Ok answer)
-  held_changed x step answer Says r does = record {
-    others = r.others.others;
-    own = r.own;
-    after = open_in (Some x);
-    acts = record {
-      pass = same;
-      by_others = r.others.not_own;
-      by_caller = r.by_caller;
-      front = r.front ∙ ap (λ h. h ++ r.own) r.others.goes_on;
-      legal = λ before. r.legal;
-      batch = batch_new x;
-      other_batches = batch_other x;
-    };
-    does = rw batch_old (rw r.others.goes_on at (does r.found r.own r.says));
-  }
+  held_changed x step answer y r does = grind (arith, batch_new, batch_other, batch_old)
 
 -- nothing happened
 pub held_nothing : (p : PassState) (bs : List (Option BatchState)) (c : ℕ) (step : Step) (answer : Reaction) → Does p.shape p.front c (batch_of (record { pass = p; batches = bs }) c) step [] answer (batch_of (record { pass = p; batches = bs }) c)
@@ -353,8 +246,7 @@ open_batch a b pages left e f = λ i. record { pages = e i; left = f i }
 
 try_does : (s : Shape) (h : History) (c : ℕ) (old new : BatchState) (t : Tried) (own : List Event) → old.caller ≡ c → new.pages ≡ old.pages → DidTry s old new t h own → Does s h c (Some (open_of old)) SplitNext own (Ok (reply.Tried t)) (Some (open_of new))
 unfolding Does
-try_does s h c old new t own caller pages d =
-    (rw caller at d.recorded, rw (d.answer, caller) refl, ap Some (open_batch new old old.pages _ pages (rw caller at d.rest_is)))
+try_does s h c old new t own caller pages d = grind (arith, open_batch)
 
 back_does : (s : Shape) (h : History) (c : ℕ) (b : BatchState) (r : BackReply) (own : List Event) → b.caller ≡ c → DidPutBack s b r h own → Does s h c (Some (open_of b)) PutBack own (Ok (reply.Back r)) None
 unfolding Does
@@ -373,10 +265,7 @@ mine {cell} {p} {bs} {c} {b} place held at has is = let e = held.each place b is
 -- there is no batch, and nothing happens
 pub none_held : (p : PassState) (bs new : List (Option BatchState)) (c place : ℕ) (step : Step) (answer : Reaction) → place + p.first ≡ c → place < length bs → slice_get bs place ≡ Some None → new ≡ set bs place None
     → ((h : History) → Does p.shape h c None step [] answer None) → HeldAnswered c step (record { pass = p; batches = bs }) (record { pass = p; batches = new }) answer
-none_held p bs new c place step answer at lt is now does =
-    let same : new ≡ bs = now ∙ set_same bs place None is in
-    let found : batch_of (record { pass = p; batches = bs }) c ≡ None = batch_old p p bs c place refl at lt ∙ ap open_in is in
-    rw same (held_nothing p bs c step answer (rw found (does p.front)))
+none_held p bs new c place step answer at lt is now does = grind (arith, set_same, batch_old, held_nothing)
 
 pub no_split_held : (p : PassState) (bs new : List (Option BatchState)) (c place : ℕ) → place + p.first ≡ c → place < length bs → slice_get bs place ≡ Some None → new ≡ set bs place None → HeldAnswered c SplitNext (record { pass = p; batches = bs }) (record { pass = p; batches = new }) (Ok reply.NoBatch)
 no_split_held p bs new c place at lt is now = none_held p bs new c place SplitNext (Ok reply.NoBatch) at lt is now (λ h. no_split p.shape h c)
@@ -385,9 +274,7 @@ pub no_back_held : (p : PassState) (bs new : List (Option BatchState)) (c place 
 no_back_held p bs new c place at lt is now = none_held p bs new c place PutBack (Ok reply.NoBatch) at lt is now (λ h. no_back p.shape h c)
 
 pub beside_held : (p : PassState) (bs : List (Option BatchState)) (c place n : ℕ) (b : BatchState) → place + p.first ≡ c → place < length bs → slice_get bs place ≡ Some (Some b) → HeldAnswered c (Take n) (record { pass = p; batches = bs }) (record { pass = p; batches = bs }) (Err HasBatch)
-beside_held p bs c place n b at lt is =
-    let found : batch_of (record { pass = p; batches = bs }) c ≡ Some (open_of b) = batch_old p p bs c place refl at lt ∙ ap open_in is in
-    held_nothing p bs c (Take n) (Err HasBatch) (rw found (beside_take p.shape p.front c n (open_of b)))
+beside_held p bs c place n b at lt is = grind (arith, batch_old, held_nothing, beside_take)
 
 module _ (p q : PassState) (bs new : List (Option BatchState)) (c place : ℕ) (same : q ≡ at_front p q.front) (at : place + p.first ≡ c) (lt : place < length bs) where
   pub take_held : (n taken : ℕ) (b : BatchState) → slice_get bs place ≡ Some None → new ≡ set bs place (Some b) → taken ≡ length b.pages → Called p q c (DidTake p.shape c n b)
@@ -396,9 +283,7 @@ module _ (p q : PassState) (bs new : List (Option BatchState)) (c place : ℕ) (
       rw (now, count) (held_changed p q bs c place same at lt (Some b) (Take n) (reply.Taken (length b.pages)) (DidTake p.shape c n b) r (λ h own d. rw is (take_does p.shape h c n own b d)))
 
   pub take_failed : (n : ℕ) (fault : CellFault) → slice_get bs place ≡ Some None → Failed p q (refusal q.shape q.front (call.take c)) (length (take_events q.shape q.front c n)) fault → HeldDone c (Take n) (record { pass = p; batches = bs }) (record { pass = q; batches = bs }) (Err fault)
-  take_failed n fault is failed =
-      let found : batch_of (record { pass = p; batches = bs }) c ≡ None = batch_old p q bs c place same at lt ∙ ap open_in is in
-      held_failed p q bs c same (Take n) fault (rw found failed) (λ h why e. rw found (refused_take p.shape h c n why e))
+  take_failed n fault is failed = grind (arith, batch_old, held_failed, refused_take)
 
   pub split_held : (b b' : BatchState) (t : Tried) → b.caller ≡ c → slice_get bs place ≡ Some (Some b) → new ≡ set (set bs place None) place (Some b') → b'.pages ≡ b.pages → Called p q b.caller (DidTry p.shape b b' t)
       → HeldAnswered c SplitNext (record { pass = p; batches = bs }) (record { pass = q; batches = new }) (Ok (reply.Tried t))
@@ -417,15 +302,10 @@ module _ (p q : PassState) (bs new : List (Option BatchState)) (c place : ℕ) (
   put_again b b' is e now = now ∙ set_twice bs place None (Some b') ∙ set_same bs place (Some b') (is ∙ ap (λ (x : BatchState). Some (Some x)) (sym e))
 
   pub split_failed : (b b' : BatchState) (fault : CellFault) → b.caller ≡ c → slice_get bs place ≡ Some (Some b) → b' ≡ b → new ≡ set (set bs place None) place (Some b') → Failed p q None (length (split_next_events q.shape q.front b.caller (rest b))) fault → HeldDone c SplitNext (record { pass = p; batches = bs }) (record { pass = q; batches = new }) (Err fault)
-  split_failed b b' fault caller is e now failed =
-      let found : batch_of (record { pass = p; batches = bs }) c ≡ Some (open_of b) = batch_old p q bs c place same at lt ∙ ap open_in is in
-      subst (λ (x : List (Option BatchState)). HeldDone c SplitNext (record { pass = p; batches = bs }) (record { pass = q; batches = x }) (Err fault)) (sym (put_again b b' is e now))
-      (held_failed p q bs c same SplitNext fault (rw (found, ← caller) failed) (λ h why f. absurd (cc)))
+  split_failed b b' fault caller is e now failed = grind (arith, batch_old, put_again, held_failed)
 
   pub back_failed : (b : BatchState) (fault : CellFault) → b.caller ≡ c → slice_get bs place ≡ Some (Some b) → Failed p q None (length (put_back_events q.shape q.front b.caller b.pages)) fault → HeldDone c PutBack (record { pass = p; batches = bs }) (record { pass = q; batches = bs }) (Err fault)
-  back_failed b fault caller is failed =
-      let found : batch_of (record { pass = p; batches = bs }) c ≡ Some (open_of b) = batch_old p q bs c place same at lt ∙ ap open_in is in
-      held_failed p q bs c same PutBack fault (rw (found, ← caller) failed) (λ h why f. absurd (cc))
+  back_failed b fault caller is failed = grind (arith, batch_old, held_failed)
 
 -- a place that was shut is so again
 pub shut_again : (bs : List (Option BatchState)) (place : ℕ) (x y : Option BatchState) → slice_get bs place ≡ Some None → set (set (set bs place x) place y) place None ≡ bs

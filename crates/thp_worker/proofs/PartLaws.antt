@@ -1,10 +1,10 @@
 -- Passes with their open batches, divided and joined.
-use Rattle.std.proofs.Common.{◌≡◌, ◌∙◌, ◌⊎◌, ◌++◌, ◌+◌, ◌-◌, ◌<◌, ◌≤◌, ap, ℕ, zero, suc, List, [], ◌∷◌, length, take, drop, refl, sym, inl, inr, arith, length-append, length-drop, Option, Some, true, slice_get, nat_le, length-take}
+use Rattle.std.proofs.Common.{◌≡◌, ◌∙◌, ◌⊎◌, ◌++◌, ◌+◌, ◌-◌, ◌<◌, ◌≤◌, ℕ, zero, suc, List, [], ◌∷◌, length, take, drop, refl, sym, inl, inr, arith, length-append, length-drop, Option, Some, slice_get, nat_le, length-take}
 use Rattle.std.proofs.lemmas.Bool.Decides.{nat_tests}
 use Rattle.std.proofs.lemmas.Option.{slice_get_within}
 use Rattle.atomic_table.specs.Seated.{TableId}
 use Rattle.thp_node.specs.Prelude.{BatchState}
-use Rattle.thp_cell.specs.Prelude.{BatchesStay, below, from, IsJoined, PassState, HasCaller}
+use Rattle.thp_cell.specs.Prelude.{BatchesStay, below, from, IsJoined, PassState}
 use Rattle.thp_worker.specs.Prelude.{Held, IsHeld, OpenStay, batch_of, lower_part, upper_part}
 
 module _ {A : Type 0} where
@@ -55,53 +55,18 @@ held_from cell p bs at k held is le = record {
 }
 
 pub held_joined : (cell : TableId) (p q r : PassState) (bs cs all : List (Option BatchState)) → IsHeld cell p bs → IsHeld q.cell q cs → IsJoined p q r → BatchesStay p r → BatchesStay q r → p.end ≡ q.first → all ≡ bs ++ cs → IsHeld cell r all
-held_joined cell p q r bs cs all left right j left-stay right-stay adjacent is =
-    let first : r.first ≡ p.first = ap (λ (x : PassState). x.first) j.callers in
-    let end : r.end ≡ q.end = ap (λ (x : PassState). x.end) j.callers in
-    rw is (record {
-      cell_is = ap (λ (x : PassState). x.cell) j.callers ∙ left.cell_is;
-      callers = omega (arith, first, end, length-append bs cs, left.callers, right.callers, adjacent);
-      each = λ i b e. elim (slice_get-append bs cs i (Some b) e) [
-        | inl l ↦
-            let was = left.each i b l in
-            let within = slice_get_within bs i (Some b) l in
-            let has : HasCaller p b.caller = record { from = omega (arith, was.0); below = omega (arith, was.0, left.callers, within) } in
-            (omega (arith, was.0, first), left-stay b has was.1)
-        | inr x ↦
-            let was = right.each x.0 b x.2 in
-            let within = slice_get_within cs x.0 (Some b) x.2 in
-            let has : HasCaller q b.caller = record { from = omega (arith, was.0); below = omega (arith, was.0, right.callers, within) } in
-            (omega (arith, was.0, first, x.1, left.callers, adjacent), right-stay b has was.1)
-      ];
-    })
+held_joined cell p q r bs cs all left right j left-stay right-stay adjacent is = grind (arith, length-append, slice_get-append, slice_get_within)
 
 -- the open batches of the callers of both are those of the joint pass
 pub joined_left_open : (cell : TableId) (p q r : PassState) (bs cs all : List (Option BatchState)) → IsHeld cell p bs → IsJoined p q r → all ≡ bs ++ cs → OpenStay (record { pass = p; batches = bs }) (record { pass = r; batches = all })
-joined_left_open cell p q r bs cs all held j is c has =
-    let first : r.first ≡ p.first = ap (λ (x : PassState). x.first) j.callers in
-    let low : nat_le p.first c ≡ true = grind (arith, nat_tests, has.from) in
-    let lt : c - p.first < length bs = omega (arith, has.from, has.below, held.callers) in
-    rw (is, first, low, slice_get-append_left bs cs (c - p.first) lt) refl
+joined_left_open cell p q r bs cs all held j is c has = grind (arith, nat_le, nat_tests, slice_get-append_left)
 
 pub joined_right_open : (cell : TableId) (p q r : PassState) (bs cs all : List (Option BatchState)) → IsHeld cell p bs → IsJoined p q r → p.end ≡ q.first → all ≡ bs ++ cs → OpenStay (record { pass = q; batches = cs }) (record { pass = r; batches = all })
-joined_right_open cell p q r bs cs all held j adjacent is c has =
-    let first : r.first ≡ p.first = ap (λ (x : PassState). x.first) j.callers in
-    let le : p.first ≤ c = omega (arith, has.from, held.callers, adjacent) in
-    let low : nat_le p.first c ≡ true = grind (arith, nat_tests, le) in
-    let own : nat_le q.first c ≡ true = grind (arith, nat_tests, has.from) in
-    let at : c - p.first ≡ length bs + (c - q.first) = omega (arith, held.callers, adjacent, has.from) in
-    rw (is, first, low, own, at, slice_get-append_right bs cs (c - q.first)) refl
+joined_right_open cell p q r bs cs all held j adjacent is c has = grind (arith, nat_le, nat_tests, slice_get-append_right)
 
 -- and those of a part are those that were
 pub lower_open : (h : Held) (at c : ℕ) → h.pass.first ≤ c → c < at → batch_of (lower_part h at) c ≡ batch_of h c
-lower_open h at c le lt =
-    let low : nat_le h.pass.first c ≡ true = grind (arith, nat_tests, le) in
-    rw (low, slice_get-within_front h.batches (at - h.pass.first) (c - h.pass.first) (omega (arith, le, lt))) refl
+lower_open h at c le lt = grind (arith, nat_le, nat_tests, slice_get-within_front)
 
 pub upper_open : (h : Held) (at c : ℕ) → h.pass.first < at → at ≤ c → batch_of (upper_part h at) c ≡ batch_of h c
-upper_open h at c after le =
-    let own : nat_le at c ≡ true = grind (arith, nat_tests, le) in
-    let before : h.pass.first ≤ c = omega (arith, after, le) in
-    let low : nat_le h.pass.first c ≡ true = grind (arith, nat_tests, before) in
-    let place : at - h.pass.first + (c - at) ≡ c - h.pass.first = omega (arith, after, le) in
-    rw (own, low, slice_get-drop h.batches (at - h.pass.first) (c - at), place) refl
+upper_open h at c after le = grind (arith, nat_le, nat_tests, slice_get-drop)

@@ -21,11 +21,7 @@ use Rattle.thp_worker.proofs.StepLaws.{steps_none, steps_then, goes_grows, grows
 
 -- below the next is below or there
 split_lt : (k n : ℕ) → k < suc n → (k < n) ⊎ (k ≡ n)
-split_lt k n lt = by_order (cases_lt k n)
-  where
-    by_order : (k < n) ⊎ (n ≤ k) → (k < n) ⊎ (k ≡ n)
-    by_order (inl lo) = inl lo
-    by_order (inr hi) = inr (omega (arith, lt, hi))
+split_lt k n lt = grind (arith, cases_lt)
 
 steps_of-append : (ts us : List Turn) → steps_of (ts ++ us) ≡ steps_of ts ++ steps_of us
 steps_of-append ts us = flat_map-append (λ (t : Turn). t.steps) ts us
@@ -54,8 +50,7 @@ length-answers k (t ∷ ts) = rw (length-answers (k + 1) ts) refl
 -- ---- commands
 
 is_next_first : (bs : ℕ → Option Open) (o : Option Command) → IsNext bs o [] no_progress
-is_next_first bs None = (refl, refl)
-is_next_first bs (Some command) = record { on_node = All-nil (λ (m : Made). m.node ≡ command.node); begun = not_begun command.op; ready = inl refl }
+is_next_first bs x = grind (arith, All-nil, not_begun)
 
 -- no command yet
 pub begins_first : (c : ℕ) (f : Fronts) (commands : List Command) (answers : List Answer) (opened : List Bool) → answers ≡ [] → opened ≡ replicate f.nodes false → HasNoBatch c f → Begins c f f commands answers opened no_progress
@@ -147,9 +142,7 @@ begins_told c number old mid new commands answers opened begun more command call
 
 -- a command that was begun can go on
 pub begun_on : (c : ℕ) (old mid : Fronts) (commands : List Command) (answers : List Answer) (opened : List Bool) (begun : CommandProgress) (command : Command) → slice_get commands (length answers) ≡ Some command → (b : Begins c old mid commands answers opened begun) → IsProgressOn (mid.batches c) command b.made begun
-begun_on c old mid commands answers opened begun command at b =
-    let count : length b.turns ≡ length answers = sym (ap length b.answered ∙ length-answers 0 b.turns) in
-    subst (λ o. IsNext (mid.batches c) o b.made begun) (ap (slice_get commands) count ∙ at) b.next
+begun_on c old mid commands answers opened begun command at b = grind (arith, length-answers, slice_get, next)
 
 -- all commands were done
 pub ends_first : (c : ℕ) (old mid : Fronts) (commands : List Command) (answers : List Answer) (opened : List Bool) (begun : CommandProgress) → length commands ≤ length answers → Begins c old mid commands answers opened begun → Ends c old mid commands answers opened 0
@@ -183,22 +176,7 @@ get_after (first ∷ before) commands k command at =
 
 -- Further commands come behind those that were done.
 pub begins_longer : (c : ℕ) (old mid : Fronts) (commands more : List Command) (answers : List Answer) (opened : List Bool) → length answers ≡ length commands → Begins c old mid commands answers opened no_progress → Begins c old mid (commands ++ more) answers opened no_progress
-begins_longer c old mid commands more answers opened each b =
-    let count : length b.turns ≡ length answers = sym (ap length b.answered ∙ length-answers 0 b.turns) in
-    let past : length commands ≤ length b.turns = omega (arith, each, count) in
-    let within : length b.turns ≤ length commands = omega (arith, each, count) in
-    let none = subst (λ o. IsNext (mid.batches c) o b.made no_progress) (slice_get_past commands (length b.turns) past) b.next in
-    record {
-      turns = b.turns;
-      made = b.made;
-      grows = b.grows;
-      steps = b.steps;
-      each = b.each;
-      done = b.done ∙ sym (take-append-le (length b.turns) commands more within);
-      answered = b.answered;
-      next = subst (λ ms. IsNext (mid.batches c) (slice_get (commands ++ more) (length b.turns)) ms no_progress) (sym none.0) (is_next_first (mid.batches c) (slice_get (commands ++ more) (length b.turns)));
-      known = b.known;
-    }
+begins_longer c old mid commands more answers opened each b = grind (arith, length-answers, slice_get_past, next, take-append-le, slice_get, is_next_first)
 
 -- ---- put-backs
 
@@ -257,9 +235,7 @@ after_open bs node nodes lt below =
 
 -- no batch is open
 pub closing_all : (bs : ℕ → Option Open) (nodes : ℕ) → ((k : ℕ) → k < nodes → bs k ≡ None) → closing nodes bs ≡ []
-closing_all bs nodes none =
-    let z : nodes + 0 ≡ nodes = omega arith in
-    ap (closing_from bs 0) (sym z) ∙ closing_none bs 0 nodes 0 (λ i lo hi. none i (omega (arith, hi)))
+closing_all bs nodes none = grind (arith, closing_none)
 
 no_steps : (ms : List Made) → told_by ms ≡ [] → ms ≡ []
 no_steps [] e = refl
@@ -359,32 +335,21 @@ ends_stop c n old mid new commands answers opened back more e g p =
 
 -- the batches below a node are shut, where those below the one before were and that one is
 pub shut_more : (c n : ℕ) (f : Fronts) → ((k : ℕ) → k < n → f.batches c k ≡ None) → f.batches c n ≡ None → (k : ℕ) → k < n + 1 → f.batches c k ≡ None
-shut_more c n f below here k lt = by_place (split_lt k n (omega (arith, lt)))
-  where
-    by_place : (k < n) ⊎ (k ≡ n) → f.batches c k ≡ None
-    by_place (inl lo) = below k lo
-    by_place (inr same) = rw same here
+shut_more c n f below here k lt = grind (arith, split_lt)
 
 pub shut_put : (c n : ℕ) (mid new : Fronts) (answer : Reaction) → ((k : ℕ) → k < n → mid.batches c k ≡ None) → PutsBack c n mid new (Ended answer) → (k : ℕ) → k < n + 1 → new.batches c k ≡ None
 shut_put c n mid new answer below p = shut_more c n new (λ k lt. p.elsewhere k (λ same. absurd (omega (arith, lt, same))) ∙ below k lt) p.shut
 
 pub not_open : (o : Option Open) → is_open o ≡ false → o ≡ None
-not_open None e = refl
-not_open (Some b) e = absurd (cc)
+not_open x e = grind arith
 
 -- as many answers as commands
 pub ends_answers : (c : ℕ) (old mid : Fronts) (commands : List Command) (answers : List Answer) (opened : List Bool) (back : ℕ) → Ends c old mid commands answers opened back → length commands ≡ length answers
-ends_answers c old mid commands answers opened back e =
-    let all : length (map command_of e.turns) ≡ length commands = ap length e.done in
-    let said : length answers ≡ length (answers_from 0 e.turns) = ap length e.answered in
-    omega (arith, all, said, length-map e.turns command_of, length-answers 0 e.turns)
+ends_answers c old mid commands answers opened back e = grind (arith, length-map, length-answers)
 
 -- the section came to its end
 pub works_end : (c : ℕ) (old mid : Fronts) (commands : List Command) (answers : LogState) (opened : Vec Bool Global) (back node : ℕ) → length commands ≤ answers.room → Ends c old mid commands answers.items opened.items back → old.nodes ≤ node → ((k : ℕ) → k < node → mid.batches c k ≡ None) → Works c old mid commands (record { answers = answers; rest = None; opened = opened })
-works_end c old mid commands answers opened back node room e all shut = record {
-  to = (back, e, closing_all (mid.batches c) old.nodes (λ k lt. shut k (omega (arith, lt, all))));
-  room = room;
-}
+works_end c old mid commands answers opened back node room e all shut = grind (arith, closing_all)
 
 -- or stops within its put-backs
 pub works_closing : (c : ℕ) (old mid : Fronts) (commands : List Command) (answers : LogState) (opened : Vec Bool Global) (back : ℕ) (r : Rest) → length commands ≤ answers.room → Ends c old mid commands answers.items opened.items back → r.command ≡ length commands → r.steps ≡ back → Works c old mid commands (record { answers = answers; rest = Some r; opened = opened })

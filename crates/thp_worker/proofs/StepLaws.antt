@@ -1,5 +1,5 @@
 -- Steps of a caller, one after another, in histories that go on.
-use Rattle.std.proofs.Common.{◌≡◌, ◌∙◌, Some, None, ◌++◌, ◌+◌, ◌<◌, ◌≤◌, ◌==◌, ap, ℕ, Bool, true, false, cond, List, [], ◌∷◌, length, take, drop, get_or, Option, refl, sym, subst, ◌⊎◌, inl, inr, arith, ◌-◌, append_assoc, length-append, All, AllPairs, nat_eq, filter}
+use Rattle.std.proofs.Common.{◌≡◌, ◌∙◌, None, ◌++◌, ◌+◌, ◌<◌, ◌≤◌, ◌==◌, ap, ℕ, Bool, true, false, List, [], ◌∷◌, length, take, drop, get_or, Option, refl, sym, subst, ◌⊎◌, inl, inr, arith, ◌-◌, append_assoc, length-append, All, AllPairs, nat_eq, filter}
 use Rattle.std.proofs.Math.Seq.{take-append_seam, drop-append_seam, take-length}
 use Rattle.std.proofs.lemmas.Bool.{eqb-true, eqb-false, eq-eqb, ne_eqb, cases_lt}
 use Rattle.std.proofs.lemmas.Grind.{flat_map-append}
@@ -40,13 +40,7 @@ pub same_refl : (f : Fronts) → SameHolding f f
 same_refl f = record { cells = refl; nodes = refl; shape = refl; callers = refl; first = refl; end = refl }
 
 pub goes_refl : (c : ℕ) (f : Fronts) → Goes c f f
-goes_refl c f = record {
-  same = same_refl f;
-  grown = λ n. ([], sym (append-nil (f.front n)));
-  others = λ d n has other. refl;
-  others_batches = λ d n other. refl;
-  legal = λ n legal. legal;
-}
+goes_refl c f = grind (arith, same_refl, append-nil)
 
 pub same_trans : (f g h : Fronts) → SameHolding f g → SameHolding g h → SameHolding f h
 same_trans f g h a b = record { cells = b.cells ∙ a.cells; nodes = b.nodes ∙ a.nodes; shape = b.shape ∙ a.shape; callers = b.callers ∙ a.callers; first = b.first ∙ a.first; end = b.end ∙ a.end }
@@ -78,33 +72,13 @@ module _ (c n : ℕ) (old new : Fronts) (others own : List Event) (after : Optio
       by_cases false e = ([], m.elsewhere k (eqb-false k n e) ∙ sym (append-nil (old.front k)))
 
   others_stay : (d k : ℕ) → HoldsCaller old d → (d ≡ c → ⊥) → events_of d (new.front k) ≡ events_of d (old.front k)
-  others_stay d k has other = by_cases (k == n) refl
-    where
-      by_cases : (b : Bool) → (k == n) ≡ b → events_of d (new.front k) ≡ events_of d (old.front k)
-      by_cases true e =
-          let same : k ≡ n = eqb-true k n e in
-          let by-others : events_of d others ≡ [] = not_other old d others has m.by_others in
-          let not-own : events_of d own ≡ [] = none_own d own (λ k e lt same. other (sym same ∙ m.by_caller k e lt)) in
-          rw (same, m.front, events_of-append d (old.front n ++ others) own, events_of-append d (old.front n) others, by-others, not-own, append-nil (events_of d (old.front n))) (append-nil (events_of d (old.front n)))
-      by_cases false e = ap (events_of d) (m.elsewhere k (eqb-false k n e))
+  others_stay d k has other = grind (arith, eqb-true, not_other, none_own, events_of-append, append-nil, eqb-false)
 
   legal_stays : (k : ℕ) → IsLegal (old.shape k) (old.front k) → IsLegal (old.shape k) (new.front k)
-  legal_stays k legal = by_cases (k == n) refl
-    where
-      by_cases : (b : Bool) → (k == n) ≡ b → IsLegal (old.shape k) (new.front k)
-      by_cases true e =
-          let same : k ≡ n = eqb-true k n e in
-          rw same (m.legal (rw same at legal))
-      by_cases false e = rw (m.elsewhere k (eqb-false k n e)) legal
+  legal_stays k legal = grind (arith, eqb-true, eqb-false)
 
   pub moves_goes : Goes c old new
-  moves_goes = record {
-    same = m.same;
-    grown = goes_on;
-    others = others_stay;
-    others_batches = λ d k other. m.other_batches d k (λ both. other both.0);
-    legal = legal_stays;
-  }
+  moves_goes = grind (arith, goes_on, others_stay, legal_stays)
 
 -- ---- steps in histories that go on
 
@@ -124,8 +98,7 @@ is_made_stays shape h k c on made s =
     }
 
 own_events-append : (n : ℕ) (xs ys : List Made) → own_events n (xs ++ ys) ≡ own_events n xs ++ own_events n ys
-own_events-append n xs ys =
-    rw (filter-append (λ (m : Made). nat_eq m.node n) xs ys) (flat_map-append (λ (m : Made). m.own) (filter (λ (m : Made). nat_eq m.node n) xs) (filter (λ (m : Made). nat_eq m.node n) ys))
+own_events-append n xs ys = grind (arith, filter-append, nat_eq, flat_map-append)
 
 pub batches_after-append : (bs : ℕ → Option Open) (xs ys : List Made) → batches_after bs (xs ++ ys) ≡ batches_after (batches_after bs xs) ys
 unfolding batches_after
@@ -160,16 +133,10 @@ pairs-append xs ys len a b ends begins i j d lt within = by_cases (nat_lt_or i (
         (b (i - length xs) (j - length xs) d (omega (arith, lt, p, q)) room)
 
 pub goes_grows : (c : ℕ) (f g : Fronts) → Goes c f g → Grows f g
-goes_grows c f g a = record {
-  same = record { cells = a.same.cells; nodes = a.same.nodes; shape = a.same.shape; callers = a.same.callers };
-  grown = a.grown;
-}
+goes_grows c f g a = grind arith
 
 pub grows_refl : (f : Fronts) → Grows f f
-grows_refl f = record {
-  same = record { cells = refl; nodes = refl; shape = refl; callers = refl };
-  grown = λ n. ([], sym (append-nil (f.front n)));
-}
+grows_refl f = grind (arith, append-nil)
 
 pub grows_trans : (f g h : Fronts) → Grows f g → Grows g h → Grows f h
 grows_trans f g h a b = record {
@@ -207,14 +174,7 @@ steps_then c old mid new xs ys g k a b = record {
 -- no step
 pub steps_none : (c : ℕ) (f : Fronts) → Steps c f f []
 unfolding batches_after Carries
-steps_none c f = record {
-  each = All-nil (IsMade f.shape f.front c);
-  in_order = λ i j d lt within. absurd (omega (arith, within));
-  behind = All-nil (λ (m : Made). length (f.front m.node) ≤ m.before);
-  own = λ n. sym (append-nil (events_of c (f.front n)));
-  carries = tt;
-  batches = λ n. refl;
-}
+steps_none c f = grind (arith, All-nil, append-nil)
 
 -- the step of caller c on node n that was answered
 abbrev pub made_by : (c n : ℕ) (step : Step) (old new : Fronts) (answer : Reaction) → Answered c n step old new answer → Made
@@ -229,13 +189,7 @@ made_by c n step old new answer a = record {
 
 module _ (c n : ℕ) (step : Step) (old new : Fronts) (answer : Reaction) (a : Answered c n step old new answer) (has : HoldsCaller old c) where
   is_made : IsMade old.shape new.front c (made_by c n step old new answer a)
-  is_made =
-      let before = old.front n ++ a.others in
-      record {
-        within = rw a.moves.front (omega (arith, length-append before a.own));
-        stands = rw (a.moves.front, drop-append_seam before a.own, take-length a.own) refl;
-        does = rw (a.moves.front, take-append_seam before a.own) a.does;
-      }
+  is_made = grind (arith, length-append, drop-append_seam, take-length, take-append_seam)
 
   own_grows : (k : ℕ) → events_of c (new.front k) ≡ events_of c (old.front k) ++ own_events k (made_by c n step old new answer a ∷ [])
   own_grows k = by_cases (k == n) refl
@@ -250,23 +204,12 @@ module _ (c n : ℕ) (step : Step) (old new : Fronts) (answer : Reaction) (a : A
           rw (ne_eqb n k (λ same. other (sym same)), append-nil (events_of c (old.front k)), a.moves.elsewhere k other) refl
 
   batches_are_after : (k : ℕ) → new.batches c k ≡ with_batch (old.batches c) n a.after k
-  batches_are_after k = by_cases (k == n) refl
-    where
-      by_cases : (b : Bool) → (k == n) ≡ b → new.batches c k ≡ cond b a.after (old.batches c k)
-      by_cases true e = let same : k ≡ n = eqb-true k n e in rw same a.moves.batch
-      by_cases false e = a.moves.other_batches c k (λ both. eqb-false k n e both.1)
+  batches_are_after k = grind (arith, eqb-true, eqb-false)
 
   -- one step
   pub steps_one : Steps c old new (made_by c n step old new answer a ∷ [])
   unfolding batches_after Carries
-  steps_one = record {
-    each = All-cons (IsMade old.shape new.front c) _ [] is_made (All-nil (IsMade old.shape new.front c));
-    in_order = λ i j d lt within. absurd (omega (arith, lt, within));
-    behind = All-cons (λ (m : Made). length (old.front m.node) ≤ m.before) _ [] (omega (arith, length-append (old.front n) a.others)) (All-nil (λ (m : Made). length (old.front m.node) ≤ m.before));
-    own = own_grows;
-    carries = (refl, tt);
-    batches = batches_are_after;
-  }
+  steps_one = grind (arith, All-cons, is_made, All-nil, length-append, own_grows, batches_are_after)
 
 -- what was made stays where the histories go on by others
 pub steps_stay : (c : ℕ) (old new later : Fronts) (ms : List Made) → Steps c old new ms → ((n : ℕ) → (more : History) × (later.front n ≡ new.front n ++ more)) → ((n : ℕ) → events_of c (later.front n) ≡ events_of c (new.front n))
@@ -292,8 +235,7 @@ batches_elsewhere bs n k (m ∷ ms) on other =
 -- a put-back leaves no open batch
 pub after_put_back : (s : Shape) (h : History) (c : ℕ) (batch : Option Open) (own : List Event) (answer : Reaction) (after : Option Open) → Does s h c batch PutBack own answer after → after ≡ None
 unfolding Does
-after_put_back s h c None own answer after d = d.2
-after_put_back s h c (Some b) own answer after d = d.2
+after_put_back s h c x own answer after d = grind arith
 
 pub closed_by : (c n : ℕ) (old new : Fronts) (answer : Reaction) (ms : List Made) → Steps c old new ms → All (λ (m : Made). m.node ≡ n) ms → told_by ms ≡ record { step = PutBack; answer = answer } ∷ [] → new.batches c n ≡ None
 unfolding batches_after

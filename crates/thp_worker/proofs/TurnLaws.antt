@@ -1,11 +1,10 @@
 -- How a scan goes on from step to step.
-use Rattle.std.proofs.Common.{◌≡◌, ℕ, ◌+◌, ◌<◌, ◌≤◌, Bool, true, false, cond, List, [], ◌∷◌, ◌++◌, length, map, take, ◌==◌, refl, inl, inr, arith, Option, Some, None, Ok, Err, length-append, All, filter, nat_eq, eq-eqb, ne_eqb, length-drop, length-take, eqb-true}
+use Rattle.std.proofs.Common.{◌≡◌, ℕ, ◌+◌, ◌<◌, ◌≤◌, Bool, true, false, cond, List, [], ◌∷◌, ◌++◌, length, map, ◌==◌, refl, inl, inr, arith, Option, Some, None, Ok, Err, length-append, All, filter, nat_eq, eq-eqb, ne_eqb, length-drop, length-take, eqb-true}
 use Rattle.std.proofs.lemmas.List.{append-nil, map-append, length-map}
 use Rattle.std.proofs.lemmas.List.Elements.{All-nil, All-head, All-tail, All-push, filter-append}
 use Rattle.std.specs.List.{find, after_first, position_or_len}
-use Rattle.thp_model.specs.Prelude.{max_batch, pins, History, queue, refusal, is_worth_split, take_events, next_page, rest_after}
+use Rattle.thp_model.specs.Prelude.{max_batch, pins, History, next_page, rest_after}
 use Rattle.thp_model.specs.declared.events.Event.{Event}
-use Rattle.thp_model.specs.declared.refusal.Refusal.{Refusal}
 use Rattle.thp_model.specs.declared.shape.Shape.{Shape}
 use Rattle.thp_model.specs.Refusals as call
 use Rattle.thp_node.specs.Prelude.{tried}
@@ -14,7 +13,7 @@ use Rattle.thp_node.specs.declared.answers.Tried.TheVariants as try
 use Rattle.thp_node.specs.declared.answers.ScanReply.{ScanReply}
 use Rattle.thp_script.specs.declared.script.Op.{Op}
 use Rattle.thp_script.specs.declared.script.Op.TheVariants as op
-use Rattle.thp_worker.specs.Prelude.{Step, Take, SplitNext, PutBack, CommandProgress, Open, Reaction, Does, Unless, IsFit, StepAnswer, Turned, IsProgressAfter, StepReacts, Reacts, first_step, next_step, scan_step, goes_on, scan_goes_on, no_progress, counted, took, answered_try, if_done, IsPage, is_split, is_pinned, is_used, tries_of, IsReady, StaysReady}
+use Rattle.thp_worker.specs.Prelude.{Step, Take, SplitNext, PutBack, CommandProgress, Open, Reaction, Does, IsFit, StepAnswer, Turned, IsProgressAfter, StepReacts, Reacts, first_step, next_step, scan_step, goes_on, scan_goes_on, no_progress, counted, took, answered_try, if_done, IsPage, is_split, is_pinned, is_used, tries_of, IsReady, StaysReady}
 use Rattle.thp_worker.specs.declared.reply.Reply.TheVariants as reply
 
 -- the first step of a scan
@@ -35,12 +34,10 @@ counts_tries (try.Used p ∷ tries) all = let more = counts_tries tries (All-tai
 counts_tries (try.Done ∷ tries) all = absurd (All-head IsPage try.Done tries all)
 
 step_is_try : (n steps tries : ℕ) → steps ≡ 1 + tries → scan_step n steps tries ≡ SplitNext
-step_is_try n steps tries e =
-    rw (ne_eqb steps 0 (λ z. absurd (omega arith)), eq-eqb steps (1 + tries) e) refl
+step_is_try n steps tries e = grind (arith, ne_eqb, eq-eqb)
 
 step_is_back : (n steps tries : ℕ) → steps ≡ 2 + tries → scan_step n steps tries ≡ PutBack
-step_is_back n steps tries e =
-    rw (ne_eqb steps 0 (λ z. absurd (omega arith)), ne_eqb steps (1 + tries) (λ z. absurd (omega arith))) refl
+step_is_back n steps tries e = grind (arith, ne_eqb)
 
 counts_push : (test : Tried → Bool) (tries : List Tried) (t : Tried) → length (filter test (tries ++ t ∷ [])) ≡ length (filter test tries) + length (filter test (t ∷ []))
 counts_push test tries t = rw (filter-append test tries (t ∷ [])) (length-append (filter test tries) (filter test (t ∷ [])))
@@ -99,24 +96,12 @@ try_turned n taken tries begun told (Ok _) pages count steps counts h = absurd h
 -- the put-back
 back_turned : (n taken : ℕ) (tries : List Tried) (begun : CommandProgress) (told : List StepAnswer) (answer : Reaction) → All IsPage tries → told ≡ took n taken ∷ map answered_try tries ++ answered_try try.Done ∷ []
     → begun.so_far ≡ counted taken tries → StepReacts PutBack answer → Turned (op.Scan n) (told ++ record { step = PutBack; answer = answer } ∷ []) (scan_goes_on begun answer)
-back_turned n taken tries begun told (Err why) pages steps counts h = absurd h
-back_turned n taken tries begun told (Ok (reply.Back back)) pages steps counts h =
-    inl (record { taken = taken; tries = tries; pages = pages; back = back; steps = rw steps refl; answered = rw counts refl })
-back_turned n taken tries begun told (Ok _) pages steps counts h = absurd h
+back_turned n taken tries begun told x pages steps counts h = grind arith
 
 scanning_turned : (n : ℕ) (begun : CommandProgress) (answer : Reaction) (told : List StepAnswer) (taken : ℕ) (tries : List Tried) (done : Bool) → All IsPage tries → begun.steps ≡ length told
     → told ≡ took n taken ∷ map answered_try tries ++ if_done done → begun.so_far ≡ counted taken tries → StepReacts (next_step (op.Scan n) begun) answer
     → Turned (op.Scan n) (told ++ record { step = next_step (op.Scan n) begun; answer = answer } ∷ []) (scan_goes_on begun answer)
-scanning_turned n begun answer told taken tries false pages count steps counts reacts =
-    let made : begun.steps ≡ 1 + length tries = rw (count, steps, append-nil (map answered_try tries), length-map tries answered_try) (omega arith) in
-    let all : tries_of begun.so_far ≡ length tries = rw counts (counts_tries tries pages) in
-    let next : next_step (op.Scan n) begun ≡ SplitNext = step_is_try n begun.steps _ (omega (arith, made, all)) in
-    rw next (try_turned n taken tries begun told answer pages count steps counts (rw next at reacts))
-scanning_turned n begun answer told taken tries true pages count steps counts reacts =
-    let made : begun.steps ≡ 2 + length tries = rw (count, steps, length-append (map answered_try tries) (answered_try try.Done ∷ []), length-map tries answered_try) (omega arith) in
-    let all : tries_of begun.so_far ≡ length tries = rw counts (counts_tries tries pages) in
-    let next : next_step (op.Scan n) begun ≡ PutBack = step_is_back n begun.steps _ (omega (arith, made, all)) in
-    rw next (back_turned n taken tries begun told answer pages steps counts (rw next at reacts))
+scanning_turned n begun answer told taken tries x pages count steps counts reacts = grind (arith, append-nil, length-map, counts_tries, step_is_try, try_turned, length-append, step_is_back, back_turned)
 
 same_count : (n m : ℕ) → op.Scan n ≡ op.Scan m → n ≡ m
 same_count n m e = cc
@@ -157,15 +142,7 @@ fewer_after test xs p e = omega (arith, length-drop (position_or_len test xs + 1
 -- a try leaves the scan ready
 try_ready : (s : Shape) (h : History) (page : Option ℕ) (begun : CommandProgress) (pages left behind : List ℕ) → begun.steps ≡ 1 + tries_of begun.so_far → tries_of begun.so_far + length left ≤ max_batch
     → length behind ≤ length left → ((p : ℕ) → page ≡ Some p → length behind < length left) → StaysReady (Some (record { pages = pages; left = behind })) (scan_goes_on begun (Ok (reply.Tried (tried s h page))))
-try_ready s h None begun pages left behind at few less fewer = inr (record { open_batch = record { pages = pages; left = behind }; is = refl; few = omega (arith, few, less); short = omega (arith, at) })
-try_ready s h (Some p) begun pages left behind at few less fewer =
-    let gone = fewer p refl in
-    by_cases (is_worth_split s h p) (nat_eq (pins h p) 0) gone
-  where
-    by_cases : (worth free : Bool) → length behind < length left → StaysReady (Some (record { pages = pages; left = behind })) (scan_goes_on begun (Ok (reply.Tried (cond worth (cond free (try.Split p) (try.Pinned p)) (try.Used p)))))
-    by_cases true true gone = inr (record { open_batch = record { pages = pages; left = behind }; is = refl; few = omega (arith, few, gone); short = omega (arith, at) })
-    by_cases true false gone = inr (record { open_batch = record { pages = pages; left = behind }; is = refl; few = omega (arith, few, gone); short = omega (arith, at) })
-    by_cases false free gone = inr (record { open_batch = record { pages = pages; left = behind }; is = refl; few = omega (arith, few, gone); short = omega (arith, at) })
+try_ready s h x begun pages left behind at few less fewer = grind (arith, nat_eq)
 
 -- what a step of a scan is answered, and how it leaves the scan
 abbrev Fares : Step → CommandProgress → Reaction → Option Open → Type 0
@@ -173,14 +150,7 @@ Fares step begun answer after = StepReacts step answer × StaysReady after (scan
 
 take_fares : (s : Shape) (h : History) (c n : ℕ) (batch : Option Open) (begun : CommandProgress) (own : List Event) (answer : Reaction) (after : Option Open) → n ≤ max_batch → (batch ≡ None → begun ≡ no_progress) → Does s h c batch (Take n) own answer after → Fares (Take n) begun answer after
 unfolding Does
-take_fares s h c n (Some b) begun own answer after le first does = rw does.1 (tt, tt)
-take_fares s h c n None begun own answer after le first does = by_refusal (refusal s h (call.take c)) does
-  where
-    by_refusal : (why : Option Refusal) → Unless why own answer None after ((own ≡ take_events s h c n) × (answer ≡ Ok (reply.Taken (length (take n (queue s h))))) × (after ≡ Some (record { pages = take n (queue s h); left = take n (queue s h) })))
-        → Fares (Take n) begun answer after
-    by_refusal (Some why) d = rw d.1 (tt, tt)
-    by_refusal None d =
-        rw (d.1, d.2, first refl) (tt, inr (record { open_batch = record { pages = take n (queue s h); left = take n (queue s h) }; is = refl; few = omega (arith, length-take n (queue s h), le); short = omega arith }))
+take_fares s h c n x begun own answer after le first does = grind (arith, length-take)
 
 next_fares : (s : Shape) (h : History) (c : ℕ) (b : Open) (begun : CommandProgress) (own : List Event) (answer : Reaction) (after : Option Open) → begun.steps ≡ 1 + tries_of begun.so_far → tries_of begun.so_far + length b.left ≤ max_batch
     → Does s h c (Some b) SplitNext own answer after → Fares SplitNext begun answer after
@@ -215,5 +185,4 @@ scan_fares s h c n batch begun own answer after le ready does =
 -- a step of a command, and how it leaves the command
 pub fares : (s : Shape) (h : History) (c : ℕ) (o : Op) (batch : Option Open) (begun : CommandProgress) (own : List Event) (answer : Reaction) (after : Option Open) → IsFit o → IsReady batch begun → Does s h c batch (next_step o begun) own answer after
     → Reacts o begun answer × StaysReady after (goes_on o begun answer)
-fares s h c (op.Scan n) batch begun own answer after fit ready does = scan_fares s h c n batch begun own answer after fit ready does
-fares s h c _ batch begun own answer after fit ready does = (tt, tt)
+fares s h c x batch begun own answer after fit ready does = grind (arith, scan_fares)

@@ -1,4 +1,4 @@
--- The definitions and types of this library, each by its name alone: one line of a file imports what it cites.
+-- Re-exports the definitions and types of this library: other files import those that they cite from here, in one line.
 pub use Rattle.thp_worker.specs.Does.{DoesCall, DoesLoss, DoesOne, IsFit, IsStep, Nothing, Open, Reaction, Unless, answer_of, call_events, node_call_of, open_of, refusal_of_call, step_events, step_refusal}
 unfoldable pub use Rattle.thp_worker.specs.Does.{Does}
 pub use Rattle.thp_worker.specs.Fronts.{Answered, Fronts, Goes, Grows, HoldsAllCallers, HoldsCaller, IsOther, IsStepBusy, Moves, OutOf, SameHolding, SameNodes, StepDone}

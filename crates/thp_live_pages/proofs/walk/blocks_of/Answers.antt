@@ -1,4 +1,4 @@
-use Rattle.std.proofs.Common.{◌≡◌, ◌<◌, ℕ, List, Option, Some, length, ap, sym, ◌∙◌, arith, subst, refl, slice_get, IfSome}
+use Rattle.std.proofs.Common.{◌≡◌, ◌<◌, List, Option, Some, length, ap, sym, ◌∙◌, arith, subst, refl, slice_get, IfSome}
 use Rattle.thp_links.specs.declared.link.Link.{Link}
 use Rattle.thp_live_pages.proofs.Walking.{inside, behind, joins}
 use Rattle.thp_live_pages.proofs.walk.blocks_of.Goals as goal

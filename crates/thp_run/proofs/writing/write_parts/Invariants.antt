@@ -1,4 +1,4 @@
-use Rattle.std.proofs.Common.{◌≡◌, [], length, false, true}
+use Rattle.std.proofs.Common.{◌≡◌, [], length, false}
 use Rattle.thp_cli.proofs.DeviceLaws.{Written}
 use Rattle.thp_cli.specs.Prelude.{Follow}
 use Rattle.thp_run.proofs.writing.write_parts.Given as goal

@@ -1,4 +1,4 @@
-use Rattle.std.proofs.Common.{◌≡◌, ℕ, List, ◌∙◌, Contains, ap, subst}
+use Rattle.std.proofs.Common.{ℕ, List, ◌∙◌, Contains, ap, subst}
 use Rattle.std.proofs.lemmas.Result.{IfOk-weaker}
 use Rattle.thp_check.specs.Prelude.{Replayed}
 use Rattle.thp_metrics.specs.Prelude.{stuck_among, AreStuck}

@@ -1,4 +1,4 @@
-use Rattle.std.proofs.Common.{◌≡◌, ◌<◌, ◌∙◌, ℕ, List, Option, length, get_or, None, ap, sym, subst, arith}
+use Rattle.std.proofs.Common.{◌<◌, ◌∙◌, ℕ, List, Option, length, get_or, None, ap, sym, subst, arith}
 use Rattle.std.proofs.lemmas.List.{get_or_read}
 use Rattle.thp_page.proofs.Chains.{chain_inside, left_falls, left_from}
 use Rattle.thp_page.proofs.Buckets.{IsSearchedTo, search_begun, search_on, search_ended}
