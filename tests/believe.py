@@ -145,6 +145,8 @@ class Reader:
                 there = module.split(".")[-2]
             if there in read.definitions:
                 self.meet(read.definitions[there], target)
+            elif target.suffix == ".antt":  # a file that passes names on
+                self.follow(there, read, target)
 
     def meet(self, definition: Definition, path: Path) -> None:
         """Meets a definition, once."""
