@@ -11,8 +11,8 @@ proves the crate again from scratch.
 `rt` proves one library after the other, and allows only one run in a crate and the crates below it. This program therefore
 runs `rt lib` for each library in a folder of its own, with the built libraries that it uses next to it, and then moves the
 result to the tree, where the next `rt` finds it. The library with the longest chain of remaining work goes first, with as many
-processes as `rt` chooses. Each other one gets its share of the processors, at a lower priority. Libraries that are already proved are
-left alone: `rt` itself checks them at the end.
+processes as `rt` chooses, or with all processors if no other can be proved beside it. Each other one gets its share of the processors,
+at a lower priority. Libraries that are already proved are left alone: `rt` itself checks them at the end.
 
 The line in which `rt` reports that a crate is proved, its verdict line, is stored in the crate's out/, with the sum of the sources
 that it is for, and the hashes of what was built from them (`verdict`). Where `rt` takes a proof from another checkout, the line of
@@ -300,9 +300,10 @@ def prove_all(target: str, most: int, started: list[subprocess.Popen[str]]) -> b
             ready = [it for it in left if not missing & {*below(it)}]
             starting = ready[: most - len(running)]
             share = max(1, most // max(1, len(running) + len(starting)))
+            is_alone = len(running) + len(starting) == 1
             for name in starting:
                 is_first = behind[name] == max(behind[it] for it in missing)
-                running[pool.submit(prove, name, None if is_first else share, started)] = name
+                running[pool.submit(prove, name, None if is_first and not is_alone else share, started)] = name
                 left.remove(name)
             for ended in wait(running, return_when=FIRST_COMPLETED).done:
                 name, said = running.pop(ended), ended.result()
