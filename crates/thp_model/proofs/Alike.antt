@@ -2,7 +2,8 @@
 use Rattle.std.proofs.Common.{◌≡◌, ℕ, ◌+◌, ◌-◌, ◌<◌, Bool, true, false, cond, not, ◌&&◌, ◌||◌, List, [], ◌∷◌, ◌++◌, Option, Some, None, map, refl, ap, ap₂, sym, ◌∙◌, arith, nat_eq, nat_lt, slice_get}
 use Rattle.std.specs.List.{fold, filter}
 use Rattle.std.proofs.lemmas.List.{map-append}
-use Rattle.thp_model.specs.Prelude.{Event, Outcome, Freed, Queued, Stays, What, Alloc, MapWhole, UnmapWhole, MapSub, UnmapSub, SplitPmd, Pin, Unpin, Write, Zero, Taken, Split, Used, Back, Dropped, Close, Refusal, NoPage, BadRange, IsSplit, NotMapped, Gone, NotPinned, TooMany, Closed, Shape, with_block, event_with, without_blocks, SameButBlocks, maps, unmaps, maps_whole, unmaps_whole, pins_page, unpins_page, is_alloc, allocates, frees, splits, closes, total, whole, pins, is_live, is_split, is_closed, allocations, shrinks_underused, zero_after, is_zero_filled, unmaps_some, unmaps_part, add_unmap, is_partly_mapped, is_worth_split, is_held, released, outcome, History, count_of, some_event, FitsBy, Gives, is_dropped, queue, queue_after, flights, flights_after, flight, is_taking, takes_by, stands, has_page, no_pages, refusal, most, covers, subpages}
+use Rattle.thp_model.specs.Prelude.{Event, Outcome, Freed, Queued, Stays, What, Refusal, NoPage, BadRange, IsSplit, NotMapped, Gone, NotPinned, TooMany, Closed, Shape, with_block, event_with, without_blocks, SameButBlocks, maps, unmaps, maps_whole, unmaps_whole, pins_page, unpins_page, is_alloc, allocates, frees, splits, closes, total, whole, pins, is_live, is_split, is_closed, allocations, shrinks_underused, zero_after, is_zero_filled, unmaps_some, unmaps_part, add_unmap, is_partly_mapped, is_worth_split, is_held, released, outcome, History, count_of, some_event, FitsBy, Gives, is_dropped, queue, queue_after, flights, flights_after, flight, is_taking, takes_by, stands, has_page, no_pages, refusal, most, covers, subpages}
+use Rattle.thp_model.specs.declared.events.What.TheVariants.{Alloc, MapWhole, UnmapWhole, MapSub, UnmapSub, SplitPmd, Pin, Unpin, Write, Zero, Taken, Split, Used, Back, Dropped, Close}
 use Rattle.thp_model.specs.declared.events.What.TheVariants.{Pinned}
 use Rattle.thp_model.specs.Refusals as call
 use Rattle.thp_model.proofs.Below.{some_below-ext}

@@ -1,7 +1,8 @@
 -- A live page is mapped or pinned, a split page has no pins, and so a live page holds a frame.
 use Rattle.std.proofs.Common.{◌≡◌, ℕ, ◌+◌, ◌-◌, Bool, true, false, not, ◌&&◌, ◌||◌, [], ◌∷◌, ◌++◌, refl, ap, sym, ◌∙◌, subst, arith, nat_eq, nat_lt, inl, inr, eq-eqb, lt-ltb}
 use Rattle.std.proofs.lemmas.Bool.Decides.{eqb_tells, nat_tests}
-use Rattle.thp_model.specs.Prelude.{Event, Outcome, What, Alloc, UnmapWhole, UnmapSub, Pin, Unpin, Split, Shape, History, count_of, some_event, by, is_freed, maps, unmaps, pins_page, unpins_page, allocates, frees, splits, total, pins, is_live, is_split, is_held, outcome, some_below, subpages, shrinks_underused, is_zero_filled, IsLegal, Fits, FitsBy}
+use Rattle.thp_model.specs.Prelude.{Event, Outcome, What, Shape, History, count_of, some_event, by, is_freed, maps, unmaps, pins_page, unpins_page, allocates, frees, splits, total, pins, is_live, is_split, is_held, outcome, some_below, subpages, shrinks_underused, is_zero_filled, IsLegal, Fits, FitsBy}
+use Rattle.thp_model.specs.declared.events.What.TheVariants.{Alloc, UnmapWhole, UnmapSub, Pin, Unpin, Split}
 use Rattle.thp_model.proofs.Allowed.{allowed_pin}
 use Rattle.thp_model.proofs.Below.{some_yes, some_no, some_more}
 use Rattle.thp_model.proofs.Bools.{by_bool, and_no}

@@ -1,7 +1,8 @@
 -- The blocks of pages: a block in use is that of one live page, and each page has one block.
 use Rattle.std.proofs.Common.{◌≡◌, ℕ, Bool, true, false, ◌&&◌, ◌||◌, List, [], ◌∷◌, map, refl, ap, sym, ◌∙◌, nat_eq, eqb-true}
 use Rattle.std.specs.List.{list_any, IsDistinct, AllByRecursion}
-use Rattle.thp_model.specs.Prelude.{What, Alloc, Shape, History, some_event, is_live, places, IsLegal}
+use Rattle.thp_model.specs.Prelude.{What, Shape, History, some_event, is_live, places, IsLegal}
+use Rattle.thp_model.specs.declared.events.What.TheVariants.{Alloc}
 use Rattle.thp_model.proofs.Blocks.{Placed, legal_placed, occupied, allocs, on_alloc, any_allocs, any-filter, some_event-ext}
 use Rattle.thp_model.proofs.Bools.{or_second}
 

@@ -8,7 +8,8 @@ use Rattle.std.proofs.lemmas.List.Elements.{filter-append}
 use Rattle.std.proofs.lemmas.List.Folds.{list_any-append}
 use Rattle.std.proofs.lemmas.List.Sums.{fold_push}
 use Rattle.std.proofs.lemmas.Map.Keys.{IsDistinct-push}
-use Rattle.thp_model.specs.Prelude.{Event, Outcome, Freed, What, Alloc, UnmapWhole, UnmapSub, Unpin, Shape, History, some_event, by, allocates, frees, is_live, is_freed, block_in_use, IsLegal, Fits, FitsBy}
+use Rattle.thp_model.specs.Prelude.{Event, Outcome, Freed, What, Shape, History, some_event, by, allocates, frees, is_live, is_freed, block_in_use, IsLegal, Fits, FitsBy}
+use Rattle.thp_model.specs.declared.events.What.TheVariants.{Alloc, UnmapWhole, UnmapSub, Unpin}
 use Rattle.thp_model.proofs.Alive.{Grown, grown_push, grown_none}
 use Rattle.thp_model.proofs.Bools.{or_none, or-false}
 use Rattle.thp_model.proofs.LegalSteps.{legal_all}

@@ -1,7 +1,8 @@
 -- Each frame of each page allocated is held, or was given back once.
 use Rattle.std.proofs.Common.{◌≡◌, ◌≢◌, ℕ, ◌+◌, ◌<◌, ◌≤◌, Bool, true, false, cond, not, ◌&&◌, ◌||◌, List, [], ◌∷◌, ◌++◌, refl, ap, sym, ◌∙◌, subst, arith, nat_eq, nat_lt, inl, inr, lt-ltb}
 use Rattle.std.proofs.lemmas.Bool.Decides.{eqb_tells, nat_tests}
-use Rattle.thp_model.specs.Prelude.{Event, What, Alloc, MapWhole, UnmapWhole, MapSub, UnmapSub, Unpin, Write, Zero, Split, Shape, History, count_of, some_event, by, is_live, is_split, allocates, frees, splits, allocations, gives_frame, is_held, released, IsLegal, Fits, FitsBy, flights, has, subpages, get_or-set_of}
+use Rattle.thp_model.specs.Prelude.{Event, What, Shape, History, count_of, some_event, by, is_live, is_split, allocates, frees, splits, allocations, gives_frame, is_held, released, IsLegal, Fits, FitsBy, flights, has, subpages, get_or-set_of}
+use Rattle.thp_model.specs.declared.events.What.TheVariants.{Alloc, MapWhole, UnmapWhole, MapSub, UnmapSub, Unpin, Write, Zero, Split}
 use Rattle.thp_model.proofs.Allowed.{allowed_map_whole, allowed_write, allowed_zero}
 use Rattle.thp_model.proofs.Bools.{and_no, and_both}
 use Rattle.thp_model.proofs.Holding.{whole_held, held_still, held_falls, unsplit_same, kept_map_sub, still_unmap_whole, still_unmap_sub, still_unpin, still_split}

@@ -2,7 +2,8 @@
 use Rattle.std.proofs.Common.{◌≡◌, ℕ, suc, ◌<◌, Bool, true, false, cond, not, ◌&&◌, ◌||◌, List, [], ◌∷◌, ◌++◌, Some, length, take, drop, refl, ap, sym, ◌∙◌, subst, arith, nat_eq, eq-eqb, eqb-true, append_assoc, slice_get, filter}
 use Rattle.std.proofs.lemmas.List.Elements.{filter-append}
 use Rattle.std.proofs.lemmas.List.Folds.{list_any-append}
-use Rattle.thp_model.specs.Prelude.{Event, Outcome, Freed, What, Alloc, MapWhole, UnmapWhole, MapSub, UnmapSub, SplitPmd, Pin, Unpin, Write, Zero, Taken, Split, Used, Back, Dropped, Close, Shape, History, by, some_event, is_live, is_split, is_closed, is_queued, is_freed, allocates, frees, flight_after, flight_by, outcome, IsLegal, FitsBy, enters, takes_of, is_others, acts_on, queue, flight, flights, has_page, stands, still_flying}
+use Rattle.thp_model.specs.Prelude.{Event, Outcome, Freed, What, Shape, History, by, some_event, is_live, is_split, is_closed, is_queued, is_freed, allocates, frees, flight_after, flight_by, outcome, IsLegal, FitsBy, enters, takes_of, is_others, acts_on, queue, flight, flights, has_page, stands, still_flying}
+use Rattle.thp_model.specs.declared.events.What.TheVariants.{Alloc, MapWhole, UnmapWhole, MapSub, UnmapSub, SplitPmd, Pin, Unpin, Write, Zero, Taken, Split, Used, Back, Dropped, Close}
 use Rattle.thp_model.specs.declared.events.What.TheVariants.{Pinned}
 use Rattle.thp_model.proofs.Alive.{legal_grown}
 use Rattle.thp_model.proofs.Allowed.{allowed_alloc, allowed_map_whole, allowed_unmap_whole, allowed_map_sub, allowed_unmap_sub, allowed_split_pmd, allowed_pin, allowed_unpin, allowed_write, allowed_zero}

@@ -1,7 +1,8 @@
 -- The frames that a page holds, after one more event.
 use Rattle.std.proofs.Common.{◌≡◌, ◌≢◌, ℕ, ◌+◌, ◌-◌, Bool, true, false, not, ◌&&◌, ◌||◌, List, [], ◌∷◌, ◌++◌, refl, sym, ◌∙◌, arith, nat_eq, nat_lt, ltb-true, None}
 use Rattle.std.proofs.lemmas.Bool.Decides.{nat_tests}
-use Rattle.thp_model.specs.Prelude.{Event, Outcome, What, UnmapWhole, MapSub, UnmapSub, Unpin, Split, Shape, History, by, maps, unmaps, is_split, is_live, allocates, frees, splits, is_held, shrinks_underused, writes, zeroes, refusal, covers, subpages}
+use Rattle.thp_model.specs.Prelude.{Event, Outcome, What, Shape, History, by, maps, unmaps, is_split, is_live, allocates, frees, splits, is_held, shrinks_underused, writes, zeroes, refusal, covers, subpages}
+use Rattle.thp_model.specs.declared.events.What.TheVariants.{UnmapWhole, MapSub, UnmapSub, Unpin, Split}
 use Rattle.thp_model.specs.Refusals as call
 use Rattle.thp_model.proofs.Allowed.{allowed_map_sub}
 use Rattle.thp_model.proofs.Below.{some_none}

@@ -3,7 +3,8 @@ use Rattle.std.proofs.Common.{◌≡◌, ◌≢◌, ℕ, suc, ◌+◌, ◌-◌, 
 use Rattle.std.specs.List.{sum_by, cons_option}
 use Rattle.std.proofs.lemmas.Bool.Decides.{eqb_tells, nat_tests}
 use Rattle.std.proofs.lemmas.List.Sums.{sum_by-append, sum_by-cons}
-use Rattle.thp_model.specs.Prelude.{Event, What, Alloc, MapWhole, UnmapWhole, MapSub, UnmapSub, Unpin, Write, Zero, Split, Shape, History, count_of, some_event, by, is_live, is_split, is_alloc, allocates, frees, splits, allocations, is_held, released, given, gives_back, frames_given, frames_held, FitsBy, IsLegal, flights, set_size, sum_below, count_below, subpages}
+use Rattle.thp_model.specs.Prelude.{Event, What, Shape, History, count_of, some_event, by, is_live, is_split, is_alloc, allocates, frees, splits, allocations, is_held, released, given, gives_back, frames_given, frames_held, FitsBy, IsLegal, flights, set_size, sum_below, count_below, subpages}
+use Rattle.thp_model.specs.declared.events.What.TheVariants.{Alloc, MapWhole, UnmapWhole, MapSub, UnmapSub, Unpin, Write, Zero, Split}
 use Rattle.thp_model.proofs.Allowed.{allowed_map_whole, allowed_unmap_whole, allowed_unmap_sub, allowed_unpin, allowed_write, allowed_zero}
 use Rattle.thp_model.proofs.Bools.{and_no, and_both}
 use Rattle.thp_model.proofs.Holding.{held_still, held_falls, still_unmap_whole, still_unmap_sub, still_unpin, still_split, whole_held, unsplit_same, kept_map_sub}

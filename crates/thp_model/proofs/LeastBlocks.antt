@@ -5,7 +5,8 @@ use Rattle.std.proofs.lemmas.Bool.{cases_lt}
 use Rattle.std.proofs.lemmas.List.{map-append, length-map}
 use Rattle.std.proofs.lemmas.List.Folds.{fold_along}
 use Rattle.std.proofs.lemmas.List.Sums.{fold_push}
-use Rattle.thp_model.specs.Prelude.{Event, Outcome, Freed, What, Alloc, UnmapWhole, UnmapSub, Unpin, Shape, with_block, event_with, without_blocks, SameButBlocks, first_that, least_free, with_least_blocks, is_closed, block_in_use, History, by, IsLegal, Fits, FitsBy, IsFirstMisfit, refusal, each_below}
+use Rattle.thp_model.specs.Prelude.{Event, Outcome, Freed, What, Shape, with_block, event_with, without_blocks, SameButBlocks, first_that, least_free, with_least_blocks, is_closed, block_in_use, History, by, IsLegal, Fits, FitsBy, IsFirstMisfit, refusal, each_below}
+use Rattle.thp_model.specs.declared.events.What.TheVariants.{Alloc, UnmapWhole, UnmapSub, Unpin}
 use Rattle.thp_model.specs.Refusals as call
 use Rattle.thp_model.proofs.Alike.{alike, fits_alike, fold_alike, Alike}
 use Rattle.thp_model.proofs.Allowed.{allowed_alloc}

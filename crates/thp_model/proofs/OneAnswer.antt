@@ -1,6 +1,7 @@
 -- The same request, at histories that are equal but for their blocks, has one answer.
 use Rattle.std.proofs.Common.{◌≡◌, ℕ, ◌+◌, ◌-◌, ◌<◌, Bool, true, false, cond, not, ◌&&◌, ◌||◌, List, [], ◌∷◌, ◌++◌, Some, refl, ap, sym, ◌∙◌, subst, arith, nat_eq, nat_lt, slice_get}
-use Rattle.thp_model.specs.Prelude.{Event, Outcome, Freed, Queued, Stays, What, Alloc, MapWhole, UnmapWhole, MapSub, UnmapSub, SplitPmd, Pin, Unpin, Write, Zero, Taken, Split, Used, Back, Dropped, Close, Shape, with_block, SameButBlocks, maps, unmaps, pins_page, unpins_page, allocates, frees, splits, total, pins, is_held, released, outcome, History, by, count_of, some_event, FitsBy, Gives, is_dropped, asked, subpages, shrinks_underused, zeroes, writes, is_zero_filled, is_worth_split}
+use Rattle.thp_model.specs.Prelude.{Event, Outcome, Freed, Queued, Stays, What, Shape, with_block, SameButBlocks, maps, unmaps, pins_page, unpins_page, allocates, frees, splits, total, pins, is_held, released, outcome, History, by, count_of, some_event, FitsBy, Gives, is_dropped, asked, subpages, shrinks_underused, zeroes, writes, is_zero_filled, is_worth_split}
+use Rattle.thp_model.specs.declared.events.What.TheVariants.{Alloc, MapWhole, UnmapWhole, MapSub, UnmapSub, SplitPmd, Pin, Unpin, Write, Zero, Taken, Split, Used, Back, Dropped, Close}
 use Rattle.thp_model.specs.declared.events.What.TheVariants.{Pinned}
 use Rattle.thp_model.proofs.Alike.{Blind, count_alike, some_alike, maps_blind, unmaps_blind, pin_blind, unpin_blind, allocates_blind, frees_blind, splits_blind, alike, Alike, held-by, held_alike, worth_alike, dropped_alike, stands_alike, flight_alike}
 use Rattle.thp_model.proofs.Below.{some_below-ext}

@@ -1,6 +1,7 @@
 -- Returns of pages in flight, one at a time: each goes to the tail of the queue, or nowhere where it is dropped.
 use Rattle.std.proofs.Common.{◌≡◌, ℕ, ◌≤◌, Bool, true, false, cond, not, List, [], ◌∷◌, ◌++◌, Some, map, refl, ap, ap₂, sym, ◌∙◌, subst, eq-eqb, append_assoc, slice_get, filter}
-use Rattle.thp_model.specs.Prelude.{Event, Back, Dropped, Shape, History, by, is_closed, closes, queue, flight, without, IsLegal, Fits, is_dropped, return_event, goes_back, still_flying, put_back_events, unmaps_some, is_partly_mapped}
+use Rattle.thp_model.specs.Prelude.{Event, Shape, History, by, is_closed, closes, queue, flight, without, IsLegal, Fits, is_dropped, return_event, goes_back, still_flying, put_back_events, unmaps_some, is_partly_mapped}
+use Rattle.thp_model.specs.declared.events.What.TheVariants.{Back, Dropped}
 use Rattle.thp_model.proofs.Bools.{or_none, not_false}
 use Rattle.thp_model.proofs.Flights.{flight_push}
 use Rattle.thp_model.proofs.LegalSteps.{legal_push}

@@ -1,7 +1,8 @@
 -- A scan: a take, a try of each page taken, and the return of those that were pinned.
 use Rattle.std.proofs.Common.{◌≡◌, ℕ, ◌+◌, ◌≤◌, Bool, true, false, cond, not, List, [], ◌∷◌, ◌++◌, Some, map, take, drop, refl, ap, ap₂, sym, ◌∙◌, subst, arith, nat_eq, eq-eqb, append_assoc, slice_get, filter}
 use Rattle.std.proofs.lemmas.List.{map-append, take-append-drop}
-use Rattle.thp_model.specs.Prelude.{Event, Taken, Shape, History, by, is_closed, closes, queue, flight, has_page, no_pages, IsLegal, is_dropped, takes_of, take_events, try_event, return_event, goes_back, is_pinned, scan_events}
+use Rattle.thp_model.specs.Prelude.{Event, Shape, History, by, is_closed, closes, queue, flight, has_page, no_pages, IsLegal, is_dropped, takes_of, take_events, try_event, return_event, goes_back, is_pinned, scan_events}
+use Rattle.thp_model.specs.declared.events.What.TheVariants.{Taken}
 use Rattle.thp_model.proofs.Bools.{or_first, or_second}
 use Rattle.thp_model.proofs.ListPlaces.{append_none}
 use Rattle.thp_model.proofs.OnePlace.{once_queued, times-append, not_before}

@@ -4,7 +4,8 @@ use Rattle.std.specs.List.{filter, list_any}
 use Rattle.std.proofs.lemmas.List.Sums.{sum_by_push, sum_by-cons, sum_by-append}
 use Rattle.std.proofs.lemmas.List.Folds.{list_any-append}
 use Rattle.std.proofs.lemmas.Bool.Decides.{eqb_tells}
-use Rattle.thp_model.specs.Prelude.{Event, Outcome, Freed, Queued, Stays, What, Alloc, MapWhole, UnmapWhole, MapSub, UnmapSub, SplitPmd, Pin, Unpin, Write, Zero, Taken, Split, Used, Back, Dropped, Close, Shape, History, by, total, is_closed, is_freed, is_live, is_split, frees, splits, allocates, is_alloc, allocations, standing, stands, queue, flights, queue_after, flights_after, queue_by, flights_by, without, leaves, has_page, flight, IsLegal, Fits, FitsBy, outcome, some_below, subpages, shrinks_underused, is_about}
+use Rattle.thp_model.specs.Prelude.{Event, Outcome, Freed, Queued, Stays, What, Shape, History, by, total, is_closed, is_freed, is_live, is_split, frees, splits, allocates, is_alloc, allocations, standing, stands, queue, flights, queue_after, flights_after, queue_by, flights_by, without, leaves, has_page, flight, IsLegal, Fits, FitsBy, outcome, some_below, subpages, shrinks_underused, is_about}
+use Rattle.thp_model.specs.declared.events.What.TheVariants.{Alloc, MapWhole, UnmapWhole, MapSub, UnmapSub, SplitPmd, Pin, Unpin, Write, Zero, Taken, Split, Used, Back, Dropped, Close}
 use Rattle.thp_model.specs.declared.events.What.TheVariants.{Pinned}
 use Rattle.thp_model.proofs.Allowed.{allowed_map_whole, allowed_unmap_whole, allowed_map_sub, allowed_unmap_sub, allowed_split_pmd, allowed_pin, allowed_unpin, allowed_write, allowed_zero}
 use Rattle.thp_model.proofs.Bools.{or_none, and-false, one_if, none_if}

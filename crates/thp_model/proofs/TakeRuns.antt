@@ -1,7 +1,8 @@
 -- Takes, one page at a time: the oldest pages move from the queue to the end of the caller's flight.
 use Rattle.std.proofs.Common.{◌≡◌, ℕ, suc, zero, ◌+◌, true, cond, ◌||◌, List, [], ◌∷◌, ◌++◌, Some, length, take, drop, refl, ap, sym, ◌∙◌, subst, arith, eq-eqb, append_assoc, take-append-drop, slice_get}
 use Rattle.std.proofs.lemmas.List.{map-append}
-use Rattle.thp_model.specs.Prelude.{Event, Taken, Shape, History, by, IsLegal, queue, flight, is_taking, no_pages, takes_of, take_events}
+use Rattle.thp_model.specs.Prelude.{Event, Shape, History, by, IsLegal, queue, flight, is_taking, no_pages, takes_of, take_events}
+use Rattle.thp_model.specs.declared.events.What.TheVariants.{Taken}
 use Rattle.thp_model.proofs.Bools.{or_first, or_second}
 use Rattle.thp_model.proofs.Flights.{flight_push}
 use Rattle.thp_model.proofs.LegalSteps.{legal_push}

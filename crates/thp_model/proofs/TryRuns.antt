@@ -2,7 +2,8 @@
 use Rattle.std.proofs.Common.{◌≡◌, ℕ, ◌-◌, ◌≤◌, Bool, true, false, cond, not, ◌||◌, List, [], ◌∷◌, ◌++◌, map, refl, ap, ap₂, sym, ◌∙◌, subst, arith, nat_eq, nat_lt, eq-eqb, eqb-true, append_assoc, filter}
 use Rattle.std.proofs.lemmas.Bool.{eqb-false}
 use Rattle.std.proofs.lemmas.Bool.Decides.{nat_tests}
-use Rattle.thp_model.specs.Prelude.{Event, Split, Used, Shape, History, by, is_live, is_split, is_closed, closes, queue, flight, has_page, without, released, IsLegal, Fits, is_dropped, unused, try_event, is_pinned, unmaps_some, is_worth_split}
+use Rattle.thp_model.specs.Prelude.{Event, Shape, History, by, is_live, is_split, is_closed, closes, queue, flight, has_page, without, released, IsLegal, Fits, is_dropped, unused, try_event, is_pinned, unmaps_some, is_worth_split}
+use Rattle.thp_model.specs.declared.events.What.TheVariants.{Split, Used}
 use Rattle.thp_model.specs.declared.events.What.TheVariants.{Pinned}
 use Rattle.thp_model.proofs.Bools.{by_bool, or_none, or_second, or-true}
 use Rattle.thp_model.proofs.Flights.{flight_push}

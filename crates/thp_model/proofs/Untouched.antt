@@ -1,6 +1,7 @@
 -- Events that aren't about a page.
 use Rattle.std.proofs.Common.{◌≡◌, ◌≢◌, ℕ, false, refl, nat_eq, ne_eqb}
-use Rattle.thp_model.specs.Prelude.{What, Alloc, MapWhole, UnmapWhole, MapSub, UnmapSub, SplitPmd, Pin, Unpin, Write, Zero, Split, maps, unmaps, maps_whole, unmaps_whole, pins_page, unpins_page, allocates, frees, splits, zeroes, writes, unmaps_some, is_about}
+use Rattle.thp_model.specs.Prelude.{What, maps, unmaps, maps_whole, unmaps_whole, pins_page, unpins_page, allocates, frees, splits, zeroes, writes, unmaps_some, is_about}
+use Rattle.thp_model.specs.declared.events.What.TheVariants.{Alloc, MapWhole, UnmapWhole, MapSub, UnmapSub, SplitPmd, Pin, Unpin, Write, Zero, Split}
 use Rattle.thp_model.proofs.Bools.{and_no}
 
 -- the event leaves every count and every state of page p

@@ -40,7 +40,6 @@ pub use Rattle.thp_model.specs.declared.events.Event.{Event}
 pub use Rattle.thp_model.specs.declared.events.Outcome.{Outcome}
 pub use Rattle.thp_model.specs.declared.events.Outcome.TheVariants.{Freed, Queued, Stays}
 pub use Rattle.thp_model.specs.declared.events.What.{What}
-pub use Rattle.thp_model.specs.declared.events.What.TheVariants.{Alloc, Back, Close, Dropped, MapSub, MapWhole, Pin, Split, SplitPmd, Taken, UnmapSub, UnmapWhole, Unpin, Used, Write, Zero}
 pub use Rattle.thp_model.specs.declared.refusal.Refusal.{Refusal}
 pub use Rattle.thp_model.specs.declared.refusal.Refusal.TheVariants.{BadRange, Closed, Gone, IsSplit, NoBlock, NoPage, NotMapped, NotPinned, TooMany}
 pub use Rattle.thp_model.specs.declared.shape.Shape.{Shape}

@@ -9,7 +9,8 @@ use Rattle.std.proofs.lemmas.List.Folds.{list_all-append}
 use Rattle.std.proofs.lemmas.Option.{cond_some}
 use Rattle.std.proofs.Math.Seq.{take-length}
 use Rattle.thp_model.specs.Prelude.{max_batch}
-use Rattle.thp_script.specs.Prelude.{Command, Op, Alloc, Close, Count, SplitNext, PutBack, CommandWord, OfNode, OfPage, OfRange, OfBatch, Settings, Call, FastCommand, FastLine, FastOperands, FastNumber, batch_command, command_of, node_command, page_command, range_command, Reading, reading_of, ◌>>=◌, by_words, says_nothing, section_or_call, Text, is_numeral, lines_of, number_of, pieces_at, words_of}
+use Rattle.thp_script.specs.Prelude.{Command, Op, CommandWord, OfNode, OfPage, OfRange, OfBatch, Settings, Call, FastCommand, FastLine, FastOperands, FastNumber, batch_command, command_of, node_command, page_command, range_command, Reading, reading_of, ◌>>=◌, by_words, says_nothing, section_or_call, Text, is_numeral, lines_of, number_of, pieces_at, words_of}
+use Rattle.thp_script.specs.declared.script.Op.TheVariants.{Alloc, Close, Count, SplitNext, PutBack}
 use Rattle.thp_script.specs.declared.script.BatchCall.TheVariants as batch
 use Rattle.thp_script.specs.declared.script.RangeCall.TheVariants as range
 use Rattle.thp_script.specs.declared.script.WholePageCall.TheVariants as whole

@@ -28,7 +28,6 @@ pub use Rattle.thp_script.specs.declared.script.Command.{Command}
 pub use Rattle.thp_script.specs.declared.script.CommandWord.{CommandWord}
 pub use Rattle.thp_script.specs.declared.script.CommandWord.TheVariants.{OfBatch, OfNode, OfPage, OfRange}
 pub use Rattle.thp_script.specs.declared.script.Op.{Op}
-pub use Rattle.thp_script.specs.declared.script.Op.TheVariants.{Alloc, Close, Count, Map, MapWhole, Pin, PutBack, Scan, SplitNext, SplitPmd, Take, Unmap, UnmapWhole, Unpin, Write, Zero}
 pub use Rattle.thp_script.specs.declared.script.Script.{Script}
 pub use Rattle.thp_script.specs.declared.settings.Settings.{Settings}
 pub use Rattle.thp_script.specs.declared.statement.Statement.{Statement}

@@ -1,6 +1,7 @@
 use Rattle.std.proofs.Common.{codes}
 use Rattle.thp_script.specs.declared.script.BatchCall.TheVariants as batch
-use Rattle.thp_script.specs.Prelude.{OfNode, OfRange, OfBatch, Alloc}
+use Rattle.thp_script.specs.Prelude.{OfNode, OfRange, OfBatch}
+use Rattle.thp_script.specs.declared.script.Op.TheVariants.{Alloc}
 use Rattle.thp_script.specs.declared.script.RangeCall.TheVariants as range
 use Rattle.thp_script.proofs.FastParsingLaws.{alloc_is, take_is, write_is, zero_is, named}
 use Rattle.thp_script.proofs.script.parse_command_fast.Goals as goal

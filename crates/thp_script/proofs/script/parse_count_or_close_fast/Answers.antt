@@ -1,5 +1,6 @@
 use Rattle.std.proofs.Common.{codes}
-use Rattle.thp_script.specs.Prelude.{OfNode, Close, Count}
+use Rattle.thp_script.specs.Prelude.{OfNode}
+use Rattle.thp_script.specs.declared.script.Op.TheVariants.{Close, Count}
 use Rattle.thp_script.proofs.FastParsingLaws.{count_is, close_is, named}
 use Rattle.thp_script.proofs.script.parse_count_or_close_fast.Goals as goal
 

@@ -1,5 +1,6 @@
 use Rattle.std.proofs.Common.{codes}
-use Rattle.thp_script.specs.Prelude.{OfNode, OfPage, PutBack}
+use Rattle.thp_script.specs.Prelude.{OfNode, OfPage}
+use Rattle.thp_script.specs.declared.script.Op.TheVariants.{PutBack}
 use Rattle.thp_script.specs.declared.script.WholePageCall.TheVariants as whole
 use Rattle.thp_script.proofs.FastParsingLaws.{pin_is, putback_is, named}
 use Rattle.thp_script.proofs.script.parse_pin_or_put_back_fast.Goals as goal

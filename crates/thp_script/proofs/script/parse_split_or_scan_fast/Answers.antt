@@ -1,6 +1,7 @@
 use Rattle.std.proofs.Common.{codes}
 use Rattle.thp_script.specs.declared.script.BatchCall.TheVariants as batch
-use Rattle.thp_script.specs.Prelude.{OfNode, OfPage, OfBatch, SplitNext}
+use Rattle.thp_script.specs.Prelude.{OfNode, OfPage, OfBatch}
+use Rattle.thp_script.specs.declared.script.Op.TheVariants.{SplitNext}
 use Rattle.thp_script.specs.declared.script.WholePageCall.TheVariants as whole
 use Rattle.thp_script.proofs.FastParsingLaws.{splitpmd_is, scan_is, splitnext_is, named}
 use Rattle.thp_script.proofs.script.parse_split_or_scan_fast.Goals as goal
