@@ -113,24 +113,23 @@ impl Loss {
     pub fn what(self, page: PageId, done: &Done) -> What
         ensures { result ≡ loss_what self page done.now.outcome done.now.released }
     {
-        let Done { outcome, released } = *done;
         match self {
             Loss::UnmapWhole => What::UnmapWhole {
-                outcome,
+                outcome: done.outcome,
                 page,
-                released,
+                released: done.released,
             },
             Loss::UnmapSub { first, count } => What::UnmapSub {
-                outcome,
+                outcome: done.outcome,
                 page,
                 first: u32::from(first),
                 count: u32::from(count),
-                released,
+                released: done.released,
             },
             Loss::Unpin => What::Unpin {
-                outcome,
+                outcome: done.outcome,
                 page,
-                released,
+                released: done.released,
             },
         }
     }

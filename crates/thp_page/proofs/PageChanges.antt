@@ -117,3 +117,11 @@ kept_else p q k page order own filled = record {
   behind = behind-same (state_of p) (state_of q) order (λ i. ap (λ (l : List ℕ). get_or l i 0) own) k.behind;
   zero_inside = zero_inside-same (state_of p) (state_of q) order filled k.zero_inside;
 }
+
+-- other subpages are zero-filled
+pub kept_zeros : (p : Inside) (new : List Bool) → IsKept p → KeepsCounts (state_of p) (record (state_of p) { zero = new }) → new ≡ zero_set (record (state_of p) { zero = new }) → IsKept (record p { zero = new })
+kept_zeros p new k counts inside = record {
+  page = IsPage-counts (state_of p) (record (state_of p) { zero = new }) k.page counts;
+  behind = behind-same (state_of p) (record (state_of p) { zero = new }) refl (λ i. refl) k.behind;
+  zero_inside = inside;
+}

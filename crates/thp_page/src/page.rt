@@ -304,15 +304,15 @@ impl Page {
         self.whole == 0 && self.has_unmapped(first, count)
     }
 
-    // A set of subpages without those whose frames the page's split gave back as zero-filled.
-    fn without_given(&self, subpages: SubSet) -> SubSet
-        requires { length subpages ≡ max_subpages }
-        ensures { result ≡ set_of (λ i. has subpages i && not (self.now.freed_zero_frames && zero_at self.now i)) }
+    // The subpages of a set that no PTE entry maps now, without those whose frames the page's split gave back as zero-filled.
+    fn gone_since(&self, mapped: SubSet) -> SubSet
+        ensures { result ≡ set_of (λ i. has mapped i && (nat_eq (own_at self.now i) 0 && not (self.now.freed_zero_frames && zero_at self.now i))) }
     {
+        let unmapped = mapped.difference(self.own.mapped());
         if self.freed_zero_frames {
-            subpages.difference(self.zero)
+            unmapped.difference(self.zero)
         } else {
-            subpages
+            unmapped
         }
     }
 }

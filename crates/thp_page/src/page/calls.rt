@@ -1,5 +1,5 @@
 //! The calls of a page, as a value and by name, with the tests that refuse them.
-ghost use Rattle.std.specs.Prelude.{◌≡◌, ℕ, ◌≤◌, min, OnOk, OnErr, IfOk, None};
+ghost use Rattle.std.specs.Prelude.{◌≡◌, ℕ, ◌+◌, ◌≤◌, min, OnOk, OnErr, IfOk, None};
 ghost use Rattle.std.specs.Result.{result_err};
 ghost use Rattle.thp_model.specs.Prelude.{max_subpages, size, page_refusal, WholeMapped, WholeUnmapped, RangeMapped, RangeUnmapped, PmdSplit, RangeWritten, RangeZeroed, gain_call, Gains, loss_call, Loses, page_call};
 ghost use Rattle.thp_model.specs.Pages.{Pinned};
@@ -64,14 +64,12 @@ impl Page {
             }
             Gain::Write { first, count } => {
                 self.check_write(first, count)?;
-                let range = SubSet::range(first as u32, count as u32);
-                self.zero = self.zero.difference(range);
+                self.remove_zeros(first, count);
                 Ok(())
             }
             Gain::Zero { first, count } => {
                 self.check_write(first, count)?;
-                let range = SubSet::range(first as u32, count as u32);
-                self.zero = self.zero.union(range);
+                self.add_zeros(first, count);
                 Ok(())
             }
         }
@@ -99,8 +97,7 @@ impl Page {
                 let unmapped = self.own.unmap(first as usize, count as usize);
                 change.unused = self.whole == 0 && unmapped;
                 change.released = if self.split {
-                    // the subpages of the range that are not mapped afterwards
-                    self.without_given(mapped.difference(self.own.mapped()))
+                    self.gone_since(mapped)
                 } else {
                     SubSet::empty()
                 };
@@ -215,6 +212,26 @@ impl Page {
         self.gain(Gain::Zero { first, count })
     }
 
+    // Takes a range, which may be written, from the zero-filled subpages.
+    fn remove_zeros(&mut self, first: u16, count: u16)
+        requires inside { first + count ≤ max_subpages }
+        requires allowed { page_refusal self.old (call.write 0 first count) ≡ None }
+        ensures { RangeWritten first count self.old self.new }
+    {
+        let range = SubSet::range(first as u32, count as u32);
+        self.zero = self.zero.difference(range);
+    }
+
+    // Adds a range, which may be written, to the zero-filled subpages.
+    fn add_zeros(&mut self, first: u16, count: u16)
+        requires inside { first + count ≤ max_subpages }
+        requires allowed { page_refusal self.old (call.write 0 first count) ≡ None }
+        ensures { RangeZeroed first count self.old self.new }
+    {
+        let range = SubSet::range(first as u32, count as u32);
+        self.zero = self.zero.union(range);
+    }
+
     // Converts the operands of a range to those of a page call.
     #[inline(always)]
     fn operands(&self, first: u32, count: u32) -> (u16, u16)
@@ -325,6 +342,7 @@ impl Page {
     fn check_write(&self, first: u16, count: u16) -> Result<(), Refusal>
         ensures data { (p : ℕ) → result_err result ≡ page_refusal self.now (call.write p first count) }
         ensures zeros { (p : ℕ) → result_err result ≡ page_refusal self.now (call.zero_fill p first count) }
+        ensures inside { OnOk result (first + count ≤ max_subpages) }
     {
         if self.is_bad_range(first, count) {
             Err(Refusal::BadRange)

@@ -2,7 +2,7 @@ use Rattle.std.proofs.Common.{◌≡◌, ◌≢◌, ◌+◌, ◌-◌, ◌<◌, �
 use Rattle.std.proofs.lemmas.Bool.Decides.{nat_tests}
 use Rattle.thp_model.specs.declared.page_call.Loss.{Loss}
 use Rattle.thp_model.specs.declared.page_call.Loss.TheVariants as loss
-use Rattle.thp_model.specs.Prelude.{covers, has, set_of, get_or-set_of, length-set_of, some_below, PageState, size, own_at, drops_use, gives_frames, partly_after, page_refusal, WholeUnmapped, RangeUnmapped, Loses}
+use Rattle.thp_model.specs.Prelude.{covers, has, set_of, get_or-set_of, some_below, PageState, size, own_at, zero_at, drops_use, gives_frames, partly_after, page_refusal, WholeUnmapped, RangeUnmapped, Loses}
 use Rattle.thp_model.specs.Pages.{Pinned}
 use Rattle.thp_model.proofs.WordLemmas.{set_of-ext}
 use Rattle.thp_model.specs.Refusals as call
@@ -74,17 +74,18 @@ range_kept p own first count k taken =
     }
 
 -- what was mapped and isn't any more is what the range took out
-gone : (old own : List ℕ) (first count : ℕ) (was now : List Bool) → was ≡ set_of (λ i. nat_lt 0 (get_or old i 0)) → now ≡ set_of (λ i. nat_lt 0 (get_or own i 0)) →
+gone : (old own : List ℕ) (first count : ℕ) (was : List Bool) (g : ℕ → Bool) → was ≡ set_of (λ i. nat_lt 0 (get_or old i 0)) →
     ((i : ℕ) → i < 512 → get_or old i 0 ≡ get_or own i 0 + cond (covers first count i) 1 0) →
-    set_of (λ i. has was i && not (has now i)) ≡ set_of (λ i. covers first count i && nat_eq (get_or own i 0) 0)
-gone old own first count was now e f taken =
+    set_of (λ i. has was i && (nat_eq (get_or own i 0) 0 && g i)) ≡ set_of (λ i. has (set_of (λ j. covers first count j && nat_eq (get_or own j 0) 0)) i && g i)
+gone old own first count was g e taken =
     set_of-ext _ _
     (λ i below.
-    ap₂ (λ a b. a && not b) (ap (λ t. has t i) e ∙ get_or-set_of (λ j. nat_lt 0 (get_or old j 0)) i below) (ap (λ t. has t i) f ∙ get_or-set_of (λ j. nat_lt 0 (get_or own j 0)) i below)
-    ∙ one (covers first count i) (get_or old i 0) (get_or own i 0) (taken i below)) where
-      one : (c : Bool) (o n : ℕ) → o ≡ n + cond c 1 0 → (nat_lt 0 o && not (nat_lt 0 n)) ≡ (c && nat_eq n 0)
-      one true o n e = grind (arith, nat_tests)
-      one false o n e = grind (arith, nat_tests)
+    ap (λ b. b && (nat_eq (get_or own i 0) 0 && g i)) (ap (λ t. has t i) e ∙ get_or-set_of (λ j. nat_lt 0 (get_or old j 0)) i below)
+    ∙ one (covers first count i) (get_or old i 0) (get_or own i 0) (g i) (taken i below)
+    ∙ ap (λ b. b && g i) (sym (get_or-set_of (λ j. covers first count j && nat_eq (get_or own j 0) 0) i below))) where
+      one : (c : Bool) (o n : ℕ) (g : Bool) → o ≡ n + cond c 1 0 → (nat_lt 0 o && (nat_eq n 0 && g)) ≡ ((c && nat_eq n 0) && g)
+      one true o n g e = grind (arith, nat_tests)
+      one false o n g e = grind (arith, nat_tests)
 
 -- a pin is removed
 unpinned : (s : PageState) (b : Bool) → 1 ≤ s.pins → s.partly ≡ b → Pinned (record s { pins = s.pins - 1; partly = b }) s
@@ -122,9 +123,6 @@ unmap-unmapped-requires c =
     let s : PageState = state_of c.self.inside in
     let facts = unmap_sub_allowed s 0 _ _ (allowed_as s _ (call.unmap_sub 0 _ _) c.self.view_is (sym (c.in_ok-check_unmap_sub-in-UnmapSub.ensures 0))) in
     record { inside = omega (arith, facts.0, size_most s c.self.invariant.page.most_order); positive = facts.1 }
-
-pub without_given-change-requires : goal.without_given-change-requires
-without_given-change-requires c = ap length c.difference.ensures ∙ length-set_of _
 
 pub invariant_of-self : goal.invariant_of-self
 invariant_of-self c = range_kept c.self.inside c.unmap-unmapped.new.self c.in-UnmapSub.first c.in-UnmapSub.count c.self.invariant c.unmap-unmapped.ensures.taken
@@ -165,9 +163,9 @@ lessened c =
           let released : (b : Bool) → b ≡ partly_after s u → w.if-self.change ≡ gives_frames s (record u { partly = b }) =
           λ b e. elim w.if-self.branch [
             | then-self v ↦
-                v.change-is ∙ v.without_given-change.ensures
-                ∙ sym (gives_frames-range s (record u { partly = b }) first count _ (range_done s own first count b most taken e) inside v.if-self.true (c.self.invariant.page.no_whole v.if-self.true)
-                (v.difference.ensures ∙ gone s.own own first count w.mapped-mapped.result v.mapped.result w.mapped-mapped.ensures v.mapped.ensures taken))
+                v.change-is ∙ v.gone_since-change.ensures
+                ∙ gone s.own own first count w.mapped-mapped.result (λ i. not (s.freed_zero_frames && zero_at s i)) w.mapped-mapped.ensures taken
+                ∙ sym (gives_frames-range s (record u { partly = b }) first count _ (range_done s own first count b most taken e) inside v.if-self.true (c.self.invariant.page.no_whole v.if-self.true) refl)
             | else-self v ↦ v.change-is ∙ v.empty-change-else-self.ensures ∙ sym (gives_frames-unsplit s (record u { partly = b }) refl v.if-self.false v.if-self.false)
           ] in
           rw (w.in-UnmapSub.is, w.self-inside-is, w.change-is) (record {

@@ -1,0 +1,21 @@
+use Rattle.std.proofs.Common.{◌≡◌, subst}
+use Rattle.thp_model.specs.Prelude.{PageState, RangeWritten}
+use Rattle.thp_page.specs.Prelude.{state_of}
+use Rattle.thp_page.proofs.PageChanges.{kept_zeros}
+use Rattle.thp_page.proofs.ZeroSets.{written, written_inside}
+use Rattle.thp_page.proofs.page.Page.remove_zeros.Goals as goal
+
+pub range-range-requires : goal.range-range-requires
+range-range-requires c = c.requires.inside
+
+pub invariant_of-self : goal.invariant_of-self
+invariant_of-self c =
+    let s : PageState = state_of c.self.inside in
+    let r = written s c.args.first c.args.count c.range-range.result _ c.self.invariant.page.most_order c.range-range.ensures c.difference-self-inside.ensures in
+    kept_zeros c.self.inside _ c.self.invariant r.kept (written_inside s c.range-range.result _ c.self.invariant.zero_inside c.difference-self-inside.ensures)
+
+pub returns : goal.returns
+returns c =
+    let s : PageState = state_of c.self.inside in
+    subst (λ (t : PageState). RangeWritten c.args.first c.args.count t (record s { zero = c.difference-self-inside.result })) c.self.view_is
+    (written s _ _ c.range-range.result _ c.self.invariant.page.most_order c.range-range.ensures c.difference-self-inside.ensures)
