@@ -23,7 +23,7 @@ use Rattle.thp_journal_reader.specs.contracts.past_lines.LineTrace.TheInside as 
 use Rattle.thp_journal_reader.specs.contracts.follower.Follower as Follower
 use Rattle.thp_journal_reader.specs.contracts.follower.FollowedNodes as FollowedNodes
 use Rattle.thp_journal_reader.proofs.illegal.Illegal.TheSendSync as illegal
-use Rattle.thp_journal_reader.proofs.illegal.TextFault.TheSendSync as fault
+use Rattle.thp_script.proofs.fault.TextFault.TheSendSync as fault
 use Rattle.thp_journal_reader.proofs.place.Place.TheSendSync as place
 use Rattle.thp_journal_reader.specs.contracts.text_reader.TextReader as TextReader
 use Rattle.thp_journal_reader.specs.contracts.long_check.LongCheck as LongCheck

@@ -8,8 +8,9 @@ use crate::checks::code_of_kind;
 use crate::codes::Fault;
 use std::alloc::{AllocError, Global};
 use thp_check::put_explanation;
-use thp_journal_reader::{Illegal, LongCheck, TextFault};
+use thp_journal_reader::{Illegal, LongCheck};
 use thp_model::Refusal;
+use thp_script::TextFault;
 
 /// Begins a check, which has read nothing.
 pub fn begin_check(alloc: Global) -> LongCheck

@@ -1,5 +1,6 @@
 //! What the handle of a check refers to.
-use thp_journal_reader::{Illegal, LongCheck, TextFault};
+use thp_journal_reader::{Illegal, LongCheck};
+use thp_script::TextFault;
 
 /// A check that is still reading, or the verdict of a finished one: the first illegal event, if any, or the first error in the
 /// text.

@@ -1,7 +1,8 @@
 -- Known bytes over several reads and writes.
 use Rattle.std.proofs.Common.{◌≡◌, ℕ, ◌<◌, List, [], ◌∷◌, ◌++◌, length, Option, Some, None, sym, ◌∙◌, arith, append_assoc, take, drop, append-nil, take-append-drop, IfSome}
 use Rattle.std.specs.Io.KnownBytes.{Consumes, Appends, Keeps, IsAtEnd}
-use Rattle.thp_cli.specs.Prelude.{IsFrontOf, WritesFront}
+use Rattle.thp_script.specs.Prelude.{IsFrontOf}
+use Rattle.thp_cli.specs.Prelude.{WritesFront}
 
 -- nothing was read
 pub read_nothing : (a : Option (List ℕ)) → Consumes a a []

@@ -4,10 +4,9 @@ use Rattle.std.specs.Io.KnownBytes.{Keeps, Appends}
 use Rattle.std.proofs.lemmas.Bool.{cases_lt, lt-ltb}
 use Rattle.thp_script.specs.declared.fault.ReadFault.{ReadFault}
 use Rattle.thp_script.specs.declared.fault.ReadFault.TheVariants as reading
-use Rattle.thp_script.specs.Prelude.{Fault, ReportsFault}
+use Rattle.thp_script.specs.Prelude.{Fault, ReportsFault, IsFrontOf}
 use Rattle.thp_script.specs.declared.fault.TextKind.TheVariants.{TooLong}
-use Rattle.thp_journal_reader.specs.Prelude.{journals_within}
-use Rattle.thp_cli.specs.Prelude.{RunFault, Text, OutOfMemory, Write, IsFrontOf, WritesFront, WritesOn, DeviceCall, Ends, WritesAnswer, run_fault, is_legal, CheckEndsWithin, IsVerdictWithin}
+use Rattle.thp_cli.specs.Prelude.{RunFault, Text, OutOfMemory, Write, WritesFront, WritesOn, DeviceCall, Ends, WritesAnswer, run_fault}
 
 pub keeps_same : (known : Option (List ℕ)) → Keeps known known
 keeps_same x = grind arith
@@ -60,42 +59,3 @@ of_answer x failed old new w = grind arith
 -- a fault of reading, as a fault that the bytes have
 pub tells_of : {A : Type 0} (read : Result A Fault) (fault : ReadFault) → ReportsFault read fault → ReportsOf (λ f. read ≡ Err f) fault
 tells_of read x told = grind arith
-
--- ---- journals
-
-journal_too_long : (most : ℕ) (text : List ℕ) → most < length text → journals_within most text ≡ Err (0, TooLong)
-unfolding journals_within
-journal_too_long most text lt = rw (lt-ltb most (length text) lt) refl
-
-pub same_journals : (most : ℕ) (input bytes : List ℕ) → IsFrontOf most bytes input → journals_within most bytes ≡ journals_within most input
-same_journals most input bytes read = grind (arith, cases_lt, journal_too_long, length-append, append-nil)
-
-pub verdict_of_input : (most : ℕ) (input bytes text : List ℕ) (legal : Bool) → IsFrontOf most bytes input → IsVerdictWithin most bytes legal text → IsVerdictWithin most input legal text
-verdict_of_input most input bytes text legal read v = record { journals = v.journals; spelled = sym (same_journals most input bytes read) ∙ v.spelled; illegal = v.illegal; told = v.told; free_choice = v.free_choice; answer = v.answer; written = v.written }
-
-pub fault_of_journal : (most : ℕ) (input bytes : List ℕ) (fault : Fault) → IsFrontOf most bytes input → journals_within most bytes ≡ Err fault → journals_within most input ≡ Err fault
-fault_of_journal most input bytes fault read told = sym (same_journals most input bytes read) ∙ told
-
--- a writer that failed is told as that
-pub cut_from : (o : Option (Unit {0})) (fault : RunFault) → ok_or o Write ≡ Err fault → (o ≡ None) × (Write ≡ fault)
-cut_from x fault e = grind arith
-
--- the writer took a front of the verdict
-pub check_ends_cut : (most : ℕ) (known old new : Option (List ℕ)) (bytes text : List ℕ) (reader_failed writer_failed : Bool) (illegal : Option ℕ) (o : Option (Unit {0})) (r : Result Bool RunFault) → IfSome known (IsFrontOf most bytes) → IsVerdictWithin most bytes (is_legal illegal) text
-    → o ≡ None → IfNone o (WritesFront old new text) → IfNone o (writer_failed ≡ true) → reader_failed ≡ false → r ≡ Err Write → CheckEndsWithin most known old new reader_failed writer_failed r
-check_ends_cut most known old new bytes text rf wf illegal o r read v none cut failed e is =
-    ends_cut most (IsVerdictWithin most) (λ input f. journals_within most input ≡ Err f) (verdict_of_input most) (fault_of_journal most) known bytes read old new rf wf (is_legal illegal) text r v (rw none at cut) e (rw none at failed) is
-
--- what isn't there is no line
-pub legal_is : (illegal : Option ℕ) (legal : Bool) → is_some illegal ≡ not legal → legal ≡ is_legal illegal
-legal_is x y e = grind arith
-
--- the verdict was written
-pub check_ends_written : (most : ℕ) (known old new : Option (List ℕ)) (bytes text : List ℕ) (reader_failed writer_failed : Bool) (illegal : Option ℕ) (o : Option (Unit {0})) (u : Unit {0}) (legal : Bool) → IfSome known (IsFrontOf most bytes) → IsVerdictWithin most bytes (is_legal illegal) text
-    → ok_or o Write ≡ Ok u → IfSome o (λ _. Appends old new text) → IfSome o (λ _. writer_failed ≡ false) → reader_failed ≡ false → legal ≡ is_legal illegal → CheckEndsWithin most known old new reader_failed writer_failed (Ok legal)
-check_ends_written most known old new bytes text rf wf illegal x u legal read verdict some done flag e is = grind (arith, ends_written, verdict_of_input, fault_of_journal)
-
--- the journal was at fault, or memory was refused
-pub check_ends_early : (most : ℕ) (known old : Option (List ℕ)) (bytes : List ℕ) (reader_failed writer_failed : Bool) (fault : ReadFault) (r : Result Bool RunFault) → IfSome known (IsFrontOf most bytes) → ReportsFault (journals_within most bytes) fault
-    → reader_failed ≡ false → writer_failed ≡ false → r ≡ Err (run_fault fault) → CheckEndsWithin most known old old reader_failed writer_failed r
-check_ends_early most known old bytes rf wf fault r read told e f is = grind (arith, ends_early, verdict_of_input, fault_of_journal, tells_of)

@@ -1,7 +1,6 @@
 -- The effect of watched devices on the remaining bytes of a reader and the content of a writer, if those are known.
 use Rattle.std.specs.Prelude.{◌≡◌, ◌≤◌, ◌<◌, ◌++◌, ℕ, List, [], length, take, Option, MatchOption}
 use Rattle.std.specs.Io.KnownBytes.{Keeps, Appends, Consumes, IsAtEnd}
-use Rattle.thp_script.specs.Prelude.{max_input}
 
 -- a read returned n bytes, which is 0 only at the end or if there was no room; or it returned nothing
 abbrev pub Reads : Option (List ℕ) → Option (List ℕ) → Option ℕ → List ℕ → Type 0
@@ -12,16 +11,6 @@ Reads old new result buf = MatchOption result (Keeps old new)
 abbrev pub Writes : Option (List ℕ) → Option (List ℕ) → Option ℕ → List ℕ → Type 0
 Writes old new result buf = MatchOption result (Appends old new [])
     (λ n. (0 < n) × (n ≤ length buf) × Appends old new (take n buf))
-
--- the bytes read of a text with a limit: all of it, or more than the limit
-pub record IsFrontOf (most : ℕ) (bytes input : List ℕ) : Type 0 where
-  pub rest : List ℕ
-  pub front : input ≡ bytes ++ rest
-  pub all : length bytes ≤ most → rest ≡ []
-
--- the bytes read of an input: all of it, or more than an input may have
-abbrev pub IsInputOf : List ℕ → List ℕ → Type 0
-IsInputOf = IsFrontOf max_input
 
 -- the writer took a prefix of the text
 pub record WritesFront (old new : Option (List ℕ)) (text : List ℕ) : Type 0 where

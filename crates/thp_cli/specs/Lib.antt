@@ -3,7 +3,6 @@ pub mod Watch
 pub mod Devices
 pub mod RunFaults
 pub mod Passages
-pub mod Verdicts
 pub mod Outcomes
 pub mod CommandLine
 pub mod Flags

@@ -3,8 +3,8 @@ use Rattle.std.specs.Prelude.{◌≡◌, ◌++◌, ℕ, Bool, true, false, List,
 use Rattle.thp_script.specs.Prelude.{kind_word}
 use Rattle.thp_script.specs.declared.fault.ReadFault.{ReadFault}
 use Rattle.thp_script.specs.declared.fault.ReadFault.TheVariants as reading
-use Rattle.thp_journal_reader.specs.declared.illegal.LongReadFault.{LongReadFault}
-use Rattle.thp_journal_reader.specs.declared.illegal.LongReadFault.TheVariants as summary
+use Rattle.thp_script.specs.declared.fault.LongReadFault.{LongReadFault}
+use Rattle.thp_script.specs.declared.fault.LongReadFault.TheVariants as summary
 use Rattle.thp_cli.specs.declared.long_fault.LongRunFault.{LongRunFault}
 use Rattle.thp_cli.specs.declared.long_fault.LongRunFault.TheVariants as long
 use Rattle.thp_cli.specs.declared.fault.RunFault.{RunFault}

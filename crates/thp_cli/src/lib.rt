@@ -8,13 +8,12 @@
 //! - `answering` (`Answers` of `Outcomes`): `--help`, `--version` and words in error.
 //! - `device` (`Devices`), `watched`, `calls` (`Watch`, `Calls`): reads in parts, whole writes, and the calls that contracts
 //!   see.
-//! - `checking` (`Verdicts`): the check of a journal. `Passages`: all is read, then one answer is written, or nothing.
+//! - `Passages`: all is read, then one answer is written, or nothing.
 //! - `ending`, `fault`, `long_fault`, `telling` (`RunFaults`, `Outcomes`): errors, their lines on standard error, exit statuses.
 #![tactic(auto)]
 
 mod answering;
 mod calls;
-mod checking;
 mod device;
 mod ending;
 mod fault;
@@ -29,8 +28,7 @@ mod watched;
 mod words;
 
 pub use answering::{WordsAnswer, answer};
-pub use checking::{check_run, verdict};
-pub use device::{ReadsParts, read_parts, write_all, write_text};
+pub use device::{read_parts, write_all, write_text};
 pub use ending::{Ending, Program, ProgramFault, WordsFault};
 pub use fault::RunFault;
 pub use flags::flag;

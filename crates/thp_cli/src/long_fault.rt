@@ -6,8 +6,7 @@ ghost use Rattle.thp_cli.specs.RunFaults.{fault_of_long_read, fault_text, seen_f
 use crate::fault::RunFault;
 use std::alloc::AllocError;
 use std::{error, fmt};
-use thp_journal_reader::{LongReadFault, TextFault};
-use thp_script::TextKind;
+use thp_script::{LongReadFault, TextFault, TextKind};
 
 /// Why a check of a journal of any length ended without its complete verdict. As [`RunFault`], with 64-bit line numbers.
 #[derive(Debug, Drop)]

@@ -2,6 +2,7 @@ pub mod SetLaws
 pub mod JournalLaws
 pub mod NodeLaws
 pub mod AnswerLaws
+pub mod VerdictLaws
 pub mod PlainWords
 pub mod PlainLines
 pub mod FastParsingLaws

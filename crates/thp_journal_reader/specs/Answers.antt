@@ -4,8 +4,8 @@ use Rattle.thp_model.specs.Prelude.{SameButBlocks, History, IsLegal, IsFirstMisf
 use Rattle.thp_check.specs.Prelude.{Explains}
 use Rattle.thp_script.specs.Prelude.{Fault}
 use Rattle.thp_journal_reader.specs.declared.illegal.Illegal.{Illegal}
-use Rattle.thp_journal_reader.specs.declared.illegal.LongReadFault.{LongReadFault}
-use Rattle.thp_journal_reader.specs.declared.illegal.LongReadFault.TheVariants.{Text, OutOfMemory}
+use Rattle.thp_script.specs.declared.fault.LongReadFault.{LongReadFault}
+use Rattle.thp_script.specs.declared.fault.LongReadFault.TheVariants.{Text, OutOfMemory}
 use Rattle.thp_journal_reader.specs.declared.journals.Journals.{Journals}
 use Rattle.thp_journal_reader.specs.declared.journals.NodeJournal.{NodeJournal}
 

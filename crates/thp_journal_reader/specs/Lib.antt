@@ -6,6 +6,7 @@ pub mod LineRanges
 pub mod Journals
 pub mod Reading
 pub mod Answers
+pub mod Verdicts
 pub mod Parts
 pub mod LineTrace
 pub mod FastParsing

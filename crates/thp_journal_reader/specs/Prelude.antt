@@ -19,6 +19,8 @@ unfoldable pub use Rattle.thp_journal_reader.specs.Parts.{lines_tell}
 pub use Rattle.thp_journal_reader.specs.Reading.{IsNodeBefore, began, fault_at, journal_so_far, nodes_in, on_last, with_event, with_line}
 pub use Rattle.thp_journal_reader.specs.SetTexts.{Run, covers_number, longer_run, run_of_numbers, runs_of, set_of_runs, subpage_number}
 unfoldable pub use Rattle.thp_journal_reader.specs.SetTexts.{run_from, run_of, set_of_text, set_with}
+pub use Rattle.thp_journal_reader.specs.Verdicts.{IsVerdict, IsVerdictWithin, is_legal}
+unfoldable pub use Rattle.thp_journal_reader.specs.Verdicts.{verdict_text}
 pub use Rattle.thp_journal_reader.specs.declared.event_word.EventWord.{EventWord}
 pub use Rattle.thp_journal_reader.specs.declared.event_word.EventWord.TheVariants.{Close, OfLoss, OfPage, OfRange, Split, UnmapSub}
 pub use Rattle.thp_journal_reader.specs.declared.event_word.LossWord.{LossWord}

@@ -1,5 +1,6 @@
 //! The check of journals whose text arrives in parts.
-ghost use Rattle.std.specs.Prelude.{◌≡◌, ◌≢◌, ◌++◌, Ok, [], IfOk, IfErr};
+ghost use Rattle.std.specs.Prelude.{◌≡◌, ◌≢◌, ◌++◌, ℕ, List, Ok, [], IfOk, IfErr, refl};
+ghost use Rattle.std.proofs.Common.{◌∙◌, ap, append_assoc, sym};
 ghost use Rattle.thp_journal_reader.specs.declared.journals.Journals.{Journals};
 ghost use Rattle.thp_journal_reader.specs.Answers.{ReportsIllegal};
 ghost use Rattle.thp_journal_reader.specs.Journals.{journals_of};
@@ -10,7 +11,7 @@ ghost use Rattle.thp_script.specs.declared.fault.ReadFault.TheVariants.{OutOfMem
 use crate::long_check::LongCheck;
 use std::alloc::Global;
 use std::marker::Model;
-use thp_script::{ReadFault, TextInParts};
+use thp_script::{ReadFault, ReadsParts, TextInParts};
 
 /// A check of journals of at most 16 MiB, whose text arrives in parts of any length. It stores the state of the current node and
 /// the line in progress, and no event.
@@ -69,4 +70,16 @@ impl JournalCheck {
             }),
         }
     }
+}
+
+impl ReadsParts for JournalCheck {
+    ghost has_read = { λ old bytes new. (more : List ℕ) → told_with new more ≡ told_with old (bytes ++ more) };
+
+    fn read_part(self, part: &[u8]) -> Result<Self, ReadFault> {
+        JournalCheck::read_part(self, part)
+    }
+
+    ghost nothing_read = { λ r more. refl };
+
+    ghost more_read = { λ a b c first more old new rest. new rest ∙ old (more ++ rest) ∙ ap (told_with a) (sym (append_assoc first more rest)) };
 }

@@ -7,7 +7,7 @@
 //! - `parse_event_fast` (`FastParsing`): events read in one pass over the bytes; `event_reader`: one event from its line
 //!   (`event_told`). Proofs `PlainWords`, `PlainLines`: a line whose words parse needs no second look at its bytes.
 //! - Checks: `checking` (`ReportsIllegal`, `CanBeLegal` of `Answers`), `journal_check` (16 MiB), `long_check` (any length),
-//!   `illegal` (the event and why).
+//!   `illegal` (the event and why), `verdicts` (`Verdicts`).
 //! - `follower` (`Following`, proof `FollowLaws`), generic in `follows_node`: what follows a node line by line, and what is kept of
 //!   it. `long_check` keeps nothing (`Keeping`); `thp_journal_tools` keeps totals or numbers, `thp_journal_scripts` writes scripts.
 //!   `past_lines` (`LineTrace`): the lines so far, for contracts.
@@ -32,6 +32,7 @@ mod place;
 mod reading;
 mod set_text;
 mod text_reader;
+mod verdicts;
 mod version;
 
 pub use checking::{check_journals, check_text};
@@ -39,7 +40,7 @@ pub use event_reader::read_event;
 pub use event_word::{EventWord, LossWord, PageWord, RangeWord};
 pub use follower::FollowedNodes;
 pub use follows_node::{FollowsNode, Stopped};
-pub use illegal::{Illegal, LongReadFault, TextFault};
+pub use illegal::Illegal;
 pub use journal_check::JournalCheck;
 pub use journal_reader::{JournalReader, read_journal};
 pub use journals::{Journals, NodeJournal};
@@ -48,4 +49,5 @@ pub use line::Line;
 pub use long_check::LongCheck;
 pub use place::Place;
 pub use text_reader::TextReader;
+pub use verdicts::verdict;
 pub use version::Version;

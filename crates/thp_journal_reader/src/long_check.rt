@@ -1,5 +1,6 @@
 //! The check of journals of any length.
-ghost use Rattle.std.specs.Prelude.{◌≡◌, ◌≤◌, ◌+◌, ◌++◌, Ok, Err, [], IfOk, IfErr, IfSome};
+ghost use Rattle.std.specs.Prelude.{◌≡◌, ◌≤◌, ◌+◌, ◌++◌, ℕ, List, Ok, Err, [], IfOk, IfErr, IfSome, refl};
+ghost use Rattle.std.proofs.Common.{◌∙◌, ap, append_assoc, sym};
 ghost use Rattle.thp_journal_reader.specs.Answers.{ReportsFirst};
 ghost use Rattle.thp_journal_reader.specs.Journals.{journals_within};
 ghost use Rattle.thp_journal_reader.specs.Parts.{told_with};
@@ -7,12 +8,12 @@ ghost use Rattle.thp_journal_reader.specs.declared.journals.Journals.{Journals};
 ghost use Rattle.thp_script.specs.Prelude.{max_counted, nothing_of, Text};
 
 use crate::follower::FollowedNodes;
-use crate::illegal::{Illegal, TextFault};
+use crate::illegal::Illegal;
 use crate::text_reader::TextReader;
 use std::alloc::{AllocError, Global};
 use std::marker::Model;
 use thp_check::Replay;
-use thp_script::TextInParts;
+use thp_script::{ReadFault, ReadsParts, TextFault, TextInParts};
 
 /// A check of journals of any length, whose text arrives in parts of any length. It stores the state of the current node and the
 /// line in progress, and no event.
@@ -82,4 +83,16 @@ impl LongCheck {
             None => Ok(self.text.nodes.illegal()),
         }
     }
+}
+
+impl ReadsParts for LongCheck {
+    ghost has_read = { λ old bytes new. (more : List ℕ) → told_with new more ≡ told_with old (bytes ++ more) };
+
+    fn read_part(self, part: &[u8]) -> Result<Self, ReadFault> {
+        Ok(LongCheck::read_part(self, part)?)
+    }
+
+    ghost nothing_read = { λ r more. refl };
+
+    ghost more_read = { λ a b c first more old new rest. new rest ∙ old (more ++ rest) ∙ ap (told_with a) (sym (append_assoc first more rest)) };
 }

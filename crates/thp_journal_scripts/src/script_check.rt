@@ -9,8 +9,8 @@ use crate::scripted::Scripted;
 use crate::scripted_nodes::ScriptedNodes;
 use std::alloc::{AllocError, Global};
 use std::marker::Model;
-use thp_journal_reader::{LongReadFault, TextFault, TextReader};
-use thp_script::TextInParts;
+use thp_journal_reader::TextReader;
+use thp_script::{LongReadFault, TextFault, TextInParts};
 
 /// A check of journals of any length that also writes the script that repeats them, up to the first illegal event. It differs
 /// from a [`LongCheck`](crate::LongCheck) in that the text of the script is taken out after each part.

@@ -1,24 +1,25 @@
 -- How the check of a journal ends, from what its parts did.
 use Rattle.std.proofs.Common.{◌≡◌, ◌∙◌, ◌++◌, ℕ, Bool, true, false, List, Option, Some, None, Ok, Err, refl, subst, sym, IfErr, IfNone, IfSome, IsErrAnd, Result, ok_or}
 use Rattle.std.specs.Io.KnownBytes.{Appends}
-use Rattle.thp_script.specs.Prelude.{max_counted, Fault}
+use Rattle.thp_script.specs.Prelude.{max_counted, Fault, IsFrontOf}
 use Rattle.thp_script.specs.declared.fault.ReadFault.TheVariants as reading
 use Rattle.thp_script.specs.declared.fault.TextKind.{TextKind}
 use Rattle.thp_journal_writer.specs.Totals.{lines_from}
 use Rattle.thp_journal_reader.specs.declared.illegal.Illegal.{Illegal}
 use Rattle.thp_journal_reader.specs.declared.journals.NodeJournal.{NodeJournal}
 use Rattle.thp_journal_tools.specs.declared.summed.Summed.{Summed}
-use Rattle.thp_journal_reader.specs.declared.illegal.LongReadFault.{LongReadFault}
-use Rattle.thp_journal_reader.specs.declared.illegal.LongReadFault.TheVariants as summary
-use Rattle.thp_journal_reader.specs.Prelude.{ReportsFirst, ReportsIllegal, ReportsLongReadFault, journals_within}
+use Rattle.thp_script.specs.declared.fault.LongReadFault.{LongReadFault}
+use Rattle.thp_script.specs.declared.fault.LongReadFault.TheVariants as summary
+use Rattle.thp_journal_reader.specs.Prelude.{ReportsFirst, ReportsIllegal, ReportsLongReadFault, journals_within, verdict_text}
 use Rattle.thp_journal_reader.proofs.AnswerLaws.{free_choice}
+use Rattle.thp_journal_reader.proofs.VerdictLaws.{fault_of_journal, same_journals}
 use Rattle.thp_cli.specs.declared.calls.DeviceCall.{DeviceCall}
 use Rattle.thp_cli.specs.declared.fault.RunFault.{RunFault}
 use Rattle.thp_cli.specs.declared.fault.RunFault.TheVariants.{Text, OutOfMemory, Read, Write}
 use Rattle.thp_cli.specs.declared.long_fault.LongRunFault.{LongRunFault}
 use Rattle.thp_cli.specs.declared.long_fault.LongRunFault.TheVariants as long
-use Rattle.thp_cli.specs.Prelude.{IsFrontOf, WritesFront, WritesAnswer, fault_of_long_read, seen_fault, IsReadingFault, verdict_text}
-use Rattle.thp_cli.proofs.PassageLaws.{ends_cut, ends_early, ends_written, fault_of_journal, keeps_same, same_journals}
+use Rattle.thp_cli.specs.Prelude.{WritesFront, WritesAnswer, fault_of_long_read, seen_fault, IsReadingFault}
+use Rattle.thp_cli.proofs.PassageLaws.{ends_cut, ends_early, ends_written, keeps_same}
 use Rattle.thp_journal_tools.specs.Checks.{line_of, IsCheckOf, IsFindFault, IsFound, LongEnds}
 use Rattle.thp_journal_tools.specs.declared.options.CheckOptions.{CheckOptions}
 

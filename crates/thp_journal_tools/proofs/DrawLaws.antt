@@ -3,16 +3,17 @@ use Rattle.std.proofs.Common.{◌≡◌, ◌∙◌, ◌≤◌, ◌∷◌, [], �
 use Rattle.std.specs.List.{AllZip}
 use Rattle.std.specs.Io.KnownBytes.{Appends}
 use Rattle.thp_drawing.specs.declared.node.DrawnNode.{DrawnNode}
-use Rattle.thp_cli.proofs.PassageLaws.{keeps_same, same_journals}
+use Rattle.thp_cli.proofs.PassageLaws.{keeps_same}
 use Rattle.thp_cli.specs.declared.calls.DeviceCall.{DeviceCall}
 use Rattle.thp_cli.specs.declared.ending.Ending.{Ending}
 use Rattle.thp_cli.specs.declared.ending.ProgramFault.TheVariants.{Run, Usage, NoNode, NoText, Orders, Underused}
 use Rattle.thp_cli.specs.declared.fault.RunFault.{RunFault}
 use Rattle.thp_cli.specs.declared.fault.RunFault.TheVariants as run
 use Rattle.thp_cli.specs.declared.long_fault.LongRunFault.TheVariants as long
-use Rattle.thp_cli.specs.Prelude.{ReadsOn, WritesOn, IsFrontOf, WritesFront, Device, Source}
+use Rattle.thp_cli.specs.Prelude.{ReadsOn, WritesOn, WritesFront, Device, Source}
 use Rattle.thp_journal_reader.specs.declared.journals.NodeJournal.{NodeJournal}
-use Rattle.thp_script.specs.Prelude.{max_counted}
+use Rattle.thp_script.specs.Prelude.{max_counted, IsFrontOf}
+use Rattle.thp_journal_reader.proofs.VerdictLaws.{same_journals}
 use Rattle.thp_journal_tools.specs.declared.draw_options.DrawOptions.{DrawOptions}
 use Rattle.thp_journal_tools.specs.declared.end_fault.EndFault.{EndFault}
 use Rattle.thp_journal_tools.specs.declared.end_fault.EndFault.TheVariants.{Journal, Words}

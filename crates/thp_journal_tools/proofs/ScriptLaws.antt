@@ -5,12 +5,12 @@ use Rattle.thp_cli.specs.declared.fault.RunFault.{RunFault}
 use Rattle.thp_cli.specs.declared.fault.RunFault.TheVariants.{Text, OutOfMemory, Read, Write}
 use Rattle.thp_cli.specs.declared.long_fault.LongRunFault.{LongRunFault}
 use Rattle.thp_cli.specs.declared.long_fault.LongRunFault.TheVariants as long
-use Rattle.thp_cli.specs.Prelude.{IsFrontOf, WritesFront, fault_of_long_read, seen_fault}
+use Rattle.thp_cli.specs.Prelude.{WritesFront, fault_of_long_read, seen_fault}
 use Rattle.thp_journal_tools.specs.Scripting.{script_end, Grows, IsDeviceFault, IsScriptEnd}
 use Rattle.thp_journal_tools.specs.declared.scripting.ScriptFinding.{ScriptFinding}
-use Rattle.thp_script.specs.Prelude.{max_counted}
-use Rattle.thp_journal_reader.specs.declared.illegal.LongReadFault.{LongReadFault}
-use Rattle.thp_journal_reader.specs.declared.illegal.LongReadFault.TheVariants as summary
+use Rattle.thp_script.specs.Prelude.{max_counted, IsFrontOf}
+use Rattle.thp_script.specs.declared.fault.LongReadFault.{LongReadFault}
+use Rattle.thp_script.specs.declared.fault.LongReadFault.TheVariants as summary
 use Rattle.thp_journal_reader.specs.Prelude.{journals_within, ReportsLongReadFault}
 
 -- ---- a writer that takes texts

@@ -1,19 +1,19 @@
 -- The input, the output and the result of the check of a journal of any length.
 use Rattle.std.specs.Prelude.{◌≡◌, ◌++◌, ℕ, Bool, true, false, List, [], Option, Some, None, Result, Ok, Err, IfSome, if◌then◌else◌, option_map}
-use Rattle.thp_script.specs.Prelude.{max_counted}
+use Rattle.thp_script.specs.Prelude.{max_counted, IsFrontOf}
 use Rattle.thp_check.specs.Prelude.{explanation}
 use Rattle.thp_journal_reader.specs.declared.illegal.Illegal.{Illegal}
 use Rattle.thp_journal_reader.specs.declared.journals.Journals.{Journals}
 use Rattle.thp_journal_reader.specs.declared.journals.NodeJournal.{NodeJournal}
 use Rattle.thp_journal_tools.specs.declared.summed.Summed.{Summed}
-use Rattle.thp_journal_reader.specs.Prelude.{ReportsFirst, journals_within}
+use Rattle.thp_journal_reader.specs.Prelude.{ReportsFirst, journals_within, is_legal, IsVerdictWithin}
 use Rattle.thp_journal_tools.specs.Summaries.{AreSummaries}
 use Rattle.thp_journal_writer.specs.Totals.{lines_from}
 use Rattle.thp_journal_writer.specs.declared.totals.Totals.{Totals}
 use Rattle.thp_cli.specs.declared.fault.RunFault.{RunFault}
 use Rattle.thp_cli.specs.declared.fault.RunFault.TheVariants.{Text, OutOfMemory, Read, Write}
 use Rattle.thp_cli.specs.declared.long_fault.LongRunFault.{LongRunFault}
-use Rattle.thp_cli.specs.Prelude.{ReadsOn, IsFrontOf, Device, Source, Ends, WritesAnswer, seen_fault, is_legal, IsVerdictWithin}
+use Rattle.thp_cli.specs.Prelude.{ReadsOn, Device, Source, Ends, WritesAnswer, seen_fault}
 use Rattle.thp_journal_tools.specs.declared.checking.CheckFinding.{CheckFinding}
 use Rattle.thp_journal_tools.specs.declared.options.CheckOptions.{CheckOptions}
 

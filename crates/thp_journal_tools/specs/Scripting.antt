@@ -1,17 +1,17 @@
 -- The input, the output and the result of writing a journal's script, and what standard error gets.
 use Rattle.std.specs.Prelude.{◌≡◌, ◌==◌, ◌++◌, ℕ, Bool, true, false, List, [], ◌∷◌, Option, None, Some, Result, Ok, Err, IfSome, codes, if◌then◌else◌, decimal}
 use Rattle.std.specs.Io.KnownBytes.{Appends}
-use Rattle.thp_script.specs.Prelude.{max_counted}
+use Rattle.thp_script.specs.Prelude.{max_counted, IsFrontOf}
 use Rattle.thp_check.specs.Prelude.{explanation}
 use Rattle.thp_journal_scripts.specs.declared.moved.Moved.{Moved}
 use Rattle.thp_journal_reader.specs.declared.illegal.Illegal.{Illegal}
 use Rattle.thp_journal_reader.specs.declared.journals.Journals.{Journals}
-use Rattle.thp_journal_reader.specs.Prelude.{ReportsFirst, journals_within}
+use Rattle.thp_journal_reader.specs.Prelude.{ReportsFirst, journals_within, verdict_text}
 use Rattle.thp_journal_scripts.specs.Prelude.{IsScriptOf}
 use Rattle.thp_cli.specs.declared.fault.RunFault.{RunFault}
 use Rattle.thp_cli.specs.declared.fault.RunFault.TheVariants.{Text, OutOfMemory, Read, Write}
 use Rattle.thp_cli.specs.declared.long_fault.LongRunFault.{LongRunFault}
-use Rattle.thp_cli.specs.Prelude.{ReadsOn, IsFrontOf, Device, Source, seen_fault, verdict_text}
+use Rattle.thp_cli.specs.Prelude.{ReadsOn, Device, Source, seen_fault}
 use Rattle.thp_journal_tools.specs.declared.options.CheckOptions.{CheckOptions}
 use Rattle.thp_journal_tools.specs.declared.scripting.ScriptFinding.{ScriptFinding}
 

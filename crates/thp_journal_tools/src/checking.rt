@@ -1,7 +1,8 @@
 //! From the bytes of a journal of any length to its verdict.
 ghost use Rattle.std.specs.Prelude.{◌≡◌, ◌++◌, IfOk, false, option_map};
 ghost use Rattle.thp_script.specs.Prelude.{max_counted};
-ghost use Rattle.thp_cli.specs.Prelude.{ReadsOn, device_of, WritesAnswer, verdict_text};
+ghost use Rattle.thp_journal_reader.specs.Prelude.{verdict_text};
+ghost use Rattle.thp_cli.specs.Prelude.{ReadsOn, device_of, WritesAnswer};
 ghost use Rattle.thp_cli.specs.declared.ending.Program.TheVariants.{Thpcheck};
 ghost use Rattle.thp_journal_writer.specs.Totals.{lines_from};
 ghost use Rattle.thp_journal_tools.specs.Checks.{explanation_of, found_in, line_of, CheckEnds};
@@ -15,8 +16,8 @@ use std::alloc::{AllocError, Global};
 use std::io::{Read, Write};
 use std::time::Clock;
 use thp_check::put_explanation;
-use thp_cli::{LongRunFault, Watched, verdict, write_text};
-use thp_journal_reader::Illegal;
+use thp_cli::{LongRunFault, Watched, write_text};
+use thp_journal_reader::{Illegal, verdict};
 use thp_journal_writer::{put, put_totals_of_each};
 
 /// The result of the check of a journal.

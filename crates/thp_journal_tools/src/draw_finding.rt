@@ -3,8 +3,8 @@ ghost use Rattle.std.specs.Prelude.{◌≡◌, ℕ, List, IfOk, IfErr, IfSome, f
 ghost use Rattle.thp_journal_tools.specs.Checks.{IsFindFault};
 ghost use Rattle.thp_journal_tools.specs.Progress.{may_show, ShowsProgress};
 ghost use Rattle.thp_cli.specs.declared.ending.Program.TheVariants.{Thpdraw};
-ghost use Rattle.thp_cli.specs.Prelude.{ReadsOn, IsFrontOf, device_of, seen_fault};
-ghost use Rattle.thp_script.specs.Prelude.{max_counted};
+ghost use Rattle.thp_cli.specs.Prelude.{ReadsOn, device_of, seen_fault};
+ghost use Rattle.thp_script.specs.Prelude.{max_counted, IsFrontOf};
 ghost use Rattle.thp_journal_tools.specs.Drawings.{IsFound};
 
 use crate::keeping_check::KeepingCheck;

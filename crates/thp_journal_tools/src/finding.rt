@@ -1,7 +1,7 @@
 //! Reads a journal for its first illegal event and the totals of its nodes.
 ghost use Rattle.std.specs.Prelude.{◌≡◌, ℕ, List, IfOk, IfErr, IfSome, false};
-ghost use Rattle.thp_script.specs.Prelude.{max_counted};
-ghost use Rattle.thp_cli.specs.Prelude.{ReadsOn, IsFrontOf, device_of, seen_fault};
+ghost use Rattle.thp_script.specs.Prelude.{max_counted, IsFrontOf};
+ghost use Rattle.thp_cli.specs.Prelude.{ReadsOn, device_of, seen_fault};
 ghost use Rattle.thp_cli.specs.declared.ending.Program.TheVariants.{Thpcheck};
 ghost use Rattle.thp_journal_tools.specs.Checks.{IsFindFault, IsFound};
 ghost use Rattle.thp_journal_tools.specs.Progress.{may_show, ShowsProgress};

@@ -7,11 +7,8 @@ ghost use Rattle.thp_script.specs.Prelude.{max_counted, Text};
 
 use std::alloc::{AllocError, Global};
 use std::marker::Model;
-use thp_cli::ReadsParts;
-use thp_journal_reader::{
-    FollowedNodes, FollowsNode, Illegal, LongReadFault, TextFault, TextReader,
-};
-use thp_script::{ReadFault, TextInParts};
+use thp_journal_reader::{FollowedNodes, FollowsNode, Illegal, TextReader};
+use thp_script::{LongReadFault, ReadFault, ReadsParts, TextFault, TextInParts};
 
 /// A check of journals of any length that also keeps data of each node, which `F` makes from the node's legal events: its totals
 /// ([`SummedNode`](crate::SummedNode)) or its numbers ([`SeriesNode`](crate::SeriesNode)).

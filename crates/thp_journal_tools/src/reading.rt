@@ -1,7 +1,7 @@
 //! Reads a whole journal in parts, and shows the progress.
 ghost use Rattle.std.specs.Prelude.{◌≡◌, [], ℕ, List, IfErr, IfOk, IfSome, false};
-ghost use Rattle.thp_cli.specs.Prelude.{ReadsOn, IsFrontOf, device_of, IsReadingFault};
-ghost use Rattle.thp_script.specs.Prelude.{max_counted};
+ghost use Rattle.thp_cli.specs.Prelude.{ReadsOn, device_of, IsReadingFault};
+ghost use Rattle.thp_script.specs.Prelude.{max_counted, IsFrontOf};
 ghost use Rattle.thp_journal_tools.specs.Progress.{may_show, ShowsLines, ShowsProgress};
 ghost use Rattle.thp_journal_tools.specs.Reaching.{HasCounted, HasShown, IsReadOf};
 
@@ -10,8 +10,8 @@ use crate::screen::Screen;
 use std::alloc::Global;
 use std::io::{Read, Write};
 use std::time::Clock;
-use thp_cli::{Program, ReadsParts, RunFault, Watched, read_parts};
-use thp_script::MAX_COUNTED;
+use thp_cli::{Program, RunFault, Watched, read_parts};
+use thp_script::{MAX_COUNTED, ReadsParts};
 
 /// The greatest number of bytes of one read.
 const PART: usize = 65_536;

@@ -1,7 +1,7 @@
 //! From the bytes of a journal of any length to the script that repeats it.
 ghost use Rattle.std.specs.Prelude.{◌≡◌, ◌++◌, [], ℕ, List, IfErr, IfOk, IfSome, false};
-ghost use Rattle.thp_script.specs.Prelude.{max_counted};
-ghost use Rattle.thp_cli.specs.Prelude.{ReadsOn, IsFrontOf, seen_fault};
+ghost use Rattle.thp_script.specs.Prelude.{max_counted, IsFrontOf};
+ghost use Rattle.thp_cli.specs.Prelude.{ReadsOn, seen_fault};
 ghost use Rattle.thp_journal_reader.specs.Prelude.{journals_within, told_with};
 ghost use Rattle.thp_journal_tools.specs.Scripting.{script_end, Grows, IsDeviceFault, ScriptEnds};
 ghost use Rattle.std.specs.Io.KnownBytes.{Appends};

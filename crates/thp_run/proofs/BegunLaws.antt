@@ -2,9 +2,9 @@
 use Rattle.std.proofs.Common.{◌≡◌, ◌∙◌, ℕ, Bool, false, List, [], Err, Ok, Option, ap, arith, inl, refl, sym, IfErr, IfSome, Result, append-nil}
 use Rattle.atomic_table.specs.Seated.{TableId}
 use Rattle.thp_cell.specs.Prelude.{PassState}
-use Rattle.thp_cli.specs.Prelude.{ReadsOn, IsInputOf, run_fault}
+use Rattle.thp_cli.specs.Prelude.{ReadsOn, run_fault}
 use Rattle.thp_cli.proofs.CallLaws.{reading_ended, reading_none}
-use Rattle.thp_script.specs.Prelude.{max_input, after_setup, spelled_with, ReadSoFar, script_of, Fault, ReportsFault}
+use Rattle.thp_script.specs.Prelude.{max_input, after_setup, spelled_with, ReadSoFar, script_of, Fault, ReportsFault, IsInputOf}
 use Rattle.thp_cli.specs.declared.calls.DeviceCall.{DeviceCall}
 use Rattle.thp_run.specs.InParts.{HasBegun}
 use Rattle.thp_run.proofs.BegunRunLaws.{begun_all, begun_nodes, starts_new}

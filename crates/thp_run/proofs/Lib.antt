@@ -8,6 +8,7 @@ pub mod NodeLaws
 pub mod SharingLaws
 pub mod BegunRunLaws
 pub mod PassageLaws
+pub mod CheckLaws
 pub mod KeptLaws
 pub mod ListedLaws
 pub mod BegunLaws

@@ -5,11 +5,11 @@ use Rattle.std.proofs.lemmas.Bool.{cases_lt}
 use Rattle.thp_script.specs.declared.fault.ReadFault.TheVariants as reading
 use Rattle.thp_script.specs.declared.script.Script.{Script}
 use Rattle.thp_script.specs.declared.settings.Settings.{Settings}
-use Rattle.thp_script.specs.Prelude.{Fault, script_of}
+use Rattle.thp_script.specs.Prelude.{Fault, script_of, IsInputOf}
 use Rattle.thp_script.proofs.ScriptLaws.{too_long}
 use Rattle.thp_cli.specs.declared.fault.RunFault.{RunFault}
 use Rattle.thp_cli.specs.declared.fault.RunFault.TheVariants.{Write}
-use Rattle.thp_cli.specs.Prelude.{IsInputOf, WritesFront}
+use Rattle.thp_cli.specs.Prelude.{WritesFront}
 use Rattle.thp_cli.proofs.PassageLaws.{ends_early, keeps_same}
 use Rattle.thp_node.specs.Prelude.{NodeState}
 use Rattle.thp_run.specs.Reports.{report_of, told_of}

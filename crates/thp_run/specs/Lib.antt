@@ -9,6 +9,7 @@ pub mod Sharing
 pub mod InParts
 pub mod Programs
 pub mod Choices
+pub mod Checks
 pub mod Outcomes
 pub mod Listed
 pub mod Comparing

@@ -1,7 +1,7 @@
 -- The effect of the program on its words, its input and its outputs, and its exit status (this project's profile).
 use Rattle.std.specs.Prelude.{◌≡◌, ◌⊎◌, ℕ, Bool, true, false, List, Result, Ok, Err}
 use Rattle.thp_cli.specs.declared.line.Line.{Line}
-use Rattle.thp_cli.specs.Prelude.{FailsAsWords, HoldsWords, ReadsOn, Device, IsShort, IsUnread, IsUntouched, Source, WritesMessage, WasAnsweredBy, WritesAnswer, CheckEnds}
+use Rattle.thp_cli.specs.Prelude.{FailsAsWords, HoldsWords, ReadsOn, Device, IsShort, IsUnread, IsUntouched, Source, WritesMessage, WasAnsweredBy, WritesAnswer}
 use Rattle.thp_cli.specs.declared.ending.Ending.{Ending}
 use Rattle.thp_cli.specs.declared.ending.Ending.TheVariants.{Written, Illegal}
 use Rattle.thp_cli.specs.declared.ending.Program.TheVariants.{Thpsplit}
@@ -12,6 +12,7 @@ use Rattle.thp_cli.specs.declared.ending.WordsFault.TheVariants as words
 use Rattle.thp_cli.specs.declared.fault.RunFault.{RunFault}
 use Rattle.thp_script.specs.Prelude.{max_input}
 use Rattle.thp_script.specs.declared.settings.Settings.{Settings}
+use Rattle.thp_run.specs.Checks.{CheckEnds}
 use Rattle.thp_run.specs.Choices.{HasBadOrders, HasOnlyBadThresholds, IsSettingsOf}
 use Rattle.thp_run.specs.Programs.{RunEnds}
 

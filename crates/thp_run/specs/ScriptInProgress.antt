@@ -4,7 +4,6 @@ use Rattle.thp_cell.specs.Prelude.{PassState}
 use Rattle.thp_node.specs.Prelude.{NodeState}
 use Rattle.thp_cli.specs.declared.fault.RunFault.{RunFault}
 use Rattle.thp_cli.specs.declared.fault.RunFault.TheVariants.{Text, OutOfMemory, Read, Write}
-use Rattle.thp_cli.specs.Prelude.{IsInputOf}
 use Rattle.thp_run.specs.NewNodes.{histories_of, shapes_of, AreNodesFor}
 use Rattle.thp_run.specs.Runs.{IsRun}
 use Rattle.thp_run.specs.Sections.{SectionAnswersAre}
@@ -17,7 +16,7 @@ use Rattle.thp_script.specs.declared.script.Command.{Command}
 use Rattle.thp_script.specs.declared.script.Script.{Script}
 use Rattle.thp_script.specs.declared.settings.Report.TheVariants.{Answers}
 use Rattle.thp_script.specs.declared.settings.Settings.{Settings}
-use Rattle.thp_script.specs.Prelude.{after_setup, read_after, spelled_with, ReadSoFar, script_of, Fault}
+use Rattle.thp_script.specs.Prelude.{after_setup, read_after, spelled_with, ReadSoFar, script_of, Fault, IsInputOf}
 
 -- the script is for the nodes of the passes, which have all callers
 pub record IsScriptInProgress (script : ReadSoFar) (passes : Passes) (setup : SectionInParts) : Type 0 where

@@ -12,13 +12,14 @@
 //!   `report_of` (`Reports`), over `Answers`, and `Totals` and `Journals` of `thp_journal_writer`. No block appears in it.
 //!   `answer_parts` (`Parts`, proof `PartLaws`): the answers part by part from one buffer; `line_room` bounds a line. `laws`
 //!   (`Laws`): totals do not depend on blocks.
-//! - `writing` (`Written`): reports, whole or part by part. `listed` (`Listed`): sections with their answers in vectors.
+//! - `checking` (`Checks`): the check of a journal. `writing` (`Written`): reports, whole or part by part. `listed` (`Listed`): sections with their answers in vectors.
 //!
 //! It re-exports what a library user of scripts, journals and reports needs.
 #![tactic(auto)]
 
 mod answer_parts;
 mod answers;
+mod checking;
 mod choice;
 mod in_parts;
 mod laws;
@@ -37,6 +38,7 @@ mod writing;
 
 pub use answer_parts::AnswerParts;
 pub use answers::answers_text;
+pub use checking::check_run;
 pub use laws::totals_tell_no_block;
 pub use listed::{Section, Worked, report_text, work, work_rest};
 pub use program::run_program;
@@ -45,7 +47,7 @@ pub use run_result::RunResult;
 pub use running::run;
 pub use script_run::run_script;
 pub use thp_cli::{
-    Ending, Line, ProgramFault, RunFault, Watched, WordsFault, check_run, read_line, words_of,
+    Ending, Line, ProgramFault, RunFault, Watched, WordsFault, read_line, words_of,
 };
 pub use thp_journal_reader::{Journals, NodeJournal, check_text, read_journal};
 pub use thp_model::{Gain, Loss, PageCall, PageId, Refusal, Shape};

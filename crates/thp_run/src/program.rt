@@ -3,14 +3,15 @@ ghost use Rattle.std.specs.Prelude.{◌≡◌, false};
 ghost use Rattle.thp_cli.specs.Prelude.{IsLineWithinLimits, device_of, given_words, source_of};
 ghost use Rattle.thp_run.specs.Outcomes.{Does, Finishes, Served};
 
+use crate::checking::check_run;
 use crate::choice::settings_of;
 use crate::running::run;
 use std::alloc::Global;
 use std::io::{Read, Write};
 use std::thread::Threads;
 use thp_cli::{
-    Ending, Line, Program, ProgramFault, RunFault, Watched, WordsFault, answer, check_run,
-    read_line, status_of_ending, tell, texts_of,
+    Ending, Line, Program, ProgramFault, RunFault, Watched, WordsFault, answer, read_line,
+    status_of_ending, tell, texts_of,
 };
 use thp_worker::NoGate;
 

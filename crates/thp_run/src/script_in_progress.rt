@@ -19,9 +19,9 @@ use std::alloc::Global;
 use std::io::Read;
 use std::thread::Threads;
 use thp_cell::{NodeCell, Pass};
-use thp_cli::{ReadsParts, RunFault, Watched, read_parts};
+use thp_cli::{RunFault, Watched, read_parts};
 use thp_node::Recorder;
-use thp_script::{MAX_INPUT, ReadFault, Report, ScriptReader, Settings};
+use thp_script::{MAX_INPUT, ReadFault, ReadsParts, Report, ScriptReader, Settings};
 use thp_worker::{Gate, NodePasses, SectionInParts, SectionLog, do_commands};
 
 // A script that has been read in part. Its commands of `setup` so far have been executed.

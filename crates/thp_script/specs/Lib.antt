@@ -1,5 +1,6 @@
 pub mod Limits
 pub mod Settings
+pub mod ReadsParts
 pub mod Words
 pub mod Lines
 pub mod NumberLists

@@ -13,6 +13,7 @@ pub use Rattle.thp_script.specs.PageCommands.{page_call_of}
 pub use Rattle.thp_script.specs.Parts.{ReadSoFar, after_setup, read_after, script_in, spelled_with, with_commands}
 unfoldable pub use Rattle.thp_script.specs.Parts.{lines_spell}
 pub use Rattle.thp_script.specs.Readings.{◌>>=◌}
+pub use Rattle.thp_script.specs.ReadsParts.{IsFrontOf, IsInputOf}
 pub use Rattle.thp_script.specs.Scripts.{Fault, IsScriptFor, Placed, ReportsFault, commands_in, end_of, on_line, placed}
 unfoldable pub use Rattle.thp_script.specs.Scripts.{commands_from, script_of, script_with}
 pub use Rattle.thp_script.specs.Settings.{AreLow, AreOrdersFor, AreThresholdsFor, IsWithinLimits, is_low, is_order}

@@ -1,6 +1,7 @@
 //! The errors of a text.
 ghost use Rattle.std.specs.Prelude.{◌≡◌, Some};
 ghost use Rattle.thp_script.specs.TextKinds.{kind_word};
+ghost use Rattle.thp_script.specs.declared.fault.LongReadFault.TheVariants as long_fault;
 ghost use Rattle.thp_script.specs.declared.fault.ReadFault.TheVariants.{OutOfMemory};
 
 use std::alloc::{AllocError, AllocFailed};
@@ -75,5 +76,39 @@ impl<T: Drop> From<AllocFailed<T>> for ReadFault {
 
     fn from(_error: AllocFailed<T>) -> ReadFault {
         ReadFault::OutOfMemory
+    }
+}
+
+/// The first error in a text of any length.
+#[derive(Clone, Copy, Debug, PartialEq, Eq)]
+pub struct TextFault {
+    /// The line of the error, counted from 1.
+    pub line: u64,
+    /// The kind of the error.
+    pub kind: TextKind,
+}
+
+/// Why a check that keeps data of nodes has no result.
+#[derive(Clone, Copy, Debug, PartialEq, Eq)]
+pub enum LongReadFault {
+    /// The first error of the text.
+    Text(TextFault),
+    /// Memory could not be allocated.
+    OutOfMemory,
+}
+
+impl From<TextFault> for LongReadFault {
+    ghost from_gives = { λ fault long. long ≡ long_fault.Text fault };
+
+    fn from(fault: TextFault) -> LongReadFault {
+        LongReadFault::Text(fault)
+    }
+}
+
+impl From<AllocError> for LongReadFault {
+    ghost from_gives = { λ _ long. long ≡ long_fault.OutOfMemory };
+
+    fn from(_error: AllocError) -> LongReadFault {
+        LongReadFault::OutOfMemory
     }
 }

@@ -1,7 +1,7 @@
 use Rattle.std.proofs.Common.{◌∙◌, ◌++◌, [], ap, append-nil}
 use Rattle.std.proofs.lemmas.Result.{IfOk-weaker}
 use Rattle.thp_journal_reader.specs.Prelude.{journals_of}
-use Rattle.thp_cli.proofs.device.read_check_parts.Goals as goal
+use Rattle.thp_run.proofs.checking.read_check_parts.Goals as goal
 
 pub returns-clause-parts : goal.returns-clause-parts
 returns-clause-parts g c =

@@ -1,10 +1,9 @@
--- The input and the output of a check of a journal.
-use Rattle.std.specs.Prelude.{◌≡◌, ◌++◌, ℕ, Bool, true, false, All, List, [], ◌∷◌, Option, Some, None, Result, Ok, Err, codes, decimal}
+-- The verdict on a journal.
+use Rattle.std.specs.Prelude.{◌≡◌, ◌++◌, ℕ, Bool, true, false, All, List, [], ◌∷◌, Option, Some, None, Ok, codes, decimal}
 use Rattle.thp_script.specs.Prelude.{max_input}
 use Rattle.thp_journal_reader.specs.declared.journals.Journals.{Journals}
-use Rattle.thp_journal_reader.specs.Prelude.{CanBeLegal, ReportsIllegal, journals_within}
-use Rattle.thp_cli.specs.declared.fault.RunFault.{RunFault}
-use Rattle.thp_cli.specs.Passages.{Ends}
+use Rattle.thp_journal_reader.specs.Answers.{CanBeLegal, ReportsIllegal}
+use Rattle.thp_journal_reader.specs.Journals.{journals_within}
 
 -- the line that states whether a journal is legal, or the line of its first illegal event
 unfoldable pub verdict_text : Option ℕ → List ℕ
@@ -30,11 +29,3 @@ pub record IsVerdictWithin (most : ℕ) (input : List ℕ) (legal : Bool) (text 
 -- the text states whether the journal in the input is legal
 abbrev pub IsVerdict : List ℕ → Bool → List ℕ → Type 0
 IsVerdict = IsVerdictWithin max_input
-
--- how a check of at most so many bytes ends: with its verdict, or with the first error of the journal
-abbrev pub CheckEndsWithin : ℕ → Option (List ℕ) → Option (List ℕ) → Option (List ℕ) → Bool → Bool → Result Bool RunFault → Type 0
-CheckEndsWithin most = Ends (IsVerdictWithin most) (λ input fault. journals_within most input ≡ Err fault)
-
--- how a check of an input ends
-abbrev pub CheckEnds : Option (List ℕ) → Option (List ℕ) → Option (List ℕ) → Bool → Bool → Result Bool RunFault → Type 0
-CheckEnds = CheckEndsWithin max_input

@@ -1,5 +1,5 @@
 //! A node of one thread.
-use crate::sets::SMALL;
+use super::sets::SMALL;
 use std::alloc::Global;
 use thp_model::{PageId, Refusal};
 use thp_node::{BackReply, Counters, Done, NewFault, Node, ScanReply, Tried};

@@ -10,21 +10,12 @@
 //! | `thp_node` | `Node`, `NewFault`, `Done`, `Batch`, `Tried`, `BackReply`, `ScanReply`, `Counters` |
 //! | `thp_cell` | `NodeCell`, `Pass`, `Hold`, `Busy`, `CellFault` |
 //! | `thp_run` | `Settings`, `Report`, `read_line`, `Line`, `read_orders`, `read_underused`, `read_script`, `Script`, `Command`, `Op`, `Sequence`, `ReadFault`, `TextKind`, `Watched`, `run`, `RunFault`, `Gate`, `NoGate`, `read_journal`, `Journals`, `NodeJournal`, `check_text`, `check_run`, `Step`, `Steps`, `Reply`, `Answer`, `Rest`, `work`, `work_rest`, `Worked`, `Section`, `report_text` |
-#![tactic(auto)]
 
-#[cfg(test)]
 mod cells;
-#[cfg(test)]
 mod links;
-#[cfg(test)]
 mod nodes;
-#[cfg(test)]
 mod pages;
-#[cfg(test)]
 mod program;
-#[cfg(test)]
 mod sections;
-#[cfg(test)]
 mod sequences;
-#[cfg(test)]
 mod sets;

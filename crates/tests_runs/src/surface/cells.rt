@@ -2,7 +2,7 @@
 ghost use Rattle.std.specs.Prelude.{◌≡◌};
 ghost use Rattle.thp_cell.specs.Prelude.{at_front, returning_node, HasAll, HasCaller};
 
-use crate::sets::SMALL;
+use super::sets::SMALL;
 use std::alloc::Global;
 use std::process::Abort;
 use thp_cell::{Busy, CellFault, Hold, NodeCell, Pass};

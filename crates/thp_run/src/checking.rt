@@ -1,36 +1,28 @@
 //! From the bytes of a journal to its verdict.
-ghost use Rattle.std.specs.Prelude.{◌≡◌, IfOk, false};
-ghost use Rattle.thp_script.specs.Prelude.{max_input};
-ghost use Rattle.thp_cli.specs.Calls.{ReadsOn};
-ghost use Rattle.thp_cli.specs.Passages.{WritesAnswer};
-ghost use Rattle.thp_cli.specs.Verdicts.{verdict_text, CheckEnds};
+ghost use Rattle.std.specs.Prelude.{◌≡◌, [], ℕ, List, IfErr, IfOk, IfSome, false};
+ghost use Rattle.thp_script.specs.Prelude.{IsInputOf, max_input};
+ghost use Rattle.thp_journal_reader.specs.Prelude.{journals_of, told_with};
+ghost use Rattle.thp_cli.specs.Prelude.{IsReadingFault, ReadsOn, WritesAnswer};
+ghost use Rattle.thp_run.specs.Checks.{CheckEnds};
 
-use crate::device::{read_check_parts, write_text};
-use crate::fault::RunFault;
-use crate::watched::Watched;
-use arrayvec::ArrayString;
-use itoa::Buffer;
 use std::alloc::Global;
 use std::io::{Read, Write};
+use thp_cli::{RunFault, Watched, read_parts, write_text};
+use thp_journal_reader::{JournalCheck, verdict};
+use thp_script::MAX_INPUT;
 
-/// The room for a verdict, in bytes.
-pub const VERDICT: usize = 64;
-
-/// Returns the line of the verdict, given the line of the first illegal event, if any.
-#[tactic(auto, unfolding(crate::specs::Verdicts::verdict_text))]
-pub fn verdict(illegal: Option<u64>) -> ArrayString<VERDICT>
-    ensures { result.bytes ≡ verdict_text illegal }
+/// Checks the journals in a reader's text, part by part: all of its bytes, or more of them than an input may have.
+fn read_check_parts<R: Read>(
+    alloc: Global,
+    reader: &mut Watched<R>,
+) -> Result<JournalCheck, RunFault>
+    requires { reader.old.failed ≡ false }
+    ensures parts { IfOk result (λ check. (bytes : List ℕ) × IfSome (R.remaining reader.old.device) (IsInputOf bytes) × (told_with check [] ≡ journals_of bytes)) }
+    ensures flag { IfOk result (λ _. reader.new.failed ≡ false) }
+    ensures fault { IfErr result (IsReadingFault reader.new.failed) }
+    ensures calls { ReadsOn max_input reader.new.failed reader.old.calls reader.new.calls }
 {
-    let mut text = ArrayString::new();
-    match illegal {
-        None => text.push_str("legal\n"),
-        Some(line) => {
-            text.push_str("illegal line ");
-            text.push_str(Buffer::new().format(line));
-            text.push_str("\n");
-        }
-    }
-    text
+    read_parts(JournalCheck::new(alloc), MAX_INPUT, reader)
 }
 
 /// Converts a line number to 64 bits.
