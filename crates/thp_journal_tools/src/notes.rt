@@ -6,8 +6,7 @@ use crate::options::CheckOptions;
 use crate::scripting::ScriptFinding;
 use std::alloc::{AllocError, Global};
 use thp_check::put_explanation;
-use thp_cli::verdict;
-use thp_journal_reader::Illegal;
+use thp_journal_reader::{Illegal, verdict};
 use thp_journal_scripts::Moved;
 use thp_journal_writer::{put, put_number};
 
