@@ -12,7 +12,7 @@ use Rattle.thp_journal_reader.specs.declared.event_word.EventWord.TheVariants.{O
 use Rattle.thp_journal_reader.specs.declared.event_word.LossWord.{LossWord}
 use Rattle.thp_journal_reader.specs.declared.event_word.PageWord.{PageWord}
 use Rattle.thp_journal_reader.specs.declared.event_word.RangeWord.{RangeWord}
-use Rattle.thp_journal_reader.specs.declared.version.Version.{Version}
+use Rattle.thp_journal_writer.specs.declared.version.Version.{Version}
 use Rattle.thp_journal_reader.specs.EventWords.{event_word, loss_what, outcome_of, page_what, range_what}
 use Rattle.thp_journal_reader.specs.SetTexts.{set_of_text}
 

@@ -15,8 +15,8 @@ use Rattle.thp_journal_reader.specs.declared.event_word.PageWord.{PageWord}
 use Rattle.thp_journal_reader.specs.declared.event_word.PageWord.TheVariants.{Alloc, MapWhole, SplitPmd, Pin, Taken, Pinned, Used, Back, Dropped}
 use Rattle.thp_journal_reader.specs.declared.event_word.RangeWord.{RangeWord}
 use Rattle.thp_journal_reader.specs.declared.event_word.RangeWord.TheVariants.{MapSub, Write, Zero}
-use Rattle.thp_journal_reader.specs.declared.version.Version.{Version}
-use Rattle.thp_journal_reader.specs.declared.version.Version.TheVariants.{Plain, Orders, Underused}
+use Rattle.thp_journal_writer.specs.declared.version.Version.{Version}
+use Rattle.thp_journal_writer.specs.declared.version.Version.TheVariants.{Plain, Orders, Underused}
 
 -- the event words of each version
 unfoldable pub common_word : Text → Result EventWord TextKind

@@ -35,5 +35,5 @@ pub use Rattle.thp_journal_reader.specs.declared.line.Line.{Line}
 pub use Rattle.thp_journal_reader.specs.declared.line.Line.TheVariants.{End, Happened, Head, Node}
 pub use Rattle.thp_journal_reader.specs.declared.place.Place.{Place}
 pub use Rattle.thp_journal_reader.specs.declared.place.Place.TheVariants.{Ended, Inside, Start}
-pub use Rattle.thp_journal_reader.specs.declared.version.Version.{Version}
-pub use Rattle.thp_journal_reader.specs.declared.version.Version.TheVariants.{Orders, Plain, Underused}
+pub use Rattle.thp_journal_writer.specs.declared.version.Version.{Version}
+pub use Rattle.thp_journal_writer.specs.declared.version.Version.TheVariants.{Orders, Plain, Underused}

@@ -5,7 +5,7 @@ ghost use Rattle.thp_journal_reader.specs.EventLines.{caller_number, close_event
 
 use crate::event_word::{EventWord, LossWord, PageWord, RangeWord, event_word, outcome_of};
 use crate::set_text::set_of_text;
-use crate::version::Version;
+use thp_journal_writer::Version;
 use thp_model::{Event, MAX_CALLERS, Outcome, PageId, What};
 use thp_script::{TextKind, Words, number};
 

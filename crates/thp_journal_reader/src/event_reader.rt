@@ -4,7 +4,7 @@ ghost use Rattle.thp_model.specs.Prelude.{event_with};
 ghost use Rattle.thp_journal_reader.specs.JournalLines.{event_told};
 
 use crate::line::{Line, line_of};
-use crate::version::Version;
+use thp_journal_writer::Version;
 use thp_model::{Event, What};
 use thp_script::TextKind;
 

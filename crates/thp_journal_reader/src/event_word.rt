@@ -3,7 +3,7 @@ ghost use Rattle.std.specs.Prelude.{◌≡◌, IfSome};
 ghost use Rattle.thp_journal_reader.specs.FastParsing.{FastWord};
 ghost use Rattle.thp_journal_reader.specs.EventWords.{common_word, event_word, later_word, loss_what, outcome_of, page_what, range_what};
 
-use crate::version::Version;
+use thp_journal_writer::Version;
 use thp_model::{Outcome, PageId, SubSet, What};
 use thp_script::{TextKind, after_name};
 

@@ -1,7 +1,7 @@
 //! Reads and checks journals.
 //!
 //! - The grammar: `line_of`, `journals_of` (`JournalLines`, `Journals`, `EventLines`, `EventWords`, `SetTexts`); code in `line`,
-//!   `event_line`, `event_word`, `set_text`, `version`, `place`, `journals`. Texts have no blocks: each page gets its least
+//!   `event_line`, `event_word`, `set_text`, `place`, `journals`. Texts have no blocks: each page gets its least
 //!   block.
 //! - `journal_reader`, `text_reader`, `reading`, `keeps_nodes`: texts in parts (`Parts`), and what is stored of the nodes.
 //! - `parse_event_fast` (`FastParsing`): events read in one pass over the bytes; `event_reader`: one event from its line
@@ -33,7 +33,6 @@ mod reading;
 mod set_text;
 mod text_reader;
 mod verdicts;
-mod version;
 
 pub use checking::{check_journals, check_text};
 pub use event_reader::read_event;
@@ -50,4 +49,3 @@ pub use long_check::LongCheck;
 pub use place::Place;
 pub use text_reader::TextReader;
 pub use verdicts::verdict;
-pub use version::Version;

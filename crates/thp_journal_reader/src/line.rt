@@ -5,7 +5,7 @@ ghost use Rattle.thp_journal_reader.specs.JournalLines.{before, by_words, end_of
 ghost use Rattle.thp_journal_reader.specs.LineRanges.{IsInRange};
 
 use crate::event_line::{event_of, small_number};
-use crate::version::Version;
+use thp_journal_writer::Version;
 use thp_model::{Event, Shape};
 use thp_script::{MAX_NODES, TextKind, Words, fault_of_line};
 

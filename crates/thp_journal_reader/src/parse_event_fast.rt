@@ -6,7 +6,7 @@ ghost use Rattle.thp_journal_reader.specs.EventLines.{event_by, loss_event, page
 
 use crate::event_word::{EventWord, LossWord, PageWord, RangeWord, parse_word_fast};
 use crate::set_text::set_of_text;
-use crate::version::Version;
+use thp_journal_writer::Version;
 use thp_model::{Event, MAX_CALLERS, Outcome, PageId, SubSet, What};
 use thp_script::{after_name, cut_at, parse_number_fast};
 

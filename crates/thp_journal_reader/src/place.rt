@@ -4,7 +4,7 @@ ghost use Rattle.thp_journal_reader.specs.JournalLines.{line_in, may_stand, plac
 ghost use Rattle.thp_journal_reader.specs.LineRanges.{IsInRange};
 
 use crate::line::{Line, line_of};
-use crate::version::Version;
+use thp_journal_writer::Version;
 use thp_script::TextKind;
 
 /// A position between the lines of a journal.

@@ -21,7 +21,7 @@ use Rattle.thp_journal_reader.specs.declared.event_word.PageWord.TheVariants as 
 use Rattle.thp_journal_reader.specs.declared.event_word.RangeWord.{RangeWord}
 use Rattle.thp_journal_reader.specs.declared.event_word.RangeWord.TheVariants as range
 use Rattle.thp_journal_reader.specs.declared.line.Line.TheVariants.{Happened}
-use Rattle.thp_journal_reader.specs.declared.version.Version.{Version}
+use Rattle.thp_journal_writer.specs.declared.version.Version.{Version}
 use Rattle.thp_journal_reader.specs.Prelude.{caller_number, page_number, range_number, page_event, range_event, loss_event, unmap_event, split_event, close_event, outcome_and_word, event_by, event_of, common_word, later_word, event_word, outcome_of, page_what, range_what, loss_what, line_by, by_words}
 use Rattle.thp_journal_reader.specs.JournalLines as read
 use Rattle.thp_laws.specs.Tellable.{IsOfVersion, IsTellable}

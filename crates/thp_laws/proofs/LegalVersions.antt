@@ -9,11 +9,10 @@ use Rattle.thp_model.specs.declared.shape.Shape.{Shape}
 use Rattle.thp_model.specs.Prelude.{some_event, IsLegal, shrinks_underused, finds_used}
 use Rattle.thp_model.proofs.PartlyStands.{none_used}
 use Rattle.thp_model.proofs.SomeEvents.{some_passes}
-use Rattle.thp_journal_writer.specs.declared.version.Version.TheVariants as writing
 use Rattle.thp_journal_writer.specs.Prelude.{Journal, has_order_9, is_access, tells_underused, version_of}
-use Rattle.thp_journal_reader.specs.declared.version.Version.{Version}
-use Rattle.thp_journal_reader.specs.declared.version.Version.TheVariants.{Plain, Orders, Underused}
-use Rattle.thp_laws.specs.Tellable.{read_version, IsOfVersion, IsToldShape}
+use Rattle.thp_journal_writer.specs.declared.version.Version.{Version}
+use Rattle.thp_journal_writer.specs.declared.version.Version.TheVariants.{Plain, Orders, Underused}
+use Rattle.thp_laws.specs.Tellable.{IsOfVersion, IsToldShape}
 
 -- the version has a line for each event, and tells the shape
 pub record IsToldBy (v : Version) (j : Journal) : Type 0 where
@@ -84,10 +83,10 @@ in_1 [] h e = tt
 in_1 (j ∷ js) h e = let t = and_parts _ _ e in (record { shape = (eqb-true j.0.order 9 t.0, h.0.off); events = h.0.events Plain }, in_1 js h.1 t.1)
 
 -- the version that is written tells legal journals
-pub version_tells : (js : List Journal) → AllByRecursion Legal js → AllByRecursion (IsToldBy (read_version (version_of js))) js
+pub version_tells : (js : List Journal) → AllByRecursion Legal js → AllByRecursion (IsToldBy ((version_of js))) js
 unfolding version_of
 version_tells js legal = go (list_any tells_underused js) (list_all has_order_9 js) refl refl where
-  go : (a b : Bool) → list_any tells_underused js ≡ a → list_all has_order_9 js ≡ b → AllByRecursion (IsToldBy (read_version (cond a writing.Underused (cond b writing.Plain writing.Orders)))) js
+  go : (a b : Bool) → list_any tells_underused js ≡ a → list_all has_order_9 js ≡ b → AllByRecursion (IsToldBy ((cond a Underused (cond b Plain Orders)))) js
   go true b e f = in_3 js
   go false true e f = in_1 js (each_quiet js legal e) f
   go false false e f = in_2 js (each_quiet js legal e)

@@ -6,7 +6,6 @@ use Rattle.std.proofs.Math.Nat.{add-zero}
 use Rattle.thp_model.specs.declared.events.Event.{Event}
 use Rattle.thp_model.specs.Prelude.{event_with, History}
 use Rattle.thp_script.specs.Prelude.{◌>>=◌, fault_after, Text}
-use Rattle.thp_journal_writer.specs.declared.version.Version.{Version as Written}
 use Rattle.thp_journal_writer.specs.EventLines as written
 use Rattle.thp_journal_writer.specs.Journals as journal
 use Rattle.thp_journal_writer.specs.Prelude.{Journal, lines_of_node}
@@ -14,11 +13,11 @@ use Rattle.thp_journal_reader.specs.declared.line.Line.{Line}
 use Rattle.thp_journal_reader.specs.declared.line.Line.TheVariants.{Head, Node, Happened, End}
 use Rattle.thp_journal_reader.specs.declared.place.Place.{Place}
 use Rattle.thp_journal_reader.specs.declared.place.Place.TheVariants.{Start, Inside, Ended}
-use Rattle.thp_journal_reader.specs.declared.version.Version.{Version}
+use Rattle.thp_journal_writer.specs.declared.version.Version.{Version}
 use Rattle.thp_journal_reader.specs.JournalLines as read
 use Rattle.thp_journal_reader.specs.Prelude.{line_in, may_stand, place_after, version_at}
 use Rattle.thp_journal_reader.specs.Journals as reading
-use Rattle.thp_laws.specs.Tellable.{read_version, IsTellable, IsToldJournal}
+use Rattle.thp_laws.specs.Tellable.{IsTellable, IsToldJournal}
 use Rattle.thp_laws.proofs.EventsBack.{event_line_back}
 use Rattle.thp_laws.proofs.NodesBack.{end_line_back, node_line_back, version_line_back}
 
@@ -110,9 +109,9 @@ events_after place [] = refl
 events_after place (e ∷ h) = events_after place h
 
 -- a node
-node_says : (v : Written) (n : ℕ) (j : Journal) → n < 8 → IsToldJournal (read_version v) j → Says (Inside (read_version v) n) (lines_of_node v n j) (node_told n j)
+node_says : (v : Version) (n : ℕ) (j : Journal) → n < 8 → IsToldJournal v j → Says (Inside v n) (lines_of_node v n j) (node_told n j)
 unfolding Says node_told lines_of_node
-node_says v n j few told = (stands (Inside (read_version v) n) (journal.node_line v n j.0) (Node n j.0) (node_line_back v n j.0 few told.shape told.tells_shape) (eq-eqb n n refl), events_say (read_version v) (n + 1) j.1 (omega arith) told.events)
+node_says v n j few told = (stands (Inside v n) (journal.node_line v n j.0) (Node n j.0) (node_line_back v n j.0 few told.shape told.tells_shape) (eq-eqb n n refl), events_say v (n + 1) j.1 (omega arith) told.events)
 
 -- a node is one more
 node_after : (v : Version) (n : ℕ) (j : Journal) → place_following (Inside v n) (node_told n j) ≡ Inside v (n + 1)
@@ -120,12 +119,12 @@ unfolding place_following node_told
 node_after v n j = events_after (Inside v (n + 1)) j.1
 
 -- nodes
-nodes_say : (v : Written) (n : ℕ) (js : List Journal) → n + length js ≤ 8 → AllByRecursion (IsToldJournal (read_version v)) js → Says (Inside (read_version v) n) (journal.lines_from v n js) (nodes_told n js)
+nodes_say : (v : Version) (n : ℕ) (js : List Journal) → n + length js ≤ 8 → AllByRecursion (IsToldJournal v) js → Says (Inside v n) (journal.lines_from v n js) (nodes_told n js)
 unfolding Says nodes_told
 nodes_say v n [] few told = tt
 nodes_say v n (j ∷ js) few told =
-    says_append (Inside (read_version v) n) (lines_of_node v n j) (journal.lines_from v (n + 1) js) (node_told n j) (nodes_told (n + 1) js) (node_says v n j (omega arith) told.0)
-    (subst (λ p. Says p (journal.lines_from v (n + 1) js) (nodes_told (n + 1) js)) (sym (node_after (read_version v) n j)) (nodes_say v (n + 1) js (omega arith) told.1))
+    says_append (Inside v n) (lines_of_node v n j) (journal.lines_from v (n + 1) js) (node_told n j) (nodes_told (n + 1) js) (node_says v n j (omega arith) told.0)
+    (subst (λ p. Says p (journal.lines_from v (n + 1) js) (nodes_told (n + 1) js)) (sym (node_after v n j)) (nodes_say v (n + 1) js (omega arith) told.1))
 
 -- and the place behind them
 nodes_after : (v : Version) (n : ℕ) (js : List Journal) → place_following (Inside v n) (nodes_told n js) ≡ Inside v (n + length js)
@@ -140,14 +139,14 @@ nodes_after v n (j ∷ js) =
 -- ---- whole journals
 
 -- all lines
-unfoldable pub told : Written → List Journal → List Line
-told v js = Head (read_version v) ∷ nodes_told 0 js ++ End ∷ []
+unfoldable pub told : Version → List Journal → List Line
+told v js = Head v ∷ nodes_told 0 js ++ End ∷ []
 
 -- each line of a journal text says what it tells, where it stands
-pub all_say : (v : Written) (js : List Journal) → 0 < length js → length js ≤ 8 → AllByRecursion (IsToldJournal (read_version v)) js → Says Start (journal.version_line v ∷ journal.lines_from v 0 js ++ codes "end" ∷ []) (told v js)
+pub all_say : (v : Version) (js : List Journal) → 0 < length js → length js ≤ 8 → AllByRecursion (IsToldJournal v) js → Says Start (journal.version_line v ∷ journal.lines_from v 0 js ++ codes "end" ∷ []) (told v js)
 unfolding Says told
 all_say v js some few h =
-    let w : Version = read_version v in
+    let w : Version = v in
     let behind : place_following (Inside w 0) (nodes_told 0 js) ≡ Inside w (0 + length js) = nodes_after w 0 js in
     let last : Says (Inside w (0 + length js)) (codes "end" ∷ []) (End ∷ []) = (stands (Inside w (0 + length js)) (codes "end") End (end_line_back w) (lt-ltb 0 (0 + length js) (omega arith)), tt) in (
       stands Start (journal.version_line v) (Head w) (version_line_back v) refl,
@@ -155,6 +154,6 @@ all_say v js some few h =
     )
 
 -- and the last stands at the end
-pub all_after : (v : Written) (js : List Journal) → place_following Start (told v js) ≡ Ended (read_version v)
+pub all_after : (v : Version) (js : List Journal) → place_following Start (told v js) ≡ Ended v
 unfolding place_following told
 all_after v js = grind (arith, after_append, place_following, nodes_after)

@@ -7,40 +7,38 @@ use Rattle.thp_model.specs.declared.shape.Shape.{Shape}
 use Rattle.thp_model.specs.Prelude.{IsShape, subpages}
 use Rattle.thp_script.specs.declared.fault.TextKind.{TextKind}
 use Rattle.thp_script.specs.Prelude.{Text}
-use Rattle.thp_journal_writer.specs.declared.version.Version.{Version as Written}
-use Rattle.thp_journal_writer.specs.declared.version.Version.TheVariants as writing
 use Rattle.thp_journal_writer.specs.EventLines as written
 use Rattle.thp_journal_writer.specs.Journals as journal
 use Rattle.thp_journal_writer.specs.Prelude.{node_words, underused_word}
 use Rattle.thp_journal_reader.specs.declared.line.Line.{Line}
 use Rattle.thp_journal_reader.specs.declared.line.Line.TheVariants.{Head, Node, End}
-use Rattle.thp_journal_reader.specs.declared.version.Version.{Version}
-use Rattle.thp_journal_reader.specs.declared.version.Version.TheVariants.{Plain, Orders, Underused}
+use Rattle.thp_journal_writer.specs.declared.version.Version.{Version}
+use Rattle.thp_journal_writer.specs.declared.version.Version.TheVariants.{Plain, Orders, Underused}
 use Rattle.thp_journal_reader.specs.JournalLines as read
 use Rattle.thp_journal_reader.specs.Prelude.{by_words, line_by, head_of, number_between, threshold_of, node_with, plain_node, ordered_node, underused_node}
-use Rattle.thp_laws.specs.Tellable.{read_version, IsToldShape}
+use Rattle.thp_laws.specs.Tellable.{IsToldShape}
 use Rattle.thp_laws.proofs.PlainWords.{decimal_plain, is_plain, no_number}
 use Rattle.thp_laws.proofs.EventsBack.{line_of_words, number_back}
 
 -- the words of the first line
-abbrev pub version_words : Written → List Text
+abbrev pub version_words : Version → List Text
 version_words v = codes "thp-journal" ∷ decimal (journal.version_number v) ∷ []
 
 -- the number of a version is small
-small_version : (v : Written) → journal.version_number v < 2 ^ 64
+small_version : (v : Version) → journal.version_number v < 2 ^ 64
 small_version x = grind arith
 
 -- are plain
-pub version_plain : (v : Written) → list_all is_plain (version_words v) ≡ true
+pub version_plain : (v : Version) → list_all is_plain (version_words v) ≡ true
 version_plain v = rw (decimal_plain (journal.version_number v) (small_version v)) refl
 
 -- the version by its number
-head_said : (v : Written) → line_by Plain (codes "thp-journal") (decimal (journal.version_number v) ∷ []) ≡ Ok (Head (read_version v))
+head_said : (v : Version) → line_by Plain (codes "thp-journal") (decimal (journal.version_number v) ∷ []) ≡ Ok (Head v)
 unfolding line_by head_of read.version_of
 head_said x = grind (arith, decimal_digit)
 
 -- the first line tells the version
-pub version_line_back : (v : Written) → read.line_of Plain (journal.version_line v) ≡ Ok (Head (read_version v))
+pub version_line_back : (v : Version) → read.line_of Plain (journal.version_line v) ≡ Ok (Head v)
 version_line_back v = line_of_words Plain (codes "thp-journal") (decimal (journal.version_number v) ∷ []) (version_plain v) ∙ head_said v
 
 -- the last line tells the end
@@ -77,7 +75,7 @@ unfolding said
 same_shape n order s underused e f = rw (← e, ← f) refl
 
 -- node n of this shape, by its words
-node_said : (v : Written) (n : ℕ) (s : Shape) → n < 8 → IsShape s → IsToldShape (read_version v) s → by_words (read_version v) (node_words v n s) ≡ Ok (Node n s)
+node_said : (v : Version) (n : ℕ) (s : Shape) → n < 8 → IsShape s → IsToldShape v s → by_words v (node_words v n s) ≡ Ok (Node n s)
 unfolding line_by plain_node ordered_node underused_node said subpages
 node_said x n s few is told = grind (arith, node_with_back, same_shape, order_back, threshold_back)
 
@@ -87,14 +85,14 @@ unfolding subpages
 underused_plain s is = grind (arith, is_plain, pow_mono, decimal_plain)
 
 -- its words are plain
-pub node_plain : (v : Written) (n : ℕ) (s : Shape) → n < 8 → IsShape s → list_all is_plain (node_words v n s) ≡ true
+pub node_plain : (v : Version) (n : ℕ) (s : Shape) → n < 8 → IsShape s → list_all is_plain (node_words v n s) ≡ true
 node_plain v n s few is = grind (arith, is_plain, decimal_plain, underused_plain)
 
 -- the line of a node tells its number and its shape
-pub node_line_back : (v : Written) (n : ℕ) (s : Shape) → n < 8 → IsShape s → IsToldShape (read_version v) s → read.line_of (read_version v) (journal.node_line v n s) ≡ Ok (Node n s)
+pub node_line_back : (v : Version) (n : ℕ) (s : Shape) → n < 8 → IsShape s → IsToldShape v s → read.line_of v (journal.node_line v n s) ≡ Ok (Node n s)
 unfolding journal.node_line
 node_line_back v n s few is told = by_version v (node_plain v n s few is) (node_said v n s few is told) where
-  by_version : (v : Written) → list_all is_plain (node_words v n s) ≡ true → by_words (read_version v) (node_words v n s) ≡ Ok (Node n s) → read.line_of (read_version v) (written.line_of (node_words v n s)) ≡ Ok (Node n s)
-  by_version writing.Plain plain is = line_of_words Plain (codes "node") _ plain ∙ is
-  by_version writing.Orders plain is = line_of_words Orders (codes "node") _ plain ∙ is
-  by_version writing.Underused plain is = line_of_words Underused (codes "node") _ plain ∙ is
+  by_version : (v : Version) → list_all is_plain (node_words v n s) ≡ true → by_words v (node_words v n s) ≡ Ok (Node n s) → read.line_of v (written.line_of (node_words v n s)) ≡ Ok (Node n s)
+  by_version Plain plain is = line_of_words Plain (codes "node") _ plain ∙ is
+  by_version Orders plain is = line_of_words Orders (codes "node") _ plain ∙ is
+  by_version Underused plain is = line_of_words Underused (codes "node") _ plain ∙ is

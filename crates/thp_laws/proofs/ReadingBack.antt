@@ -7,15 +7,14 @@ use Rattle.thp_model.specs.declared.events.Event.{Event}
 use Rattle.thp_model.specs.Prelude.{History, IsLegal}
 use Rattle.thp_model.proofs.LeastBlocks.{least_same, legal_with_least}
 use Rattle.thp_script.specs.Prelude.{Text}
-use Rattle.thp_journal_writer.specs.declared.version.Version.{Version as Written}
 use Rattle.thp_journal_writer.specs.EventLines as written
 use Rattle.thp_journal_writer.specs.Journals as journal
 use Rattle.thp_journal_writer.specs.Prelude.{Journal, version_of, lines_of_node, journal_lines, journal_text}
 use Rattle.thp_journal_reader.specs.declared.journals.NodeJournal.{NodeJournal}
 use Rattle.thp_journal_reader.specs.Prelude.{IsLegalNode, ReportsIllegal, node_journal}
-use Rattle.thp_journal_reader.specs.declared.version.Version.{Version}
+use Rattle.thp_journal_writer.specs.declared.version.Version.{Version}
 use Rattle.thp_laws.specs.ReadBack.{IsJournal, IsSameNode, nodes_from, TextsAreReadBack, TextsAreCalledLegal, NothingElseChanges, WhatIsReadIsLegal}
-use Rattle.thp_laws.specs.Tellable.{read_version, IsTellable, IsToldJournal}
+use Rattle.thp_laws.specs.Tellable.{IsTellable, IsToldJournal}
 use Rattle.thp_laws.proofs.JournalsBack.{text_back}
 use Rattle.thp_laws.proofs.LegalNumbers.{each_from_places, legal_numbers}
 use Rattle.thp_laws.proofs.LegalVersions.{IsToldBy, Legal, version_tells}
@@ -28,7 +27,7 @@ each_ended [] = omega arith
 each_ended (line ∷ lines) = omega (arith, each_ended lines, length-append (journal.ended line) (flat_map journal.ended lines), length-append line (10 ∷ []))
 
 -- no node has more events than there are lines
-few_events : (v : Written) (n most : ℕ) (js : List Journal) → length (journal.lines_from v n js) ≤ most → AllByRecursion (λ (j : Journal). length j.1 ≤ most) js
+few_events : (v : Version) (n most : ℕ) (js : List Journal) → length (journal.lines_from v n js) ≤ most → AllByRecursion (λ (j : Journal). length j.1 ≤ most) js
 unfolding lines_of_node
 few_events v n most [] short = tt
 few_events v n most (j ∷ js) short =
@@ -40,7 +39,7 @@ few_events v n most (j ∷ js) short =
 fewer_than_bytes : (js : List Journal) → AllByRecursion (λ (j : Journal). length j.1 ≤ length (journal_text js)) js
 unfolding journal_text journal_lines
 fewer_than_bytes js =
-    let v : Written = version_of js in
+    let v : Version = version_of js in
     let whole = each_ended (journal_lines js) in
     let two = length-append (journal.lines_from v 0 js) (codes "end" ∷ []) in
     few_events v 0 (length (journal_text js)) js (omega arith)
@@ -84,7 +83,7 @@ pub all_read_back : TextsAreReadBack
 all_read_back js are =
     let each : AllByRecursion IsJournal js = recursion_from_All IsJournal js are.each in
     let short = are.short in
-    text_back js are.some_nodes are.few_nodes (each_tellable (read_version (version_of js)) (length (journal_text js)) js (omega arith) each (version_tells js (each_legal js each)) (fewer_than_bytes js)) are.short
+    text_back js are.some_nodes are.few_nodes (each_tellable ((version_of js)) (length (journal_text js)) js (omega arith) each (version_tells js (each_legal js each)) (fewer_than_bytes js)) are.short
 
 -- the nodes from a line on are those that were written
 same_from : (line : ℕ) (js : List Journal) → AllZip IsSameNode js (nodes_from line js)

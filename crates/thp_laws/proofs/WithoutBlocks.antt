@@ -7,7 +7,7 @@ use Rattle.thp_model.specs.declared.events.What.TheVariants.{Alloc}
 use Rattle.thp_model.specs.declared.shape.Shape.{Shape}
 use Rattle.thp_model.specs.Prelude.{event_with, with_block, without_blocks, History}
 use Rattle.thp_model.proofs.Alike.{Blind, some_alike}
-use Rattle.thp_journal_writer.specs.declared.version.Version.{Version as Written}
+use Rattle.thp_journal_writer.specs.declared.version.Version.{Version}
 use Rattle.thp_journal_writer.specs.declared.version.Version.TheVariants as writing
 use Rattle.thp_journal_writer.specs.Prelude.{event_line, event_words, what_words, line_of, Journal, has_order_9, is_access, journal_lines, journal_text, lines_of_node, tells_underused, version_of}
 use Rattle.thp_journal_writer.specs.Journals as journal
@@ -42,7 +42,7 @@ access_blind w = refl
 record AreOneText (js ks : List Journal) : Type 0 where
   underused : list_any tells_underused js ≡ list_any tells_underused ks
   orders : list_all has_order_9 js ≡ list_all has_order_9 ks
-  lines : (v : Written) (n : ℕ) → journal.lines_from v n js ≡ journal.lines_from v n ks
+  lines : (v : Version) (n : ℕ) → journal.lines_from v n js ≡ journal.lines_from v n ks
 
 -- both need version 3 or neither does
 underused_alike : (j k : Journal) → IsSameJournal j k → tells_underused j ≡ tells_underused k
@@ -54,7 +54,7 @@ order_alike : (j k : Journal) → IsSameJournal j k → has_order_9 j ≡ has_or
 order_alike j k same = ap (λ (s : Shape). s.order == 9) same.shape
 
 -- the lines of a node
-node_alike : (v : Written) (n : ℕ) (j k : Journal) → IsSameJournal j k → lines_of_node v n j ≡ lines_of_node v n k
+node_alike : (v : Version) (n : ℕ) (j k : Journal) → IsSameJournal j k → lines_of_node v n j ≡ lines_of_node v n k
 unfolding lines_of_node
 node_alike v n j k same =
     ap₂ (λ line lines. line ∷ lines) (ap (journal.node_line v n) same.shape) (sym (lines_bare j.1) ∙ ap (map event_line) same.events ∙ lines_bare k.1)

@@ -7,10 +7,8 @@ use Rattle.thp_model.specs.declared.events.What.TheVariants.{Write, Zero, Used}
 use Rattle.thp_model.specs.declared.shape.Shape.{Shape}
 use Rattle.thp_model.specs.Prelude.{max_callers, max_order, IsShape}
 use Rattle.thp_journal_writer.specs.Prelude.{HasSmallNumbers, Journal}
-use Rattle.thp_journal_writer.specs.declared.version.Version.{Version as Written}
-use Rattle.thp_journal_writer.specs.declared.version.Version.TheVariants as writing
-use Rattle.thp_journal_reader.specs.declared.version.Version.{Version}
-use Rattle.thp_journal_reader.specs.declared.version.Version.TheVariants.{Plain, Orders, Underused}
+use Rattle.thp_journal_writer.specs.declared.version.Version.{Version}
+use Rattle.thp_journal_writer.specs.declared.version.Version.TheVariants.{Plain, Orders, Underused}
 
 -- accesses and pages found in use are possible from version 3 on
 abbrev pub IsFromVersion3 : Version → Type 0
@@ -30,12 +28,6 @@ pub record IsTellable (v : Version) (e : Event) : Type 0 where
   pub caller : e.caller < max_callers
   pub numbers : HasSmallNumbers e.what
   pub version : IsOfVersion v e.what
-
--- the version of the format, as it is read
-abbrev pub read_version : Written → Version
-read_version writing.Plain = Plain
-read_version writing.Orders = Orders
-read_version writing.Underused = Underused
 
 -- the line of a node in a version determines the shape: without an order it is 9, without a threshold there is none
 abbrev pub IsToldShape : Version → Shape → Type 0

@@ -1,7 +1,7 @@
 //! Single events from the bytes of their lines.
 use std::alloc::Global;
-use thp_journal_reader::{Version, read_event};
-use thp_journal_writer::{Version as Written, put_event};
+use thp_journal_reader::read_event;
+use thp_journal_writer::{Version, put_event};
 use thp_model::{Event, Outcome, PageId, SubSet, What};
 use thp_script::TextKind;
 
@@ -11,7 +11,7 @@ const PAGE: PageId = PageId(7);
 fn is_read_back(alloc: Global, what: What) -> bool {
     let event = Event { caller: 3, what };
     let mut text = Vec::new(alloc);
-    if put_event(&mut text, Written::Underused, &event).is_err() {
+    if put_event(&mut text, Version::Underused, &event).is_err() {
         return false;
     }
     match text.as_slice() {
