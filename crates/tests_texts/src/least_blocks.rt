@@ -3,7 +3,7 @@ ghost use Rattle.std.specs.Prelude.{◌≤◌};
 
 use std::alloc::Global;
 use std::process::Abort;
-use thp_live_pages::{LeastBlocks, with_least_blocks};
+use thp_journal_reader::LeastBlocks;
 use thp_model::{Event, Outcome, PageId, Shape, SubSet, What};
 
 const LAST: u64 = u64::MAX;
@@ -61,16 +61,10 @@ fn expect_rows(rt: &impl Abort, alloc: Global, blocks: u32, name: &str, rows: &[
     requires { 1 ≤ blocks }
 {
     let mut least = LeastBlocks::new(alloc, shape_of(blocks)).expect(rt, "memory");
-    let mut events = Vec::new(alloc);
-    let mut placed = Vec::new(alloc);
     for row in rows {
         let event = least.place(event_of(*row)).expect(rt, "memory");
         assert!(rt; event == placed_of(*row), "{name}");
-        events.push(event_of(*row)).expect(rt, "memory");
-        placed.push(event).expect(rt, "memory");
     }
-    let whole = with_least_blocks(alloc, shape_of(blocks), &events).expect(rt, "memory");
-    assert!(rt; whole == placed, "{name}");
 }
 
 #[test]

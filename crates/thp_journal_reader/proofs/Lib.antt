@@ -1,3 +1,8 @@
+pub mod Lookups
+pub mod Chaining
+pub mod Held
+pub mod KeepSteps
+pub mod Noting
 pub mod SetLaws
 pub mod JournalLaws
 pub mod NodeLaws

@@ -1,3 +1,8 @@
+pub mod PageRecord
+pub mod Chains
+pub mod HeldBlocks
+pub mod Freeing
+pub mod BlocksState
 pub mod SetTexts
 pub mod EventWords
 pub mod EventLines

@@ -4,6 +4,8 @@
 //!   `event_line`, `event_word`, `set_text`, `place`, `journals`. Texts have no blocks: each page gets its least
 //!   block.
 //! - `journal_reader`, `text_reader`, `reading`, `keeps_nodes`: texts in parts (`Parts`), and what is stored of the nodes.
+//! - `least_blocks` (`BlocksState`): gives each allocation, legal or not, its least free block; built from `holders`, `page_blocks`,
+//!   `pages`.
 //! - `parse_event_fast` (`FastParsing`): events read in one pass over the bytes; `event_reader`: one event from its line
 //!   (`event_told`). Proofs `PlainWords`, `PlainLines`: a line whose words parse needs no second look at its bytes.
 //! - Checks: `checking` (`ReportsIllegal`, `CanBeLegal` of `Answers`), `journal_check` (16 MiB), `long_check` (any length),
@@ -19,13 +21,17 @@ mod event_reader;
 mod event_word;
 mod follower;
 mod follows_node;
+mod holders;
 mod illegal;
 mod journal_check;
 mod journal_reader;
 mod journals;
 mod keeps_nodes;
+mod least_blocks;
 mod line;
 mod long_check;
+mod page_blocks;
+mod pages;
 mod parse_event_fast;
 mod past_lines;
 mod place;
@@ -44,6 +50,7 @@ pub use journal_check::JournalCheck;
 pub use journal_reader::{JournalReader, read_journal};
 pub use journals::{Journals, NodeJournal};
 pub use keeps_nodes::KeepsNodes;
+pub use least_blocks::LeastBlocks;
 pub use line::Line;
 pub use long_check::LongCheck;
 pub use place::Place;

@@ -9,9 +9,9 @@ ghost use Rattle.thp_script.specs.declared.fault.ReadFault.TheVariants.{OutOfMem
 
 use crate::journals::{Journals, NodeJournal};
 use crate::keeps_nodes::KeepsNodes;
+use crate::least_blocks::LeastBlocks;
 use crate::line::Line;
 use std::alloc::{AllocError, Global};
-use thp_live_pages::LeastBlocks;
 use thp_model::{Event, Shape, What};
 use thp_script::{ReadFault, Sequence};
 

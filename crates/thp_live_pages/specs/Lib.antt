@@ -6,10 +6,5 @@ pub mod Homes
 pub mod Holding
 pub mod Flying
 pub mod EventTrace
-pub mod State
 pub mod BlockHolders
-pub mod PageRecord
-pub mod Chains
-pub mod Keeping
-pub mod Freeing
 pub mod Prelude
