@@ -1,12 +1,10 @@
 -- How the program's passages end, from what their parts did.
-use Rattle.std.proofs.Common.{◌≡◌, ◌∙◌, ◌<◌, ℕ, Bool, true, false, List, Option, Some, None, Ok, Err, arith, is_some, length, not, refl, sym, IfNone, IfSome, Result, ok_or, append-nil, length-append}
+use Rattle.std.proofs.Common.{◌≡◌, ℕ, Bool, true, false, List, Option, Some, None, Ok, Err, arith, IfSome, Result, ok_or}
 use Rattle.std.specs.Io.KnownBytes.{Keeps, Appends}
-use Rattle.std.proofs.lemmas.Bool.{cases_lt, lt-ltb}
 use Rattle.thp_script.specs.declared.fault.ReadFault.{ReadFault}
 use Rattle.thp_script.specs.declared.fault.ReadFault.TheVariants as reading
 use Rattle.thp_script.specs.Prelude.{Fault, ReportsFault, IsFrontOf}
-use Rattle.thp_script.specs.declared.fault.TextKind.TheVariants.{TooLong}
-use Rattle.thp_cli.specs.Prelude.{RunFault, Text, OutOfMemory, Write, WritesFront, WritesOn, DeviceCall, Ends, WritesAnswer, run_fault}
+use Rattle.thp_cli.specs.Prelude.{RunFault, Write, WritesFront, WritesOn, DeviceCall, Ends, WritesAnswer, run_fault}
 
 pub keeps_same : (known : Option (List ℕ)) → Keeps known known
 keeps_same x = grind arith

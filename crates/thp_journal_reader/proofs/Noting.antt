@@ -1,11 +1,10 @@
 -- What is kept after the code noted an event.
-use Rattle.std.proofs.Common.{◌≡◌, ℕ, ◌+◌, ◌<◌, false, cond, List, [], ◌∷◌, ◌++◌, length, set, take, get_or, refl, ap, sym, ◌∙◌, subst, nat_eq, Option, Some, None, count_by}
-use Rattle.std.proofs.lemmas.List.Sums.{fold_push}
+use Rattle.std.proofs.Common.{◌≡◌, ℕ, ◌+◌, ◌<◌, false, cond, List, [], ◌∷◌, ◌++◌, length, set, get_or, refl, ap, sym, ◌∙◌, subst, nat_eq, Option, Some, None, count_by}
 use Rattle.thp_model.specs.declared.events.Event.{Event}
 use Rattle.thp_model.specs.declared.events.What.{What}
 use Rattle.thp_model.specs.declared.events.What.TheVariants.{Alloc}
 use Rattle.thp_model.specs.declared.shape.Shape.{Shape}
-use Rattle.thp_model.specs.Prelude.{event_with, least_free, with_least_blocks, is_alloc, History, by}
+use Rattle.thp_model.specs.Prelude.{event_with, least_free, is_alloc, History, by}
 use Rattle.thp_live_pages.specs.Prelude.{least_of}
 use Rattle.thp_journal_reader.specs.declared.page_blocks.Allocation.{Allocation}
 use Rattle.thp_journal_reader.specs.declared.pages.PageRecord.{PageRecord}
@@ -14,7 +13,6 @@ use Rattle.thp_journal_reader.specs.Chains.{IsChain, IsCovered}
 use Rattle.thp_journal_reader.specs.Freeing.{freed_page}
 use Rattle.thp_journal_reader.specs.HeldBlocks.{Keeps}
 use Rattle.thp_journal_reader.specs.BlocksState.{BlocksState}
-use Rattle.thp_model.proofs.ListPlaces.{step_of}
 use Rattle.thp_journal_reader.proofs.KeepSteps.{least_is, keeps_quiet, keeps_alloc, keeps_alloc_freed, keeps_covered, keeps_free, keeps_free_again}
 
 -- an event that frees a page is no allocation

@@ -9,8 +9,7 @@ use crate::page_blocks::PageBlocks;
 use crate::pages::PageRecord;
 use std::alloc::{AllocError, Global};
 use std::marker::Model;
-use thp_live_pages::EventTrace;
-use thp_live_pages::freed_page;
+use thp_live_pages::{EventTrace, freed_page};
 use thp_model::{Event, PageId, Shape, What};
 
 /// Follows a node's events and chooses the blocks of their allocations: each page gets the least block that holds no live page,

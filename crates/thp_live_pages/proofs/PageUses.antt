@@ -10,7 +10,6 @@ use Rattle.thp_page.specs.declared.page.Change.{Change}
 use Rattle.thp_page.specs.Prelude.{IsChange}
 use Rattle.thp_live_pages.specs.Prelude.{outcome_by, released_after}
 use Rattle.thp_model.specs.declared.page_call.Loss.{Loss}
-use Rattle.thp_model.specs.declared.page_call.Loss.TheVariants as loss
 
 same_sizes : (a b : PageState) → a.order ≡ b.order → size a ≡ size b
 unfolding size

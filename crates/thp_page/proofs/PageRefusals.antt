@@ -2,7 +2,6 @@
 use Rattle.std.proofs.Common.{◌≡◌, ℕ, ◌+◌, ◌<◌, ◌≤◌, Bool, true, false, ◌&&◌, ◌||◌, cond, nat_eq, nat_lt, Some, None, ap, ◌∙◌, arith}
 use Rattle.std.proofs.lemmas.Bool.Decides.{nat_tests}
 use Rattle.thp_model.specs.declared.refusal.Refusal.{Refusal}
-use Rattle.thp_model.specs.declared.refusal.Refusal.TheVariants as reason
 use Rattle.thp_model.specs.Prelude.{covers, most, PageState, size, own_at, total_at, page_refusal, IsPage}
 use Rattle.thp_model.specs.Refusals as call
 use Rattle.thp_page.proofs.RangeLemmas.{covers_true}

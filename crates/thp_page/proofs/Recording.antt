@@ -14,7 +14,6 @@ use Rattle.thp_model.proofs.Untouched.{Untouched, untouched}
 use Rattle.thp_page.specs.Prelude.{OthersLeavePages, RefusalsAgree, FreshPageIsRecorded, GainIsRecorded, LossIsRecorded, CandidatesAgree, SplitIsRecorded}
 use Rattle.thp_model.specs.declared.page_call.Gain.TheVariants as gain
 use Rattle.thp_model.specs.declared.page_call.Loss.TheVariants as loss
-use Rattle.thp_model.specs.declared.page_call.PageCall.TheVariants as either
 use Rattle.thp_page.proofs.PageRefusals.{map_whole_unsplit}
 
 pub refusals_agree : RefusalsAgree

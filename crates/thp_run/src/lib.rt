@@ -46,9 +46,7 @@ pub use report::{journals_text, report_of_logs};
 pub use run_result::RunResult;
 pub use running::run;
 pub use script_run::run_script;
-pub use thp_cli::{
-    Ending, Line, ProgramFault, RunFault, Watched, WordsFault, read_line, words_of,
-};
+pub use thp_cli::{Ending, Line, ProgramFault, RunFault, Watched, WordsFault, read_line, words_of};
 pub use thp_journal_reader::{Journals, NodeJournal, check_text, read_journal};
 pub use thp_model::{Gain, Loss, PageCall, PageId, Refusal, Shape};
 pub use thp_node::{BackReply, Done, Node, ScanReply, Tried};

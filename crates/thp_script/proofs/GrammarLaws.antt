@@ -1,6 +1,6 @@
 -- What the grammar reads: each command is in range, and each line that reads as a statement is printable and has no empty
 -- word.
-use Rattle.std.proofs.Common.{◌≡◌, ◌<◌, ◌≤◌, ◌-◌, ℕ, zero, Bool, true, false, cond, List, [], ◌∷◌, Option, Result, Ok, Err, arith, subst, refl, sym, inl, inr, codes, All}
+use Rattle.std.proofs.Common.{◌≡◌, ◌<◌, ◌≤◌, ℕ, Bool, true, false, cond, List, [], ◌∷◌, Option, Result, Ok, Err, arith, subst, refl, sym, inl, inr, codes, All}
 use Rattle.std.specs.List.{AllByRecursion, list_all, list_any}
 use Rattle.std.proofs.lemmas.List.Elements.{All-cons}
 use Rattle.thp_model.specs.Prelude.{max_batch}

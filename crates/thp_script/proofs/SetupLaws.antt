@@ -1,5 +1,5 @@
 -- The commands of `setup` that are let go while a script is read stand at the front of what is read.
-use Rattle.std.proofs.Common.{◌≡◌, ◌∙◌, ◌+◌, ◌<◌, ℕ, zero, suc, List, [], ◌∷◌, ◌++◌, length, get_or, set, Option, Result, Ok, refl, sym, ap, append_assoc, arith, slice_set, append-nil}
+use Rattle.std.proofs.Common.{◌≡◌, ◌∙◌, ◌<◌, ℕ, zero, suc, List, [], ◌∷◌, ◌++◌, length, get_or, set, Option, Result, Ok, refl, sym, ap, append_assoc, arith, slice_set, append-nil}
 use Rattle.thp_script.specs.Prelude.{Command, Script, Settings, after_setup, lines_spell, read_after, script_in, spelled_with, with_commands, ◌>>=◌, commands_from, Fault, Placed, fault_with, unless, TextSoFar, Text, lines_of}
 use Rattle.thp_script.specs.Parts.{setup_of}
 

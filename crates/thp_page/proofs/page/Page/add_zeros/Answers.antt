@@ -1,4 +1,4 @@
-use Rattle.std.proofs.Common.{◌≡◌, subst}
+use Rattle.std.proofs.Common.{subst}
 use Rattle.thp_model.specs.Prelude.{PageState, RangeZeroed}
 use Rattle.thp_model.specs.Refusals as call
 use Rattle.thp_page.specs.Prelude.{state_of}

@@ -1,13 +1,12 @@
-use Rattle.std.proofs.Common.{◌≡◌, ◌+◌, ◌-◌, ◌<◌, ◌≤◌, ℕ, List, Bool, cond, get_or, refl, ap, sym, ◌∙◌, arith, subst}
-use Rattle.thp_model.specs.Prelude.{covers, PageState, size, own_at, zero_set, KeepsCounts, RangeMapped, PmdSplit, RangeWritten, RangeZeroed}
+use Rattle.std.proofs.Common.{◌≡◌, ◌+◌, ◌-◌, ◌<◌, ◌≤◌, ℕ, List, cond, get_or, refl, ap, sym, ◌∙◌, arith, subst}
+use Rattle.thp_model.specs.Prelude.{covers, PageState, size, own_at, RangeMapped, PmdSplit}
 use Rattle.thp_model.specs.Refusals as call
-use Rattle.thp_page.specs.Prelude.{Inside, state_of, IsKept}
+use Rattle.thp_page.specs.Prelude.{state_of}
 use Rattle.thp_page.proofs.RangeLemmas.{covers_inside, covers_true}
 use Rattle.thp_page.proofs.PageSizes.{size_least, size_most}
-use Rattle.thp_page.proofs.PageRefusals.{allowed_as, map_whole_allowed, map_sub_allowed, split_pmd_allowed, pin_allowed, write_allowed}
-use Rattle.thp_page.proofs.Trailing.{behind-same, behind-map}
-use Rattle.thp_page.proofs.PageChanges.{kept_else, IsPage-map_whole, IsPage-map_sub, IsPage-split_pmd, IsPage-pin, IsPage-counts, zero_inside-same}
-use Rattle.thp_page.proofs.ZeroSets.{written, written_inside, zeroed, zeroed_inside}
+use Rattle.thp_page.proofs.PageRefusals.{allowed_as, map_whole_allowed, map_sub_allowed, split_pmd_allowed, pin_allowed}
+use Rattle.thp_page.proofs.Trailing.{behind-map}
+use Rattle.thp_page.proofs.PageChanges.{kept_else, IsPage-map_whole, IsPage-map_sub, IsPage-split_pmd, IsPage-pin, zero_inside-same}
 use Rattle.thp_page.proofs.page.Page.gain.Goals as goal
 
 -- the whole page is mapped
