@@ -1,8 +1,7 @@
 //! Reads and checks journals.
 //!
 //! - The grammar: `line_of`, `journals_of` (`JournalLines`, `Journals`, `EventLines`, `EventWords`, `SetTexts`); code in `line`,
-//!   `event_line`, `event_word`, `set_text`, `place`, `journals`. Texts have no blocks: each page gets its least
-//!   block.
+//!   `event_line`, `event_word`, `set_text`, `place`, `journals`. Texts have no blocks: each page gets its least block.
 //! - `journal_reader`, `text_reader`, `reading`, `keeps_nodes`: texts in parts (`Parts`), and what is stored of the nodes.
 //! - `least_blocks` (`BlocksState`): gives each allocation, legal or not, its least free block; built from `holders`, `page_blocks`,
 //!   `pages`.
