@@ -13,6 +13,7 @@ pub mod Reading
 pub mod Answers
 pub mod Verdicts
 pub mod Parts
+pub mod ReadTexts
 pub mod LineTrace
 pub mod FastParsing
 pub mod Following

@@ -1,10 +1,10 @@
 //! The check of journals whose text arrives in parts.
-ghost use Rattle.std.specs.Prelude.{◌≡◌, ◌≢◌, ◌++◌, ℕ, List, Ok, [], IfOk, IfErr, refl};
-ghost use Rattle.std.proofs.Common.{◌∙◌, ap, append_assoc, sym};
+ghost use Rattle.std.specs.Prelude.{◌≡◌, ◌≢◌, ◌++◌, Ok, [], IfOk, IfErr};
 ghost use Rattle.thp_journal_reader.specs.declared.journals.Journals.{Journals};
 ghost use Rattle.thp_journal_reader.specs.Answers.{ReportsIllegal};
 ghost use Rattle.thp_journal_reader.specs.Journals.{journals_of};
 ghost use Rattle.thp_journal_reader.specs.Parts.{told_with};
+ghost use Rattle.thp_journal_reader.specs.ReadTexts.{HasReadText, more_text_read, no_text_read};
 ghost use Rattle.thp_script.specs.Prelude.{ReportsFault, Text};
 ghost use Rattle.thp_script.specs.declared.fault.ReadFault.TheVariants.{OutOfMemory};
 
@@ -73,13 +73,13 @@ impl JournalCheck {
 }
 
 impl ReadsParts for JournalCheck {
-    ghost has_read = { λ old bytes new. (more : List ℕ) → told_with new more ≡ told_with old (bytes ++ more) };
+    ghost has_read = { HasReadText };
 
     fn read_part(self, part: &[u8]) -> Result<Self, ReadFault> {
         JournalCheck::read_part(self, part)
     }
 
-    ghost nothing_read = { λ r more. refl };
+    ghost nothing_read = { no_text_read };
 
-    ghost more_read = { λ a b c first more old new rest. new rest ∙ old (more ++ rest) ∙ ap (told_with a) (sym (append_assoc first more rest)) };
+    ghost more_read = { more_text_read };
 }

@@ -1,7 +1,6 @@
 //! The check of journals of any length that also keeps data of each node.
-ghost use Rattle.std.specs.Prelude.{◌≡◌, ◌++◌, ℕ, List, Ok, [], IfOk, IfErr, refl};
-ghost use Rattle.std.proofs.Common.{◌∙◌, ap, append_assoc, sym};
-ghost use Rattle.thp_journal_reader.specs.Prelude.{ReportsLongReadFault, HasEnded, journals_within, told_with};
+ghost use Rattle.std.specs.Prelude.{◌≡◌, ◌++◌, Ok, [], IfOk, IfErr};
+ghost use Rattle.thp_journal_reader.specs.Prelude.{HasReadText, ReportsLongReadFault, HasEnded, journals_within, more_text_read, no_text_read, told_with};
 ghost use Rattle.thp_journal_reader.specs.declared.journals.Journals.{Journals};
 ghost use Rattle.thp_script.specs.Prelude.{max_counted, Text};
 
@@ -69,13 +68,13 @@ impl<K: Drop, F: FollowsNode<Kept = K>> KeepingCheck<K, F> {
 }
 
 impl<K: Drop, F: FollowsNode<Kept = K>> ReadsParts for KeepingCheck<K, F> {
-    ghost has_read = { λ old bytes new. (more : List ℕ) → told_with new more ≡ told_with old (bytes ++ more) };
+    ghost has_read = { HasReadText };
 
     fn read_part(self, part: &[u8]) -> Result<Self, ReadFault> {
         Ok(KeepingCheck::read_part(self, part)?)
     }
 
-    ghost nothing_read = { λ r more. refl };
+    ghost nothing_read = { no_text_read };
 
-    ghost more_read = { λ a b c first more old new rest. new rest ∙ old (more ++ rest) ∙ ap (told_with a) (sym (append_assoc first more rest)) };
+    ghost more_read = { more_text_read };
 }

@@ -1,0 +1,15 @@
+-- What a check or a reader of journals has read, part by part, with the laws that `ReadsParts` asks for.
+use Rattle.std.proofs.Common.{◌≡◌, ◌∙◌, ◌++◌, [], ℕ, List, ap, append_assoc, refl, sym}
+use Rattle.thp_journal_reader.specs.Parts.{ReadSoFar, told_with}
+
+-- the second state follows from the first by reading these bytes
+abbrev pub HasReadText : ReadSoFar → List ℕ → ReadSoFar → Type 0
+HasReadText old bytes new = (more : List ℕ) → told_with new more ≡ told_with old (bytes ++ more)
+
+-- reading nothing changes nothing
+pub no_text_read : (read : ReadSoFar) → HasReadText read [] read
+no_text_read read more = refl
+
+-- reading bytes and then more bytes is reading all of them
+pub more_text_read : (a b c : ReadSoFar) (first more : List ℕ) → HasReadText a first b → HasReadText b more c → HasReadText a (first ++ more) c
+more_text_read a b c first more old new rest = new rest ∙ old (more ++ rest) ∙ ap (told_with a) (sym (append_assoc first more rest))
