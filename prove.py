@@ -10,9 +10,9 @@ proves the crate again from scratch.
 
 `rt` proves one library after the other, and allows only one run in a crate and the crates below it. This program therefore
 runs `rt lib` for each library in a folder of its own, with the built libraries that it uses next to it, and then moves the
-result to the tree, where the next `rt` finds it. The library with the longest chain of remaining work goes first, with as many
-processes as `rt` chooses, or with all processors if no other can be proved beside it. Each other one gets its share of the processors,
-at a lower priority. Libraries that are already proved are left alone: `rt` itself checks them at the end.
+result to the tree, where the next `rt` finds it. Each gets a process for each processor, since none can use all of them all the time.
+The library with the longest chain of remaining work goes first, and the others run at a lower priority. Libraries that are already
+proved are left alone: `rt` itself checks them at the end.
 
 The line in which `rt` reports that a crate is proved, its verdict line, is stored in the crate's out/, with the sum of the sources
 that it is for, and the hashes of what was built from them (`verdict`). Where `rt` takes a proof from another checkout, the line of
@@ -47,7 +47,7 @@ CRATES = ROOT / "crates"
 PARTS = ("src", "specs", "proofs")
 """The folders of a crate that a proof reads."""
 
-AT_ONCE, EACH = 4, 4
+AT_ONCE, EACH = 4, 5
 """The greatest number of concurrent proofs, and the free memory in GiB that each needs."""
 
 ENDING = threading.Event()
@@ -232,13 +232,13 @@ def hand_in(made: Path, name: str) -> None:
         os.close(folder)
 
 
-def prove(name: str, jobs: int | None, started: list[subprocess.Popen[str]]) -> str | None:
-    """Proves a library in so many processes, or first and in as many as `rt` chooses. Returns the output of `rt` if it is not proved."""
+def prove(name: str, is_first: bool, started: list[subprocess.Popen[str]]) -> str | None:
+    """Proves a library, at a lower priority if it is not first. Returns the output of `rt` if it is not proved."""
     began, before = time.monotonic(), sources(name)
     with tempfile.TemporaryDirectory(prefix="thp-prove-") as top:
         set_up(Path(top), name)
         home = Path(top) / "crates" / name
-        words = ["nice", "rt", "lib", "--jobs", str(jobs)] if jobs else ["rt", "lib"]
+        words = [*([] if is_first else ["nice"]), "rt", "lib", "--jobs", str(processors())]
         child = subprocess.Popen(words, cwd=home, text=True, errors="replace", stdin=subprocess.DEVNULL,
                                  stdout=subprocess.PIPE, stderr=subprocess.STDOUT)
         started.append(child)
@@ -278,11 +278,16 @@ def prove_lacking(part: str) -> bool:
     return not wrong
 
 
+def processors() -> int:
+    """The number of processors that this program may use."""
+    return len(os.sched_getaffinity(0))
+
+
 def lanes() -> int:
     """The number of libraries to prove concurrently on this machine."""
     found = re.search(r"MemAvailable:\s+(\d+)", Path("/proc/meminfo").read_text())
     free = int(found[1]) >> 20 if found else EACH
-    return max(1, min(AT_ONCE, len(os.sched_getaffinity(0)), free // EACH))
+    return max(1, min(AT_ONCE, processors(), free // EACH))
 
 
 def prove_all(target: str, most: int, started: list[subprocess.Popen[str]]) -> bool:
@@ -298,12 +303,9 @@ def prove_all(target: str, most: int, started: list[subprocess.Popen[str]]) -> b
         while left or running:
             missing = {*left, *running.values()}
             ready = [it for it in left if not missing & {*below(it)}]
-            starting = ready[: most - len(running)]
-            share = max(1, most // max(1, len(running) + len(starting)))
-            is_alone = len(running) + len(starting) == 1
-            for name in starting:
+            for name in ready[: most - len(running)]:
                 is_first = behind[name] == max(behind[it] for it in missing)
-                running[pool.submit(prove, name, None if is_first and not is_alone else share, started)] = name
+                running[pool.submit(prove, name, is_first, started)] = name
                 left.remove(name)
             for ended in wait(running, return_when=FIRST_COMPLETED).done:
                 name, said = running.pop(ended), ended.result()

@@ -18,8 +18,6 @@ use Rattle.thp_check.specs.contracts.node_state.NodeState as NodeState
 use Rattle.thp_check.proofs.tally.Tally.TheSendSync as tally
 use Rattle.thp_check.specs.contracts.replay.Replay as Replay
 use Rattle.thp_check.specs.contracts.replay.Replay.TheInside as in_replay
-use Rattle.thp_journal_reader.specs.contracts.past_lines.LineTrace as LineTrace
-use Rattle.thp_journal_reader.specs.contracts.past_lines.LineTrace.TheInside as in_lines
 use Rattle.thp_journal_reader.specs.contracts.follower.Follower as Follower
 use Rattle.thp_journal_reader.specs.contracts.follower.FollowedNodes as FollowedNodes
 use Rattle.thp_journal_reader.proofs.illegal.Illegal.TheSendSync as illegal
@@ -34,7 +32,7 @@ use Rattle.thp_capi.specs.Rows.{check_row}
 use Rattle.thp_capi.specs.contracts.check_handle.ThpCheck.{the_row, the_type}
 use Rattle.thp_capi.specs.contracts.check_stage.CheckStage as CheckStage
 use Rattle.thp_cell.proofs.Crossings.{places_send}
-use Rattle.thp_capi.proofs.Crossings.{boxed_send, past_send, room_send, words_send}
+use Rattle.thp_capi.proofs.Crossings.{boxed_send, trace_send, room_send, words_send}
 
 free_send : IsSend FreeBlocks.the_row
 free_send = view_send in_free.the_row _ _ _ _ (declared_send in_free.the_type (search (sendable, crosses) depth 30, tt))
@@ -49,16 +47,13 @@ state_send : IsSend NodeState.the_row
 state_send = declared_send NodeState.the_type (search (sendable, crosses) depth 30, (places_send, (flights_send, (search sendable, (search sendable, (search (sendable, crosses) depth 30, tt))))))
 
 replay_send : IsSend Replay.the_row
-replay_send = view_send in_replay.the_row _ _ _ _ (declared_send in_replay.the_type (Box-send _ state_send, (free_send, (Box-send _ tally.the_send, (past_send, tt)))))
+replay_send = view_send in_replay.the_row _ _ _ _ (declared_send in_replay.the_type (Box-send _ state_send, (free_send, (Box-send _ tally.the_send, (trace_send _, tt)))))
 
 follower_send : IsSend (Follower.the_row Replay.the_row Nothing)
 follower_send = declared_send (Follower.the_type Replay.the_row Nothing) (send, (option.the_send _ replay_send, (search sendable, (option.the_send _ illegal.the_send, (Vec-send _ (search sendable), tt)))))
 
-lines_send : IsSend LineTrace.the_row
-lines_send = view_send in_lines.the_row _ _ _ _ (declared_send in_lines.the_type (search (sendable, crosses) depth 30, tt))
-
 nodes_send : IsSend (FollowedNodes.the_row Replay.the_row Nothing)
-nodes_send = declared_send (FollowedNodes.the_type Replay.the_row Nothing) (follower_send, (lines_send, tt))
+nodes_send = declared_send (FollowedNodes.the_type Replay.the_row Nothing) (follower_send, (trace_send _, tt))
 
 text_send : IsSend TextInParts.the_row
 text_send = view_send in_text.the_row _ _ _ _ (declared_send in_text.the_type (send, (search (sendable, crosses) depth 30, (search sendable, (search sendable, (search sendable, (search (sendable, crosses) depth 30, tt)))))))

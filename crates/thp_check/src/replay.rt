@@ -15,8 +15,8 @@ use crate::node_state::NodeState;
 use crate::tally::{EventContext, Tally};
 use std::alloc::{AllocError, Global};
 use std::marker::Model;
-use thp_live_pages::{EventTrace, FreeBlocks, freed_page};
-use thp_model::{Event, PageId, Shape, What};
+use thp_live_pages::{FreeBlocks, freed_page};
+use thp_model::{Event, PageId, Shape, Trace, What};
 
 /// The state of a node after the events of its history so far, which is legal: its pages, its queue, and its flights. It stores
 /// what is live, not the events.
@@ -29,7 +29,7 @@ pub struct Replay {
     free: FreeBlocks,
     tally: Box<Tally>,
     // has no bytes
-    past: EventTrace,
+    past: Trace<Event>,
 }
 
 impl Model for Replay {
@@ -60,7 +60,7 @@ impl Replay {
             state: Box::new(alloc, state)?,
             free,
             tally: Box::new(alloc, Tally::new())?,
-            past: EventTrace::new(),
+            past: Trace::new(),
         })
     }
 

@@ -2,13 +2,6 @@
 use Rattle.std.specs.Prelude.{◌≡◌, ◌⊎◌, ◌++◌, ◌+◌, ◌-◌, ◌≤◌, ◌<◌, ℕ, Bool, true, false, List, [], ◌∷◌, All, Some, None, ⊤, is_some, length, map, sum}
 use Rattle.thp_cli.specs.declared.calls.DeviceCall.{DeviceCall}
 use Rattle.thp_cli.specs.declared.calls.DeviceCall.TheVariants as call
-use Rattle.thp_cli.specs.declared.calls.Calls.{Calls}
-use Rattle.thp_cli.specs.declared.calls.Calls.TheVariants.{Start, Then'}
-
--- the view that contracts have of a `CallLog`
-abbrev pub calls_in : Calls → List DeviceCall
-calls_in Start = []
-calls_in (Then' call shape before) = calls_in before ++ call ∷ []
 
 -- the call succeeded
 abbrev pub is_answered : DeviceCall → Bool

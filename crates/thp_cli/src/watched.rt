@@ -4,9 +4,10 @@ ghost use Rattle.std.specs.Io.KnownBytes.{Keeps};
 ghost use Rattle.thp_cli.specs.Devices.{Reads, Writes};
 ghost use Rattle.thp_cli.specs.declared.calls.DeviceCall.TheVariants as call;
 
-use crate::calls::{CallLog, DeviceCall};
+use crate::calls::DeviceCall;
 use std::io::{Read, Write};
 use std::marker::Model;
+use thp_model::Trace;
 
 /// A reader or a writer, with a flag that is set after a call of it has failed. Contracts also see its calls.
 #[derive(Drop)]
@@ -14,7 +15,7 @@ pub struct Watched<D> {
     device: D,
     failed: bool,
     // has no bytes
-    calls: CallLog,
+    calls: Trace<DeviceCall>,
 }
 
 impl<D> Model for Watched<D> {
@@ -33,7 +34,7 @@ impl<D> Watched<D> {
         Watched {
             device,
             failed: false,
-            calls: CallLog::new(),
+            calls: Trace::new(),
         }
     }
 
@@ -61,7 +62,7 @@ impl<D> Watched<D> {
         ensures failed { IfNone result (self.new.failed ≡ true) }
         ensures flag_stays { IfSome result (λ _. self.new.failed ≡ self.old.failed) }
     {
-        self.calls.push(call);
+        self.calls.push(&call);
         if answer.is_none() {
             self.failed = true;
         }

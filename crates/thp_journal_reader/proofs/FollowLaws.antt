@@ -197,4 +197,7 @@ module _ {K : Type 0} (keeps : Shape → History → Option Illegal → K → Ty
     -- behind one more line
     pub goes_on : (number : ℕ) (old new : FollowedNodes F K) (line : Line) → FollowsLines replayed keeps follows_all number old → IsInRange line → new.lines ≡ old.lines ++ (number, line) ∷ [] →
         Follows replayed keeps follows_all (with_line number (nodes_told old.lines) line) new.follower → FollowsLines replayed keeps follows_all (number + 1) new
-    goes_on number old new line along in-range lines follows = grind (arith, told_push, each_step)
+    goes_on number old new line along in-range lines follows =
+        let told : nodes_told new.lines ≡ with_line number (nodes_told old.lines) line = ap nodes_told lines ∙ told_push old.lines number line in
+        let P : List NodeJournal → Type 0 = λ ns. Follows replayed keeps follows_all ns new.follower in
+        record { each = each_step number (nodes_told old.lines) (nodes_told new.lines) line told in-range along.each; follows = subst P (sym told) follows }

@@ -14,7 +14,6 @@ pub mod Answers
 pub mod Verdicts
 pub mod Parts
 pub mod ReadTexts
-pub mod LineTrace
 pub mod FastParsing
 pub mod Following
 pub mod Keeping

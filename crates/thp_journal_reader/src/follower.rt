@@ -15,9 +15,8 @@ use crate::follows_node::{FollowsNode, Stopped};
 use crate::illegal::Illegal;
 use crate::keeps_nodes::KeepsNodes;
 use crate::line::Line;
-use crate::past_lines::LineTrace;
 use std::alloc::{AllocError, Global};
-use thp_model::{Event, PageId, Shape, What};
+use thp_model::{Event, PageId, Shape, Trace, What};
 
 /// What is known of the nodes so far. `F` follows the current node, and a `K` is kept of each other.
 #[derive(Drop)]
@@ -168,7 +167,7 @@ impl<K: Drop, F: FollowsNode<Kept = K>> Follower<F, K> {
 pub struct FollowedNodes<F, K> {
     follower: Follower<F, K>,
     // has no bytes
-    pub lines: LineTrace,
+    pub lines: Trace<(u64, Line)>,
 }
 
 impl<K: Drop, F: FollowsNode<Kept = K>> FollowedNodes<F, K> {
@@ -185,7 +184,7 @@ impl<K: Drop, F: FollowsNode<Kept = K>> FollowedNodes<F, K> {
                 illegal: None,
                 kept: Vec::new(alloc),
             },
-            lines: LineTrace::new(),
+            lines: Trace::new(),
         }
     }
 
@@ -217,7 +216,7 @@ impl<K: Drop, F: FollowsNode<Kept = K>> KeepsNodes for FollowedNodes<F, K> {
 
     fn add(&mut self, _alloc: Global, number: u64, line: &Line) -> Result<(), AllocError> {
         self.follower.follow(number, line)?;
-        self.lines.push(number, line);
+        self.lines.push(&(number, *line));
         Ok(())
     }
 

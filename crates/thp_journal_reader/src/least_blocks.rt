@@ -9,8 +9,8 @@ use crate::page_blocks::PageBlocks;
 use crate::pages::PageRecord;
 use std::alloc::{AllocError, Global};
 use std::marker::Model;
-use thp_live_pages::{EventTrace, freed_page};
-use thp_model::{Event, PageId, Shape, What};
+use thp_live_pages::freed_page;
+use thp_model::{Event, PageId, Shape, Trace, What};
 
 /// Follows a node's events and chooses the blocks of their allocations: each page gets the least block that holds no live page,
 /// or block 0 if every block is held.
@@ -20,7 +20,7 @@ use thp_model::{Event, PageId, Shape, What};
 #[derive(Drop)]
 pub struct LeastBlocks {
     shape: Shape,
-    past: EventTrace,
+    past: Trace<Event>,
     holders: BlockHolders,
     pages: PageBlocks,
 }
@@ -48,7 +48,7 @@ impl LeastBlocks {
         let holders = BlockHolders::new(alloc, shape.blocks)?;
         Ok(LeastBlocks {
             shape,
-            past: EventTrace::new(),
+            past: Trace::new(),
             holders,
             pages: PageBlocks::new(alloc),
         })

@@ -11,7 +11,6 @@
 //!   `illegal` (the event and why), `verdicts` (`Verdicts`).
 //! - `follower` (`Following`, proof `FollowLaws`), generic in `follows_node`: what follows a node line by line, and what is kept of
 //!   it. `long_check` keeps nothing (`Keeping`); `thp_journal_tools` keeps totals or numbers, `thp_journal_scripts` writes scripts.
-//!   `past_lines` (`LineTrace`): the lines so far, for contracts.
 #![tactic(auto)]
 
 mod checking;
@@ -32,7 +31,6 @@ mod long_check;
 mod page_blocks;
 mod pages;
 mod parse_event_fast;
-mod past_lines;
 mod place;
 mod reading;
 mod set_text;

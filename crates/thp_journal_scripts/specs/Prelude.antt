@@ -3,7 +3,7 @@ pub use Rattle.thp_journal_scripts.specs.Folds.{AddsCommands, AddsEvent, AddsPla
 pub use Rattle.thp_journal_scripts.specs.JournalScripts.{AddsLine, IsLegalPart, IsScriptOf, IsScripting, ScriptSoFar, ended_nodes, repeated_of, told_of}
 pub use Rattle.thp_journal_scripts.specs.Moving.{Interleaves, IsOfBatch, IsScan, both_moved, counted, first, neither, second}
 pub use Rattle.thp_journal_scripts.specs.NodeScripts.{BeginsNode, EndedNode, EndsAs, EndsNode, GoesOnAs, GoesOnWith, IsBegun, IsEnded, IsWriting, NodeScript, head_text, moved_by, node_after, node_text, nodes_of, nodes_text, out_of_turn_by, out_of_turn_in, shape_of, taken_of, untaken}
-pub use Rattle.thp_journal_scripts.specs.Repeating.{AreBy, IsBy, IsCall, IsScanBy, Repeats, RepeatsBy, call_in, calls_in, calls_of, is_call, kind_of, operand_of}
+pub use Rattle.thp_journal_scripts.specs.Repeating.{AreBy, IsBy, IsCall, IsScanBy, Repeats, RepeatsBy, call_in, calls_in, calls_of, is_call, kind_of}
 pub use Rattle.thp_journal_scripts.specs.ScriptBatches.{Completes, EndsPuts, EndsTakes, EndsTries, IsIncomplete, IsPending, PutsMore, RepeatsUpTo, TakesMore, TakesSome, TriesMore, open_by, pending_ops, settled}
 pub use Rattle.thp_journal_scripts.specs.ScriptTexts.{blocks_text, command_line, commands_text, count_text, orders_text, thresholds_text}
 unfoldable pub use Rattle.thp_journal_scripts.specs.ScriptTexts.{options_line}

@@ -1,5 +1,5 @@
 -- Scripts that repeat a history: which events each command repeats (this project's profile).
-use Rattle.std.specs.Prelude.{◌≡◌, ◌++◌, ℕ, Bool, true, false, All, List, [], ◌∷◌, Option, Some, None, length, nat_lt, if◌then◌else◌, filter, flat_map}
+use Rattle.std.specs.Prelude.{◌≡◌, ◌++◌, ℕ, Bool, true, false, All, List, [], ◌∷◌, Option, Some, None, length, min, filter, flat_map}
 use Rattle.thp_model.specs.declared.events.Event.{Event}
 use Rattle.thp_model.specs.declared.events.What.{What}
 use Rattle.thp_model.specs.declared.events.What.TheVariants.{Alloc, MapWhole, UnmapWhole, MapSub, UnmapSub, SplitPmd, Pin, Unpin, Write, Zero, Taken, Split, Pinned, Used, Back, Dropped, Close}
@@ -9,22 +9,19 @@ use Rattle.thp_script.specs.declared.script.Op.TheVariants as op
 use Rattle.thp_journal_scripts.specs.declared.event_kind.EventKind.{EventKind}
 use Rattle.thp_journal_scripts.specs.declared.event_kind.EventKind.TheVariants.{Call, Take, Try, Put}
 
--- a number of a range as an operand, which has 16 bits: a range past that is refused in any case
-abbrev pub operand_of : ℕ → ℕ
-operand_of n = if nat_lt n 65536 then n else 65535
-
--- a call, with the command that repeats it; or a part of a batch
+-- A call, with the command that repeats it; or a part of a batch. An operand of a command has 16 bits: a range past that is refused
+-- in any case.
 abbrev pub kind_of : What → EventKind
 kind_of (Alloc p block) = Call op.Alloc
 kind_of (MapWhole p) = Call (op.MapWhole p)
 kind_of (UnmapWhole outcome p released) = Call (op.UnmapWhole p)
-kind_of (MapSub p first count) = Call (op.Map (operand_of first) (operand_of count) p)
-kind_of (UnmapSub outcome p first count released) = Call (op.Unmap (operand_of first) (operand_of count) p)
+kind_of (MapSub p first count) = Call (op.Map (min first 65535) (min count 65535) p)
+kind_of (UnmapSub outcome p first count released) = Call (op.Unmap (min first 65535) (min count 65535) p)
 kind_of (SplitPmd p) = Call (op.SplitPmd p)
 kind_of (Pin p) = Call (op.Pin p)
 kind_of (Unpin outcome p released) = Call (op.Unpin p)
-kind_of (Write p first count) = Call (op.Write (operand_of first) (operand_of count) p)
-kind_of (Zero p first count) = Call (op.Zero (operand_of first) (operand_of count) p)
+kind_of (Write p first count) = Call (op.Write (min first 65535) (min count 65535) p)
+kind_of (Zero p first count) = Call (op.Zero (min first 65535) (min count 65535) p)
 kind_of (Taken p) = Take
 kind_of (Split p released) = Try
 kind_of (Pinned p) = Try

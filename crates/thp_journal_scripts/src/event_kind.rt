@@ -1,8 +1,8 @@
 //! The kinds of events, by the command that repeats them.
 ghost use Rattle.std.specs.Prelude.{◌≡◌};
-ghost use Rattle.thp_journal_scripts.specs.Repeating.{kind_of, operand_of};
+ghost use Rattle.thp_journal_scripts.specs.Repeating.{kind_of};
 
-use thp_model::What;
+use thp_model::{What, narrowed};
 use thp_script::Op;
 
 /// The kind of an event, by the command that repeats it.
@@ -18,17 +18,6 @@ pub enum EventKind {
     Put,
 }
 
-/// Returns a number of a range as an operand of a command. A range past the operand's greatest value is refused in any case.
-fn operand_of(number: u32) -> u16
-    ensures { result ≡ operand_of number }
-{
-    if number < 65_536 {
-        number as u16
-    } else {
-        u16::MAX
-    }
-}
-
 /// Returns the kind of an event.
 pub(crate) fn kind_of(what: &What) -> EventKind
     ensures { result ≡ kind_of what.now }
@@ -38,8 +27,8 @@ pub(crate) fn kind_of(what: &What) -> EventKind
         What::MapWhole { page } => Op::MapWhole { page: page.0 },
         What::UnmapWhole { page, .. } => Op::UnmapWhole { page: page.0 },
         What::MapSub { page, first, count } => Op::Map {
-            first: operand_of(first),
-            count: operand_of(count),
+            first: narrowed(first),
+            count: narrowed(count),
             page: page.0,
         },
         What::UnmapSub {
@@ -48,21 +37,21 @@ pub(crate) fn kind_of(what: &What) -> EventKind
             count,
             ..
         } => Op::Unmap {
-            first: operand_of(first),
-            count: operand_of(count),
+            first: narrowed(first),
+            count: narrowed(count),
             page: page.0,
         },
         What::SplitPmd { page } => Op::SplitPmd { page: page.0 },
         What::Pin { page } => Op::Pin { page: page.0 },
         What::Unpin { page, .. } => Op::Unpin { page: page.0 },
         What::Write { page, first, count } => Op::Write {
-            first: operand_of(first),
-            count: operand_of(count),
+            first: narrowed(first),
+            count: narrowed(count),
             page: page.0,
         },
         What::Zero { page, first, count } => Op::Zero {
-            first: operand_of(first),
-            count: operand_of(count),
+            first: narrowed(first),
+            count: narrowed(count),
             page: page.0,
         },
         What::Close => Op::Close,

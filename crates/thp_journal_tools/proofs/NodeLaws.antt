@@ -1,31 +1,12 @@
--- From nodes that were numbered to what is drawn of them.
-use Rattle.std.proofs.Common.{◌≡◌, ◌++◌, ◌∷◌, [], ℕ, List, Option, Some, append_assoc, arith, length, subst, sym, slice_get, append-nil}
+-- What is kept of a node for its drawing is its drawing.
+use Rattle.std.proofs.Common.{◌≡◌, ◌∷◌, [], ℕ, Option, Some, arith, subst, sym, slice_get}
+use Rattle.thp_drawing.specs.declared.illegal_event.IllegalEvent.{IllegalEvent}
 use Rattle.thp_drawing.specs.declared.node.DrawnNode.{DrawnNode}
 use Rattle.thp_journal_reader.specs.declared.illegal.Illegal.{Illegal}
 use Rattle.thp_journal_reader.specs.declared.journals.NodeJournal.{NodeJournal}
-use Rattle.thp_journal_tools.specs.declared.numbered.NumberedNode.{NumberedNode}
-use Rattle.thp_journal_reader.specs.Prelude.{IsFirstIllegalEvent, ReportsFirst}
-use Rattle.thp_journal_tools.specs.Numbered.{IsNumbered}
-use Rattle.thp_journal_tools.specs.Making.{told_of, AreMadeOf, IsMadeOf}
+use Rattle.thp_journal_reader.specs.Prelude.{IsFirstIllegalEvent, IsKept, ReportsFirst}
+use Rattle.thp_journal_tools.specs.Keeping.{told_of, KeepsDrawing}
 use Rattle.thp_journal_tools.specs.Nodes.{IsDrawnOf, IsOwnIllegal, ReportsOwn}
-
--- ---- node by node
-
--- nothing was drawn, and all nodes are left
-pub made_first : (all rest : List NumberedNode) (drawn : List DrawnNode) → drawn ≡ [] → rest ≡ all → (more : List DrawnNode) → AreMadeOf rest more → AreMadeOf all (drawn ++ more)
-made_first all rest drawn none same more are = rw none (rw same at are)
-
--- none is left
-pub made_all : (all rest : List NumberedNode) (drawn : List DrawnNode) → ((more : List DrawnNode) → AreMadeOf rest more → AreMadeOf all (drawn ++ more)) → length rest ≡ 0 → AreMadeOf all drawn
-made_all all [] drawn was e =
-    let P : List DrawnNode → Type 0 = λ ds. AreMadeOf all ds in
-    subst P (append-nil drawn) (was [] tt)
-made_all all (node ∷ rest) drawn was e = absurd (omega (arith, e))
-
--- what is left of the nodes begins with this one, of which this is drawn
-pub made_more : (all rest left : List NumberedNode) (node : NumberedNode) (drawn next : List DrawnNode) (one : DrawnNode) → ((more : List DrawnNode) → AreMadeOf rest more → AreMadeOf all (drawn ++ more)) → rest ≡ node ∷ left
-    → IsMadeOf node one → next ≡ drawn ++ one ∷ [] → (more : List DrawnNode) → AreMadeOf left more → AreMadeOf all (next ++ more)
-made_more all rest left node drawn next one was step made grown more are = grind (arith, append_assoc)
 
 -- ---- illegal events
 
@@ -43,5 +24,8 @@ own_of node x legal = grind (arith, own_illegal)
 
 -- ---- nodes
 
-pub drawn_of_one : (node : NodeJournal) (kept : NumberedNode) (drawn : DrawnNode) → IsNumbered node kept → IsMadeOf kept drawn → IsDrawnOf node drawn
-drawn_of_one node kept drawn numbered made = grind (arith, own_of)
+pub as_drawn : (node : NodeJournal) (kept : DrawnNode) → IsKept KeepsDrawing node kept → IsDrawnOf node kept
+as_drawn node kept is =
+    let T : Option IllegalEvent → Type 0 = λ i. ReportsOwn node i in
+    let k = is.kept_is in
+    record { front = is.front; legal = is.legal; shape_is = k.shape_is; columns_are = k.columns_are; last_is = k.last_is; illegal_is = subst T (sym k.illegal_is) (own_of node is.illegal is.first); stuck_are = k.stuck_are }

@@ -1,5 +1,5 @@
 -- What is kept of a node, and what it is made of where an event is illegal.
-use Rattle.std.specs.Prelude.{◌≡◌, Option}
+use Rattle.std.specs.Prelude.{◌≡◌, Option, None, Some}
 use Rattle.thp_model.specs.Prelude.{History}
 use Rattle.thp_model.specs.declared.shape.Shape.{Shape}
 use Rattle.thp_check.specs.Prelude.{Replayed}
@@ -7,7 +7,9 @@ use Rattle.thp_metrics.specs.Prelude.{numbers_at, series, AreStuck}
 use Rattle.thp_journal_writer.specs.Prelude.{totals_of}
 use Rattle.thp_journal_writer.specs.declared.totals.Totals.{Totals}
 use Rattle.thp_journal_reader.specs.declared.illegal.Illegal.{Illegal}
-use Rattle.thp_journal_tools.specs.declared.numbered.NumberedNode.{NumberedNode}
+use Rattle.thp_drawing.specs.Drawn.{AreColumnsOf}
+use Rattle.thp_drawing.specs.declared.illegal_event.IllegalEvent.{IllegalEvent}
+use Rattle.thp_drawing.specs.declared.node.DrawnNode.{DrawnNode}
 use Rattle.thp_journal_tools.specs.declared.series_node.SeriesRest.{SeriesRest}
 
 -- the totals
@@ -17,13 +19,18 @@ KeepsTotals shape front illegal totals = totals ≡ totals_of shape front
 abbrev pub LeavesTotals : Replayed → Totals → Type 0
 LeavesTotals before totals = totals ≡ totals_of before.shape before.history
 
--- the numbers, and the illegal event
-pub record KeepsNumbers (shape : Shape) (front : History) (illegal : Option Illegal) (kept : NumberedNode) : Type 0 where
+-- the line and the event of the first illegal event
+abbrev pub told_of : Option Illegal → Option IllegalEvent
+told_of None = None
+told_of (Some illegal) = Some (record { line = illegal.line; event = illegal.event })
+
+-- what is drawn: the numbers, and the illegal event
+pub record KeepsDrawing (shape : Shape) (front : History) (illegal : Option Illegal) (kept : DrawnNode) : Type 0 where
   pub shape_is : kept.shape ≡ shape
-  pub numbers_are : kept.numbers ≡ numbers_at shape front
-  pub columns_are : kept.columns ≡ series shape front
+  pub columns_are : AreColumnsOf (series shape front) kept
+  pub last_is : kept.last ≡ numbers_at shape front
+  pub illegal_is : kept.illegal ≡ told_of illegal
   pub stuck_are : AreStuck shape front kept.stuck.items
-  pub illegal_is : kept.illegal ≡ illegal
 
 pub record LeavesNumbers (before : Replayed) (rest : SeriesRest) : Type 0 where
   pub shape_is : rest.shape ≡ before.shape

@@ -7,11 +7,9 @@ pub mod Outcomes
 pub mod Progress
 pub mod Reaching
 pub mod DrawCommandLine
-pub mod Making
 pub mod Words
 pub mod Nodes
 pub mod Drawings
 pub mod DrawOutcomes
 pub mod Summaries
-pub mod Numbered
 pub mod Keeping

@@ -8,8 +8,6 @@ ghost use Rattle.thp_script.specs.Prelude.{max_counted, IsFrontOf};
 ghost use Rattle.thp_journal_tools.specs.Drawings.{IsFound};
 
 use crate::keeping_check::KeepingCheck;
-use crate::nodes::drawn_nodes;
-use crate::numbered::NumberedNode;
 use crate::series_node::SeriesNode;
 use crate::{Screen, read_journal};
 use std::alloc::Global;
@@ -42,9 +40,8 @@ pub(crate) fn find_nodes<R: Read, S: Write, C: Clock>(
         Refusal::NoPage,
         Misfit::BlockTaken,
     );
-    let check: KeepingCheck<NumberedNode, SeriesNode> = KeepingCheck::new(alloc);
+    let check: KeepingCheck<DrawnNode, SeriesNode> = KeepingCheck::new(alloc);
     let check = read_journal(alloc, Program::Thpdraw, asked, check, reader, screen)?;
-    let (_, numbered) = check.finish()?;
-    let nodes = drawn_nodes(alloc, numbered)?;
+    let (_, nodes) = check.finish()?;
     Ok(nodes)
 }

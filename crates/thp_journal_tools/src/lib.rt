@@ -3,13 +3,12 @@
 //! What they share with `thpsplit` is in `thp_cli`.
 //!
 //! - Both: `request` (from words to a status, for any kind of request; `Requests`), `end_fault` (how a program ends early),
-//!   `keeping_check` (a check that keeps data of each node): totals (`summed_node`, `summed`; `Keeping`, `Summaries`) or numbers
-//!   (`series_node`, `numbered`; `Keeping`, `Numbered`).
+//!   `keeping_check` (a check that keeps data of each node): totals (`summed_node`, `summed`; `Keeping`, `Summaries`) or what is
+//!   drawn (`series_node`; `Keeping`, `Nodes`).
 //! - `thpcheck`: `program`, `options`, `help`, `finding` (what is read), `checking` (what is written); `Checks`, `Outcomes`,
 //!   `CommandLine`.
 //! - `thpcheck --script`: `scripting` (the loop), `notes` (what standard error gets); `Scripting`.
-//! - `thpdraw`: `draw_program`, `draw_options`, `draw_help`, `draw_finding`, `nodes` (what is drawn of a node), `writing`;
-//!   `Nodes`, `Drawings`, `DrawOutcomes`, `DrawCommandLine`.
+//! - `thpdraw`: `draw_program`, `draw_options`, `draw_help`, `draw_finding`, `writing`; `Drawings`, `DrawOutcomes`, `DrawCommandLine`.
 //! - Progress on a terminal: `progress` (the line), `screen` (when one is due), `counting` (events by their bytes), `reading`
 //!   (the loop); `Progress`, `Counting`, `Reaching`; proofs `ProgressLaws`, `CountLaws`.
 #![tactic(auto)]
@@ -24,9 +23,7 @@ mod end_fault;
 mod finding;
 mod help;
 mod keeping_check;
-mod nodes;
 mod notes;
-mod numbered;
 mod options;
 mod program;
 mod progress;
@@ -44,7 +41,6 @@ pub use draw_options::{DrawOptions, Drawing};
 pub use draw_program::run_draw_program;
 pub use end_fault::EndFault;
 pub use keeping_check::KeepingCheck;
-pub use numbered::NumberedNode;
 pub use options::{CheckOptions, read_words};
 pub use program::run_check_program;
 pub use reading::read_journal;

@@ -1,10 +1,10 @@
-//! Follows a node for its numbers over the events, in columns.
+//! Follows a node for its drawing: its numbers over the events, in columns.
 ghost use Rattle.std.specs.Prelude.{◌≡◌, true};
-ghost use Rattle.thp_journal_tools.specs.Keeping.{KeepsNumbers, LeavesNumbers};
+ghost use Rattle.thp_journal_tools.specs.Keeping.{KeepsDrawing, LeavesNumbers};
 
-use crate::numbered::NumberedNode;
 use std::alloc::{AllocError, Global};
 use std::marker::Model;
+use thp_drawing::{DrawnNode, IllegalEvent};
 use thp_journal_reader::{FollowsNode, Illegal, Stopped};
 use thp_metrics::{NodeSeries, SeriesEnd};
 use thp_model::{Event, Shape};
@@ -34,15 +34,15 @@ impl Model for SeriesNode {
     ghost invariant = { λ n. n.shape ≡ n.series.shape };
 }
 
-/// Keeps the numbers and the illegal event.
+/// Keeps what is drawn of the node.
 impl FollowsNode for SeriesNode {
-    type Kept = NumberedNode;
+    type Kept = DrawnNode;
 
     type Rest = SeriesRest;
 
     ghost replayed = { λ node. node };
 
-    ghost keeps = { KeepsNumbers };
+    ghost keeps = { KeepsDrawing };
 
     ghost leaves = { LeavesNumbers };
 
@@ -72,31 +72,17 @@ impl FollowsNode for SeriesNode {
         }
     }
 
-    fn end(self, alloc: Global) -> Result<NumberedNode, AllocError> {
-        let SeriesNode { shape, series } = self;
-        let stuck = series.stuck(alloc)?;
-        Ok(NumberedNode {
-            shape,
-            illegal: None,
-            numbers: series.numbers(),
-            columns: series.into_columns(),
-            stuck,
-        })
+    fn end(self, alloc: Global) -> Result<DrawnNode, AllocError> {
+        DrawnNode::of(alloc, self.shape, self.series)
     }
 
-    fn stop(
-        rest: SeriesRest,
-        alloc: Global,
-        illegal: &Illegal,
-    ) -> Result<NumberedNode, AllocError> {
+    fn stop(rest: SeriesRest, alloc: Global, illegal: &Illegal) -> Result<DrawnNode, AllocError> {
         let SeriesRest { shape, end } = rest;
         let stuck = end.waiting.stuck(alloc)?;
-        Ok(NumberedNode {
-            shape,
-            illegal: Some(*illegal),
-            numbers: end.numbers,
-            columns: end.columns,
-            stuck,
-        })
+        let illegal = Some(IllegalEvent {
+            line: illegal.line,
+            event: illegal.event,
+        });
+        Ok(DrawnNode::from_columns(shape, end.columns, end.numbers, illegal, stuck))
     }
 }

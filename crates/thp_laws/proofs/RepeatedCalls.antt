@@ -1,6 +1,6 @@
 -- What the command of a call does where the call's event fits.
-use Rattle.std.proofs.Common.{◌≡◌, ◌<◌, ℕ, cond, List, [], ◌∷◌, Option, None, Ok, refl, ap, ap₂, sym, subst, lt-ltb}
-use Rattle.std.specs.Prelude.{⊤}
+use Rattle.std.proofs.Common.{◌≡◌, ◌<◌, ℕ, List, [], ◌∷◌, Option, None, Ok, refl, ap, ap₂, arith, sym, subst}
+use Rattle.std.specs.Prelude.{⊤, min}
 use Rattle.thp_model.specs.declared.events.Event.{Event}
 use Rattle.thp_model.specs.declared.events.What.{What}
 use Rattle.thp_model.specs.declared.events.What.TheVariants as what
@@ -12,7 +12,7 @@ use Rattle.thp_script.specs.declared.script.Op.{Op}
 use Rattle.thp_script.specs.declared.script.Op.TheVariants as op
 use Rattle.thp_journal_scripts.specs.declared.event_kind.EventKind.{EventKind}
 use Rattle.thp_journal_scripts.specs.declared.event_kind.EventKind.TheVariants.{Call}
-use Rattle.thp_journal_scripts.specs.Prelude.{kind_of, operand_of}
+use Rattle.thp_journal_scripts.specs.Prelude.{kind_of}
 use Rattle.thp_worker.specs.declared.reply.Reply.TheVariants as reply
 use Rattle.thp_worker.specs.declared.steps.Step.TheVariants.{One}
 use Rattle.thp_worker.specs.Prelude.{Does, Open, Reaction, Unless, StepAnswer, TurnsOut}
@@ -28,15 +28,15 @@ OfCall P (Call o) = P o
 OfCall P _ = ⊤
 
 -- an operand of 16 bits
-as_operand : (n : ℕ) → n < 65536 → operand_of n ≡ n
-as_operand n low = ap (λ b. cond b n 65535) (lt-ltb n 65536 low)
+as_operand : (n : ℕ) → n < 65536 → min n 65535 ≡ n
+as_operand n low = grind arith
 
 -- the command was done with some answer, and there is no batch before or after it
 abbrev pub DoesAlone : Shape → History → ℕ → List Event → Op → Type 0
 DoesAlone s h c own o = (answer : Reaction) × Does s h c None (One o) own answer None
 
 -- the operands of a command about a range are the numbers of its event
-same_range : (s : Shape) (h : History) (c : ℕ) (own : List Event) (w : ℕ → ℕ → Op) (first count : ℕ) → (first < 65536) × (count < 65536) → DoesAlone s h c own (w first count) → DoesAlone s h c own (w (operand_of first) (operand_of count))
+same_range : (s : Shape) (h : History) (c : ℕ) (own : List Event) (w : ℕ → ℕ → Op) (first count : ℕ) → (first < 65536) × (count < 65536) → DoesAlone s h c own (w first count) → DoesAlone s h c own (w (min first 65535) (min count 65535))
 same_range s h c own w first count low done = subst (DoesAlone s h c own) (ap₂ w (sym (as_operand first low.0)) (sym (as_operand count low.1))) done
 
 -- the command of a call does its event, if that fits

@@ -5,6 +5,5 @@ pub mod FreeChains
 pub mod Homes
 pub mod Holding
 pub mod Flying
-pub mod EventTrace
 pub mod BlockHolders
 pub mod Prelude

@@ -4,7 +4,7 @@
 //!   (`PageStore::refusal`, `is_free`, `find_in_batch`), then acts. `page_call`: what follows for a page from an unmap
 //!   or unpin (`Outcomes`).
 //! - `Homes` and `Holding` define which block, standing and state a history gives each page, `Flying` whose flight it is in.
-//! - For what replays journals: `free_blocks`, `freeing`, `past` (a list of events that takes no memory).
+//! - For what replays journals: `free_blocks`, `freeing`.
 //! - `walk`: the blocks of the queue in order.
 //!
 //! For callers' proofs: `Homing`, `Standings` (block and standing of a page in a legal history), `Keeping`, `Admitting`,
@@ -16,10 +16,8 @@ mod free_blocks;
 mod freeing;
 mod page_call;
 mod page_store;
-mod past;
 mod walk;
 
 pub use free_blocks::FreeBlocks;
 pub use freeing::freed_page;
 pub use page_store::PageStore;
-pub use past::EventTrace;

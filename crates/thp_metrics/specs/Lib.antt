@@ -11,5 +11,4 @@ pub mod Counting
 pub mod Stuck
 pub mod Finding
 pub mod Following
-pub mod NumbersTrace
 pub mod Prelude

@@ -5,9 +5,9 @@ ghost use Rattle.thp_metrics.specs.Columns.{columns_of, IsWidth};
 use crate::column::Column;
 use crate::folded::Folded;
 use crate::numbers::Numbers;
-use crate::past::NumbersTrace;
 use std::alloc::{AllocError, Global};
 use std::marker::Model;
+use thp_model::Trace;
 
 /// The greatest number of columns.
 pub const MAX_COLUMNS: usize = 600;
@@ -20,7 +20,7 @@ pub struct Columns {
     folded: Folded,
     prefixes: u128,
     // has no bytes
-    past: NumbersTrace,
+    past: Trace<Numbers>,
 }
 
 impl Model for Columns {
@@ -40,10 +40,12 @@ impl Columns {
     pub fn new(alloc: Global, first: &Numbers) -> Result<Columns, AllocError>
         ensures { IfOk result (λ c. c ≡ first.now ∷ []) }
     {
+        let mut past = Trace::new();
+        past.push(first);
         Ok(Columns {
             folded: Folded::new(alloc, first)?,
             prefixes: 1,
-            past: NumbersTrace::new(first),
+            past,
         })
     }
 

@@ -23,7 +23,6 @@ mod folded;
 mod node_series;
 mod numbers;
 mod pages;
-mod past;
 mod span;
 mod spot;
 mod stage;

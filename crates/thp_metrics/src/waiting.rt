@@ -14,8 +14,7 @@ use crate::finds::PinCounts;
 use crate::stuck_page::StuckPage;
 use std::alloc::{AllocError, Global};
 use std::marker::Model;
-use thp_live_pages::EventTrace;
-use thp_model::{Event, Shape};
+use thp_model::{Event, Shape, Trace};
 
 /// The pages of a node that wait, in the queue or in a batch, with the events since which they wait.
 ///
@@ -28,7 +27,7 @@ pub struct Waiting {
     arrivals: Arrivals,
     finds: PinCounts,
     // has no bytes
-    past: EventTrace,
+    past: Trace<Event>,
 }
 
 impl Model for Waiting {
@@ -54,7 +53,7 @@ impl Waiting {
             events: 0,
             arrivals: Arrivals::new(alloc, shape.blocks)?,
             finds: PinCounts::new(alloc, shape.blocks)?,
-            past: EventTrace::new(),
+            past: Trace::new(),
         })
     }
 

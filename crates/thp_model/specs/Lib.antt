@@ -1,6 +1,7 @@
 pub mod Limits
 pub mod Sets
 pub mod Words
+pub mod Traces
 pub mod Shapes
 pub mod History
 pub mod Counts

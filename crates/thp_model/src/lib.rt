@@ -3,7 +3,7 @@
 //! This is the part to believe: `specs/` has the definitions that all contracts cite; docs/MODEL.md explains them.
 //!
 //! - Values: `events` (`Event`, `What`, `Outcome`, `PageId`), `page_call` (`Gain`, `Loss`, `PageCall`, `Done`), `refusal`,
-//!   `shape`, `limits`, `sub_set` (a set of subpages as 512 bits; proofs `WordSpans`, `WordMarks`).
+//!   `shape`, `limits`, `sub_set` (a set of subpages as 512 bits; proofs `WordSpans`, `WordMarks`), `trace` (what happened so far, for contracts alone).
 //! - Laws of every legal history, as contracts of empty functions: `laws`; worked histories likewise: `rows`.
 //! - `slow_check` and its modules read the definitions one for one. A definition that changes is changed there, too.
 //! - A page by itself: `Pages`, `PageCalls`, `PageChanges`; proof `PageRefusals`: its refusals are those of the history.
@@ -23,6 +23,7 @@ mod rows;
 mod shape;
 mod slow_check;
 mod sub_set;
+mod trace;
 
 pub use check_fault::CheckFault;
 pub use events::{Event, Outcome, PageId, What};
@@ -41,3 +42,4 @@ pub use rows::{
 pub use shape::Shape;
 pub use slow_check::check;
 pub use sub_set::SubSet;
+pub use trace::Trace;

@@ -4,8 +4,7 @@ ghost use Rattle.thp_model.specs.Prelude.{History, by};
 
 use std::alloc::{AllocError, Global};
 use std::marker::Model;
-use thp_live_pages::EventTrace;
-use thp_model::{Event, What};
+use thp_model::{Event, Trace, What};
 
 /// The store of a node's events. Contracts see the same history whether a recorder stores the events or only counts them.
 pub trait Recorder: Drop {
@@ -101,7 +100,7 @@ impl Recorder for FullLog {
 pub struct CountOnly {
     count: u64,
     // has no bytes
-    past: EventTrace,
+    past: Trace<Event>,
 }
 
 impl Model for CountOnly {
@@ -123,7 +122,7 @@ impl Recorder for CountOnly {
     fn empty(_alloc: Global) -> CountOnly {
         CountOnly {
             count: 0,
-            past: EventTrace::new(),
+            past: Trace::new(),
         }
     }
 

@@ -3,8 +3,6 @@ use Rattle.std.specs.Prelude.{ℕ, Bool, true, false, List, [], ◌∷◌, ◌++
 use Rattle.thp_worker.specs.declared.reply.Answer.{Answer}
 use Rattle.thp_worker.specs.declared.answer_log.Answers.{Answers}
 use Rattle.thp_worker.specs.declared.answer_log.Answers.TheVariants.{Kept, Counted}
-use Rattle.thp_worker.specs.declared.answer_log.AnswerChain.{AnswerChain}
-use Rattle.thp_worker.specs.declared.answer_log.AnswerChain.TheVariants.{Nothing, After'}
 use Rattle.thp_worker.specs.Kept.{KeptState}
 
 -- the answers so far, in order, what happens to them, and the number that there is room for
@@ -12,11 +10,6 @@ pub record LogState : Type 0 where
   pub items : List Answer
   pub are : Answers
   pub room : ℕ
-
--- the answers that were only counted, by what was added to the log
-abbrev pub chain_items : AnswerChain → List Answer
-chain_items Nothing = []
-chain_items (After' answer shape before) = chain_items before ++ answer.value ∷ []
 
 -- answers that are stored, and answers that are only counted, as a log
 abbrev pub kept_log : KeptState → LogState

@@ -7,8 +7,7 @@ use crate::kept_answers::KeptAnswers;
 use crate::reply::{Answer, Reply};
 use std::alloc::{AllocError, Global};
 use std::marker::Model;
-use std::snapshot::Snapshot;
-use thp_model::Refusal;
+use thp_model::{Refusal, Trace};
 
 /// What happens to the answers to the commands of a section.
 #[derive(Clone, Copy, Debug, PartialEq, Eq)]
@@ -19,32 +18,24 @@ pub enum Answers {
     Counted,
 }
 
-// The answers so far, which are visible to contracts only and have no bytes.
-#[derive(Drop)]
-enum AnswerChain {
-    Nothing,
-    After(Snapshot<Answer>, Snapshot<AnswerChain>),
-}
-
 // Answers that are only counted: their content is visible to contracts only.
 #[derive(Drop)]
 struct CountedAnswers {
     count: usize,
     // the number of answers that there is room for
     room: usize,
-    told: Snapshot<AnswerChain>,
+    told: Trace<Answer>,
 }
 
 impl Model for CountedAnswers {
     ghost use Rattle.std.specs.Prelude.{◌≡◌, length};
     ghost use Rattle.thp_worker.specs.Kept.{KeptState};
-    ghost use Rattle.thp_worker.specs.Logs.{chain_items};
 
     ghost Value = { KeptState };
 
-    ghost view = { λ c. record { items = chain_items c.told.value; room = c.room } };
+    ghost view = { λ c. record { items = c.told; room = c.room } };
 
-    ghost invariant = { λ c. c.count ≡ length (chain_items c.told.value) };
+    ghost invariant = { λ c. c.count ≡ length c.told };
 }
 
 impl CountedAnswers {
@@ -55,7 +46,7 @@ impl CountedAnswers {
         CountedAnswers {
             count: 0,
             room,
-            told: Snapshot::of(&AnswerChain::Nothing),
+            told: Trace::new(),
         }
     }
 
@@ -66,11 +57,7 @@ impl CountedAnswers {
         ensures count { length self.new.items ≡ length self.old.items + 1 }
         ensures room { self.new.room ≡ self.old.room }
     {
-        // for contracts only: no code at run time
-        let last = Snapshot::of(&answer_to(command, node, called, reply));
-        let nothing = Snapshot::of(&AnswerChain::Nothing);
-        let told = std::mem::replace(&mut self.told, nothing);
-        self.told = Snapshot::of(&AnswerChain::After(last, told));
+        self.told.push(&answer_to(command, node, called, reply));
         self.count += 1;
     }
 

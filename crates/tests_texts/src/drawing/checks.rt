@@ -1,5 +1,6 @@
 //! Journals that are checked with the numbers of their nodes.
-use thp_journal_tools::{KeepingCheck, NumberedNode, SeriesNode};
+use thp_drawing::DrawnNode;
+use thp_journal_tools::{KeepingCheck, SeriesNode};
 
 // The first run on node 0; on node 1 a page that was never allocated is pinned.
 const JOURNAL: &[u8] =
@@ -10,7 +11,7 @@ const JOURNAL: &[u8] =
 fn check_keeps_the_numbers_of_each_node(rt: HostRuntime) {
     let alloc = rt.alloc();
     let (front, behind) = JOURNAL.split_at(50);
-    let check: KeepingCheck<NumberedNode, SeriesNode> = KeepingCheck::new(alloc);
+    let check: KeepingCheck<DrawnNode, SeriesNode> = KeepingCheck::new(alloc);
     let check = check.read_part(front).expect(&rt, "memory");
     let check = check.read_part(behind).expect(&rt, "memory");
     let nodes = match check.finish() {
@@ -21,10 +22,10 @@ fn check_keeps_the_numbers_of_each_node(rt: HostRuntime) {
         panic!(rt; "not two nodes");
     };
     assert!(rt; first.illegal.is_none());
-    assert!(rt; (first.numbers.held, first.numbers.given) == (256, 256));
+    assert!(rt; (first.last.held, first.last.given) == (256, 256));
     match &second.illegal {
         Some(illegal) => assert!(rt; illegal.line == 10),
         None => panic!(rt; "a legal node"),
     }
-    assert!(rt; (second.numbers.held, second.numbers.given) == (512, 0));
+    assert!(rt; (second.last.held, second.last.given) == (512, 0));
 }
