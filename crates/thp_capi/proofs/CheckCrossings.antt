@@ -14,6 +14,7 @@ use Rattle.thp_check.specs.contracts.flights.Flights as Flights
 use Rattle.thp_check.specs.contracts.flights.Flights.TheInside as in_flights
 use Rattle.thp_links.specs.contracts.link_vec.LinkVec as LinkVec
 use Rattle.thp_links.specs.contracts.link_vec.LinkVec.TheInside as in_links
+use Rattle.thp_model.specs.contracts.events.Event as Event
 use Rattle.thp_check.specs.contracts.node_state.NodeState as NodeState
 use Rattle.thp_check.proofs.tally.Tally.TheSendSync as tally
 use Rattle.thp_check.specs.contracts.replay.Replay as Replay
@@ -47,13 +48,13 @@ state_send : IsSend NodeState.the_row
 state_send = declared_send NodeState.the_type (search (sendable, crosses) depth 30, (places_send, (flights_send, (search sendable, (search sendable, (search (sendable, crosses) depth 30, tt))))))
 
 replay_send : IsSend Replay.the_row
-replay_send = view_send in_replay.the_row _ _ _ _ (declared_send in_replay.the_type (Box-send _ state_send, (free_send, (Box-send _ tally.the_send, (trace_send _, tt)))))
+replay_send = view_send in_replay.the_row _ _ _ _ (declared_send in_replay.the_type (Box-send _ state_send, (free_send, (Box-send _ tally.the_send, (trace_send Event.the_row, tt)))))
 
 follower_send : IsSend (Follower.the_row Replay.the_row Nothing)
 follower_send = declared_send (Follower.the_type Replay.the_row Nothing) (send, (option.the_send _ replay_send, (search sendable, (option.the_send _ illegal.the_send, (Vec-send _ (search sendable), tt)))))
 
 nodes_send : IsSend (FollowedNodes.the_row Replay.the_row Nothing)
-nodes_send = declared_send (FollowedNodes.the_type Replay.the_row Nothing) (follower_send, (trace_send _, tt))
+nodes_send = declared_send (FollowedNodes.the_type Replay.the_row Nothing) (follower_send, (search trace_send, tt))
 
 text_send : IsSend TextInParts.the_row
 text_send = view_send in_text.the_row _ _ _ _ (declared_send in_text.the_type (send, (search (sendable, crosses) depth 30, (search sendable, (search sendable, (search sendable, (search (sendable, crosses) depth 30, tt)))))))

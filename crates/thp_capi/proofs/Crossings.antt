@@ -15,6 +15,7 @@ use Rattle.std.proofs.Common.{Option, None, Some, [], ◌∷◌}
 use Rattle.std.proofs.Crossing.{crosses, frees}
 use Rattle.std.proofs.option.Option.TheSendSync as option
 use Rattle.std_alloc.proofs.SendSync.{lies, quiet}
+use Rattle.thp_model.specs.contracts.events.Event as Event
 use Rattle.thp_model.specs.contracts.trace.Trace as Trace
 use Rattle.thp_model.specs.contracts.trace.Trace.TheInside as in_trace
 use Rattle.thp_node.specs.contracts.recorder.FullLogRecorder.TheImpl as keeps
@@ -35,7 +36,7 @@ pub trace_send : (T : RattleType) → IsSend (Trace.the_row T)
 trace_send T = view_send (in_trace.the_row T) _ _ _ _ (declared_send (in_trace.the_type T) (search (sendable, crosses) depth 30, tt))
 
 pub counted_send : IsSend CountOnly.the_row
-counted_send = view_send in_counted.the_row _ _ _ _ (declared_send in_counted.the_type (search (sendable, crosses) depth 30, (trace_send _, tt)))
+counted_send = view_send in_counted.the_row _ _ _ _ (declared_send in_counted.the_type (search (sendable, crosses) depth 30, (trace_send Event.the_row, tt)))
 
 -- ---- what the handles share: their words are plain data, and what they hold may go to another thread as its type may
 pub words_send : AllSend (RawPtr ∷ u32 ∷ [])
