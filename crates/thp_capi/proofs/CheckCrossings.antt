@@ -1,9 +1,12 @@
 -- A handle of a check may go to another thread, as what it leads to may: a check's reader of its text, and a node's replay.
+use denote.Builtin.{u64}
 use denote.Plain.{Nothing}
 use denote.Param.Send.{IsSend, view_send, owning_send, struct_send, sendable}
 use denote.Param.SendFields.{declared_send, variants_send}
 use denote.Struct.Struct.{exits_of}
 use denote.Struct.Owning.{shape, fields, to}
+use denote.Struct.Tuple.{Tuple}
+use Rattle.std.proofs.Common.{[], ◌∷◌}
 use Rattle.std.proofs.Crossing.{Box-send, Vec-send, crosses, send}
 use Rattle.std.proofs.option.Option.TheSendSync as option
 use Rattle.std.proofs.result.Result.TheSendSync as result
@@ -19,6 +22,7 @@ use Rattle.thp_check.specs.contracts.node_state.NodeState as NodeState
 use Rattle.thp_check.proofs.tally.Tally.TheSendSync as tally
 use Rattle.thp_check.specs.contracts.replay.Replay as Replay
 use Rattle.thp_check.specs.contracts.replay.Replay.TheInside as in_replay
+use Rattle.thp_journal_reader.specs.contracts.line.Line as Line
 use Rattle.thp_journal_reader.specs.contracts.follower.Follower as Follower
 use Rattle.thp_journal_reader.specs.contracts.follower.FollowedNodes as FollowedNodes
 use Rattle.thp_journal_reader.proofs.illegal.Illegal.TheSendSync as illegal
@@ -54,7 +58,7 @@ follower_send : IsSend (Follower.the_row Replay.the_row Nothing)
 follower_send = declared_send (Follower.the_type Replay.the_row Nothing) (send, (option.the_send _ replay_send, (search sendable, (option.the_send _ illegal.the_send, (Vec-send _ (search sendable), tt)))))
 
 nodes_send : IsSend (FollowedNodes.the_row Replay.the_row Nothing)
-nodes_send = declared_send (FollowedNodes.the_type Replay.the_row Nothing) (follower_send, (search trace_send, tt))
+nodes_send = declared_send (FollowedNodes.the_type Replay.the_row Nothing) (follower_send, (trace_send (Tuple (u64 ∷ Line.the_row ∷ [])), tt))
 
 text_send : IsSend TextInParts.the_row
 text_send = view_send in_text.the_row _ _ _ _ (declared_send in_text.the_type (send, (search (sendable, crosses) depth 30, (search sendable, (search sendable, (search sendable, (search (sendable, crosses) depth 30, tt)))))))
