@@ -1,5 +1,5 @@
 -- The view that contracts have of an `AnswerLog`.
-use Rattle.std.specs.Prelude.{ℕ, Bool, true, false, List, [], ◌∷◌, ◌++◌, Option, Some, None}
+use Rattle.std.specs.Prelude.{ℕ, Bool, true, false, List, Option, Some, None}
 use Rattle.thp_worker.specs.declared.reply.Answer.{Answer}
 use Rattle.thp_worker.specs.declared.answer_log.Answers.{Answers}
 use Rattle.thp_worker.specs.declared.answer_log.Answers.TheVariants.{Kept, Counted}
