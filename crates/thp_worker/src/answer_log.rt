@@ -57,6 +57,7 @@ impl CountedAnswers {
         ensures count { length self.new.items ≡ length self.old.items + 1 }
         ensures room { self.new.room ≡ self.old.room }
     {
+        // for contracts only: no code at run time
         self.told.push(&answer_to(command, node, called, reply));
         self.count += 1;
     }
