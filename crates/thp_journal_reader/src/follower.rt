@@ -166,7 +166,7 @@ impl<K: Drop, F: FollowsNode<Kept = K>> Follower<F, K> {
 #[derive(Drop)]
 pub struct FollowedNodes<F, K> {
     follower: Follower<F, K>,
-    // has no bytes
+    /// The lines so far, with their numbers. Contracts alone see them.
     pub lines: Trace<(u64, Line)>,
 }
 
