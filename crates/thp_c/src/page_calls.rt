@@ -9,7 +9,7 @@ ghost use Rattle.thp_capi.specs.Passes.{PassOne, PassLost};
 
 use std::alloc::Global;
 use thp_capi::{ThpDone, ThpNode, ThpPass};
-use thp_model::{Gain, Loss, What, narrowed};
+use thp_model::{Gain, Loss, What};
 
 /// Maps the whole page once more, by a PMD entry.
 #[unsafe(no_mangle)]
@@ -38,8 +38,6 @@ pub extern "C" fn thp_c_node_map_sub(
     ensures does { Does handle.old.held handle.new.held (answer_of result) (OneCall caller (call.map_sub page first count) (What.MapSub page first count)) }
     ensures known { IsCode result }
 {
-    let first = narrowed(first);
-    let count = narrowed(count);
     let gain = Gain::MapSub { first, count };
     thp_capi::node_gain(handle, alloc, caller, page, gain)
 }
@@ -80,8 +78,6 @@ pub extern "C" fn thp_c_node_write(
     ensures does { Does handle.old.held handle.new.held (answer_of result) (OneCall caller (call.write page first count) (What.Write page first count)) }
     ensures known { IsCode result }
 {
-    let first = narrowed(first);
-    let count = narrowed(count);
     let gain = Gain::Write { first, count };
     thp_capi::node_gain(handle, alloc, caller, page, gain)
 }
@@ -99,8 +95,6 @@ pub extern "C" fn thp_c_node_zero(
     ensures does { Does handle.old.held handle.new.held (answer_of result) (OneCall caller (call.zero_fill page first count) (What.Zero page first count)) }
     ensures known { IsCode result }
 {
-    let first = narrowed(first);
-    let count = narrowed(count);
     let gain = Gain::Zero { first, count };
     thp_capi::node_gain(handle, alloc, caller, page, gain)
 }
@@ -136,8 +130,6 @@ pub extern "C" fn thp_c_node_unmap_sub(
     ensures known { IsCode result }
     ensures kept { OnErr (answer_of result) (done.new ≡ done.old) }
 {
-    let first = narrowed(first);
-    let count = narrowed(count);
     let loss = Loss::UnmapSub { first, count };
     thp_capi::node_lose(handle, alloc, caller, page, loss, done)
 }
@@ -185,8 +177,6 @@ pub extern "C" fn thp_c_pass_map_sub(
     ensures does { Does (value_of handle.old.held) (value_of handle.new.held) (answer_of result) (PassOne caller (call.map_sub page first count) (What.MapSub page first count)) }
     ensures known { IsCode result }
 {
-    let first = narrowed(first);
-    let count = narrowed(count);
     let gain = Gain::MapSub { first, count };
     thp_capi::pass_gain(handle, alloc, caller, page, gain)
 }
@@ -227,8 +217,6 @@ pub extern "C" fn thp_c_pass_write(
     ensures does { Does (value_of handle.old.held) (value_of handle.new.held) (answer_of result) (PassOne caller (call.write page first count) (What.Write page first count)) }
     ensures known { IsCode result }
 {
-    let first = narrowed(first);
-    let count = narrowed(count);
     let gain = Gain::Write { first, count };
     thp_capi::pass_gain(handle, alloc, caller, page, gain)
 }
@@ -246,8 +234,6 @@ pub extern "C" fn thp_c_pass_zero(
     ensures does { Does (value_of handle.old.held) (value_of handle.new.held) (answer_of result) (PassOne caller (call.zero_fill page first count) (What.Zero page first count)) }
     ensures known { IsCode result }
 {
-    let first = narrowed(first);
-    let count = narrowed(count);
     let gain = Gain::Zero { first, count };
     thp_capi::pass_gain(handle, alloc, caller, page, gain)
 }
@@ -283,8 +269,6 @@ pub extern "C" fn thp_c_pass_unmap_sub(
     ensures known { IsCode result }
     ensures kept { OnErr (answer_of result) (done.new ≡ done.old) }
 {
-    let first = narrowed(first);
-    let count = narrowed(count);
     let loss = Loss::UnmapSub { first, count };
     thp_capi::pass_lose(handle, alloc, caller, page, loss, done)
 }

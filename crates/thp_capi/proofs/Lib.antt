@@ -12,4 +12,3 @@ mod PassCrossings
 mod CheckCrossings
 mod Places
 mod Opened
-pub mod Ranges

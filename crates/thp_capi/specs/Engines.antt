@@ -1,7 +1,7 @@
 -- The view that contracts have of the engine of a node's handle.
-use Rattle.std.specs.Prelude.{◌≡◌, ◌≢◌, ℕ, ◌≤◌, List, Option, None, Some, length, get_or, if◌then◌else◌, nat_eq}
+use Rattle.std.specs.Prelude.{◌≡◌, ◌≢◌, ℕ, List, Option, None, Some, length, get_or, if◌then◌else◌, nat_eq}
 use Rattle.thp_model.specs.declared.shape.Shape.{Shape}
-use Rattle.thp_model.specs.Prelude.{max_callers, max_order}
+use Rattle.thp_model.specs.Prelude.{max_callers}
 use Rattle.thp_node.specs.Prelude.{BatchState, NodeState}
 use Rattle.thp_capi.specs.OpenBatches.{EachOpen}
 
@@ -34,7 +34,3 @@ underused_off = 4294967295
 -- the shape with these numbers
 abbrev pub shape_of : ℕ → ℕ → ℕ → Shape
 shape_of blocks order underused = record { blocks = blocks; order = order; underused = if nat_eq underused underused_off then None else Some underused }
-
--- its pages have an order within the limits
-abbrev pub IsLow : EngineState → Type 0
-IsLow e = e.node.shape.order ≤ max_order

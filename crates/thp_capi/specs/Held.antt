@@ -58,7 +58,3 @@ abbrev pub Emptied : {X : Type 0} → Option X → Option X → Answer → Type 
 Emptied None None answer = answer ≡ Err Empty
 Emptied (Some old) None answer = answer ≡ Ok tt
 Emptied _ (Some new) answer = ⊥
-
--- this is so of the engine or the pass
-abbrev pub Holds : {X : Type 0} → (X → Type 0) → Held X X → Type 0
-Holds P held = P (held_value held)

@@ -6,7 +6,7 @@ use Rattle.thp_model.specs.declared.page_call.Done.{Done}
 use Rattle.thp_model.specs.declared.refusal.Refusal.{Refusal}
 use Rattle.thp_model.specs.declared.refusal.Refusal.TheVariants.{OutOfMemory}
 use Rattle.thp_model.specs.declared.shape.Shape.{Shape}
-use Rattle.thp_model.specs.Prelude.{max_batch, max_callers, max_order, queue, Call, refusal, alloc_page, scan, take_events, IsShape}
+use Rattle.thp_model.specs.Prelude.{max_batch, max_callers, queue, Call, refusal, alloc_page, scan, take_events, IsShape}
 use Rattle.thp_cell.specs.Prelude.{Called, Follows, IsBusy, IsRefused, IsJoined, below, from, DidOne, DidAlloc, DidLose, DidScan, PassState, HasCaller, HasAll}
 use Rattle.thp_capi.specs.Codes.{Answer}
 use Rattle.thp_capi.specs.Engines.{EngineState, NoneOpen}
@@ -69,10 +69,6 @@ PassCount pages old new =
     OnlyFront old new
     × Follows old.pass new.pass
     × (pages ≡ length (queue new.pass.shape new.pass.front))
-
--- the node's pages have an order within the limits
-abbrev pub IsLowShared : SharedState → Type 0
-IsLowShared s = s.pass.shape.order ≤ max_order
 
 -- ---- passes that are divided and joined, and the end of a cell
 

@@ -1,6 +1,6 @@
 //! The engine that a node's handle owns: a node, and the open batches of its callers.
 ghost use Rattle.std.specs.Prelude.{◌≡◌, ◌<◌, ◌≤◌, None, IsSome, IfSome, IfNone, IfOk, IfErr, OnOk, length};
-ghost use Rattle.thp_model.specs.Prelude.{max_order, gain_call, gain_what, loss_call, loss_what, queue};
+ghost use Rattle.thp_model.specs.Prelude.{gain_call, gain_what, loss_call, loss_what, queue};
 ghost use Rattle.thp_model.specs.Refusals as call;
 ghost use Rattle.thp_capi.specs.Calls.{OneCall, Allowed, Loses, ReportsOutcome, ReportsReleased, FailsAt, AllocCall, ScanCall, TakeCall, NextCall, BackReplies, BackRecords, BackFails, ReserveCall, AbandonCall};
 ghost use Rattle.thp_capi.specs.Engines.{NoneOpen, OthersOpen, open_of};
@@ -90,11 +90,8 @@ impl<R: Recorder> Engine<R> {
     /// Adds mappings or a pin, or fills subpages of the page.
     #[inline(always)]
     pub fn gain(&mut self, caller: u32, page: PageId, gain: Gain) -> Result<(), Fault>
-        ensures did { OneCall caller (gain_call gain page) (gain_what gain page) self.old self.new result }
-        ensures low { self.old.node.shape.order ≤ max_order }
+        ensures { OneCall caller (gain_call gain page) (gain_what gain page) self.old self.new result }
     {
-        // Shows the proof the greatest order of the pages.
-        let _ = self.node.shape();
         asked!(caller, self.node.gain(caller, page, gain), () => ())
     }
 
@@ -114,10 +111,7 @@ impl<R: Recorder> Engine<R> {
         ensures outcome { IfOk result (ReportsOutcome page self.old self.new) }
         ensures released { IfOk result (ReportsReleased page self.old self.new) }
         ensures failed { IfErr result (FailsAt caller (loss_call loss page) self.old self.new) }
-        ensures low { self.old.node.shape.order ≤ max_order }
     {
-        // Shows the proof the greatest order of the pages.
-        let _ = self.node.shape();
         asked!(caller, self.node.lose(caller, page, loss), done => done)
     }
 

@@ -3,8 +3,8 @@ ghost use Rattle.std.specs.Prelude.{◌≡◌, ◌++◌, ◌<◌, IfSome, OnOk, 
 ghost use Rattle.thp_model.specs.Prelude.{gain_call, gain_what, loss_call, loss_what};
 ghost use Rattle.thp_capi.specs.Calls.{LoseCall, OneCall};
 ghost use Rattle.thp_capi.specs.Codes.{answer_of, answer_with, IsCode};
-ghost use Rattle.thp_capi.specs.Engines.{IsLow, shape_of};
-ghost use Rattle.thp_capi.specs.Held.{Does, Holds, Made};
+ghost use Rattle.thp_capi.specs.Engines.{shape_of};
+ghost use Rattle.thp_capi.specs.Held.{Does, Made};
 
 use crate::codes::{Fault, code};
 use crate::held::{Events, HeldEngine};
@@ -66,7 +66,6 @@ pub(crate) fn shape(blocks: u32, order: u32, underused: u32) -> Shape
 pub fn node_gain(handle: &mut ThpNode, alloc: Global, caller: u32, page: u64, gain: Gain) -> u32
     ensures does { Does handle.old.held handle.new.held (answer_of result) (OneCall caller (gain_call gain page) (gain_what gain page)) }
     ensures known { IsCode result }
-    ensures low { IfSome handle.old.held (Holds IsLow) }
 {
     code(on_node!(handle, alloc, engine => engine.gain(caller, PageId(page), gain)))
 }
@@ -84,7 +83,6 @@ pub fn node_lose(
     ensures does { Does handle.old.held handle.new.held (answer_of result) (λ old new answer. LoseCall caller (loss_call loss page) page (loss_what loss page) old new (answer_with answer done.new)) }
     ensures known { IsCode result }
     ensures kept { OnErr (answer_of result) (done.new ≡ done.old) }
-    ensures low { IfSome handle.old.held (Holds IsLow) }
 {
     match on_node!(handle, alloc, engine => engine.lose(caller, PageId(page), loss)) {
         Ok(did) => {

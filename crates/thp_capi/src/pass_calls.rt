@@ -3,9 +3,9 @@ ghost use Rattle.std.specs.Prelude.{◌≡◌, OnErr, IfSome};
 ghost use Rattle.thp_model.specs.Prelude.{gain_call, gain_what, loss_call, loss_what};
 ghost use Rattle.thp_capi.specs.Codes.{answer_of, answer_with, IsCode};
 ghost use Rattle.thp_capi.specs.Engines.{NoneOpen, shape_of};
-ghost use Rattle.thp_capi.specs.Held.{Does, Holds, events_in, held_value};
+ghost use Rattle.thp_capi.specs.Held.{Does, events_in, held_value};
 ghost use Rattle.thp_capi.specs.Rooms.{value_of};
-ghost use Rattle.thp_capi.specs.Passes.{IsLowShared, PassOne, PassLost, CellMade};
+ghost use Rattle.thp_capi.specs.Passes.{PassOne, PassLost, CellMade};
 
 use crate::codes::{Fault, code};
 use crate::held::{Events, HeldEngine, HeldPass};
@@ -74,7 +74,6 @@ pub fn spare_engine(alloc: Global, are: Events) -> Option<Box<HeldEngine>>
 pub fn pass_gain(handle: &mut ThpPass, alloc: Global, caller: u32, page: u64, gain: Gain) -> u32
     ensures does { Does (value_of handle.old.held) (value_of handle.new.held) (answer_of result) (PassOne caller (gain_call gain page) (gain_what gain page)) }
     ensures known { IsCode result }
-    ensures low { IfSome (value_of handle.old.held) (Holds IsLowShared) }
 {
     code(on_pass!(handle, alloc, pass => pass.gain(caller, PageId(page), gain)))
 }
@@ -92,7 +91,6 @@ pub fn pass_lose(
     ensures does { Does (value_of handle.old.held) (value_of handle.new.held) (answer_of result) (λ old new answer. PassLost caller (loss_call loss page) page (loss_what loss page) old new (answer_with answer done.new)) }
     ensures known { IsCode result }
     ensures kept { OnErr (answer_of result) (done.new ≡ done.old) }
-    ensures low { IfSome (value_of handle.old.held) (Holds IsLowShared) }
 {
     match on_pass!(handle, alloc, pass => pass.lose(caller, PageId(page), loss)) {
         Ok(did) => {

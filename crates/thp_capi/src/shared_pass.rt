@@ -1,6 +1,6 @@
 //! A pass with a share of its cell.
 ghost use Rattle.std.specs.Prelude.{◌≡◌, ◌≤◌, true, false, IfOk, IfErr, ◌⊎◌};
-ghost use Rattle.thp_model.specs.Prelude.{max_order, gain_call, gain_what, loss_call, loss_what, refusal};
+ghost use Rattle.thp_model.specs.Prelude.{gain_call, gain_what, loss_call, loss_what, refusal};
 ghost use Rattle.thp_model.specs.Refusals as call;
 ghost use Rattle.thp_cell.specs.Prelude.{Called, below, from, IsJoined, DidLose, HasCaller, HasAll};
 ghost use Rattle.thp_capi.specs.Passes.{PassOne, PassAlloc, PassFails, PassScan, PassCount, IsNewPass, IsCellSize, Divides, Adjoin};
@@ -112,11 +112,8 @@ impl<R: Recorder> SharedPass<R> {
     /// Adds mappings or a pin, or fills subpages of the page.
     #[inline(always)]
     pub fn gain(&mut self, caller: u32, page: PageId, gain: Gain) -> Result<(), Fault>
-        ensures did { PassOne caller (gain_call gain page) (gain_what gain page) self.old self.new result }
-        ensures low { self.old.pass.shape.order ≤ max_order }
+        ensures { PassOne caller (gain_call gain page) (gain_what gain page) self.old self.new result }
     {
-        // Shows the proof the greatest order of the pages.
-        let _ = self.pass.callers();
         asked!(self, caller, self.cell.gain(&mut self.pass, caller, page, gain), () => ())
     }
 
@@ -126,10 +123,7 @@ impl<R: Recorder> SharedPass<R> {
         ensures front { OnlyFront self.old self.new }
         ensures recorded { IfOk result (λ d. Called self.old.pass self.new.pass caller (DidLose self.old.pass.shape (loss_call loss page) caller page (loss_what loss page) d)) }
         ensures failed { IfErr result (PassFails caller (refusal self.new.pass.shape self.new.pass.front (loss_call loss page)) 1 self.old.pass self.new.pass) }
-        ensures low { self.old.pass.shape.order ≤ max_order }
     {
-        // Shows the proof the greatest order of the pages.
-        let _ = self.pass.callers();
         asked!(self, caller, self.cell.lose(&mut self.pass, caller, page, loss), done => done)
     }
 

@@ -1,11 +1,10 @@
 //! The passes with which threads call a node.
-ghost use Rattle.std.specs.Prelude.{◌≡◌, ◌<◌, ◌≤◌, min};
+ghost use Rattle.std.specs.Prelude.{◌≡◌, ◌<◌, ◌≤◌};
 ghost use Rattle.thp_model.specs.Prelude.{max_order, IsLegal};
 
 use crate::rule::SeatKnowledge;
 use atomic_table::Seat;
 use std::marker::Model;
-use thp_model::narrowed;
 use thp_node::{FullLog, Node, Recorder};
 
 /// The right to call a cell's node as some of the cell's callers.
@@ -45,18 +44,6 @@ impl<R: Recorder> Pass<R> {
         ensures low { self.now.shape.order ≤ max_order }
     {
         (self.first, self.end)
-    }
-
-    // Converts the operands of a range to those of a page call.
-    #[inline(always)]
-    pub(crate) fn operands(&self, first: u32, count: u32) -> (u16, u16)
-        ensures first { result.0 ≡ min first 65535 }
-        ensures count { result.1 ≡ min count 65535 }
-        ensures low { self.now.shape.order ≤ max_order }
-    {
-        // Shows the proof the greatest order of the pages.
-        let _ = self.callers();
-        (narrowed(first), narrowed(count))
     }
 }
 

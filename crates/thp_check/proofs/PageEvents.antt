@@ -1,13 +1,13 @@
 -- What an event of a page call says where it fits, and what it leaves of the flights.
-use Rattle.std.proofs.Common.{◌≡◌, ◌≤◌, arith, ℕ, Bool, true, List, [], ◌∷◌, ◌++◌, Option, None, ap, sym, ◌∙◌, nat_eq, eq-eqb}
+use Rattle.std.proofs.Common.{◌≡◌, arith, ℕ, Bool, true, List, [], ◌∷◌, ◌++◌, Option, Some, None, ap, sym, ◌∙◌, nat_eq, eq-eqb}
 use Rattle.thp_model.specs.declared.events.Event.{Event}
 use Rattle.thp_model.specs.declared.events.Outcome.{Outcome}
 use Rattle.thp_model.specs.declared.events.Outcome.TheVariants as outcome
 use Rattle.thp_model.specs.declared.events.What.{What}
+use Rattle.thp_model.specs.declared.events.What.TheVariants as what
 use Rattle.thp_model.specs.declared.shape.Shape.{Shape}
-use Rattle.thp_model.specs.Prelude.{History, by, is_live, is_closed, flight_by, Fits, Gives, page_released, Tallies, flight, without, refusal, gain_call, loss_call, gain_what, loss_what}
+use Rattle.thp_model.specs.Prelude.{History, by, is_live, is_closed, flight_by, Fits, Gives, page_released, Tallies, flight, without, refusal, gain_call, loss_call, gain_what, loss_what, recorded_call}
 use Rattle.thp_model.proofs.Bools.{by_bool}
-use Rattle.thp_model.proofs.Narrowing.{Whole}
 use Rattle.thp_model.proofs.Flights.{flight_push}
 use Rattle.thp_model.proofs.OnePlace.{without_none, times_hasnt}
 use Rattle.thp_model.proofs.PageOutcomes.{lives_by, outcome_is, released_is}
@@ -15,9 +15,8 @@ use Rattle.thp_model.proofs.Standing.{Sound}
 use Rattle.thp_page.specs.Prelude.{Slot}
 use Rattle.thp_model.specs.declared.page_call.Done.{Done}
 use Rattle.thp_model.specs.declared.page_call.Gain.{Gain}
-use Rattle.thp_model.specs.declared.page_call.Gain.TheVariants as gain
 use Rattle.thp_model.specs.declared.page_call.Loss.{Loss}
-use Rattle.thp_model.specs.declared.page_call.Loss.TheVariants as loss
+use Rattle.thp_model.specs.declared.page_call.PageCall.TheVariants as either
 use Rattle.thp_live_pages.specs.Prelude.{IsSlot, standing_of, PageStoreState, Lost, batch_of}
 use Rattle.thp_live_pages.proofs.Homing.{Homed}
 use Rattle.thp_live_pages.proofs.PageEvents.{ByOutcome, by_outcome, tallies_loss, outcome_told}
@@ -68,6 +67,23 @@ pub loss_flight : (s : Shape) (h : History) (c b : ℕ) (x : Slot) (l : Loss) (c
     Lost l closed x old new b done left → flight (h ++ by c (loss_what l x.id done.outcome r) ∷ []) d ≡ flight_left left x.id d (flight h d)
 loss_flight s h c b x l closed old new done left r d homed was lost = grind (arith, loss_flight_by, freed_leaves)
 
--- the numbers of a range that some page has are small
-pub whole_small : (first count : ℕ) → Whole first count → (first ≤ 65535) × (count ≤ 65535)
-whole_small first count w = (grind (arith, w.0), grind (arith, w.1))
+-- the outcome of an unmap or an unpin, and the frames that it gives back
+abbrev pub outcome_in : What → Outcome
+outcome_in (what.UnmapWhole o p set) = o
+outcome_in (what.UnmapSub o p first count set) = o
+outcome_in (what.Unpin o p set) = o
+outcome_in w = outcome.Stays
+
+abbrev pub frames_in : What → List Bool
+frames_in (what.UnmapWhole o p set) = set
+frames_in (what.UnmapSub o p first count set) = set
+frames_in (what.Unpin o p set) = set
+frames_in w = []
+
+-- those of the event of a loss
+pub told_by : (l : Loss) (p : ℕ) (o : Outcome) (set : List Bool) → (outcome_in (loss_what l p o set) ≡ o) × (frames_in (loss_what l p o set) ≡ set)
+told_by x p o set = grind arith
+
+-- the event of a loss, by its page and call
+pub recorded_loss : (w : What) (p : ℕ) (l : Loss) → recorded_call w ≡ Some (p, either.Loss l) → w ≡ loss_what l p (outcome_in w) (frames_in w)
+recorded_loss x p l e = grind arith

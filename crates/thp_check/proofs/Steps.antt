@@ -1,5 +1,5 @@
 -- What a replay means after each step: that of the history with the event, where the event fits; and else that it doesn't.
-use Rattle.std.proofs.Common.{◌≡◌, ◌≢◌, ℕ, ◌+◌, ◌<◌, Bool, true, false, not, ◌&&◌, ◌||◌, List, [], ◌∷◌, ◌++◌, Option, Some, None, length, map, refl, ap, sym, ◌∙◌, subst, arith, nat_eq, eqb-true, if◌then◌else◌, IsSome}
+use Rattle.std.proofs.Common.{◌≡◌, ◌≢◌, ℕ, ◌+◌, ◌<◌, Bool, true, false, not, ◌&&◌, ◌||◌, List, [], ◌∷◌, ◌++◌, Option, Some, None, length, map, refl, ap, sym, ◌∙◌, subst, arith, nat_eq, eqb-true, IsSome}
 use Rattle.thp_model.specs.declared.events.Event.{Event}
 use Rattle.thp_model.specs.declared.events.Outcome.{Outcome}
 use Rattle.thp_model.specs.declared.events.What.TheVariants as what
@@ -22,15 +22,13 @@ use Rattle.thp_live_pages.proofs.Keeping.{block_other}
 use Rattle.thp_live_pages.proofs.ListEvents.{placed_fits, placed_node, closed_node}
 use Rattle.thp_live_pages.proofs.PageEvents.{slot_is, refusal_is, refusal_gone, gained, LossFits, loss_fits, lost_node}
 use Rattle.thp_model.specs.declared.page_call.Gain.{Gain}
-use Rattle.thp_model.specs.declared.page_call.Gain.TheVariants as gain
 use Rattle.thp_model.specs.declared.page_call.Loss.{Loss}
-use Rattle.thp_model.specs.declared.page_call.Loss.TheVariants as loss
 use Rattle.thp_model.specs.declared.page_call.PageCall.TheVariants as either
 use Rattle.thp_check.specs.Prelude.{NodeState, FlightsState, blocks_in, flight_left, Keeps, Means, IsMisfit}
 use Rattle.thp_check.specs.declared.misfit.Misfit.TheVariants as misfit
 use Rattle.thp_check.proofs.FlightBlocks.{LieIn, unmoved, departed, gain_home, loss_flying_home}
 use Rattle.thp_check.proofs.PageEvents.{gain_flight, loss_told, loss_flight}
-use Rattle.thp_check.proofs.Reasons.{gain_misfit, loss_misfit, loss_other, closed_again, range_refusal}
+use Rattle.thp_check.proofs.Reasons.{gain_misfit, loss_misfit, loss_other, closed_again}
 
 no_both : (z : Bool) → z ≡ false → z ≡ true → ⊥
 no_both z e f = cc
@@ -61,15 +59,6 @@ pub loss_absent : (s : Shape) (h : History) (c p : ℕ) (l : Loss) (o : Outcome)
     IsMisfit s h (by c (loss_what l p o r)) (misfit.Refused reason.NoPage)
 loss_absent s h c p l o r old m none =
     loss_misfit s h c p l o r reason.NoPage (refusal_gone s h p (either.Loss l) (not_live s h old.places.table old.places.queue p m.kept.node none))
-
--- why a call of a page with a range that no page has is refused
-pub range_absent : (s : Shape) (h : History) (p : ℕ) (old : NodeState) → Means s h old → ((b : ℕ) → HoldsPage (slot_at old.places.table b) p → ⊥) → misfit.Refused reason.NoPage ≡ misfit.Refused (range_refusal h p)
-range_absent s h p old m none =
-    sym (ap (λ l. misfit.Refused (if l then reason.BadRange else reason.NoPage)) (not_live s h old.places.table old.places.queue p m.kept.node none))
-
-pub range_there : (s : Shape) (h : History) (p b : ℕ) (old : NodeState) → Means s h old → HoldsPage (slot_at old.places.table b) p → misfit.Refused reason.BadRange ≡ misfit.Refused (range_refusal h p)
-range_there s h p b old m held =
-    sym (ap (λ l. misfit.Refused (if l then reason.BadRange else reason.NoPage)) (found s h old.places.table old.places.queue p b m.kept.node held).live)
 
 module _ (s : Shape) (h : History) (c p b : ℕ) (old : NodeState) (m : Means s h old) (held : HoldsPage (slot_at old.places.table b) p) where
   there : Found s h old.places.table p b

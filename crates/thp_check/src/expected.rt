@@ -7,7 +7,7 @@ use crate::Misfit;
 use crate::pieces::{put_last, put_words};
 use std::alloc::AllocError;
 use thp_journal_writer::{event_page, put, put_event_line};
-use thp_model::{Event, Outcome, PageId, SubSet, What};
+use thp_model::{Done, Event, Outcome, PageCall, PageId, SubSet, What};
 
 // The events that would fit instead of a caller's event, one line each.
 pub(crate) fn put_expected(
@@ -121,32 +121,13 @@ fn new_page(page: PageId) -> What
 fn with_outcome(what: &What, outcome: Outcome, released: &SubSet) -> What
     ensures { result ≡ with_outcome outcome released.now what.now }
 {
-    let released = *released;
-    match *what {
-        What::UnmapWhole { page, .. } => What::UnmapWhole {
-            outcome,
-            page,
-            released,
-        },
-        What::UnmapSub {
-            page,
-            first,
-            count,
-            ..
-        } => What::UnmapSub {
-            outcome,
-            page,
-            first,
-            count,
-            released,
-        },
-        What::Unpin { page, .. } => What::Unpin {
-            outcome,
-            page,
-            released,
-        },
-        other => other,
+    if let Some((page, call)) = what.page_call() {
+        if let PageCall::Loss(loss) = call {
+            let released = *released;
+            return loss.what(page, &Done { outcome, released });
+        }
     }
+    *what
 }
 
 // The same split with these frames.

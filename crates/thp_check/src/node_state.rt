@@ -1,8 +1,9 @@
 //! The state of a node after the events of a history so far.
-ghost use Rattle.std.specs.Prelude.{◌≡◌, ◌<◌, ◌≤◌, ◌+◌, ◌^◌, ℕ, [], ◌||◌, not, slice_get, Some, ◌≢◌, IfErr, IfNone, IfOk, IfSome, IsSome, if◌then◌else◌, Err, IsTrue, ◌↔◌};
-ghost use Rattle.thp_model.specs.Prelude.{is_live, History, max_order, min_order, is_split_candidate, no_pages, takes_by, gain_what, loss_what};
+ghost use Rattle.std.specs.Prelude.{◌≡◌, ◌<◌, ◌≤◌, ◌+◌, ◌^◌, ℕ, Bool, List, [], ◌||◌, not, slice_get, Some, ◌≢◌, IfErr, IfOk, IsSome, Err, IsTrue, ◌↔◌};
+ghost use Rattle.thp_model.specs.Prelude.{History, max_order, min_order, is_split_candidate, no_pages, takes_by, gain_what, loss_what, recorded_call};
 ghost use Rattle.thp_page.specs.Prelude.{slot_at};
 ghost use Rattle.thp_live_pages.specs.Prelude.{IsFlyingAt, AtSlot};
+ghost use Rattle.thp_model.specs.declared.events.Outcome.{Outcome};
 ghost use Rattle.thp_model.specs.declared.shape.Shape.{Shape};
 ghost use Rattle.thp_check.specs.Flights.{blocks_in};
 ghost use Rattle.thp_check.specs.Meanings.{is_taker};
@@ -11,7 +12,7 @@ use crate::flights::Flights;
 use crate::misfit::Misfit;
 use std::alloc::{AllocError, Global};
 use thp_live_pages::PageStore;
-use thp_model::{Done, Event, Gain, Loss, Outcome, PageId, Refusal, Shape, SubSet, What};
+use thp_model::{Done, Event, Gain, Loss, PageCall, PageId, Refusal, Shape, SubSet, What};
 
 // The state after the events so far; arbitrary after an event that did not fit.
 #[derive(Drop)]
@@ -64,73 +65,21 @@ impl NodeState {
         requires small { self.old.next + 1 < 2 ^ 64 }
         ensures { Follows self.old self.new caller what.now result }
     {
+        if let Some((page, call)) = what.page_call() {
+            return match call {
+                PageCall::Gain(gain) => self.gain(page, gain),
+                PageCall::Loss(loss) => self.lose(page, loss, what),
+            };
+        }
         match what {
             What::Alloc { page, block } => self.alloc(*page, *block),
-            What::MapWhole { page } => self.gain(*page, Gain::MapWhole),
-            What::UnmapWhole {
-                outcome,
-                page,
-                released,
-            } => self.lose(*page, Loss::UnmapWhole, *outcome, released),
-            What::MapSub { page, first, count } => {
-                let (first, count) = match short(*first, *count) {
-                    Some(range) => range,
-                    None => return self.refuse_range(*page),
-                };
-                self.gain(*page, Gain::MapSub { first, count })
-            }
-            What::UnmapSub {
-                outcome,
-                page,
-                first,
-                count,
-                released,
-            } => {
-                let (first, count) = match short(*first, *count) {
-                    Some(range) => range,
-                    None => return self.refuse_range(*page),
-                };
-                self.lose(*page, Loss::UnmapSub { first, count }, *outcome, released)
-            }
-            What::SplitPmd { page } => self.gain(*page, Gain::SplitPmd),
-            What::Pin { page } => self.gain(*page, Gain::Pin),
-            What::Unpin {
-                outcome,
-                page,
-                released,
-            } => self.lose(*page, Loss::Unpin, *outcome, released),
-            What::Write { page, first, count } => {
-                let (first, count) = match short(*first, *count) {
-                    Some(range) => range,
-                    None => return self.refuse_range(*page),
-                };
-                self.gain(*page, Gain::Write { first, count })
-            }
-            What::Zero { page, first, count } => {
-                let (first, count) = match short(*first, *count) {
-                    Some(range) => range,
-                    None => return self.refuse_range(*page),
-                };
-                self.gain(*page, Gain::Zero { first, count })
-            }
             What::Taken { page } => self.take(caller, *page),
             What::Split { page, released } => self.split(caller, *page, released),
             What::Pinned { page } => self.find_pinned(caller, *page),
             What::Used { page } => self.leave_used(caller, *page),
             What::Back { page } => self.put_back(caller, *page),
             What::Dropped { page } => self.drop_page(caller, *page),
-            What::Close => self.close(),
-        }
-    }
-
-    // Refuses a page call with a range of numbers that are too large for any page.
-    #[inline(never)]
-    fn refuse_range(&self, page: PageId) -> Result<(), Misfit>
-        ensures { (s : Shape) (h : History) → Means s h self.now → result ≡ Err (Misfit.Refused (if is_live h page then Refusal.BadRange else Refusal.NoPage)) }
-    {
-        match self.places.find(page) {
-            Some(_) => refused(Refusal::BadRange),
-            None => refused(Refusal::NoPage),
+            _ => self.close(),
         }
     }
 
@@ -171,30 +120,22 @@ impl NodeState {
     }
 
     // A page that loses mappings or a pin, with the outcome and the frames in the event.
-    fn lose(
-        &mut self,
-        page: PageId,
-        loss: Loss,
-        outcome: Outcome,
-        released: &SubSet,
-    ) -> Result<(), Misfit>
-        requires { IsKnown self.old }
-        ensures { (c : ℕ) → Follows self.old self.new c (loss_what loss page outcome released.now) result }
+    fn lose(&mut self, page: PageId, loss: Loss, what: &What) -> Result<(), Misfit>
+        requires known { IsKnown self.old }
+        requires call { recorded_call what.now ≡ Some (page, PageCall.Loss loss) }
+        ensures { (c : ℕ) → Follows self.old self.new c what.now result }
     {
         let block = match self.places.find(page) {
             Some(block) => block,
             None => return refused(Refusal::NoPage),
         };
-        let mut done = Done {
-            outcome: Outcome::Stays,
-            released: SubSet::empty(),
-        };
+        let mut done = Done::none();
         let left = match self.places.lose(block, loss, self.closed, &mut done) {
             Ok(left) => left,
             Err(refusal) => return refused(refusal),
         };
         self.flights.leave(left, block);
-        if !is_told(&done, outcome, released) {
+        if !is_told(&done, what) {
             return other_outcome(&done);
         }
         Ok(())
@@ -410,21 +351,20 @@ fn taker_of(event: &Event) -> Option<u32>
     }
 }
 
-// Whether an event contains the computed outcome and frames.
-fn is_told(done: &Done, outcome: Outcome, released: &SubSet) -> bool
-    ensures { IsTrue result ↔ ((done.now.outcome ≡ outcome) × (done.now.released ≡ released.now)) }
+// Whether an unmap or an unpin contains the computed outcome and frames.
+fn is_told(done: &Done, what: &What) -> bool
+    ensures { (l : Loss) (p : ℕ) (o : Outcome) (set : List Bool) → what.now ≡ loss_what l p o set → (IsTrue result ↔ ((done.now.outcome ≡ o) × (done.now.released ≡ set))) }
 {
-    done.outcome == outcome && done.released == *released
-}
-
-// The operands of a range as in a page call, unless they are too large for any page.
-fn short(first: u32, count: u32) -> Option<(u16, u16)>
-    ensures first { IfSome result (λ r. r.0 ≡ first) }
-    ensures count { IfSome result (λ r. r.1 ≡ count) }
-    ensures none { IfNone result (¬ ((first ≤ 65535) × (count ≤ 65535))) }
-{
-    if first > 65_535 || count > 65_535 {
-        return None;
+    match what {
+        What::UnmapWhole {
+            outcome, released, ..
+        }
+        | What::UnmapSub {
+            outcome, released, ..
+        }
+        | What::Unpin {
+            outcome, released, ..
+        } => done.outcome == *outcome && done.released == *released,
+        _ => false,
     }
-    Some((first as u16, count as u16))
 }

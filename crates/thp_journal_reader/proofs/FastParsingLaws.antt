@@ -6,12 +6,13 @@ use Rattle.thp_model.specs.declared.events.Event.{Event}
 use Rattle.thp_model.specs.declared.events.Outcome.{Outcome}
 use Rattle.thp_model.specs.declared.events.Outcome.TheVariants.{Stays, Queued, Freed}
 use Rattle.thp_model.specs.declared.events.What.TheVariants as what
-use Rattle.thp_model.specs.Prelude.{by, set_of}
+use Rattle.thp_model.specs.Prelude.{by, loss_what, set_of}
 use Rattle.thp_script.specs.declared.fault.TextKind.{TextKind}
 use Rattle.thp_script.specs.Prelude.{Text, number_of, pieces_at, FastNumber}
 use Rattle.thp_script.proofs.FastParsingLaws.{number_whole, of_some, whole_front}
 use Rattle.thp_script.proofs.TextLaws.{pieces-append}
-use Rattle.thp_journal_reader.specs.Prelude.{EventWord, LossWord, PageWord, RangeWord, Happened, Version, FastEvent, FastLine, FastOperands, FastOutcome, FastSet, FastWord, event_by, event_of, loss_event, page_event, range_event, split_event, unmap_event, outcome_and_word, event_word, loss_what, outcome_of, page_what, range_what, by_words, line_by, set_of_text, set_with}
+use Rattle.thp_model.specs.declared.page_call.Loss.{Loss}
+use Rattle.thp_journal_reader.specs.Prelude.{EventWord, PageWord, RangeWord, Happened, Version, FastEvent, FastLine, FastOperands, FastOutcome, FastSet, FastWord, event_by, event_of, loss_event, page_event, range_event, split_event, unmap_event, outcome_and_word, event_word, outcome_of, page_what, range_what, by_words, line_by, set_of_text, set_with}
 use Rattle.thp_journal_reader.proofs.PlainLines.{line_of-read}
 use Rattle.thp_journal_reader.proofs.PlainWords.{event_word_letters, letters_whole}
 
@@ -91,9 +92,9 @@ parse_range_fast name caller p first count text t1 t2 rest a b d = record {
   reads = λ w c. rw (c, a.reads, b.reads, d.reads) refl;
 }
 
-pub parse_loss_fast : (name : LossWord) (caller p : ℕ) (outcome : Outcome) (set : List Bool) (text t1 t2 rest : Text)
+pub parse_loss_fast : (name : Loss) (caller p : ℕ) (outcome : Outcome) (set : List Bool) (text t1 t2 rest : Text)
     → FastNumber 32 18446744073709551615 text p t1 → FastOutcome t1 outcome t2 → FastSet set t2 rest
-    → FastOperands (loss_event name) caller text (by caller (loss_what name outcome p set)) rest
+    → FastOperands (loss_event name) caller text (by caller (loss_what name p outcome set)) rest
 unfolding loss_event outcome_and_word
 parse_loss_fast name caller p outcome set text t1 t2 rest a o s = record {
   words = a.word ∷ o.word ∷ s.word ∷ [];

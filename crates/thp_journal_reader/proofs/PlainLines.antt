@@ -8,7 +8,8 @@ use Rattle.thp_script.specs.declared.fault.TextKind.{TextKind}
 use Rattle.thp_script.specs.declared.fault.TextKind.TheVariants.{BadByte, BadWord}
 use Rattle.thp_script.specs.Prelude.{number_up_to, one_word, two_words, fault_of_line, is_empty, is_printable, Text, words_of}
 use Rattle.thp_script.proofs.LineLaws.{IsPlain, bind_ok, none_empty, ok_value, one_plain, pieces_printable, plain_word, word_cases}
-use Rattle.thp_journal_reader.specs.Prelude.{EventWord, OfPage, OfRange, OfLoss, UnmapSub, Split, Close, LossWord, PageWord, RangeWord, Line, Version, Plain, Orders, Underused, caller_number, close_event, event_by, event_of, loss_event, loss_words, no_words, outcome_and_word, page_event, page_number, range_event, range_loss_words, range_number, split_event, three_words, unmap_event, event_word, outcome_of, before, by_words, end_of, event_line, head_of, line_by, line_of, node_of, node_with, number_between, ordered_node, plain_node, threshold_of, underused_node, version_of, set_of_text}
+use Rattle.thp_model.specs.declared.page_call.Loss.{Loss}
+use Rattle.thp_journal_reader.specs.Prelude.{EventWord, OfPage, OfRange, OfLoss, UnmapSub, Split, Close, PageWord, RangeWord, Line, Version, Plain, Orders, Underused, caller_number, close_event, event_by, event_of, loss_event, loss_words, no_words, outcome_and_word, page_event, page_number, range_event, range_loss_words, range_number, split_event, three_words, unmap_event, event_word, outcome_of, before, by_words, end_of, event_line, head_of, line_by, line_of, node_of, node_with, number_between, ordered_node, plain_node, threshold_of, underused_node, version_of, set_of_text}
 use Rattle.thp_journal_reader.proofs.PlainWords.{event_word_plain, number_plain, one_or, outcome_plain, set_plain}
 
 -- ---- so many words
@@ -97,7 +98,7 @@ module _ (caller : Text) (words : List Text) (event : Event) where
         three_words_plain words w.0 w.1 (number_plain 18446744073709551615 p.0 w.0.0 p.1) (number_plain 65535 f.0 w.0.1 f.1) (number_plain 65535 n.0 w.0.2 n.1),
       )
 
-  loss_event_plain : (name : LossWord) → loss_event name caller words ≡ Ok event → ArePlain caller words
+  loss_event_plain : (name : Loss) → loss_event name caller words ≡ Ok event → ArePlain caller words
   unfolding loss_event
   loss_event_plain name e =
       let w = bind_ok (loss_words words) _ event e in

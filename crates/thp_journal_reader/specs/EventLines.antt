@@ -3,17 +3,17 @@ use Rattle.std.specs.Prelude.{ℕ, ◌-◌, List, [], ◌∷◌, Result, Ok, Err
 use Rattle.thp_model.specs.declared.events.Event.{Event}
 use Rattle.thp_model.specs.declared.events.Outcome.{Outcome}
 use Rattle.thp_model.specs.declared.events.What.TheVariants as what
-use Rattle.thp_model.specs.Prelude.{by, max_callers}
+use Rattle.thp_model.specs.declared.page_call.Loss.{Loss}
+use Rattle.thp_model.specs.Prelude.{by, loss_what, max_callers}
 use Rattle.thp_script.specs.declared.fault.TextKind.{TextKind}
 use Rattle.thp_script.specs.declared.fault.TextKind.TheVariants.{BadWord, BadCount}
 use Rattle.thp_script.specs.Prelude.{number_up_to, one_word, two_words, ◌>>=◌, Text}
 use Rattle.thp_journal_reader.specs.declared.event_word.EventWord.{EventWord}
 use Rattle.thp_journal_reader.specs.declared.event_word.EventWord.TheVariants.{OfPage, OfRange, OfLoss, UnmapSub, Split, Close}
-use Rattle.thp_journal_reader.specs.declared.event_word.LossWord.{LossWord}
 use Rattle.thp_journal_reader.specs.declared.event_word.PageWord.{PageWord}
 use Rattle.thp_journal_reader.specs.declared.event_word.RangeWord.{RangeWord}
 use Rattle.thp_journal_writer.specs.declared.version.Version.{Version}
-use Rattle.thp_journal_reader.specs.EventWords.{event_word, loss_what, outcome_of, page_what, range_what}
+use Rattle.thp_journal_reader.specs.EventWords.{event_word, outcome_of, page_what, range_what}
 use Rattle.thp_journal_reader.specs.SetTexts.{set_of_text}
 
 -- a caller
@@ -79,13 +79,13 @@ range_event name caller_word words = do
   Ok (by caller (range_what name page first count))
 
 -- `CALLER WORD PAGE OUTCOME SET`
-unfoldable pub loss_event : LossWord → Text → List Text → Result Event TextKind
+unfoldable pub loss_event : Loss → Text → List Text → Result Event TextKind
 loss_event name caller_word words = do
   word ← loss_words words
   caller ← caller_number caller_word
   page ← page_number word.0
   released ← set_of_text word.2
-  Ok (by caller (loss_what name word.1 page released))
+  Ok (by caller (loss_what name page word.1 released))
 
 -- `CALLER unmapsub PAGE FIRST COUNT OUTCOME SET`
 unfoldable pub unmap_event : Text → List Text → Result Event TextKind

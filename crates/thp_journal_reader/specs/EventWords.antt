@@ -1,16 +1,15 @@
 -- The words of events (this project's journal format).
-use Rattle.std.specs.Prelude.{ℕ, Bool, List, Result, Ok, Err, codes, if◌then◌else◌, bytes_eq}
+use Rattle.std.specs.Prelude.{ℕ, Result, Ok, Err, codes, if◌then◌else◌, bytes_eq}
 use Rattle.thp_model.specs.declared.events.Outcome.{Outcome}
 use Rattle.thp_model.specs.declared.events.Outcome.TheVariants.{Stays, Queued, Freed}
 use Rattle.thp_model.specs.declared.events.What.{What}
+use Rattle.thp_model.specs.declared.page_call.Loss.TheVariants.{UnmapWhole, Unpin}
 use Rattle.thp_model.specs.declared.events.What.TheVariants as what
 use Rattle.thp_script.specs.declared.fault.TextKind.{TextKind}
 use Rattle.thp_script.specs.declared.fault.TextKind.TheVariants.{BadWord}
 use Rattle.thp_script.specs.Prelude.{Text}
 use Rattle.thp_journal_reader.specs.declared.event_word.EventWord.{EventWord}
 use Rattle.thp_journal_reader.specs.declared.event_word.EventWord.TheVariants.{OfPage, OfRange, OfLoss, UnmapSub, Split, Close}
-use Rattle.thp_journal_reader.specs.declared.event_word.LossWord.{LossWord}
-use Rattle.thp_journal_reader.specs.declared.event_word.LossWord.TheVariants.{UnmapWhole, Unpin}
 use Rattle.thp_journal_reader.specs.declared.event_word.PageWord.{PageWord}
 use Rattle.thp_journal_reader.specs.declared.event_word.PageWord.TheVariants.{Alloc, MapWhole, SplitPmd, Pin, Taken, Pinned, Used, Back, Dropped}
 use Rattle.thp_journal_reader.specs.declared.event_word.RangeWord.{RangeWord}
@@ -68,11 +67,6 @@ abbrev pub range_what : RangeWord → ℕ → ℕ → ℕ → What
 range_what MapSub page first count = what.MapSub page first count
 range_what Write page first count = what.Write page first count
 range_what Zero page first count = what.Zero page first count
-
--- the loss of the page, and its outcome
-abbrev pub loss_what : LossWord → Outcome → ℕ → List Bool → What
-loss_what UnmapWhole outcome page released = what.UnmapWhole outcome page released
-loss_what Unpin outcome page released = what.Unpin outcome page released
 
 -- the outcome that a word names
 unfoldable pub outcome_of : Text → Result Outcome TextKind

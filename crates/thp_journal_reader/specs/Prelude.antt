@@ -2,7 +2,7 @@
 pub use Rattle.thp_journal_reader.specs.Answers.{AreLegalBefore, CanBeLegal, IsFirstIllegal, IsFirstIllegalEvent, IsLegalFront, IsLegalNode, ReportsFirst, ReportsIllegal, ReportsLongReadFault}
 pub use Rattle.thp_journal_reader.specs.EventLines.{caller_number, event_by, event_of, loss_words, no_words, page_number, range_loss_words, range_number, three_words}
 unfoldable pub use Rattle.thp_journal_reader.specs.EventLines.{close_event, loss_event, outcome_and_word, page_event, range_event, split_event, unmap_event}
-pub use Rattle.thp_journal_reader.specs.EventWords.{event_word, loss_what, page_what, range_what}
+pub use Rattle.thp_journal_reader.specs.EventWords.{event_word, page_what, range_what}
 unfoldable pub use Rattle.thp_journal_reader.specs.EventWords.{common_word, later_word, outcome_of}
 pub use Rattle.thp_journal_reader.specs.FastParsing.{FastEvent, FastLine, FastOperands, FastOutcome, FastSet, FastWord}
 pub use Rattle.thp_journal_reader.specs.Following.{AreKept, EndsAt, Follows, FollowsBy, FollowsLines, HasEnded, HasNone, HasRoom, HasRoomIn, IsKept, LastIsIllegal, StopsWith, first_of, has_stopped}
@@ -24,7 +24,6 @@ pub use Rattle.thp_journal_reader.specs.Verdicts.{IsVerdict, IsVerdictWithin, is
 unfoldable pub use Rattle.thp_journal_reader.specs.Verdicts.{verdict_text}
 pub use Rattle.thp_journal_reader.specs.declared.event_word.EventWord.{EventWord}
 pub use Rattle.thp_journal_reader.specs.declared.event_word.EventWord.TheVariants.{Close, OfLoss, OfPage, OfRange, Split, UnmapSub}
-pub use Rattle.thp_journal_reader.specs.declared.event_word.LossWord.{LossWord}
 pub use Rattle.thp_journal_reader.specs.declared.event_word.PageWord.{PageWord}
 pub use Rattle.thp_journal_reader.specs.declared.event_word.RangeWord.{RangeWord}
 pub use Rattle.thp_journal_reader.specs.declared.follower.FollowedNodes.{FollowedNodes}

@@ -3,10 +3,10 @@ ghost use Rattle.std.specs.Prelude.{◌≡◌, ◌≤◌, Ok, Err, IfOk, MatchRe
 ghost use Rattle.thp_script.specs.Prelude.{number_up_to};
 ghost use Rattle.thp_journal_reader.specs.EventLines.{caller_number, close_event, event_by, event_of, loss_event, outcome_and_word, page_event, page_number, range_event, range_number, split_event, unmap_event};
 
-use crate::event_word::{EventWord, LossWord, PageWord, RangeWord, event_word, outcome_of};
+use crate::event_word::{EventWord, PageWord, RangeWord, event_word, outcome_of};
 use crate::set_text::set_of_text;
 use thp_journal_writer::Version;
-use thp_model::{Event, MAX_CALLERS, Outcome, PageId, What};
+use thp_model::{Done, Event, Loss, MAX_CALLERS, Outcome, PageId, What};
 use thp_script::{TextKind, Words, number};
 
 /// Parses a number of at most `most`.
@@ -94,7 +94,7 @@ fn outcome_and_word<'a>(mut words: Words<'a>) -> Result<(Outcome, &'a [u8]), Tex
 
 /// Parses `CALLER WORD PAGE OUTCOME SET`.
 #[tactic(auto, unfolding(crate::specs::EventLines::loss_event))]
-fn loss_event(name: LossWord, caller: &[u8], mut words: Words) -> Result<Event, TextKind>
+fn loss_event(name: Loss, caller: &[u8], mut words: Words) -> Result<Event, TextKind>
     ensures { result ≡ loss_event name caller.now words.entry }
 {
     let Some(page) = words.next() else {
@@ -106,7 +106,7 @@ fn loss_event(name: LossWord, caller: &[u8], mut words: Words) -> Result<Event, 
     let released = set_of_text(set)?;
     Ok(Event {
         caller,
-        what: name.what(outcome, page, released),
+        what: name.what(page, &Done { outcome, released }),
     })
 }
 

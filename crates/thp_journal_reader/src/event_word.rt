@@ -1,10 +1,10 @@
 //! The words of events.
 ghost use Rattle.std.specs.Prelude.{◌≡◌, IfSome};
 ghost use Rattle.thp_journal_reader.specs.FastParsing.{FastWord};
-ghost use Rattle.thp_journal_reader.specs.EventWords.{common_word, event_word, later_word, loss_what, outcome_of, page_what, range_what};
+ghost use Rattle.thp_journal_reader.specs.EventWords.{common_word, event_word, later_word, outcome_of, page_what, range_what};
 
 use thp_journal_writer::Version;
-use thp_model::{Outcome, PageId, SubSet, What};
+use thp_model::{Loss, Outcome, PageId, What};
 use thp_script::{TextKind, after_name};
 
 /// Events with a page.
@@ -71,34 +71,6 @@ impl RangeWord {
     }
 }
 
-/// Events with a page, its outcome and the frames given back.
-#[derive(Clone, Copy)]
-pub enum LossWord {
-    /// `unmapwhole`
-    UnmapWhole,
-    /// `unpin`
-    Unpin,
-}
-
-impl LossWord {
-    pub(crate) fn what(self, outcome: Outcome, page: PageId, released: SubSet) -> What
-        ensures { result ≡ loss_what self outcome page released }
-    {
-        match self {
-            LossWord::UnmapWhole => What::UnmapWhole {
-                outcome,
-                page,
-                released,
-            },
-            LossWord::Unpin => What::Unpin {
-                outcome,
-                page,
-                released,
-            },
-        }
-    }
-}
-
 /// The words of events, by the operands that follow them.
 #[derive(Clone, Copy)]
 pub enum EventWord {
@@ -107,7 +79,7 @@ pub enum EventWord {
     /// `CALLER WORD PAGE FIRST COUNT`
     OfRange(RangeWord),
     /// `CALLER WORD PAGE OUTCOME SET`
-    OfLoss(LossWord),
+    OfLoss(Loss),
     /// `CALLER unmapsub PAGE FIRST COUNT OUTCOME SET`
     UnmapSub,
     /// `CALLER split PAGE SET`
@@ -124,12 +96,12 @@ fn common_word(name: &[u8]) -> Result<EventWord, TextKind>
     match name {
         b"alloc" => Ok(EventWord::OfPage(PageWord::Alloc)),
         b"mapwhole" => Ok(EventWord::OfPage(PageWord::MapWhole)),
-        b"unmapwhole" => Ok(EventWord::OfLoss(LossWord::UnmapWhole)),
+        b"unmapwhole" => Ok(EventWord::OfLoss(Loss::UnmapWhole)),
         b"mapsub" => Ok(EventWord::OfRange(RangeWord::MapSub)),
         b"unmapsub" => Ok(EventWord::UnmapSub),
         b"splitpmd" => Ok(EventWord::OfPage(PageWord::SplitPmd)),
         b"pin" => Ok(EventWord::OfPage(PageWord::Pin)),
-        b"unpin" => Ok(EventWord::OfLoss(LossWord::Unpin)),
+        b"unpin" => Ok(EventWord::OfLoss(Loss::Unpin)),
         b"taken" => Ok(EventWord::OfPage(PageWord::Taken)),
         b"split" => Ok(EventWord::Split),
         b"pinned" => Ok(EventWord::OfPage(PageWord::Pinned)),

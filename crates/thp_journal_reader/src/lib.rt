@@ -39,7 +39,7 @@ mod verdicts;
 
 pub use checking::{check_journals, check_text};
 pub use event_reader::read_event;
-pub use event_word::{EventWord, LossWord, PageWord, RangeWord};
+pub use event_word::{EventWord, PageWord, RangeWord};
 pub use follower::FollowedNodes;
 pub use follows_node::{FollowsNode, Stopped};
 pub use illegal::Illegal;

@@ -4,10 +4,10 @@ ghost use Rattle.std.specs.Prelude.{◌≡◌, [], ◌∷◌, IfSome};
 ghost use Rattle.thp_journal_reader.specs.FastParsing.{FastEvent, FastLine, FastOperands, FastOutcome, FastSet};
 ghost use Rattle.thp_journal_reader.specs.EventLines.{event_by, loss_event, page_event, range_event, split_event, unmap_event};
 
-use crate::event_word::{EventWord, LossWord, PageWord, RangeWord, parse_word_fast};
+use crate::event_word::{EventWord, PageWord, RangeWord, parse_word_fast};
 use crate::set_text::set_of_text;
 use thp_journal_writer::Version;
-use thp_model::{Event, MAX_CALLERS, Outcome, PageId, SubSet, What};
+use thp_model::{Done, Event, Loss, MAX_CALLERS, Outcome, PageId, SubSet, What};
 use thp_script::{after_name, cut_at, parse_number_fast};
 
 /// Parses an outcome at the beginning of a text, and returns it with the text after the following space.
@@ -88,14 +88,14 @@ fn parse_range_event_fast(name: RangeWord, caller: u32, text: &[u8]) -> Option<(
 
 /// Parses the operands `PAGE OUTCOME SET`.
 #[inline(always)]
-fn parse_loss_event_fast(name: LossWord, caller: u32, text: &[u8]) -> Option<(Event, &[u8])>
+fn parse_loss_event_fast(name: Loss, caller: u32, text: &[u8]) -> Option<(Event, &[u8])>
     ensures { IfSome result (λ read. FastOperands (loss_event name) caller text.now read.0 read.1.now) }
 {
     let (page, rest) = parse_number_fast(b' ', u64::MAX, text)?;
     let (outcome, rest) = parse_outcome_fast(rest)?;
     let mut released = SubSet::empty();
     let rest = parse_set_fast(rest, &mut released)?;
-    let what = name.what(outcome, PageId(page), released);
+    let what = name.what(PageId(page), &Done { outcome, released });
     Some((Event { caller, what }, rest))
 }
 

@@ -1,34 +1,25 @@
 -- Scripts that repeat a history: which events each command repeats (this project's profile).
-use Rattle.std.specs.Prelude.{◌≡◌, ◌++◌, ℕ, Bool, true, false, All, List, [], ◌∷◌, Option, Some, None, length, min, filter, flat_map}
+use Rattle.std.specs.Prelude.{◌≡◌, ◌++◌, ℕ, Bool, true, false, All, List, [], ◌∷◌, Option, Some, None, length, filter, flat_map}
+use Rattle.std.specs.Option.{option_map_or}
 use Rattle.thp_model.specs.declared.events.Event.{Event}
 use Rattle.thp_model.specs.declared.events.What.{What}
-use Rattle.thp_model.specs.declared.events.What.TheVariants.{Alloc, MapWhole, UnmapWhole, MapSub, UnmapSub, SplitPmd, Pin, Unpin, Write, Zero, Taken, Split, Pinned, Used, Back, Dropped, Close}
-use Rattle.thp_model.specs.Prelude.{History}
+use Rattle.thp_model.specs.declared.events.What.TheVariants.{Alloc, Taken, Split, Pinned, Used, Close}
+use Rattle.thp_model.specs.Prelude.{History, recorded_call}
+use Rattle.thp_script.specs.Prelude.{page_op}
 use Rattle.thp_script.specs.declared.script.Op.{Op}
 use Rattle.thp_script.specs.declared.script.Op.TheVariants as op
 use Rattle.thp_journal_scripts.specs.declared.event_kind.EventKind.{EventKind}
 use Rattle.thp_journal_scripts.specs.declared.event_kind.EventKind.TheVariants.{Call, Take, Try, Put}
 
--- A call, with the command that repeats it; or a part of a batch. An operand of a command has 16 bits: a range past that is refused
--- in any case.
+-- a call, with the command that repeats it; or a part of a batch: a take, a try, or else a put back or a drop
 abbrev pub kind_of : What → EventKind
 kind_of (Alloc p block) = Call op.Alloc
-kind_of (MapWhole p) = Call (op.MapWhole p)
-kind_of (UnmapWhole outcome p released) = Call (op.UnmapWhole p)
-kind_of (MapSub p first count) = Call (op.Map (min first 65535) (min count 65535) p)
-kind_of (UnmapSub outcome p first count released) = Call (op.Unmap (min first 65535) (min count 65535) p)
-kind_of (SplitPmd p) = Call (op.SplitPmd p)
-kind_of (Pin p) = Call (op.Pin p)
-kind_of (Unpin outcome p released) = Call (op.Unpin p)
-kind_of (Write p first count) = Call (op.Write (min first 65535) (min count 65535) p)
-kind_of (Zero p first count) = Call (op.Zero (min first 65535) (min count 65535) p)
+kind_of Close = Call op.Close
 kind_of (Taken p) = Take
 kind_of (Split p released) = Try
 kind_of (Pinned p) = Try
 kind_of (Used p) = Try
-kind_of (Back p) = Put
-kind_of (Dropped p) = Put
-kind_of Close = Call op.Close
+kind_of w = option_map_or (λ made. Call (page_op made.1 made.0)) (recorded_call w) Put
 
 -- an event of caller c of this kind
 abbrev pub IsBy : ℕ → EventKind → Event → Type 0

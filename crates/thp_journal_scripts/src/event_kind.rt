@@ -2,7 +2,7 @@
 ghost use Rattle.std.specs.Prelude.{◌≡◌};
 ghost use Rattle.thp_journal_scripts.specs.Repeating.{kind_of};
 
-use thp_model::{What, narrowed};
+use thp_model::What;
 use thp_script::Op;
 
 /// The kind of an event, by the command that repeats it.
@@ -24,39 +24,12 @@ pub(crate) fn kind_of(what: &What) -> EventKind
 {
     EventKind::Call(match *what {
         What::Alloc { .. } => Op::Alloc,
-        What::MapWhole { page } => Op::MapWhole { page: page.0 },
-        What::UnmapWhole { page, .. } => Op::UnmapWhole { page: page.0 },
-        What::MapSub { page, first, count } => Op::Map {
-            first: narrowed(first),
-            count: narrowed(count),
-            page: page.0,
-        },
-        What::UnmapSub {
-            page,
-            first,
-            count,
-            ..
-        } => Op::Unmap {
-            first: narrowed(first),
-            count: narrowed(count),
-            page: page.0,
-        },
-        What::SplitPmd { page } => Op::SplitPmd { page: page.0 },
-        What::Pin { page } => Op::Pin { page: page.0 },
-        What::Unpin { page, .. } => Op::Unpin { page: page.0 },
-        What::Write { page, first, count } => Op::Write {
-            first: narrowed(first),
-            count: narrowed(count),
-            page: page.0,
-        },
-        What::Zero { page, first, count } => Op::Zero {
-            first: narrowed(first),
-            count: narrowed(count),
-            page: page.0,
-        },
         What::Close => Op::Close,
         What::Taken { .. } => return EventKind::Take,
         What::Split { .. } | What::Pinned { .. } | What::Used { .. } => return EventKind::Try,
-        What::Back { .. } | What::Dropped { .. } => return EventKind::Put,
+        _ => match what.page_call() {
+            Some((page, call)) => Op::of_page(page.0, call),
+            None => return EventKind::Put,
+        },
     })
 }

@@ -6,7 +6,7 @@ use Rattle.thp_model.specs.declared.events.Event.{Event}
 use Rattle.thp_model.specs.declared.events.Outcome.{Outcome}
 use Rattle.thp_model.specs.declared.events.What.{What}
 use Rattle.thp_model.specs.declared.events.What.TheVariants.{Alloc, MapWhole, UnmapWhole, MapSub, UnmapSub, SplitPmd, Pin, Unpin, Write, Zero, Taken, Split, Pinned, Used, Back, Dropped, Close}
-use Rattle.thp_model.specs.Prelude.{event_with, with_block, by}
+use Rattle.thp_model.specs.Prelude.{event_with, with_block, by, loss_what}
 use Rattle.thp_script.specs.declared.fault.TextKind.TheVariants.{BadByte, BadNumber, BadWord}
 use Rattle.thp_script.specs.Prelude.{number_up_to, is_empty, is_printable, ◌>>=◌, Text, words_of}
 use Rattle.thp_script.proofs.NumberLaws.{number_of-decimal}
@@ -14,15 +14,14 @@ use Rattle.thp_journal_writer.specs.EventLines as written
 use Rattle.thp_journal_writer.specs.Prelude.{event_words, outcome_word, what_words, HasSmallNumbers, set_text}
 use Rattle.thp_journal_reader.specs.declared.event_word.EventWord.{EventWord}
 use Rattle.thp_journal_reader.specs.declared.event_word.EventWord.TheVariants as word
-use Rattle.thp_journal_reader.specs.declared.event_word.LossWord.{LossWord}
-use Rattle.thp_journal_reader.specs.declared.event_word.LossWord.TheVariants as loss
+use Rattle.thp_model.specs.declared.page_call.Loss.{Loss}
 use Rattle.thp_journal_reader.specs.declared.event_word.PageWord.{PageWord}
 use Rattle.thp_journal_reader.specs.declared.event_word.PageWord.TheVariants as page
 use Rattle.thp_journal_reader.specs.declared.event_word.RangeWord.{RangeWord}
 use Rattle.thp_journal_reader.specs.declared.event_word.RangeWord.TheVariants as range
 use Rattle.thp_journal_reader.specs.declared.line.Line.TheVariants.{Happened}
 use Rattle.thp_journal_writer.specs.declared.version.Version.{Version}
-use Rattle.thp_journal_reader.specs.Prelude.{caller_number, page_number, range_number, page_event, range_event, loss_event, unmap_event, split_event, close_event, outcome_and_word, event_by, event_of, common_word, later_word, event_word, outcome_of, page_what, range_what, loss_what, line_by, by_words}
+use Rattle.thp_journal_reader.specs.Prelude.{caller_number, page_number, range_number, page_event, range_event, loss_event, unmap_event, split_event, close_event, outcome_and_word, event_by, event_of, common_word, later_word, event_word, outcome_of, page_what, range_what, line_by, by_words}
 use Rattle.thp_journal_reader.specs.JournalLines as read
 use Rattle.thp_laws.specs.Tellable.{IsOfVersion, IsTellable}
 use Rattle.thp_laws.proofs.PlainWords.{decimal_plain, is_plain, line_printable, no_number, none_empty, words_back}
@@ -90,7 +89,7 @@ unfolding range_event
 range_event_back name c p first count small lt low high = rw (caller_back c small, page_back p lt, range_back first low, range_back count high) refl
 
 -- one that tells what became of the page and what it gave back
-loss_event_back : (name : LossWord) (o : Outcome) (c p : ℕ) (set : List Bool) → c < 64 → p < 2 ^ 64 → length set ≡ 512 → loss_event name (decimal c) (decimal p ∷ outcome_word o ∷ set_text set ∷ []) ≡ Ok (by c (loss_what name o p set))
+loss_event_back : (name : Loss) (o : Outcome) (c p : ℕ) (set : List Bool) → c < 64 → p < 2 ^ 64 → length set ≡ 512 → loss_event name (decimal c) (decimal p ∷ outcome_word o ∷ set_text set ∷ []) ≡ Ok (by c (loss_what name p o set))
 unfolding loss_event
 loss_event_back name o c p set small lt full = rw (ending_back o (set_text set), caller_back c small, page_back p lt, set_back set full) refl
 

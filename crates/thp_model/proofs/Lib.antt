@@ -39,4 +39,3 @@ pub mod WorkedRows
 pub mod WordLemmas
 mod WordMarks
 mod WordSpans
-pub mod Narrowing

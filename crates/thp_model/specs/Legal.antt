@@ -3,13 +3,13 @@ use Rattle.std.specs.Prelude.{◌≡◌, ℕ, Bool, true, false, not, ◌||◌, 
 use Rattle.thp_model.specs.declared.events.Event.{Event}
 use Rattle.thp_model.specs.declared.events.Outcome.{Outcome}
 use Rattle.thp_model.specs.declared.events.What.{What}
-use Rattle.thp_model.specs.declared.events.What.TheVariants.{Alloc, MapWhole, UnmapWhole, MapSub, UnmapSub, SplitPmd, Pin, Unpin, Write, Zero, Taken, Split, Pinned, Used, Back, Dropped, Close}
+use Rattle.thp_model.specs.declared.events.What.TheVariants.{Alloc, UnmapWhole, UnmapSub, Unpin, Taken, Split, Pinned, Used, Back, Dropped}
 use Rattle.thp_model.specs.declared.shape.Shape.{Shape}
 use Rattle.thp_model.specs.History.{History}
 use Rattle.thp_model.specs.Counts.{pins, is_closed, allocations}
 use Rattle.thp_model.specs.Places.{queue, flight, has_page, no_pages, is_taking}
 use Rattle.thp_model.specs.Frames.{released, outcome, block_in_use}
-use Rattle.thp_model.specs.Refusals.{refusal}
+use Rattle.thp_model.specs.Refusals.{refusal, refusal_of}
 use Rattle.thp_model.specs.Underused.{is_partly_mapped, is_worth_split}
 use Rattle.thp_model.specs.Refusals as call
 
@@ -42,25 +42,19 @@ pub record FitsSplit (s : Shape) (h k : History) (c p : ℕ) (set : List Bool) :
 abbrev pub is_dropped : Shape → History → ℕ → Bool
 is_dropped s h p = is_closed h || not (is_partly_mapped s h p)
 
--- the event of caller c fits the history h, and extends it to the history k
+-- the event of caller c fits the history h, and extends it to the history k: its call is not refused, and what it tells is right
 abbrev pub FitsBy : Shape → History → History → ℕ → What → Type 0
 FitsBy s h k c (Alloc p b) = FitsAlloc s h p b
-FitsBy s h k c (MapWhole p) = refusal s h (call.map_whole p) ≡ None
-FitsBy s h k c (UnmapWhole o p set) = (refusal s h (call.unmap_whole p) ≡ None) × Gives s h k p o set
-FitsBy s h k c (MapSub p first count) = refusal s h (call.map_sub p first count) ≡ None
-FitsBy s h k c (UnmapSub o p first count set) = (refusal s h (call.unmap_sub p first count) ≡ None) × Gives s h k p o set
-FitsBy s h k c (SplitPmd p) = refusal s h (call.split_pmd p) ≡ None
-FitsBy s h k c (Pin p) = refusal s h (call.pin p) ≡ None
-FitsBy s h k c (Unpin o p set) = (refusal s h (call.unpin p) ≡ None) × Gives s h k p o set
-FitsBy s h k c (Write p first count) = refusal s h (call.write p first count) ≡ None
-FitsBy s h k c (Zero p first count) = refusal s h (call.zero_fill p first count) ≡ None
+FitsBy s h k c (UnmapWhole o p set) = (refusal_of s h (UnmapWhole o p set) ≡ None) × Gives s h k p o set
+FitsBy s h k c (UnmapSub o p first count set) = (refusal_of s h (UnmapSub o p first count set) ≡ None) × Gives s h k p o set
+FitsBy s h k c (Unpin o p set) = (refusal_of s h (Unpin o p set) ≡ None) × Gives s h k p o set
 FitsBy s h k c (Taken p) = FitsTaken s h c p
 FitsBy s h k c (Split p set) = FitsSplit s h k c p set
 FitsBy s h k c (Pinned p) = (has_page p (flight h c) ≡ true) × (0 < pins h p) × (is_worth_split s h p ≡ true)
 FitsBy s h k c (Used p) = (has_page p (flight h c) ≡ true) × (is_worth_split s h p ≡ false)
 FitsBy s h k c (Back p) = (slice_get (flight h c) 0 ≡ Some p) × (is_closed h ≡ false) × (is_partly_mapped s h p ≡ true)
 FitsBy s h k c (Dropped p) = (slice_get (flight h c) 0 ≡ Some p) × (is_dropped s h p ≡ true)
-FitsBy s h k c Close = refusal s h call.close ≡ None
+FitsBy s h k c w = refusal_of s h w ≡ None
 
 -- the event may follow the history
 abbrev pub Fits : Shape → History → Event → Type 0

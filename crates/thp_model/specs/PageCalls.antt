@@ -1,13 +1,11 @@
 -- A call about one page: the call of the node, its event, and its effect on the page.
-use Rattle.std.specs.Prelude.{ℕ, List, Bool, false, nat_eq, Option, None}
+use Rattle.std.specs.Prelude.{ℕ, List, Bool, false, nat_eq, Option, Some, None}
+use Rattle.std.specs.Option.{option_map_or}
 use Rattle.thp_model.specs.declared.events.Outcome.{Outcome}
 use Rattle.thp_model.specs.declared.events.What.{What}
 use Rattle.thp_model.specs.declared.events.What.TheVariants as what
-use Rattle.thp_model.specs.declared.refusal.Refusal.{Refusal}
-use Rattle.thp_model.specs.declared.shape.Shape.{Shape}
-use Rattle.thp_model.specs.History.{History}
 use Rattle.thp_model.specs.Pages.{PageState, WholeMapped, WholeUnmapped, RangeMapped, RangeUnmapped, PmdSplit, Pinned, RangeWritten, RangeZeroed}
-use Rattle.thp_model.specs.Refusals.{Call, refusal}
+use Rattle.thp_model.specs.Refusals.{Call}
 use Rattle.thp_model.specs.Refusals as call
 use Rattle.thp_model.specs.declared.page_call.Gain.{Gain}
 use Rattle.thp_model.specs.declared.page_call.Gain.TheVariants as gain
@@ -62,36 +60,21 @@ Loses loss.UnmapWhole old new = WholeUnmapped old new
 Loses (loss.UnmapSub first count) old new = RangeUnmapped first count old new
 Loses loss.Unpin old new = Pinned new old
 
+-- the page and the call, if the event is that of a call about one page
+abbrev pub recorded_call : What → Option (ℕ × PageCall)
+recorded_call (what.MapWhole p) = Some (p, either.Gain gain.MapWhole)
+recorded_call (what.UnmapWhole o p set) = Some (p, either.Loss loss.UnmapWhole)
+recorded_call (what.MapSub p first count) = Some (p, either.Gain (gain.MapSub first count))
+recorded_call (what.UnmapSub o p first count set) = Some (p, either.Loss (loss.UnmapSub first count))
+recorded_call (what.SplitPmd p) = Some (p, either.Gain gain.SplitPmd)
+recorded_call (what.Pin p) = Some (p, either.Gain gain.Pin)
+recorded_call (what.Unpin o p set) = Some (p, either.Loss loss.Unpin)
+recorded_call (what.Write p first count) = Some (p, either.Gain (gain.Write first count))
+recorded_call (what.Zero p first count) = Some (p, either.Gain (gain.Zero first count))
+recorded_call w = None
+
 -- an event is about page p and changes it, or its state by the history
 abbrev pub is_about : ℕ → What → Bool
 is_about p (what.Alloc q block) = nat_eq p q
-is_about p (what.MapWhole q) = nat_eq p q
-is_about p (what.UnmapWhole outcome q set) = nat_eq p q
-is_about p (what.MapSub q first count) = nat_eq p q
-is_about p (what.UnmapSub outcome q first count set) = nat_eq p q
-is_about p (what.SplitPmd q) = nat_eq p q
-is_about p (what.Pin q) = nat_eq p q
-is_about p (what.Unpin outcome q set) = nat_eq p q
-is_about p (what.Write q first count) = nat_eq p q
-is_about p (what.Zero q first count) = nat_eq p q
-is_about p (what.Taken q) = false
 is_about p (what.Split q set) = nat_eq p q
-is_about p (what.Pinned q) = false
-is_about p (what.Used q) = false
-is_about p (what.Back q) = false
-is_about p (what.Dropped q) = false
-is_about p what.Close = false
-
--- the refusal at h of the page call or the close that an event records
-abbrev pub refusal_of : Shape → History → What → Option Refusal
-refusal_of s h (what.MapWhole p) = refusal s h (call.map_whole p)
-refusal_of s h (what.UnmapWhole o p set) = refusal s h (call.unmap_whole p)
-refusal_of s h (what.MapSub p first count) = refusal s h (call.map_sub p first count)
-refusal_of s h (what.UnmapSub o p first count set) = refusal s h (call.unmap_sub p first count)
-refusal_of s h (what.SplitPmd p) = refusal s h (call.split_pmd p)
-refusal_of s h (what.Pin p) = refusal s h (call.pin p)
-refusal_of s h (what.Unpin o p set) = refusal s h (call.unpin p)
-refusal_of s h (what.Write p first count) = refusal s h (call.write p first count)
-refusal_of s h (what.Zero p first count) = refusal s h (call.zero_fill p first count)
-refusal_of s h what.Close = refusal s h call.close
-refusal_of s h w = None
+is_about p w = option_map_or (λ made. nat_eq p made.0) (recorded_call w) false

@@ -14,14 +14,14 @@ pub use Rattle.thp_model.specs.History.{History, by}
 unfoldable pub use Rattle.thp_model.specs.History.{count_of, events_of, some_event}
 pub use Rattle.thp_model.specs.Legal.{Fits, FitsAlloc, FitsBy, FitsSplit, FitsTaken, Gives, IsFirstMisfit, IsLegal, is_dropped}
 pub use Rattle.thp_model.specs.Limits.{max_batch, max_blocks, max_callers, max_order, max_subpages, min_order}
-pub use Rattle.thp_model.specs.PageCalls.{Gains, Loses, gain_call, gain_what, is_about, loss_call, loss_what, page_call, refusal_of}
+pub use Rattle.thp_model.specs.PageCalls.{Gains, Loses, gain_call, gain_what, is_about, loss_call, loss_what, page_call, recorded_call}
 pub use Rattle.thp_model.specs.PageChanges.{page_outcome, page_released}
 pub use Rattle.thp_model.specs.Pages.{IsFresh, IsPage, KeepsCounts, KeepsZero, PageSplit, PageState, PmdSplit, RangeMapped, RangeUnmapped, RangeWritten, RangeZeroed, Tallies, WholeMapped, WholeUnmapped, drops_use, gives_frames, has_use, holds, is_split_candidate, own_at, partly_after, some_in_range, total_at, used_set, zero_at, zero_count, zero_set}
 unfoldable pub use Rattle.thp_model.specs.Pages.{page_refusal, size}
 pub use Rattle.thp_model.specs.PlaceLaws.{acts_on, enters, is_others, takes_of}
 pub use Rattle.thp_model.specs.Places.{flight, flights_after, flights_by, has_page, leaves, no_pages, queue_after, queue_by, standing, stands, takes_by, without}
 unfoldable pub use Rattle.thp_model.specs.Places.{flights, is_taking, queue}
-pub use Rattle.thp_model.specs.Refusals.{Call, alloc_page, first_of, most, scan, some_of, take}
+pub use Rattle.thp_model.specs.Refusals.{Call, alloc_page, call_of, first_of, most, refusal_of, scan, some_of, take}
 unfoldable pub use Rattle.thp_model.specs.Refusals.{refusal}
 pub use Rattle.thp_model.specs.RequestLaws.{asked}
 unfoldable pub use Rattle.thp_model.specs.RequestLaws.{requests}

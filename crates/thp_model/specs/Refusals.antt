@@ -1,5 +1,7 @@
 -- The refusal of each call at a history: the first reason that holds, of the reasons that the call can have.
-use Rattle.std.specs.Prelude.{ℕ, Bool, not, ◌&&◌, ◌||◌, nat_eq, nat_lt, ◌+◌, List, [], ◌∷◌, if◌then◌else◌, Option, Some, None}
+use Rattle.std.specs.Prelude.{ℕ, Bool, not, ◌&&◌, ◌||◌, nat_eq, nat_lt, ◌+◌, List, [], ◌∷◌, if◌then◌else◌, Option, Some, None, option_and_then}
+use Rattle.thp_model.specs.declared.events.What.{What}
+use Rattle.thp_model.specs.declared.events.What.TheVariants as what
 use Rattle.thp_model.specs.declared.refusal.Refusal.{Refusal}
 use Rattle.thp_model.specs.declared.refusal.Refusal.TheVariants as reason
 use Rattle.thp_model.specs.declared.shape.Shape.{Shape}
@@ -84,3 +86,22 @@ refusal s h (zero_fill p first count) = first_of (write_reasons s h p first coun
 refusal s h close = first_of ((is_closed h, reason.Closed) ∷ [])
 refusal s h (take c) = first_of ((not (no_pages (flight h c)), reason.HasBatch) ∷ [])
 refusal s h (scan c) = first_of ((not (no_pages (flight h c)), reason.HasBatch) ∷ [])
+
+-- the call that an event records; what a batch does with a page is none
+abbrev pub call_of : What → Option Call
+call_of (what.Alloc p b) = Some alloc_page
+call_of (what.MapWhole p) = Some (map_whole p)
+call_of (what.UnmapWhole o p set) = Some (unmap_whole p)
+call_of (what.MapSub p first count) = Some (map_sub p first count)
+call_of (what.UnmapSub o p first count set) = Some (unmap_sub p first count)
+call_of (what.SplitPmd p) = Some (split_pmd p)
+call_of (what.Pin p) = Some (pin p)
+call_of (what.Unpin o p set) = Some (unpin p)
+call_of (what.Write p first count) = Some (write p first count)
+call_of (what.Zero p first count) = Some (zero_fill p first count)
+call_of what.Close = Some close
+call_of w = None
+
+-- the refusal at h of the call that an event records
+abbrev pub refusal_of : Shape → History → What → Option Refusal
+refusal_of s h w = option_and_then (refusal s h) (call_of w)

@@ -34,7 +34,7 @@ pub use laws::{
     nothing_enters_after_close, oldest_are_taken, others_only_free, requests_decide,
 };
 pub use limits::{MAX_BATCH, MAX_CALLERS, MAX_SUBPAGES, limits_are_defined};
-pub use page_call::{Done, Gain, Loss, PageCall, narrowed};
+pub use page_call::{Done, Gain, Loss, PageCall};
 pub use refusal::Refusal;
 pub use rows::{
     first_run_is_legal, pinned_goes_to_the_tail_is_legal, small_page_split_is_legal,

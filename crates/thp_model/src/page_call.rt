@@ -1,7 +1,7 @@
 //! A call about one page as a value, and the event that it records.
-ghost use Rattle.std.specs.Prelude.{◌≡◌, false, min};
+ghost use Rattle.std.specs.Prelude.{◌≡◌, false};
 ghost use Rattle.thp_model.specs.Sets.{set_of};
-ghost use Rattle.thp_model.specs.PageCalls.{gain_what, loss_what};
+ghost use Rattle.thp_model.specs.PageCalls.{gain_what, loss_what, recorded_call};
 
 use crate::events::{Outcome, PageId, What};
 use crate::sub_set::SubSet;
@@ -12,15 +12,15 @@ pub enum Gain {
     /// Adds a mapping of the whole page.
     MapWhole,
     /// Adds a mapping of each of the `count` subpages from `first` on.
-    MapSub { first: u16, count: u16 },
+    MapSub { first: u32, count: u32 },
     /// Replaces a mapping of the whole page by one of each subpage.
     SplitPmd,
     /// Adds a pin.
     Pin,
     /// Writes data to each of the `count` subpages from `first` on.
-    Write { first: u16, count: u16 },
+    Write { first: u32, count: u32 },
     /// Writes zeros to each of the `count` subpages from `first` on.
-    Zero { first: u16, count: u16 },
+    Zero { first: u32, count: u32 },
 }
 
 /// A call that removes mappings or a pin. It can queue or free the page.
@@ -29,7 +29,7 @@ pub enum Loss {
     /// Removes a mapping of the whole page.
     UnmapWhole,
     /// Removes a mapping of each of the `count` subpages from `first` on.
-    UnmapSub { first: u16, count: u16 },
+    UnmapSub { first: u32, count: u32 },
     /// Removes a pin.
     Unpin,
 }
@@ -50,19 +50,6 @@ pub struct Done {
     pub outcome: Outcome,
     /// The subpages whose frames the call gave back.
     pub released: SubSet,
-}
-
-/// Narrows an operand of a page call to 16 bits; greater values become 65,535. A page has at most 512 subpages, so a range with
-/// either number has the same refusal.
-#[inline(always)]
-pub fn narrowed(operand: u32) -> u16
-    ensures { result ≡ min operand 65535 }
-{
-    if operand < 65535 {
-        operand as u16
-    } else {
-        u16::MAX
-    }
 }
 
 impl Done {
@@ -86,23 +73,11 @@ impl Gain {
     {
         match self {
             Gain::MapWhole => What::MapWhole { page },
-            Gain::MapSub { first, count } => What::MapSub {
-                page,
-                first: u32::from(first),
-                count: u32::from(count),
-            },
+            Gain::MapSub { first, count } => What::MapSub { page, first, count },
             Gain::SplitPmd => What::SplitPmd { page },
             Gain::Pin => What::Pin { page },
-            Gain::Write { first, count } => What::Write {
-                page,
-                first: u32::from(first),
-                count: u32::from(count),
-            },
-            Gain::Zero { first, count } => What::Zero {
-                page,
-                first: u32::from(first),
-                count: u32::from(count),
-            },
+            Gain::Write { first, count } => What::Write { page, first, count },
+            Gain::Zero { first, count } => What::Zero { page, first, count },
         }
     }
 }
@@ -122,8 +97,8 @@ impl Loss {
             Loss::UnmapSub { first, count } => What::UnmapSub {
                 outcome: done.outcome,
                 page,
-                first: u32::from(first),
-                count: u32::from(count),
+                first,
+                count,
                 released: done.released,
             },
             Loss::Unpin => What::Unpin {
@@ -132,5 +107,32 @@ impl Loss {
                 released: done.released,
             },
         }
+    }
+}
+
+impl What {
+    /// Returns the page and the call if the event is that of a call about one page.
+    #[inline(always)]
+    pub fn page_call(&self) -> Option<(PageId, PageCall)>
+        ensures { result ≡ recorded_call self.now }
+    {
+        Some(match *self {
+            What::MapWhole { page } => (page, PageCall::Gain(Gain::MapWhole)),
+            What::UnmapWhole { page, .. } => (page, PageCall::Loss(Loss::UnmapWhole)),
+            What::MapSub { page, first, count } => {
+                (page, PageCall::Gain(Gain::MapSub { first, count }))
+            }
+            What::UnmapSub {
+                page, first, count, ..
+            } => (page, PageCall::Loss(Loss::UnmapSub { first, count })),
+            What::SplitPmd { page } => (page, PageCall::Gain(Gain::SplitPmd)),
+            What::Pin { page } => (page, PageCall::Gain(Gain::Pin)),
+            What::Unpin { page, .. } => (page, PageCall::Loss(Loss::Unpin)),
+            What::Write { page, first, count } => {
+                (page, PageCall::Gain(Gain::Write { first, count }))
+            }
+            What::Zero { page, first, count } => (page, PageCall::Gain(Gain::Zero { first, count })),
+            _ => return None,
+        })
     }
 }

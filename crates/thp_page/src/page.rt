@@ -251,10 +251,10 @@ impl Page {
 
     // Whether a range is empty or is not within the page.
     #[inline(always)]
-    fn is_bad_range(&self, first: u16, count: u16) -> bool
+    fn is_bad_range(&self, first: u32, count: u32) -> bool
         ensures { result ≡ (nat_eq count 0 || nat_lt (size self.now) (first + count)) }
     {
-        let subpages = self.subpages() as u16;
+        let subpages = self.subpages() as u32;
         count == 0 || count > subpages || first > subpages - count
     }
 

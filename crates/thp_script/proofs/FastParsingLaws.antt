@@ -13,7 +13,9 @@ use Rattle.thp_script.specs.Prelude.{Command, Op, CommandWord, OfNode, OfPage, O
 use Rattle.thp_script.specs.declared.script.Op.TheVariants.{Alloc, Close, Count, SplitNext, PutBack}
 use Rattle.thp_script.specs.declared.script.BatchCall.TheVariants as batch
 use Rattle.thp_script.specs.declared.script.RangeCall.TheVariants as range
-use Rattle.thp_script.specs.declared.script.WholePageCall.TheVariants as whole
+use Rattle.thp_model.specs.declared.page_call.Gain.TheVariants as gain
+use Rattle.thp_model.specs.declared.page_call.Loss.TheVariants as loss
+use Rattle.thp_model.specs.declared.page_call.PageCall.TheVariants as either
 use Rattle.thp_script.proofs.GrammarLaws.{statement_of-read}
 use Rattle.thp_script.proofs.NumberLaws.{numeral_parts, some_of_numeral}
 use Rattle.thp_script.proofs.TextLaws.{pieces-append}
@@ -183,11 +185,11 @@ module _ (s : Settings) where
   unfolding section_or_call command_of
   alloc_is = record { one_word = refl; one_line = refl; says = λ line. refl; reads = λ words. refl }
 
-  pub mapwhole_is : IsName s (codes "mapwhole") (reading_of (OfPage whole.Map))
+  pub mapwhole_is : IsName s (codes "mapwhole") (reading_of (OfPage (either.Gain gain.MapWhole)))
   unfolding section_or_call command_of
   mapwhole_is = record { one_word = refl; one_line = refl; says = λ line. refl; reads = λ words. refl }
 
-  pub unmapwhole_is : IsName s (codes "unmapwhole") (reading_of (OfPage whole.Unmap))
+  pub unmapwhole_is : IsName s (codes "unmapwhole") (reading_of (OfPage (either.Loss loss.UnmapWhole)))
   unfolding section_or_call command_of
   unmapwhole_is = record { one_word = refl; one_line = refl; says = λ line. refl; reads = λ words. refl }
 
@@ -199,15 +201,15 @@ module _ (s : Settings) where
   unfolding section_or_call command_of
   unmap_is = record { one_word = refl; one_line = refl; says = λ line. refl; reads = λ words. refl }
 
-  pub splitpmd_is : IsName s (codes "splitpmd") (reading_of (OfPage whole.SplitPmd))
+  pub splitpmd_is : IsName s (codes "splitpmd") (reading_of (OfPage (either.Gain gain.SplitPmd)))
   unfolding section_or_call command_of
   splitpmd_is = record { one_word = refl; one_line = refl; says = λ line. refl; reads = λ words. refl }
 
-  pub pin_is : IsName s (codes "pin") (reading_of (OfPage whole.Pin))
+  pub pin_is : IsName s (codes "pin") (reading_of (OfPage (either.Gain gain.Pin)))
   unfolding section_or_call command_of
   pin_is = record { one_word = refl; one_line = refl; says = λ line. refl; reads = λ words. refl }
 
-  pub unpin_is : IsName s (codes "unpin") (reading_of (OfPage whole.Unpin))
+  pub unpin_is : IsName s (codes "unpin") (reading_of (OfPage (either.Loss loss.Unpin)))
   unfolding section_or_call command_of
   unpin_is = record { one_word = refl; one_line = refl; says = λ line. refl; reads = λ words. refl }
 

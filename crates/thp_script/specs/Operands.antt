@@ -4,15 +4,14 @@ use Rattle.thp_script.specs.declared.script.BatchCall.{BatchCall}
 use Rattle.thp_script.specs.declared.script.BatchCall.TheVariants as batch
 use Rattle.thp_script.specs.declared.script.RangeCall.{RangeCall}
 use Rattle.thp_script.specs.declared.script.RangeCall.TheVariants as range
-use Rattle.thp_script.specs.declared.script.WholePageCall.{WholePageCall}
-use Rattle.thp_script.specs.declared.script.WholePageCall.TheVariants as whole
 use Rattle.thp_script.specs.declared.fault.TextKind.{TextKind}
 use Rattle.thp_script.specs.declared.script.CommandWord.{CommandWord}
 use Rattle.thp_script.specs.declared.script.CommandWord.TheVariants.{OfNode, OfPage, OfRange, OfBatch}
 use Rattle.thp_script.specs.declared.script.Op.{Op}
-use Rattle.thp_script.specs.declared.script.Op.TheVariants.{MapWhole, UnmapWhole, Map, Unmap, Write, Zero, SplitPmd, Pin, Unpin, Scan, Take}
+use Rattle.thp_script.specs.declared.script.Op.TheVariants.{Map, Unmap, Write, Zero, Scan, Take}
 use Rattle.thp_script.specs.declared.settings.Settings.{Settings}
 use Rattle.thp_script.specs.Commands.{batch_command, command_of, node_command, page_command, range_command, Reading}
+use Rattle.thp_script.specs.PageCommands.{page_op}
 use Rattle.thp_script.specs.Readings.{◌>>=◌}
 use Rattle.thp_script.specs.Words.{Text}
 
@@ -20,14 +19,6 @@ use Rattle.thp_script.specs.Words.{Text}
 abbrev pub batch_op : BatchCall → ℕ → Op
 batch_op batch.Scan count = Scan count
 batch_op batch.Take count = Take count
-
--- the command on a whole page
-abbrev pub whole_page_op : WholePageCall → ℕ → Op
-whole_page_op whole.Map page = MapWhole page
-whole_page_op whole.Unmap page = UnmapWhole page
-whole_page_op whole.SplitPmd page = SplitPmd page
-whole_page_op whole.Pin page = Pin page
-whole_page_op whole.Unpin page = Unpin page
 
 -- the command on a range of a page's subpages
 abbrev pub range_op : RangeCall → ℕ → ℕ → ℕ → Op
@@ -39,7 +30,7 @@ range_op range.Zero page first count = Zero first count page
 -- how the operands after a word are parsed
 abbrev pub reading_of : CommandWord → Reading
 reading_of (OfNode op) = node_command op
-reading_of (OfPage call) = page_command (whole_page_op call)
+reading_of (OfPage call) = page_command (page_op call)
 reading_of (OfRange call) = range_command (range_op call)
 reading_of (OfBatch call) = batch_command (batch_op call)
 

@@ -3,12 +3,13 @@
 ghost use Rattle.std.specs.Prelude.{IfSome};
 ghost use Rattle.thp_script.specs.FastParsing.{FastOperands};
 ghost use Rattle.thp_script.specs.Commands.{batch_command, node_command, page_command, range_command};
-ghost use Rattle.thp_script.specs.Operands.{batch_op, range_op, whole_page_op};
+ghost use Rattle.thp_script.specs.Operands.{batch_op, range_op};
+ghost use Rattle.thp_script.specs.PageCommands.{page_op};
 
 use crate::fast_words::parse_number_fast;
-use crate::script::{BatchCall, Command, Op, RangeCall, WholePageCall};
+use crate::script::{BatchCall, Command, Op, RangeCall};
 use crate::settings::Settings;
-use thp_model::MAX_BATCH;
+use thp_model::{MAX_BATCH, PageCall};
 
 /// Parses the operands of a command on a whole node: `NODE`
 #[inline(always)]
@@ -28,15 +29,15 @@ pub(crate) fn parse_node_command_fast<'t>(
 #[inline(always)]
 pub(crate) fn parse_page_command_fast<'t>(
     settings: &Settings,
-    call: WholePageCall,
+    call: PageCall,
     text: &'t [u8],
 ) -> Option<(Command, &'t [u8])>
-    ensures { IfSome result (λ read. FastOperands (page_command (whole_page_op call) settings.now) text.now read.0 read.1.now) }
+    ensures { IfSome result (λ read. FastOperands (page_command (page_op call) settings.now) text.now read.0 read.1.now) }
 {
     let (node, rest) = parse_number_fast(b' ', u64::from(settings.nodes - 1), text)?;
     let (page, rest) = parse_number_fast(b'\n', u64::MAX, rest)?;
     let node = node as u32;
-    let op = call.op(page);
+    let op = Op::of_page(page, call);
     Some((Command { node, op }, rest))
 }
 

@@ -1,13 +1,14 @@
 //! Parses commands from the words of a line.
 ghost use Rattle.std.specs.Prelude.{◌≡◌, ◌≤◌, ◌<◌, Err, IfErr, IfOk, Ok};
 ghost use Rattle.thp_script.specs.Commands.{batch_command, command_of, four_words, node_command, node_number, number_up_to, page_command, range_command};
-ghost use Rattle.thp_script.specs.Operands.{batch_op, range_op, whole_page_op};
+ghost use Rattle.thp_script.specs.Operands.{batch_op, range_op};
+ghost use Rattle.thp_script.specs.PageCommands.{page_op};
 
 use crate::fault::TextKind;
-use crate::script::{BatchCall, Command, CommandWord, Op, RangeCall, WholePageCall, command_word};
+use crate::script::{BatchCall, Command, CommandWord, Op, RangeCall, command_word};
 use crate::settings::Settings;
 use crate::words::{Words, number};
-use thp_model::MAX_BATCH;
+use thp_model::{MAX_BATCH, PageCall};
 
 #[inline(always)]
 pub(crate) fn number_up_to(most: u64, word: &[u8]) -> Result<u64, TextKind>
@@ -54,10 +55,10 @@ fn node_command(settings: &Settings, op: Op, mut words: Words) -> Result<Command
 #[inline(always)]
 fn page_command(
     settings: &Settings,
-    call: WholePageCall,
+    call: PageCall,
     mut words: Words,
 ) -> Result<Command, TextKind>
-    ensures { result ≡ page_command (whole_page_op call) settings.now words.entry }
+    ensures { result ≡ page_command (page_op call) settings.now words.entry }
 {
     let (Some(node), Some(page), None) = (words.next(), words.next(), words.next()) else {
         return Err(TextKind::BadCount);
@@ -66,7 +67,7 @@ fn page_command(
     let page = number_up_to(u64::MAX, page)?;
     Ok(Command {
         node,
-        op: call.op(page),
+        op: Op::of_page(page, call),
     })
 }
 

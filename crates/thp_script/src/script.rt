@@ -1,7 +1,8 @@
 //! Scripts as values, and the words of their commands.
 ghost use Rattle.std.specs.Prelude.{◌≡◌, IfSome};
 ghost use Rattle.thp_script.specs.FastParsing.{FastCommand};
-ghost use Rattle.thp_script.specs.Operands.{batch_op, range_op, whole_page_op, Names};
+ghost use Rattle.thp_script.specs.Operands.{batch_op, range_op, Names};
+ghost use Rattle.thp_script.specs.PageCommands.{operand, page_call_of, page_op};
 
 use crate::fast_parsing::{
     parse_batch_command_fast, parse_node_command_fast, parse_page_command_fast,
@@ -11,6 +12,7 @@ use crate::fast_words::after_name;
 use crate::fault::TextKind;
 use crate::sequence::Sequence;
 use crate::settings::Settings;
+use thp_model::{Gain, Loss, PageCall};
 
 /// A call on a node, with its operands.
 #[derive(Clone, Copy, Debug, PartialEq, Eq)]
@@ -49,28 +51,80 @@ pub enum Op {
     PutBack,
 }
 
-/// The calls on a whole page.
-#[derive(Clone, Copy)]
-pub(crate) enum WholePageCall {
-    Map,
-    Unmap,
-    SplitPmd,
-    Pin,
-    Unpin,
+impl Op {
+    /// Returns the page and the call of a command about one page.
+    #[inline(always)]
+    pub fn page_call(self) -> Option<(u64, PageCall)>
+        ensures { result ≡ page_call_of self }
+    {
+        let (page, call) = match self {
+            Op::MapWhole { page } => (page, PageCall::Gain(Gain::MapWhole)),
+            Op::UnmapWhole { page } => (page, PageCall::Loss(Loss::UnmapWhole)),
+            Op::Map { first, count, page } => {
+                let (first, count) = (u32::from(first), u32::from(count));
+                (page, PageCall::Gain(Gain::MapSub { first, count }))
+            }
+            Op::Unmap { first, count, page } => {
+                let (first, count) = (u32::from(first), u32::from(count));
+                (page, PageCall::Loss(Loss::UnmapSub { first, count }))
+            }
+            Op::Write { first, count, page } => {
+                let (first, count) = (u32::from(first), u32::from(count));
+                (page, PageCall::Gain(Gain::Write { first, count }))
+            }
+            Op::Zero { first, count, page } => {
+                let (first, count) = (u32::from(first), u32::from(count));
+                (page, PageCall::Gain(Gain::Zero { first, count }))
+            }
+            Op::SplitPmd { page } => (page, PageCall::Gain(Gain::SplitPmd)),
+            Op::Pin { page } => (page, PageCall::Gain(Gain::Pin)),
+            Op::Unpin { page } => (page, PageCall::Loss(Loss::Unpin)),
+            _ => return None,
+        };
+        Some((page, call))
+    }
+
+    /// Returns the command of a call about one page. Operands above 65,535 become 65,535: no page has so many subpages, so the
+    /// call has the same refusal.
+    #[inline(always)]
+    pub fn of_page(page: u64, call: PageCall) -> Op
+        ensures { result ≡ page_op call page }
+    {
+        match call {
+            PageCall::Gain(Gain::MapWhole) => Op::MapWhole { page },
+            PageCall::Gain(Gain::MapSub { first, count }) => {
+                let (first, count) = (operand(first), operand(count));
+                Op::Map { first, count, page }
+            }
+            PageCall::Gain(Gain::SplitPmd) => Op::SplitPmd { page },
+            PageCall::Gain(Gain::Pin) => Op::Pin { page },
+            PageCall::Gain(Gain::Write { first, count }) => {
+                let (first, count) = (operand(first), operand(count));
+                Op::Write { first, count, page }
+            }
+            PageCall::Gain(Gain::Zero { first, count }) => {
+                let (first, count) = (operand(first), operand(count));
+                Op::Zero { first, count, page }
+            }
+            PageCall::Loss(Loss::UnmapWhole) => Op::UnmapWhole { page },
+            PageCall::Loss(Loss::UnmapSub { first, count }) => {
+                let (first, count) = (operand(first), operand(count));
+                Op::Unmap { first, count, page }
+            }
+            PageCall::Loss(Loss::Unpin) => Op::Unpin { page },
+        }
+    }
 }
 
-impl WholePageCall {
-    #[inline(always)]
-    pub(crate) fn op(self, page: u64) -> Op
-        ensures { result ≡ whole_page_op self page }
-    {
-        match self {
-            WholePageCall::Map => Op::MapWhole { page },
-            WholePageCall::Unmap => Op::UnmapWhole { page },
-            WholePageCall::SplitPmd => Op::SplitPmd { page },
-            WholePageCall::Pin => Op::Pin { page },
-            WholePageCall::Unpin => Op::Unpin { page },
-        }
+// A number of subpages as an operand of a command.
+#[inline(always)]
+fn operand(number: u32) -> u16
+    ensures { result ≡ operand number }
+{
+    if number < 65535 {
+        number as u16
+    } else {
+        u16::MAX
     }
 }
 
@@ -122,7 +176,7 @@ pub(crate) enum CommandWord {
     /// `NODE`
     OfNode(Op),
     /// `NODE PAGE`
-    OfPage(WholePageCall),
+    OfPage(PageCall),
     /// `NODE PAGE FIRST COUNT`
     OfRange(RangeCall),
     /// `NODE COUNT`
@@ -136,13 +190,13 @@ pub(crate) fn command_word(name: &[u8]) -> Result<CommandWord, TextKind>
 {
     match name {
         b"alloc" => Ok(CommandWord::OfNode(Op::Alloc)),
-        b"mapwhole" => Ok(CommandWord::OfPage(WholePageCall::Map)),
-        b"unmapwhole" => Ok(CommandWord::OfPage(WholePageCall::Unmap)),
+        b"mapwhole" => Ok(CommandWord::OfPage(PageCall::Gain(Gain::MapWhole))),
+        b"unmapwhole" => Ok(CommandWord::OfPage(PageCall::Loss(Loss::UnmapWhole))),
         b"map" => Ok(CommandWord::OfRange(RangeCall::Map)),
         b"unmap" => Ok(CommandWord::OfRange(RangeCall::Unmap)),
-        b"splitpmd" => Ok(CommandWord::OfPage(WholePageCall::SplitPmd)),
-        b"pin" => Ok(CommandWord::OfPage(WholePageCall::Pin)),
-        b"unpin" => Ok(CommandWord::OfPage(WholePageCall::Unpin)),
+        b"splitpmd" => Ok(CommandWord::OfPage(PageCall::Gain(Gain::SplitPmd))),
+        b"pin" => Ok(CommandWord::OfPage(PageCall::Gain(Gain::Pin))),
+        b"unpin" => Ok(CommandWord::OfPage(PageCall::Loss(Loss::Unpin))),
         b"write" => Ok(CommandWord::OfRange(RangeCall::Write)),
         b"zero" => Ok(CommandWord::OfRange(RangeCall::Zero)),
         b"close" => Ok(CommandWord::OfNode(Op::Close)),
@@ -163,7 +217,7 @@ fn parse_map_fast<'t>(settings: &Settings, text: &'t [u8]) -> Option<(Command, &
         return parse_range_command_fast(settings, RangeCall::Map, operands);
     }
     let operands = after_name(b"mapwhole", text)?;
-    parse_page_command_fast(settings, WholePageCall::Map, operands)
+    parse_page_command_fast(settings, PageCall::Gain(Gain::MapWhole), operands)
 }
 
 #[inline(always)]
@@ -174,10 +228,10 @@ fn parse_unmap_fast<'t>(settings: &Settings, text: &'t [u8]) -> Option<(Command,
         return parse_range_command_fast(settings, RangeCall::Unmap, operands);
     }
     if let Some(operands) = after_name(b"unpin", text) {
-        return parse_page_command_fast(settings, WholePageCall::Unpin, operands);
+        return parse_page_command_fast(settings, PageCall::Loss(Loss::Unpin), operands);
     }
     let operands = after_name(b"unmapwhole", text)?;
-    parse_page_command_fast(settings, WholePageCall::Unmap, operands)
+    parse_page_command_fast(settings, PageCall::Loss(Loss::UnmapWhole), operands)
 }
 
 #[inline(always)]
@@ -185,7 +239,7 @@ fn parse_split_or_scan_fast<'t>(settings: &Settings, text: &'t [u8]) -> Option<(
     ensures { IfSome result (λ read. FastCommand settings.now text.now read.0 read.1.now) }
 {
     if let Some(operands) = after_name(b"splitpmd", text) {
-        return parse_page_command_fast(settings, WholePageCall::SplitPmd, operands);
+        return parse_page_command_fast(settings, PageCall::Gain(Gain::SplitPmd), operands);
     }
     if let Some(operands) = after_name(b"scan", text) {
         return parse_batch_command_fast(settings, BatchCall::Scan, operands);
@@ -202,7 +256,7 @@ fn parse_pin_or_put_back_fast<'t>(
     ensures { IfSome result (λ read. FastCommand settings.now text.now read.0 read.1.now) }
 {
     if let Some(operands) = after_name(b"pin", text) {
-        return parse_page_command_fast(settings, WholePageCall::Pin, operands);
+        return parse_page_command_fast(settings, PageCall::Gain(Gain::Pin), operands);
     }
     let operands = after_name(b"putback", text)?;
     parse_node_command_fast(settings, Op::PutBack, operands)

@@ -9,7 +9,7 @@ use crate::reply::Reply;
 use std::alloc::AllocError;
 use std::hint::spin_loop;
 use thp_cell::CellFault;
-use thp_model::{Gain, Loss, PageCall, Refusal};
+use thp_model::{PageCall, Refusal};
 use thp_script::Op;
 
 /// A call of a node that involves no batch.
@@ -30,23 +30,14 @@ pub(crate) enum NodeCall {
 pub(crate) fn node_call(op: Op) -> NodeCall
     ensures { result ≡ node_call_of op }
 {
-    let (page, call) = match op {
-        Op::Alloc => return NodeCall::Alloc,
-        Op::MapWhole { page } => (page, PageCall::Gain(Gain::MapWhole)),
-        Op::UnmapWhole { page } => (page, PageCall::Loss(Loss::UnmapWhole)),
-        Op::Map { first, count, page } => (page, PageCall::Gain(Gain::MapSub { first, count })),
-        Op::Unmap { first, count, page } => {
-            (page, PageCall::Loss(Loss::UnmapSub { first, count }))
-        }
-        Op::Write { first, count, page } => (page, PageCall::Gain(Gain::Write { first, count })),
-        Op::Zero { first, count, page } => (page, PageCall::Gain(Gain::Zero { first, count })),
-        Op::SplitPmd { page } => (page, PageCall::Gain(Gain::SplitPmd)),
-        Op::Pin { page } => (page, PageCall::Gain(Gain::Pin)),
-        Op::Unpin { page } => (page, PageCall::Loss(Loss::Unpin)),
-        Op::Close => return NodeCall::Close,
-        _ => return NodeCall::Count,
-    };
-    NodeCall::Page(page, call)
+    match op {
+        Op::Alloc => NodeCall::Alloc,
+        Op::Close => NodeCall::Close,
+        _ => match op.page_call() {
+            Some((page, call)) => NodeCall::Page(page, call),
+            None => NodeCall::Count,
+        },
+    }
 }
 
 /// One call of a node: one that involves no batch, or one of the three about a batch.

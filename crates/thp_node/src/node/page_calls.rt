@@ -1,6 +1,6 @@
 //! The calls about one page: its mappings, its pins, and writes to it.
-ghost use Rattle.std.specs.Prelude.{◌≡◌, ℕ, ◌<◌, ◌≤◌, [], ◌∷◌, None, Some, IfOk, IfErr, OnOk, min};
-ghost use Rattle.thp_model.specs.Prelude.{max_callers, max_order, by, outcome, released, refusal, gain_call, loss_call, page_call, gain_what, loss_what};
+ghost use Rattle.std.specs.Prelude.{◌≡◌, ℕ, ◌<◌, ◌≤◌, [], ◌∷◌, None, Some, IfOk, IfErr, OnOk};
+ghost use Rattle.thp_model.specs.Prelude.{max_callers, by, outcome, released, refusal, gain_call, loss_call, page_call, gain_what, loss_what};
 ghost use Rattle.thp_model.specs.Refusals as call;
 ghost use Rattle.thp_node.specs.Batches.{FrontsStay};
 ghost use Rattle.thp_node.specs.Calls.{Did, Refused};
@@ -10,7 +10,7 @@ ghost use Rattle.thp_live_pages.specs.Prelude.{block_of};
 use crate::journal::EventContext;
 use crate::node::Node;
 use crate::recorder::Recorder;
-use thp_model::{Done, Gain, Loss, PageCall, PageId, Refusal, What, narrowed};
+use thp_model::{Done, Gain, Loss, PageCall, PageId, Refusal, What};
 
 impl<R: Recorder> Node<R> {
     /// Maps the whole page once more, by a PMD entry. Fails with `NoPage`, `IsSplit`, `TooMany` or `OutOfMemory`.
@@ -52,7 +52,6 @@ impl<R: Recorder> Node<R> {
         ensures refused { IfErr result (Refused self.old self.new (refusal self.old.shape self.old.journal (call.map_sub page first count)) 1) }
         ensures fronts { FrontsStay self.old.journal self.new.journal }
     {
-        let (first, count) = self.operands(first, count);
         self.gain(caller, page, Gain::MapSub { first, count })
     }
 
@@ -76,7 +75,6 @@ impl<R: Recorder> Node<R> {
         ensures refused { IfErr result (Refused self.old self.new (refusal self.old.shape self.old.journal (call.unmap_sub page first count)) 1) }
         ensures fronts { FrontsStay self.old.journal self.new.journal }
     {
-        let (first, count) = self.operands(first, count);
         self.lose(caller, page, Loss::UnmapSub { first, count })
     }
 
@@ -131,7 +129,6 @@ impl<R: Recorder> Node<R> {
         ensures refused { IfErr result (Refused self.old self.new (refusal self.old.shape self.old.journal (call.write page first count)) 1) }
         ensures fronts { FrontsStay self.old.journal self.new.journal }
     {
-        let (first, count) = self.operands(first, count);
         self.gain(caller, page, Gain::Write { first, count })
     }
 
@@ -144,7 +141,6 @@ impl<R: Recorder> Node<R> {
         ensures refused { IfErr result (Refused self.old self.new (refusal self.old.shape self.old.journal (call.zero_fill page first count)) 1) }
         ensures fronts { FrontsStay self.old.journal self.new.journal }
     {
-        let (first, count) = self.operands(first, count);
         self.gain(caller, page, Gain::Zero { first, count })
     }
 
@@ -189,18 +185,6 @@ impl<R: Recorder> Node<R> {
         };
         self.journal.record_loss(caller, page, loss, &done, left);
         Ok(done)
-    }
-
-    // Converts the operands of a range to those of a page call.
-    #[inline(always)]
-    fn operands(&self, first: u32, count: u32) -> (u16, u16)
-        ensures first { result.0 ≡ min first 65535 }
-        ensures count { result.1 ≡ min count 65535 }
-        ensures low { self.now.shape.order ≤ max_order }
-    {
-        // Shows the proof the greatest order of the pages.
-        let _ = self.shape();
-        (narrowed(first), narrowed(count))
     }
 
     // The block of a page, after reserving room in the journal for an event. If there is no room, a refusal by the page is

@@ -1,12 +1,12 @@
 //! The calls of a page, as a value and by name, with the tests that refuse them.
-ghost use Rattle.std.specs.Prelude.{◌≡◌, ℕ, ◌+◌, ◌≤◌, min, OnOk, OnErr, IfOk, None};
+ghost use Rattle.std.specs.Prelude.{◌≡◌, ℕ, ◌+◌, ◌≤◌, OnOk, OnErr, IfOk, None};
 ghost use Rattle.std.specs.Result.{result_err};
-ghost use Rattle.thp_model.specs.Prelude.{max_subpages, size, page_refusal, WholeMapped, WholeUnmapped, RangeMapped, RangeUnmapped, PmdSplit, RangeWritten, RangeZeroed, gain_call, Gains, loss_call, Loses, page_call};
+ghost use Rattle.thp_model.specs.Prelude.{max_subpages, page_refusal, WholeMapped, WholeUnmapped, RangeMapped, RangeUnmapped, PmdSplit, RangeWritten, RangeZeroed, gain_call, Gains, loss_call, Loses, page_call};
 ghost use Rattle.thp_model.specs.Pages.{Pinned};
 ghost use Rattle.thp_model.specs.Refusals as call;
 
 use super::{Change, Page};
-use thp_model::{Gain, Loss, PageCall, Refusal, SubSet, narrowed};
+use thp_model::{Gain, Loss, PageCall, Refusal, SubSet};
 
 impl Page {
     ghost use Rattle.thp_page.specs.Changes.{IsChange};
@@ -136,25 +136,21 @@ impl Page {
     }
 
     /// Maps each of the `count` subpages from `first` on once more, by PTE entries. Fails with `BadRange`, `Gone` or `TooMany`.
-    #[tactic(auto, using(thp_model::proofs::Narrowing::page_map_sub))]
     pub fn map_sub(&mut self, first: u32, count: u32) -> Result<(), Refusal>
         ensures refusal { (p : ℕ) → result_err result ≡ page_refusal self.old (call.map_sub p first count) }
         ensures counts { OnOk result (RangeMapped first count self.old self.new) }
         ensures kept { OnErr result (self.new ≡ self.old) }
     {
-        let (first, count) = self.operands(first, count);
         self.gain(Gain::MapSub { first, count })
     }
 
     /// Removes one mapping of each of the `count` subpages from `first` on. Fails with `BadRange` or `NotMapped`.
-    #[tactic(auto, using(thp_model::proofs::Narrowing::page_unmap_sub))]
     pub fn unmap_sub(&mut self, first: u32, count: u32) -> Result<Change, Refusal>
         ensures refusal { (p : ℕ) → result_err result ≡ page_refusal self.old (call.unmap_sub p first count) }
         ensures counts { OnOk result (RangeUnmapped first count self.old self.new) }
         ensures change { IfOk result (IsChange self.old self.new) }
         ensures kept { OnErr result (self.new ≡ self.old) }
     {
-        let (first, count) = self.operands(first, count);
         let mut change = Change::none();
         self.lose(Loss::UnmapSub { first, count }, &mut change)?;
         Ok(change)
@@ -190,58 +186,42 @@ impl Page {
 
     /// Records that data is written to each of the `count` subpages from `first` on: none of them is zero-filled afterwards.
     /// Fails with `BadRange`, `IsSplit` or `NotMapped`.
-    #[tactic(auto, using(thp_model::proofs::Narrowing::page_write))]
     pub fn write(&mut self, first: u32, count: u32) -> Result<(), Refusal>
         ensures refusal { (p : ℕ) → result_err result ≡ page_refusal self.old (call.write p first count) }
         ensures written { OnOk result (RangeWritten first count self.old self.new) }
         ensures kept { OnErr result (self.new ≡ self.old) }
     {
-        let (first, count) = self.operands(first, count);
         self.gain(Gain::Write { first, count })
     }
 
     /// Records that zeros are written to each of the `count` subpages from `first` on: all of them are zero-filled afterwards.
     /// Fails with `BadRange`, `IsSplit` or `NotMapped`.
-    #[tactic(auto, using(thp_model::proofs::Narrowing::page_zero))]
     pub fn zero(&mut self, first: u32, count: u32) -> Result<(), Refusal>
         ensures refusal { (p : ℕ) → result_err result ≡ page_refusal self.old (call.zero_fill p first count) }
         ensures zeroed { OnOk result (RangeZeroed first count self.old self.new) }
         ensures kept { OnErr result (self.new ≡ self.old) }
     {
-        let (first, count) = self.operands(first, count);
         self.gain(Gain::Zero { first, count })
     }
 
     // Takes a range, which may be written, from the zero-filled subpages.
-    fn remove_zeros(&mut self, first: u16, count: u16)
+    fn remove_zeros(&mut self, first: u32, count: u32)
         requires inside { first + count ≤ max_subpages }
         requires allowed { page_refusal self.old (call.write 0 first count) ≡ None }
         ensures { RangeWritten first count self.old self.new }
     {
-        let range = SubSet::range(first as u32, count as u32);
+        let range = SubSet::range(first, count);
         self.zero = self.zero.difference(range);
     }
 
     // Adds a range, which may be written, to the zero-filled subpages.
-    fn add_zeros(&mut self, first: u16, count: u16)
+    fn add_zeros(&mut self, first: u32, count: u32)
         requires inside { first + count ≤ max_subpages }
         requires allowed { page_refusal self.old (call.write 0 first count) ≡ None }
         ensures { RangeZeroed first count self.old self.new }
     {
-        let range = SubSet::range(first as u32, count as u32);
+        let range = SubSet::range(first, count);
         self.zero = self.zero.union(range);
-    }
-
-    // Converts the operands of a range to those of a page call.
-    #[inline(always)]
-    fn operands(&self, first: u32, count: u32) -> (u16, u16)
-        ensures first { result.0 ≡ min first 65535 }
-        ensures count { result.1 ≡ min count 65535 }
-        ensures few { size self.now ≤ max_subpages }
-    {
-        // Shows the proof the greatest number of the page's subpages.
-        let _ = self.subpages();
-        (narrowed(first), narrowed(count))
     }
 
     // Fails with the reason why `map_whole` would be refused.
@@ -276,7 +256,7 @@ impl Page {
     // Fails with the reason why `map_sub` would be refused.
     #[tactic(auto, unfolding(thp_model::specs::Pages::page_refusal))]
     #[inline(always)]
-    fn check_map_sub(&self, first: u16, count: u16) -> Result<(), Refusal>
+    fn check_map_sub(&self, first: u32, count: u32) -> Result<(), Refusal>
         ensures { (p : ℕ) → result_err result ≡ page_refusal self.now (call.map_sub p first count) }
     {
         if self.is_bad_range(first, count) {
@@ -295,7 +275,7 @@ impl Page {
     // Fails with the reason why `unmap_sub` would be refused.
     #[tactic(auto, unfolding(thp_model::specs::Pages::page_refusal))]
     #[inline(always)]
-    fn check_unmap_sub(&self, first: u16, count: u16) -> Result<(), Refusal>
+    fn check_unmap_sub(&self, first: u32, count: u32) -> Result<(), Refusal>
         ensures { (p : ℕ) → result_err result ≡ page_refusal self.now (call.unmap_sub p first count) }
     {
         if self.is_bad_range(first, count) {
@@ -339,7 +319,7 @@ impl Page {
 
     // Fails with the reason why `write` and `zero` would be refused.
     #[tactic(auto, unfolding(thp_model::specs::Pages::page_refusal))]
-    fn check_write(&self, first: u16, count: u16) -> Result<(), Refusal>
+    fn check_write(&self, first: u32, count: u32) -> Result<(), Refusal>
         ensures data { (p : ℕ) → result_err result ≡ page_refusal self.now (call.write p first count) }
         ensures zeros { (p : ℕ) → result_err result ≡ page_refusal self.now (call.zero_fill p first count) }
         ensures inside { OnOk result (first + count ≤ max_subpages) }
