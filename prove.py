@@ -10,9 +10,9 @@ proves the crate again from scratch.
 
 `rt` proves one library after the other, and allows only one run in a crate and the crates below it. This program therefore
 runs `rt lib` for each library in a folder of its own, with the built libraries that it uses next to it, and then moves the
-result to the tree, where the next `rt` finds it. Each gets a process for each processor, since none can use all of them all the time.
-The library with the longest chain of remaining work goes first, and the others run at a lower priority. Libraries that are already
-proved are left alone: `rt` itself checks them at the end.
+result to the tree, where the next `rt` finds it. A library with the longest chain of remaining work, or nearly so, gets a process for
+each processor. Each of the others gets one, at a lower priority: several processes take a fifth more processor time. Libraries that
+are already proved are left alone: `rt` itself checks them at the end.
 
 The line in which `rt` reports that a crate is proved, its verdict line, is stored in the crate's out/, with the sum of the sources
 that it is for, and the hashes of what was built from them (`verdict`). Where `rt` takes a proof from another checkout, the line of
@@ -49,6 +49,9 @@ PARTS = ("src", "specs", "proofs")
 
 AT_ONCE, EACH = 4, 5
 """The greatest number of concurrent proofs, and the free memory in GiB that each needs."""
+
+NEAR = 0.8
+"""A chain of remaining work with this part of the longest one's lines counts as nearly as long."""
 
 ENDING = threading.Event()
 """Set when the run must end because a library is not proved."""
@@ -232,13 +235,13 @@ def hand_in(made: Path, name: str) -> None:
         os.close(folder)
 
 
-def prove(name: str, is_first: bool, started: list[subprocess.Popen[str]]) -> str | None:
-    """Proves a library, at a lower priority if it is not first. Returns the output of `rt` if it is not proved."""
+def prove(name: str, is_urgent: bool, started: list[subprocess.Popen[str]]) -> str | None:
+    """Proves a library, by one process at a lower priority if it is not urgent. Returns the output of `rt` if it is not proved."""
     began, before = time.monotonic(), sources(name)
     with tempfile.TemporaryDirectory(prefix="thp-prove-") as top:
         set_up(Path(top), name)
         home = Path(top) / "crates" / name
-        words = [*([] if is_first else ["nice"]), "rt", "lib", "--jobs", str(processors())]
+        words = [*([] if is_urgent else ["nice"]), "rt", "lib", "--jobs", str(processors() if is_urgent else 1)]
         child = subprocess.Popen(words, cwd=home, text=True, errors="replace", stdin=subprocess.DEVNULL,
                                  stdout=subprocess.PIPE, stderr=subprocess.STDOUT)
         started.append(child)
@@ -304,8 +307,8 @@ def prove_all(target: str, most: int, started: list[subprocess.Popen[str]]) -> b
             missing = {*left, *running.values()}
             ready = [it for it in left if not missing & {*below(it)}]
             for name in ready[: most - len(running)]:
-                is_first = behind[name] == max(behind[it] for it in missing)
-                running[pool.submit(prove, name, is_first, started)] = name
+                is_urgent = behind[name] >= NEAR * max(behind[it] for it in missing)
+                running[pool.submit(prove, name, is_urgent, started)] = name
                 left.remove(name)
             for ended in wait(running, return_when=FIRST_COMPLETED).done:
                 name, said = running.pop(ended), ended.result()
