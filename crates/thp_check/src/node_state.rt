@@ -357,13 +357,19 @@ fn is_told(done: &Done, what: &What) -> bool
 {
     match what {
         What::UnmapWhole {
-            outcome, released, ..
+            outcome,
+            released,
+            ..
         }
         | What::UnmapSub {
-            outcome, released, ..
+            outcome,
+            released,
+            ..
         }
         | What::Unpin {
-            outcome, released, ..
+            outcome,
+            released,
+            ..
         } => done.outcome == *outcome && done.released == *released,
         _ => false,
     }

@@ -1,5 +1,5 @@
 -- The same request, at histories that are equal but for their blocks, has one answer.
-use Rattle.std.proofs.Common.{◌≡◌, ℕ, ◌+◌, ◌-◌, ◌<◌, Bool, true, false, cond, not, ◌&&◌, ◌||◌, List, [], ◌∷◌, ◌++◌, Some, refl, ap, sym, ◌∙◌, subst, arith, nat_eq, nat_lt, slice_get}
+use Rattle.std.proofs.Common.{◌≡◌, ℕ, ◌-◌, ◌<◌, Bool, true, false, cond, not, ◌&&◌, ◌||◌, List, [], ◌∷◌, ◌++◌, Some, refl, ap, sym, ◌∙◌, subst, arith, nat_eq, nat_lt, slice_get}
 use Rattle.thp_model.specs.Prelude.{Event, Outcome, Freed, Queued, Stays, What, Shape, with_block, SameButBlocks, maps, unmaps, pins_page, unpins_page, allocates, frees, splits, total, pins, is_held, released, outcome, History, by, count_of, some_event, FitsBy, Gives, is_dropped, asked, subpages, shrinks_underused, zeroes, writes, is_zero_filled, is_worth_split}
 use Rattle.thp_model.specs.declared.events.What.TheVariants.{Alloc, MapWhole, UnmapWhole, MapSub, UnmapSub, SplitPmd, Pin, Unpin, Write, Zero, Taken, Split, Used, Back, Dropped, Close}
 use Rattle.thp_model.specs.declared.events.What.TheVariants.{Pinned}

@@ -1,5 +1,5 @@
 -- While the switch is off each page that stands is partly mapped, so none is found in use or split as underused.
-use Rattle.std.proofs.Common.{◌≡◌, ℕ, ◌+◌, ◌-◌, ◌<◌, ◌≤◌, Bool, true, false, cond, not, ◌&&◌, ◌||◌, [], ◌∷◌, ◌++◌, Some, take, refl, ap, sym, ◌∙◌, arith, nat_eq, nat_lt, eq-eqb, inl, inr, ◌⊎◌, slice_get}
+use Rattle.std.proofs.Common.{◌≡◌, ℕ, ◌+◌, ◌<◌, ◌≤◌, Bool, true, false, cond, not, ◌&&◌, ◌||◌, [], ◌∷◌, ◌++◌, Some, take, refl, ap, sym, ◌∙◌, arith, nat_eq, nat_lt, eq-eqb, inl, inr, ◌⊎◌, slice_get}
 use Rattle.std.proofs.lemmas.Bool.Decides.{eqb_tells, nat_tests}
 use Rattle.thp_model.specs.Prelude.{Event, Outcome, Freed, Queued, Stays, What, Shape, thp_underused_split_page, splits_underused, maps, unmaps, is_mapped, loses_use, outcome, History, by, IsLegal, Fits, FitsBy, queue, queue_after, queue_by, flights, flights_after, flights_by, flight, stands, has_page, shrinks_underused, unmaps_some, unmaps_part, is_partly_mapped, finds_used}
 use Rattle.thp_model.specs.declared.events.What.TheVariants.{Alloc, UnmapWhole, UnmapSub, Unpin, Taken, Split, Used, Back, Dropped}

@@ -1,5 +1,5 @@
 -- Tries of pages in flight, one at a time: each is split, or stays in its flight where it has pins.
-use Rattle.std.proofs.Common.{◌≡◌, ℕ, ◌-◌, ◌≤◌, Bool, true, false, cond, not, ◌||◌, List, [], ◌∷◌, ◌++◌, map, refl, ap, ap₂, sym, ◌∙◌, subst, arith, nat_eq, nat_lt, eq-eqb, eqb-true, append_assoc, filter}
+use Rattle.std.proofs.Common.{◌≡◌, ℕ, ◌≤◌, Bool, true, false, cond, not, ◌||◌, List, [], ◌∷◌, ◌++◌, map, refl, ap, ap₂, sym, ◌∙◌, subst, arith, nat_eq, nat_lt, eq-eqb, eqb-true, append_assoc, filter}
 use Rattle.std.proofs.lemmas.Bool.{eqb-false}
 use Rattle.std.proofs.lemmas.Bool.Decides.{nat_tests}
 use Rattle.thp_model.specs.Prelude.{Event, Shape, History, by, is_live, is_split, is_closed, closes, queue, flight, has_page, without, released, IsLegal, Fits, is_dropped, unused, try_event, is_pinned, unmaps_some, is_worth_split}

@@ -123,7 +123,10 @@ impl What {
                 (page, PageCall::Gain(Gain::MapSub { first, count }))
             }
             What::UnmapSub {
-                page, first, count, ..
+                page,
+                first,
+                count,
+                ..
             } => (page, PageCall::Loss(Loss::UnmapSub { first, count })),
             What::SplitPmd { page } => (page, PageCall::Gain(Gain::SplitPmd)),
             What::Pin { page } => (page, PageCall::Gain(Gain::Pin)),
@@ -131,7 +134,9 @@ impl What {
             What::Write { page, first, count } => {
                 (page, PageCall::Gain(Gain::Write { first, count }))
             }
-            What::Zero { page, first, count } => (page, PageCall::Gain(Gain::Zero { first, count })),
+            What::Zero { page, first, count } => {
+                (page, PageCall::Gain(Gain::Zero { first, count }))
+            }
             _ => return None,
         })
     }

@@ -6,7 +6,6 @@ use Rattle.thp_model.specs.Prelude.{History, by, is_closed, is_freed, flights, F
 use Rattle.thp_page.specs.Prelude.{Slot, slot_at}
 use Rattle.thp_model.specs.declared.page_call.Done.{Done}
 use Rattle.thp_model.specs.declared.page_call.Loss.{Loss}
-use Rattle.thp_model.specs.declared.page_call.Loss.TheVariants as loss
 use Rattle.thp_live_pages.specs.Prelude.{PageStoreState, IsNode, block_of, flier, Relinks}
 use Rattle.thp_node.specs.Prelude.{FreedFrom, LostChained, context_of}
 use Rattle.thp_live_pages.proofs.Admitting.{Found, at_home}

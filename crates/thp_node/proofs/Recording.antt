@@ -6,7 +6,6 @@ use Rattle.thp_model.specs.declared.events.Event.{Event}
 use Rattle.thp_model.specs.declared.events.What.{What}
 use Rattle.thp_model.specs.declared.events.Outcome.{Outcome}
 use Rattle.thp_model.specs.declared.page_call.Loss.{Loss}
-use Rattle.thp_model.specs.declared.page_call.Loss.TheVariants as loss
 use Rattle.thp_model.specs.Prelude.{loss_what, set_size, History, by, count_of, some_event, IsShape, is_alloc, closes, is_queued, splits_pmds, is_page_split, is_failed_try, queues, thp_split_pmd, splits_underused, thp_underused_split_page, given, frames_given, flights, flight, IsLegal, Fits}
 use Rattle.thp_model.specs.declared.shape.Shape.{Shape}
 use Rattle.thp_model.proofs.Kept.{frames_given_push, size_given}

@@ -53,11 +53,7 @@ fn node_command(settings: &Settings, op: Op, mut words: Words) -> Result<Command
 /// Parses a command on a page: `NODE PAGE`
 #[tactic(auto, unfolding(crate::specs::Commands::page_command))]
 #[inline(always)]
-fn page_command(
-    settings: &Settings,
-    call: PageCall,
-    mut words: Words,
-) -> Result<Command, TextKind>
+fn page_command(settings: &Settings, call: PageCall, mut words: Words) -> Result<Command, TextKind>
     ensures { result ≡ page_command (page_op call) settings.now words.entry }
 {
     let (Some(node), Some(page), None) = (words.next(), words.next(), words.next()) else {

@@ -9,17 +9,17 @@ returns-then-eq c = λ l p o set is.
     elim c.in-UnmapWhole.is [
       | inl w ↦ ap outcome_in w.1
       | inr rest ↦ elim rest [
-          | inl w ↦ ap outcome_in w.3
-          | inr w ↦ ap outcome_in w.1
-        ]
+        | inl w ↦ ap outcome_in w.3
+        | inr w ↦ ap outcome_in w.1
+      ]
     ] in
     let frames : frames_in c.args.what.now ≡ c.in-UnmapWhole.released =
     elim c.in-UnmapWhole.is [
       | inl w ↦ ap frames_in w.1
       | inr rest ↦ elim rest [
-          | inl w ↦ ap frames_in w.3
-          | inr w ↦ ap frames_in w.1
-        ]
+        | inl w ↦ ap frames_in w.3
+        | inr w ↦ ap frames_in w.1
+      ]
     ] in
     let told = told_by l p o set in
     let o_is : c.in-UnmapWhole.outcome ≡ o = sym outcome ∙ ap outcome_in is ∙ told.0 in
