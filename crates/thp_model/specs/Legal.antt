@@ -13,8 +13,7 @@ use Rattle.thp_model.specs.Refusals.{refusal, refusal_of}
 use Rattle.thp_model.specs.Underused.{is_partly_mapped, is_worth_split}
 use Rattle.thp_model.specs.Refusals as call
 
--- the call of an event of page p is not refused at h, and the event contains its outcome and the set of frames that it gives
--- back; k is h with the event
+-- an event of page p at h contains its outcome and the set of frames that it gives back; k is h with the event
 pub record Gives (s : Shape) (h k : History) (p : ℕ) (o : Outcome) (set : List Bool) : Type 0 where
   pub outcome_is : o ≡ outcome s h k p
   pub set_is : set ≡ released s h k p
