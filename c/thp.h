@@ -4,7 +4,7 @@
  *
  * For programmers who call the library from C or C++. A node is a set of huge pages, their deferred split queue, and the journal
  * of every call that changed them. The effect of each call on a node is proved (crates/thp_capi, in the terms of
- * crates/thp_model). docs/C.md lists for each call what is proved and what the program must guarantee. This header and thp.c are
+ * crates/thp_history). docs/C.md lists for each call what is proved and what the program must guarantee. This header and thp.c are
  * not proved: they are written manually, and tests compare them with the proved functions.
  *
  * On x86-64 the library needs a processor of the level x86-64-v2 (POPCNT, SSE4.2); an older one ends the program with SIGILL. On

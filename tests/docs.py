@@ -336,7 +336,7 @@ CONSTANT = re.compile(r"pub const (M(?:AX|IN)_[A-Z]+): \w+ = ([^;]+);")
 def limits() -> dict[str, int]:
     """Each limit of the code by its name."""
     found = {"usize::MAX": 2**64 - 1}
-    for name in ("thp_model/src/limits.rt", "thp_model/src/shape.rt", "thp_script/src/limits.rt", "thp_worker/src/limits.rt"):
+    for name in ("thp_history/src/limits.rt", "thp_history/src/shape.rt", "thp_script/src/limits.rt", "thp_worker/src/limits.rt"):
         for limit, value in CONSTANT.findall((ROOT / "crates" / name).read_text()):
             known, _, less = value.replace("_", "").partition(" - ") if value[0].isdigit() else value.partition(" - ")
             found[limit] = (int(known) if known.isdigit() else found[known]) - int(less or 0)

@@ -225,7 +225,7 @@ def descriptions_agree() -> str | None:
 
 def limits_differ(page: str) -> list[str]:
     """The limits that have another number in the header than in the model or the manual page."""
-    sources = [ROOT / "crates" / name for name in ("thp_model/src/limits.rt", "thp_model/src/shape.rt", "thp_script/src/limits.rt")]
+    sources = [ROOT / "crates" / name for name in ("thp_history/src/limits.rt", "thp_history/src/shape.rt", "thp_script/src/limits.rt")]
     consts = re.findall(r"pub const (\w+): \w+ = ([\d_]+);", "".join(path.read_text() for path in sources))
     limits = {name.replace("INPUT", "TEXT"): int(number) for name, number in consts}
     defined = re.findall(r"#define THP_(M(?:AX|IN)_\w+) (\d+)", (C / "thp.h").read_text())

@@ -19,11 +19,11 @@ ROOT = Path(__file__).resolve().parent.parent.parent
 PICTURE = ROOT / "docs/pictures/layers.svg"
 
 COLUMNS = {
-    0: ["thpsplit", "thp_run", "thp_worker", "thp_cell", "thp_node", "thp_live_pages", "thp_page", "thp_model"],
+    0: ["thpsplit", "thp_run", "thp_worker", "thp_cell", "thp_node", "thp_live_pages", "thp_page", "thp_history"],
     1: ["thpcheck", "thp_cli", "thp_metrics", "thp_script", "thp_links"],
     2: ["thpdraw", "thp_journal_tools", "thp_journal_scripts", "thp_journal_reader", "thp_check", "thp_journal_writer"],
     3: ["thp_laws", "thp_c", "thp_capi"],
-    4: ["thp_drawing"],
+    4: ["thp_drawing", "thp_model"],
 }
 """The crates of each column. Their rows follow from crates.txt."""
 

@@ -4,7 +4,7 @@ ghost use Rattle.thp_cell.specs.Prelude.{HasAll};
 
 use std::alloc::Global;
 use thp_cell::{NodeCell, Pass};
-use thp_model::Shape;
+use thp_history::Shape;
 use thp_node::Node;
 
 /// A node with room for every worker's page.

@@ -7,7 +7,7 @@ mod one_page;
 use anyhow::Result;
 use std::mem::size_of;
 use std::time::CpuClock;
-use thp_model::{Event, What};
+use thp_history::{Event, What};
 use thp_page::Page;
 
 // The least number of blocks that is measured, and the greatest number of a node.

@@ -1,15 +1,15 @@
 //! Conclusions that callers can draw from the contracts of a cell without proofs of their own.
 ghost use Rattle.std.specs.Prelude.{◌≡◌, ◌≤◌, ◌++◌, true, false, [], ◌∷◌, Err, IfOk, OnOk};
-ghost use Rattle.thp_model.specs.Prelude.{by, shrinks_underused};
+ghost use Rattle.thp_history.specs.Prelude.{by, shrinks_underused};
 ghost use Rattle.thp_cell.specs.Prelude.{HasCaller, HasAll};
 
 use thp_cell::{CellFault, NodeCell, Pass};
-use thp_model::{PageId, What};
+use thp_history::{PageId, What};
 use thp_node::BackReply;
 
 /// Allocates the first page of a new cell by the pass that has all callers, and returns the number of queued pages then: the page
 /// is queued if the shrinker looks for underused pages. No call is busy.
-#[tactic(auto, unfolding(thp_model::specs::History::count_of, thp_model::specs::Places::queue))]
+#[tactic(auto, unfolding(thp_history::specs::History::count_of, thp_history::specs::Places::queue))]
 pub fn first_page(cell: &NodeCell, pass: &mut Pass, caller: u32) -> Result<(PageId, u32), CellFault>
     requires cell { pass.old.cell ≡ cell.now }
     requires caller { HasCaller pass.old caller }

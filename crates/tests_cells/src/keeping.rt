@@ -2,7 +2,7 @@
 use crate::steps::{Step, cell_of, event_count, expect_steps, node_of_two};
 use std::process::Abort;
 use tests_steps::{Answer, Call};
-use thp_model::Refusal;
+use thp_history::Refusal;
 
 const CLOSED: Answer = Answer::Refused(Refusal::Closed);
 

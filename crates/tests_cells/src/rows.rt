@@ -9,7 +9,7 @@ use std::alloc::Global;
 use std::process::Abort;
 use tests_steps::{Answer, Call, FREED, QUEUED, STAYS, shape_of};
 use thp_cell::{Busy, Hold, NodeCell, Pass};
-use thp_model::{Event, PageId, Refusal};
+use thp_history::{Event, PageId, Refusal};
 use thp_node::{NewFault, Node};
 
 // Takes the node for a hold, which nobody has.

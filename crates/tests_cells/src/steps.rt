@@ -8,7 +8,7 @@ use std::alloc::Global;
 use std::process::Abort;
 use tests_steps::{Answer, Call, QUEUED, done, outcome, shape_of};
 use thp_cell::{Busy, CellFault, NodeCell, Pass};
-use thp_model::{Event, PageId, Refusal, Shape, What};
+use thp_history::{Event, PageId, Refusal, Shape, What};
 use thp_node::{BackReply, Batch, Done, Node, ScanReply, Tried};
 
 // A cell over a node of this shape, and the pass that has all its callers.

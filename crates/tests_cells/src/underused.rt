@@ -3,7 +3,7 @@ use crate::steps::{Step, event_count, has_frames, node_of_one};
 use std::alloc::Global;
 use std::process::Abort;
 use tests_steps::{Answer, Call, QUEUED, STAYS};
-use thp_model::{Event, Outcome, PageId, Refusal, Shape, What};
+use thp_history::{Event, Outcome, PageId, Refusal, Shape, What};
 use thp_node::Node;
 
 // The node after these steps of its only caller. Its shrinker splits pages of which more than one subpage is zero-filled.

@@ -1,5 +1,5 @@
 //! Events as constants, so that a history is a table. Pages are plain numbers, since a constant can lend no `PageId`.
-use thp_model::{Event, Outcome, PageId, SubSet, What};
+use thp_history::{Event, Outcome, PageId, SubSet, What};
 
 pub(crate) const ZERO: u64 = 0;
 

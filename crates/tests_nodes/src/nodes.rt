@@ -5,7 +5,7 @@ ghost use Rattle.thp_node.specs.Prelude.{FrontsStay};
 use std::alloc::Global;
 use std::process::Abort;
 use tests_steps::{Answer, Call, first_wrong, queued_node, queueing, shape_of};
-use thp_model::Shape;
+use thp_history::Shape;
 use thp_node::{Node, ScanReply};
 
 // A node of order 9 with these blocks.

@@ -4,7 +4,7 @@ use crate::nodes::{event_count, node_of};
 use std::alloc::Global;
 use std::process::Abort;
 use tests_steps::{Answer, Call, QUEUED, first_wrong, shape_of};
-use thp_model::Refusal;
+use thp_history::Refusal;
 use thp_node::{CountOnly, Node, Recorder};
 
 const PAGE: u64 = 0;

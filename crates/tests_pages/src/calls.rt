@@ -1,6 +1,6 @@
 //! Calls on one page as values, so that a row is a table of calls and results.
 use std::process::Abort;
-use thp_model::{Refusal, SubSet};
+use thp_history::{Refusal, SubSet};
 use thp_page::{Change, Page};
 
 // A call on a page.

@@ -3,7 +3,7 @@ ghost use Rattle.std.specs.Prelude.{◌+◌, ◌≤◌};
 
 use crate::calls::{Answer, Call, change, expect, repeat};
 use std::process::Abort;
-use thp_model::{Refusal, SubSet};
+use thp_history::{Refusal, SubSet};
 use thp_page::{Change, Page};
 
 // Maps a range as often as possible, one mapping after the other, and unmaps it again.

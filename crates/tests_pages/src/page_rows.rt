@@ -3,7 +3,7 @@ ghost use Rattle.std.specs.Prelude.{◌≡◌, ◌≤◌};
 
 use crate::calls::{Answer, Call, change, expect, repeat};
 use std::process::Abort;
-use thp_model::{Refusal, SubSet};
+use thp_history::{Refusal, SubSet};
 use thp_page::{Change, Page};
 
 fn counts_at_their_limit_at(rt: &impl Abort, order: u32)
@@ -224,7 +224,7 @@ fn pinned_page_is_freed_by_unpin_at_order_2(rt: HostRuntime) {
 }
 
 // Each subpage of a new page is in use, and is unmapped one by one until none is.
-#[tactic(auto, unfolding(thp_model::specs::Pages::size))]
+#[tactic(auto, unfolding(thp_history::specs::Pages::size))]
 #[test]
 fn subpages_go_out_of_use_one_by_one(rt: HostRuntime) {
     let mut page = Page::fresh(2);

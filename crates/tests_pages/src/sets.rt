@@ -1,6 +1,6 @@
 //! Sets of subpages and shapes, with values counted manually.
 use std::process::Abort;
-use thp_model::{Shape, SubSet};
+use thp_history::{Shape, SubSet};
 
 // The sets of each row are the same.
 fn expect_same(rt: &impl Abort, rows: &[(SubSet, SubSet)]) {

@@ -1,14 +1,14 @@
 //! The table of page descriptors in the hands of callers, by its calls and by its links.
 ghost use Rattle.std.specs.Prelude.{◌≡◌, ◌<◌, ℕ, ◌+◌, length, IsSome, OnOk, OnErr, Some, None};
-ghost use Rattle.thp_model.specs.Prelude.{PageState};
-ghost use Rattle.thp_model.specs.Pages.{Pinned};
+ghost use Rattle.thp_history.specs.Prelude.{PageState};
+ghost use Rattle.thp_history.specs.Pages.{Pinned};
 ghost use Rattle.thp_page.specs.Prelude.{Slot, slot_at, with_slot, fresh_slot};
 
 use crate::counting::calls_counted;
 use std::process::Abort;
 use std::test::Fail;
+use thp_history::{PageId, Refusal};
 use thp_links::{Link, LinkTable, NIL};
-use thp_model::{PageId, Refusal};
 use thp_page::{PageTable, Standing};
 
 // The pins of the page of a block.

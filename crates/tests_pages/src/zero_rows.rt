@@ -1,7 +1,7 @@
 //! Worked rows on zero-filled subpages, of pages of order 2 unless stated otherwise.
 use crate::calls::{Answer, Call, change, expect};
 use std::process::Abort;
-use thp_model::{Refusal, SubSet};
+use thp_history::{Refusal, SubSet};
 use thp_page::{Change, Page};
 
 // A change after which no subpage is in use, with what it gave back.

@@ -1,7 +1,7 @@
 -- What is done on nodes that count as shared is done on the nodes.
 use Rattle.std.proofs.Common.{◌≡◌, ℕ, ◌+◌, ap, arith, inl, inr, Bool, List, [], Option, Some, None, Result, Ok, Err, refl}
-use Rattle.thp_model.specs.declared.events.Event.{Event}
-use Rattle.thp_model.specs.declared.refusal.Refusal.TheVariants.{OutOfMemory}
+use Rattle.thp_history.specs.declared.events.Event.{Event}
+use Rattle.thp_history.specs.declared.refusal.Refusal.TheVariants.{OutOfMemory}
 use Rattle.thp_cell.specs.declared.fault.CellFault.{CellFault}
 use Rattle.thp_cell.specs.declared.fault.CellFault.TheVariants.{Busy, Refused}
 use Rattle.thp_script.specs.declared.script.Command.{Command}

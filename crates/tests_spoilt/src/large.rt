@@ -1,9 +1,9 @@
 //! Histories larger than any limit that a node or the check could have invented, beyond the size of an input.
 use std::alloc::Global;
 use thp_check::{CheckFault, Replay, check};
+use thp_history::{Event, Outcome, PageId, Shape, SubSet, What};
 use thp_journal_reader::LeastBlocks;
 use thp_live_pages::PageStore;
-use thp_model::{Event, Outcome, PageId, Shape, SubSet, What};
 use thp_node::Node;
 
 const SHAPE: Shape = Shape {

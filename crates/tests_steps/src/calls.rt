@@ -4,7 +4,7 @@ ghost use Rattle.std.specs.Prelude.{◌<◌};
 ghost use Rattle.thp_node.specs.Prelude.{FrontsStay};
 
 use std::alloc::Global;
-use thp_model::{Outcome, PageId, Refusal, Shape, SubSet};
+use thp_history::{Outcome, PageId, Refusal, Shape, SubSet};
 use thp_node::{Done, Node, Recorder, ScanReply};
 
 /// A call about a page or about the node.

@@ -3,8 +3,8 @@ ghost use Rattle.std.specs.Prelude.{◌≤◌};
 
 use std::alloc::Global;
 use std::process::Abort;
+use thp_history::{Event, Outcome, PageId, Shape, SubSet, What};
 use thp_journal_reader::LeastBlocks;
-use thp_model::{Event, Outcome, PageId, Shape, SubSet, What};
 
 const LAST: u64 = u64::MAX;
 

@@ -11,7 +11,7 @@ use thp_capi::{
     CheckStage, Fault, Room, ThpCheck, begin_check, code, judge, put_text, read_on, reason_text,
     verdict_code,
 };
-use thp_model::Refusal;
+use thp_history::Refusal;
 
 /// Checks whether the journals in a text are legal. Returns 0 if they are, 21 for an illegal event, 22 to 29 for an error of that
 /// kind in the text, and 11 if memory can't be allocated. `line` is the line of the first illegal event or error, otherwise 0.

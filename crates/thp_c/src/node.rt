@@ -1,7 +1,7 @@
 //! The calls of a node.
 ghost use Rattle.std.specs.Prelude.{◌≡◌, ◌∷◌, [], Ok, Err, OnErr, length};
-ghost use Rattle.thp_model.specs.Prelude.{queue};
-ghost use Rattle.thp_model.specs.Refusals as call;
+ghost use Rattle.thp_history.specs.Prelude.{queue};
+ghost use Rattle.thp_history.specs.Refusals as call;
 ghost use Rattle.thp_capi.specs.Calls.{OneCall, AllocCall, ScanCall, TakeCall, NextCall, BackCall, AbandonCall, ReserveCall, Written};
 ghost use Rattle.thp_capi.specs.Codes.{answer_of, answer_with, IsCode};
 ghost use Rattle.thp_capi.specs.Engines.{shape_of};
@@ -14,7 +14,7 @@ use thp_capi::{
     Events, Fault, Held, ThpBack, ThpNode, ThpScan, ThpStats, ThpTried, code, on_node, put_text,
     report,
 };
-use thp_model::{Refusal, What};
+use thp_history::{Refusal, What};
 
 /// Creates a node and fills the handle with it. The greatest number as the threshold turns the search for
 /// underused pages off.

@@ -6,7 +6,7 @@ ghost use Rattle.thp_capi.specs.Reading.{MapcountCall, PageCall, QueueCall};
 
 use std::alloc::Global;
 use thp_capi::{Fault, Held, ThpNode, ThpPageState, code, on_node, report};
-use thp_model::PageId;
+use thp_history::PageId;
 
 /// Stores the state of a live page in `state`.
 #[unsafe(no_mangle)]

@@ -1,6 +1,6 @@
 //! The calls about one page, exported: of a node, and of a pass of a shared node.
 ghost use Rattle.std.specs.Prelude.{◌≡◌, OnErr};
-ghost use Rattle.thp_model.specs.Refusals as call;
+ghost use Rattle.thp_history.specs.Refusals as call;
 ghost use Rattle.thp_capi.specs.Calls.{LoseCall, OneCall};
 ghost use Rattle.thp_capi.specs.Codes.{answer_of, answer_with, IsCode};
 ghost use Rattle.thp_capi.specs.Held.{Does};
@@ -9,7 +9,7 @@ ghost use Rattle.thp_capi.specs.Passes.{PassOne, PassLost};
 
 use std::alloc::Global;
 use thp_capi::{ThpDone, ThpNode, ThpPass};
-use thp_model::{Gain, Loss, What};
+use thp_history::{Gain, Loss, What};
 
 /// Maps the whole page once more, by a PMD entry.
 #[unsafe(no_mangle)]

@@ -1,6 +1,6 @@
 //! The calls of a shared node: of its cell, and of passes of the cell.
 ghost use Rattle.std.specs.Prelude.{◌≡◌, None, OnOk, OnErr, IfErr, Ok};
-ghost use Rattle.thp_model.specs.Refusals as call;
+ghost use Rattle.thp_history.specs.Refusals as call;
 ghost use Rattle.thp_capi.specs.Codes.{answer_of, answer_with, IsCode};
 ghost use Rattle.thp_capi.specs.Engines.{shape_of};
 ghost use Rattle.thp_capi.specs.Held.{Does, Emptied};
@@ -11,7 +11,7 @@ use std::alloc::Global;
 use thp_capi::{
     Events, Fault, Room, ThpNode, ThpPass, ThpScan, code, on_pass, report, spare_engine,
 };
-use thp_model::{Refusal, What};
+use thp_history::{Refusal, What};
 
 /// Creates a shared node for `callers` callers, and fills the handle with the pass of all of them. `mark` distinguishes passes of
 /// this cell from those of others.

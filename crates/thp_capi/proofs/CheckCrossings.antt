@@ -17,7 +17,7 @@ use Rattle.thp_check.specs.contracts.flights.Flights as Flights
 use Rattle.thp_check.specs.contracts.flights.Flights.TheInside as in_flights
 use Rattle.thp_links.specs.contracts.link_vec.LinkVec as LinkVec
 use Rattle.thp_links.specs.contracts.link_vec.LinkVec.TheInside as in_links
-use Rattle.thp_model.specs.contracts.events.Event as Event
+use Rattle.thp_history.specs.contracts.events.Event as Event
 use Rattle.thp_check.specs.contracts.node_state.NodeState as NodeState
 use Rattle.thp_check.proofs.tally.Tally.TheSendSync as tally
 use Rattle.thp_check.specs.contracts.replay.Replay as Replay

@@ -15,9 +15,9 @@ use Rattle.std.proofs.Common.{Option, None, Some, [], ◌∷◌}
 use Rattle.std.proofs.Crossing.{crosses, frees}
 use Rattle.std.proofs.option.Option.TheSendSync as option
 use Rattle.std_alloc.proofs.SendSync.{lies, quiet}
-use Rattle.thp_model.specs.contracts.events.Event as Event
-use Rattle.thp_model.specs.contracts.trace.Trace as Trace
-use Rattle.thp_model.specs.contracts.trace.Trace.TheInside as in_trace
+use Rattle.thp_history.specs.contracts.events.Event as Event
+use Rattle.thp_history.specs.contracts.trace.Trace as Trace
+use Rattle.thp_history.specs.contracts.trace.Trace.TheInside as in_trace
 use Rattle.thp_node.specs.contracts.recorder.FullLogRecorder.TheImpl as keeps
 use Rattle.thp_node.specs.contracts.recorder.CountOnly as CountOnly
 use Rattle.thp_node.specs.contracts.recorder.CountOnly.TheInside as in_counted

@@ -2,7 +2,7 @@
 use Rattle.std.proofs.Common.{◌≡◌, ◌≢◌, ℕ, ◌+◌, ◌*◌, ◌/◌, ◌%◌, ◌<◌, Bool, List, length, set, get_or, ap, ◌∙◌, arith, nat_eq, get_or-set_same, get_or-set_other}
 use Rattle.std.specs.Int.{bit_at}
 use Rattle.std.proofs.lemmas.Bool.Decides.{eqb_tells}
-use Rattle.thp_model.specs.Prelude.{has, in_words}
+use Rattle.thp_history.specs.Prelude.{has, in_words}
 
 -- the first k words are those of the set
 abbrev pub MasksBelow : ℕ → List ℕ → List Bool → Type 0

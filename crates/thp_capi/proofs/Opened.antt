@@ -4,7 +4,7 @@ use Rattle.std.proofs.lemmas.Bool.Decides.{nat_tests}
 use Rattle.std.proofs.lemmas.List.{set-set, length-take, length-set, get_or-take, get_or-drop, get_or-set_same, get_or-set_other, get_or_append_left, get_or-append-add}
 use Rattle.atomic_table.specs.Seated.{TableId}
 use Rattle.thp_node.specs.Prelude.{BatchState, IsInFront, rest}
-use Rattle.thp_model.specs.Prelude.{put_back_events, split_next_events}
+use Rattle.thp_history.specs.Prelude.{put_back_events, split_next_events}
 use Rattle.thp_cell.specs.Prelude.{at_front, BatchesStay, OtherBatchesStay, Called, Failed, IsJoined, below, from, DidPutBack, DidTry, PassState, HasCaller}
 use Rattle.thp_cell.specs.declared.fault.CellFault.{CellFault}
 use Rattle.thp_capi.specs.PassBatches.{PassNext, PassBack, PassFailsOnBatch, fault_in}

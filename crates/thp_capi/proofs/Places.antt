@@ -2,8 +2,8 @@
 use Rattle.std.proofs.Common.{◌≡◌, ◌∙◌, ◌≢◌, ◌+◌, ◌<◌, ◌==◌, ap, ℕ, Bool, true, false, List, length, refl, sym, subst, arith, Option, Some, None, set, get_or, unwrap_or}
 use Rattle.std.proofs.lemmas.Bool.{eqb-true, eqb-false}
 use Rattle.std.proofs.lemmas.List.{length-set, get_or-set_same, get_or-set_other, set-get_or}
-use Rattle.thp_model.specs.declared.refusal.Refusal.{Refusal}
-use Rattle.thp_model.specs.Prelude.{History, put_back_events}
+use Rattle.thp_history.specs.declared.refusal.Refusal.{Refusal}
+use Rattle.thp_history.specs.Prelude.{History, put_back_events}
 use Rattle.thp_node.specs.Prelude.{BatchState, IsInFront, FrontsStay, OtherFrontsStay, Refused, NodeState}
 use Rattle.thp_capi.specs.Calls.{BackFails}
 use Rattle.thp_capi.specs.Engines.{IsEngine}

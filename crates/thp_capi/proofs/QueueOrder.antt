@@ -2,17 +2,17 @@
 use Rattle.std.proofs.Common.{◌≡◌, ◌∙◌, ℕ, ◌+◌, ◌-◌, ◌<◌, ◌≤◌, Bool, true, false, cond, not, ◌||◌, List, [], ◌∷◌, ◌++◌, Some, None, length, take, drop, get_or, refl, ap, sym, subst, arith, nat_eq, eq-eqb, eqb-true, filter}
 use Rattle.std.proofs.lemmas.List.{take_more, take_all, length-take}
 use Rattle.std.proofs.lemmas.List.Elements.{filter-append}
-use Rattle.thp_model.specs.declared.events.Event.{Event}
-use Rattle.thp_model.specs.declared.events.Outcome.{Outcome}
-use Rattle.thp_model.specs.declared.events.What.{What}
-use Rattle.thp_model.specs.declared.shape.Shape.{Shape}
-use Rattle.thp_model.specs.Prelude.{History, IsLegal, queue, queue_after, queue_by, has_page, without}
-use Rattle.thp_model.proofs.Bools.{by_bool, or_first, or_second}
-use Rattle.thp_model.proofs.LegalSteps.{legal_take}
-use Rattle.thp_model.proofs.ListPlaces.{append_none}
-use Rattle.thp_model.proofs.OnePlace.{once_queued, has_times, hasnt_times, filter_in}
-use Rattle.thp_model.proofs.Pushes.{queue_push}
-use Rattle.thp_model.proofs.Standing.{times, times-cons, times_push, times-filter, times-without}
+use Rattle.thp_history.specs.declared.events.Event.{Event}
+use Rattle.thp_history.specs.declared.events.Outcome.{Outcome}
+use Rattle.thp_history.specs.declared.events.What.{What}
+use Rattle.thp_history.specs.declared.shape.Shape.{Shape}
+use Rattle.thp_history.specs.Prelude.{History, IsLegal, queue, queue_after, queue_by, has_page, without}
+use Rattle.thp_history.proofs.Bools.{by_bool, or_first, or_second}
+use Rattle.thp_history.proofs.LegalSteps.{legal_take}
+use Rattle.thp_history.proofs.ListPlaces.{append_none}
+use Rattle.thp_history.proofs.OnePlace.{once_queued, has_times, hasnt_times, filter_in}
+use Rattle.thp_history.proofs.Pushes.{queue_push}
+use Rattle.thp_history.proofs.Standing.{times, times-cons, times_push, times-filter, times-without}
 use Rattle.thp_capi.specs.Joining.{joins, joins_by}
 
 -- ---- the pages of a list that are in another one

@@ -2,12 +2,12 @@
 use Rattle.std.proofs.Common.{◌≡◌, ◌∙◌, ℕ, zero, suc, ◌+◌, ◌-◌, ◌<◌, ◌≤◌, Bool, true, false, not, ◌||◌, List, [], ◌∷◌, ◌++◌, Option, Some, None, length, take, drop, set, get_or, replicate, refl, ap, sym, subst, arith, nat_eq, eqb-true, inl, inr}
 use Rattle.std.proofs.lemmas.Bool.Decides.{eqb_tells}
 use Rattle.std.proofs.lemmas.List.{take_more, take_all, length-set, get_or-set_same, get_or-set_other, take-append-drop, drop_more, length-replicate}
-use Rattle.thp_model.specs.declared.events.Event.{Event}
-use Rattle.thp_model.specs.declared.shape.Shape.{Shape}
-use Rattle.thp_model.specs.Prelude.{History, IsLegal, queue, has_page}
-use Rattle.thp_model.proofs.Bools.{by_bool}
-use Rattle.thp_model.proofs.OnePlace.{once_queued, not_before}
-use Rattle.thp_model.proofs.Standing.{times}
+use Rattle.thp_history.specs.declared.events.Event.{Event}
+use Rattle.thp_history.specs.declared.shape.Shape.{Shape}
+use Rattle.thp_history.specs.Prelude.{History, IsLegal, queue, has_page}
+use Rattle.thp_history.proofs.Bools.{by_bool}
+use Rattle.thp_history.proofs.OnePlace.{once_queued, not_before}
+use Rattle.thp_history.proofs.Standing.{times}
 use Rattle.thp_live_pages.specs.Prelude.{block_of}
 use Rattle.thp_live_pages.proofs.Homing.{legal_homed}
 use Rattle.thp_node.specs.Prelude.{NodeState}

@@ -1,9 +1,9 @@
 -- What a node's table reports of a page is what the journal determines.
 use Rattle.std.proofs.Common.{◌≡◌, ◌∙◌, ℕ, true, false, Option, Some, None, ap, sym, subst, refl, IfSome}
 use Rattle.std.specs.Int.{from_bool}
-use Rattle.thp_model.specs.Prelude.{is_live, is_split, pins, whole, PageState, Tallies, has_page, queue, stands, is_partly_mapped}
-use Rattle.thp_model.proofs.Bools.{by_bool, or_first}
-use Rattle.thp_model.proofs.Tallying.{pins_is, whole_is}
+use Rattle.thp_history.specs.Prelude.{is_live, is_split, pins, whole, PageState, Tallies, has_page, queue, stands, is_partly_mapped}
+use Rattle.thp_history.proofs.Bools.{by_bool, or_first}
+use Rattle.thp_history.proofs.Tallying.{pins_is, whole_is}
 use Rattle.thp_page.specs.declared.standing.Standing.{Standing}
 use Rattle.thp_page.specs.declared.standing.Standing.TheVariants.{Queued}
 use Rattle.thp_page.specs.Prelude.{slot_at, page_in, HoldsPage, Slot, Table}

@@ -1,6 +1,6 @@
 -- The meaning of the number that a call returns.
 use Rattle.std.specs.Prelude.{ℕ, ◌<◌, ◌≤◌, ◌+◌, ◌-◌, ◌⊎◌, zero, suc, List, [], ◌∷◌, length, nat_le, if◌then◌else◌, Result, Ok, Err, ⊤}
-use Rattle.thp_model.specs.declared.refusal.Refusal.TheVariants.{NoPage, BadRange, IsSplit, NotMapped, Gone, NotPinned, TooMany, Closed, NoBlock, HasBatch, OutOfMemory}
+use Rattle.thp_history.specs.declared.refusal.Refusal.TheVariants.{NoPage, BadRange, IsSplit, NotMapped, Gone, NotPinned, TooMany, Closed, NoBlock, HasBatch, OutOfMemory}
 use Rattle.thp_capi.specs.declared.codes.Fault.{Fault}
 use Rattle.thp_capi.specs.declared.codes.Fault.TheVariants.{Refused, Empty, InUse, BadCaller, BadSize, BadCount, NoBatch, BatchOpen, TooSmall, Busy, BadPass, Finished, NoReason, NoJournal}
 

@@ -1,7 +1,7 @@
 -- The view that contracts have of the engine of a node's handle.
 use Rattle.std.specs.Prelude.{◌≡◌, ◌≢◌, ℕ, List, Option, None, Some, length, get_or, if◌then◌else◌, nat_eq}
-use Rattle.thp_model.specs.declared.shape.Shape.{Shape}
-use Rattle.thp_model.specs.Prelude.{max_callers}
+use Rattle.thp_history.specs.declared.shape.Shape.{Shape}
+use Rattle.thp_history.specs.Prelude.{max_callers}
 use Rattle.thp_node.specs.Prelude.{BatchState, NodeState}
 use Rattle.thp_capi.specs.OpenBatches.{EachOpen}
 

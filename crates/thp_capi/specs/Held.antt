@@ -1,8 +1,8 @@
 -- What the handle of a node or of a pass holds, and the effect of the calls on it.
 use Rattle.std.specs.Prelude.{◌≡◌, ◌⊎◌, [], Option, None, Some, Ok, Err}
-use Rattle.thp_model.specs.declared.refusal.Refusal.TheVariants.{OutOfMemory}
-use Rattle.thp_model.specs.declared.shape.Shape.{Shape}
-use Rattle.thp_model.specs.Prelude.{IsShape}
+use Rattle.thp_history.specs.declared.refusal.Refusal.TheVariants.{OutOfMemory}
+use Rattle.thp_history.specs.declared.shape.Shape.{Shape}
+use Rattle.thp_history.specs.Prelude.{IsShape}
 use Rattle.thp_capi.specs.Codes.{Answer}
 use Rattle.thp_capi.specs.Engines.{EngineState, NoneOpen}
 use Rattle.thp_capi.specs.Sharing.{SharedState}

@@ -5,7 +5,7 @@ use Rattle.thp_journal_reader.specs.declared.illegal.Illegal.{Illegal}
 use Rattle.thp_script.specs.declared.fault.TextFault.{TextFault}
 use Rattle.thp_journal_reader.specs.declared.journals.Journals.{Journals}
 use Rattle.thp_journal_reader.specs.Prelude.{ReportsFirst, journals_within, ReadSoFar, told_with}
-use Rattle.thp_model.specs.declared.refusal.Refusal.TheVariants.{OutOfMemory}
+use Rattle.thp_history.specs.declared.refusal.Refusal.TheVariants.{OutOfMemory}
 use Rattle.thp_script.specs.Prelude.{max_counted, Text}
 use Rattle.thp_capi.specs.Calls.{Written}
 use Rattle.thp_capi.specs.Checks.{text_code}

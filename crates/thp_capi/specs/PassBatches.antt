@@ -1,6 +1,6 @@
 -- The effect of the calls about open batches on the pass of a handle.
 use Rattle.std.specs.Prelude.{◌≡◌, ℕ, ◌≤◌, None, IsSome, IfSome, Result, OnOk, IfOk, IfErr, length}
-use Rattle.thp_model.specs.Prelude.{refusal, take as take_call, take_events, split_next_events, put_back_events}
+use Rattle.thp_history.specs.Prelude.{refusal, take as take_call, take_events, split_next_events, put_back_events}
 use Rattle.thp_node.specs.Prelude.{BatchState, rest}
 use Rattle.thp_cell.specs.declared.fault.CellFault.{CellFault}
 use Rattle.thp_cell.specs.declared.fault.CellFault.TheVariants as cell_fault

@@ -1,12 +1,12 @@
 -- The view that contracts have of the pass of a handle, and the effect of the calls on it.
 use Rattle.std.specs.Prelude.{◌≡◌, ℕ, ◌<◌, ◌≤◌, ◌⊎◌, ◌*◌, [], List, Bool, false, length, ⊤, Option, None, Some, IsSome, IfSome, Result, OnOk, IfOk, IfErr}
-use Rattle.thp_model.specs.declared.events.Outcome.{Outcome}
-use Rattle.thp_model.specs.declared.events.What.{What}
-use Rattle.thp_model.specs.declared.page_call.Done.{Done}
-use Rattle.thp_model.specs.declared.refusal.Refusal.{Refusal}
-use Rattle.thp_model.specs.declared.refusal.Refusal.TheVariants.{OutOfMemory}
-use Rattle.thp_model.specs.declared.shape.Shape.{Shape}
-use Rattle.thp_model.specs.Prelude.{max_batch, max_callers, queue, Call, refusal, alloc_page, scan, take_events, IsShape}
+use Rattle.thp_history.specs.declared.events.Outcome.{Outcome}
+use Rattle.thp_history.specs.declared.events.What.{What}
+use Rattle.thp_history.specs.declared.page_call.Done.{Done}
+use Rattle.thp_history.specs.declared.refusal.Refusal.{Refusal}
+use Rattle.thp_history.specs.declared.refusal.Refusal.TheVariants.{OutOfMemory}
+use Rattle.thp_history.specs.declared.shape.Shape.{Shape}
+use Rattle.thp_history.specs.Prelude.{max_batch, max_callers, queue, Call, refusal, alloc_page, scan, take_events, IsShape}
 use Rattle.thp_cell.specs.Prelude.{Called, Follows, IsBusy, IsRefused, IsJoined, below, from, DidOne, DidAlloc, DidLose, DidScan, PassState, HasCaller, HasAll}
 use Rattle.thp_capi.specs.Codes.{Answer}
 use Rattle.thp_capi.specs.Engines.{EngineState, NoneOpen}

@@ -1,8 +1,8 @@
 -- What the calls that read a node report of its pages and its queue. They change nothing.
 use Rattle.std.specs.Prelude.{◌≡◌, ℕ, ◌≤◌, ◌<◌, true, false, List, ◌++◌, drop, length, take, Result, Ok, OnOk, IfOk, IfErr}
 use Rattle.std.specs.Int.{from_bool}
-use Rattle.thp_model.specs.declared.refusal.Refusal.TheVariants.{NoPage, BadRange}
-use Rattle.thp_model.specs.Prelude.{is_live, is_split, own, pins, whole, queue, subpages, is_partly_mapped}
+use Rattle.thp_history.specs.declared.refusal.Refusal.TheVariants.{NoPage, BadRange}
+use Rattle.thp_history.specs.Prelude.{is_live, is_split, own, pins, whole, queue, subpages, is_partly_mapped}
 use Rattle.thp_page.specs.declared.standing.Standing.{Standing}
 use Rattle.thp_page.specs.declared.standing.Standing.TheVariants.{Nowhere, Queued, Batch}
 use Rattle.thp_live_pages.specs.Prelude.{standing_of}

@@ -1,8 +1,8 @@
 -- The meaning of the numbers that calls return in addition to their code.
 use Rattle.std.specs.Prelude.{◌≡◌, ℕ, ◌<◌, ◌≤◌, ◌-◌, ◌^◌, min, Bool, List, length, if◌then◌else◌, nat_eq}
-use Rattle.thp_model.specs.declared.events.Outcome.{Outcome}
-use Rattle.thp_model.specs.declared.events.Outcome.TheVariants.{Stays, Queued, Freed}
-use Rattle.thp_model.specs.Prelude.{allocations, frames_given, frames_held, max_subpages, queue, has, in_words}
+use Rattle.thp_history.specs.declared.events.Outcome.{Outcome}
+use Rattle.thp_history.specs.declared.events.Outcome.TheVariants.{Stays, Queued, Freed}
+use Rattle.thp_history.specs.Prelude.{allocations, frames_given, frames_held, max_subpages, queue, has, in_words}
 use Rattle.thp_node.specs.declared.answers.BackReply.{BackReply}
 use Rattle.thp_node.specs.declared.answers.ScanReply.{ScanReply}
 use Rattle.thp_node.specs.declared.answers.Tried.{Tried}

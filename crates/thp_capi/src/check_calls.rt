@@ -8,8 +8,8 @@ use crate::checks::code_of_kind;
 use crate::codes::Fault;
 use std::alloc::{AllocError, Global};
 use thp_check::put_explanation;
+use thp_history::Refusal;
 use thp_journal_reader::{Illegal, LongCheck};
-use thp_model::Refusal;
 use thp_script::TextFault;
 
 /// Begins a check, which has read nothing.

@@ -2,7 +2,7 @@
 ghost use Rattle.std.specs.Prelude.{◌≡◌, Err, OnErr};
 ghost use Rattle.thp_capi.specs.Codes.{answer_of, answer_with, IsCode};
 
-use thp_model::Refusal;
+use thp_history::Refusal;
 
 /// Why a call has no effect.
 #[derive(Clone, Copy, PartialEq, Eq, Debug)]

@@ -1,7 +1,7 @@
 //! The engine that a node's handle owns: a node, and the open batches of its callers.
 ghost use Rattle.std.specs.Prelude.{◌≡◌, ◌<◌, ◌≤◌, None, IsSome, IfSome, IfNone, IfOk, IfErr, OnOk, length};
-ghost use Rattle.thp_model.specs.Prelude.{gain_call, gain_what, loss_call, loss_what, queue};
-ghost use Rattle.thp_model.specs.Refusals as call;
+ghost use Rattle.thp_history.specs.Prelude.{gain_call, gain_what, loss_call, loss_what, queue};
+ghost use Rattle.thp_history.specs.Refusals as call;
 ghost use Rattle.thp_capi.specs.Calls.{OneCall, Allowed, Loses, ReportsOutcome, ReportsReleased, FailsAt, AllocCall, ScanCall, TakeCall, NextCall, BackReplies, BackRecords, BackFails, ReserveCall, AbandonCall};
 ghost use Rattle.thp_capi.specs.Engines.{NoneOpen, OthersOpen, open_of};
 ghost use Rattle.thp_capi.specs.Replies.{stats_of};
@@ -15,8 +15,8 @@ use crate::replies::{ThpBack, ThpScan, ThpTried};
 use crate::stats::{ThpStats, narrow};
 use std::alloc::{AllocError, Global};
 use std::marker::Model;
+use thp_history::{Done, Gain, Loss, MAX_BATCH, MAX_CALLERS, PageId, Shape, What};
 use thp_journal_writer::{NodeHistory, journal_text};
-use thp_model::{Done, Gain, Loss, MAX_BATCH, MAX_CALLERS, PageId, Shape, What};
 use thp_node::{Batch, FullLog, NewFault, Node, Recorder};
 
 // Asks the node for a call of this caller, if the number is a caller's, and converts what it returns.
@@ -52,7 +52,7 @@ impl<R: Recorder> Model for Engine<R> {
 
 impl<R: Recorder> Engine<R> {
     ghost use Rattle.std.specs.Prelude.{[], ◌∷◌, ◌↔◌, Err};
-    ghost use Rattle.thp_model.specs.Prelude.{IsShape};
+    ghost use Rattle.thp_history.specs.Prelude.{IsShape};
 
     /// Creates an engine of a node with no page.
     pub fn new(alloc: Global, shape: Shape) -> Result<Engine<R>, NewFault>

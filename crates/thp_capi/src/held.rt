@@ -1,13 +1,13 @@
 //! What the handles of nodes and of passes hold: a node's events are stored, or only counted.
 ghost use Rattle.std.specs.Prelude.{◌≡◌, ◌↔◌, [], Err, IfOk};
-ghost use Rattle.thp_model.specs.Prelude.{IsShape};
+ghost use Rattle.thp_history.specs.Prelude.{IsShape};
 ghost use Rattle.thp_capi.specs.Engines.{NoneOpen};
 ghost use Rattle.thp_capi.specs.Held.{events_in, held_value};
 
 use crate::engine::Engine;
 use crate::shared_pass::SharedPass;
 use std::alloc::Global;
-use thp_model::Shape;
+use thp_history::Shape;
 use thp_node::{CountOnly, FullLog, NewFault};
 
 /// What becomes of the events of a node.

@@ -10,7 +10,7 @@ use crate::engine::Engine;
 use crate::held::{Events, Held, HeldEngine, HeldPass};
 use crate::shared_pass::SharedPass;
 use std::alloc::Global;
-use thp_model::{Refusal, Shape};
+use thp_history::{Refusal, Shape};
 use thp_node::{CountOnly, FullLog, NewFault, Recorder};
 
 impl Held<SharedPass<FullLog>, SharedPass<CountOnly>> {

@@ -1,6 +1,6 @@
 //! What the calls of a node share, for C.
 ghost use Rattle.std.specs.Prelude.{◌≡◌, ◌++◌, ◌<◌, IfSome, OnOk, OnErr, IfErr, drop, length};
-ghost use Rattle.thp_model.specs.Prelude.{gain_call, gain_what, loss_call, loss_what};
+ghost use Rattle.thp_history.specs.Prelude.{gain_call, gain_what, loss_call, loss_what};
 ghost use Rattle.thp_capi.specs.Calls.{LoseCall, OneCall};
 ghost use Rattle.thp_capi.specs.Codes.{answer_of, answer_with, IsCode};
 ghost use Rattle.thp_capi.specs.Engines.{shape_of};
@@ -12,7 +12,7 @@ use crate::node_handle::ThpNode;
 use crate::on_node;
 use crate::replies::ThpDone;
 use std::alloc::Global;
-use thp_model::{Gain, Loss, PageId, Refusal, Shape};
+use thp_history::{Gain, Loss, PageId, Refusal, Shape};
 use thp_node::NewFault;
 
 /// Creates a node and fills the handle with it. The greatest number as the threshold turns the search for underused pages off.

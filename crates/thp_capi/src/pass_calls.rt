@@ -1,6 +1,6 @@
 //! What the calls of a shared node share, for C.
 ghost use Rattle.std.specs.Prelude.{◌≡◌, OnErr, IfSome};
-ghost use Rattle.thp_model.specs.Prelude.{gain_call, gain_what, loss_call, loss_what};
+ghost use Rattle.thp_history.specs.Prelude.{gain_call, gain_what, loss_call, loss_what};
 ghost use Rattle.thp_capi.specs.Codes.{answer_of, answer_with, IsCode};
 ghost use Rattle.thp_capi.specs.Engines.{NoneOpen, shape_of};
 ghost use Rattle.thp_capi.specs.Held.{Does, events_in, held_value};
@@ -15,7 +15,7 @@ use crate::pass_handle::ThpPass;
 use crate::replies::ThpDone;
 use crate::room::Room;
 use std::alloc::Global;
-use thp_model::{Gain, Loss, PageId, Refusal, Shape};
+use thp_history::{Gain, Loss, PageId, Refusal, Shape};
 use thp_node::NewFault;
 
 /// Creates a shared node for `callers` callers, and fills the handle with the pass of all of them. `mark` distinguishes passes of

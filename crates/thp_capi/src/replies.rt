@@ -2,7 +2,7 @@
 ghost use Rattle.std.specs.Prelude.{◌≡◌, ◌≤◌};
 ghost use Rattle.thp_capi.specs.Replies.{outcome_number, MasksSet, scan_of, tried_of, back_of};
 
-use thp_model::{Done, Outcome, PageId, SubSet};
+use thp_history::{Done, Outcome, PageId, SubSet};
 use thp_node::{BackReply, ScanReply, Tried};
 
 /// The effect of an unmap or an unpin on its page and frames.

@@ -1,7 +1,7 @@
 //! A pass with a share of its cell.
 ghost use Rattle.std.specs.Prelude.{◌≡◌, ◌≤◌, true, false, IfOk, IfErr, ◌⊎◌};
-ghost use Rattle.thp_model.specs.Prelude.{gain_call, gain_what, loss_call, loss_what, refusal};
-ghost use Rattle.thp_model.specs.Refusals as call;
+ghost use Rattle.thp_history.specs.Prelude.{gain_call, gain_what, loss_call, loss_what, refusal};
+ghost use Rattle.thp_history.specs.Refusals as call;
 ghost use Rattle.thp_cell.specs.Prelude.{Called, below, from, IsJoined, DidLose, HasCaller, HasAll};
 ghost use Rattle.thp_capi.specs.Passes.{PassOne, PassAlloc, PassFails, PassScan, PassCount, IsNewPass, IsCellSize, Divides, Adjoin};
 ghost use Rattle.thp_capi.specs.Sharing.{OnlyFront, IsPart, IsShut, HasOpen, OpenStay};
@@ -15,7 +15,7 @@ use std::alloc::Global;
 use std::marker::Model;
 use std::sync::Arc;
 use thp_cell::{CellFault, NodeCell, Pass};
-use thp_model::{Done, Gain, Loss, MAX_BATCH, PageId, Refusal, Shape, What};
+use thp_history::{Done, Gain, Loss, MAX_BATCH, PageId, Refusal, Shape, What};
 use thp_node::{Batch, NewFault, Node, Recorder};
 
 // Asks the cell for a call of this caller, if it is one of the pass's, and converts what it returns.

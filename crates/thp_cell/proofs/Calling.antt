@@ -1,11 +1,11 @@
 -- One call of the node within a hold.
 use Rattle.std.proofs.Common.{◌≡◌, ◌⊎◌, inl, inr, ⊎_elim, arith, ℕ, ◌<◌, ◌≤◌, Bool, true, List, [], ◌∷◌, ◌++◌, refl, sym, ap, ◌∙◌, subst, Option, Some, None, Result, IfOk, IfErr, append-nil}
 use Rattle.std.proofs.lemmas.List.Elements.{All-append, All-weaker}
-use Rattle.thp_model.specs.declared.events.Event.{Event}
-use Rattle.thp_model.specs.declared.refusal.Refusal.{Refusal}
-use Rattle.thp_model.specs.declared.refusal.Refusal.TheVariants.{OutOfMemory}
-use Rattle.thp_model.specs.declared.shape.Shape.{Shape}
-use Rattle.thp_model.specs.Prelude.{History, events_of, IsLegal}
+use Rattle.thp_history.specs.declared.events.Event.{Event}
+use Rattle.thp_history.specs.declared.refusal.Refusal.{Refusal}
+use Rattle.thp_history.specs.declared.refusal.Refusal.TheVariants.{OutOfMemory}
+use Rattle.thp_history.specs.declared.shape.Shape.{Shape}
+use Rattle.thp_history.specs.Prelude.{History, events_of, IsLegal}
 use Rattle.thp_node.specs.Prelude.{BatchState, IsInFront, NodeState, Did, DidAlloc, Refused}
 use Rattle.thp_cell.specs.Prelude.{AllBelow, Since, Adds, Place, pass_state, known_state, HasTaken, IsKept, PassState, HasCaller, part, at_front, Called, Follows, IsRefused}
 use Rattle.atomic_table.specs.Table.{rest}

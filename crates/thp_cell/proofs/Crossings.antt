@@ -13,7 +13,7 @@ use Rattle.thp_page.specs.contracts.page_table.PageTable as PageTable
 use Rattle.thp_page.specs.contracts.page_table.PageTable.TheInside as in_table
 use Rattle.thp_live_pages.specs.contracts.page_store.PageStore
 use Rattle.thp_live_pages.specs.contracts.page_store.PageStore.TheInside as in_places
-use Rattle.thp_model.proofs.events.Event.TheSendSync as event
+use Rattle.thp_history.proofs.events.Event.TheSendSync as event
 use Rattle.thp_node.specs.declared.recorder.Recorder.{Ghosts}
 use Rattle.thp_node.specs.contracts.recorder.FullLog as FullLog
 use Rattle.thp_node.specs.contracts.recorder.FullLog.TheInside as in_kept

@@ -2,7 +2,7 @@
 use Rattle.std.proofs.Common.{◌≡◌, ◌<◌, ◌≤◌, ℕ, Bool, true, false, List, [], ◌∷◌, refl, sym, ap, ◌∙◌, subst}
 use Rattle.atomic_table.specs.Table.{rest}
 use Rattle.atomic_table.specs.Lent.{seat_with}
-use Rattle.thp_model.specs.Prelude.{IsLegal}
+use Rattle.thp_history.specs.Prelude.{IsLegal}
 use Rattle.thp_node.specs.Prelude.{NodeState}
 use Rattle.thp_cell.specs.Prelude.{Adds, AllBelow, at_front, keeping, Follows, PassState, Place, front_in, pass_state, known_state, IsFree, IsIn, IsKept, IsNumbered, HasTaken}
 use Rattle.thp_cell.proofs.Fronts.{since_same}

@@ -6,9 +6,9 @@ use mathlib.Core.Option.{some, none}
 use native.Mathlib.Decide.{ℕ_discrete}
 use lib.ListN.{get_elem?}
 use Rattle.atomic_table.specs.Table.{keeps, takes, step, stepped, Allows}
-use Rattle.thp_model.specs.declared.shape.Shape.{Shape}
-use Rattle.thp_model.specs.Prelude.{History, IsLegal, queue}
-use Rattle.thp_model.proofs.LegalSteps.{legal_front}
+use Rattle.thp_history.specs.declared.shape.Shape.{Shape}
+use Rattle.thp_history.specs.Prelude.{History, IsLegal, queue}
+use Rattle.thp_history.proofs.LegalSteps.{legal_front}
 use Rattle.thp_node.specs.Prelude.{NodeState}
 use Rattle.thp_cell.specs.Prelude.{OldFront, SeatKnowledge, Since, AllBelow, holding, OldFrontAgrees, SeatAgrees, SeatsAgree, Home, RuleHolds, SeatValue, seat_with_front, Took, Locked, Counted, Looked}
 use Rattle.thp_cell.proofs.Fronts.{since_same, between, below_end}

@@ -3,8 +3,8 @@ use Rattle.std.proofs.Common.{◌≡◌, inr, ℕ, ◌*◌, ◌^◌, ◌<◌, tr
 use Rattle.std.proofs.lemmas.List.Elements.{All-nil}
 use mathlib.Core.Option.{some, none}
 use Rattle.atomic_table.specs.Table.{gives, rest, step, Allows}
-use Rattle.thp_model.specs.declared.shape.Shape.{Shape}
-use Rattle.thp_model.specs.Prelude.{IsLegal, queue}
+use Rattle.thp_history.specs.declared.shape.Shape.{Shape}
+use Rattle.thp_history.specs.Prelude.{IsLegal, queue}
 use Rattle.thp_node.specs.Prelude.{NodeState}
 use Rattle.thp_cell.specs.Prelude.{SeatKnowledge, Adds, holding, RuleHolds, Place, IsFree, IsLent, HasSlot, SeatValue, seat_with_front, Stored}
 use Rattle.thp_cell.proofs.Fronts.{since_same}

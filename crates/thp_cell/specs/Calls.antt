@@ -1,9 +1,9 @@
 -- The effect of a cell's calls on a pass.
 use Rattle.std.specs.Prelude.{◌≡◌, ◌≢◌, ℕ, ◌⊎◌, ◌<◌, true, false, List, ◌++◌, All, Option, None, Some, filter}
-use Rattle.thp_model.specs.declared.events.Event.{Event}
-use Rattle.thp_model.specs.declared.refusal.Refusal.{Refusal}
-use Rattle.thp_model.specs.declared.refusal.Refusal.TheVariants.{OutOfMemory}
-use Rattle.thp_model.specs.Prelude.{History, IsLegal, is_live, flight}
+use Rattle.thp_history.specs.declared.events.Event.{Event}
+use Rattle.thp_history.specs.declared.refusal.Refusal.{Refusal}
+use Rattle.thp_history.specs.declared.refusal.Refusal.TheVariants.{OutOfMemory}
+use Rattle.thp_history.specs.Prelude.{History, IsLegal, is_live, flight}
 use Rattle.thp_node.specs.Prelude.{BatchState, IsInFront}
 use Rattle.thp_cell.specs.Rule.{Since, AllBelow}
 use Rattle.thp_cell.specs.Views.{PassState, HasCaller, HasAll, part}

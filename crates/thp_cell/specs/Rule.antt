@@ -3,9 +3,9 @@ use Rattle.std.specs.Prelude.{◌≡◌, ℕ, ◌+◌, ◌*◌, ◌^◌, ◌<◌
 use mathlib.Core.Option.{Option as Maybe, some, none}
 use lib.ListN.{get_elem?}
 use Rattle.atomic_table.specs.Table.{State}
-use Rattle.thp_model.specs.declared.events.Event.{Event}
-use Rattle.thp_model.specs.declared.shape.Shape.{Shape}
-use Rattle.thp_model.specs.Prelude.{History, IsLegal, queue}
+use Rattle.thp_history.specs.declared.events.Event.{Event}
+use Rattle.thp_history.specs.declared.shape.Shape.{Shape}
+use Rattle.thp_history.specs.Prelude.{History, IsLegal, queue}
 use Rattle.thp_node.specs.Prelude.{NodeState}
 use Rattle.thp_cell.specs.declared.rule.OldFront.{OldFront}
 use Rattle.thp_cell.specs.declared.rule.SeatKnowledge.{SeatKnowledge}

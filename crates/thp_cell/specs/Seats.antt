@@ -1,7 +1,7 @@
 -- The invariants of the seats of a pass and of a hold. No public clause cites this module.
 use Rattle.std.specs.Prelude.{◌≡◌, ℕ, ◌<◌, ◌≤◌, Bool, true, false, List, [], ◌∷◌}
 use Rattle.atomic_table.specs.declared.shared.Seat.{Seat}
-use Rattle.thp_model.specs.Prelude.{max_callers, max_order, History, IsLegal}
+use Rattle.thp_history.specs.Prelude.{max_callers, max_order, History, IsLegal}
 use Rattle.thp_node.specs.Prelude.{NodeState}
 use Rattle.thp_cell.specs.declared.rule.SeatKnowledge.{SeatKnowledge}
 use Rattle.thp_cell.specs.Calls.{at_front}

@@ -3,7 +3,7 @@
 -- hold, the load after a join, and the load of a count.
 use Rattle.std.specs.Prelude.{◌≡◌, ◌≢◌, ℕ, ◌/◌, ◌%◌, ◌^◌, ◌<◌, ◌≤◌, Bool, true, false, nat_le, cond, [], ◌∷◌, None, length, All}
 use Rattle.atomic_table.specs.Table.{Me, Step}
-use Rattle.thp_model.specs.Prelude.{History, IsLegal, queue}
+use Rattle.thp_history.specs.Prelude.{History, IsLegal, queue}
 use Rattle.thp_node.specs.Prelude.{NodeState}
 use Rattle.thp_cell.specs.declared.rule.OldFront.{OldFront}
 use Rattle.thp_cell.specs.declared.rule.SeatKnowledge.{SeatKnowledge}

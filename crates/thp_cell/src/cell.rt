@@ -1,6 +1,6 @@
 //! A node that threads share: creating it, locking it, dividing its passes among threads, and dismantling it.
 ghost use Rattle.std.specs.Prelude.{◌≡◌, ℕ, ◌<◌, ◌≤◌, ◌⊎◌, ◌↔◌, [], ◌∷◌, length, true, false, Err, All, IfOk, IfErr, OnOk, OnErr};
-ghost use Rattle.thp_model.specs.Prelude.{max_callers, events_of, IsLegal, queue};
+ghost use Rattle.thp_history.specs.Prelude.{max_callers, events_of, IsLegal, queue};
 ghost use Rattle.thp_node.specs.Prelude.{StandsOnce, StandsWhole, TakesOldest, LeavesFreedAlone, NothingEnters, HasFramesOnce, KeepsFrames};
 ghost use Rattle.thp_cell.specs.Views.{HasCaller, HasAll, part};
 ghost use Rattle.thp_cell.specs.Calls.{Follows, PartsStay, BatchesStay, IsBusy, IsJoined, below, from, keeping, returning_node};
@@ -16,7 +16,7 @@ use atomic_table::{Refused, Seat, Table};
 use std::alloc::Global;
 use std::marker::{Brand, Model};
 use std::snapshot::Snapshot;
-use thp_model::MAX_CALLERS;
+use thp_history::MAX_CALLERS;
 use thp_node::{FullLog, NewFault, Node, Recorder};
 
 /// A node that threads share through one atomic word and one slot.

@@ -1,6 +1,6 @@
 //! The passes with which threads call a node.
 ghost use Rattle.std.specs.Prelude.{◌≡◌, ◌<◌, ◌≤◌};
-ghost use Rattle.thp_model.specs.Prelude.{max_order, IsLegal};
+ghost use Rattle.thp_history.specs.Prelude.{max_order, IsLegal};
 
 use crate::rule::SeatKnowledge;
 use atomic_table::Seat;

@@ -6,7 +6,7 @@ use atomic_table::{Join, Play, Split, TableRule};
 use std::collections::LinkedList;
 use std::marker::{Brand, PhantomData};
 use std::snapshot::Snapshot;
-use thp_model::{Event, Shape};
+use thp_history::{Event, Shape};
 use thp_node::{Node, Recorder};
 
 /// The front and the callers of a seat before it was joined. No value of this type is created.

@@ -1,10 +1,10 @@
 -- A replay with no event yet, and after each event.
 use Rattle.std.proofs.Common.{◌≡◌, ℕ, ◌≤◌, false, [], ◌∷◌, ◌++◌, Some, None, length, map, take, refl, ap, sym, ◌∙◌, arith, length-take}
-use Rattle.thp_model.specs.declared.events.Event.{Event}
-use Rattle.thp_model.specs.declared.shape.Shape.{Shape}
-use Rattle.thp_model.specs.Prelude.{max_order, History, count_of, some_event, allocations, is_alloc, is_closed, is_taking, takes_by}
-use Rattle.thp_model.proofs.FlightLaws.{flight_none}
-use Rattle.thp_model.proofs.Pushes.{is_taking_push}
+use Rattle.thp_history.specs.declared.events.Event.{Event}
+use Rattle.thp_history.specs.declared.shape.Shape.{Shape}
+use Rattle.thp_history.specs.Prelude.{max_order, History, count_of, some_event, allocations, is_alloc, is_closed, is_taking, takes_by}
+use Rattle.thp_history.proofs.FlightLaws.{flight_none}
+use Rattle.thp_history.proofs.Pushes.{is_taking_push}
 use Rattle.thp_page.specs.Prelude.{slot_at}
 use Rattle.thp_live_pages.specs.Prelude.{block_of}
 use Rattle.thp_live_pages.proofs.Starting.{few_events}

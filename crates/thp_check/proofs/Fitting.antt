@@ -1,10 +1,10 @@
 -- What is told as expected fits.
 use Rattle.std.proofs.Common.{◌≡◌, ◌≢◌, ℕ, ◌<◌, Bool, true, false, not, ◌||◌, List, Some, arith, ◌⊎◌, slice_get}
-use Rattle.thp_model.specs.declared.events.Outcome.{Outcome}
-use Rattle.thp_model.specs.declared.events.What.{What}
-use Rattle.thp_model.specs.declared.events.What.TheVariants.{Split, Pinned, Used, Back, Dropped}
-use Rattle.thp_model.specs.declared.shape.Shape.{Shape}
-use Rattle.thp_model.specs.Prelude.{pins, History, by, Fits, flight, is_worth_split}
+use Rattle.thp_history.specs.declared.events.Outcome.{Outcome}
+use Rattle.thp_history.specs.declared.events.What.{What}
+use Rattle.thp_history.specs.declared.events.What.TheVariants.{Split, Pinned, Used, Back, Dropped}
+use Rattle.thp_history.specs.declared.shape.Shape.{Shape}
+use Rattle.thp_history.specs.Prelude.{pins, History, by, Fits, flight, is_worth_split}
 use Rattle.thp_check.specs.Prelude.{Misfit, ExplainsBy, with_outcome, with_frames, page_of, FitsInPlace}
 use Rattle.thp_check.specs.declared.misfit.Misfit.TheVariants as misfit
 

@@ -1,18 +1,18 @@
 -- The blocks of the pages of a flight, before and after an event.
 use Rattle.std.proofs.Common.{◌≡◌, ℕ, Bool, true, false, cond, ◌&&◌, ◌||◌, List, [], ◌∷◌, ◌++◌, Option, Some, None, map, refl, ap, sym, ◌∙◌, subst, nat_eq, eq-eqb, eqb-true, inl, inr, Contains, slice_get}
 use Rattle.thp_links.proofs.Members.{Contains-nil, Contains-head, Contains-behind, Contains-cons_cases}
-use Rattle.thp_model.specs.declared.events.Outcome.{Outcome}
-use Rattle.thp_model.specs.declared.events.Outcome.TheVariants as outcome
-use Rattle.thp_model.specs.Prelude.{History, by, is_freed, flight_by, has_page, no_pages, flight, without, gain_what, loss_what}
-use Rattle.thp_model.proofs.Bools.{by_bool}
+use Rattle.thp_history.specs.declared.events.Outcome.{Outcome}
+use Rattle.thp_history.specs.declared.events.Outcome.TheVariants as outcome
+use Rattle.thp_history.specs.Prelude.{History, by, is_freed, flight_by, has_page, no_pages, flight, without, gain_what, loss_what}
+use Rattle.thp_history.proofs.Bools.{by_bool}
 use Rattle.thp_live_pages.specs.Prelude.{block_of}
 use Rattle.thp_live_pages.proofs.Homing.{block_push, block_stays}
 use Rattle.thp_live_pages.proofs.Keeping.{blocks_same, blocks_without}
 use Rattle.thp_live_pages.proofs.Standings.{has_not}
-use Rattle.thp_model.specs.declared.page_call.Gain.{Gain}
-use Rattle.thp_model.specs.declared.page_call.Gain.TheVariants as gain
-use Rattle.thp_model.specs.declared.page_call.Loss.{Loss}
-use Rattle.thp_model.specs.declared.page_call.Loss.TheVariants as loss
+use Rattle.thp_history.specs.declared.page_call.Gain.{Gain}
+use Rattle.thp_history.specs.declared.page_call.Gain.TheVariants as gain
+use Rattle.thp_history.specs.declared.page_call.Loss.{Loss}
+use Rattle.thp_history.specs.declared.page_call.Loss.TheVariants as loss
 use Rattle.thp_check.specs.Prelude.{flight_left}
 use Rattle.thp_check.proofs.PageEvents.{loss_flight_by}
 

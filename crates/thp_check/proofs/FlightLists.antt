@@ -7,7 +7,7 @@ use Rattle.thp_links.specs.declared.link.TheConstants.{NIL}
 use Rattle.thp_links.specs.Prelude.{without, Stands, SameOutside, between}
 use Rattle.thp_links.proofs.Members.{empty_from_first, Contains-nil, Contains-head, Contains-behind, Contains-cons_cases, Contains-from_without}
 use Rattle.thp_links.proofs.OneTable.{Stands-kept, Stands-inside}
-use Rattle.thp_model.proofs.ListPlaces.{append_none}
+use Rattle.thp_history.proofs.ListPlaces.{append_none}
 use Rattle.thp_check.specs.Prelude.{FlightsState, AreLinked, caller_at, list_at, blocks_in, flight_left}
 use Rattle.thp_live_pages.proofs.Walking.{next_at, there_is, take_all, filter_more}
 

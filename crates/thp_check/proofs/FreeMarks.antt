@@ -2,14 +2,14 @@
 use Rattle.std.proofs.Common.{◌≡◌, ◌≢◌, ℕ, ◌*◌, ◌<◌, ◌≤◌, Bool, true, false, cond, not, ◌&&◌, nat_eq, nat_lt, List, [], ◌∷◌, ◌++◌, length, Option, Some, None, refl, ap, sym, ◌∙◌, subst, arith, inl, inr, eq-eqb, eqb-true, lt-ltb}
 use Rattle.std.specs.Prelude.{⊤, IfSome, MatchOption}
 use Rattle.std.proofs.lemmas.Bool.Decides.{eqb_tells}
-use Rattle.thp_model.specs.declared.events.Event.{Event}
-use Rattle.thp_model.specs.declared.events.Outcome.{Outcome}
-use Rattle.thp_model.specs.declared.events.What.{What}
-use Rattle.thp_model.specs.declared.events.What.TheVariants.{Alloc}
-use Rattle.thp_model.specs.declared.shape.Shape.{Shape}
-use Rattle.thp_model.specs.Prelude.{least_free, allocates, frees, is_freed, is_live, block_in_use, History, some_event, Fits, FitsAlloc, FitsBy, IsLegal, in_words}
-use Rattle.thp_model.proofs.Bools.{by_bool, and_both, and-true}
-use Rattle.thp_model.proofs.LegalSteps.{legal_push}
+use Rattle.thp_history.specs.declared.events.Event.{Event}
+use Rattle.thp_history.specs.declared.events.Outcome.{Outcome}
+use Rattle.thp_history.specs.declared.events.What.{What}
+use Rattle.thp_history.specs.declared.events.What.TheVariants.{Alloc}
+use Rattle.thp_history.specs.declared.shape.Shape.{Shape}
+use Rattle.thp_history.specs.Prelude.{least_free, allocates, frees, is_freed, is_live, block_in_use, History, some_event, Fits, FitsAlloc, FitsBy, IsLegal, in_words}
+use Rattle.thp_history.proofs.Bools.{by_bool, and_both, and-true}
+use Rattle.thp_history.proofs.LegalSteps.{legal_push}
 use Rattle.thp_page.specs.Prelude.{slot_at, HoldsPage, Slot, Table}
 use Rattle.thp_live_pages.specs.Prelude.{IsNode, block_of, block_after}
 use Rattle.thp_live_pages.proofs.Admitting.{found, at_home}

@@ -1,22 +1,22 @@
 -- What an event of a page call says where it fits, and what it leaves of the flights.
 use Rattle.std.proofs.Common.{◌≡◌, arith, ℕ, Bool, true, List, [], ◌∷◌, ◌++◌, Option, Some, None, ap, sym, ◌∙◌, nat_eq, eq-eqb}
-use Rattle.thp_model.specs.declared.events.Event.{Event}
-use Rattle.thp_model.specs.declared.events.Outcome.{Outcome}
-use Rattle.thp_model.specs.declared.events.Outcome.TheVariants as outcome
-use Rattle.thp_model.specs.declared.events.What.{What}
-use Rattle.thp_model.specs.declared.events.What.TheVariants as what
-use Rattle.thp_model.specs.declared.shape.Shape.{Shape}
-use Rattle.thp_model.specs.Prelude.{History, by, is_live, is_closed, flight_by, Fits, Gives, page_released, Tallies, flight, without, refusal, gain_call, loss_call, gain_what, loss_what, recorded_call}
-use Rattle.thp_model.proofs.Bools.{by_bool}
-use Rattle.thp_model.proofs.Flights.{flight_push}
-use Rattle.thp_model.proofs.OnePlace.{without_none, times_hasnt}
-use Rattle.thp_model.proofs.PageOutcomes.{lives_by, outcome_is, released_is}
-use Rattle.thp_model.proofs.Standing.{Sound}
+use Rattle.thp_history.specs.declared.events.Event.{Event}
+use Rattle.thp_history.specs.declared.events.Outcome.{Outcome}
+use Rattle.thp_history.specs.declared.events.Outcome.TheVariants as outcome
+use Rattle.thp_history.specs.declared.events.What.{What}
+use Rattle.thp_history.specs.declared.events.What.TheVariants as what
+use Rattle.thp_history.specs.declared.shape.Shape.{Shape}
+use Rattle.thp_history.specs.Prelude.{History, by, is_live, is_closed, flight_by, Fits, Gives, page_released, Tallies, flight, without, refusal, gain_call, loss_call, gain_what, loss_what, recorded_call}
+use Rattle.thp_history.proofs.Bools.{by_bool}
+use Rattle.thp_history.proofs.Flights.{flight_push}
+use Rattle.thp_history.proofs.OnePlace.{without_none, times_hasnt}
+use Rattle.thp_history.proofs.PageOutcomes.{lives_by, outcome_is, released_is}
+use Rattle.thp_history.proofs.Standing.{Sound}
 use Rattle.thp_page.specs.Prelude.{Slot}
-use Rattle.thp_model.specs.declared.page_call.Done.{Done}
-use Rattle.thp_model.specs.declared.page_call.Gain.{Gain}
-use Rattle.thp_model.specs.declared.page_call.Loss.{Loss}
-use Rattle.thp_model.specs.declared.page_call.PageCall.TheVariants as either
+use Rattle.thp_history.specs.declared.page_call.Done.{Done}
+use Rattle.thp_history.specs.declared.page_call.Gain.{Gain}
+use Rattle.thp_history.specs.declared.page_call.Loss.{Loss}
+use Rattle.thp_history.specs.declared.page_call.PageCall.TheVariants as either
 use Rattle.thp_live_pages.specs.Prelude.{IsSlot, standing_of, PageStoreState, Lost, batch_of}
 use Rattle.thp_live_pages.proofs.Homing.{Homed}
 use Rattle.thp_live_pages.proofs.PageEvents.{ByOutcome, by_outcome, tallies_loss, outcome_told}

@@ -1,8 +1,8 @@
 -- What a replay's numbers and lists say of its history.
 use Rattle.std.proofs.Common.{◌≡◌, ℕ, Some, None, length, refl, ap, sym, ◌∙◌, slice_get, IsSome}
 use Rattle.std.proofs.lemmas.List.{length-map}
-use Rattle.thp_model.specs.declared.shape.Shape.{Shape}
-use Rattle.thp_model.specs.Prelude.{History, queue}
+use Rattle.thp_history.specs.declared.shape.Shape.{Shape}
+use Rattle.thp_history.specs.Prelude.{History, queue}
 use Rattle.thp_page.specs.Prelude.{slot_at}
 use Rattle.thp_live_pages.specs.Prelude.{block_of, AtSlot}
 use Rattle.thp_live_pages.proofs.Admitting.{Found, at_home}

@@ -1,15 +1,15 @@
 -- The reasons of events of page calls, where the definitions refuse the call or give another outcome.
 use Rattle.std.proofs.Common.{◌≡◌, ℕ, Bool, true, false, cond, List, Option, Some, None, refl}
-use Rattle.thp_model.specs.declared.events.Outcome.{Outcome}
-use Rattle.thp_model.specs.declared.refusal.Refusal.{Refusal}
-use Rattle.thp_model.specs.declared.refusal.Refusal.TheVariants as reason
-use Rattle.thp_model.specs.declared.shape.Shape.{Shape}
-use Rattle.thp_model.specs.Prelude.{History, by, is_closed, Fits, gain_call, loss_call, gain_what, loss_what, refusal}
-use Rattle.thp_model.specs.Refusals as call
-use Rattle.thp_model.specs.declared.page_call.Gain.{Gain}
-use Rattle.thp_model.specs.declared.page_call.Gain.TheVariants as gain
-use Rattle.thp_model.specs.declared.page_call.Loss.{Loss}
-use Rattle.thp_model.specs.declared.page_call.Loss.TheVariants as loss
+use Rattle.thp_history.specs.declared.events.Outcome.{Outcome}
+use Rattle.thp_history.specs.declared.refusal.Refusal.{Refusal}
+use Rattle.thp_history.specs.declared.refusal.Refusal.TheVariants as reason
+use Rattle.thp_history.specs.declared.shape.Shape.{Shape}
+use Rattle.thp_history.specs.Prelude.{History, by, is_closed, Fits, gain_call, loss_call, gain_what, loss_what, refusal}
+use Rattle.thp_history.specs.Refusals as call
+use Rattle.thp_history.specs.declared.page_call.Gain.{Gain}
+use Rattle.thp_history.specs.declared.page_call.Gain.TheVariants as gain
+use Rattle.thp_history.specs.declared.page_call.Loss.{Loss}
+use Rattle.thp_history.specs.declared.page_call.Loss.TheVariants as loss
 use Rattle.thp_check.specs.declared.misfit.Misfit.TheVariants as misfit
 use Rattle.thp_check.specs.Prelude.{IsMisfit, Explains}
 use Rattle.thp_check.proofs.PageEvents.{gain_allowed, loss_allowed}

@@ -5,13 +5,13 @@ use Rattle.std.specs.List.{filter, range_with_len}
 use Rattle.std.proofs.lemmas.List.{take_more, map-append}
 use Rattle.std.proofs.lemmas.List.Elements.{filter-append}
 use Rattle.std.proofs.lemmas.List.FromFn.{map-range_with_len_more}
-use Rattle.thp_model.specs.declared.events.What.TheVariants.{Split}
-use Rattle.thp_model.specs.declared.shape.Shape.{Shape}
-use Rattle.thp_model.specs.Prelude.{is_live, is_used, whole, block_in_use, is_held, History, PageState, Tallies, size, total_at, zero_at, zero_set, used_set, holds, set_of, has, subpages, is_zero_filled, is_partly_mapped, shrinks_underused, get_or-set_of}
-use Rattle.thp_model.proofs.ListPlaces.{append_none}
-use Rattle.thp_model.proofs.PageRefusals.{held_is}
-use Rattle.thp_model.proofs.Tallying.{size_is, total_is, whole_is}
-use Rattle.thp_model.proofs.WordLemmas.{set_of-ext}
+use Rattle.thp_history.specs.declared.events.What.TheVariants.{Split}
+use Rattle.thp_history.specs.declared.shape.Shape.{Shape}
+use Rattle.thp_history.specs.Prelude.{is_live, is_used, whole, block_in_use, is_held, History, PageState, Tallies, size, total_at, zero_at, zero_set, used_set, holds, set_of, has, subpages, is_zero_filled, is_partly_mapped, shrinks_underused, get_or-set_of}
+use Rattle.thp_history.proofs.ListPlaces.{append_none}
+use Rattle.thp_history.proofs.PageRefusals.{held_is}
+use Rattle.thp_history.proofs.Tallying.{size_is, total_is, whole_is}
+use Rattle.thp_history.proofs.WordLemmas.{set_of-ext}
 use Rattle.thp_page.specs.Prelude.{slot_at, page_in, HoldsPage, Slot, Table}
 use Rattle.thp_live_pages.specs.Prelude.{IsNode, Fills, block_of, Relinks, AtSlot, PageStoreState}
 use Rattle.thp_live_pages.proofs.Admitting.{Found, found, at_home, not_live}

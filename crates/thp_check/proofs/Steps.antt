@@ -1,19 +1,19 @@
 -- What a replay means after each step: that of the history with the event, where the event fits; and else that it doesn't.
 use Rattle.std.proofs.Common.{◌≡◌, ◌≢◌, ℕ, ◌+◌, ◌<◌, Bool, true, false, not, ◌&&◌, ◌||◌, List, [], ◌∷◌, ◌++◌, Option, Some, None, length, map, refl, ap, sym, ◌∙◌, subst, arith, nat_eq, eqb-true, IsSome}
-use Rattle.thp_model.specs.declared.events.Event.{Event}
-use Rattle.thp_model.specs.declared.events.Outcome.{Outcome}
-use Rattle.thp_model.specs.declared.events.What.TheVariants as what
-use Rattle.thp_model.specs.declared.refusal.Refusal.{Refusal}
-use Rattle.thp_model.specs.declared.refusal.Refusal.TheVariants as reason
-use Rattle.thp_model.specs.declared.shape.Shape.{Shape}
-use Rattle.thp_model.specs.Prelude.{History, by, some_event, is_alloc, is_live, frees, closes, is_closed, allocations, block_in_use, Fits, IsLegal, PageState, Tallies, page_refusal, flight, has_page, refusal, shrinks_underused, gain_call, loss_call, gain_what, loss_what, Gains}
-use Rattle.thp_model.proofs.Allowed.{allowed_alloc as open_alloc, allowed_close as open_close}
-use Rattle.thp_model.proofs.Bools.{by_bool}
-use Rattle.thp_model.proofs.Flights.{flight_push}
-use Rattle.thp_model.proofs.OnePlace.{flies_live}
-use Rattle.thp_model.proofs.Pushes.{count_same, count_more, some_same, some_event_push}
+use Rattle.thp_history.specs.declared.events.Event.{Event}
+use Rattle.thp_history.specs.declared.events.Outcome.{Outcome}
+use Rattle.thp_history.specs.declared.events.What.TheVariants as what
+use Rattle.thp_history.specs.declared.refusal.Refusal.{Refusal}
+use Rattle.thp_history.specs.declared.refusal.Refusal.TheVariants as reason
+use Rattle.thp_history.specs.declared.shape.Shape.{Shape}
+use Rattle.thp_history.specs.Prelude.{History, by, some_event, is_alloc, is_live, frees, closes, is_closed, allocations, block_in_use, Fits, IsLegal, PageState, Tallies, page_refusal, flight, has_page, refusal, shrinks_underused, gain_call, loss_call, gain_what, loss_what, Gains}
+use Rattle.thp_history.proofs.Allowed.{allowed_alloc as open_alloc, allowed_close as open_close}
+use Rattle.thp_history.proofs.Bools.{by_bool}
+use Rattle.thp_history.proofs.Flights.{flight_push}
+use Rattle.thp_history.proofs.OnePlace.{flies_live}
+use Rattle.thp_history.proofs.Pushes.{count_same, count_more, some_same, some_event_push}
 use Rattle.thp_page.specs.Prelude.{slot_at, HoldsPage, Slot}
-use Rattle.thp_model.specs.declared.page_call.Done.{Done}
+use Rattle.thp_history.specs.declared.page_call.Done.{Done}
 use Rattle.thp_live_pages.specs.Prelude.{PageStoreState, AtSlot, Edits, Lost, Placed, IsNode}
 use Rattle.thp_live_pages.proofs.Admitting.{Found, found, not_live}
 use Rattle.thp_live_pages.proofs.Closing.{allowed_alloc, allowed_close, next_is_new}
@@ -21,9 +21,9 @@ use Rattle.thp_live_pages.proofs.Homing.{Homed, legal_homed, block_push, block_t
 use Rattle.thp_live_pages.proofs.Keeping.{block_other}
 use Rattle.thp_live_pages.proofs.ListEvents.{placed_fits, placed_node, closed_node}
 use Rattle.thp_live_pages.proofs.PageEvents.{slot_is, refusal_is, refusal_gone, gained, LossFits, loss_fits, lost_node}
-use Rattle.thp_model.specs.declared.page_call.Gain.{Gain}
-use Rattle.thp_model.specs.declared.page_call.Loss.{Loss}
-use Rattle.thp_model.specs.declared.page_call.PageCall.TheVariants as either
+use Rattle.thp_history.specs.declared.page_call.Gain.{Gain}
+use Rattle.thp_history.specs.declared.page_call.Loss.{Loss}
+use Rattle.thp_history.specs.declared.page_call.PageCall.TheVariants as either
 use Rattle.thp_check.specs.Prelude.{NodeState, FlightsState, blocks_in, flight_left, Keeps, Means, IsMisfit}
 use Rattle.thp_check.specs.declared.misfit.Misfit.TheVariants as misfit
 use Rattle.thp_check.proofs.FlightBlocks.{LieIn, unmoved, departed, gain_home, loss_flying_home}

@@ -1,16 +1,16 @@
 -- What a replay means after a take, a try, a put-back and a drop.
 use Rattle.std.proofs.Common.{◌≡◌, ◌≢◌, ℕ, Bool, true, false, cond, not, nat_eq, ◌||◌, List, [], ◌∷◌, ◌++◌, Option, Some, None, length, map, Contains, refl, ap, ap₂, sym, ◌∙◌, subst, arith, inl, inr, slice_get}
-use Rattle.thp_model.specs.declared.events.Event.{Event}
-use Rattle.thp_model.specs.declared.events.Outcome.{Outcome}
-use Rattle.thp_model.specs.declared.events.What.{What}
-use Rattle.thp_model.specs.declared.events.What.TheVariants as what
-use Rattle.thp_model.specs.declared.shape.Shape.{Shape}
-use Rattle.thp_model.specs.Prelude.{History, by, is_live, pins, Fits, FitsTaken, FitsSplit, IsLegal, is_dropped, PageState, PageSplit, gives_frames, is_split_candidate, queue, flight, has_page, no_pages, is_taking, is_worth_split, shrinks_underused}
-use Rattle.thp_model.proofs.Flights.{flight_push}
-use Rattle.thp_model.proofs.PageOutcomes.{released_alive}
-use Rattle.thp_model.proofs.Pushes.{live_stays}
-use Rattle.thp_model.proofs.Standing.{first_has}
-use Rattle.thp_model.proofs.Tallying.{tallies_split, pins_is}
+use Rattle.thp_history.specs.declared.events.Event.{Event}
+use Rattle.thp_history.specs.declared.events.Outcome.{Outcome}
+use Rattle.thp_history.specs.declared.events.What.{What}
+use Rattle.thp_history.specs.declared.events.What.TheVariants as what
+use Rattle.thp_history.specs.declared.shape.Shape.{Shape}
+use Rattle.thp_history.specs.Prelude.{History, by, is_live, pins, Fits, FitsTaken, FitsSplit, IsLegal, is_dropped, PageState, PageSplit, gives_frames, is_split_candidate, queue, flight, has_page, no_pages, is_taking, is_worth_split, shrinks_underused}
+use Rattle.thp_history.proofs.Flights.{flight_push}
+use Rattle.thp_history.proofs.PageOutcomes.{released_alive}
+use Rattle.thp_history.proofs.Pushes.{live_stays}
+use Rattle.thp_history.proofs.Standing.{first_has}
+use Rattle.thp_history.proofs.Tallying.{tallies_split, pins_is}
 use Rattle.thp_page.specs.declared.standing.Standing.{Standing}
 use Rattle.thp_page.specs.declared.standing.Standing.TheVariants.{Nowhere, Queued, Batch}
 use Rattle.thp_page.specs.Prelude.{slot_at, HoldsPage, Slot}
@@ -22,8 +22,8 @@ use Rattle.thp_live_pages.proofs.ListEvents.{first_is, taken_fits, taken_node, i
 use Rattle.thp_live_pages.proofs.Worth.{worth_is}
 use Rattle.thp_live_pages.proofs.PageEvents.{slot_is}
 use Rattle.thp_live_pages.proofs.Standings.{standing_queued, standing_flying}
-use Rattle.thp_model.specs.declared.page_call.Done.{Done}
-use Rattle.thp_model.specs.declared.page_call.Loss.{Loss}
+use Rattle.thp_history.specs.declared.page_call.Done.{Done}
+use Rattle.thp_history.specs.declared.page_call.Loss.{Loss}
 use Rattle.thp_check.specs.Prelude.{NodeState, blocks_in, flight_left, Keeps, Means, IsMisfit, is_taker}
 use Rattle.thp_check.specs.declared.misfit.Misfit.TheVariants as misfit
 use Rattle.thp_check.proofs.FlightBlocks.{LiesAlone, LieIn, block_there, page_there, first_lies, first_page, none_first, none_there, unmoved, departed}

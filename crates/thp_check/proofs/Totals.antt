@@ -3,13 +3,13 @@ use Rattle.std.proofs.Common.{◌≡◌, ℕ, ◌+◌, ◌*◌, ◌^◌, ◌<◌
 use Rattle.std.specs.Int.{from_bool}
 use Rattle.std.proofs.Math.Nat.{mul-le-mul}
 use Rattle.std.proofs.lemmas.List.{length_push}
-use Rattle.thp_model.specs.declared.events.Event.{Event}
-use Rattle.thp_model.specs.declared.events.What.{What}
-use Rattle.thp_model.specs.declared.shape.Shape.{Shape}
-use Rattle.thp_model.specs.Prelude.{splits_pmds, thp_split_pmd, splits_underused, thp_underused_split_page, allocations, is_alloc, given, frames_given, frames_held, History, count_of, IsLegal, subpages}
-use Rattle.thp_model.proofs.Kept.{frames_given_push, frames_kept, size_given}
-use Rattle.thp_model.proofs.Pushes.{count_of_push, thp_split_pmd_push, thp_underused_split_page_push}
-use Rattle.thp_model.proofs.Sizes.{few_subpages}
+use Rattle.thp_history.specs.declared.events.Event.{Event}
+use Rattle.thp_history.specs.declared.events.What.{What}
+use Rattle.thp_history.specs.declared.shape.Shape.{Shape}
+use Rattle.thp_history.specs.Prelude.{splits_pmds, thp_split_pmd, splits_underused, thp_underused_split_page, allocations, is_alloc, given, frames_given, frames_held, History, count_of, IsLegal, subpages}
+use Rattle.thp_history.proofs.Kept.{frames_given_push, frames_kept, size_given}
+use Rattle.thp_history.proofs.Pushes.{count_of_push, thp_split_pmd_push, thp_underused_split_page_push}
+use Rattle.thp_history.proofs.Sizes.{few_subpages}
 use Rattle.thp_live_pages.proofs.Starting.{few_events}
 use Rattle.thp_check.specs.Prelude.{Tally, EventContext, AddsUp, HasRoom, Adds, IsContext, frames_of, pmds_of, underused_of}
 

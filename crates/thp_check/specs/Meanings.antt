@@ -1,9 +1,9 @@
 -- The meaning of a replay's state: it is the state after the events replayed so far. No public clause cites this module.
 use Rattle.std.specs.Prelude.{◌≡◌, ◌≤◌, ℕ, Bool, false, nat_eq, [], ◌∷◌, ◌++◌, length, map, slice_get, Option, Some, None, Result, MatchResult}
-use Rattle.thp_model.specs.declared.events.Event.{Event}
-use Rattle.thp_model.specs.declared.events.What.{What}
-use Rattle.thp_model.specs.declared.shape.Shape.{Shape}
-use Rattle.thp_model.specs.Prelude.{max_order, History, by, allocations, is_closed, flight, is_taking, Fits}
+use Rattle.thp_history.specs.declared.events.Event.{Event}
+use Rattle.thp_history.specs.declared.events.What.{What}
+use Rattle.thp_history.specs.declared.shape.Shape.{Shape}
+use Rattle.thp_history.specs.Prelude.{max_order, History, by, allocations, is_closed, flight, is_taking, Fits}
 use Rattle.thp_live_pages.specs.Prelude.{IsNode, block_of}
 use Rattle.thp_check.specs.Flights.{blocks_in}
 use Rattle.thp_check.specs.Reasons.{Explains}

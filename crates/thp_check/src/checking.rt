@@ -1,13 +1,13 @@
 //! The check of a whole history.
 ghost use Rattle.std.specs.Prelude.{◌≤◌, OnOk, IfErr};
-ghost use Rattle.thp_model.specs.Prelude.{max_order, min_order, IsLegal, IsCheckResult};
+ghost use Rattle.thp_history.specs.Prelude.{max_order, min_order, IsLegal, IsCheckResult};
 
 use crate::node_state::NodeState;
 use std::alloc::Global;
-use thp_model::{CheckFault, Event, Shape};
+use thp_history::{CheckFault, Event, Shape};
 
 /// Checks that a history is legal on a node of this shape, that is, that each of its events fits those before it, by the rules of
-/// this project's profile (`thp_model`, `IsLegal`).
+/// this project's profile (`thp_history`, `IsLegal`).
 ///
 /// The node may have any number of blocks, pages of order 2 to 9, and any threshold. Fails with `Illegal` at the first event that
 /// does not fit, and with `OutOfMemory` if memory for the pages and flights of the replay can't be allocated.

@@ -6,8 +6,8 @@ ghost use Rattle.thp_check.specs.Explanations.{expected, or_a_split, or_this, pa
 use crate::Misfit;
 use crate::pieces::{put_last, put_words};
 use std::alloc::AllocError;
+use thp_history::{Done, Event, Outcome, PageCall, PageId, SubSet, What};
 use thp_journal_writer::{event_page, put, put_event_line};
-use thp_model::{Done, Event, Outcome, PageCall, PageId, SubSet, What};
 
 // The events that would fit instead of a caller's event, one line each.
 pub(crate) fn put_expected(

@@ -6,8 +6,8 @@ use crate::Misfit;
 use crate::expected::put_expected;
 use crate::reason_text::put_why;
 use std::alloc::AllocError;
+use thp_history::Event;
 use thp_journal_writer::{put, put_event_line, put_number};
-use thp_model::Event;
 
 /// Appends the explanation of an event that does not fit for this reason: the event as on its line of the journal, the events
 /// that would fit instead, and the reason. These are three lines, or four if there are two alternatives. If memory can't be

@@ -1,7 +1,7 @@
 //! Decides whether a history is legal, and explains why not.
 //!
 //! [`check`] replays the events on what a node of that shape would hold and stops at the first that doesn't fit; [`Replay`]
-//! takes events one by one. Legality is `IsLegal` and `IsFirstMisfit` of `thp_model`; `Explains` (`Reasons`) defines each
+//! takes events one by one. Legality is `IsLegal` and `IsFirstMisfit` of `thp_history`; `Explains` (`Reasons`) defines each
 //! reason.
 //!
 //! - `checking`, `replay`, `node_state` (one step for each kind of event), `flights` and `links` (64 lists of blocks by the low
@@ -32,5 +32,5 @@ pub use laws::what_is_expected_fits;
 pub use live_page::{LivePage, PageLocation};
 pub use misfit::Misfit;
 pub use replay::Replay;
-pub use thp_model::CheckFault;
+pub use thp_history::CheckFault;
 pub use thp_page::Standing;

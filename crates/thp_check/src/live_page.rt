@@ -1,8 +1,8 @@
 //! The state of a live page, as it is shown.
 ghost use Rattle.std.specs.Prelude.{◌≡◌, true, is_some};
-ghost use Rattle.thp_model.specs.Prelude.{holds, is_split_candidate, used_set, zero_set, set_of};
+ghost use Rattle.thp_history.specs.Prelude.{holds, is_split_candidate, used_set, zero_set, set_of};
 
-use thp_model::SubSet;
+use thp_history::SubSet;
 use thp_page::{Page, Standing};
 
 /// A live page after the events so far.

@@ -1,7 +1,7 @@
 //! Why an event does not fit the events before it.
-use thp_model::{Outcome, PageId, Refusal, SubSet};
+use thp_history::{Outcome, PageId, Refusal, SubSet};
 
-/// Why an event does not fit the events before it: the first reason that holds, in the order in which `thp_model`'s `Fits` lists
+/// Why an event does not fit the events before it: the first reason that holds, in the order in which `thp_history`'s `Fits` lists
 /// them.
 #[derive(Clone, Copy, Debug, PartialEq, Eq)]
 pub enum Misfit {

@@ -1,18 +1,18 @@
 //! The state of a node after the events of a history so far.
 ghost use Rattle.std.specs.Prelude.{◌≡◌, ◌<◌, ◌≤◌, ◌+◌, ◌^◌, ℕ, Bool, List, [], ◌||◌, not, slice_get, Some, ◌≢◌, IfErr, IfOk, IsSome, Err, IsTrue, ◌↔◌};
-ghost use Rattle.thp_model.specs.Prelude.{History, max_order, min_order, is_split_candidate, no_pages, takes_by, gain_what, loss_what, recorded_call};
+ghost use Rattle.thp_history.specs.Prelude.{History, max_order, min_order, is_split_candidate, no_pages, takes_by, gain_what, loss_what, recorded_call};
 ghost use Rattle.thp_page.specs.Prelude.{slot_at};
 ghost use Rattle.thp_live_pages.specs.Prelude.{IsFlyingAt, AtSlot};
-ghost use Rattle.thp_model.specs.declared.events.Outcome.{Outcome};
-ghost use Rattle.thp_model.specs.declared.shape.Shape.{Shape};
+ghost use Rattle.thp_history.specs.declared.events.Outcome.{Outcome};
+ghost use Rattle.thp_history.specs.declared.shape.Shape.{Shape};
 ghost use Rattle.thp_check.specs.Flights.{blocks_in};
 ghost use Rattle.thp_check.specs.Meanings.{is_taker};
 
 use crate::flights::Flights;
 use crate::misfit::Misfit;
 use std::alloc::{AllocError, Global};
+use thp_history::{Done, Event, Gain, Loss, PageCall, PageId, Refusal, Shape, SubSet, What};
 use thp_live_pages::PageStore;
-use thp_model::{Done, Event, Gain, Loss, PageCall, PageId, Refusal, Shape, SubSet, What};
 
 // The state after the events so far; arbitrary after an event that did not fit.
 #[derive(Drop)]

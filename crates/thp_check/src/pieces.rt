@@ -5,8 +5,8 @@ ghost use Rattle.thp_journal_writer.specs.Prelude.{ended};
 ghost use Rattle.thp_check.specs.Explanations.{caller_is, in_flight_of, page_is};
 
 use std::alloc::AllocError;
+use thp_history::PageId;
 use thp_journal_writer::{put, put_number};
-use thp_model::PageId;
 
 // Words, and a line feed.
 pub(crate) fn put_words(text: &mut Vec<u8>, words: &str) -> Result<(), AllocError>

@@ -7,7 +7,7 @@ use crate::Misfit;
 use crate::expected::page_of;
 use crate::pieces::{put_caller, put_flight, put_last, put_page, put_words};
 use std::alloc::AllocError;
-use thp_model::{Outcome, Refusal, What};
+use thp_history::{Outcome, Refusal, What};
 
 // Why a caller's event does not fit, and a line feed.
 pub(crate) fn put_why(

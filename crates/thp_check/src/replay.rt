@@ -1,7 +1,7 @@
 //! A replay of a history, event by event.
 ghost use Rattle.std.specs.Prelude.{◌≡◌, ◌≤◌, ◌<◌, ◌+◌, ◌*◌, ◌^◌, ℕ, [], ◌∷◌, ◌++◌, length, slice_get, IfOk, IfErr, IfSome};
-ghost use Rattle.thp_model.specs.Prelude.{least_free, allocations, is_closed, History, by, Fits, IsLegal, max_order, min_order, queue, in_words};
-ghost use Rattle.thp_model.specs.declared.shape.Shape.{Shape};
+ghost use Rattle.thp_history.specs.Prelude.{least_free, allocations, is_closed, History, by, Fits, IsLegal, max_order, min_order, queue, in_words};
+ghost use Rattle.thp_history.specs.declared.shape.Shape.{Shape};
 ghost use Rattle.thp_check.specs.Freeing.{free_after, taken_block, IsFreed};
 ghost use Rattle.thp_check.specs.Meanings.{Means};
 ghost use Rattle.thp_check.specs.Reasons.{Explains};
@@ -15,8 +15,8 @@ use crate::node_state::NodeState;
 use crate::tally::{EventContext, Tally};
 use std::alloc::{AllocError, Global};
 use std::marker::Model;
+use thp_history::{Event, PageId, Shape, Trace, What};
 use thp_live_pages::{FreeBlocks, freed_page};
-use thp_model::{Event, PageId, Shape, Trace, What};
 
 /// The state of a node after the events of its history so far, which is legal: its pages, its queue, and its flights. It stores
 /// what is live, not the events.

@@ -1,10 +1,10 @@
 //! The sums of the events of a history.
 ghost use Rattle.std.specs.Prelude.{◌≡◌, ◌+◌, ◌<◌, ◌^◌};
 ghost use Rattle.std.specs.Int.{from_bool};
-ghost use Rattle.thp_model.specs.Prelude.{is_queued, set_size};
+ghost use Rattle.thp_history.specs.Prelude.{is_queued, set_size};
 ghost use Rattle.thp_check.specs.Totals.{Adds, HasRoom};
 
-use thp_model::{Outcome, SubSet, What};
+use thp_history::{Outcome, SubSet, What};
 
 // The frames given back, and the node's statistics.
 #[derive(Drop)]

@@ -16,7 +16,7 @@ use Rattle.clap.proofs.OnLiterals.{clap_on_literals}
 use Rattle.clap.proofs.WalkLemmas.{first_value-rows, one_text-rows}
 use Rattle.std.proofs.lemmas.List.Elements.{All-nil}
 use Rattle.thp_cli.specs.Prelude.{ReportsFlag, WritesNumber, FailsAsWords, HoldsWords, bare, blocks_rule, nodes_rule, own_rules, report_name, report_names, report_rule, with_rules, workers_rule, IsOwnCommand, Line}
-use Rattle.thp_model.specs.Prelude.{max_blocks}
+use Rattle.thp_history.specs.Prelude.{max_blocks}
 use Rattle.thp_script.specs.Prelude.{max_nodes, max_workers}
 use Rattle.thp_cli.proofs.ChainLaws.{AreOptions, IsDefaultRule, chained, chained_app, option_value}
 

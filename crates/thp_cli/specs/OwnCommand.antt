@@ -4,7 +4,7 @@ use Rattle.clap.specs.Words.{IsParsedFrom, app_of, found_of}
 use Rattle.clap.specs.declared.builder.command.Command.{Command}
 use Rattle.clap.specs.declared.builder.value_parser.ValueParser.TheVariants.{Names, Signed}
 use Rattle.clap.specs.declared.parser.matches.ArgMatches.{ArgMatches}
-use Rattle.thp_model.specs.Prelude.{max_blocks}
+use Rattle.thp_history.specs.Prelude.{max_blocks}
 use Rattle.thp_script.specs.Prelude.{max_nodes, max_workers}
 use Rattle.thp_cli.specs.CommandLine.{IsThpsplit}
 use Rattle.thp_cli.specs.Options.{HasValue}

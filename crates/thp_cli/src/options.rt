@@ -9,7 +9,7 @@ use crate::help::AFTER_HELP;
 use crate::version::VERSION;
 use clap::{Arg, ArgAction, Command, value_parser};
 use std::alloc::{AllocError, Global};
-use thp_model::Shape;
+use thp_history::Shape;
 use thp_script::{MAX_NODES, MAX_WORKERS};
 
 static REPORTS: [&str; 3] = ["totals", "journal", "answers"];

@@ -7,7 +7,7 @@ ghost use Rattle.thp_cli.specs.declared.calls.DeviceCall.TheVariants as call;
 use crate::calls::DeviceCall;
 use std::io::{Read, Write};
 use std::marker::Model;
-use thp_model::Trace;
+use thp_history::Trace;
 
 /// A reader or a writer, with a flag that is set after a call of it has failed. Contracts also see its calls.
 #[derive(Drop)]

@@ -3,9 +3,9 @@ use Rattle.std.proofs.Common.{◌≡◌, ◌+◌, ◌-◌, ◌*◌, ◌/◌, ◌
 use Rattle.std.proofs.Math.Pow.{pow_mono}
 use Rattle.std.proofs.lemmas.List.Sums.{count_by-le-length}
 use Rattle.std.proofs.lemmas.Nat.{mul-le, shl-shr}
-use Rattle.thp_model.specs.declared.events.Event.{Event}
-use Rattle.thp_model.specs.declared.shape.Shape.{Shape}
-use Rattle.thp_model.specs.Prelude.{allocations, is_alloc, FramesAreKept, History, count_of, IsLegal, subpages, IsShape}
+use Rattle.thp_history.specs.declared.events.Event.{Event}
+use Rattle.thp_history.specs.declared.shape.Shape.{Shape}
+use Rattle.thp_history.specs.Prelude.{allocations, is_alloc, FramesAreKept, History, count_of, IsLegal, subpages, IsShape}
 use Rattle.thp_drawing.specs.Drawn.{IsDrawn}
 use Rattle.thp_drawing.specs.Rows.{allocated_pages}
 use Rattle.thp_drawing.specs.Scales.{plus}

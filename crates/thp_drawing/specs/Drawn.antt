@@ -1,7 +1,7 @@
 -- The data of a node that is drawn.
 use Rattle.std.specs.Prelude.{◌≡◌, List, None, length}
-use Rattle.thp_model.specs.declared.shape.Shape.{Shape}
-use Rattle.thp_model.specs.Prelude.{History}
+use Rattle.thp_history.specs.declared.shape.Shape.{Shape}
+use Rattle.thp_history.specs.Prelude.{History}
 use Rattle.thp_metrics.specs.declared.numbers.Numbers.{Numbers}
 use Rattle.thp_metrics.specs.Prelude.{columns_of, IsWidth, numbers_at, series, AreStuck}
 use Rattle.thp_drawing.specs.declared.node.DrawnNode.{DrawnNode}

@@ -1,7 +1,7 @@
 -- Laws of drawings.
 use Rattle.std.specs.Prelude.{◌≡◌, ◌^◌, ◌<◌, length}
-use Rattle.thp_model.specs.declared.shape.Shape.{Shape}
-use Rattle.thp_model.specs.Prelude.{allocations, History, IsLegal, IsShape}
+use Rattle.thp_history.specs.declared.shape.Shape.{Shape}
+use Rattle.thp_history.specs.Prelude.{allocations, History, IsLegal, IsShape}
 use Rattle.thp_drawing.specs.Drawn.{IsDrawn}
 use Rattle.thp_drawing.specs.Rows.{allocated_pages}
 use Rattle.thp_drawing.specs.declared.node.DrawnNode.{DrawnNode}

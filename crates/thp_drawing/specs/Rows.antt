@@ -1,6 +1,6 @@
 -- The individual pages of a node, if few were allocated: a row for each, whose bars show its stages.
 use Rattle.std.specs.Prelude.{ℕ, zero, suc, Bool, false, ◌+◌, ◌-◌, ◌/◌, ◌^◌, ◌&&◌, min, List, [], ◌++◌, codes, if◌then◌else◌, nat_eq, nat_le}
-use Rattle.thp_model.specs.Prelude.{max_order}
+use Rattle.thp_history.specs.Prelude.{max_order}
 use Rattle.thp_metrics.specs.declared.column.Column.{Column}
 use Rattle.thp_metrics.specs.declared.stage.Stage.{Stage}
 use Rattle.thp_metrics.specs.declared.stage.Stage.TheVariants.{Allocated, PartlyMapped, Queued, InBatch, Split}

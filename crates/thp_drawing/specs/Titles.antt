@@ -1,6 +1,6 @@
 -- The title of a node above its panels.
 use Rattle.std.specs.Prelude.{ℕ, ◌-◌, List, [], ◌++◌, length, take, Option, Some, None, codes, if◌then◌else◌, nat_le, decimal}
-use Rattle.thp_model.specs.declared.events.Event.{Event}
+use Rattle.thp_history.specs.declared.events.Event.{Event}
 use Rattle.thp_journal_writer.specs.Prelude.{event_line}
 use Rattle.thp_drawing.specs.Elements.{text_at}
 use Rattle.thp_drawing.specs.Grouped.{many}

@@ -1,5 +1,5 @@
 //! The event at which a drawing ends.
-use thp_model::Event;
+use thp_history::Event;
 
 /// The first event of a node that does not fit those before it.
 #[derive(Clone, Copy, Debug, PartialEq, Eq)]

@@ -4,8 +4,8 @@ ghost use Rattle.thp_drawing.specs.Drawn.{AreColumnsOf, IsDrawn};
 
 use crate::illegal_event::IllegalEvent;
 use std::alloc::{AllocError, Global};
+use thp_history::Shape;
 use thp_metrics::{Column, Columns, NodeSeries, Numbers, StuckPage};
-use thp_model::Shape;
 
 /// The data of a node that is drawn: its numbers over its events, or over those before its first illegal event.
 #[derive(Drop)]

@@ -5,8 +5,8 @@ ghost use Rattle.thp_drawing.specs.Rows.{allocated_pages, has_rows, number_step,
 use crate::bar::Bar;
 use crate::node::DrawnNode;
 use crate::scale::{plus, steps_in, times};
+use thp_history::Shape;
 use thp_metrics::{Column, SHOWN_PAGES, Stage};
-use thp_model::Shape;
 
 /// The greatest number of starts and ends for which bars can be distinguished.
 pub(crate) const MAX_TURNS: u128 = 4000;

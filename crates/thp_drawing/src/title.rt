@@ -7,8 +7,8 @@ ghost use Rattle.thp_drawing.specs.Titles.{shape_words, shortened, threshold_wor
 use crate::element::{PutResult, draw, put_text};
 use crate::illegal_event::IllegalEvent;
 use crate::node::DrawnNode;
+use thp_history::Event;
 use thp_journal_writer::{put, put_event_line};
-use thp_model::Event;
 
 // The greatest number of letters in the line of an event that is shown.
 const MAX_LETTERS: usize = 70;

@@ -3,9 +3,9 @@ use Rattle.std.proofs.Common.{◌≡◌, ℕ, ◌+◌, ◌<◌, Bool, cond, List
 use Rattle.std.proofs.lemmas.Bool.{cases_lt}
 use Rattle.std.proofs.lemmas.List.Elements.{All-cons, All-nil}
 use Rattle.std.proofs.lemmas.Option.{slice_get_within, slice_get-get_or}
-use Rattle.thp_model.specs.declared.shape.Shape.{Shape}
-use Rattle.thp_model.specs.Prelude.{with_least_blocks, History, IsLegal, IsFirstMisfit}
-use Rattle.thp_model.proofs.LeastBlocks.{least_is_legal, least_same}
+use Rattle.thp_history.specs.declared.shape.Shape.{Shape}
+use Rattle.thp_history.specs.Prelude.{with_least_blocks, History, IsLegal, IsFirstMisfit}
+use Rattle.thp_history.proofs.LeastBlocks.{least_is_legal, least_same}
 use Rattle.thp_script.specs.declared.fault.TextKind.TheVariants.{TooLong}
 use Rattle.thp_script.specs.Prelude.{◌>>=◌, Fault, Text, lines_of}
 use Rattle.thp_journal_reader.specs.Prelude.{Journals, NodeJournal, Line, Head, Node, Happened, End, Start, AreLegalBefore, CanBeLegal, IsLegalNode, ReportsIllegal, events_of, journals_with, journals_within, lines_from, node_journal, nodes_of}

@@ -2,7 +2,7 @@
 use Rattle.std.proofs.Common.{◌≡◌, ◌≢◌, ℕ, ◌+◌, ◌-◌, ◌<◌, ◌≤◌, cond, List, [], ◌∷◌, ◌++◌, length, set, get_or, refl, ap, sym, ◌∙◌, subst, arith, inl, inr, nat_eq, eq-eqb, ne_eqb, length-set, length-append, zero-add, Option, Some, None, slice_get, count_by, get_or-set_same, get_or-set_other}
 use Rattle.std.proofs.lemmas.Option.{slice_get_within, slice_get-get_or}
 use Rattle.std.proofs.lemmas.Bool.Decides.{eqb_tells}
-use Rattle.thp_model.proofs.Counting.{count-cons}
+use Rattle.thp_history.proofs.Counting.{count-cons}
 use Rattle.thp_journal_reader.specs.declared.page_blocks.Allocation.{Allocation}
 use Rattle.thp_journal_reader.specs.Chains.{IsChain, IsCovered, IsWalked, place_after}
 use Rattle.thp_live_pages.proofs.Least.{counted_inside}

@@ -3,11 +3,11 @@ use Rattle.std.proofs.Common.{◌≡◌, ℕ, ◌+◌, ◌<◌, ◌≤◌, List,
 use Rattle.std.proofs.lemmas.List.{take-append-le, take_at}
 use Rattle.std.proofs.lemmas.List.Sums.{fold_push}
 use Rattle.std.proofs.lemmas.Option.{slice_get_within}
-use Rattle.thp_model.specs.declared.events.Event.{Event}
-use Rattle.thp_model.specs.declared.shape.Shape.{Shape}
-use Rattle.thp_model.specs.Prelude.{event_with, least_free, History, Fits, IsLegal, IsFirstMisfit}
-use Rattle.thp_model.proofs.LegalSteps.{legal_none}
-use Rattle.thp_model.proofs.ListPlaces.{get_push, get-append_left, get_middle, get_below}
+use Rattle.thp_history.specs.declared.events.Event.{Event}
+use Rattle.thp_history.specs.declared.shape.Shape.{Shape}
+use Rattle.thp_history.specs.Prelude.{event_with, least_free, History, Fits, IsLegal, IsFirstMisfit}
+use Rattle.thp_history.proofs.LegalSteps.{legal_none}
+use Rattle.thp_history.proofs.ListPlaces.{get_push, get-append_left, get_middle, get_below}
 use Rattle.thp_check.specs.declared.misfit.Misfit.{Misfit}
 use Rattle.thp_check.specs.Prelude.{Explains}
 use Rattle.thp_journal_reader.specs.Prelude.{NodeJournal, AreLegalBefore, IsFirstIllegalEvent, IsLegalNode, ReportsFirst, first_of, nodes_told, LastIsIllegal, began, on_last, with_event, with_line, IsNodeBefore, Illegal, Line}

@@ -2,16 +2,16 @@
 use Rattle.std.proofs.Common.{◌≡◌, ℕ, Bool, false, List, [], ◌∷◌, ◌++◌, Option, Some, None, Result, Ok, arith, codes, refl, IfSome, bytes_eq, length-append}
 use Rattle.std.specs.Result.{result_ok}
 use Rattle.std.proofs.lemmas.Slice.Eq.{bytes_eq-Decides}
-use Rattle.thp_model.specs.declared.events.Event.{Event}
-use Rattle.thp_model.specs.declared.events.Outcome.{Outcome}
-use Rattle.thp_model.specs.declared.events.Outcome.TheVariants.{Stays, Queued, Freed}
-use Rattle.thp_model.specs.declared.events.What.TheVariants as what
-use Rattle.thp_model.specs.Prelude.{by, loss_what, set_of}
+use Rattle.thp_history.specs.declared.events.Event.{Event}
+use Rattle.thp_history.specs.declared.events.Outcome.{Outcome}
+use Rattle.thp_history.specs.declared.events.Outcome.TheVariants.{Stays, Queued, Freed}
+use Rattle.thp_history.specs.declared.events.What.TheVariants as what
+use Rattle.thp_history.specs.Prelude.{by, loss_what, set_of}
 use Rattle.thp_script.specs.declared.fault.TextKind.{TextKind}
 use Rattle.thp_script.specs.Prelude.{Text, number_of, pieces_at, FastNumber}
 use Rattle.thp_script.proofs.FastParsingLaws.{number_whole, of_some, whole_front}
 use Rattle.thp_script.proofs.TextLaws.{pieces-append}
-use Rattle.thp_model.specs.declared.page_call.Loss.{Loss}
+use Rattle.thp_history.specs.declared.page_call.Loss.{Loss}
 use Rattle.thp_journal_reader.specs.Prelude.{EventWord, PageWord, RangeWord, Happened, Version, FastEvent, FastLine, FastOperands, FastOutcome, FastSet, FastWord, event_by, event_of, loss_event, page_event, range_event, split_event, unmap_event, outcome_and_word, event_word, outcome_of, page_what, range_what, by_words, line_by, set_of_text, set_with}
 use Rattle.thp_journal_reader.proofs.PlainLines.{line_of-read}
 use Rattle.thp_journal_reader.proofs.PlainWords.{event_word_letters, letters_whole}

@@ -1,11 +1,11 @@
 -- What a follower knows of the nodes, as one more node begins and as one more event is read.
 use Rattle.std.proofs.Common.{◌≡◌, ◌∙◌, ◌⊎◌, ℕ, ◌+◌, ◌≤◌, List, [], ◌∷◌, ◌++◌, length, Option, Some, None, refl, sym, ap, ap₂, subst, arith, inl, inr, length-append, All, Bool, IfSome, true, false, take_at}
 use Rattle.std.proofs.lemmas.List.Elements.{All-nil}
-use Rattle.thp_model.specs.declared.events.Event.{Event}
-use Rattle.thp_model.specs.declared.shape.Shape.{Shape}
-use Rattle.thp_model.specs.Prelude.{event_with, least_free, History, Fits, IsFirstMisfit}
-use Rattle.thp_model.proofs.LegalSteps.{legal_push}
-use Rattle.thp_model.proofs.ListPlaces.{get_middle}
+use Rattle.thp_history.specs.declared.events.Event.{Event}
+use Rattle.thp_history.specs.declared.shape.Shape.{Shape}
+use Rattle.thp_history.specs.Prelude.{event_with, least_free, History, Fits, IsFirstMisfit}
+use Rattle.thp_history.proofs.LegalSteps.{legal_push}
+use Rattle.thp_history.proofs.ListPlaces.{get_middle}
 use Rattle.thp_check.specs.declared.misfit.Misfit.{Misfit}
 use Rattle.thp_check.specs.Prelude.{Explains, Replayed, with_event as replayed_with}
 use Rattle.thp_script.specs.Prelude.{max_counted}

@@ -3,15 +3,15 @@ use Rattle.std.proofs.Common.{◌≡◌, ℕ, ◌+◌, Bool, true, false, cond, 
 use Rattle.std.specs.List.{fold, list_any}
 use Rattle.std.proofs.lemmas.List.Sums.{fold_push}
 use Rattle.std.proofs.lemmas.Bool.Decides.{eqb_tells}
-use Rattle.thp_model.specs.declared.events.Event.{Event}
-use Rattle.thp_model.specs.declared.events.Outcome.{Outcome}
-use Rattle.thp_model.specs.declared.events.Outcome.TheVariants.{Freed}
-use Rattle.thp_model.specs.declared.events.What.{What}
-use Rattle.thp_model.specs.declared.events.What.TheVariants.{Alloc}
-use Rattle.thp_model.specs.Prelude.{allocates, frees, is_alloc, is_freed, places, places_live, block_in_use, History, by, count_of, some_event}
-use Rattle.thp_model.proofs.Bools.{and-false, and-true, or_first, or_second, or-false}
-use Rattle.thp_model.proofs.Counting.{count-cons, count_any}
-use Rattle.thp_model.proofs.Pushes.{count_of_push, some_event_push}
+use Rattle.thp_history.specs.declared.events.Event.{Event}
+use Rattle.thp_history.specs.declared.events.Outcome.{Outcome}
+use Rattle.thp_history.specs.declared.events.Outcome.TheVariants.{Freed}
+use Rattle.thp_history.specs.declared.events.What.{What}
+use Rattle.thp_history.specs.declared.events.What.TheVariants.{Alloc}
+use Rattle.thp_history.specs.Prelude.{allocates, frees, is_alloc, is_freed, places, places_live, block_in_use, History, by, count_of, some_event}
+use Rattle.thp_history.proofs.Bools.{and-false, and-true, or_first, or_second, or-false}
+use Rattle.thp_history.proofs.Counting.{count-cons, count_any}
+use Rattle.thp_history.proofs.Pushes.{count_of_push, some_event_push}
 use Rattle.thp_journal_reader.specs.Freeing.{freed_by, freed_page}
 use Rattle.thp_journal_reader.specs.HeldBlocks.{is_unfreed, holds_one, times_held, with_its_block, blocks_of}
 

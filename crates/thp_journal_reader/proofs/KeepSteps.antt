@@ -2,10 +2,10 @@
 use Rattle.std.proofs.Common.{◌≡◌, ℕ, ◌+◌, ◌<◌, ◌≤◌, Bool, true, false, cond, not, ◌&&◌, List, [], ◌∷◌, ◌++◌, length, set, get_or, refl, ap, sym, ◌∙◌, subst, arith, inl, inr, nat_eq, length-set, length-append, Option, Some, None, replicate, count_by, get_or-set_same, get_or-set_other}
 use Rattle.std.specs.List.{range_with_len}
 use Rattle.std.proofs.lemmas.Bool.Decides.{eqb_tells}
-use Rattle.thp_model.specs.declared.events.Event.{Event}
-use Rattle.thp_model.specs.declared.events.What.TheVariants.{Alloc}
-use Rattle.thp_model.specs.declared.shape.Shape.{Shape}
-use Rattle.thp_model.specs.Prelude.{first_that, least_free, is_alloc, block_in_use, History, by, count_of, some_event}
+use Rattle.thp_history.specs.declared.events.Event.{Event}
+use Rattle.thp_history.specs.declared.events.What.TheVariants.{Alloc}
+use Rattle.thp_history.specs.declared.shape.Shape.{Shape}
+use Rattle.thp_history.specs.Prelude.{first_that, least_free, is_alloc, block_in_use, History, by, count_of, some_event}
 use Rattle.thp_live_pages.specs.Prelude.{least_of}
 use Rattle.thp_journal_reader.specs.declared.page_blocks.Allocation.{Allocation}
 use Rattle.thp_journal_reader.specs.declared.pages.PageRecord.{PageRecord}
@@ -13,7 +13,7 @@ use Rattle.thp_journal_reader.specs.declared.pages.PageRecord.TheVariants.{Freed
 use Rattle.thp_journal_reader.specs.Chains.{IsChain, IsCovered}
 use Rattle.thp_journal_reader.specs.Freeing.{freed_page}
 use Rattle.thp_journal_reader.specs.HeldBlocks.{is_unfreed, times_held, blocks_of, IsKnown, Keeps}
-use Rattle.thp_model.proofs.Bools.{and-false, and-true}
+use Rattle.thp_history.proofs.Bools.{and-false, and-true}
 use Rattle.thp_journal_reader.proofs.Chaining.{chain_new, chain_kept}
 use Rattle.thp_live_pages.proofs.FreeWords.{zeros-get, zeros-length}
 use Rattle.thp_journal_reader.proofs.Held.{held_quiet, held_freed, held_more, held_without, held_again, blocks_push, no_new_block, unfreed_same, unfreed_without, frees_none, free_is}

@@ -1,6 +1,6 @@
 -- Journals whose text comes in parts: what was read, with what the text to come says, is what the whole text says.
 use Rattle.std.proofs.Common.{◌≡◌, ◌∙◌, ◌+◌, ◌<◌, ℕ, List, [], ◌∷◌, ◌++◌, length, Some, None, Result, Ok, Err, refl, ap, append_assoc, length-append, arith, lt-ltb, append-nil}
-use Rattle.thp_model.specs.declared.events.Event.{Event}
+use Rattle.thp_history.specs.declared.events.Event.{Event}
 use Rattle.thp_script.specs.declared.fault.TextKind.{TextKind}
 use Rattle.thp_script.specs.Prelude.{fault_after, ◌>>=◌, Fault, nothing_of, Text, lines_of}
 use Rattle.thp_script.proofs.TextLaws.{first_line, whole_comes}

@@ -2,13 +2,13 @@
 use Rattle.std.proofs.Common.{◌≡◌, ◌^◌, ◌-◌, ℕ, Bool, true, false, cond, List, [], ◌∷◌, Option, None, Ok, Err, subst, refl, sym, inl, inr, codes, not, All}
 use Rattle.std.specs.List.{list_all, list_any}
 use Rattle.std.proofs.lemmas.List.Elements.{All-cons, All-nil}
-use Rattle.thp_model.specs.declared.events.Event.{Event}
-use Rattle.thp_model.specs.declared.events.Outcome.{Outcome}
+use Rattle.thp_history.specs.declared.events.Event.{Event}
+use Rattle.thp_history.specs.declared.events.Outcome.{Outcome}
 use Rattle.thp_script.specs.declared.fault.TextKind.{TextKind}
 use Rattle.thp_script.specs.declared.fault.TextKind.TheVariants.{BadByte, BadWord}
 use Rattle.thp_script.specs.Prelude.{number_up_to, one_word, two_words, fault_of_line, is_empty, is_printable, Text, words_of}
 use Rattle.thp_script.proofs.LineLaws.{IsPlain, bind_ok, none_empty, ok_value, one_plain, pieces_printable, plain_word, word_cases}
-use Rattle.thp_model.specs.declared.page_call.Loss.{Loss}
+use Rattle.thp_history.specs.declared.page_call.Loss.{Loss}
 use Rattle.thp_journal_reader.specs.Prelude.{EventWord, OfPage, OfRange, OfLoss, UnmapSub, Split, Close, PageWord, RangeWord, Line, Version, Plain, Orders, Underused, caller_number, close_event, event_by, event_of, loss_event, loss_words, no_words, outcome_and_word, page_event, page_number, range_event, range_loss_words, range_number, split_event, three_words, unmap_event, event_word, outcome_of, before, by_words, end_of, event_line, head_of, line_by, line_of, node_of, node_with, number_between, ordered_node, plain_node, threshold_of, underused_node, version_of, set_of_text}
 use Rattle.thp_journal_reader.proofs.PlainWords.{event_word_plain, number_plain, one_or, outcome_plain, set_plain}
 

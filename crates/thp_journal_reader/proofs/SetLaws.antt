@@ -4,8 +4,8 @@ use Rattle.std.specs.List.{list_any}
 use Rattle.std.proofs.Math.Bool.{or_comm}
 use Rattle.std.proofs.lemmas.Bool.{cases_lt, eq-eqb, ne_eqb, le-leb, lt-leb, le-ltb, lt-ltb}
 use Rattle.std.proofs.lemmas.List.Folds.{list_any-append}
-use Rattle.thp_model.specs.Prelude.{covers, has, set_of, get_or-set_of, length-set_of}
-use Rattle.thp_model.proofs.WordLemmas.{set_of-ext, set_set_of}
+use Rattle.thp_history.specs.Prelude.{covers, has, set_of, get_or-set_of, length-set_of}
+use Rattle.thp_history.proofs.WordLemmas.{set_of-ext, set_set_of}
 use Rattle.thp_script.specs.declared.fault.TextKind.{TextKind}
 use Rattle.thp_script.specs.declared.fault.TextKind.TheVariants.{BadSet}
 use Rattle.thp_script.specs.Prelude.{◌>>=◌, Text, pieces_at, pieces_left}

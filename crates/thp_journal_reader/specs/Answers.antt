@@ -1,6 +1,6 @@
 -- The results of the check of a journal text.
 use Rattle.std.specs.Prelude.{◌≡◌, ◌<◌, ◌+◌, ◌⊎◌, ⊤, ℕ, List, length, slice_get, take, Option, Some, None, Result, Err}
-use Rattle.thp_model.specs.Prelude.{SameButBlocks, History, IsLegal, IsFirstMisfit}
+use Rattle.thp_history.specs.Prelude.{SameButBlocks, History, IsLegal, IsFirstMisfit}
 use Rattle.thp_check.specs.Prelude.{Explains}
 use Rattle.thp_script.specs.Prelude.{Fault}
 use Rattle.thp_journal_reader.specs.declared.illegal.Illegal.{Illegal}

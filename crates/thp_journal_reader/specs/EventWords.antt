@@ -1,10 +1,10 @@
 -- The words of events (this project's journal format).
 use Rattle.std.specs.Prelude.{ℕ, Result, Ok, Err, codes, if◌then◌else◌, bytes_eq}
-use Rattle.thp_model.specs.declared.events.Outcome.{Outcome}
-use Rattle.thp_model.specs.declared.events.Outcome.TheVariants.{Stays, Queued, Freed}
-use Rattle.thp_model.specs.declared.events.What.{What}
-use Rattle.thp_model.specs.declared.page_call.Loss.TheVariants.{UnmapWhole, Unpin}
-use Rattle.thp_model.specs.declared.events.What.TheVariants as what
+use Rattle.thp_history.specs.declared.events.Outcome.{Outcome}
+use Rattle.thp_history.specs.declared.events.Outcome.TheVariants.{Stays, Queued, Freed}
+use Rattle.thp_history.specs.declared.events.What.{What}
+use Rattle.thp_history.specs.declared.page_call.Loss.TheVariants.{UnmapWhole, Unpin}
+use Rattle.thp_history.specs.declared.events.What.TheVariants as what
 use Rattle.thp_script.specs.declared.fault.TextKind.{TextKind}
 use Rattle.thp_script.specs.declared.fault.TextKind.TheVariants.{BadWord}
 use Rattle.thp_script.specs.Prelude.{Text}

@@ -1,8 +1,8 @@
 -- What is known of nodes that are followed line by line, and what is kept of each (this project's profile).
 use Rattle.std.specs.Prelude.{◌≡◌, ◌≤◌, ◌+◌, ◌⊎◌, ⊤, ℕ, Bool, true, All, List, [], ◌∷◌, ◌++◌, length, not, ◌&&◌, Option, Some, None, IfSome, is_some}
 use Rattle.std.specs.List.{fold, AllZip}
-use Rattle.thp_model.specs.declared.shape.Shape.{Shape}
-use Rattle.thp_model.specs.Prelude.{History, IsFirstMisfit}
+use Rattle.thp_history.specs.declared.shape.Shape.{Shape}
+use Rattle.thp_history.specs.Prelude.{History, IsFirstMisfit}
 use Rattle.thp_check.specs.Prelude.{Replayed}
 use Rattle.thp_script.specs.Prelude.{max_counted}
 use Rattle.thp_journal_reader.specs.declared.follower.FollowedNodes.{FollowedNodes}

@@ -1,9 +1,9 @@
 -- The page that an event frees, and the block of an allocation. No public clause cites this module.
 use Rattle.std.specs.Prelude.{ℕ, ◌<◌, ⊤, Option, Some, None}
-use Rattle.thp_model.specs.declared.events.Outcome.{Outcome}
-use Rattle.thp_model.specs.declared.events.Outcome.TheVariants.{Freed}
-use Rattle.thp_model.specs.declared.events.What.{What}
-use Rattle.thp_model.specs.declared.events.What.TheVariants.{Alloc, UnmapWhole, UnmapSub, Unpin}
+use Rattle.thp_history.specs.declared.events.Outcome.{Outcome}
+use Rattle.thp_history.specs.declared.events.Outcome.TheVariants.{Freed}
+use Rattle.thp_history.specs.declared.events.What.{What}
+use Rattle.thp_history.specs.declared.events.What.TheVariants.{Alloc, UnmapWhole, UnmapSub, Unpin}
 
 -- the page, if the outcome is that it is freed
 abbrev pub freed_by : ℕ → Outcome → Option ℕ

@@ -1,8 +1,8 @@
 -- The content of a journal's line, and its allowed positions (this project's journal format).
 use Rattle.std.specs.Prelude.{◌==◌, ◌^◌, ◌-◌, ◌+◌, not, nat_lt, nat_le, ℕ, Bool, true, false, List, [], ◌∷◌, Option, Some, None, Result, Ok, Err, codes, if◌then◌else◌, bytes_eq}
 use Rattle.std.specs.List.{list_all, list_any}
-use Rattle.thp_model.specs.declared.events.Event.{Event}
-use Rattle.thp_model.specs.Prelude.{event_with, max_blocks, max_order, min_order}
+use Rattle.thp_history.specs.declared.events.Event.{Event}
+use Rattle.thp_history.specs.Prelude.{event_with, max_blocks, max_order, min_order}
 use Rattle.thp_script.specs.declared.fault.TextKind.{TextKind}
 use Rattle.thp_script.specs.declared.fault.TextKind.TheVariants.{BadByte, BadWord, BadNumber, BadOrder}
 use Rattle.thp_script.specs.Prelude.{number_up_to, one_word, max_nodes, is_empty, is_printable, ◌>>=◌, Text, words_of}

@@ -1,7 +1,7 @@
 -- Journals as text: the events of each node, or the first error (this project's journal format).
 use Rattle.std.specs.Prelude.{◌≤◌, ◌+◌, ℕ, nat_lt, All, List, [], ◌∷◌, length, Option, Some, None, Result, Ok, Err, if◌then◌else◌}
-use Rattle.thp_model.specs.declared.shape.Shape.{Shape}
-use Rattle.thp_model.specs.Prelude.{with_least_blocks, History, IsShape}
+use Rattle.thp_history.specs.declared.shape.Shape.{Shape}
+use Rattle.thp_history.specs.Prelude.{with_least_blocks, History, IsShape}
 use Rattle.thp_script.specs.declared.fault.TextKind.{TextKind}
 use Rattle.thp_script.specs.declared.fault.TextKind.TheVariants.{TooLong, Cut}
 use Rattle.thp_script.specs.Prelude.{max_input, fault_after, ◌>>=◌, Fault, on_line, Text, lines_of}

@@ -1,7 +1,7 @@
 -- What is kept of a node by a check that needs its verdict alone.
 use Rattle.std.specs.Prelude.{⊤, Option}
-use Rattle.thp_model.specs.Prelude.{History}
-use Rattle.thp_model.specs.declared.shape.Shape.{Shape}
+use Rattle.thp_history.specs.Prelude.{History}
+use Rattle.thp_history.specs.declared.shape.Shape.{Shape}
 use Rattle.thp_check.specs.Prelude.{Replayed}
 use Rattle.thp_journal_reader.specs.declared.illegal.Illegal.{Illegal}
 

@@ -1,8 +1,8 @@
 -- What is before a line is before the next one, too: ghost members of traits, which cite no file of proofs, need it here.
 use Rattle.std.specs.Prelude.{◌+◌, ℕ, Bool, List, Option, All}
 use Rattle.std.proofs.Math.Nat.{le_trans, le-add_right}
-use Rattle.thp_model.specs.declared.shape.Shape.{Shape}
-use Rattle.thp_model.specs.Prelude.{History}
+use Rattle.thp_history.specs.declared.shape.Shape.{Shape}
+use Rattle.thp_history.specs.Prelude.{History}
 use Rattle.thp_check.specs.Prelude.{Replayed}
 use Rattle.thp_journal_reader.specs.declared.follower.FollowedNodes.{FollowedNodes}
 use Rattle.thp_journal_reader.specs.declared.illegal.Illegal.{Illegal}

@@ -1,6 +1,6 @@
 -- The bounds that the grammar implies for the values on a line. No public clause cites this module.
 use Rattle.std.specs.Prelude.{◌≤◌, ⊤}
-use Rattle.thp_model.specs.Prelude.{IsShape}
+use Rattle.thp_history.specs.Prelude.{IsShape}
 use Rattle.thp_journal_reader.specs.declared.line.Line.{Line}
 use Rattle.thp_journal_reader.specs.declared.line.Line.TheVariants.{Node}
 

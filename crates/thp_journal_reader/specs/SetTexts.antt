@@ -1,7 +1,7 @@
 -- Sets of subpages from text: their maximal runs, in ascending order and separated by commas (this project's journal format).
 use Rattle.std.specs.Prelude.{ℕ, ◌+◌, ◌&&◌, nat_le, nat_lt, Bool, List, [], ◌∷◌, Result, Ok, Err, codes, ok_or, if◌then◌else◌, bytes_eq}
 use Rattle.std.specs.List.{list_any}
-use Rattle.thp_model.specs.Prelude.{set_of}
+use Rattle.thp_history.specs.Prelude.{set_of}
 use Rattle.thp_script.specs.declared.fault.TextKind.{TextKind}
 use Rattle.thp_script.specs.declared.fault.TextKind.TheVariants.{BadSet}
 use Rattle.thp_script.specs.Prelude.{◌>>=◌, Text, number_of, pieces_at}

@@ -5,8 +5,8 @@ ghost use Rattle.thp_journal_reader.specs.EventLines.{caller_number, close_event
 
 use crate::event_word::{EventWord, PageWord, RangeWord, event_word, outcome_of};
 use crate::set_text::set_of_text;
+use thp_history::{Done, Event, Loss, MAX_CALLERS, Outcome, PageId, What};
 use thp_journal_writer::Version;
-use thp_model::{Done, Event, Loss, MAX_CALLERS, Outcome, PageId, What};
 use thp_script::{TextKind, Words, number};
 
 /// Parses a number of at most `most`.

@@ -1,11 +1,11 @@
 //! Parses one event from the bytes of its line.
 ghost use Rattle.std.specs.Prelude.{◌≡◌};
-ghost use Rattle.thp_model.specs.Prelude.{event_with};
+ghost use Rattle.thp_history.specs.Prelude.{event_with};
 ghost use Rattle.thp_journal_reader.specs.JournalLines.{event_told};
 
 use crate::line::{Line, line_of};
+use thp_history::{Event, What};
 use thp_journal_writer::Version;
-use thp_model::{Event, What};
 use thp_script::TextKind;
 
 /// Parses a line of a journal, without its line feed, as an event in a version of the format; or returns the error of the line.

@@ -3,8 +3,8 @@ ghost use Rattle.std.specs.Prelude.{◌≡◌, IfSome};
 ghost use Rattle.thp_journal_reader.specs.FastParsing.{FastWord};
 ghost use Rattle.thp_journal_reader.specs.EventWords.{common_word, event_word, later_word, outcome_of, page_what, range_what};
 
+use thp_history::{Loss, Outcome, PageId, What};
 use thp_journal_writer::Version;
-use thp_model::{Loss, Outcome, PageId, What};
 use thp_script::{TextKind, after_name};
 
 /// Events with a page.

@@ -6,9 +6,9 @@ ghost use Rattle.thp_journal_reader.specs.Later.{follows_later};
 ghost use Rattle.thp_journal_reader.specs.LineRanges.{IsInRange};
 ghost use Rattle.thp_journal_reader.specs.Reading.{began, on_last, with_event, with_line};
 ghost use Rattle.thp_journal_reader.specs.declared.journals.NodeJournal.{NodeJournal};
-ghost use Rattle.thp_model.specs.Prelude.{event_with, least_free, IsShape};
-ghost use Rattle.thp_model.specs.declared.events.Event.{Event};
-ghost use Rattle.thp_model.specs.declared.events.What.TheVariants.{Alloc};
+ghost use Rattle.thp_history.specs.Prelude.{event_with, least_free, IsShape};
+ghost use Rattle.thp_history.specs.declared.events.Event.{Event};
+ghost use Rattle.thp_history.specs.declared.events.What.TheVariants.{Alloc};
 ghost use Rattle.thp_script.specs.Prelude.{max_counted};
 
 use crate::follows_node::{FollowsNode, Stopped};
@@ -16,7 +16,7 @@ use crate::illegal::Illegal;
 use crate::keeps_nodes::KeepsNodes;
 use crate::line::Line;
 use std::alloc::{AllocError, Global};
-use thp_model::{Event, PageId, Shape, Trace, What};
+use thp_history::{Event, PageId, Shape, Trace, What};
 
 /// What is known of the nodes so far. `F` follows the current node, and a `K` is kept of each other.
 #[derive(Drop)]

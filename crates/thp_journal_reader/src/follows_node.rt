@@ -3,13 +3,13 @@ ghost use Rattle.std.specs.Prelude.{◌≡◌, ◌<◌, ◌+◌, ◌^◌, [], Bo
 ghost use Rattle.thp_check.specs.Prelude.{Explains, with_event, Replayed};
 ghost use Rattle.thp_journal_reader.specs.Keeping.{KeepsNothing, LeavesNothing};
 ghost use Rattle.thp_journal_reader.specs.declared.illegal.Illegal.{Illegal};
-ghost use Rattle.thp_model.specs.Prelude.{least_free, History, Fits, IsShape};
-ghost use Rattle.thp_model.specs.declared.shape.Shape.{Shape};
+ghost use Rattle.thp_history.specs.Prelude.{least_free, History, Fits, IsShape};
+ghost use Rattle.thp_history.specs.declared.shape.Shape.{Shape};
 
 use crate::illegal::Illegal;
 use std::alloc::{AllocError, Global};
 use thp_check::{Misfit, Replay};
-use thp_model::{Event, Shape};
+use thp_history::{Event, Shape};
 
 /// The data of a node whose next event does not fit.
 #[derive(Drop)]

@@ -1,6 +1,6 @@
 //! The first illegal event of a text.
 use thp_check::Misfit;
-use thp_model::Event;
+use thp_history::Event;
 
 /// The first illegal event in a text, and why it is illegal.
 #[derive(Clone, Copy, Debug, PartialEq, Eq)]

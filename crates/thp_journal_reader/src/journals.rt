@@ -1,5 +1,5 @@
 //! Journals as values.
-use thp_model::{Event, Shape};
+use thp_history::{Event, Shape};
 use thp_script::Sequence;
 
 /// The journal of a node, read from a text.

@@ -2,15 +2,15 @@
 ghost use Rattle.std.specs.Prelude.{◌≡◌, ◌<◌, ◌≤◌, Some, [], ◌∷◌, ◌++◌, IfOk, OnOk, OnErr};
 ghost use Rattle.thp_journal_reader.specs.Freeing.{freed_page, IsInside};
 ghost use Rattle.thp_journal_reader.specs.BlocksState.{with_event};
-ghost use Rattle.thp_model.specs.Prelude.{event_with, least_free};
+ghost use Rattle.thp_history.specs.Prelude.{event_with, least_free};
 
 use crate::holders::BlockHolders;
 use crate::page_blocks::PageBlocks;
 use crate::pages::PageRecord;
 use std::alloc::{AllocError, Global};
 use std::marker::Model;
+use thp_history::{Event, PageId, Shape, Trace, What};
 use thp_live_pages::freed_page;
-use thp_model::{Event, PageId, Shape, Trace, What};
 
 /// Follows a node's events and chooses the blocks of their allocations: each page gets the least block that holds no live page,
 /// or block 0 if every block is held.

@@ -1,12 +1,12 @@
 //! Parses lines of a journal.
 ghost use Rattle.std.specs.Prelude.{◌≡◌, ◌≤◌, ◌<◌, ◌^◌, Ok, Err, IfOk, IfSome, MatchResult};
-ghost use Rattle.thp_model.specs.Prelude.{max_order, min_order};
+ghost use Rattle.thp_history.specs.Prelude.{max_order, min_order};
 ghost use Rattle.thp_journal_reader.specs.JournalLines.{before, by_words, end_of, event_line, head_of, line_by, line_of, node_of, node_with, number_between, ordered_node, plain_node, threshold_of, underused_node, version_of};
 ghost use Rattle.thp_journal_reader.specs.LineRanges.{IsInRange};
 
 use crate::event_line::{event_of, small_number};
+use thp_history::{Event, Shape};
 use thp_journal_writer::Version;
-use thp_model::{Event, Shape};
 use thp_script::{MAX_NODES, TextKind, Words, fault_of_line};
 
 /// The content of a line of a journal.

@@ -6,7 +6,7 @@ ghost use Rattle.thp_journal_reader.specs.PageRecord.{known_of};
 use crate::holders::BlockHolders;
 use crate::pages::{PageRecord, Pages};
 use std::alloc::{AllocError, Global};
-use thp_model::PageId;
+use thp_history::PageId;
 
 // An allocation of a page that was not freed, and the preceding one of the same page.
 #[derive(Clone, Copy)]

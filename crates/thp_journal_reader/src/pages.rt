@@ -4,7 +4,7 @@ ghost use Rattle.thp_journal_reader.specs.PageRecord.{known_of};
 
 use std::alloc::{AllocError, Global};
 use std::collections::BTreeMap;
-use thp_model::PageId;
+use thp_history::PageId;
 
 // What is known of a page.
 #[derive(Clone, Copy)]

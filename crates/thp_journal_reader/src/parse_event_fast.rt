@@ -6,8 +6,8 @@ ghost use Rattle.thp_journal_reader.specs.EventLines.{event_by, loss_event, page
 
 use crate::event_word::{EventWord, PageWord, RangeWord, parse_word_fast};
 use crate::set_text::set_of_text;
+use thp_history::{Done, Event, Loss, MAX_CALLERS, Outcome, PageId, SubSet, What};
 use thp_journal_writer::Version;
-use thp_model::{Done, Event, Loss, MAX_CALLERS, Outcome, PageId, SubSet, What};
 use thp_script::{after_name, cut_at, parse_number_fast};
 
 /// Parses an outcome at the beginning of a text, and returns it with the text after the following space.

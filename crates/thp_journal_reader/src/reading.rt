@@ -1,6 +1,6 @@
 //! Collects the nodes of a journal as its lines are read.
 ghost use Rattle.std.specs.Prelude.{◌≡◌, ◌≤◌, ◌+◌, ◌++◌, ◌∷◌, [], IfOk, IfErr, OnOk, IfSome};
-ghost use Rattle.thp_model.specs.Prelude.{by};
+ghost use Rattle.thp_history.specs.Prelude.{by};
 ghost use Rattle.thp_journal_reader.specs.Later.{reads_later};
 ghost use Rattle.thp_journal_reader.specs.LineRanges.{IsInRange};
 ghost use Rattle.thp_journal_reader.specs.Reading.{began, journal_so_far, nodes_in, with_event, with_line, on_last, GoesAlong, IsReading};
@@ -12,7 +12,7 @@ use crate::keeps_nodes::KeepsNodes;
 use crate::least_blocks::LeastBlocks;
 use crate::line::Line;
 use std::alloc::{AllocError, Global};
-use thp_model::{Event, Shape, What};
+use thp_history::{Event, Shape, What};
 use thp_script::{ReadFault, Sequence};
 
 /// A node whose events are being read, and the blocks of its pages.

@@ -1,9 +1,9 @@
 //! Parses sets of subpages.
 ghost use Rattle.std.specs.Prelude.{◌≡◌, ◌≤◌, ◌+◌, ◌||◌, [], IfOk, length};
-ghost use Rattle.thp_model.specs.Prelude.{has, set_of};
+ghost use Rattle.thp_history.specs.Prelude.{has, set_of};
 ghost use Rattle.thp_journal_reader.specs.SetTexts.{covers_number, longer_run, run_from, run_of, run_of_one, set_of_runs, set_of_text, set_with, subpage_number};
 
-use thp_model::SubSet;
+use thp_history::SubSet;
 use thp_script::{TextKind, cut_at, number};
 
 fn subpage_number(word: &[u8]) -> Result<u32, TextKind>

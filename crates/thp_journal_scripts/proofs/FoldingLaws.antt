@@ -1,10 +1,10 @@
 -- What each step of a script adds.
 use Rattle.std.proofs.Common.{◌≡◌, ◌∙◌, ◌+◌, ℕ, List, [], ◌∷◌, ◌++◌, append_assoc, ap, refl, subst, sym, All, append-nil}
 use Rattle.std.proofs.lemmas.List.Elements.{All-append, All-cons, All-nil}
-use Rattle.thp_model.specs.declared.events.Event.{Event}
-use Rattle.thp_model.specs.declared.events.What.{What}
-use Rattle.thp_model.specs.declared.events.What.TheVariants as what
-use Rattle.thp_model.specs.Prelude.{with_block, History}
+use Rattle.thp_history.specs.declared.events.Event.{Event}
+use Rattle.thp_history.specs.declared.events.What.{What}
+use Rattle.thp_history.specs.declared.events.What.TheVariants as what
+use Rattle.thp_history.specs.Prelude.{with_block, History}
 use Rattle.thp_script.specs.declared.script.Op.{Op}
 use Rattle.thp_script.specs.declared.script.Op.TheVariants as op
 use Rattle.thp_journal_scripts.specs.Prelude.{EventKind, Call, Take, Try, Put, Folding, ScriptBatch, Idle, Taking, Open, Closing, pending_ops, settled, Completes, PutsMore, TakesMore, TriesMore, nothing_moved, AddsCommands, AddsEvent, AddsPlain, AddsTo, Ends, HasAdded, IsAtPlace, IsFoldedTo, Moved, call_in, kind_of, IsBy, counted, scan_place, scan_place_after, Between, Elsewhere, InPuts, InTakes, InTries, IsCallOrScan, ScanPlace}

@@ -2,10 +2,10 @@
 use Rattle.std.proofs.Common.{◌≡◌, ◌∙◌, ◌++◌, ◌+◌, ℕ, List, [], ◌∷◌, Option, Some, None, append_assoc, ap, ap₂, arith, inl, inr, length, map, refl, subst, sym, take, is_some, slice_get, true, false, OnOk, Result}
 use Rattle.std.proofs.lemmas.List.{map-append, take-append-le, take_at}
 use Rattle.std.proofs.lemmas.Option.{slice_get_within}
-use Rattle.thp_model.specs.declared.events.Event.{Event}
-use Rattle.thp_model.specs.declared.shape.Shape.{Shape}
-use Rattle.thp_model.specs.Prelude.{event_with, least_free, History, IsFirstMisfit}
-use Rattle.thp_model.proofs.ListPlaces.{get_middle, get_push}
+use Rattle.thp_history.specs.declared.events.Event.{Event}
+use Rattle.thp_history.specs.declared.shape.Shape.{Shape}
+use Rattle.thp_history.specs.Prelude.{event_with, least_free, History, IsFirstMisfit}
+use Rattle.thp_history.proofs.ListPlaces.{get_middle, get_push}
 use Rattle.thp_journal_reader.specs.declared.illegal.Illegal.{Illegal}
 use Rattle.thp_journal_scripts.specs.Prelude.{JournalScript, ended_nodes, repeated_of, told_of, AddsLine, IsLegalPart, IsScripting, IsScriptOf, moved_by, nodes_of, out_of_turn_by, taken_of, untaken, BeginsNode, EndedNode, EndsAs, EndsNode, GoesOnWith, IsWriting, NodeScript}
 use Rattle.thp_journal_reader.specs.declared.journals.NodeJournal.{NodeJournal}

@@ -1,10 +1,10 @@
 -- Commands that repeat a history, one part of it after the other, and the calls among them.
 use Rattle.std.proofs.Common.{◌≡◌, ◌∙◌, ℕ, true, false, cond, List, [], ◌∷◌, ◌++◌, length, zero, suc, Option, Some, append_assoc, ap, refl, subst, sym, All, replicate, append-nil}
 use Rattle.std.proofs.lemmas.List.Elements.{All-cons, All-head, All-nil, All-tail}
-use Rattle.thp_model.specs.declared.events.Event.{Event}
-use Rattle.thp_model.specs.declared.events.What.{What}
-use Rattle.thp_model.specs.declared.events.What.TheVariants as what
-use Rattle.thp_model.specs.Prelude.{History}
+use Rattle.thp_history.specs.declared.events.Event.{Event}
+use Rattle.thp_history.specs.declared.events.What.{What}
+use Rattle.thp_history.specs.declared.events.What.TheVariants as what
+use Rattle.thp_history.specs.Prelude.{History}
 use Rattle.thp_script.specs.declared.script.Op.{Op}
 use Rattle.thp_script.specs.declared.script.Op.TheVariants.{SplitNext}
 use Rattle.thp_journal_scripts.specs.Prelude.{EventKind, Call, Try, call_in, calls_in, calls_of, is_call, kind_of, IsBy, IsCall, Repeats, RepeatsBy}

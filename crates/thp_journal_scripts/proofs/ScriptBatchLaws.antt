@@ -1,8 +1,8 @@
 -- The script so far, event by event.
 use Rattle.std.proofs.Common.{◌≡◌, ◌∙◌, ◌+◌, ℕ, Option, List, [], ◌∷◌, ◌++◌, cond, length, None, Some, append_assoc, ap, arith, length-append, refl, subst, sym, All, replicate, append-nil}
 use Rattle.std.proofs.lemmas.List.Elements.{All-append, All-cons, All-nil}
-use Rattle.thp_model.specs.declared.events.Event.{Event}
-use Rattle.thp_model.specs.Prelude.{History}
+use Rattle.thp_history.specs.declared.events.Event.{Event}
+use Rattle.thp_history.specs.Prelude.{History}
 use Rattle.thp_script.specs.declared.script.Op.{Op}
 use Rattle.thp_script.specs.declared.script.Op.TheVariants as op
 use Rattle.thp_journal_scripts.specs.Prelude.{EventKind, Call, Take, Try, Put, ScriptBatch, Idle, Taking, Trying, Scanned, Open, Closing, open_by, pending_ops, settled, Completes, IsPending, PutsMore, RepeatsUpTo, TakesMore, TriesMore, nothing_moved, IsFoldedTo, IsScript, Moved, IsCallOrScan, IsWholeScans, counted, Interleaves, IsOfBatch, IsScan, neither, first, second, call_in, calls_in, calls_of, kind_of, AreBy, IsBy, IsScanBy, Repeats, RepeatsBy}

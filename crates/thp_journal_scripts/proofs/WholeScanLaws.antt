@@ -3,11 +3,11 @@ use Rattle.std.proofs.Common.{◌≡◌, ◌∙◌, ℕ, Bool, true, false, cond
 use Rattle.std.specs.List.{list_any}
 use Rattle.std.proofs.lemmas.Bool.Decides.{nat_tests}
 use Rattle.std.proofs.lemmas.List.Sums.{fold_push}
-use Rattle.thp_model.specs.declared.events.Event.{Event}
-use Rattle.thp_model.specs.declared.events.Outcome.{Outcome}
-use Rattle.thp_model.specs.declared.events.What.{What}
-use Rattle.thp_model.specs.declared.events.What.TheVariants as what
-use Rattle.thp_model.specs.Prelude.{History}
+use Rattle.thp_history.specs.declared.events.Event.{Event}
+use Rattle.thp_history.specs.declared.events.Outcome.{Outcome}
+use Rattle.thp_history.specs.declared.events.What.{What}
+use Rattle.thp_history.specs.declared.events.What.TheVariants as what
+use Rattle.thp_history.specs.Prelude.{History}
 use Rattle.thp_script.specs.declared.script.Op.{Op}
 use Rattle.thp_journal_scripts.specs.Prelude.{EventKind, Folding, FlyingPage, ScriptBatch, settled, Completes, EndsPuts, EndsTakes, EndsTries, IsIncomplete, PutsMore, TakesMore, TakesSome, TriesMore, AddsPlain, flying, flying_after, leave, leave_if_freed, nothing_moved, pages_at, IsAt, IsAtPlace, IsQuiet, KeepsFlights, kind_of, once_ended, pages_after, IsCallOrScan, place_of_call, place_of_put, place_of_take, place_of_try, scan_place, scan_place_after, scan_place_of, without_first, ScanPlace, Between, InTakes, Elsewhere}
 use Rattle.thp_journal_scripts.specs.declared.event_kind.EventKind.TheVariants as kind

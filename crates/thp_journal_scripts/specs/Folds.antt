@@ -1,11 +1,11 @@
 -- The script of a node's events.
 use Rattle.std.specs.Prelude.{◌≡◌, ◌++◌, ℕ, nat_eq, All, List, [], ◌∷◌, None, length, map, if◌then◌else◌}
-use Rattle.thp_model.specs.declared.events.Event.{Event}
-use Rattle.thp_model.specs.declared.events.Outcome.{Outcome}
-use Rattle.thp_model.specs.declared.events.Outcome.TheVariants.{Freed}
-use Rattle.thp_model.specs.declared.events.What.{What}
-use Rattle.thp_model.specs.declared.events.What.TheVariants.{UnmapWhole, UnmapSub, Unpin, Taken, Split, Used, Back, Dropped}
-use Rattle.thp_model.specs.Prelude.{History}
+use Rattle.thp_history.specs.declared.events.Event.{Event}
+use Rattle.thp_history.specs.declared.events.Outcome.{Outcome}
+use Rattle.thp_history.specs.declared.events.Outcome.TheVariants.{Freed}
+use Rattle.thp_history.specs.declared.events.What.{What}
+use Rattle.thp_history.specs.declared.events.What.TheVariants.{UnmapWhole, UnmapSub, Unpin, Taken, Split, Used, Back, Dropped}
+use Rattle.thp_history.specs.Prelude.{History}
 use Rattle.thp_script.specs.declared.script.Op.{Op}
 use Rattle.thp_journal_scripts.specs.declared.folding.Folding.{Folding}
 use Rattle.thp_journal_scripts.specs.declared.moved.Moved.{Moved}

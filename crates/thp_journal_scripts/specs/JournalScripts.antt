@@ -1,7 +1,7 @@
 -- The script of a journal: that of its nodes' legal events, up to the first illegal one (this project's profile).
 use Rattle.std.specs.Prelude.{◌≡◌, ℕ, All, List, [], ◌∷◌, ◌++◌, Option, Some, None, length, map, take}
-use Rattle.thp_model.specs.declared.shape.Shape.{Shape}
-use Rattle.thp_model.specs.Prelude.{event_with, History, IsFirstMisfit}
+use Rattle.thp_history.specs.declared.shape.Shape.{Shape}
+use Rattle.thp_history.specs.Prelude.{event_with, History, IsFirstMisfit}
 use Rattle.thp_journal_reader.specs.declared.illegal.Illegal.{Illegal}
 use Rattle.thp_journal_scripts.specs.declared.journal_script.JournalScript.{JournalScript}
 use Rattle.thp_journal_reader.specs.declared.journals.NodeJournal.{NodeJournal}

@@ -1,8 +1,8 @@
 -- The script of several nodes as text, and how far it has been written (this project's profile).
 use Rattle.std.specs.Prelude.{◌≡◌, ◌++◌, ◌-◌, ◌^◌, ℕ, All, List, [], ◌∷◌, Option, Some, None, codes, length, map, min, fold, sum_by}
-use Rattle.thp_model.specs.declared.events.Event.{Event}
-use Rattle.thp_model.specs.declared.shape.Shape.{Shape}
-use Rattle.thp_model.specs.Prelude.{History}
+use Rattle.thp_history.specs.declared.events.Event.{Event}
+use Rattle.thp_history.specs.declared.shape.Shape.{Shape}
+use Rattle.thp_history.specs.Prelude.{History}
 use Rattle.thp_script.specs.declared.script.Op.{Op}
 use Rattle.thp_journal_scripts.specs.declared.folding.Folding.{Folding}
 use Rattle.thp_journal_scripts.specs.declared.journal_script.JournalScript.{JournalScript}

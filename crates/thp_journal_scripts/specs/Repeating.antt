@@ -1,10 +1,10 @@
 -- Scripts that repeat a history: which events each command repeats (this project's profile).
 use Rattle.std.specs.Prelude.{◌≡◌, ◌++◌, ℕ, Bool, true, false, All, List, [], ◌∷◌, Option, Some, None, length, filter, flat_map}
 use Rattle.std.specs.Option.{option_map_or}
-use Rattle.thp_model.specs.declared.events.Event.{Event}
-use Rattle.thp_model.specs.declared.events.What.{What}
-use Rattle.thp_model.specs.declared.events.What.TheVariants.{Alloc, Taken, Split, Pinned, Used, Close}
-use Rattle.thp_model.specs.Prelude.{History, recorded_call}
+use Rattle.thp_history.specs.declared.events.Event.{Event}
+use Rattle.thp_history.specs.declared.events.What.{What}
+use Rattle.thp_history.specs.declared.events.What.TheVariants.{Alloc, Taken, Split, Pinned, Used, Close}
+use Rattle.thp_history.specs.Prelude.{History, recorded_call}
 use Rattle.thp_script.specs.Prelude.{page_op}
 use Rattle.thp_script.specs.declared.script.Op.{Op}
 use Rattle.thp_script.specs.declared.script.Op.TheVariants as op

@@ -1,6 +1,6 @@
 -- The batch of a script, of which some events have no command yet. No public clause cites this module.
 use Rattle.std.specs.Prelude.{◌≡◌, ◌++◌, ◌+◌, ◌≤◌, ℕ, All, List, [], ◌∷◌, Option, Some, None, replicate}
-use Rattle.thp_model.specs.Prelude.{History, max_batch}
+use Rattle.thp_history.specs.Prelude.{History, max_batch}
 use Rattle.thp_script.specs.declared.script.Op.{Op}
 use Rattle.thp_script.specs.declared.script.Op.TheVariants as op
 use Rattle.thp_journal_scripts.specs.declared.event_kind.EventKind.TheVariants.{Take, Try, Put}

@@ -1,10 +1,10 @@
 -- Whether a batch tries its pages in the order in which it took them (this project's profile).
 use Rattle.std.specs.Prelude.{ℕ, Bool, false, not, nat_eq, if◌then◌else◌, List, [], ◌∷◌, ◌++◌, ◌+◌, Option, Some, None, find, fold, position, remove}
-use Rattle.thp_model.specs.declared.events.Event.{Event}
-use Rattle.thp_model.specs.declared.events.Outcome.TheVariants.{Freed}
-use Rattle.thp_model.specs.declared.events.What.{What}
-use Rattle.thp_model.specs.declared.events.What.TheVariants.{UnmapWhole, UnmapSub, Unpin, Taken, Split, Pinned, Used, Back, Dropped}
-use Rattle.thp_model.specs.Prelude.{History}
+use Rattle.thp_history.specs.declared.events.Event.{Event}
+use Rattle.thp_history.specs.declared.events.Outcome.TheVariants.{Freed}
+use Rattle.thp_history.specs.declared.events.What.{What}
+use Rattle.thp_history.specs.declared.events.What.TheVariants.{UnmapWhole, UnmapSub, Unpin, Taken, Split, Pinned, Used, Back, Dropped}
+use Rattle.thp_history.specs.Prelude.{History}
 use Rattle.thp_journal_scripts.specs.declared.turns.UntriedPage.{UntriedPage}
 
 -- the page that an event tries

@@ -1,10 +1,10 @@
 -- Histories of whole scans: a caller takes pages, tries each once, and puts back or drops those that are still in flight, and no
 -- other event comes between these (this project's profile).
 use Rattle.std.specs.Prelude.{◌≡◌, ◌≤◌, ◌+◌, ◌++◌, ◌&&◌, ℕ, nat_eq, nat_lt, List, [], ◌∷◌, length, if◌then◌else◌, fold}
-use Rattle.thp_model.specs.declared.events.Event.{Event}
-use Rattle.thp_model.specs.declared.events.What.{What}
-use Rattle.thp_model.specs.declared.events.What.TheVariants.{Taken, Split, Used, Back, Dropped}
-use Rattle.thp_model.specs.Prelude.{History, max_batch}
+use Rattle.thp_history.specs.declared.events.Event.{Event}
+use Rattle.thp_history.specs.declared.events.What.{What}
+use Rattle.thp_history.specs.declared.events.What.TheVariants.{Taken, Split, Used, Back, Dropped}
+use Rattle.thp_history.specs.Prelude.{History, max_batch}
 use Rattle.thp_script.specs.declared.script.Op.{Op}
 use Rattle.thp_script.specs.declared.script.Op.TheVariants as op
 use Rattle.thp_journal_scripts.specs.declared.event_kind.EventKind.{EventKind}

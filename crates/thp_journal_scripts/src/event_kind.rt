@@ -2,7 +2,7 @@
 ghost use Rattle.std.specs.Prelude.{◌≡◌};
 ghost use Rattle.thp_journal_scripts.specs.Repeating.{kind_of};
 
-use thp_model::What;
+use thp_history::What;
 use thp_script::Op;
 
 /// The kind of an event, by the command that repeats it.

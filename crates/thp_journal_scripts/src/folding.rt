@@ -1,9 +1,9 @@
 //! The commands that repeat the events of a node.
 ghost use Rattle.std.specs.Prelude.{◌≡◌, ◌++◌, ◌+◌, [], ◌∷◌, ℕ, IfOk, OnOk, true};
-ghost use Rattle.thp_model.specs.Prelude.{event_with};
-ghost use Rattle.thp_model.specs.declared.events.Event.{Event};
-ghost use Rattle.thp_model.specs.declared.events.What.{What};
-ghost use Rattle.thp_model.specs.declared.events.What.TheVariants.{Taken};
+ghost use Rattle.thp_history.specs.Prelude.{event_with};
+ghost use Rattle.thp_history.specs.declared.events.Event.{Event};
+ghost use Rattle.thp_history.specs.declared.events.What.{What};
+ghost use Rattle.thp_history.specs.declared.events.What.TheVariants.{Taken};
 ghost use Rattle.thp_journal_scripts.specs.ScriptBatches.{pending_ops, settled};
 ghost use Rattle.thp_journal_scripts.specs.Folds.{flying_after, leave_if_freed, AddsCommands, AddsEvent, AddsPlain, AddsTo, Ends, GoesOn, HasAdded, IsAtPlace, IsFolded, KeepsFlights};
 ghost use Rattle.thp_journal_scripts.specs.Moving.{counted};
@@ -18,7 +18,7 @@ use crate::open_flights::OpenFlights;
 use crate::script_batch::ScriptBatch;
 use crate::waiting_flights::WaitingFlights;
 use std::alloc::{AllocError, Global};
-use thp_model::{Event, Outcome, PageId, What};
+use thp_history::{Event, Outcome, PageId, What};
 use thp_script::Op;
 
 /// The script of one caller that repeats a node's events, which are added one by one.

@@ -1,6 +1,6 @@
 //! The script of the nodes in a journal.
 ghost use Rattle.std.specs.Prelude.{◌≡◌, ◌++◌, ◌-◌, [], ℕ, None, OnOk};
-ghost use Rattle.thp_model.specs.Prelude.{event_with};
+ghost use Rattle.thp_history.specs.Prelude.{event_with};
 ghost use Rattle.thp_journal_scripts.specs.NodeScripts.{head_text, moved_by, out_of_turn_by, taken_of, untaken, BeginsNode, EndsNode, GoesOnWith, IsWriting, StaysWritten};
 ghost use Rattle.thp_journal_scripts.specs.ScriptTexts.{commands_text};
 
@@ -11,8 +11,8 @@ use crate::options_text::put_options;
 use crate::text_trace::TextTrace;
 use crate::turns::Turns;
 use std::alloc::{AllocError, Global};
+use thp_history::{Event, Shape};
 use thp_journal_writer::put;
-use thp_model::{Event, Shape};
 use thp_script::Op;
 
 /// The script of the nodes in a journal, in one section `setup`: the commands of one node after those of another. Before each

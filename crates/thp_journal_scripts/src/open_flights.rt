@@ -5,7 +5,7 @@ ghost use Rattle.thp_journal_scripts.specs.Folds.{flying, leave};
 ghost use Rattle.thp_journal_scripts.specs.declared.open_flights.FlyingPage.{FlyingPage};
 
 use std::alloc::{AllocError, Global};
-use thp_model::PageId;
+use thp_history::PageId;
 
 /// A page in flight.
 #[derive(Clone, Copy)]

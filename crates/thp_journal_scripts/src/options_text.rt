@@ -4,8 +4,8 @@ ghost use Rattle.thp_journal_writer.specs.Prelude.{underused_word};
 ghost use Rattle.thp_journal_scripts.specs.ScriptTexts.{blocks_text, count_text, most_blocks, options_line, orders_text, thresholds_text};
 
 use std::alloc::AllocError;
+use thp_history::Shape;
 use thp_journal_writer::{put, put_number};
-use thp_model::Shape;
 
 /// Appends a comment with the options of `thpsplit` for nodes of these shapes. On error the text can contain a prefix of it.
 pub fn put_options(text: &mut Vec<u8>, shapes: &[Shape]) -> Result<(), AllocError>

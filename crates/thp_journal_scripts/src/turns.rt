@@ -5,7 +5,7 @@ ghost use Rattle.thp_journal_scripts.specs.Moving.{counted};
 ghost use Rattle.thp_journal_scripts.specs.Turns.{done_page, first_of, is_out_of_turn, taken_by, tried_page, unless_done, untried_after};
 
 use std::alloc::{AllocError, Global};
-use thp_model::{Event, Outcome, PageId, What};
+use thp_history::{Event, Outcome, PageId, What};
 
 /// A page that was taken and not tried yet.
 #[derive(Clone, Copy)]

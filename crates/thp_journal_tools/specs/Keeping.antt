@@ -1,7 +1,7 @@
 -- What is kept of a node, and what it is made of where an event is illegal.
 use Rattle.std.specs.Prelude.{◌≡◌, Option, None, Some}
-use Rattle.thp_model.specs.Prelude.{History}
-use Rattle.thp_model.specs.declared.shape.Shape.{Shape}
+use Rattle.thp_history.specs.Prelude.{History}
+use Rattle.thp_history.specs.declared.shape.Shape.{Shape}
 use Rattle.thp_check.specs.Prelude.{Replayed}
 use Rattle.thp_metrics.specs.Prelude.{numbers_at, series, AreStuck}
 use Rattle.thp_journal_writer.specs.Prelude.{totals_of}

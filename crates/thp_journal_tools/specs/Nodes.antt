@@ -6,7 +6,7 @@ use Rattle.thp_drawing.specs.declared.illegal_event.IllegalEvent.{IllegalEvent}
 use Rattle.thp_drawing.specs.declared.node.DrawnNode.{DrawnNode}
 use Rattle.thp_journal_reader.specs.declared.journals.NodeJournal.{NodeJournal}
 use Rattle.thp_journal_reader.specs.Prelude.{IsFirstIllegal, IsLegalNode, IsLegalFront}
-use Rattle.thp_model.specs.Prelude.{History}
+use Rattle.thp_history.specs.Prelude.{History}
 use Rattle.thp_metrics.specs.Prelude.{numbers_at, series, AreStuck}
 
 -- it is the node's first illegal event, with its line

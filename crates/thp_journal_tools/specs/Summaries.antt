@@ -1,7 +1,7 @@
 -- The results of a check that also sums nodes up.
 use Rattle.std.specs.Prelude.{◌≡◌, List}
 use Rattle.std.specs.List.{AllZip}
-use Rattle.thp_model.specs.Prelude.{History}
+use Rattle.thp_history.specs.Prelude.{History}
 use Rattle.thp_journal_writer.specs.Prelude.{totals_of}
 use Rattle.thp_journal_writer.specs.declared.totals.Totals.{Totals}
 use Rattle.thp_journal_reader.specs.declared.journals.NodeJournal.{NodeJournal}

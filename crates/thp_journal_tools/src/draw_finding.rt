@@ -16,7 +16,7 @@ use std::time::Clock;
 use thp_check::Misfit;
 use thp_cli::{LongRunFault, Program, Watched};
 use thp_drawing::DrawnNode;
-use thp_model::{Outcome, Refusal, What};
+use thp_history::{Outcome, Refusal, What};
 
 /// Reads the journal from the reader in parts, and returns what is drawn of its nodes.
 pub(crate) fn find_nodes<R: Read, S: Write, C: Clock>(

@@ -17,9 +17,9 @@ use std::io::{Read, Write};
 use std::time::Clock;
 use thp_check::Misfit;
 use thp_cli::{LongRunFault, Program, Watched};
+use thp_history::{Outcome, Refusal, What};
 use thp_journal_reader::LongCheck;
 use thp_journal_writer::Totals;
-use thp_model::{Outcome, Refusal, What};
 
 /// Returns the first illegal event of the journal from the reader, which is read in parts, and the totals of its nodes if the
 /// options request them.

@@ -10,9 +10,9 @@ use std::alloc::Global;
 use std::io::{Read, Write};
 use thp_check::Misfit;
 use thp_cli::{LongRunFault, Watched, write_all};
+use thp_history::{Outcome, Refusal, What};
 use thp_journal_reader::Illegal;
 use thp_journal_scripts::{Moved, ScriptCheck};
-use thp_model::{Outcome, Refusal, What};
 use thp_script::MAX_COUNTED;
 
 /// The greatest number of bytes of one read.

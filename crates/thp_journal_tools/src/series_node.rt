@@ -5,9 +5,9 @@ ghost use Rattle.thp_journal_tools.specs.Keeping.{KeepsDrawing, LeavesNumbers};
 use std::alloc::{AllocError, Global};
 use std::marker::Model;
 use thp_drawing::{DrawnNode, IllegalEvent};
+use thp_history::{Event, Shape};
 use thp_journal_reader::{FollowsNode, Illegal, Stopped};
 use thp_metrics::{NodeSeries, SeriesEnd};
-use thp_model::{Event, Shape};
 
 /// A node whose events so far are legal, followed for its numbers.
 #[derive(Drop)]

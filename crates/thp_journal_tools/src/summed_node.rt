@@ -6,9 +6,9 @@ ghost use Rattle.thp_journal_writer.specs.Prelude.{totals_of};
 use std::alloc::{AllocError, Global};
 use std::marker::Model;
 use thp_check::Replay;
+use thp_history::{Event, Shape};
 use thp_journal_reader::{FollowsNode, Illegal, Stopped};
 use thp_journal_writer::Totals;
-use thp_model::{Event, Shape};
 
 /// A node whose events so far are legal, followed for its totals.
 #[derive(Drop)]

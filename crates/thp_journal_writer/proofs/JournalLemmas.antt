@@ -3,7 +3,7 @@ use Rattle.std.proofs.Common.{◌≡◌, ℕ, suc, ◌+◌, ◌<◌, List, [], �
 use Rattle.std.proofs.Math.Seq.{take-suc}
 use Rattle.std.proofs.lemmas.Grind.{flat_map-append}
 use Rattle.std.proofs.lemmas.List.{append-nil, map-append, length-map, length-take-le}
-use Rattle.thp_model.specs.declared.events.Event.{Event}
+use Rattle.thp_history.specs.declared.events.Event.{Event}
 use Rattle.thp_journal_writer.specs.Prelude.{NodeHistory, Version, event_line, journal_of, Journal, ended, version_of, version_line, node_line, lines_of_node, journal_lines, journal_text}
 use Rattle.thp_journal_writer.specs.Journals.{lines_from}
 

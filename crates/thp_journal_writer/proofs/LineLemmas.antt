@@ -1,12 +1,12 @@
 -- Lines made piece by piece.
 use Rattle.std.proofs.Common.{◌≡◌, ℕ, ◌+◌, ◌/◌, ◌%◌, ◌<◌, ◌≤◌, List, [], ◌∷◌, ◌++◌, map, refl, ap, sym, ◌∙◌, arith, append_assoc, codes, Bool, true, false, ◌||◌, ◌&&◌, decimal}
 use Rattle.std.proofs.lemmas.Fmt.{decimal_digit, decimal_step}
-use Rattle.thp_model.specs.declared.events.Event.{Event}
-use Rattle.thp_model.specs.declared.events.What.{What}
+use Rattle.thp_history.specs.declared.events.Event.{Event}
+use Rattle.thp_history.specs.declared.events.What.{What}
 use Rattle.thp_journal_writer.specs.Prelude.{line_of, what_words, event_words, event_line, NodeHistory, Version, Plain, Orders, Underused, journal_of, Journal, ended, is_access, node_line, underused_word, tells_underused, has_order_9, version_line, version_number, version_of}
 use Rattle.std.specs.List.{list_any, list_all}
-use Rattle.thp_model.specs.declared.shape.Shape.{Shape}
-use Rattle.thp_model.specs.Prelude.{some_event, shrinks_underused}
+use Rattle.thp_history.specs.declared.shape.Shape.{Shape}
+use Rattle.thp_history.specs.Prelude.{some_event, shrinks_underused}
 
 -- a number of two digits
 pub two_digits : (n : ℕ) → 10 ≤ n → n < 100 → decimal n ≡ (48 + n / 10) ∷ (48 + n % 10) ∷ []

@@ -1,10 +1,10 @@
 -- Journals written line by line (this project's journal format).
 use Rattle.std.specs.Prelude.{◌≡◌, ◌==◌, ⊤, nat_le, ℕ, Bool, List, [], ◌∷◌, ◌++◌, length, is_some, codes, if◌then◌else◌, flat_map}
-use Rattle.thp_model.specs.declared.events.Event.{Event}
-use Rattle.thp_model.specs.declared.events.What.{What}
-use Rattle.thp_model.specs.declared.events.What.TheVariants.{Write, Zero, Used}
-use Rattle.thp_model.specs.declared.shape.Shape.{Shape}
-use Rattle.thp_model.specs.Prelude.{History}
+use Rattle.thp_history.specs.declared.events.Event.{Event}
+use Rattle.thp_history.specs.declared.events.What.{What}
+use Rattle.thp_history.specs.declared.events.What.TheVariants.{Write, Zero, Used}
+use Rattle.thp_history.specs.declared.shape.Shape.{Shape}
+use Rattle.thp_history.specs.Prelude.{History}
 use Rattle.thp_journal_writer.specs.declared.put_fault.PutFault.{PutFault}
 use Rattle.thp_journal_writer.specs.declared.put_fault.PutFault.TheVariants.{OutOfMemory, VersionTooLow}
 use Rattle.thp_journal_writer.specs.declared.version.Version.{Version}

@@ -1,8 +1,8 @@
 -- The totals of nodes, and their text (this project's formats; the counters' names are those of
 -- `admin-guide/mm/transhuge.rst`, "Monitoring usage").
 use Rattle.std.specs.Prelude.{ℕ, ◌+◌, List, [], ◌∷◌, ◌++◌, Option, Some, None, codes, length, map, if◌then◌else◌, decimal}
-use Rattle.thp_model.specs.declared.shape.Shape.{Shape}
-use Rattle.thp_model.specs.Prelude.{thp_split_page, thp_split_page_failed, thp_deferred_split_page, thp_split_pmd, thp_underused_split_page, allocations, frames_given, frames_held, History, queue, shrinks_underused}
+use Rattle.thp_history.specs.declared.shape.Shape.{Shape}
+use Rattle.thp_history.specs.Prelude.{thp_split_page, thp_split_page_failed, thp_deferred_split_page, thp_split_pmd, thp_underused_split_page, allocations, frames_given, frames_held, History, queue, shrinks_underused}
 use Rattle.thp_journal_writer.specs.declared.totals.Totals.{Totals}
 
 -- the totals of a node of this shape, with this history; the last one exists if its shrinker looks for underused pages

@@ -9,7 +9,7 @@ ghost use Rattle.thp_journal_writer.specs.SetTexts.{set_text};
 use crate::numbers::{put, put_number};
 use crate::sets::put_set;
 use std::alloc::AllocError;
-use thp_model::{Event, Outcome, PageId, SubSet, What};
+use thp_history::{Event, Outcome, PageId, SubSet, What};
 
 /// Appends the line of an event of any kind, with its line feed, for any version of the format. On error the text can contain a
 /// prefix of the line.

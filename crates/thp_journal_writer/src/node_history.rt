@@ -4,7 +4,7 @@ ghost use Rattle.std.specs.List.{list_any};
 ghost use Rattle.thp_journal_writer.specs.Histories.{journal_of};
 ghost use Rattle.thp_journal_writer.specs.Journals.{is_access, tells_underused as is_told_underused};
 
-use thp_model::{Event, Shape, What};
+use thp_history::{Event, Shape, What};
 
 /// The size of a node, and its events, oldest first.
 #[derive(Clone, Copy, Debug)]

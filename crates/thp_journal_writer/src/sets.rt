@@ -5,7 +5,7 @@ ghost use Rattle.thp_journal_writer.specs.SetTexts.{runs_from, run_text, set_tex
 
 use crate::numbers::{put, put_number};
 use std::alloc::AllocError;
-use thp_model::SubSet;
+use thp_history::SubSet;
 
 // The elements of sets are below this number.
 const SUBPAGES: u32 = 512;

@@ -18,7 +18,7 @@ use crate::events::put_event_line;
 use crate::put_fault::PutFault;
 use crate::version::Version;
 use crate::writer::put_node_line;
-use thp_model::{Event, Shape};
+use thp_history::{Event, Shape};
 
 /// Appends the line of node n, whose events follow, to a text of this version. Nodes are numbered from 0.
 pub fn put_node(

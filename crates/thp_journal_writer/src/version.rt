@@ -3,7 +3,7 @@ ghost use Rattle.std.specs.Prelude.{◌≡◌};
 ghost use Rattle.thp_journal_writer.specs.Journals.{version_number};
 ghost use Rattle.thp_journal_writer.specs.Streams.{shape_version, tells, what_version};
 
-use thp_model::{Shape, What};
+use thp_history::{Shape, What};
 
 /// The version of a journal's text. Each later one contains more about a node; a text has the least version that suffices for its
 /// nodes.

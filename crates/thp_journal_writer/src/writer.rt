@@ -10,7 +10,7 @@ use crate::node_history::NodeHistory;
 use crate::numbers::{put, put_number};
 use crate::version::Version;
 use std::alloc::{AllocError, Global};
-use thp_model::Shape;
+use thp_history::Shape;
 
 /// Returns the journal text of these nodes, which are numbered from 0.
 ///

@@ -1,8 +1,8 @@
 -- What two histories that are the same but for blocks say alike, each definition by itself.
 use Rattle.std.proofs.Common.{◌≡◌, ℕ, refl}
-use Rattle.thp_model.specs.declared.events.What.TheVariants.{Alloc}
-use Rattle.thp_model.specs.Prelude.{SameButBlocks, allocates, closes, frees, maps, maps_whole, pins_page, splits, unmaps, unmaps_whole, unpins_page, History, count_of, some_event}
-use Rattle.thp_model.proofs.Alike.{allocates_blind, count_alike, frees_blind, maps_blind, pin_blind, some_alike, splits_blind, unmaps_blind, unpin_blind, Blind}
+use Rattle.thp_history.specs.declared.events.What.TheVariants.{Alloc}
+use Rattle.thp_history.specs.Prelude.{SameButBlocks, allocates, closes, frees, maps, maps_whole, pins_page, splits, unmaps, unmaps_whole, unpins_page, History, count_of, some_event}
+use Rattle.thp_history.proofs.Alike.{allocates_blind, count_alike, frees_blind, maps_blind, pin_blind, some_alike, splits_blind, unmaps_blind, unpin_blind, Blind}
 
 -- mappings of whole pages have no block
 whole_blind : (p : ℕ) → Blind (maps_whole p)

@@ -4,11 +4,11 @@ use Rattle.std.specs.Prelude.{⊤, slice_get, All, if◌then◌else◌}
 use Rattle.std.specs.List.{fold, AllByRecursion}
 use Rattle.std.proofs.lemmas.List.{append-nil, map-append}
 use Rattle.std.proofs.lemmas.List.Elements.{recursion_from_All}
-use Rattle.thp_model.specs.declared.events.Event.{Event}
-use Rattle.thp_model.specs.declared.events.What.{What}
-use Rattle.thp_model.specs.declared.events.What.TheVariants as what
-use Rattle.thp_model.specs.declared.events.What.TheVariants.{Taken, Split, Pinned, Used}
-use Rattle.thp_model.specs.Prelude.{by, History}
+use Rattle.thp_history.specs.declared.events.Event.{Event}
+use Rattle.thp_history.specs.declared.events.What.{What}
+use Rattle.thp_history.specs.declared.events.What.TheVariants as what
+use Rattle.thp_history.specs.declared.events.What.TheVariants.{Taken, Split, Pinned, Used}
+use Rattle.thp_history.specs.Prelude.{by, History}
 use Rattle.thp_script.specs.declared.script.Op.{Op}
 use Rattle.thp_journal_scripts.specs.declared.event_kind.EventKind.TheVariants.{Call, Put, Try}
 use Rattle.thp_journal_scripts.specs.declared.turns.UntriedPage.{UntriedPage}

@@ -2,11 +2,11 @@
 use Rattle.std.proofs.Common.{◌≡◌, ◌<◌, ◌≤◌, ◌^◌, ℕ, Bool, true, false, cond, not, List, [], ◌∷◌, length, Ok, Err, refl, ap, ◌∙◌, arith, codes, ok_or, decimal}
 use Rattle.std.specs.List.{list_all, list_any}
 use Rattle.std.proofs.lemmas.Bool.{and_from}
-use Rattle.thp_model.specs.declared.events.Event.{Event}
-use Rattle.thp_model.specs.declared.events.Outcome.{Outcome}
-use Rattle.thp_model.specs.declared.events.What.{What}
-use Rattle.thp_model.specs.declared.events.What.TheVariants.{Alloc, MapWhole, UnmapWhole, MapSub, UnmapSub, SplitPmd, Pin, Unpin, Write, Zero, Taken, Split, Pinned, Used, Back, Dropped, Close}
-use Rattle.thp_model.specs.Prelude.{event_with, with_block, by, loss_what}
+use Rattle.thp_history.specs.declared.events.Event.{Event}
+use Rattle.thp_history.specs.declared.events.Outcome.{Outcome}
+use Rattle.thp_history.specs.declared.events.What.{What}
+use Rattle.thp_history.specs.declared.events.What.TheVariants.{Alloc, MapWhole, UnmapWhole, MapSub, UnmapSub, SplitPmd, Pin, Unpin, Write, Zero, Taken, Split, Pinned, Used, Back, Dropped, Close}
+use Rattle.thp_history.specs.Prelude.{event_with, with_block, by, loss_what}
 use Rattle.thp_script.specs.declared.fault.TextKind.TheVariants.{BadByte, BadNumber, BadWord}
 use Rattle.thp_script.specs.Prelude.{number_up_to, is_empty, is_printable, ◌>>=◌, Text, words_of}
 use Rattle.thp_script.proofs.NumberLaws.{number_of-decimal}
@@ -14,7 +14,7 @@ use Rattle.thp_journal_writer.specs.EventLines as written
 use Rattle.thp_journal_writer.specs.Prelude.{event_words, outcome_word, what_words, HasSmallNumbers, set_text}
 use Rattle.thp_journal_reader.specs.declared.event_word.EventWord.{EventWord}
 use Rattle.thp_journal_reader.specs.declared.event_word.EventWord.TheVariants as word
-use Rattle.thp_model.specs.declared.page_call.Loss.{Loss}
+use Rattle.thp_history.specs.declared.page_call.Loss.{Loss}
 use Rattle.thp_journal_reader.specs.declared.event_word.PageWord.{PageWord}
 use Rattle.thp_journal_reader.specs.declared.event_word.PageWord.TheVariants as page
 use Rattle.thp_journal_reader.specs.declared.event_word.RangeWord.{RangeWord}

@@ -3,10 +3,10 @@ use Rattle.std.proofs.Common.{◌≡◌, ◌<◌, ◌≤◌, ◌+◌, ℕ, suc, 
 use Rattle.std.specs.List.{list_all, AllByRecursion, fold}
 use Rattle.std.proofs.Math.Nat.{add-zero}
 use Rattle.std.proofs.lemmas.Bool.{and_from, le-ltb}
-use Rattle.thp_model.specs.declared.events.Event.{Event}
-use Rattle.thp_model.specs.declared.events.What.{What}
-use Rattle.thp_model.specs.declared.shape.Shape.{Shape}
-use Rattle.thp_model.specs.Prelude.{event_with, with_block, with_least_blocks, least_free, History, by}
+use Rattle.thp_history.specs.declared.events.Event.{Event}
+use Rattle.thp_history.specs.declared.events.What.{What}
+use Rattle.thp_history.specs.declared.shape.Shape.{Shape}
+use Rattle.thp_history.specs.Prelude.{event_with, with_block, with_least_blocks, least_free, History, by}
 use Rattle.thp_script.specs.Prelude.{Fault, lines_of}
 use Rattle.thp_journal_writer.specs.EventLines as written
 use Rattle.thp_journal_writer.specs.Prelude.{event_words, Journal, version_of, lines_of_node, journal_lines, journal_text}

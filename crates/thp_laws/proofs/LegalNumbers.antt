@@ -3,17 +3,17 @@ use Rattle.std.proofs.Common.{◌≡◌, ◌<◌, ◌≤◌, ◌+◌, ◌^◌, �
 use Rattle.std.specs.List.{AllByRecursion}
 use Rattle.std.proofs.lemmas.Bool.{eq-eqb, ltb-false, or_parts}
 use Rattle.std.proofs.lemmas.List.Sums.{count_by-le-length}
-use Rattle.thp_model.specs.declared.events.Event.{Event}
-use Rattle.thp_model.specs.declared.events.What.{What}
-use Rattle.thp_model.specs.declared.events.What.TheVariants.{Alloc, MapWhole, UnmapWhole, MapSub, UnmapSub, SplitPmd, Pin, Unpin, Write, Zero, Taken, Split, Pinned, Used, Back, Dropped, Close}
-use Rattle.thp_model.specs.declared.shape.Shape.{Shape}
-use Rattle.thp_model.specs.Prelude.{allocations, is_alloc, is_live, released, History, count_of, FitsBy, IsLegal, acts_on, IsShape, subpages, length-set_of}
-use Rattle.thp_model.proofs.Alive.{legal_grown}
-use Rattle.thp_model.proofs.Allowed.{allowed_map_sub, allowed_unmap_sub, allowed_write, allowed_zero}
-use Rattle.thp_model.proofs.FlightLaws.{left_alone}
-use Rattle.thp_model.proofs.LegalSteps.{legal_take}
-use Rattle.thp_model.proofs.Numbers.{live_below}
-use Rattle.thp_model.proofs.Sizes.{few_subpages}
+use Rattle.thp_history.specs.declared.events.Event.{Event}
+use Rattle.thp_history.specs.declared.events.What.{What}
+use Rattle.thp_history.specs.declared.events.What.TheVariants.{Alloc, MapWhole, UnmapWhole, MapSub, UnmapSub, SplitPmd, Pin, Unpin, Write, Zero, Taken, Split, Pinned, Used, Back, Dropped, Close}
+use Rattle.thp_history.specs.declared.shape.Shape.{Shape}
+use Rattle.thp_history.specs.Prelude.{allocations, is_alloc, is_live, released, History, count_of, FitsBy, IsLegal, acts_on, IsShape, subpages, length-set_of}
+use Rattle.thp_history.proofs.Alive.{legal_grown}
+use Rattle.thp_history.proofs.Allowed.{allowed_map_sub, allowed_unmap_sub, allowed_write, allowed_zero}
+use Rattle.thp_history.proofs.FlightLaws.{left_alone}
+use Rattle.thp_history.proofs.LegalSteps.{legal_take}
+use Rattle.thp_history.proofs.Numbers.{live_below}
+use Rattle.thp_history.proofs.Sizes.{few_subpages}
 use Rattle.thp_journal_writer.specs.Prelude.{HasSmallNumbers}
 
 -- pages are numbered by the events before them

@@ -2,13 +2,13 @@
 use Rattle.std.proofs.Common.{◌≡◌, ℕ, Bool, true, false, cond, List, [], ◌∷◌, Option, Some, None, refl, sym, ◌∙◌, slice_get, is_some}
 use Rattle.std.specs.List.{AllByRecursion, list_all, list_any}
 use Rattle.std.proofs.lemmas.Bool.{and_parts, eqb-true, false_from_ne_true, or_parts}
-use Rattle.thp_model.specs.declared.events.Event.{Event}
-use Rattle.thp_model.specs.declared.events.What.{What}
-use Rattle.thp_model.specs.declared.events.What.TheVariants.{Write, Zero, Used}
-use Rattle.thp_model.specs.declared.shape.Shape.{Shape}
-use Rattle.thp_model.specs.Prelude.{some_event, IsLegal, shrinks_underused, finds_used}
-use Rattle.thp_model.proofs.PartlyStands.{none_used}
-use Rattle.thp_model.proofs.SomeEvents.{some_passes}
+use Rattle.thp_history.specs.declared.events.Event.{Event}
+use Rattle.thp_history.specs.declared.events.What.{What}
+use Rattle.thp_history.specs.declared.events.What.TheVariants.{Write, Zero, Used}
+use Rattle.thp_history.specs.declared.shape.Shape.{Shape}
+use Rattle.thp_history.specs.Prelude.{some_event, IsLegal, shrinks_underused, finds_used}
+use Rattle.thp_history.proofs.PartlyStands.{none_used}
+use Rattle.thp_history.proofs.SomeEvents.{some_passes}
 use Rattle.thp_journal_writer.specs.Prelude.{Journal, has_order_9, is_access, tells_underused, version_of}
 use Rattle.thp_journal_writer.specs.declared.version.Version.{Version}
 use Rattle.thp_journal_writer.specs.declared.version.Version.TheVariants.{Plain, Orders, Underused}

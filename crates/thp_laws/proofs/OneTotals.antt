@@ -1,8 +1,8 @@
 -- Nodes that are the same but for their blocks have the same totals.
 use Rattle.std.proofs.Common.{◌≡◌, List, [], ◌∷◌, map, refl, ap₂}
 use Rattle.std.specs.List.{AllZip}
-use Rattle.thp_model.specs.declared.shape.Shape.{Shape}
-use Rattle.thp_model.specs.Prelude.{History}
+use Rattle.thp_history.specs.declared.shape.Shape.{Shape}
+use Rattle.thp_history.specs.Prelude.{History}
 use Rattle.thp_journal_writer.specs.Prelude.{Journal}
 use Rattle.thp_laws.specs.SameTotals.{IsSameJournal}
 use Rattle.thp_laws.proofs.TotalsAlike.{one_run}

@@ -3,9 +3,9 @@ use Rattle.std.proofs.Common.{◌≡◌, ◌<◌, ◌≤◌, ◌+◌, ◌^◌, �
 use Rattle.std.specs.List.{AllByRecursion, AllZip, flat_map}
 use Rattle.std.proofs.lemmas.List.{length-map}
 use Rattle.std.proofs.lemmas.List.Elements.{recursion_from_All, All-cons, All-nil}
-use Rattle.thp_model.specs.declared.events.Event.{Event}
-use Rattle.thp_model.specs.Prelude.{History, IsLegal}
-use Rattle.thp_model.proofs.LeastBlocks.{least_same, legal_with_least}
+use Rattle.thp_history.specs.declared.events.Event.{Event}
+use Rattle.thp_history.specs.Prelude.{History, IsLegal}
+use Rattle.thp_history.proofs.LeastBlocks.{least_same, legal_with_least}
 use Rattle.thp_script.specs.Prelude.{Text}
 use Rattle.thp_journal_writer.specs.EventLines as written
 use Rattle.thp_journal_writer.specs.Journals as journal

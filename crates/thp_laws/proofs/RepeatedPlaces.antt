@@ -3,19 +3,19 @@ use Rattle.std.proofs.Common.{◌≡◌, ◌≤◌, ◌+◌, ℕ, Bool, true, fa
 use Rattle.std.specs.Prelude.{⊤}
 use Rattle.std.specs.List.{AllByRecursion, fold}
 use Rattle.std.proofs.lemmas.List.Sums.{fold-append, fold_push}
-use Rattle.thp_model.specs.declared.events.Event.{Event}
-use Rattle.thp_model.specs.declared.events.Outcome.{Outcome}
-use Rattle.thp_model.specs.declared.events.Outcome.TheVariants as outcome
-use Rattle.thp_model.specs.declared.events.What.{What}
-use Rattle.thp_model.specs.declared.events.What.TheVariants as what
-use Rattle.thp_model.specs.declared.shape.Shape.{Shape}
-use Rattle.thp_model.specs.Prelude.{flight_after, flight_by, History, by, IsLegal, flight, without}
-use Rattle.thp_model.proofs.Flights.{flight_push}
-use Rattle.thp_model.proofs.FlightLaws.{flight_none}
-use Rattle.thp_model.proofs.LegalSteps.{legal_front}
-use Rattle.thp_model.proofs.ListPlaces.{append_none}
-use Rattle.thp_model.proofs.OnePlace.{once_flies, without_none}
-use Rattle.thp_model.proofs.Standing.{times, times-cons}
+use Rattle.thp_history.specs.declared.events.Event.{Event}
+use Rattle.thp_history.specs.declared.events.Outcome.{Outcome}
+use Rattle.thp_history.specs.declared.events.Outcome.TheVariants as outcome
+use Rattle.thp_history.specs.declared.events.What.{What}
+use Rattle.thp_history.specs.declared.events.What.TheVariants as what
+use Rattle.thp_history.specs.declared.shape.Shape.{Shape}
+use Rattle.thp_history.specs.Prelude.{flight_after, flight_by, History, by, IsLegal, flight, without}
+use Rattle.thp_history.proofs.Flights.{flight_push}
+use Rattle.thp_history.proofs.FlightLaws.{flight_none}
+use Rattle.thp_history.proofs.LegalSteps.{legal_front}
+use Rattle.thp_history.proofs.ListPlaces.{append_none}
+use Rattle.thp_history.proofs.OnePlace.{once_flies, without_none}
+use Rattle.thp_history.proofs.Standing.{times, times-cons}
 use Rattle.thp_journal_scripts.specs.declared.event_kind.EventKind.{EventKind}
 use Rattle.thp_journal_scripts.specs.declared.event_kind.EventKind.TheVariants.{Call, Take}
 use Rattle.thp_journal_scripts.specs.Prelude.{pages_at, kind_of, once_ended, pages_after, place_of_call, place_of_put, place_of_take, place_of_try, scan_place, scan_place_after, scan_place_of, without_first, ScanPlace, Between, InTakes, Elsewhere}

@@ -2,11 +2,11 @@
 use Rattle.std.proofs.Common.{◌≡◌, ◌≤◌, ◌+◌, ◌⊎◌, ℕ, suc, Bool, true, false, cond, nat_eq, List, [], ◌∷◌, ◌++◌, map, take, length, Option, None, inl, inr, refl, ap, sym, subst, ◌∙◌, arith, append_assoc, eq-eqb, All, slice_get, Some, eqb-true, take_all}
 use Rattle.std.specs.List.{filter, AllByRecursion, range_with_len}
 use Rattle.std.proofs.lemmas.List.Elements.{All-nil, recursion_from_All}
-use Rattle.thp_model.specs.declared.events.Event.{Event}
-use Rattle.thp_model.specs.declared.shape.Shape.{Shape}
-use Rattle.thp_model.specs.Prelude.{SameButBlocks, History, by, events_of, Fits, IsLegal, flight, IsShape}
-use Rattle.thp_model.proofs.LegalSteps.{legal_at, legal_front}
-use Rattle.thp_model.proofs.ListPlaces.{append_none}
+use Rattle.thp_history.specs.declared.events.Event.{Event}
+use Rattle.thp_history.specs.declared.shape.Shape.{Shape}
+use Rattle.thp_history.specs.Prelude.{SameButBlocks, History, by, events_of, Fits, IsLegal, flight, IsShape}
+use Rattle.thp_history.proofs.LegalSteps.{legal_at, legal_front}
+use Rattle.thp_history.proofs.ListPlaces.{append_none}
 use Rattle.thp_script.specs.declared.script.Command.{Command}
 use Rattle.thp_script.specs.declared.script.Op.{Op}
 use Rattle.thp_script.specs.declared.script.Op.TheVariants as op

@@ -2,19 +2,19 @@
 use Rattle.std.proofs.Common.{◌≡◌, ◌<◌, ◌+◌, ℕ, true, false, nat_eq, List, [], ◌∷◌, ◌++◌, map, take, drop, length, Some, refl, ap, ap₂, sym, subst, ◌∙◌, arith, append_assoc, eq-eqb, slice_get, ne_eqb}
 use Rattle.std.specs.List.{AllByRecursion}
 use Rattle.std.proofs.lemmas.List.{length-map}
-use Rattle.thp_model.specs.declared.events.Event.{Event}
-use Rattle.thp_model.specs.declared.events.What.{What}
-use Rattle.thp_model.specs.declared.events.What.TheVariants as what
-use Rattle.thp_model.specs.declared.shape.Shape.{Shape}
-use Rattle.thp_model.specs.Prelude.{pins, History, by, Fits, IsLegal, is_dropped, takes_of, flight, has_page, no_pages, queue, put_back_events, return_event, still_flying, take_events, try_event, unused}
-use Rattle.thp_model.proofs.FlightLaws.{oldest}
-use Rattle.thp_model.proofs.LegalSteps.{legal_at, legal_front}
-use Rattle.thp_model.proofs.ListPlaces.{append_none}
-use Rattle.thp_model.proofs.OnePlace.{flies_live}
-use Rattle.thp_model.proofs.ReturnRuns.{Returned, return_as, returns_run}
-use Rattle.thp_model.proofs.ScanRuns.{NextTry, scan_next_try, scan_taken, scan_tried, TakesLeave, takes_leave}
-use Rattle.thp_model.proofs.TakeRuns.{more_taken, take_runs}
-use Rattle.thp_model.proofs.TryRuns.{split_releases, try_as}
+use Rattle.thp_history.specs.declared.events.Event.{Event}
+use Rattle.thp_history.specs.declared.events.What.{What}
+use Rattle.thp_history.specs.declared.events.What.TheVariants as what
+use Rattle.thp_history.specs.declared.shape.Shape.{Shape}
+use Rattle.thp_history.specs.Prelude.{pins, History, by, Fits, IsLegal, is_dropped, takes_of, flight, has_page, no_pages, queue, put_back_events, return_event, still_flying, take_events, try_event, unused}
+use Rattle.thp_history.proofs.FlightLaws.{oldest}
+use Rattle.thp_history.proofs.LegalSteps.{legal_at, legal_front}
+use Rattle.thp_history.proofs.ListPlaces.{append_none}
+use Rattle.thp_history.proofs.OnePlace.{flies_live}
+use Rattle.thp_history.proofs.ReturnRuns.{Returned, return_as, returns_run}
+use Rattle.thp_history.proofs.ScanRuns.{NextTry, scan_next_try, scan_taken, scan_tried, TakesLeave, takes_leave}
+use Rattle.thp_history.proofs.TakeRuns.{more_taken, take_runs}
+use Rattle.thp_history.proofs.TryRuns.{split_releases, try_as}
 use Rattle.thp_script.specs.declared.script.Op.{Op}
 use Rattle.thp_journal_scripts.specs.declared.event_kind.EventKind.TheVariants.{Call, Put, Take, Try}
 use Rattle.thp_journal_scripts.specs.Prelude.{kind_of, IsBy}

@@ -2,15 +2,15 @@
 use Rattle.std.proofs.Common.{◌≡◌, ◌+◌, ◌⊎◌, ℕ, Bool, true, false, cond, not, nat_eq, List, [], ◌∷◌, ◌++◌, map, take, drop, length, Option, Some, None, Ok, Err, inl, inr, refl, ap, sym, subst, ◌∙◌, append_assoc, eq-eqb, slice_get, ne_eqb, take-append-drop}
 use Rattle.std.specs.List.{after_first, AllByRecursion}
 use Rattle.std.proofs.lemmas.List.Elements.{recursion_from_All}
-use Rattle.thp_model.specs.declared.refusal.Refusal.TheVariants as reason
-use Rattle.thp_model.specs.declared.shape.Shape.{Shape}
-use Rattle.thp_model.specs.Prelude.{SameButBlocks, pins, History, Fits, IsLegal, flight, has_page, no_pages, queue, refusal, next_page, put_back_events, rest_after, still_flying, take_events, tries_of, try_event, is_worth_split}
-use Rattle.thp_model.specs.Refusals as call
-use Rattle.thp_model.proofs.LegalSteps.{legal_front, legal_push}
-use Rattle.thp_model.proofs.ListPlaces.{append_none}
-use Rattle.thp_model.proofs.ScanRuns.{NextTry, scan_next_try, scan_taken, scan_tried}
-use Rattle.thp_model.proofs.TakeRuns.{more_taken, take_runs}
-use Rattle.thp_model.proofs.TryRuns.{try_fits}
+use Rattle.thp_history.specs.declared.refusal.Refusal.TheVariants as reason
+use Rattle.thp_history.specs.declared.shape.Shape.{Shape}
+use Rattle.thp_history.specs.Prelude.{SameButBlocks, pins, History, Fits, IsLegal, flight, has_page, no_pages, queue, refusal, next_page, put_back_events, rest_after, still_flying, take_events, tries_of, try_event, is_worth_split}
+use Rattle.thp_history.specs.Refusals as call
+use Rattle.thp_history.proofs.LegalSteps.{legal_front, legal_push}
+use Rattle.thp_history.proofs.ListPlaces.{append_none}
+use Rattle.thp_history.proofs.ScanRuns.{NextTry, scan_next_try, scan_taken, scan_tried}
+use Rattle.thp_history.proofs.TakeRuns.{more_taken, take_runs}
+use Rattle.thp_history.proofs.TryRuns.{try_fits}
 use Rattle.thp_node.specs.Prelude.{back_reply, tried as answer_to}
 use Rattle.thp_node.specs.declared.answers.BackReply.{BackReply}
 use Rattle.thp_node.specs.declared.answers.Tried.{Tried}

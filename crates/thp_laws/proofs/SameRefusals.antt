@@ -1,15 +1,15 @@
 -- A call is refused alike at histories that are the same but for blocks.
 use Rattle.std.proofs.Common.{◌≡◌, ℕ, Bool, false, cond, not, Some, None, refl, ap, arith}
-use Rattle.thp_model.specs.declared.refusal.Refusal.TheVariants as reason
-use Rattle.thp_model.specs.declared.shape.Shape.{Shape}
-use Rattle.thp_model.specs.Prelude.{SameButBlocks, block_in_use, History, IsLegal, no_pages, refusal, each_below, page_call}
-use Rattle.thp_model.specs.Refusals as call
-use Rattle.thp_model.proofs.Alike.{alike, flight_alike}
-use Rattle.thp_model.proofs.LeastBlocks.{as_many, free_by_number}
-use Rattle.thp_model.specs.declared.page_call.Gain.TheVariants as gain
-use Rattle.thp_model.specs.declared.page_call.Loss.TheVariants as loss
-use Rattle.thp_model.specs.declared.page_call.PageCall.{PageCall}
-use Rattle.thp_model.specs.declared.page_call.PageCall.TheVariants as either
+use Rattle.thp_history.specs.declared.refusal.Refusal.TheVariants as reason
+use Rattle.thp_history.specs.declared.shape.Shape.{Shape}
+use Rattle.thp_history.specs.Prelude.{SameButBlocks, block_in_use, History, IsLegal, no_pages, refusal, each_below, page_call}
+use Rattle.thp_history.specs.Refusals as call
+use Rattle.thp_history.proofs.Alike.{alike, flight_alike}
+use Rattle.thp_history.proofs.LeastBlocks.{as_many, free_by_number}
+use Rattle.thp_history.specs.declared.page_call.Gain.TheVariants as gain
+use Rattle.thp_history.specs.declared.page_call.Loss.TheVariants as loss
+use Rattle.thp_history.specs.declared.page_call.PageCall.{PageCall}
+use Rattle.thp_history.specs.declared.page_call.PageCall.TheVariants as either
 use Rattle.thp_script.specs.declared.script.Op.{Op}
 use Rattle.thp_script.specs.declared.script.Op.TheVariants as op
 use Rattle.thp_worker.specs.Prelude.{node_call_of, refusal_of_call}

@@ -2,8 +2,8 @@
 use Rattle.std.proofs.Common.{◌≡◌, ◌<◌, ◌≤◌, ℕ, zero, suc, List, [], ◌∷◌, ◌++◌, map, length, None, Ok, refl, ap, ap₂, sym, subst, ◌∙◌, arith, slice_get}
 use Rattle.std.specs.List.{AllZip, flat_map}
 use Rattle.std.proofs.lemmas.Bool.{cases_lt}
-use Rattle.thp_model.specs.declared.shape.Shape.{Shape}
-use Rattle.thp_model.specs.Prelude.{SameButBlocks}
+use Rattle.thp_history.specs.declared.shape.Shape.{Shape}
+use Rattle.thp_history.specs.Prelude.{SameButBlocks}
 use Rattle.thp_journal_writer.specs.Prelude.{Journal}
 use Rattle.thp_laws.specs.SameTotals.{IsSameJournal}
 use Rattle.thp_laws.proofs.WithoutBlocks.{one_text}

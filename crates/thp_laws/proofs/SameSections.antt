@@ -3,8 +3,8 @@ use Rattle.std.proofs.Common.{◌≡◌, ◌+◌, ℕ, suc, Bool, true, false, c
 use Rattle.std.specs.List.{AllByRecursion}
 use Rattle.std.proofs.lemmas.Grind.{flat_map-append}
 use Rattle.std.proofs.lemmas.List.Elements.{recursion_from_All}
-use Rattle.thp_model.specs.declared.shape.Shape.{Shape}
-use Rattle.thp_model.specs.Prelude.{SameButBlocks, History, events_of, IsLegal}
+use Rattle.thp_history.specs.declared.shape.Shape.{Shape}
+use Rattle.thp_history.specs.Prelude.{SameButBlocks, History, events_of, IsLegal}
 use Rattle.thp_script.specs.declared.script.Command.{Command}
 use Rattle.thp_worker.specs.declared.reply.Answer.{Answer}
 use Rattle.thp_worker.specs.Prelude.{Open, is_open, ComesBefore, IsMade, IsTurn, Made, Turn, answers_from, batches_after, closing, command_of, own_events, put_back_on, steps_of, with_batch}

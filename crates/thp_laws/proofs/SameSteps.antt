@@ -2,21 +2,21 @@
 use Rattle.std.proofs.Common.{◌≡◌, ◌+◌, ℕ, Bool, true, false, cond, not, nat_eq, List, [], ◌∷◌, ◌++◌, map, take, length, Option, Some, None, Ok, Err, refl, ap, ap₂, sym, subst, ◌∙◌}
 use Rattle.std.proofs.lemmas.List.Sums.{sum_by-cons}
 use Rattle.std.specs.List.{after_first, count_by, filter, find}
-use Rattle.thp_model.specs.declared.events.Event.{Event}
-use Rattle.thp_model.specs.declared.events.Outcome.{Outcome}
-use Rattle.thp_model.specs.declared.events.What.{What}
-use Rattle.thp_model.specs.declared.events.What.TheVariants as what
-use Rattle.thp_model.specs.declared.refusal.Refusal.{Refusal}
-use Rattle.thp_model.specs.declared.shape.Shape.{Shape}
-use Rattle.thp_model.specs.Prelude.{SameButBlocks, with_block, without_blocks, allocations, pins, History, by, IsLegal, is_dropped, has_page, queue, refusal, asked, goes_back, next_page, put_back_events, rest_after, return_event, still_flying, take_events, tries_of, try_event, unused, is_worth_split, gain_what, loss_what}
-use Rattle.thp_model.specs.Refusals as call
-use Rattle.thp_model.proofs.Alike.{alike, dropped_alike, flight_alike, worth_alike}
-use Rattle.thp_model.proofs.LegalSteps.{legal_front, legal_last}
-use Rattle.thp_model.proofs.OneAnswer.{one_answer}
-use Rattle.thp_model.specs.declared.page_call.Done.{Done}
-use Rattle.thp_model.specs.declared.page_call.Gain.TheVariants as gain
-use Rattle.thp_model.specs.declared.page_call.Loss.{Loss}
-use Rattle.thp_model.specs.declared.page_call.Loss.TheVariants as loss
+use Rattle.thp_history.specs.declared.events.Event.{Event}
+use Rattle.thp_history.specs.declared.events.Outcome.{Outcome}
+use Rattle.thp_history.specs.declared.events.What.{What}
+use Rattle.thp_history.specs.declared.events.What.TheVariants as what
+use Rattle.thp_history.specs.declared.refusal.Refusal.{Refusal}
+use Rattle.thp_history.specs.declared.shape.Shape.{Shape}
+use Rattle.thp_history.specs.Prelude.{SameButBlocks, with_block, without_blocks, allocations, pins, History, by, IsLegal, is_dropped, has_page, queue, refusal, asked, goes_back, next_page, put_back_events, rest_after, return_event, still_flying, take_events, tries_of, try_event, unused, is_worth_split, gain_what, loss_what}
+use Rattle.thp_history.specs.Refusals as call
+use Rattle.thp_history.proofs.Alike.{alike, dropped_alike, flight_alike, worth_alike}
+use Rattle.thp_history.proofs.LegalSteps.{legal_front, legal_last}
+use Rattle.thp_history.proofs.OneAnswer.{one_answer}
+use Rattle.thp_history.specs.declared.page_call.Done.{Done}
+use Rattle.thp_history.specs.declared.page_call.Gain.TheVariants as gain
+use Rattle.thp_history.specs.declared.page_call.Loss.{Loss}
+use Rattle.thp_history.specs.declared.page_call.Loss.TheVariants as loss
 use Rattle.thp_node.specs.Prelude.{back_reply, tried}
 use Rattle.thp_node.specs.declared.answers.BackReply.{BackReply}
 use Rattle.thp_node.specs.declared.answers.Tried.TheVariants as try

@@ -6,7 +6,7 @@ use Rattle.std.proofs.lemmas.Bool.{and_parts, and_from, or_cases, or_left, or_ri
 use Rattle.std.proofs.Math.Bool.{or_assoc}
 use Rattle.std.proofs.Math.Nat.{add-zero}
 use Rattle.std.proofs.lemmas.Slice.Eq.{bytes_eq-Decides}
-use Rattle.thp_model.specs.Prelude.{set_of}
+use Rattle.thp_history.specs.Prelude.{set_of}
 use Rattle.thp_script.specs.declared.fault.TextKind.{TextKind}
 use Rattle.thp_script.specs.Prelude.{◌>>=◌, is_empty, Text, number_of, pieces_at}
 use Rattle.thp_script.proofs.NumberLaws.{number_of-decimal}

@@ -1,8 +1,8 @@
 -- Two runs of one caller's steps, side by side: while their steps are the same, so are their answers.
 use Rattle.std.proofs.Common.{◌≡◌, ℕ, Bool, true, false, cond, nat_eq, List, ◌∷◌, ◌++◌, Option, ap₂, sym, subst, ◌∙◌}
 use Rattle.std.proofs.lemmas.List.{map-append}
-use Rattle.thp_model.specs.declared.shape.Shape.{Shape}
-use Rattle.thp_model.specs.Prelude.{SameButBlocks, event_with, without_blocks, History, IsLegal}
+use Rattle.thp_history.specs.declared.shape.Shape.{Shape}
+use Rattle.thp_history.specs.Prelude.{SameButBlocks, event_with, without_blocks, History, IsLegal}
 use Rattle.thp_worker.specs.declared.steps.Step.{Step}
 use Rattle.thp_worker.specs.Prelude.{Does, Open, Made, with_batch}
 use Rattle.thp_laws.specs.OneStep.{IsSameStep}

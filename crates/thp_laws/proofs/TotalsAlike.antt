@@ -3,14 +3,14 @@ use Rattle.std.proofs.Common.{◌≡◌, ◌+◌, ℕ, Bool, cond, List, [], ◌
 use Rattle.std.specs.List.{AllZip, cons_option, fold, sum_by}
 use Rattle.std.specs.Result.{result_unwrap_or}
 use Rattle.std.proofs.lemmas.List.{length-map}
-use Rattle.thp_model.specs.declared.events.Event.{Event}
-use Rattle.thp_model.specs.declared.events.What.{What}
-use Rattle.thp_model.specs.declared.events.What.TheVariants.{Alloc, SplitPmd, Split}
-use Rattle.thp_model.specs.declared.shape.Shape.{Shape}
-use Rattle.thp_model.specs.Prelude.{SameButBlocks, event_with, with_block, with_least_blocks, without_blocks, add_split_pmds, add_split_underused, is_failed_try, is_page_split, queues, splits_pmds, splits_underused, thp_split_pmd, thp_underused_split_page, allocations, frames_held, given, gives_back, is_held, History, by, count_below, set_size, sum_below, subpages}
-use Rattle.thp_model.proofs.Alike.{Alike, Blind, alike, count_alike, held_alike}
-use Rattle.thp_model.proofs.LeastBlocks.{least_same, without_blocks_push}
-use Rattle.thp_model.proofs.SumsBelow.{sum_below-ext}
+use Rattle.thp_history.specs.declared.events.Event.{Event}
+use Rattle.thp_history.specs.declared.events.What.{What}
+use Rattle.thp_history.specs.declared.events.What.TheVariants.{Alloc, SplitPmd, Split}
+use Rattle.thp_history.specs.declared.shape.Shape.{Shape}
+use Rattle.thp_history.specs.Prelude.{SameButBlocks, event_with, with_block, with_least_blocks, without_blocks, add_split_pmds, add_split_underused, is_failed_try, is_page_split, queues, splits_pmds, splits_underused, thp_split_pmd, thp_underused_split_page, allocations, frames_held, given, gives_back, is_held, History, by, count_below, set_size, sum_below, subpages}
+use Rattle.thp_history.proofs.Alike.{Alike, Blind, alike, count_alike, held_alike}
+use Rattle.thp_history.proofs.LeastBlocks.{least_same, without_blocks_push}
+use Rattle.thp_history.proofs.SumsBelow.{sum_below-ext}
 use Rattle.thp_script.specs.Prelude.{Fault}
 use Rattle.thp_journal_writer.specs.Prelude.{Journal}
 use Rattle.thp_journal_reader.specs.declared.journals.Journals.{Journals}

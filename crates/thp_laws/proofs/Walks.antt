@@ -4,9 +4,9 @@ use Rattle.std.proofs.Common.{◌≡◌, ◌≤◌, ◌+◌, ℕ, Bool, true, fa
 use Rattle.std.specs.Prelude.{⊤}
 use Rattle.std.specs.List.{AllByRecursion, filter, flat_map}
 use Rattle.std.proofs.Math.Seq.{take-append-add}
-use Rattle.thp_model.specs.declared.shape.Shape.{Shape}
-use Rattle.thp_model.specs.Prelude.{History, IsLegal}
-use Rattle.thp_model.proofs.LegalSteps.{legal_take}
+use Rattle.thp_history.specs.declared.shape.Shape.{Shape}
+use Rattle.thp_history.specs.Prelude.{History, IsLegal}
+use Rattle.thp_history.proofs.LegalSteps.{legal_take}
 use Rattle.thp_worker.specs.Prelude.{Does, Open, Carries, ComesBefore, IsMade, Made, own_events, with_batch}
 
 -- what holds of each holds of each by what follows

@@ -1,12 +1,12 @@
 -- No line of a journal text tells a block.
 use Rattle.std.proofs.Common.{◌≡◌, ◌==◌, ◌+◌, ℕ, cond, ◌&&◌, ◌||◌, List, [], ◌∷◌, ◌++◌, map, refl, ap, ap₂, sym, ◌∙◌, codes, is_some, decimal}
 use Rattle.std.specs.List.{AllZip, flat_map, list_all, list_any}
-use Rattle.thp_model.specs.declared.events.Event.{Event}
-use Rattle.thp_model.specs.declared.events.What.{What}
-use Rattle.thp_model.specs.declared.events.What.TheVariants.{Alloc}
-use Rattle.thp_model.specs.declared.shape.Shape.{Shape}
-use Rattle.thp_model.specs.Prelude.{event_with, with_block, without_blocks, History}
-use Rattle.thp_model.proofs.Alike.{Blind, some_alike}
+use Rattle.thp_history.specs.declared.events.Event.{Event}
+use Rattle.thp_history.specs.declared.events.What.{What}
+use Rattle.thp_history.specs.declared.events.What.TheVariants.{Alloc}
+use Rattle.thp_history.specs.declared.shape.Shape.{Shape}
+use Rattle.thp_history.specs.Prelude.{event_with, with_block, without_blocks, History}
+use Rattle.thp_history.proofs.Alike.{Blind, some_alike}
 use Rattle.thp_journal_writer.specs.declared.version.Version.{Version}
 use Rattle.thp_journal_writer.specs.declared.version.Version.TheVariants as writing
 use Rattle.thp_journal_writer.specs.Prelude.{event_line, event_words, what_words, line_of, Journal, has_order_9, is_access, journal_lines, journal_text, lines_of_node, tells_underused, version_of}

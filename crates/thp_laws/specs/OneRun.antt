@@ -1,8 +1,8 @@
 -- Runs of a script whose workers use different nodes: the events and answers follow from the script.
 use Rattle.std.specs.Prelude.{◌≡◌, ℕ, All, List, [], Some, slice_get}
 use Rattle.std.specs.List.{AllZip}
-use Rattle.thp_model.specs.declared.shape.Shape.{Shape}
-use Rattle.thp_model.specs.Prelude.{SameButBlocks, History}
+use Rattle.thp_history.specs.declared.shape.Shape.{Shape}
+use Rattle.thp_history.specs.Prelude.{SameButBlocks, History}
 use Rattle.thp_script.specs.declared.script.Command.{Command}
 use Rattle.thp_script.specs.declared.script.Script.{Script}
 use Rattle.thp_worker.specs.declared.reply.SectionLog.{SectionLog}

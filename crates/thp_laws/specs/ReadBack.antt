@@ -1,8 +1,8 @@
 -- The result of reading a journal text: the journals that it was written from, except for their blocks.
 use Rattle.std.specs.Prelude.{◌≡◌, ◌≤◌, ◌<◌, ◌+◌, ℕ, All, List, [], ◌∷◌, length, Option, None, Ok}
 use Rattle.std.specs.List.{AllZip}
-use Rattle.thp_model.specs.declared.events.Event.{Event}
-use Rattle.thp_model.specs.Prelude.{max_callers, SameButBlocks, IsLegal, IsShape}
+use Rattle.thp_history.specs.declared.events.Event.{Event}
+use Rattle.thp_history.specs.Prelude.{max_callers, SameButBlocks, IsLegal, IsShape}
 use Rattle.thp_script.specs.Prelude.{max_input, max_nodes}
 use Rattle.thp_journal_writer.specs.Prelude.{Journal, journal_text}
 use Rattle.thp_journal_reader.specs.declared.journals.Journals.{Journals}

@@ -1,8 +1,8 @@
 -- Scripts that repeat histories: a run of such a script records the history again, except for its blocks.
 use Rattle.std.specs.Prelude.{◌≡◌, ℕ, nat_eq, List, [], All, map, slice_get, Some, filter}
-use Rattle.thp_model.specs.declared.events.Event.{Event}
-use Rattle.thp_model.specs.declared.shape.Shape.{Shape}
-use Rattle.thp_model.specs.Prelude.{SameButBlocks, History, IsLegal, IsShape}
+use Rattle.thp_history.specs.declared.events.Event.{Event}
+use Rattle.thp_history.specs.declared.shape.Shape.{Shape}
+use Rattle.thp_history.specs.Prelude.{SameButBlocks, History, IsLegal, IsShape}
 use Rattle.thp_script.specs.declared.script.Command.{Command}
 use Rattle.thp_script.specs.declared.script.Op.{Op}
 use Rattle.thp_script.specs.declared.script.Script.{Script}

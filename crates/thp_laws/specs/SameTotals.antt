@@ -1,7 +1,7 @@
 -- Journals with the same text are equal except for their blocks, and have the same totals.
 use Rattle.std.specs.Prelude.{◌≡◌, List, length}
 use Rattle.std.specs.List.{AllZip}
-use Rattle.thp_model.specs.Prelude.{SameButBlocks, thp_split_page, thp_split_page_failed, thp_deferred_split_page, thp_split_pmd, thp_underused_split_page, allocations, frames_given, frames_held, queue}
+use Rattle.thp_history.specs.Prelude.{SameButBlocks, thp_split_page, thp_split_page_failed, thp_deferred_split_page, thp_split_pmd, thp_underused_split_page, allocations, frames_given, frames_held, queue}
 use Rattle.thp_journal_writer.specs.Prelude.{Journal, journal_text}
 use Rattle.thp_laws.specs.ReadBack.{AreTellable}
 

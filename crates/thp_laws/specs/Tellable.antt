@@ -1,11 +1,11 @@
 -- The events that a journal's lines can contain.
 use Rattle.std.specs.Prelude.{◌≡◌, ◌<◌, None, ⊤}
 use Rattle.std.specs.List.{AllByRecursion}
-use Rattle.thp_model.specs.declared.events.Event.{Event}
-use Rattle.thp_model.specs.declared.events.What.{What}
-use Rattle.thp_model.specs.declared.events.What.TheVariants.{Write, Zero, Used}
-use Rattle.thp_model.specs.declared.shape.Shape.{Shape}
-use Rattle.thp_model.specs.Prelude.{max_callers, max_order, IsShape}
+use Rattle.thp_history.specs.declared.events.Event.{Event}
+use Rattle.thp_history.specs.declared.events.What.{What}
+use Rattle.thp_history.specs.declared.events.What.TheVariants.{Write, Zero, Used}
+use Rattle.thp_history.specs.declared.shape.Shape.{Shape}
+use Rattle.thp_history.specs.Prelude.{max_callers, max_order, IsShape}
 use Rattle.thp_journal_writer.specs.Prelude.{HasSmallNumbers, Journal}
 use Rattle.thp_journal_writer.specs.declared.version.Version.{Version}
 use Rattle.thp_journal_writer.specs.declared.version.Version.TheVariants.{Plain, Orders, Underused}

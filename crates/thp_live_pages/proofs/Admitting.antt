@@ -1,16 +1,16 @@
 -- Whether a call about a page is admitted, by what stands in the page's block.
 use Rattle.std.proofs.Common.{◌≡◌, ℕ, Bool, true, false, List, Option, Some, None, refl, ap, sym, ◌∙◌, subst}
-use Rattle.thp_model.specs.declared.refusal.Refusal.TheVariants as reason
-use Rattle.thp_model.specs.declared.shape.Shape.{Shape}
-use Rattle.thp_model.specs.Prelude.{History, is_live, PageState, page_refusal, flight, has_page, refusal, page_call}
-use Rattle.thp_model.proofs.Bools.{by_bool}
-use Rattle.thp_model.proofs.OnePlace.{flies_live}
+use Rattle.thp_history.specs.declared.refusal.Refusal.TheVariants as reason
+use Rattle.thp_history.specs.declared.shape.Shape.{Shape}
+use Rattle.thp_history.specs.Prelude.{History, is_live, PageState, page_refusal, flight, has_page, refusal, page_call}
+use Rattle.thp_history.proofs.Bools.{by_bool}
+use Rattle.thp_history.proofs.OnePlace.{flies_live}
 use Rattle.thp_page.specs.declared.standing.Standing.TheVariants.{Batch}
 use Rattle.thp_page.specs.Prelude.{Slot, Table, slot_at, HoldsPage}
-use Rattle.thp_model.specs.declared.page_call.Gain.TheVariants as gain
-use Rattle.thp_model.specs.declared.page_call.Loss.TheVariants as loss
-use Rattle.thp_model.specs.declared.page_call.PageCall.{PageCall}
-use Rattle.thp_model.specs.declared.page_call.PageCall.TheVariants as either
+use Rattle.thp_history.specs.declared.page_call.Gain.TheVariants as gain
+use Rattle.thp_history.specs.declared.page_call.Loss.TheVariants as loss
+use Rattle.thp_history.specs.declared.page_call.PageCall.{PageCall}
+use Rattle.thp_history.specs.declared.page_call.PageCall.TheVariants as either
 use Rattle.thp_live_pages.specs.Prelude.{IsSlot, Fills, IsNode, block_of}
 use Rattle.thp_live_pages.proofs.Homing.{Homed, legal_homed, live_block}
 use Rattle.thp_live_pages.proofs.PageEvents.{slot_is, refusal_is, refusal_gone}

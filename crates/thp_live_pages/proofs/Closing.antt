@@ -1,11 +1,11 @@
 -- When a close and an allocation are refused.
 use Rattle.std.proofs.Common.{◌≡◌, ◌<◌, ℕ, Bool, true, false, not, ◌&&◌, cond, List, length, Option, Some, None, refl, ap, ap₂, ◌∙◌, subst, arith, IsSome}
-use Rattle.thp_model.specs.declared.refusal.Refusal.TheVariants as reason
-use Rattle.thp_model.specs.declared.shape.Shape.{Shape}
-use Rattle.thp_model.specs.Prelude.{each_below, History, some_event, is_closed, is_live, allocations, frees, block_in_use, refusal}
-use Rattle.thp_model.specs.Refusals as call
-use Rattle.thp_model.proofs.Below.{each_below-ext, each-not, some_yes, some_no}
-use Rattle.thp_model.proofs.Numbers.{Fresh}
+use Rattle.thp_history.specs.declared.refusal.Refusal.TheVariants as reason
+use Rattle.thp_history.specs.declared.shape.Shape.{Shape}
+use Rattle.thp_history.specs.Prelude.{each_below, History, some_event, is_closed, is_live, allocations, frees, block_in_use, refusal}
+use Rattle.thp_history.specs.Refusals as call
+use Rattle.thp_history.proofs.Below.{each_below-ext, each-not, some_yes, some_no}
+use Rattle.thp_history.proofs.Numbers.{Fresh}
 use Rattle.thp_page.specs.Prelude.{Slot, Table, slot_at, HoldsPage}
 use Rattle.thp_live_pages.specs.Prelude.{HasFree, Fills, IsNode}
 use Rattle.thp_live_pages.proofs.Admitting.{found}

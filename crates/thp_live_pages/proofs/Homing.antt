@@ -2,16 +2,16 @@
 use Rattle.std.proofs.Common.{◌≡◌, ℕ, ◌<◌, Bool, true, false, cond, not, ◌&&◌, ◌||◌, [], ◌∷◌, ◌++◌, Option, Some, None, refl, ap, sym, ◌∙◌, subst, arith, nat_eq, inl, inr, ◌⊎◌, eq-eqb, eqb-true}
 use Rattle.std.specs.List.{list_any}
 use Rattle.std.proofs.lemmas.List.Sums.{fold_push}
-use Rattle.thp_model.specs.declared.events.Event.{Event}
-use Rattle.thp_model.specs.declared.events.Outcome.{Outcome}
-use Rattle.thp_model.specs.declared.events.What.{What}
-use Rattle.thp_model.specs.declared.events.What.TheVariants.{Alloc}
-use Rattle.thp_model.specs.declared.shape.Shape.{Shape}
-use Rattle.thp_model.specs.Prelude.{History, some_event, is_live, allocates, frees, is_freed, places, places_live, block_in_use, IsLegal, Fits, FitsBy, FitsAlloc}
-use Rattle.thp_model.proofs.Alive.{Grown, grown_push, grown_none}
-use Rattle.thp_model.proofs.Bools.{by_bool, and_both, and_yes, or_first, or_second}
-use Rattle.thp_model.proofs.LegalSteps.{legal_all}
-use Rattle.thp_model.proofs.Pushes.{some_event_push, some_same, live_stays}
+use Rattle.thp_history.specs.declared.events.Event.{Event}
+use Rattle.thp_history.specs.declared.events.Outcome.{Outcome}
+use Rattle.thp_history.specs.declared.events.What.{What}
+use Rattle.thp_history.specs.declared.events.What.TheVariants.{Alloc}
+use Rattle.thp_history.specs.declared.shape.Shape.{Shape}
+use Rattle.thp_history.specs.Prelude.{History, some_event, is_live, allocates, frees, is_freed, places, places_live, block_in_use, IsLegal, Fits, FitsBy, FitsAlloc}
+use Rattle.thp_history.proofs.Alive.{Grown, grown_push, grown_none}
+use Rattle.thp_history.proofs.Bools.{by_bool, and_both, and_yes, or_first, or_second}
+use Rattle.thp_history.proofs.LegalSteps.{legal_all}
+use Rattle.thp_history.proofs.Pushes.{some_event_push, some_same, live_stays}
 use Rattle.thp_live_pages.specs.Prelude.{block_of, block_after, block_by}
 
 -- the last event changes a page's block so

@@ -2,14 +2,14 @@
 use Rattle.std.proofs.Common.{◌≡◌, ◌≢◌, ℕ, ◌<◌, Bool, true, false, cond, not, List, [], ◌∷◌, ◌++◌, Option, Some, None, length, map, refl, ap, ap₂, sym, ◌∙◌, subst, arith, nat_eq, inl, inr, get_or, eq-eqb, eqb-true, length-set, slice_set, get_or-set_same, get_or-set_other}
 use Rattle.std.proofs.lemmas.Bool.Decides.{eqb_tells}
 use Rattle.thp_links.specs.Prelude.{without as without_index}
-use Rattle.thp_model.specs.declared.events.Event.{Event}
-use Rattle.thp_model.specs.declared.events.What.{What}
-use Rattle.thp_model.specs.declared.shape.Shape.{Shape}
-use Rattle.thp_model.specs.Prelude.{History, Fits, queue, without, has_page}
-use Rattle.thp_model.proofs.Bools.{by_bool, or_first, or_second}
-use Rattle.thp_model.proofs.LegalSteps.{legal_push}
-use Rattle.thp_model.proofs.Tallying.{tallies_stay}
-use Rattle.thp_model.proofs.Untouched.{Untouched, untouched}
+use Rattle.thp_history.specs.declared.events.Event.{Event}
+use Rattle.thp_history.specs.declared.events.What.{What}
+use Rattle.thp_history.specs.declared.shape.Shape.{Shape}
+use Rattle.thp_history.specs.Prelude.{History, Fits, queue, without, has_page}
+use Rattle.thp_history.proofs.Bools.{by_bool, or_first, or_second}
+use Rattle.thp_history.proofs.LegalSteps.{legal_push}
+use Rattle.thp_history.proofs.Tallying.{tallies_stay}
+use Rattle.thp_history.proofs.Untouched.{Untouched, untouched}
 use Rattle.thp_page.specs.Prelude.{Slot, Table, slot_at}
 use Rattle.thp_live_pages.specs.Prelude.{block_of, Fills, IsNode}
 use Rattle.thp_live_pages.proofs.Homing.{block_push, block_stays}

@@ -4,8 +4,8 @@ use Rattle.std.specs.List.{range_with_len}
 use Rattle.std.proofs.lemmas.List.{get_or-set_same, get_or-set_other, get_or_past}
 use Rattle.std.proofs.lemmas.Bool.{cases_lt, lt-ltb}
 use Rattle.std.proofs.lemmas.Bool.Decides.{eqb_tells}
-use Rattle.thp_model.specs.Prelude.{first_that, in_words}
-use Rattle.thp_model.proofs.Bools.{and_both}
+use Rattle.thp_history.specs.Prelude.{first_that, in_words}
+use Rattle.thp_history.proofs.Bools.{and_both}
 use Rattle.thp_live_pages.specs.Prelude.{least_of, AreFree}
 
 -- the first number of a range that passes

@@ -1,22 +1,22 @@
 -- A node after an allocation, a close, and what becomes of pages in the queue and in batches.
 use Rattle.std.proofs.Common.{◌≡◌, ℕ, ◌<◌, Bool, true, false, cond, not, ◌&&◌, ◌||◌, List, [], ◌∷◌, ◌++◌, Option, Some, None, length, drop, map, refl, ap, sym, ◌∙◌, subst, arith, nat_eq, eq-eqb, ne_eqb, eqb-true, slice_get}
 use Rattle.thp_links.proofs.Members.{first_and_rest}
-use Rattle.thp_model.specs.declared.events.Event.{Event}
-use Rattle.thp_model.specs.declared.events.What.TheVariants as what
-use Rattle.thp_model.specs.declared.shape.Shape.{Shape}
-use Rattle.thp_model.specs.Prelude.{History, by, some_event, is_live, is_closed, pins, allocations, frees, Fits, PageState, Tallies, PageSplit, IsFresh, gives_frames, is_split_candidate, queue, queue_after, flights, flight, has_page, no_pages, is_taking, leaves, refusal, unused, try_event, return_event, shrinks_underused, is_worth_split}
-use Rattle.thp_model.specs.Refusals as call
-use Rattle.thp_model.proofs.Alive.{legal_grown}
-use Rattle.thp_model.proofs.Bools.{by_bool}
-use Rattle.thp_model.proofs.Flights.{flight_push}
-use Rattle.thp_model.proofs.LegalSteps.{legal_push}
-use Rattle.thp_model.proofs.Numbers.{Fresh}
-use Rattle.thp_model.proofs.OnePlace.{flies_stands, has_times}
-use Rattle.thp_model.proofs.PageOutcomes.{released_alive, unused_is}
-use Rattle.thp_model.proofs.Pushes.{queue_push, flights_push, live_stays}
-use Rattle.thp_model.proofs.Standing.{Sound, stand, times, flying, flying-leaves}
-use Rattle.thp_model.proofs.Tallying.{tallies_alloc, tallies_split, tallies_stay, pins_is}
-use Rattle.thp_model.proofs.Untouched.{Untouched, untouched}
+use Rattle.thp_history.specs.declared.events.Event.{Event}
+use Rattle.thp_history.specs.declared.events.What.TheVariants as what
+use Rattle.thp_history.specs.declared.shape.Shape.{Shape}
+use Rattle.thp_history.specs.Prelude.{History, by, some_event, is_live, is_closed, pins, allocations, frees, Fits, PageState, Tallies, PageSplit, IsFresh, gives_frames, is_split_candidate, queue, queue_after, flights, flight, has_page, no_pages, is_taking, leaves, refusal, unused, try_event, return_event, shrinks_underused, is_worth_split}
+use Rattle.thp_history.specs.Refusals as call
+use Rattle.thp_history.proofs.Alive.{legal_grown}
+use Rattle.thp_history.proofs.Bools.{by_bool}
+use Rattle.thp_history.proofs.Flights.{flight_push}
+use Rattle.thp_history.proofs.LegalSteps.{legal_push}
+use Rattle.thp_history.proofs.Numbers.{Fresh}
+use Rattle.thp_history.proofs.OnePlace.{flies_stands, has_times}
+use Rattle.thp_history.proofs.PageOutcomes.{released_alive, unused_is}
+use Rattle.thp_history.proofs.Pushes.{queue_push, flights_push, live_stays}
+use Rattle.thp_history.proofs.Standing.{Sound, stand, times, flying, flying-leaves}
+use Rattle.thp_history.proofs.Tallying.{tallies_alloc, tallies_split, tallies_stay, pins_is}
+use Rattle.thp_history.proofs.Untouched.{Untouched, untouched}
 use Rattle.thp_page.specs.declared.standing.Standing.TheVariants.{Nowhere, Queued, Batch}
 use Rattle.thp_page.specs.Prelude.{Slot, Table, slot_at}
 use Rattle.thp_live_pages.specs.Prelude.{PageStoreState, Edits, Placed, TakesFirst, new_standing, new_queue, IsSlot, Fills, IsNode, block_of, standing_of}

@@ -1,7 +1,7 @@
 -- What stays where link pairs are only read: all but the count of accesses.
 use Rattle.std.proofs.Common.{ℕ, List, Option, Some, None, length, map, get_or, ap, sym, ◌∙◌, subst}
-use Rattle.thp_model.specs.declared.shape.Shape.{Shape}
-use Rattle.thp_model.specs.Prelude.{History}
+use Rattle.thp_history.specs.declared.shape.Shape.{Shape}
+use Rattle.thp_history.specs.Prelude.{History}
 use Rattle.thp_page.specs.Prelude.{Slot}
 use Rattle.thp_live_pages.specs.Prelude.{Relinks, Fills, IsNode, PageStoreState}
 

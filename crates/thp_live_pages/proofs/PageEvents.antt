@@ -1,28 +1,28 @@
 -- A node after a call about one page: its slot, its place and the queue are what the history with the event says.
 use Rattle.std.proofs.Common.{◌≡◌, ℕ, ◌<◌, Bool, true, false, ◌&&◌, List, [], ◌∷◌, ◌++◌, Option, Some, None, length, map, refl, ap, sym, ◌∙◌, subst, arith, nat_eq, if◌then◌else◌, get_or, eq-eqb, eqb-true, zero, suc}
 use Rattle.thp_links.specs.Prelude.{without as without_index}
-use Rattle.thp_model.specs.declared.events.Event.{Event}
-use Rattle.thp_model.specs.declared.events.Outcome.{Outcome}
-use Rattle.thp_model.specs.declared.events.Outcome.TheVariants as outcome
-use Rattle.thp_model.specs.declared.events.What.{What}
-use Rattle.thp_model.specs.declared.refusal.Refusal.TheVariants as reason
-use Rattle.thp_model.specs.declared.shape.Shape.{Shape}
-use Rattle.thp_model.specs.Prelude.{History, by, is_live, is_closed, is_freed, frees, allocates, Fits, Gives, PageState, Tallies, page_refusal, page_outcome, queue, queue_after, queue_by, flights, flights_after, flights_by, has_page, stands, without, refusal, gain_call, loss_call, page_call, gain_what, loss_what, Gains, Loses}
-use Rattle.thp_model.proofs.Allowed.{allowed_map_whole, refused_gone}
-use Rattle.thp_model.proofs.Bools.{by_bool}
-use Rattle.thp_model.proofs.PageOutcomes.{gives_is, lives_by}
-use Rattle.thp_model.proofs.PageRefusals.{refusal_map_whole, refusal_unmap_whole, refusal_map_sub, refusal_unmap_sub, refusal_split_pmd, refusal_pin, refusal_unpin, refusal_write, refusal_zero}
-use Rattle.thp_model.proofs.Pushes.{queue_push}
-use Rattle.thp_model.proofs.Tallying.{tallies_map_whole, tallies_unmap_whole, tallies_map_sub, tallies_unmap_sub, tallies_split_pmd, tallies_pin, tallies_unpin, tallies_write, tallies_zero}
+use Rattle.thp_history.specs.declared.events.Event.{Event}
+use Rattle.thp_history.specs.declared.events.Outcome.{Outcome}
+use Rattle.thp_history.specs.declared.events.Outcome.TheVariants as outcome
+use Rattle.thp_history.specs.declared.events.What.{What}
+use Rattle.thp_history.specs.declared.refusal.Refusal.TheVariants as reason
+use Rattle.thp_history.specs.declared.shape.Shape.{Shape}
+use Rattle.thp_history.specs.Prelude.{History, by, is_live, is_closed, is_freed, frees, allocates, Fits, Gives, PageState, Tallies, page_refusal, page_outcome, queue, queue_after, queue_by, flights, flights_after, flights_by, has_page, stands, without, refusal, gain_call, loss_call, page_call, gain_what, loss_what, Gains, Loses}
+use Rattle.thp_history.proofs.Allowed.{allowed_map_whole, refused_gone}
+use Rattle.thp_history.proofs.Bools.{by_bool}
+use Rattle.thp_history.proofs.PageOutcomes.{gives_is, lives_by}
+use Rattle.thp_history.proofs.PageRefusals.{refusal_map_whole, refusal_unmap_whole, refusal_map_sub, refusal_unmap_sub, refusal_split_pmd, refusal_pin, refusal_unpin, refusal_write, refusal_zero}
+use Rattle.thp_history.proofs.Pushes.{queue_push}
+use Rattle.thp_history.proofs.Tallying.{tallies_map_whole, tallies_unmap_whole, tallies_map_sub, tallies_unmap_sub, tallies_split_pmd, tallies_pin, tallies_unpin, tallies_write, tallies_zero}
 use Rattle.thp_page.specs.declared.standing.Standing.TheVariants.{Queued}
 use Rattle.thp_page.specs.Prelude.{Slot, Table, slot_at}
-use Rattle.thp_model.specs.declared.page_call.Done.{Done}
-use Rattle.thp_model.specs.declared.page_call.Gain.{Gain}
-use Rattle.thp_model.specs.declared.page_call.Gain.TheVariants as gain
-use Rattle.thp_model.specs.declared.page_call.Loss.{Loss}
-use Rattle.thp_model.specs.declared.page_call.Loss.TheVariants as loss
-use Rattle.thp_model.specs.declared.page_call.PageCall.{PageCall}
-use Rattle.thp_model.specs.declared.page_call.PageCall.TheVariants as either
+use Rattle.thp_history.specs.declared.page_call.Done.{Done}
+use Rattle.thp_history.specs.declared.page_call.Gain.{Gain}
+use Rattle.thp_history.specs.declared.page_call.Gain.TheVariants as gain
+use Rattle.thp_history.specs.declared.page_call.Loss.{Loss}
+use Rattle.thp_history.specs.declared.page_call.Loss.TheVariants as loss
+use Rattle.thp_history.specs.declared.page_call.PageCall.{PageCall}
+use Rattle.thp_history.specs.declared.page_call.PageCall.TheVariants as either
 use Rattle.thp_live_pages.specs.Prelude.{PageStoreState, Edits, Lost, slot_after, IsSlot, Fills, IsNode, block_of, block_after, block_by, flier}
 use Rattle.thp_live_pages.specs.PageStoreState as blocks
 use Rattle.thp_live_pages.proofs.Homing.{Homed, block_push}

@@ -1,15 +1,15 @@
 -- What a loss comes to, by the page before and after it.
 use Rattle.std.proofs.Common.{◌≡◌, ℕ, ◌<◌, ◌^◌, Bool, true, false, cond, not, ◌&&◌, ◌||◌, refl, ap, sym, ◌∙◌, arith, nat_eq, nat_lt}
 use Rattle.std.proofs.lemmas.Bool.Decides.{nat_tests}
-use Rattle.thp_model.specs.declared.events.Outcome.{Outcome}
-use Rattle.thp_model.specs.Prelude.{is_freed, PageState, size, total_at, zero_at, holds, has_use, page_outcome, page_released, set_of, Loses}
-use Rattle.thp_model.proofs.Below.{some_none}
-use Rattle.thp_model.proofs.Bools.{by_bool}
-use Rattle.thp_model.proofs.WordLemmas.{set_of-ext}
+use Rattle.thp_history.specs.declared.events.Outcome.{Outcome}
+use Rattle.thp_history.specs.Prelude.{is_freed, PageState, size, total_at, zero_at, holds, has_use, page_outcome, page_released, set_of, Loses}
+use Rattle.thp_history.proofs.Below.{some_none}
+use Rattle.thp_history.proofs.Bools.{by_bool}
+use Rattle.thp_history.proofs.WordLemmas.{set_of-ext}
 use Rattle.thp_page.specs.declared.page.Change.{Change}
 use Rattle.thp_page.specs.Prelude.{IsChange}
 use Rattle.thp_live_pages.specs.Prelude.{outcome_by, released_after}
-use Rattle.thp_model.specs.declared.page_call.Loss.{Loss}
+use Rattle.thp_history.specs.declared.page_call.Loss.{Loss}
 
 same_sizes : (a b : PageState) → a.order ≡ b.order → size a ≡ size b
 unfolding size

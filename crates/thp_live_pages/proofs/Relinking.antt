@@ -5,8 +5,8 @@ use Rattle.std.proofs.lemmas.Bool.Decides.{eqb_tells}
 use Rattle.thp_links.specs.declared.link.Link.{Link}
 use Rattle.thp_links.specs.Prelude.{Distinct, without, Stands, SameOutside}
 use Rattle.thp_links.proofs.Members.{Contains-cons_cases, Contains-head, Contains-behind, first_and_rest, Contains-from_without, Contains-without, Contains-from_rest, Distinct-head, without_absent}
-use Rattle.thp_model.specs.declared.events.Outcome.{Outcome}
-use Rattle.thp_model.specs.Prelude.{PageState}
+use Rattle.thp_history.specs.declared.events.Outcome.{Outcome}
+use Rattle.thp_history.specs.Prelude.{PageState}
 use Rattle.thp_page.specs.declared.standing.Standing.{Standing}
 use Rattle.thp_page.specs.declared.standing.Standing.TheVariants.{Nowhere, Queued}
 use Rattle.thp_page.specs.Prelude.{Slot, Table, slot_at, with_slot, stood, paged, page_in}

@@ -2,16 +2,16 @@
 use Rattle.std.proofs.Common.{◌≡◌, ℕ, ◌+◌, ◌<◌, ◌≤◌, Bool, true, false, cond, not, ◌||◌, List, [], ◌∷◌, ◌++◌, Option, Some, None, drop, refl, ap, ap₂, sym, ◌∙◌, arith, nat_eq, inl, inr, eq-eqb, eqb-true, slice_get, is_some, filter}
 use Rattle.std.proofs.lemmas.List.Folds.{list_any-append}
 use Rattle.std.proofs.lemmas.Bool.Decides.{eqb_tells}
-use Rattle.thp_model.specs.declared.events.Event.{Event}
-use Rattle.thp_model.specs.declared.events.Outcome.{Outcome}
-use Rattle.thp_model.specs.declared.events.What.{What}
-use Rattle.thp_model.specs.declared.events.What.TheVariants.{Alloc, MapWhole, UnmapWhole, MapSub, UnmapSub, SplitPmd, Pin, Unpin, Write, Zero, Taken, Split, Pinned, Used, Back, Dropped, Close}
-use Rattle.thp_model.specs.declared.shape.Shape.{Shape}
-use Rattle.thp_model.specs.Prelude.{History, Fits, FitsBy, queue, flights, flight, has_page, stands, queue_after, queue_by, flights_after, flights_by, without, leaves}
-use Rattle.thp_model.proofs.Bools.{by_bool, or_none, or-false}
-use Rattle.thp_model.proofs.Counting.{count_any}
-use Rattle.thp_model.proofs.Pushes.{queue_push, flights_push}
-use Rattle.thp_model.proofs.Standing.{Sound, stand, times, flying, flying-cons, flying-leaves, pages, any-pages}
+use Rattle.thp_history.specs.declared.events.Event.{Event}
+use Rattle.thp_history.specs.declared.events.Outcome.{Outcome}
+use Rattle.thp_history.specs.declared.events.What.{What}
+use Rattle.thp_history.specs.declared.events.What.TheVariants.{Alloc, MapWhole, UnmapWhole, MapSub, UnmapSub, SplitPmd, Pin, Unpin, Write, Zero, Taken, Split, Pinned, Used, Back, Dropped, Close}
+use Rattle.thp_history.specs.declared.shape.Shape.{Shape}
+use Rattle.thp_history.specs.Prelude.{History, Fits, FitsBy, queue, flights, flight, has_page, stands, queue_after, queue_by, flights_after, flights_by, without, leaves}
+use Rattle.thp_history.proofs.Bools.{by_bool, or_none, or-false}
+use Rattle.thp_history.proofs.Counting.{count_any}
+use Rattle.thp_history.proofs.Pushes.{queue_push, flights_push}
+use Rattle.thp_history.proofs.Standing.{Sound, stand, times, flying, flying-cons, flying-leaves, pages, any-pages}
 use Rattle.thp_page.specs.declared.standing.Standing.TheVariants.{Nowhere, Queued, Batch}
 use Rattle.thp_live_pages.specs.Prelude.{batch_of, is_nowhere, standing_of, flier, stands_by}
 

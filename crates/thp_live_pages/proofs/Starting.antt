@@ -1,11 +1,11 @@
 -- A node with no history.
 use Rattle.std.proofs.Common.{◌≡◌, ℕ, ◌≤◌, Bool, List, [], map, length, Option, Some, None, refl, ap, sym, ◌∙◌, subst}
 use Rattle.std.proofs.lemmas.List.Sums.{count_by-le-length}
-use Rattle.thp_model.specs.declared.events.Event.{Event}
-use Rattle.thp_model.specs.declared.events.What.{What}
-use Rattle.thp_model.specs.declared.shape.Shape.{Shape}
-use Rattle.thp_model.specs.Prelude.{History, count_of, queue}
-use Rattle.thp_model.proofs.LegalSteps.{legal_none}
+use Rattle.thp_history.specs.declared.events.Event.{Event}
+use Rattle.thp_history.specs.declared.events.What.{What}
+use Rattle.thp_history.specs.declared.shape.Shape.{Shape}
+use Rattle.thp_history.specs.Prelude.{History, count_of, queue}
+use Rattle.thp_history.proofs.LegalSteps.{legal_none}
 use Rattle.thp_page.specs.Prelude.{Slot, Table, slot_at}
 use Rattle.thp_live_pages.specs.Prelude.{Fills, IsNode, block_of}
 

@@ -1,9 +1,9 @@
 -- Whether a page is worth a split, by its counts.
 use Rattle.std.proofs.Common.{◌≡◌, ℕ, Bool, cond, ◌||◌, ap, ap₂, ◌∙◌}
-use Rattle.thp_model.specs.declared.shape.Shape.{Shape}
-use Rattle.thp_model.specs.Prelude.{History, PageState, Tallies, is_split_candidate, zero_at, zero_count, count_below, subpages, is_above, is_worth_split, is_zero_filled, zero_filled}
-use Rattle.thp_model.proofs.SumsBelow.{sum_below-ext}
-use Rattle.thp_model.proofs.Tallying.{size_is}
+use Rattle.thp_history.specs.declared.shape.Shape.{Shape}
+use Rattle.thp_history.specs.Prelude.{History, PageState, Tallies, is_split_candidate, zero_at, zero_count, count_below, subpages, is_above, is_worth_split, is_zero_filled, zero_filled}
+use Rattle.thp_history.proofs.SumsBelow.{sum_below-ext}
+use Rattle.thp_history.proofs.Tallying.{size_is}
 
 -- as many subpages are zero-filled as the history says
 pub zero_count_is : (s : Shape) (h : History) (p : ℕ) (t : PageState) → Tallies s h p t → zero_count t ≡ zero_filled s h p

@@ -1,7 +1,7 @@
 -- The number of holders of each block. No public clause cites this module.
 use Rattle.std.specs.Prelude.{◌≡◌, ℕ, ◌*◌, ◌≤◌, ◌&&◌, nat_eq, nat_lt, List, length, slice_index}
 use Rattle.std.specs.List.{range_with_len}
-use Rattle.thp_model.specs.Prelude.{first_that, in_words}
+use Rattle.thp_history.specs.Prelude.{first_that, in_words}
 
 -- the first block without a holder, or 0
 unfoldable pub least_of : List ℕ → ℕ

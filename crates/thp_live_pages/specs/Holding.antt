@@ -1,7 +1,7 @@
 -- What a node's table and queue represent of its history.
 use Rattle.std.specs.Prelude.{◌≡◌, ℕ, length, map, List, Option, Some, None}
-use Rattle.thp_model.specs.declared.shape.Shape.{Shape}
-use Rattle.thp_model.specs.Prelude.{History, IsLegal, Tallies, queue}
+use Rattle.thp_history.specs.declared.shape.Shape.{Shape}
+use Rattle.thp_history.specs.Prelude.{History, IsLegal, Tallies, queue}
 use Rattle.thp_page.specs.Prelude.{Slot, Table, slot_at, HoldsPage}
 use Rattle.thp_live_pages.specs.Homes.{block_of, standing_of}
 

@@ -1,8 +1,8 @@
 -- The outcome for a page that lost mappings or a pin, computed from the change.
 use Rattle.std.specs.Prelude.{◌^◌, List, Bool, not, ◌&&◌, nat_eq, nat_lt, if◌then◌else◌}
-use Rattle.thp_model.specs.declared.events.Outcome.{Outcome}
-use Rattle.thp_model.specs.declared.events.Outcome.TheVariants.{Freed, Queued, Stays}
-use Rattle.thp_model.specs.Prelude.{PageState, is_freed, set_of}
+use Rattle.thp_history.specs.declared.events.Outcome.{Outcome}
+use Rattle.thp_history.specs.declared.events.Outcome.TheVariants.{Freed, Queued, Stays}
+use Rattle.thp_history.specs.Prelude.{PageState, is_freed, set_of}
 use Rattle.thp_page.specs.declared.page.Change.{Change}
 
 -- the outcome of a change, computed from the page after it

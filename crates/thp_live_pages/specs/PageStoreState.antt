@@ -1,14 +1,14 @@
 -- The view that contracts have of a node's pages with their lists, and the effect of the calls of `PageStore`.
 use Rattle.std.specs.Prelude.{◌≡◌, ◌≢◌, ℕ, ◌+◌, ◌<◌, ◌≤◌, Bool, true, false, not, if◌then◌else◌, length, drop, List, [], ◌∷◌, ◌++◌, Option, Some, None, slice_get, slice_set, ◌⊎◌}
 use Rattle.thp_links.specs.Prelude.{without}
-use Rattle.thp_model.specs.declared.events.Outcome.{Outcome}
-use Rattle.thp_model.specs.declared.events.Outcome.TheVariants as outcome
-use Rattle.thp_model.specs.Prelude.{page_outcome, page_released, IsFresh, PageState, Loses}
+use Rattle.thp_history.specs.declared.events.Outcome.{Outcome}
+use Rattle.thp_history.specs.declared.events.Outcome.TheVariants as outcome
+use Rattle.thp_history.specs.Prelude.{page_outcome, page_released, IsFresh, PageState, Loses}
 use Rattle.thp_page.specs.declared.standing.Standing.{Standing}
 use Rattle.thp_page.specs.declared.standing.Standing.TheVariants.{Nowhere, Queued, Batch}
 use Rattle.thp_page.specs.Prelude.{Slot, Table, slot_at, HoldsPage}
-use Rattle.thp_model.specs.declared.page_call.Done.{Done}
-use Rattle.thp_model.specs.declared.page_call.Loss.{Loss}
+use Rattle.thp_history.specs.declared.page_call.Done.{Done}
+use Rattle.thp_history.specs.declared.page_call.Loss.{Loss}
 
 -- the table of pages, and the blocks of the queue, oldest first
 pub record PageStoreState : Type 0 where

@@ -1,6 +1,6 @@
 //! The free blocks of a node.
 ghost use Rattle.std.specs.Prelude.{◌≡◌, ◌<◌, ◌≤◌, ◌*◌, ◌/◌, ◌^◌, ℕ, cond, nat_eq, nat_lt, true, false, length, IfOk, IfSome, IfNone};
-ghost use Rattle.thp_model.specs.Prelude.{in_words};
+ghost use Rattle.thp_history.specs.Prelude.{in_words};
 
 use std::alloc::{AllocError, Global};
 use std::marker::Model;

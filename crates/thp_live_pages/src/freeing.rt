@@ -1,8 +1,8 @@
 //! The page that an event frees.
 ghost use Rattle.std.specs.Prelude.{◌≡◌, ℕ, true, Some, IfSome};
-ghost use Rattle.thp_model.specs.Prelude.{frees};
+ghost use Rattle.thp_history.specs.Prelude.{frees};
 
-use thp_model::{Outcome, PageId, What};
+use thp_history::{Outcome, PageId, What};
 
 /// Returns the page that an event frees, if any.
 pub fn freed_page(what: &What) -> Option<PageId>

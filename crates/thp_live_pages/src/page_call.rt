@@ -3,7 +3,7 @@ ghost use Rattle.std.specs.Prelude.{◌≡◌};
 ghost use Rattle.thp_live_pages.specs.Outcomes.{outcome_by, released_after};
 ghost use Rattle.thp_live_pages.specs.PageStoreState.{is_nowhere};
 
-use thp_model::{Outcome, SubSet};
+use thp_history::{Outcome, SubSet};
 use thp_page::{Change, Page, Standing};
 
 // The outcome of a change, computed from the page after it.

@@ -3,7 +3,7 @@ ghost use Rattle.std.specs.Prelude.{◌≡◌, ◌≢◌, ℕ, ◌+◌, ◌<◌,
 ghost use Rattle.std.specs.Bool.{OnTrue, OnFalse};
 ghost use Rattle.std.specs.Result.{result_err};
 ghost use Rattle.thp_links.specs.Prelude.{without, Stands};
-ghost use Rattle.thp_model.specs.Prelude.{max_order, min_order, gives_frames, is_split_candidate, page_refusal, PageSplit, PageState, gain_call, loss_call, page_call, Gains};
+ghost use Rattle.thp_history.specs.Prelude.{max_order, min_order, gives_frames, is_split_candidate, page_refusal, PageSplit, PageState, gain_call, loss_call, page_call, Gains};
 ghost use Rattle.thp_page.specs.Prelude.{slot_at, HoldsPage, Slot};
 ghost use Rattle.thp_live_pages.specs.Flying.{IsFlyingAt};
 ghost use Rattle.thp_live_pages.specs.FreeChains.{IsFreeChain, Relinks};
@@ -13,8 +13,8 @@ use crate::page_call::{give_back, outcome_of};
 use crate::walk::blocks_of;
 use std::alloc::{AllocError, Global};
 use std::marker::Model;
+use thp_history::{Done, Gain, Loss, Outcome, PageCall, PageId, Refusal, Shape, SubSet};
 use thp_links::{FreeChain, LinkTable, Queue};
-use thp_model::{Done, Gain, Loss, Outcome, PageCall, PageId, Refusal, Shape, SubSet};
 use thp_page::{Change, PageTable, Standing};
 
 /// The live pages of a node by block, and the queue of those that wait to be split.

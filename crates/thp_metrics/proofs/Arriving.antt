@@ -5,15 +5,15 @@ use Rattle.std.proofs.lemmas.List.Sums.{fold_push}
 use Rattle.std.proofs.lemmas.List.Elements.{Contains-push, Contains-push_cases}
 use Rattle.thp_links.specs.Prelude.{without}
 use Rattle.thp_links.proofs.Members.{Contains-behind, Contains-cons_cases, Contains-from_without, Contains-head, Contains-nil, Contains-without}
-use Rattle.thp_model.specs.declared.events.Event.{Event}
-use Rattle.thp_model.specs.declared.events.What.{What}
-use Rattle.thp_model.specs.declared.events.What.TheVariants as what
-use Rattle.thp_model.specs.declared.shape.Shape.{Shape}
-use Rattle.thp_model.specs.Prelude.{allocates, allocations, frees, is_live, History, count_of, Fits, IsLegal}
-use Rattle.thp_model.proofs.Alive.{legal_grown}
-use Rattle.thp_model.proofs.LegalSteps.{legal_none, legal_push}
-use Rattle.thp_model.proofs.Numbers.{live_below}
-use Rattle.thp_model.proofs.Untouched.{Untouched, untouched}
+use Rattle.thp_history.specs.declared.events.Event.{Event}
+use Rattle.thp_history.specs.declared.events.What.{What}
+use Rattle.thp_history.specs.declared.events.What.TheVariants as what
+use Rattle.thp_history.specs.declared.shape.Shape.{Shape}
+use Rattle.thp_history.specs.Prelude.{allocates, allocations, frees, is_live, History, count_of, Fits, IsLegal}
+use Rattle.thp_history.proofs.Alive.{legal_grown}
+use Rattle.thp_history.proofs.LegalSteps.{legal_none, legal_push}
+use Rattle.thp_history.proofs.Numbers.{live_below}
+use Rattle.thp_history.proofs.Untouched.{Untouched, untouched}
 use Rattle.thp_journal_writer.specs.Prelude.{event_page}
 use Rattle.thp_live_pages.specs.Prelude.{block_after, block_of}
 use Rattle.thp_live_pages.proofs.Homing.{alloc_of, block_freed, block_push, block_stays, legal_homed, live_block}

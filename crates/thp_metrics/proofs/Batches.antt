@@ -1,16 +1,16 @@
 -- The pages of all batches, counted.
 use Rattle.std.proofs.Common.{◌≡◌, ℕ, ◌+◌, Bool, true, false, not, cond, ◌&&◌, List, [], ◌∷◌, ◌++◌, Option, Some, None, length, refl, ap, sym, ◌∙◌, arith, length-append, nat_eq, eq-eqb, filter}
-use Rattle.thp_model.specs.declared.events.Event.{Event}
-use Rattle.thp_model.specs.declared.events.Outcome.{Outcome}
-use Rattle.thp_model.specs.declared.events.Outcome.TheVariants as outcome
-use Rattle.thp_model.specs.declared.events.What.{What}
-use Rattle.thp_model.specs.declared.events.What.TheVariants as what
-use Rattle.thp_model.specs.declared.shape.Shape.{Shape}
-use Rattle.thp_model.specs.Prelude.{is_live, is_split, History, count_of, Fits, IsLegal, flight, flights, flights_after, flights_by, leaves, sum_below, is_partly_mapped}
-use Rattle.thp_model.proofs.LegalSteps.{legal_all, legal_none, legal_push}
-use Rattle.thp_model.proofs.OnePlace.{flies_stands, has_times, times_flight}
-use Rattle.thp_model.proofs.Pushes.{flights_push}
-use Rattle.thp_model.proofs.Standing.{Sound, flying, flying-cons, flying_push, legal_sound, stands_not}
+use Rattle.thp_history.specs.declared.events.Event.{Event}
+use Rattle.thp_history.specs.declared.events.Outcome.{Outcome}
+use Rattle.thp_history.specs.declared.events.Outcome.TheVariants as outcome
+use Rattle.thp_history.specs.declared.events.What.{What}
+use Rattle.thp_history.specs.declared.events.What.TheVariants as what
+use Rattle.thp_history.specs.declared.shape.Shape.{Shape}
+use Rattle.thp_history.specs.Prelude.{is_live, is_split, History, count_of, Fits, IsLegal, flight, flights, flights_after, flights_by, leaves, sum_below, is_partly_mapped}
+use Rattle.thp_history.proofs.LegalSteps.{legal_all, legal_none, legal_push}
+use Rattle.thp_history.proofs.OnePlace.{flies_stands, has_times, times_flight}
+use Rattle.thp_history.proofs.Pushes.{flights_push}
+use Rattle.thp_history.proofs.Standing.{Sound, flying, flying-cons, flying_push, legal_sound, stands_not}
 use Rattle.thp_page.specs.declared.standing.Standing.{Standing}
 use Rattle.thp_page.specs.declared.standing.Standing.TheVariants as at
 use Rattle.thp_live_pages.specs.Prelude.{standing_of, is_nowhere}

@@ -3,18 +3,18 @@ use Rattle.std.proofs.Common.{◌≡◌, ◌≢◌, ℕ, zero, suc, ◌+◌, ◌
 use Rattle.std.proofs.lemmas.Bool.{cases_lt, lt-ltb, ltb-false, ltb-true}
 use Rattle.std.proofs.lemmas.List.{get_or-set_same, get_or-set_other, length-replicate}
 use Rattle.std.proofs.Math.Nat.{pow-suc}
-use Rattle.thp_model.specs.declared.events.Event.{Event}
-use Rattle.thp_model.specs.declared.events.What.{What}
-use Rattle.thp_model.specs.declared.events.What.TheVariants as what
-use Rattle.thp_model.specs.declared.shape.Shape.{Shape}
-use Rattle.thp_model.specs.Prelude.{allocations, is_alloc, is_live, History, count_of, Fits, IsLegal, flight, has_page, no_pages, sum_below}
-use Rattle.thp_model.proofs.Alive.{legal_grown}
-use Rattle.thp_model.proofs.Numbers.{live_below}
-use Rattle.thp_model.proofs.OnePlace.{flies_live}
-use Rattle.thp_model.proofs.Pushes as pushes
-use Rattle.thp_model.proofs.Standing.{legal_sound}
-use Rattle.thp_model.proofs.SumsBelow.{sum_below-const, sum_below-ext, sum_below_suc}
-use Rattle.thp_model.proofs.Untouched.{Untouched, untouched}
+use Rattle.thp_history.specs.declared.events.Event.{Event}
+use Rattle.thp_history.specs.declared.events.What.{What}
+use Rattle.thp_history.specs.declared.events.What.TheVariants as what
+use Rattle.thp_history.specs.declared.shape.Shape.{Shape}
+use Rattle.thp_history.specs.Prelude.{allocations, is_alloc, is_live, History, count_of, Fits, IsLegal, flight, has_page, no_pages, sum_below}
+use Rattle.thp_history.proofs.Alive.{legal_grown}
+use Rattle.thp_history.proofs.Numbers.{live_below}
+use Rattle.thp_history.proofs.OnePlace.{flies_live}
+use Rattle.thp_history.proofs.Pushes as pushes
+use Rattle.thp_history.proofs.Standing.{legal_sound}
+use Rattle.thp_history.proofs.SumsBelow.{sum_below-const, sum_below-ext, sum_below_suc}
+use Rattle.thp_history.proofs.Untouched.{Untouched, untouched}
 use Rattle.thp_journal_writer.specs.Prelude.{event_page}
 use Rattle.thp_page.specs.declared.standing.Standing.TheVariants as at
 use Rattle.thp_live_pages.specs.Prelude.{standing_of}

@@ -1,16 +1,16 @@
 -- How often pages were found pinned, with one more event.
 use Rattle.std.proofs.Common.{◌≡◌, ◌≢◌, ℕ, zero, suc, ◌+◌, ◌<◌, ◌≤◌, ◌^◌, Bool, true, false, cond, List, [], ◌∷◌, ◌++◌, Option, Some, None, length, map, set, refl, ap, sym, ◌∙◌, subst, arith, nat_eq, eq-eqb, eqb-true, length-set, slice_get, filter, option_and_then}
-use Rattle.thp_model.specs.declared.events.Event.{Event}
-use Rattle.thp_model.specs.declared.events.What.{What}
-use Rattle.thp_model.specs.declared.events.What.TheVariants as what
-use Rattle.thp_model.specs.declared.shape.Shape.{Shape}
-use Rattle.thp_model.specs.Prelude.{allocates, allocations, is_alloc, is_split, History, by, count_of, Fits, IsLegal, flight, has_page, is_partly_mapped}
-use Rattle.thp_model.proofs.Alive.{legal_grown}
-use Rattle.thp_model.proofs.LegalSteps.{legal_push}
-use Rattle.thp_model.proofs.Numbers.{live_below}
-use Rattle.thp_model.proofs.OnePlace.{flies_live}
-use Rattle.thp_model.proofs.Pushes.{count_of_push, flights_push}
-use Rattle.thp_model.proofs.Standing.{legal_sound}
+use Rattle.thp_history.specs.declared.events.Event.{Event}
+use Rattle.thp_history.specs.declared.events.What.{What}
+use Rattle.thp_history.specs.declared.events.What.TheVariants as what
+use Rattle.thp_history.specs.declared.shape.Shape.{Shape}
+use Rattle.thp_history.specs.Prelude.{allocates, allocations, is_alloc, is_split, History, by, count_of, Fits, IsLegal, flight, has_page, is_partly_mapped}
+use Rattle.thp_history.proofs.Alive.{legal_grown}
+use Rattle.thp_history.proofs.LegalSteps.{legal_push}
+use Rattle.thp_history.proofs.Numbers.{live_below}
+use Rattle.thp_history.proofs.OnePlace.{flies_live}
+use Rattle.thp_history.proofs.Pushes.{count_of_push, flights_push}
+use Rattle.thp_history.proofs.Standing.{legal_sound}
 use Rattle.thp_journal_writer.specs.Prelude.{event_page}
 use Rattle.thp_live_pages.specs.Prelude.{block_after, block_of, standing_of}
 use Rattle.thp_live_pages.proofs.Homing.{block_freed, block_push, block_stays, legal_homed}

@@ -3,12 +3,12 @@ use Rattle.std.proofs.Common.{◌≡◌, ℕ, ◌+◌, ◌^◌, ◌<◌, Bool, t
 use Rattle.std.specs.List.{range_with_len}
 use Rattle.std.proofs.lemmas.List.{ext_get_or, get_or-set_other, get_or-set_same, length-set, same_lists, take_all, take-append-le}
 use Rattle.std.proofs.lemmas.List.FromFn.{get_or-map-range_with_len, length-map-range_with_len, map-range_with_len_more}
-use Rattle.thp_model.specs.declared.events.Event.{Event}
-use Rattle.thp_model.specs.declared.shape.Shape.{Shape}
-use Rattle.thp_model.specs.Prelude.{allocations, is_live, thp_split_page, thp_split_page_failed, thp_underused_split_page, frames_given, frames_held, History, count_of, some_event, Fits, IsLegal, queue, sum_below}
-use Rattle.thp_model.proofs.Alive.{legal_grown}
-use Rattle.thp_model.proofs.LegalSteps.{legal_none, legal_push}
-use Rattle.thp_model.proofs.Numbers.{live_below}
+use Rattle.thp_history.specs.declared.events.Event.{Event}
+use Rattle.thp_history.specs.declared.shape.Shape.{Shape}
+use Rattle.thp_history.specs.Prelude.{allocations, is_live, thp_split_page, thp_split_page_failed, thp_underused_split_page, frames_given, frames_held, History, count_of, some_event, Fits, IsLegal, queue, sum_below}
+use Rattle.thp_history.proofs.Alive.{legal_grown}
+use Rattle.thp_history.proofs.LegalSteps.{legal_none, legal_push}
+use Rattle.thp_history.proofs.Numbers.{live_below}
 use Rattle.thp_live_pages.proofs.Starting.{few_events}
 use Rattle.thp_check.specs.Prelude.{Replayed, with_event}
 use Rattle.thp_metrics.specs.Prelude.{Numbers, Pages, Stage, Allocated, PartlyMapped, Queued, InBatch, Split, count_in, entered, left, staged, GoesAlong, MayEnter, MayLeave, numbers_at, series, pages_at, pages_in, stage_of, stages_at, callers_at, longest_wait}

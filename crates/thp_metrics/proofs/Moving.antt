@@ -1,16 +1,16 @@
 -- How many pages are in each stage, with one more event.
 use Rattle.std.proofs.Common.{◌≡◌, ◌≢◌, ℕ, zero, suc, ◌+◌, ◌-◌, ◌<◌, ◌≤◌, Bool, true, false, not, cond, ◌&&◌, [], ◌∷◌, ◌++◌, Option, Some, None, refl, ap, sym, ◌∙◌, inl, inr, arith, nat_eq, ne_eqb, add-one}
 use Rattle.std.proofs.lemmas.Bool.{cases_lt}
-use Rattle.thp_model.specs.declared.events.Event.{Event}
-use Rattle.thp_model.specs.declared.events.What.{What}
-use Rattle.thp_model.specs.declared.events.What.TheVariants as what
-use Rattle.thp_model.specs.declared.shape.Shape.{Shape}
-use Rattle.thp_model.specs.Prelude.{allocates, allocations, frees, is_alloc, is_live, is_split, splits, History, some_event, by, Fits, IsLegal, is_about, sum_below, count_below, is_partly_mapped}
-use Rattle.thp_model.proofs.Alive.{legal_grown}
-use Rattle.thp_model.proofs.Holding.{live_back}
-use Rattle.thp_model.proofs.Pushes.{count_more, count_same, live_stays, some_same, partly_stays}
-use Rattle.thp_model.proofs.SumsBelow.{sum_below-ext, sum_below-one, sum_below_suc}
-use Rattle.thp_model.proofs.Untouched.{Untouched, untouched}
+use Rattle.thp_history.specs.declared.events.Event.{Event}
+use Rattle.thp_history.specs.declared.events.What.{What}
+use Rattle.thp_history.specs.declared.events.What.TheVariants as what
+use Rattle.thp_history.specs.declared.shape.Shape.{Shape}
+use Rattle.thp_history.specs.Prelude.{allocates, allocations, frees, is_alloc, is_live, is_split, splits, History, some_event, by, Fits, IsLegal, is_about, sum_below, count_below, is_partly_mapped}
+use Rattle.thp_history.proofs.Alive.{legal_grown}
+use Rattle.thp_history.proofs.Holding.{live_back}
+use Rattle.thp_history.proofs.Pushes.{count_more, count_same, live_stays, some_same, partly_stays}
+use Rattle.thp_history.proofs.SumsBelow.{sum_below-ext, sum_below-one, sum_below_suc}
+use Rattle.thp_history.proofs.Untouched.{Untouched, untouched}
 use Rattle.thp_live_pages.specs.Prelude.{standing_of}
 use Rattle.thp_live_pages.proofs.Standings.{names, standing_other}
 use Rattle.thp_metrics.specs.Prelude.{Stage, is_stage, pages_in, stage_by, stage_of}

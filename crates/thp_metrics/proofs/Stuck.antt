@@ -4,8 +4,8 @@ use Rattle.std.proofs.lemmas.List.{take_more}
 use Rattle.std.proofs.lemmas.List.Elements.{All-contains_itself}
 use Rattle.std.proofs.lemmas.List.Kept.{AllPairs-cons}
 use Rattle.thp_links.proofs.Members.{Contains-behind, Contains-cons_cases, Contains-head, Contains-nil}
-use Rattle.thp_model.specs.declared.shape.Shape.{Shape}
-use Rattle.thp_model.specs.Prelude.{History}
+use Rattle.thp_history.specs.declared.shape.Shape.{Shape}
+use Rattle.thp_history.specs.Prelude.{History}
 use Rattle.thp_live_pages.proofs.Homing.{legal_homed}
 use Rattle.thp_metrics.specs.Prelude.{PinCount, StuckPage, Arrived, Ascends, KeepsWaits, since_of, KeepsFinds, stuck_among, stuck_by, home, AreStuck, IsStuck, finds}
 use Rattle.thp_metrics.proofs.Arriving.{home_waits, waits_home}

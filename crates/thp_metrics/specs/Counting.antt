@@ -1,6 +1,6 @@
 -- The number of pages that callers have in their batches. No public clause cites this module.
 use Rattle.std.specs.Prelude.{ℕ, ◌+◌, ◌-◌, ◌^◌, ◌<◌, ⊤, List, Option, Some, None, get_or, set, nat_lt, if◌then◌else◌}
-use Rattle.thp_model.specs.Prelude.{sum_below}
+use Rattle.thp_history.specs.Prelude.{sum_below}
 
 abbrev pub count_at : List ℕ → ℕ → ℕ
 count_at counts c = get_or counts c 0

@@ -1,9 +1,9 @@
 -- The number of times that pages were found pinned, by block. No public clause cites this module.
 use Rattle.std.specs.Prelude.{◌≡◌, ℕ, ◌+◌, ◌<◌, ◌≤◌, ◌^◌, ⊤, List, [], ◌∷◌, ◌++◌, Option, Some, None, length, nat_lt, slice_get, set, if◌then◌else◌}
-use Rattle.thp_model.specs.declared.events.What.{What}
-use Rattle.thp_model.specs.declared.events.What.TheVariants.{Alloc, Pinned}
-use Rattle.thp_model.specs.declared.shape.Shape.{Shape}
-use Rattle.thp_model.specs.Prelude.{allocations, History}
+use Rattle.thp_history.specs.declared.events.What.{What}
+use Rattle.thp_history.specs.declared.events.What.TheVariants.{Alloc, Pinned}
+use Rattle.thp_history.specs.declared.shape.Shape.{Shape}
+use Rattle.thp_history.specs.Prelude.{allocations, History}
 use Rattle.thp_live_pages.specs.Prelude.{block_of}
 use Rattle.thp_metrics.specs.declared.finds.PinCount.{PinCount}
 use Rattle.thp_metrics.specs.declared.stuck_page.StuckPage.{StuckPage}

@@ -1,7 +1,7 @@
 -- The data about a node, event by event. No public clause cites this module.
 use Rattle.std.specs.Prelude.{◌≡◌, ℕ, ◌+◌, ◌-◌, ◌<◌, ◌^◌, List, length, Option, Some, None, set, nat_lt, if◌then◌else◌}
-use Rattle.thp_model.specs.declared.shape.Shape.{Shape}
-use Rattle.thp_model.specs.Prelude.{allocations, History, IsLegal, count_below}
+use Rattle.thp_history.specs.declared.shape.Shape.{Shape}
+use Rattle.thp_history.specs.Prelude.{allocations, History, IsLegal, count_below}
 use Rattle.thp_check.specs.Prelude.{Replayed}
 use Rattle.thp_metrics.specs.declared.numbers.Numbers.{Numbers}
 use Rattle.thp_metrics.specs.declared.pages.Pages.{Pages}

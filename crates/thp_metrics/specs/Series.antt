@@ -1,8 +1,8 @@
 -- The numbers of a node's history, prefix by prefix.
 use Rattle.std.specs.Prelude.{◌+◌, List, length, map, take}
 use Rattle.std.specs.List.{range_with_len}
-use Rattle.thp_model.specs.declared.shape.Shape.{Shape}
-use Rattle.thp_model.specs.Prelude.{thp_split_page, thp_split_page_failed, thp_underused_split_page, frames_given, frames_held, History, queue, flights}
+use Rattle.thp_history.specs.declared.shape.Shape.{Shape}
+use Rattle.thp_history.specs.Prelude.{thp_split_page, thp_split_page_failed, thp_underused_split_page, frames_given, frames_held, History, queue, flights}
 use Rattle.thp_metrics.specs.declared.numbers.Numbers.{Numbers}
 use Rattle.thp_metrics.specs.Stages.{pages_at, stages_at}
 use Rattle.thp_metrics.specs.Waits.{callers_at, longest_wait}

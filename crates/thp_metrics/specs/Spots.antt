@@ -1,7 +1,7 @@
 -- The positions of pages: by block, if they wait, and by caller, if they are in a batch. No public clause cites this module.
 use Rattle.std.specs.Prelude.{ℕ, Bool, false, nat_eq, if◌then◌else◌, Option, Some, None}
-use Rattle.thp_model.specs.declared.shape.Shape.{Shape}
-use Rattle.thp_model.specs.Prelude.{is_live, History}
+use Rattle.thp_history.specs.declared.shape.Shape.{Shape}
+use Rattle.thp_history.specs.Prelude.{is_live, History}
 use Rattle.thp_page.specs.declared.standing.Standing.{Standing}
 use Rattle.thp_page.specs.declared.standing.Standing.TheVariants as at
 use Rattle.thp_live_pages.specs.Prelude.{block_of, standing_of}

@@ -1,8 +1,8 @@
 -- The stages of a page's life, and the number of pages in each.
 use Rattle.std.specs.Prelude.{ℕ, Bool, true, false, nat_eq, if◌then◌else◌, Option, Some, None, List, map}
 use Rattle.std.specs.List.{range_with_len}
-use Rattle.thp_model.specs.declared.shape.Shape.{Shape}
-use Rattle.thp_model.specs.Prelude.{allocations, is_live, is_split, History, count_below, is_partly_mapped}
+use Rattle.thp_history.specs.declared.shape.Shape.{Shape}
+use Rattle.thp_history.specs.Prelude.{allocations, is_live, is_split, History, count_below, is_partly_mapped}
 use Rattle.thp_page.specs.declared.standing.Standing.{Standing}
 use Rattle.thp_page.specs.declared.standing.Standing.TheVariants as at
 use Rattle.thp_live_pages.specs.Prelude.{standing_of}

@@ -7,7 +7,7 @@ use crate::folded::Folded;
 use crate::numbers::Numbers;
 use std::alloc::{AllocError, Global};
 use std::marker::Model;
-use thp_model::Trace;
+use thp_history::Trace;
 
 /// The greatest number of columns.
 pub const MAX_COLUMNS: usize = 600;

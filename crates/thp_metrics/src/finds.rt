@@ -4,7 +4,7 @@ ghost use Rattle.thp_metrics.specs.Finding.{noted, MayNote};
 
 use std::alloc::{AllocError, Global};
 use std::marker::Model;
-use thp_model::{PageId, What};
+use thp_history::{PageId, What};
 
 // The last page of a block, and the number of times it was found pinned.
 #[derive(Clone, Copy)]

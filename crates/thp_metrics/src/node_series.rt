@@ -1,6 +1,6 @@
 //! The numbers of a node, event by event.
 ghost use Rattle.std.specs.Prelude.{◌≡◌, ◌≤◌, ◌<◌, ◌+◌, ◌^◌, [], length, IfOk, IfErr};
-ghost use Rattle.thp_model.specs.Prelude.{least_free, Fits, IsLegal, max_order, min_order};
+ghost use Rattle.thp_history.specs.Prelude.{least_free, Fits, IsLegal, max_order, min_order};
 ghost use Rattle.thp_check.specs.Prelude.{Explains, with_event};
 ghost use Rattle.thp_metrics.specs.Following.{staged, CountsBatches};
 ghost use Rattle.thp_metrics.specs.Series.{numbers_at, series};
@@ -18,8 +18,8 @@ use crate::waiting::Waiting;
 use std::alloc::{AllocError, Global};
 use std::marker::Model;
 use thp_check::{Misfit, Replay};
+use thp_history::{Event, PageId, Shape};
 use thp_journal_writer::event_page;
-use thp_model::{Event, PageId, Shape};
 
 /// A node whose events arrive one by one, with its numbers after each prefix of them in columns.
 ///

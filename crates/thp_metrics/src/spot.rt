@@ -7,8 +7,8 @@ ghost use Rattle.thp_metrics.specs.Stages.{stage_by, stage_of};
 
 use crate::stage::{Stage, stage_by};
 use thp_check::{PageLocation, Replay, Standing};
+use thp_history::{PageId, What};
 use thp_journal_writer::event_page;
-use thp_model::{PageId, What};
 
 // The position of a page; all `None` if it is not live.
 #[derive(Clone, Copy)]

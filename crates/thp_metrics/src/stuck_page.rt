@@ -1,5 +1,5 @@
 //! Pages that wait and were found pinned.
-use thp_model::PageId;
+use thp_history::PageId;
 
 /// A page that waits, in the queue or in a batch, and was found pinned when it was tried.
 #[derive(Clone, Copy, Debug, PartialEq, Eq)]

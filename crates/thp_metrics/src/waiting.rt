@@ -1,7 +1,7 @@
 //! The pages that wait for a split, in the queue or in a batch, event by event.
 ghost use Rattle.std.specs.Prelude.{◌≡◌, ◌<◌, ◌+◌, ◌^◌, ℕ, [], ◌∷◌, ◌++◌, length, IfOk, Contains};
 ghost use Rattle.std.specs.Option.{option_and_then};
-ghost use Rattle.thp_model.specs.Prelude.{Fits};
+ghost use Rattle.thp_history.specs.Prelude.{Fits};
 ghost use Rattle.thp_journal_writer.specs.Prelude.{event_page};
 ghost use Rattle.thp_check.specs.Prelude.{with_event};
 ghost use Rattle.thp_metrics.specs.Finding.{stuck_among};
@@ -14,7 +14,7 @@ use crate::finds::PinCounts;
 use crate::stuck_page::StuckPage;
 use std::alloc::{AllocError, Global};
 use std::marker::Model;
-use thp_model::{Event, Shape, Trace};
+use thp_history::{Event, Shape, Trace};
 
 /// The pages of a node that wait, in the queue or in a batch, with the events since which they wait.
 ///

@@ -1,46 +1,18 @@
-//! Events of one memory node, and which histories are legal.
+//! The model of one memory node: all of `thp_history` under this name, and a check that reads its definitions one for one.
 //!
-//! This is the part to believe: `specs/` has the definitions that all contracts cite; docs/MODEL.md explains them.
-//!
-//! - Values: `events` (`Event`, `What`, `Outcome`, `PageId`), `page_call` (`Gain`, `Loss`, `PageCall`, `Done`), `refusal`,
-//!   `shape`, `limits`, `sub_set` (a set of subpages as 512 bits; proofs `WordSpans`, `WordMarks`), `trace` (what
-//!   happened so far, for contracts alone).
-//! - Laws of every legal history, as contracts of empty functions: `laws`; worked histories likewise: `rows`.
-//! - `slow_check` and its modules read the definitions one for one. A definition that changes is changed there, too.
-//! - A page by itself: `Pages`, `PageCalls`, `PageChanges`; proof `PageRefusals`: its refusals are those of the history.
-//! - Underused pages: `Underused`, `UnderusedLaws`; proof `PartlyStands` shows that nothing of them happens with the switch off.
-//!
-//! For callers' proofs: `Pushes` (each definition at a history with one more event), `Tallying` (a page's state after each
-//! event), `PageRefusals`, `PageOutcomes`, `Allowed`, and `TakeRuns`, `TryRuns`, `ReturnRuns`, `ScanRuns` (longer calls).
+//! `check` and its modules recompute everything for each event and keep nothing. They are for readers who doubt `thp_check`: by
+//! the same clauses, each is the other's second opinion. No program uses them, so no program's proof waits for theirs.
 #![tactic(auto)]
 
-mod check_fault;
-mod events;
-mod laws;
-mod limits;
-mod page_call;
-mod refusal;
-mod rows;
-mod shape;
 mod slow_check;
-mod sub_set;
-mod trace;
 
-pub use check_fault::CheckFault;
-pub use events::{Event, Outcome, PageId, What};
-pub use laws::{
-    each_frame_once, flights_go_by_events, freed_pages_are_left_alone, least_blocks_are_legal,
+pub use slow_check::check;
+pub use thp_history::{
+    CheckFault, Done, Event, Gain, Loss, MAX_BATCH, MAX_CALLERS, MAX_SUBPAGES, Outcome, PageCall,
+    PageId, Refusal, Shape, SubSet, Trace, What, each_frame_once, first_run_is_legal,
+    flights_go_by_events, freed_pages_are_left_alone, least_blocks_are_legal, limits_are_defined,
     live_pages_are_apart, no_page_stands_twice, none_is_underused_while_off,
-    nothing_enters_after_close, oldest_are_taken, others_only_free, requests_decide,
-};
-pub use limits::{MAX_BATCH, MAX_CALLERS, MAX_SUBPAGES, limits_are_defined};
-pub use page_call::{Done, Gain, Loss, PageCall};
-pub use refusal::Refusal;
-pub use rows::{
-    first_run_is_legal, pinned_goes_to_the_tail_is_legal, small_page_split_is_legal,
+    nothing_enters_after_close, oldest_are_taken, others_only_free,
+    pinned_goes_to_the_tail_is_legal, requests_decide, small_page_split_is_legal,
     underused_pinned_is_legal, underused_scan_is_legal,
 };
-pub use shape::Shape;
-pub use slow_check::check;
-pub use sub_set::SubSet;
-pub use trace::Trace;

@@ -3,9 +3,9 @@
 //! It recomputes everything about a page, the queue, flights and frames for each event, by passes over the events before it. It
 //! keeps nothing between events: it has none of the descriptors, links or tables of a node.
 ghost use Rattle.std.specs.Prelude.{◌≤◌, OnOk, IfErr};
-ghost use Rattle.thp_model.specs.Limits.{max_order, min_order};
-ghost use Rattle.thp_model.specs.Checks.{IsCheckResult};
-ghost use Rattle.thp_model.specs.Legal.{IsLegal};
+ghost use Rattle.thp_history.specs.Limits.{max_order, min_order};
+ghost use Rattle.thp_history.specs.Checks.{IsCheckResult};
+ghost use Rattle.thp_history.specs.Legal.{IsLegal};
 
 mod frames;
 mod kinds;
@@ -14,11 +14,9 @@ mod passing;
 mod places;
 mod underused;
 
-use crate::check_fault::CheckFault;
-use crate::events::Event;
-use crate::shape::Shape;
 use kinds::fits;
 use std::alloc::{AllocError, Global};
+use thp_history::{CheckFault, Event, Shape};
 
 /// Checks that a history is legal on a node of this shape, that is, that each of its events fits those before it (`IsLegal`).
 ///

@@ -2,16 +2,16 @@
 use Rattle.std.proofs.Common.{◌≡◌, ◌≢◌, ℕ, min, suc, ◌+◌, ◌<◌, ◌≤◌, Bool, true, false, cond, not, List, [], ◌∷◌, ◌++◌, Option, Some, None, length, take, drop, refl, ap, ap₂, sym, ◌∙◌, subst, arith, nat_eq, eq-eqb, ne_eqb, if◌then◌else◌, slice_get}
 use Rattle.std.proofs.lemmas.List.{length-map, length-take, length-drop}
 use Rattle.std.specs.List.{position_or_len}
-use Rattle.thp_model.specs.declared.events.Event.{Event}
-use Rattle.thp_model.specs.declared.events.What.TheVariants as what
-use Rattle.thp_model.specs.declared.refusal.Refusal.TheVariants as reason
-use Rattle.thp_model.specs.declared.shape.Shape.{Shape}
-use Rattle.thp_model.specs.Prelude.{History, by, IsLegal, Fits, pins, whole, PageState, PageSplit, gives_frames, is_split_candidate, is_worth_split, is_partly_mapped, shrinks_underused, queue, flight, no_pages, is_taking, has_page, refusal, take_events, next_page, rest_after, tries_of, try_event}
-use Rattle.thp_model.specs.Refusals as call
-use Rattle.thp_model.proofs.Bools.{or_first, or_second}
-use Rattle.thp_model.proofs.Tallying.{pins_is, whole_is, worth_is}
-use Rattle.thp_model.proofs.Pushes.{queue_push, is_taking_push}
-use Rattle.thp_model.proofs.TakeRuns.{more_taken, take_events_more}
+use Rattle.thp_history.specs.declared.events.Event.{Event}
+use Rattle.thp_history.specs.declared.events.What.TheVariants as what
+use Rattle.thp_history.specs.declared.refusal.Refusal.TheVariants as reason
+use Rattle.thp_history.specs.declared.shape.Shape.{Shape}
+use Rattle.thp_history.specs.Prelude.{History, by, IsLegal, Fits, pins, whole, PageState, PageSplit, gives_frames, is_split_candidate, is_worth_split, is_partly_mapped, shrinks_underused, queue, flight, no_pages, is_taking, has_page, refusal, take_events, next_page, rest_after, tries_of, try_event}
+use Rattle.thp_history.specs.Refusals as call
+use Rattle.thp_history.proofs.Bools.{or_first, or_second}
+use Rattle.thp_history.proofs.Tallying.{pins_is, whole_is, worth_is}
+use Rattle.thp_history.proofs.Pushes.{queue_push, is_taking_push}
+use Rattle.thp_history.proofs.TakeRuns.{more_taken, take_events_more}
 use Rattle.thp_node.specs.Prelude.{Tried, tried, Did, NodeState, Took}
 use Rattle.thp_node.specs.declared.answers.Tried.TheVariants as answer
 use Rattle.thp_live_pages.specs.Prelude.{PageStoreState, AtSlot, Edits, IsFlyingAt, IsUnpinnedAt, IsNode, IsSlot}

@@ -1,11 +1,11 @@
 -- What a call did, put together from what its parts did.
 use Rattle.std.proofs.Common.{◌≡◌, Option, Some, None, ℕ, zero, suc, ◌+◌, ◌<◌, ◌≤◌, List, [], ◌∷◌, ◌++◌, length, ap, ◌∙◌, arith, get_or, length-append, append_assoc, All}
 use Rattle.std.proofs.lemmas.Bool.{cases_lt}
-use Rattle.thp_model.specs.declared.refusal.Refusal.{Refusal}
-use Rattle.thp_model.specs.declared.events.Event.{Event}
-use Rattle.thp_model.specs.declared.events.What.{What}
-use Rattle.thp_model.specs.Prelude.{by, IsLegal}
-use Rattle.thp_model.proofs.ListPlaces.{append_none}
+use Rattle.thp_history.specs.declared.refusal.Refusal.{Refusal}
+use Rattle.thp_history.specs.declared.events.Event.{Event}
+use Rattle.thp_history.specs.declared.events.What.{What}
+use Rattle.thp_history.specs.Prelude.{by, IsLegal}
+use Rattle.thp_history.proofs.ListPlaces.{append_none}
 use Rattle.thp_live_pages.specs.Prelude.{PageStoreState}
 use Rattle.thp_node.specs.Prelude.{Did, Refused, JournalState, NodeState}
 

@@ -2,20 +2,20 @@
 use Rattle.std.proofs.Common.{◌≡◌, ◌≢◌, ℕ, suc, Bool, true, false, cond, not, ◌&&◌, ◌||◌, List, [], ◌∷◌, ◌++◌, map, refl, ap, sym, ◌∙◌, subst, nat_eq, eqb-true, eq-eqb, append_assoc, arith}
 use Rattle.std.specs.List.{filter, list_all, All}
 use Rattle.std.proofs.lemmas.List.Elements.{filter-append}
-use Rattle.thp_model.specs.declared.events.Event.{Event}
-use Rattle.thp_model.specs.declared.events.Outcome.{Outcome}
-use Rattle.thp_model.specs.declared.events.Outcome.TheVariants.{Freed}
-use Rattle.thp_model.specs.declared.events.What.{What}
-use Rattle.thp_model.specs.declared.events.What.TheVariants.{UnmapWhole, UnmapSub, Unpin, Taken, Split, Used, Back, Dropped}
-use Rattle.thp_model.specs.declared.shape.Shape.{Shape}
-use Rattle.thp_model.specs.Prelude.{History, by, is_dropped, flight_after, flight_by, flight, has_page, takes_by, without, still_flying, split_next_events, put_back_events, return_event, gain_what, loss_what}
-use Rattle.thp_model.proofs.Blocks.{filter-filter}
-use Rattle.thp_model.proofs.Bools.{by_bool, and_both, and_yes, not_true}
-use Rattle.thp_model.proofs.Flights.{flight_push}
-use Rattle.thp_model.proofs.ListPlaces.{append_none}
-use Rattle.thp_model.proofs.OnePlace.{filter_in}
-use Rattle.thp_model.specs.declared.page_call.Gain.{Gain}
-use Rattle.thp_model.specs.declared.page_call.Loss.{Loss}
+use Rattle.thp_history.specs.declared.events.Event.{Event}
+use Rattle.thp_history.specs.declared.events.Outcome.{Outcome}
+use Rattle.thp_history.specs.declared.events.Outcome.TheVariants.{Freed}
+use Rattle.thp_history.specs.declared.events.What.{What}
+use Rattle.thp_history.specs.declared.events.What.TheVariants.{UnmapWhole, UnmapSub, Unpin, Taken, Split, Used, Back, Dropped}
+use Rattle.thp_history.specs.declared.shape.Shape.{Shape}
+use Rattle.thp_history.specs.Prelude.{History, by, is_dropped, flight_after, flight_by, flight, has_page, takes_by, without, still_flying, split_next_events, put_back_events, return_event, gain_what, loss_what}
+use Rattle.thp_history.proofs.Blocks.{filter-filter}
+use Rattle.thp_history.proofs.Bools.{by_bool, and_both, and_yes, not_true}
+use Rattle.thp_history.proofs.Flights.{flight_push}
+use Rattle.thp_history.proofs.ListPlaces.{append_none}
+use Rattle.thp_history.proofs.OnePlace.{filter_in}
+use Rattle.thp_history.specs.declared.page_call.Gain.{Gain}
+use Rattle.thp_history.specs.declared.page_call.Loss.{Loss}
 use Rattle.thp_node.specs.Prelude.{BatchState, IsInFront, FrontsStay, OtherFrontsStay, OlderAreInFront, Did, NodeState}
 
 filter_all : (ps : List ℕ) → filter (λ p. true) ps ≡ ps

@@ -1,17 +1,17 @@
 -- The laws of every legal history, at one journal.
 use Rattle.std.proofs.Common.{◌≡◌, ◌++◌, subst}
-use Rattle.thp_model.specs.declared.shape.Shape.{Shape}
-use Rattle.thp_model.specs.Prelude.{History, IsLegal, takes_of, IsShape}
-use Rattle.thp_model.proofs.Alive.{live_holds}
-use Rattle.thp_model.proofs.BlockPages.{pages_apart}
-use Rattle.thp_model.proofs.EachFrame.{each_frame_once}
-use Rattle.thp_model.proofs.FlightLaws.{stands_whole, oldest, left_alone, new_once, none_enters, others_only_free}
-use Rattle.thp_model.proofs.Flights.{flight_push}
-use Rattle.thp_model.proofs.Kept.{frames_kept}
-use Rattle.thp_model.proofs.LegalSteps.{legal_front}
-use Rattle.thp_model.proofs.PartlyStands.{partly_stands, none_used, none_underused}
-use Rattle.thp_model.proofs.Pushes.{queue_push}
-use Rattle.thp_model.proofs.Standing.{once_of_legal}
+use Rattle.thp_history.specs.declared.shape.Shape.{Shape}
+use Rattle.thp_history.specs.Prelude.{History, IsLegal, takes_of, IsShape}
+use Rattle.thp_history.proofs.Alive.{live_holds}
+use Rattle.thp_history.proofs.BlockPages.{pages_apart}
+use Rattle.thp_history.proofs.EachFrame.{each_frame_once}
+use Rattle.thp_history.proofs.FlightLaws.{stands_whole, oldest, left_alone, new_once, none_enters, others_only_free}
+use Rattle.thp_history.proofs.Flights.{flight_push}
+use Rattle.thp_history.proofs.Kept.{frames_kept}
+use Rattle.thp_history.proofs.LegalSteps.{legal_front}
+use Rattle.thp_history.proofs.PartlyStands.{partly_stands, none_used, none_underused}
+use Rattle.thp_history.proofs.Pushes.{queue_push}
+use Rattle.thp_history.proofs.Standing.{once_of_legal}
 use Rattle.thp_node.specs.Prelude.{StandsOnce, StandsWhole, TakesOldest, LeavesFreedAlone, AllocatesOnce, NothingEnters, HasFramesOnce, KeepsFrames, HoldsWhileLive, LivesApart, OthersFree, FlightsGoOn, QueueGoesOn, NoneIsUnderused}
 
 -- the first part of a legal history is legal

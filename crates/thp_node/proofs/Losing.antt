@@ -1,11 +1,11 @@
 -- What a call that takes mappings or a pin from a page records, once it is admitted.
 use Rattle.std.proofs.Common.{◌≡◌, ℕ, ◌+◌, ◌≤◌, Bool, List, [], ◌∷◌, ◌++◌, Option, Some, None, get_or, ap, ◌∙◌, subst, arith, if◌then◌else◌}
-use Rattle.thp_model.specs.declared.shape.Shape.{Shape}
-use Rattle.thp_model.specs.declared.events.Outcome.{Outcome}
-use Rattle.thp_model.specs.Prelude.{History, by, is_closed, is_freed, flights, Fits, Gives, refusal, loss_call, loss_what}
+use Rattle.thp_history.specs.declared.shape.Shape.{Shape}
+use Rattle.thp_history.specs.declared.events.Outcome.{Outcome}
+use Rattle.thp_history.specs.Prelude.{History, by, is_closed, is_freed, flights, Fits, Gives, refusal, loss_call, loss_what}
 use Rattle.thp_page.specs.Prelude.{Slot, slot_at}
-use Rattle.thp_model.specs.declared.page_call.Done.{Done}
-use Rattle.thp_model.specs.declared.page_call.Loss.{Loss}
+use Rattle.thp_history.specs.declared.page_call.Done.{Done}
+use Rattle.thp_history.specs.declared.page_call.Loss.{Loss}
 use Rattle.thp_live_pages.specs.Prelude.{PageStoreState, IsNode, block_of, flier, Relinks}
 use Rattle.thp_node.specs.Prelude.{FreedFrom, LostChained, context_of}
 use Rattle.thp_live_pages.proofs.Admitting.{Found, at_home}

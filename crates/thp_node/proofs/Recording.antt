@@ -2,15 +2,15 @@
 use Rattle.std.proofs.Common.{◌≡◌, ℕ, zero, suc, ◌+◌, ◌^◌, ◌<◌, ◌≤◌, Bool, false, ◌||◌, List, [], ◌∷◌, ◌++◌, length, replicate, Option, None, IfSome, slice_index_or, refl, ap, sym, ◌∙◌, arith}
 use Rattle.std.specs.Int.{from_bool}
 use Rattle.std.proofs.lemmas.List.{length_push}
-use Rattle.thp_model.specs.declared.events.Event.{Event}
-use Rattle.thp_model.specs.declared.events.What.{What}
-use Rattle.thp_model.specs.declared.events.Outcome.{Outcome}
-use Rattle.thp_model.specs.declared.page_call.Loss.{Loss}
-use Rattle.thp_model.specs.Prelude.{loss_what, set_size, History, by, count_of, some_event, IsShape, is_alloc, closes, is_queued, splits_pmds, is_page_split, is_failed_try, queues, thp_split_pmd, splits_underused, thp_underused_split_page, given, frames_given, flights, flight, IsLegal, Fits}
-use Rattle.thp_model.specs.declared.shape.Shape.{Shape}
-use Rattle.thp_model.proofs.Kept.{frames_given_push, size_given}
-use Rattle.thp_model.proofs.LegalSteps.{legal_none, legal_push}
-use Rattle.thp_model.proofs.Pushes.{count_of_push, some_event_push, thp_split_pmd_push, thp_underused_split_page_push}
+use Rattle.thp_history.specs.declared.events.Event.{Event}
+use Rattle.thp_history.specs.declared.events.What.{What}
+use Rattle.thp_history.specs.declared.events.Outcome.{Outcome}
+use Rattle.thp_history.specs.declared.page_call.Loss.{Loss}
+use Rattle.thp_history.specs.Prelude.{loss_what, set_size, History, by, count_of, some_event, IsShape, is_alloc, closes, is_queued, splits_pmds, is_page_split, is_failed_try, queues, thp_split_pmd, splits_underused, thp_underused_split_page, given, frames_given, flights, flight, IsLegal, Fits}
+use Rattle.thp_history.specs.declared.shape.Shape.{Shape}
+use Rattle.thp_history.proofs.Kept.{frames_given_push, size_given}
+use Rattle.thp_history.proofs.LegalSteps.{legal_none, legal_push}
+use Rattle.thp_history.proofs.Pushes.{count_of_push, some_event_push, thp_split_pmd_push, thp_underused_split_page_push}
 use Rattle.thp_node.specs.Prelude.{Counters, Tally, EventContext, FreedFrom, IsJournal, leaves_of, context_of, leaves_by, pmds_by, splits_as_underused, joins_of, freed_from, one_for, frames_of, CanLeave, HasCountRoom, Moves, Counts}
 use Rattle.thp_node.proofs.JournalLemmas.{few_frames_given, flight_moves, leaves_one}
 use Rattle.thp_live_pages.proofs.Starting.{few_events}

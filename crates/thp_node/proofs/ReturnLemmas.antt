@@ -3,14 +3,14 @@ use Rattle.std.proofs.Common.{◌≡◌, ℕ, zero, suc, ◌+◌, ◌<◌, ◌�
 use Rattle.std.specs.Int.{from_bool}
 use Rattle.std.proofs.Math.Seq.{drop-cons, take-append_seam}
 use Rattle.std.proofs.lemmas.List.{map-append, take-append-drop, take_more}
-use Rattle.thp_model.specs.declared.events.Event.{Event}
-use Rattle.thp_model.specs.declared.events.What.TheVariants as what
-use Rattle.thp_model.specs.declared.shape.Shape.{Shape}
-use Rattle.thp_model.specs.Prelude.{History, by, is_closed, IsLegal, Fits, flight, has_page, return_event, still_flying, put_back_events, goes_back, is_dropped}
-use Rattle.thp_model.proofs.ListPlaces.{append_none}
-use Rattle.thp_model.proofs.Bools.{or_first, not_true, not_false}
-use Rattle.thp_model.proofs.ReturnRuns.{Returned, return_fits, return_as, returns_run}
-use Rattle.thp_model.proofs.Counting.{count-cons, count_push}
+use Rattle.thp_history.specs.declared.events.Event.{Event}
+use Rattle.thp_history.specs.declared.events.What.TheVariants as what
+use Rattle.thp_history.specs.declared.shape.Shape.{Shape}
+use Rattle.thp_history.specs.Prelude.{History, by, is_closed, IsLegal, Fits, flight, has_page, return_event, still_flying, put_back_events, goes_back, is_dropped}
+use Rattle.thp_history.proofs.ListPlaces.{append_none}
+use Rattle.thp_history.proofs.Bools.{or_first, not_true, not_false}
+use Rattle.thp_history.proofs.ReturnRuns.{Returned, return_fits, return_as, returns_run}
+use Rattle.thp_history.proofs.Counting.{count-cons, count_push}
 use Rattle.thp_page.specs.declared.standing.Standing.TheVariants.{Nowhere, Queued}
 use Rattle.thp_page.specs.Prelude.{Slot, Table, slot_at}
 use Rattle.thp_live_pages.specs.Prelude.{PageStoreState, Edits, AtSlot, IsFlyingAt, IsNode, block_of, block_after}

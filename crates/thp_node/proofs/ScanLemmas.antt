@@ -5,22 +5,22 @@ use Rattle.std.proofs.Math.Seq.{drop-cons}
 use Rattle.std.proofs.lemmas.Bool.Decides.{nat_tests}
 use Rattle.std.proofs.lemmas.List.Sums.{length-filter, count_by-le-length}
 use Rattle.std.proofs.lemmas.List.{map-append, take-append-drop, take_more, take_min, length-map}
-use Rattle.thp_model.specs.declared.events.Event.{Event}
-use Rattle.thp_model.specs.declared.events.What.TheVariants as what
-use Rattle.thp_model.specs.declared.events.What.{What}
-use Rattle.thp_model.specs.declared.refusal.Refusal.{Refusal}
-use Rattle.thp_model.specs.declared.shape.Shape.{Shape}
-use Rattle.thp_model.specs.Prelude.{History, by, count_of, pins, is_dropped as drops, is_worth_split, IsLegal, queue, flight, has_page, refusal, take_events, scan_events, try_event, is_pinned, return_event, still_flying, put_back_events, next_page, rest_after, split_next_events, tries_of, goes_back, takes_of}
-use Rattle.thp_model.specs.Refusals as call
-use Rattle.thp_model.proofs.Bools.{or_first, or_second}
-use Rattle.thp_model.proofs.Counting.{count-cons, count_push}
-use Rattle.thp_model.proofs.ListPlaces.{append_none}
-use Rattle.thp_model.proofs.OnePlace.{once_flies, not_before, filter_in}
-use Rattle.thp_model.proofs.ReturnRuns.{return_as}
-use Rattle.thp_model.proofs.Standing.{times}
-use Rattle.thp_model.proofs.ScanRuns.{TakesLeave, takes_leave}
-use Rattle.thp_model.proofs.TakeRuns.{take_runs, none_flies}
-use Rattle.thp_model.proofs.TryRuns.{Tried, try_as, tries_run}
+use Rattle.thp_history.specs.declared.events.Event.{Event}
+use Rattle.thp_history.specs.declared.events.What.TheVariants as what
+use Rattle.thp_history.specs.declared.events.What.{What}
+use Rattle.thp_history.specs.declared.refusal.Refusal.{Refusal}
+use Rattle.thp_history.specs.declared.shape.Shape.{Shape}
+use Rattle.thp_history.specs.Prelude.{History, by, count_of, pins, is_dropped as drops, is_worth_split, IsLegal, queue, flight, has_page, refusal, take_events, scan_events, try_event, is_pinned, return_event, still_flying, put_back_events, next_page, rest_after, split_next_events, tries_of, goes_back, takes_of}
+use Rattle.thp_history.specs.Refusals as call
+use Rattle.thp_history.proofs.Bools.{or_first, or_second}
+use Rattle.thp_history.proofs.Counting.{count-cons, count_push}
+use Rattle.thp_history.proofs.ListPlaces.{append_none}
+use Rattle.thp_history.proofs.OnePlace.{once_flies, not_before, filter_in}
+use Rattle.thp_history.proofs.ReturnRuns.{return_as}
+use Rattle.thp_history.proofs.Standing.{times}
+use Rattle.thp_history.proofs.ScanRuns.{TakesLeave, takes_leave}
+use Rattle.thp_history.proofs.TakeRuns.{take_runs, none_flies}
+use Rattle.thp_history.proofs.TryRuns.{Tried, try_as, tries_run}
 use Rattle.thp_node.specs.Prelude.{IsInFront, BatchState, rest, tried as answer_of, back_reply, scan_reply, is_taken, is_split_off, is_pinned_found, is_used_found, is_back, is_dropped, Tried as Answer, BackReply, ScanReply, Did, Refused, NodeState, events_after, is_used, used_count}
 use Rattle.thp_node.specs.declared.answers.Tried.TheVariants as answer
 use Rattle.thp_node.proofs.CallLemmas.{did_then}

@@ -1,7 +1,7 @@
 -- What a node's table says of its pages, for callers.
 use Rattle.std.proofs.Common.{◌≡◌, ℕ, true, List, Option, sym, subst}
-use Rattle.thp_model.specs.declared.shape.Shape.{Shape}
-use Rattle.thp_model.specs.Prelude.{History, is_live, IsLegal}
+use Rattle.thp_history.specs.declared.shape.Shape.{Shape}
+use Rattle.thp_history.specs.Prelude.{History, is_live, IsLegal}
 use Rattle.thp_page.specs.Prelude.{HoldsPage, Slot, Table}
 use Rattle.thp_live_pages.specs.Prelude.{IsNode, HasBlock, LiesWherePlaced}
 use Rattle.thp_node.specs.Prelude.{NodeState}

@@ -1,10 +1,10 @@
 -- The view that contracts have of a batch, the results of a try and a put back, and the counts of a scan.
 use Rattle.std.specs.Prelude.{◌≡◌, ◌≢◌, ℕ, ◌≤◌, ◌<◌, length, count_by, nat_eq, if◌then◌else◌, Bool, true, false, List, [], ◌++◌, drop, Option, Some, None, All}
-use Rattle.thp_model.specs.Prelude.{max_batch, max_callers, History, count_of, pins, is_worth_split, is_dropped as drops, flight, has_page, still_flying, goes_back}
-use Rattle.thp_model.specs.declared.events.Event.{Event}
-use Rattle.thp_model.specs.declared.events.What.{What}
-use Rattle.thp_model.specs.declared.events.What.TheVariants.{Taken, Split as SplitOf, Pinned as PinnedOf, Used as UsedOf, Back, Dropped}
-use Rattle.thp_model.specs.declared.shape.Shape.{Shape}
+use Rattle.thp_history.specs.Prelude.{max_batch, max_callers, History, count_of, pins, is_worth_split, is_dropped as drops, flight, has_page, still_flying, goes_back}
+use Rattle.thp_history.specs.declared.events.Event.{Event}
+use Rattle.thp_history.specs.declared.events.What.{What}
+use Rattle.thp_history.specs.declared.events.What.TheVariants.{Taken, Split as SplitOf, Pinned as PinnedOf, Used as UsedOf, Back, Dropped}
+use Rattle.thp_history.specs.declared.shape.Shape.{Shape}
 use Rattle.thp_node.specs.declared.answers.Tried.{Tried}
 use Rattle.thp_node.specs.declared.answers.Tried.TheVariants.{Split, Pinned, Used, Done}
 use Rattle.thp_node.specs.declared.answers.BackReply.{BackReply}

@@ -1,8 +1,8 @@
 -- The chain of a node's free blocks, and the calls that change it. No public clause cites this module.
 use Rattle.std.specs.Prelude.{◌≡◌, ℕ, ◌<◌, length, Bool, List, Option, None, Contains}
 use Rattle.thp_page.specs.Prelude.{Slot, Table, slot_at}
-use Rattle.thp_model.specs.declared.page_call.Done.{Done}
-use Rattle.thp_model.specs.declared.page_call.Loss.{Loss}
+use Rattle.thp_history.specs.declared.page_call.Done.{Done}
+use Rattle.thp_history.specs.declared.page_call.Loss.{Loss}
 use Rattle.thp_live_pages.specs.Prelude.{IsFreeChain, Relinks, PageStoreState, Lost, Placed}
 
 -- the chain contains exactly the blocks without a page

@@ -1,8 +1,8 @@
 -- The laws of every legal history, for the journal of a node.
 use Rattle.std.specs.Prelude.{◌≡◌, ℕ, ◌+◌, ◌*◌, ◌<◌, ◌≤◌, true, false, ◌&&◌, cond, nat_eq, nat_lt, List, [], ◌∷◌, ◌++◌, Some, slice_get, take, length, count_by, filter}
-use Rattle.thp_model.specs.declared.events.Event.{Event}
-use Rattle.thp_model.specs.declared.shape.Shape.{Shape}
-use Rattle.thp_model.specs.Prelude.{subpages, some_below, History, count_of, some_event, allocates, allocations, is_live, is_split, is_closed, queue, queue_after, flight, standing, stands, flight_after, places, is_held, frames_held, frames_given, takes_of, acts_on, enters, is_others, gives_frame, finds_used, thp_underused_split_page, shrinks_underused, is_partly_mapped}
+use Rattle.thp_history.specs.declared.events.Event.{Event}
+use Rattle.thp_history.specs.declared.shape.Shape.{Shape}
+use Rattle.thp_history.specs.Prelude.{subpages, some_below, History, count_of, some_event, allocates, allocations, is_live, is_split, is_closed, queue, queue_after, flight, standing, stands, flight_after, places, is_held, frames_held, frames_given, takes_of, acts_on, enters, is_others, gives_frame, finds_used, thp_underused_split_page, shrinks_underused, is_partly_mapped}
 
 -- no page occurs twice in the queue and all flights together
 unfoldable pub StandsOnce : Shape → History → Type 0

@@ -1,7 +1,7 @@
 -- The view that contracts have of a node.
 use Rattle.std.specs.Prelude.{ℕ, List}
-use Rattle.thp_model.specs.declared.shape.Shape.{Shape}
-use Rattle.thp_model.specs.Prelude.{History}
+use Rattle.thp_history.specs.declared.shape.Shape.{Shape}
+use Rattle.thp_history.specs.Prelude.{History}
 use Rattle.thp_page.specs.Prelude.{Table}
 
 -- a node's shape, its events, the number of events that it can record without an allocation, its table of pages, and the blocks

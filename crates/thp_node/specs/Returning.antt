@@ -1,8 +1,8 @@
 -- The effect of a put back, page by page. No public clause cites this module.
 use Rattle.std.specs.Prelude.{◌≡◌, ℕ, Bool, List, [], ◌∷◌, ◌++◌, map, take, Option, Some}
-use Rattle.thp_model.specs.declared.events.Event.{Event}
-use Rattle.thp_model.specs.declared.shape.Shape.{Shape}
-use Rattle.thp_model.specs.Prelude.{History, flight, return_event, goes_back}
+use Rattle.thp_history.specs.declared.events.Event.{Event}
+use Rattle.thp_history.specs.declared.shape.Shape.{Shape}
+use Rattle.thp_history.specs.Prelude.{History, flight, return_event, goes_back}
 use Rattle.thp_live_pages.specs.Prelude.{block_of}
 
 -- the flight of caller c begins with the pages of these blocks, in order

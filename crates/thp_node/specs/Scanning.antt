@@ -1,8 +1,8 @@
 -- The effect of a scan after its take. No public clause cites this module.
 use Rattle.std.specs.Prelude.{ℕ, Bool, not, List, ◌++◌, map, filter}
-use Rattle.thp_model.specs.declared.events.Event.{Event}
-use Rattle.thp_model.specs.declared.shape.Shape.{Shape}
-use Rattle.thp_model.specs.Prelude.{History, try_event, return_event, is_pinned, is_worth_split}
+use Rattle.thp_history.specs.declared.events.Event.{Event}
+use Rattle.thp_history.specs.declared.shape.Shape.{Shape}
+use Rattle.thp_history.specs.Prelude.{History, try_event, return_event, is_pinned, is_worth_split}
 use Rattle.thp_node.specs.declared.answers.Tried.{Tried}
 use Rattle.thp_node.specs.declared.answers.Tried.TheVariants.{Used}
 

@@ -1,6 +1,6 @@
 -- The progress of a take. No public clause cites this module.
 use Rattle.std.specs.Prelude.{◌≡◌, ℕ, true, ◌||◌, drop}
-use Rattle.thp_model.specs.Prelude.{queue, flight, no_pages, is_taking, take_events}
+use Rattle.thp_history.specs.Prelude.{queue, flight, no_pages, is_taking, take_events}
 use Rattle.thp_node.specs.Calls.{Did}
 use Rattle.thp_node.specs.NodeState.{NodeState}
 

@@ -1,5 +1,5 @@
 //! The results of a node's calls.
-use thp_model::PageId;
+use thp_history::PageId;
 
 /// Why a node could not be created.
 #[derive(Clone, Copy, PartialEq, Eq, Debug)]

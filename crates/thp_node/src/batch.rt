@@ -1,11 +1,11 @@
 //! Pages that a caller took from the queue together.
-ghost use Rattle.thp_model.specs.Prelude.{max_batch, max_callers};
+ghost use Rattle.thp_history.specs.Prelude.{max_batch, max_callers};
 ghost use Rattle.std.specs.Prelude.{◌≡◌, ◌+◌, ◌<◌, ◌≤◌, [], ◌∷◌, ◌++◌, drop, length, slice_get, Option};
 ghost use Rattle.thp_node.specs.Batches.{no_batch, rest, IsBatch};
 
 use arrayvec::ArrayVec;
 use std::marker::Model;
-use thp_model::{MAX_BATCH, PageId};
+use thp_history::{MAX_BATCH, PageId};
 
 /// The pages of one take, oldest first, and how many of them were tried.
 ///

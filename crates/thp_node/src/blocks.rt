@@ -2,16 +2,16 @@
 ghost use Rattle.std.specs.Prelude.{◌≡◌, ◌≢◌, ℕ, ◌<◌, [], ◌∷◌, ◌++◌, false, length, Option, Some, None, IsSome, IfOk, OnOk, OnErr};
 ghost use Rattle.std.specs.Bool.{OnTrue, OnFalse};
 ghost use Rattle.std.specs.Result.{result_err};
-ghost use Rattle.thp_model.specs.Prelude.{IsShape, page_refusal, gives_frames, PageState, PageSplit, gain_call, loss_call, Gains};
+ghost use Rattle.thp_history.specs.Prelude.{IsShape, page_refusal, gives_frames, PageState, PageSplit, gain_call, loss_call, Gains};
 ghost use Rattle.thp_page.specs.Prelude.{slot_at, HoldsPage};
 ghost use Rattle.thp_live_pages.specs.Prelude.{AtSlot, Edits, TakesFirst, HasFree};
 ghost use Rattle.thp_node.specs.Chaining.{LostChained, StoresFresh};
 
 use std::alloc::{AllocError, Global};
 use std::marker::Model;
+use thp_history::{Done, Gain, Loss, Outcome, PageId, Refusal, Shape, SubSet};
 use thp_links::FreeChain;
 use thp_live_pages::PageStore;
-use thp_model::{Done, Gain, Loss, Outcome, PageId, Refusal, Shape, SubSet};
 use thp_page::Standing;
 
 // The pages of a node by block, with its queue, and the chain of its free blocks, which shares the queue's links.

@@ -1,14 +1,14 @@
 //! The journal of a node, and the numbers that are maintained with it.
 ghost use Rattle.std.specs.Prelude.{◌≡◌, ℕ, ◌+◌, ◌<◌, ◌≤◌, [], ◌∷◌, ◌++◌, ◌^◌, length, OnOk, OnErr, IfSome, IsTrue, ◌↔◌, None, Some, not};
 ghost use Rattle.std.specs.Int.{from_bool};
-ghost use Rattle.thp_model.specs.Prelude.{max_callers, by, IsShape, set_size, allocations, is_closed, is_queued, frames_given, frames_held, flight, IsLegal, Fits, loss_what};
+ghost use Rattle.thp_history.specs.Prelude.{max_callers, by, IsShape, set_size, allocations, is_closed, is_queued, frames_given, frames_held, flight, IsLegal, Fits, loss_what};
 ghost use Rattle.thp_node.specs.Journals.{HasFlightRoom, context_of, leaves_by, joins_of, counters_of, HasCountRoom, CanJoin, CanLeave, Moves, Counts, freed_from, mappings_of, is_underused};
 
 use crate::answers::Counters;
 use crate::recorder::{FullLog, Recorder};
 use std::alloc::{AllocError, Global};
 use std::marker::Model;
-use thp_model::{Done, Event, Loss, MAX_CALLERS, Outcome, PageId, Shape, SubSet, What};
+use thp_history::{Done, Event, Loss, MAX_CALLERS, Outcome, PageId, Shape, SubSet, What};
 
 // The facts about an event that the event itself does not contain.
 #[derive(Clone, Copy)]

@@ -1,7 +1,7 @@
 //! A memory node for one thread: pages, queue and journal.
 //!
 //! [`Node`] is the engine. A call that succeeds records its event, or its run of events, in the journal, which is legal at every
-//! moment; a refused call changes nothing. `Calls` states what every call does, the definitions of `thp_model` the rest.
+//! moment; a refused call changes nothing. `Calls` states what every call does, the definitions of `thp_history` the rest.
 //!
 //! - Public: [`Node`] (`new`, `with_recorder`, `reserve`; `alloc_page`, `close`; `gain`, `lose` and each page call by name;
 //!   `take`, `split_next`, `put_back`, `scan`; readers such as `journal`), [`Batch`] (`caller`, `pages`, `abandon`), recorders,
@@ -28,6 +28,6 @@ pub use answers::{BackReply, Counters, NewFault, ScanReply, Tried};
 pub use batch::Batch;
 pub use node::Node;
 pub use recorder::{CountOnly, FullLog, Recorder};
+pub use thp_history::{Done, Event, Gain, Loss, Outcome, PageId, Refusal, Shape, SubSet, What};
 pub use thp_links::Queue;
-pub use thp_model::{Done, Event, Gain, Loss, Outcome, PageId, Refusal, Shape, SubSet, What};
 pub use thp_page::PageTable;

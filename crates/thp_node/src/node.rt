@@ -1,7 +1,7 @@
 //! A memory node: its parts, its constructors, and what can be read of it.
 ghost use Rattle.std.specs.Prelude.{◌≡◌, ℕ, ◌<◌, ◌≤◌, true, [], length, map, Some, ◌↔◌, Err, IfOk, IfErr, OnOk, OnErr};
 ghost use Rattle.thp_links.specs.Prelude.{Stands};
-ghost use Rattle.thp_model.specs.Prelude.{allocations, is_live, IsShape, frames_given, frames_held, IsLegal, queue};
+ghost use Rattle.thp_history.specs.Prelude.{allocations, is_live, IsShape, frames_given, frames_held, IsLegal, queue};
 ghost use Rattle.thp_page.specs.Prelude.{slot_at};
 ghost use Rattle.thp_live_pages.specs.Prelude.{Fills, HasBlock, block_of, LiesWherePlaced};
 ghost use Rattle.thp_node.specs.JournalLaws.{StandsOnce, StandsWhole, TakesOldest, LeavesFreedAlone, AllocatesOnce, NothingEnters, HasFramesOnce, KeepsFrames, HoldsWhileLive, LivesApart, OthersFree, FlightsGoOn, QueueGoesOn, NoneIsUnderused};
@@ -18,8 +18,8 @@ use crate::journal::Journal;
 use crate::recorder::{FullLog, Recorder};
 use std::alloc::Global;
 use std::marker::Model;
+use thp_history::{Event, Refusal, Shape};
 use thp_links::Queue;
-use thp_model::{Event, Refusal, Shape};
 use thp_page::PageTable;
 
 /// A memory node, used by one thread, that records its events in an `R`.

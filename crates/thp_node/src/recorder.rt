@@ -1,10 +1,10 @@
 //! What a node does with its events: it stores them, or it only counts them.
 ghost use Rattle.std.specs.Prelude.{◌≡◌, ℕ, ◌+◌, ◌<◌, ◌≤◌, ◌↔◌, [], ◌∷◌, ◌++◌, length, IsTrue, OnOk, OnErr};
-ghost use Rattle.thp_model.specs.Prelude.{History, by};
+ghost use Rattle.thp_history.specs.Prelude.{History, by};
 
 use std::alloc::{AllocError, Global};
 use std::marker::Model;
-use thp_model::{Event, Trace, What};
+use thp_history::{Event, Trace, What};
 
 /// The store of a node's events. Contracts see the same history whether a recorder stores the events or only counts them.
 pub trait Recorder: Drop {

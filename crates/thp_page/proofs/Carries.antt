@@ -4,9 +4,9 @@ use Rattle.std.proofs.lemmas.Bool.Decides.{eqb_tells}
 use Rattle.std.proofs.lemmas.List.{get_or-set_same, get_or-set_other, get_or_default}
 use Rattle.std.proofs.lemmas.Bool.{cases_lt}
 use Rattle.std.proofs.Math.ListN.{get_or-eq_default}
-use Rattle.thp_model.specs.Prelude.{get_or-set_of, length-set_of, has, one_alone, set_of, sum_below}
+use Rattle.thp_history.specs.Prelude.{get_or-set_of, length-set_of, has, one_alone, set_of, sum_below}
 use Rattle.std.proofs.lemmas.Grind.{pow_more}
-use Rattle.thp_model.proofs.SumsBelow.{sum_below-ext, sum_below_suc}
+use Rattle.thp_history.proofs.SumsBelow.{sum_below-ext, sum_below_suc}
 use Rattle.thp_page.specs.Prelude.{plane, count_in}
 
 -- what plane k adds to the count of a subpage

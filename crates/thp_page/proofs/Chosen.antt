@@ -5,8 +5,8 @@ use Rattle.std.proofs.lemmas.Bool.Decides.{nat_tests}
 use Rattle.std.proofs.lemmas.Nat.{mod-pow-add, mod_below}
 use Rattle.std.proofs.Math.Nat.{mod-eq_of_lt, div-eq_of_lt, mod-le}
 use Rattle.std.proofs.lemmas.Nat.Bits.{bit_at-lt, shr_and_one}
-use Rattle.thp_model.specs.Prelude.{has, some_below}
-use Rattle.thp_model.proofs.Below.{some_none, some_no}
+use Rattle.thp_history.specs.Prelude.{has, some_below}
+use Rattle.thp_history.proofs.Below.{some_none, some_no}
 use Rattle.thp_page.specs.Prelude.{plane, count_in}
 use Rattle.thp_page.proofs.Carries.{no_planes, one_more, counts_below}
 

@@ -1,8 +1,8 @@
 -- What the calls of a page make of it.
 use Rattle.std.proofs.Common.{◌≡◌, ℕ, zero, suc, ◌^◌, ◌<◌, ◌≤◌, Bool, ◌&&◌, nat_lt, replicate, get_or, None, refl, ap, ap₂, sym, ◌∙◌, arith, lt-ltb, subst, List}
-use Rattle.thp_model.specs.Prelude.{has, set_of, get_or-set_of, most, PageState, size, has_use, partly_after, zero_set, page_refusal, IsPage, IsFresh, KeepsCounts, WholeMapped, WholeUnmapped, RangeMapped, RangeUnmapped, PmdSplit, PageSplit}
-use Rattle.thp_model.specs.Refusals as call
-use Rattle.thp_model.specs.Pages.{Pinned}
+use Rattle.thp_history.specs.Prelude.{has, set_of, get_or-set_of, most, PageState, size, has_use, partly_after, zero_set, page_refusal, IsPage, IsFresh, KeepsCounts, WholeMapped, WholeUnmapped, RangeMapped, RangeUnmapped, PmdSplit, PageSplit}
+use Rattle.thp_history.specs.Refusals as call
+use Rattle.thp_history.specs.Pages.{Pinned}
 use Rattle.thp_page.specs.Prelude.{fresh_page, Inside, state_of, IsKept, NothingAfter}
 use Rattle.thp_page.proofs.SubSets.{set_of-ext}
 use Rattle.thp_page.proofs.PageSizes.{same_size, size_most}

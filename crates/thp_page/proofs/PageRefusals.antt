@@ -1,11 +1,11 @@
 -- What is known of a page that doesn't refuse a call.
 use Rattle.std.proofs.Common.{◌≡◌, ℕ, ◌+◌, ◌<◌, ◌≤◌, Bool, true, false, ◌&&◌, ◌||◌, cond, nat_eq, nat_lt, Some, None, ap, ◌∙◌, arith}
 use Rattle.std.proofs.lemmas.Bool.Decides.{nat_tests}
-use Rattle.thp_model.specs.declared.refusal.Refusal.{Refusal}
-use Rattle.thp_model.specs.Prelude.{covers, most, PageState, size, own_at, total_at, page_refusal, IsPage}
-use Rattle.thp_model.specs.Refusals as call
+use Rattle.thp_history.specs.declared.refusal.Refusal.{Refusal}
+use Rattle.thp_history.specs.Prelude.{covers, most, PageState, size, own_at, total_at, page_refusal, IsPage}
+use Rattle.thp_history.specs.Refusals as call
 use Rattle.thp_page.proofs.RangeLemmas.{covers_true}
-use Rattle.thp_model.proofs.Below.{some_none}
+use Rattle.thp_history.proofs.Below.{some_none}
 
 -- none of the tests made in turn holds
 neither : (a b : Bool) (r q : Refusal) → cond a (Some r) (cond b (Some q) None) ≡ None → (a ≡ false) × (b ≡ false)

@@ -2,8 +2,8 @@
 use Rattle.std.proofs.Common.{◌≡◌, ℕ, ◌+◌, ◌*◌, ◌^◌, ◌%◌, ◌≤◌, Bool, true, ◌&&◌, ap, arith}
 use Rattle.std.proofs.Math.Pow.{pow_mono}
 use Rattle.std.proofs.lemmas.Nat.{one_shl}
-use Rattle.thp_model.specs.Prelude.{covers, some_below, PageState, size, some_in_range}
-use Rattle.thp_model.proofs.Below.{some_below-ext}
+use Rattle.thp_history.specs.Prelude.{covers, some_below, PageState, size, some_in_range}
+use Rattle.thp_history.proofs.Below.{some_below-ext}
 use Rattle.thp_page.proofs.SomeBelow.{some_below-same}
 use Rattle.thp_page.proofs.RangeLemmas.{covers_inside, covers_true}
 

@@ -2,10 +2,10 @@
 use Rattle.std.proofs.Common.{◌≡◌, ◌≢◌, ℕ, ◌+◌, ◌^◌, ◌<◌, ◌≤◌, Bool, true, false, not, ◌&&◌, ◌||◌, cond, nat_eq, nat_lt, List, refl, ap, ap₂, sym, ◌∙◌, arith, inl, inr}
 use Rattle.std.proofs.lemmas.Bool.Decides.{nat_tests}
 use Rattle.std.proofs.lemmas.Bool.{cases_lt}
-use Rattle.thp_model.specs.Prelude.{covers, set_of, has, some_below, get_or-set_of, PageState, size, own_at, total_at, holds, used_set, has_use, drops_use, gives_frames, zero_at, zero_set, WholeUnmapped, RangeUnmapped, PageSplit}
-use Rattle.thp_model.specs.Pages.{Pinned}
+use Rattle.thp_history.specs.Prelude.{covers, set_of, has, some_below, get_or-set_of, PageState, size, own_at, total_at, holds, used_set, has_use, drops_use, gives_frames, zero_at, zero_set, WholeUnmapped, RangeUnmapped, PageSplit}
+use Rattle.thp_history.specs.Pages.{Pinned}
 use Rattle.thp_page.specs.Prelude.{IsChange, split_set, NothingAfter, some_count}
-use Rattle.thp_model.proofs.Below.{some_yes, some_no, some_below-ext}
+use Rattle.thp_history.proofs.Below.{some_yes, some_no, some_below-ext}
 use Rattle.thp_page.proofs.Trailing.{mapped_inside}
 use Rattle.thp_page.proofs.SubSets.{set_of-ext}
 use Rattle.thp_page.proofs.PageSizes.{size_least, size_most, range_test, same_size}

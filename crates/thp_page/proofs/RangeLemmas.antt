@@ -1,7 +1,7 @@
 -- The subpages that a range covers.
 use Rattle.std.proofs.Common.{◌≡◌, ℕ, ◌+◌, ◌<◌, ◌≤◌, true, false, arith}
 use Rattle.std.proofs.lemmas.Bool.Decides.{nat_tests}
-use Rattle.thp_model.specs.Prelude.{covers}
+use Rattle.thp_history.specs.Prelude.{covers}
 
 pub covers_inside : (first count i : ℕ) → first ≤ i → i < first + count → covers first count i ≡ true
 covers_inside first count i least most = grind (arith, nat_tests)

@@ -1,19 +1,19 @@
 -- The laws of the bridge from a page to the history of its node.
 use Rattle.std.proofs.Common.{◌≡◌, ℕ, true, false, [], ◌∷◌, ◌++◌, refl, sym, ◌∙◌, eq-eqb, arith}
-use Rattle.thp_model.specs.declared.events.Event.{Event}
-use Rattle.thp_model.specs.declared.events.Outcome.{Outcome}
-use Rattle.thp_model.specs.declared.events.What.TheVariants.{Alloc, MapWhole, UnmapWhole, MapSub, UnmapSub, SplitPmd, Pin, Unpin, Write, Zero, Split}
-use Rattle.thp_model.specs.Prelude.{History, by, some_event, is_live, is_closed, frees, allocates, allocations, stands, gives_frames, Tallies, page_outcome, page_released}
-use Rattle.thp_model.proofs.Alive.{legal_grown}
-use Rattle.thp_model.proofs.Numbers.{Fresh}
-use Rattle.thp_model.proofs.PageOutcomes.{gives_is, lives_by, lives_on, released_alive}
-use Rattle.thp_model.proofs.PageRefusals.{refusal_map_whole, refusal_unmap_whole, refusal_map_sub, refusal_unmap_sub, refusal_split_pmd, refusal_pin, refusal_unpin, refusal_write, refusal_zero}
-use Rattle.thp_model.proofs.Pushes.{some_event_push, live_stays}
-use Rattle.thp_model.proofs.Tallying.{tallies_alloc, tallies_map_whole, tallies_unmap_whole, tallies_map_sub, tallies_unmap_sub, tallies_split_pmd, tallies_pin, tallies_unpin, tallies_write, tallies_zero, tallies_split, tallies_stay, pins_is, worth_is}
-use Rattle.thp_model.proofs.Untouched.{Untouched, untouched}
+use Rattle.thp_history.specs.declared.events.Event.{Event}
+use Rattle.thp_history.specs.declared.events.Outcome.{Outcome}
+use Rattle.thp_history.specs.declared.events.What.TheVariants.{Alloc, MapWhole, UnmapWhole, MapSub, UnmapSub, SplitPmd, Pin, Unpin, Write, Zero, Split}
+use Rattle.thp_history.specs.Prelude.{History, by, some_event, is_live, is_closed, frees, allocates, allocations, stands, gives_frames, Tallies, page_outcome, page_released}
+use Rattle.thp_history.proofs.Alive.{legal_grown}
+use Rattle.thp_history.proofs.Numbers.{Fresh}
+use Rattle.thp_history.proofs.PageOutcomes.{gives_is, lives_by, lives_on, released_alive}
+use Rattle.thp_history.proofs.PageRefusals.{refusal_map_whole, refusal_unmap_whole, refusal_map_sub, refusal_unmap_sub, refusal_split_pmd, refusal_pin, refusal_unpin, refusal_write, refusal_zero}
+use Rattle.thp_history.proofs.Pushes.{some_event_push, live_stays}
+use Rattle.thp_history.proofs.Tallying.{tallies_alloc, tallies_map_whole, tallies_unmap_whole, tallies_map_sub, tallies_unmap_sub, tallies_split_pmd, tallies_pin, tallies_unpin, tallies_write, tallies_zero, tallies_split, tallies_stay, pins_is, worth_is}
+use Rattle.thp_history.proofs.Untouched.{Untouched, untouched}
 use Rattle.thp_page.specs.Prelude.{OthersLeavePages, RefusalsAgree, FreshPageIsRecorded, GainIsRecorded, LossIsRecorded, CandidatesAgree, SplitIsRecorded}
-use Rattle.thp_model.specs.declared.page_call.Gain.TheVariants as gain
-use Rattle.thp_model.specs.declared.page_call.Loss.TheVariants as loss
+use Rattle.thp_history.specs.declared.page_call.Gain.TheVariants as gain
+use Rattle.thp_history.specs.declared.page_call.Loss.TheVariants as loss
 use Rattle.thp_page.proofs.PageRefusals.{map_whole_unsplit}
 
 pub refusals_agree : RefusalsAgree

@@ -4,9 +4,9 @@ use Rattle.std.proofs.lemmas.Bool.Decides.{nat_tests}
 use Rattle.std.proofs.lemmas.List.{get_or-replicate}
 use Rattle.std.proofs.lemmas.Grind.{same_number_lists}
 use Rattle.std.proofs.lemmas.List.FromFn.{get_or-map-range_with_len, length-map-range_with_len}
-use Rattle.thp_model.specs.Prelude.{set_of, has, one_alone, some_below, get_or-set_of}
-use Rattle.thp_model.proofs.Below.{some_below-ext}
-use Rattle.thp_model.proofs.WordLemmas.{set_of-ext}
+use Rattle.thp_history.specs.Prelude.{set_of, has, one_alone, some_below, get_or-set_of}
+use Rattle.thp_history.proofs.Below.{some_below-ext}
+use Rattle.thp_history.proofs.WordLemmas.{set_of-ext}
 use Rattle.thp_page.specs.Prelude.{count_in, counts_in}
 use Rattle.thp_page.proofs.Carries.{no_planes}
 

@@ -1,7 +1,7 @@
 -- Whether some number below a bound passes a test: two tests at once.
 use Rattle.std.proofs.Common.{◌≡◌, ℕ, ◌<◌, Bool, true, false, refl, sym, ◌∙◌}
-use Rattle.thp_model.specs.Prelude.{some_below}
-use Rattle.thp_model.proofs.Below.{some_no, some_none}
+use Rattle.thp_history.specs.Prelude.{some_below}
+use Rattle.thp_history.proofs.Below.{some_no, some_none}
 
 -- two truths are one where each is false if the other is
 pub same_if_false : (a b : Bool) → (a ≡ false → b ≡ false) → (b ≡ false → a ≡ false) → a ≡ b

@@ -1,7 +1,7 @@
 -- Sets of subpages that are given by a test.
 use Rattle.std.proofs.Common.{◌≡◌, ℕ, ◌<◌, Bool, false, List, length, get_or, ◌∙◌}
 use Rattle.std.proofs.lemmas.List.FromFn.{fill_by_all}
-use Rattle.thp_model.specs.Prelude.{set_of, length-set_of, get_or-set_of}
+use Rattle.thp_history.specs.Prelude.{set_of, length-set_of, get_or-set_of}
 
 -- a list is the set of a test where it has the test's answers
 pub is_set_of : (xs : List Bool) (test : ℕ → Bool) → length xs ≡ 512 → ((i : ℕ) → i < 512 → get_or xs i false ≡ test i) → xs ≡ set_of test

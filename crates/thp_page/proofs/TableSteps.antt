@@ -2,7 +2,7 @@
 use Rattle.std.proofs.Common.{◌≡◌, ◌≢◌, ◌∙◌, ◌<◌, ℕ, zero, suc, List, [], ◌∷◌, length, get_or, set, replicate, cond, Option, Some, None, ap, sym, refl, arith, is_some, IsSome, IfSome, IfNone}
 use Rattle.std.proofs.lemmas.List.{length-map, set-get_or}
 use Rattle.thp_links.specs.declared.link.Link.{Link}
-use Rattle.thp_model.specs.Prelude.{PageState}
+use Rattle.thp_history.specs.Prelude.{PageState}
 use Rattle.thp_page.specs.Prelude.{Descriptor, Standing, Slot, Table, slot_at, with_slot, number_in, page_in, paged, stood, HoldsPage, links_of, slot_of, slots_of, blank_descriptor, with_page}
 
 -- the table that such fields stand for

@@ -2,7 +2,7 @@
 use Rattle.std.proofs.Common.{◌≡◌, ℕ, ◌+◌, ◌^◌, ◌<◌, ◌≤◌, Bool, false, cond, nat_lt, List, ◌&&◌, ap, ◌∙◌, arith}
 use Rattle.std.proofs.lemmas.Bool.{cases_lt}
 use Rattle.std.proofs.lemmas.Bool.Decides.{nat_tests}
-use Rattle.thp_model.specs.Prelude.{covers, has, set_of, some_below, get_or-set_of, PageState, size, own_at}
+use Rattle.thp_history.specs.Prelude.{covers, has, set_of, some_below, get_or-set_of, PageState, size, own_at}
 use Rattle.thp_page.specs.Prelude.{NothingAfter}
 use Rattle.thp_page.proofs.SomeBelow.{some_below-same}
 use Rattle.thp_page.proofs.RangeLemmas.{covers_after}

@@ -7,9 +7,9 @@ use Rattle.std.proofs.lemmas.Nat.Bits.{bit_at_and, bit_at_xor, bit_at_not, bit_a
 use Rattle.std.specs.Int.{trailing_zeros}
 use Rattle.std.proofs.Math.Pow.{pow_mono}
 use Rattle.std.proofs.Math.Nat.{mul_comm, suc-mul, one-le-pow}
-use Rattle.thp_model.specs.Prelude.{set_of, has, covers, one_alone, some_below, get_or-set_of}
-use Rattle.thp_model.proofs.Below.{some_yes, some_no}
-use Rattle.thp_model.proofs.WordLemmas.{set_of-ext}
+use Rattle.thp_history.specs.Prelude.{set_of, has, covers, one_alone, some_below, get_or-set_of}
+use Rattle.thp_history.proofs.Below.{some_yes, some_no}
+use Rattle.thp_history.proofs.WordLemmas.{set_of-ext}
 use Rattle.thp_page.specs.Prelude.{in_word}
 
 -- a bit of both, a bit of the first alone, and a bit of one of the two alone

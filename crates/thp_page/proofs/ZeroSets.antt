@@ -1,9 +1,9 @@
 -- The zero-filled subpages of a page, as a set.
 use Rattle.std.proofs.Common.{◌≡◌, ℕ, ◌+◌, ◌-◌, ◌≤◌, ◌<◌, ◌^◌, Bool, true, false, not, ◌&&◌, ◌||◌, cond, nat_eq, nat_lt, List, refl, ap, ap₂, sym, ◌∙◌, arith}
 use Rattle.std.proofs.lemmas.Bool.Decides.{nat_tests}
-use Rattle.thp_model.specs.Prelude.{covers, set_of, has, set_size, some_below, count_below, get_or-set_of, PageState, size, own_at, zero_at, holds, zero_set, zero_count, some_in_range, RangeWritten, RangeZeroed}
-use Rattle.thp_model.proofs.Below.{some_no, some_none, some_below-ext}
-use Rattle.thp_model.proofs.SumsBelow.{set_size-set_of, sum_below-ext, sum_below-stop}
+use Rattle.thp_history.specs.Prelude.{covers, set_of, has, set_size, some_below, count_below, get_or-set_of, PageState, size, own_at, zero_at, holds, zero_set, zero_count, some_in_range, RangeWritten, RangeZeroed}
+use Rattle.thp_history.proofs.Below.{some_no, some_none, some_below-ext}
+use Rattle.thp_history.proofs.SumsBelow.{set_size-set_of, sum_below-ext, sum_below-stop}
 use Rattle.thp_page.proofs.SomeBelow.{same_if_false}
 use Rattle.thp_page.proofs.PageSizes.{size_most, range_test}
 use Rattle.thp_page.proofs.RangeLemmas.{covers_true}

@@ -1,14 +1,14 @@
 -- The connection between a page and the history of its node: after a call, the page is in the state that the history with the
 -- call's event gives it, and that event fits.
 use Rattle.std.specs.Prelude.{◌≡◌, ℕ, true, false, not, [], ◌∷◌, ◌++◌, None}
-use Rattle.thp_model.specs.declared.events.Event.{Event}
-use Rattle.thp_model.specs.declared.events.Outcome.{Outcome}
-use Rattle.thp_model.specs.declared.events.What.TheVariants.{Alloc, Split}
-use Rattle.thp_model.specs.declared.shape.Shape.{Shape}
-use Rattle.thp_model.specs.Prelude.{History, by, is_live, is_closed, frees, allocations, shrinks_underused, is_worth_split, flight, has_page, stands, refusal, Fits, IsLegal, PageState, page_refusal, gives_frames, is_split_candidate, PageSplit, IsFresh, Tallies, gain_call, loss_call, page_call, gain_what, loss_what, Gains, Loses, is_about, page_outcome, page_released}
-use Rattle.thp_model.specs.declared.page_call.Gain.{Gain}
-use Rattle.thp_model.specs.declared.page_call.Loss.{Loss}
-use Rattle.thp_model.specs.declared.page_call.PageCall.{PageCall}
+use Rattle.thp_history.specs.declared.events.Event.{Event}
+use Rattle.thp_history.specs.declared.events.Outcome.{Outcome}
+use Rattle.thp_history.specs.declared.events.What.TheVariants.{Alloc, Split}
+use Rattle.thp_history.specs.declared.shape.Shape.{Shape}
+use Rattle.thp_history.specs.Prelude.{History, by, is_live, is_closed, frees, allocations, shrinks_underused, is_worth_split, flight, has_page, stands, refusal, Fits, IsLegal, PageState, page_refusal, gives_frames, is_split_candidate, PageSplit, IsFresh, Tallies, gain_call, loss_call, page_call, gain_what, loss_what, Gains, Loses, is_about, page_outcome, page_released}
+use Rattle.thp_history.specs.declared.page_call.Gain.{Gain}
+use Rattle.thp_history.specs.declared.page_call.Loss.{Loss}
+use Rattle.thp_history.specs.declared.page_call.PageCall.{PageCall}
 
 -- at h page p is live, and t is its state
 pub record IsAt (shape : Shape) (h : History) (p : ℕ) (t : PageState) : Type 0 where

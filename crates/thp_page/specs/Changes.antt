@@ -1,6 +1,6 @@
 -- The results of a page's calls.
 use Rattle.std.specs.Prelude.{◌≡◌, Bool, not, ◌&&◌, ◌||◌, nat_lt, List}
-use Rattle.thp_model.specs.Prelude.{set_of, PageState, size, total_at, zero_at, drops_use, has_use, gives_frames}
+use Rattle.thp_history.specs.Prelude.{set_of, PageState, size, total_at, zero_at, drops_use, has_use, gives_frames}
 use Rattle.thp_page.specs.declared.page.Change.{Change}
 
 -- the change that an unmap reports, from one state of its page to another

@@ -1,5 +1,5 @@
 -- How the view of a table is computed from its fields.
-use Rattle.thp_model.specs.Prelude.{max_order, min_order}
+use Rattle.thp_history.specs.Prelude.{max_order, min_order}
 use Rattle.std.specs.Prelude.{◌≡◌, ◌<◌, ◌≤◌, ℕ, ◌^◌, List, [], ◌∷◌, map, length, Option, Some, None}
 use Rattle.thp_links.specs.declared.link.Link.{Link}
 use Rattle.thp_links.specs.declared.link.TheConstants.{NIL}

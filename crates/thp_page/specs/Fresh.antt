@@ -1,6 +1,6 @@
 -- A page that was just allocated.
 use Rattle.std.specs.Prelude.{ℕ, ◌^◌, false, nat_lt, replicate}
-use Rattle.thp_model.specs.Prelude.{max_subpages, set_of, PageState}
+use Rattle.thp_history.specs.Prelude.{max_subpages, set_of, PageState}
 
 -- a new page of this order: mapped whole once, with room for 512 own counts, and all zero-filled
 abbrev pub fresh_page : ℕ → PageState

@@ -1,7 +1,7 @@
 -- How a borrowed page changes its table.
 use Rattle.std.specs.Prelude.{ℕ, Option}
 use Rattle.std.specs.Borrow.{LendsIf, MutBor, Fml}
-use Rattle.thp_model.specs.Prelude.{PageState}
+use Rattle.thp_history.specs.Prelude.{PageState}
 use Rattle.thp_page.specs.declared.page_table.Descriptor.{Descriptor}
 use Rattle.thp_page.specs.contracts.page_table.Descriptor as D
 use Rattle.thp_page.specs.contracts.page_table.PageTable as T

@@ -1,6 +1,6 @@
 -- The meaning of the fields of a page's own map counts, and their invariant.
 use Rattle.std.specs.Prelude.{◌≡◌, ◌≤◌, ℕ, List, nat_lt}
-use Rattle.thp_model.specs.Prelude.{set_of}
+use Rattle.thp_history.specs.Prelude.{set_of}
 use Rattle.thp_page.specs.Planes.{counts_in, count_in}
 use Rattle.thp_page.specs.declared.map_counts.MapCounts.TheInside.{Inside}
 

@@ -1,6 +1,6 @@
 -- The view that contracts have of a page, and the invariant of its fields.
 use Rattle.std.specs.Prelude.{◌≡◌, ◌<◌, ◌≤◌, ℕ}
-use Rattle.thp_model.specs.Prelude.{max_subpages, PageState, IsPage, size, own_at, zero_set}
+use Rattle.thp_history.specs.Prelude.{max_subpages, PageState, IsPage, size, own_at, zero_set}
 use Rattle.thp_page.specs.declared.page.Page.TheInside.{Inside}
 
 -- the state that the fields of a page represent

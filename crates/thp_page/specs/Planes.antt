@@ -1,7 +1,7 @@
 -- The own map counts of a page as bit planes: plane k is the set of the subpages whose count has the bit 2 ^ k.
 use Rattle.std.specs.Prelude.{ℕ, ◌^◌, Bool, cond, List, [], map, slice_index_or}
 use Rattle.std.specs.List.{range_with_len}
-use Rattle.thp_model.specs.Prelude.{max_subpages, has, sum_below}
+use Rattle.thp_history.specs.Prelude.{max_subpages, has, sum_below}
 
 -- the set of plane k
 abbrev pub plane : List (List Bool) → ℕ → List Bool

@@ -1,6 +1,6 @@
 -- The slot of a table at a block, and the table after a call changes it.
 use Rattle.std.specs.Prelude.{◌≡◌, ℕ, Option, Some, None, slice_index_or, slice_set}
-use Rattle.thp_model.specs.Prelude.{PageState}
+use Rattle.thp_history.specs.Prelude.{PageState}
 use Rattle.thp_page.specs.declared.standing.Standing.{Standing}
 use Rattle.thp_page.specs.declared.standing.Standing.TheVariants.{Nowhere}
 use Rattle.thp_page.specs.Fresh.{fresh_page}

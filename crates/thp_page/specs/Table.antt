@@ -1,7 +1,7 @@
 -- The view that contracts have of a table of page descriptors.
 use Rattle.std.specs.Prelude.{◌≡◌, ℕ, List, Option}
 use Rattle.thp_links.specs.declared.link.Link.{Link}
-use Rattle.thp_model.specs.Prelude.{PageState}
+use Rattle.thp_history.specs.Prelude.{PageState}
 use Rattle.thp_page.specs.declared.standing.Standing.{Standing}
 
 -- the content of a block in use: a page, its number, and the list that it is on

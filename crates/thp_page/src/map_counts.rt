@@ -1,13 +1,13 @@
 //! A page's own map counts, which contracts see as 512 numbers.
 ghost use Rattle.std.specs.Prelude.{◌≡◌, ℕ, ◌+◌, ◌<◌, ◌≤◌, ◌&&◌, true, cond, nat_eq, nat_lt, replicate, slice_index};
-ghost use Rattle.thp_model.specs.Prelude.{max_subpages, covers, has, set_of, some_below};
+ghost use Rattle.thp_history.specs.Prelude.{max_subpages, covers, has, set_of, some_below};
 ghost use Rattle.thp_page.specs.Ranges.{some_count};
 
 use crate::one_word::OneWord;
 use crate::planes::Planes;
 use crate::subpages::Subpages;
 use std::marker::Model;
-use thp_model::SubSet;
+use thp_history::SubSet;
 
 /// The own map count of each of a page's 512 subpages. Contracts see a list of 512 numbers, each below 65,536.
 ///

@@ -1,10 +1,10 @@
 //! Subpages that lie in one word of a set.
 ghost use Rattle.std.specs.Prelude.{◌≡◌, ℕ, ◌+◌, ◌-◌, ◌*◌, ◌/◌, ◌%◌, ◌^◌, ◌<◌, ◌≤◌, true};
-ghost use Rattle.thp_model.specs.Prelude.{max_subpages, covers};
+ghost use Rattle.thp_history.specs.Prelude.{max_subpages, covers};
 ghost use Rattle.thp_page.specs.OneWords.{in_word};
 
 use crate::subpages::Subpages;
-use thp_model::SubSet;
+use thp_history::SubSet;
 
 // Some of the 64 subpages of a word: only that word of a set is read or written.
 #[derive(Clone, Copy)]

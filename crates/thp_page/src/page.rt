@@ -1,13 +1,13 @@
 //! One page: its map counts, its pins, whether it is split, and which of its subpages are zero-filled.
 ghost use Rattle.std.specs.Prelude.{◌≡◌, ◌+◌, ◌<◌, ◌≤◌, true, false, not, ◌&&◌, ◌||◌, cond, nat_eq, nat_lt, length, Option, None};
-ghost use Rattle.thp_model.specs.Prelude.{max_order, max_subpages, min_order, size, own_at, total_at, zero_at, holds, used_set, has_use, zero_set, zero_count, is_split_candidate, gives_frames, some_in_range, IsFresh, PageSplit, set_of, has, most};
+ghost use Rattle.thp_history.specs.Prelude.{max_order, max_subpages, min_order, size, own_at, total_at, zero_at, holds, used_set, has_use, zero_set, zero_count, is_split_candidate, gives_frames, some_in_range, IsFresh, PageSplit, set_of, has, most};
 ghost use Rattle.thp_page.specs.Fresh.{fresh_page};
 
 mod calls;
 
 use crate::map_counts::MapCounts;
 use std::marker::Model;
-use thp_model::SubSet;
+use thp_history::SubSet;
 
 /// The effect of an unmap on the use of its page.
 #[derive(Clone, Copy, PartialEq, Eq, Debug)]
@@ -61,7 +61,7 @@ pub struct Page {
 }
 
 impl Model for Page {
-    ghost use Rattle.thp_model.specs.Prelude.{PageState};
+    ghost use Rattle.thp_history.specs.Prelude.{PageState};
 
     ghost Value = { PageState };
 

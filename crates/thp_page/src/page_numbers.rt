@@ -5,8 +5,8 @@ ghost use Rattle.thp_page.specs.Searching.{bucket_at, IsBucket, IsChain, IsInCha
 
 use std::alloc::{AllocError, Global};
 use std::marker::Model;
+use thp_history::PageId;
 use thp_links::NIL;
-use thp_model::PageId;
 
 // The number of buckets. A node has at most half as many blocks, so pages allocated one after the other are in different buckets.
 const BUCKETS: u64 = 8192;

@@ -1,7 +1,7 @@
 //! The table of page descriptors: a link pair for each block of a node, and a page for each block in use.
 ghost use Rattle.std.specs.Prelude.{◌≡◌, ◌<◌, ◌≤◌, ℕ, ◌+◌, length, replicate, IsSome, IfOk, IfSome, IfNone, Option, Some, None};
 ghost use Rattle.std.specs.Option.{option_map, option_copied_mut};
-ghost use Rattle.thp_model.specs.Prelude.{max_order, min_order, IsFresh};
+ghost use Rattle.thp_history.specs.Prelude.{max_order, min_order, IsFresh};
 ghost use Rattle.thp_page.specs.Fresh.{fresh_page};
 ghost use Rattle.thp_page.specs.Table.{Slot};
 ghost use Rattle.thp_page.specs.Slots.{slot_at, with_slot, fresh_slot, number_in, page_in, stood, HoldsPage};
@@ -11,8 +11,8 @@ use crate::page_numbers::PageNumbers;
 use crate::standing::Standing;
 use std::alloc::{AllocError, Global};
 use std::marker::Model;
+use thp_history::PageId;
 use thp_links::{AccessCount, Link, LinkTable, NIL};
-use thp_model::PageId;
 
 // What the table stores for a block, in use or not. An empty block keeps the contents of its last page.
 #[derive(Drop)]

@@ -1,10 +1,10 @@
 //! Bit planes, and the carries and borrows that ripple through them.
 ghost use Rattle.std.specs.Prelude.{◌≡◌, ℕ, ◌+◌, ◌<◌, ◌≤◌, ◌^◌, ◌&&◌, true, cond, nat_eq};
-ghost use Rattle.thp_model.specs.Prelude.{max_subpages, covers, has, some_below};
+ghost use Rattle.thp_history.specs.Prelude.{max_subpages, covers, has, some_below};
 ghost use Rattle.thp_page.specs.Tallies.{tally};
 
 use crate::subpages::Subpages;
-use thp_model::SubSet;
+use thp_history::SubSet;
 
 // The number of planes: a count has 16 bits.
 pub(crate) const PLANES: usize = 16;

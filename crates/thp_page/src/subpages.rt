@@ -1,8 +1,8 @@
 //! The subpages that one call counts up or down.
 ghost use Rattle.std.specs.Prelude.{◌≡◌, ℕ, ◌<◌, Bool, not, ◌&&◌};
-ghost use Rattle.thp_model.specs.Prelude.{max_subpages, has, set_of, one_alone, some_below};
+ghost use Rattle.thp_history.specs.Prelude.{max_subpages, has, set_of, one_alone, some_below};
 
-use thp_model::SubSet;
+use thp_history::SubSet;
 
 /// Subpages of a page whose counts change together: any set, or some that lie in one word of a set.
 pub(crate) trait Subpages: Copy {

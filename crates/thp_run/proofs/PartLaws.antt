@@ -1,7 +1,7 @@
 -- The text of answers, part by part.
 use Rattle.std.proofs.Common.{◌≡◌, ℕ, ◌+◌, ◌<◌, ◌≤◌, List, [], ◌∷◌, ◌++◌, drop, get_or, length, Some, ap, refl, sym, ◌∙◌, append_assoc, slice_get, flat_map}
 use Rattle.std.proofs.lemmas.List.{drop_all, drop_more}
-use Rattle.thp_model.specs.declared.shape.Shape.{Shape}
+use Rattle.thp_history.specs.declared.shape.Shape.{Shape}
 use Rattle.thp_run.specs.Answers.{answer_line, answers_text, section_text}
 use Rattle.thp_run.specs.Parts.{text_from}
 use Rattle.thp_worker.specs.declared.reply.Answer.{Answer}

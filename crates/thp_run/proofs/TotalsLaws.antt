@@ -1,13 +1,13 @@
 -- Histories that are equal but for their blocks have the same totals.
 use Rattle.std.proofs.Common.{◌≡◌, ℕ, ◌+◌, Bool, cond, List, [], ◌∷◌, ◌++◌, Option, Some, None, map, length, refl, ap, ap₂, sym, ◌∙◌, fold, sum_by}
 use Rattle.std.proofs.lemmas.List.{map-append}
-use Rattle.thp_model.specs.declared.events.Event.{Event}
-use Rattle.thp_model.specs.declared.events.What.{What}
-use Rattle.thp_model.specs.declared.events.What.TheVariants.{Alloc, SplitPmd, Split}
-use Rattle.thp_model.specs.declared.shape.Shape.{Shape}
-use Rattle.thp_model.specs.Prelude.{with_block, event_with, without_blocks, SameButBlocks, is_page_split, is_failed_try, queues, splits_pmds, add_split_pmds, splits_underused, add_split_underused, thp_split_pmd, thp_underused_split_page, allocations, is_held, gives_back, given, frames_held, History, by, set_size, sum_below, count_below, subpages, shrinks_underused}
-use Rattle.thp_model.proofs.Alike.{Alike, Blind, alike, count_alike, held_alike}
-use Rattle.thp_model.proofs.SumsBelow.{sum_below-ext}
+use Rattle.thp_history.specs.declared.events.Event.{Event}
+use Rattle.thp_history.specs.declared.events.What.{What}
+use Rattle.thp_history.specs.declared.events.What.TheVariants.{Alloc, SplitPmd, Split}
+use Rattle.thp_history.specs.declared.shape.Shape.{Shape}
+use Rattle.thp_history.specs.Prelude.{with_block, event_with, without_blocks, SameButBlocks, is_page_split, is_failed_try, queues, splits_pmds, add_split_pmds, splits_underused, add_split_underused, thp_split_pmd, thp_underused_split_page, allocations, is_held, gives_back, given, frames_held, History, by, set_size, sum_below, count_below, subpages, shrinks_underused}
+use Rattle.thp_history.proofs.Alike.{Alike, Blind, alike, count_alike, held_alike}
+use Rattle.thp_history.proofs.SumsBelow.{sum_below-ext}
 use Rattle.thp_journal_writer.specs.Prelude.{Journal, totals_in, totals_of, totals_text}
 use Rattle.thp_run.specs.Laws.{bare}
 use Rattle.thp_journal_writer.specs.Totals.{lines_from}

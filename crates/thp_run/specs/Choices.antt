@@ -1,7 +1,7 @@
 -- The settings that a command line selects.
 use Rattle.std.specs.Prelude.{◌≡◌, ◌++◌, ℕ, List, drop, replicate, Option, Some, None, Result, Ok, Err}
 use Rattle.std.specs.Borrow.{Bor}
-use Rattle.thp_model.specs.Prelude.{max_order}
+use Rattle.thp_history.specs.Prelude.{max_order}
 use Rattle.thp_cli.specs.declared.line.Line.{Line}
 use Rattle.thp_script.specs.declared.settings.Settings.{Settings}
 use Rattle.thp_script.specs.Prelude.{max_nodes, orders_in, thresholds_in, AreOrdersFor, AreThresholdsFor}

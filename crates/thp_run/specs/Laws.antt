@@ -1,7 +1,7 @@
 -- What totals don't depend on.
 use Rattle.std.specs.Prelude.{◌≡◌, List, map}
 use Rattle.thp_journal_writer.specs.Prelude.{Journal, totals_text}
-use Rattle.thp_model.specs.Prelude.{without_blocks}
+use Rattle.thp_history.specs.Prelude.{without_blocks}
 
 -- a node with its history, without the blocks of its pages
 abbrev pub bare : Journal → Journal

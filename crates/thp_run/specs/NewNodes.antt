@@ -1,7 +1,7 @@
 -- The nodes of a run, as the settings describe them.
 use Rattle.std.specs.Prelude.{◌≡◌, ℕ, List, [], Option, Some, None, length, slice_get, slice_index_or}
-use Rattle.thp_model.specs.declared.shape.Shape.{Shape}
-use Rattle.thp_model.specs.Prelude.{max_order, History}
+use Rattle.thp_history.specs.declared.shape.Shape.{Shape}
+use Rattle.thp_history.specs.Prelude.{max_order, History}
 use Rattle.thp_node.specs.Prelude.{NodeState}
 use Rattle.thp_script.specs.declared.settings.Settings.{Settings}
 

@@ -1,6 +1,6 @@
 -- The text of answers in parts.
 use Rattle.std.specs.Prelude.{ℕ, List, [], ◌∷◌, ◌++◌, drop, flat_map}
-use Rattle.thp_model.specs.declared.shape.Shape.{Shape}
+use Rattle.thp_history.specs.declared.shape.Shape.{Shape}
 use Rattle.thp_run.specs.Answers.{answer_line, answers_text}
 use Rattle.thp_worker.specs.declared.reply.SectionLog.{SectionLog}
 

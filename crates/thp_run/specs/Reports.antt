@@ -1,7 +1,7 @@
 -- The report of a run as text.
 use Rattle.std.specs.Prelude.{ℕ, List, map}
 use Rattle.thp_journal_writer.specs.Prelude.{Journal, journal_text, totals_text}
-use Rattle.thp_model.specs.declared.shape.Shape.{Shape}
+use Rattle.thp_history.specs.declared.shape.Shape.{Shape}
 use Rattle.thp_node.specs.Prelude.{NodeState}
 use Rattle.thp_run.specs.Answers.{answers_text}
 use Rattle.thp_script.specs.declared.settings.Report.{Report}

@@ -1,7 +1,7 @@
 -- All sections of a script, executed by the holder of all callers of the nodes.
 use Rattle.std.specs.Prelude.{◌≡◌, ℕ, ◌+◌, ◌<◌, ◌≤◌, ◌^◌, List, [], ◌∷◌, ◌++◌, All, None, length, map, Vec}
 use Rattle.std.specs.declared.alloc.Global.{Global}
-use Rattle.thp_model.specs.Prelude.{History, IsLegal}
+use Rattle.thp_history.specs.Prelude.{History, IsLegal}
 use Rattle.thp_script.specs.declared.script.Command.{Command}
 use Rattle.thp_script.specs.declared.script.Script.{Script}
 use Rattle.thp_script.specs.Prelude.{max_workers}

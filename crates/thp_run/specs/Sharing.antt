@@ -1,8 +1,8 @@
 -- Nodes in cells, and the passes that have all callers of each.
 use Rattle.std.specs.Prelude.{◌≡◌, ℕ, ◌+◌, ◌<◌, ◌^◌, ⊤, List, [], ◌∷◌, All, Option, Some, None, length, map, slice_get}
 use Rattle.atomic_table.specs.Seated.{TableId}
-use Rattle.thp_model.specs.declared.shape.Shape.{Shape}
-use Rattle.thp_model.specs.Prelude.{History}
+use Rattle.thp_history.specs.declared.shape.Shape.{Shape}
+use Rattle.thp_history.specs.Prelude.{History}
 use Rattle.thp_node.specs.Prelude.{NodeState}
 use Rattle.thp_cell.specs.Prelude.{AllBelow, PassState}
 use Rattle.thp_script.specs.declared.script.Script.{Script}

@@ -8,8 +8,8 @@ ghost use Rattle.thp_run.specs.Reports.{shape_of};
 ghost use Rattle.thp_worker.specs.Prelude.{kept_log};
 
 use std::alloc::{AllocError, Global};
+use thp_history::Refusal;
 use thp_journal_writer::{put, put_number, put_outcome};
-use thp_model::Refusal;
 use thp_node::{Node, Recorder, ScanReply, Tried};
 use thp_worker::{Answer, KeptAnswers, KeptSection, Reply};
 

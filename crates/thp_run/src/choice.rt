@@ -1,6 +1,6 @@
 //! The settings that a command line selects.
 ghost use Rattle.std.specs.Prelude.{◌≡◌, ◌++◌, IfSome, IfNone, None, drop, replicate};
-ghost use Rattle.thp_model.specs.Prelude.{max_order};
+ghost use Rattle.thp_history.specs.Prelude.{max_order};
 ghost use Rattle.thp_script.specs.Prelude.{max_nodes};
 ghost use Rattle.thp_cli.specs.Prelude.{IsLineWithinLimits};
 ghost use Rattle.thp_run.specs.Choices.{Chooses, HasBadOrders, HasBadThresholds, HasOrders, HasThresholds};

@@ -47,8 +47,8 @@ pub use run_result::RunResult;
 pub use running::run;
 pub use script_run::run_script;
 pub use thp_cli::{Ending, Line, ProgramFault, RunFault, Watched, WordsFault, read_line, words_of};
+pub use thp_history::{Gain, Loss, PageCall, PageId, Refusal, Shape};
 pub use thp_journal_reader::{Journals, NodeJournal, check_text, read_journal};
-pub use thp_model::{Gain, Loss, PageCall, PageId, Refusal, Shape};
 pub use thp_node::{BackReply, Done, Node, ScanReply, Tried};
 pub use thp_script::{
     Command, MAX_INPUT, Op, ReadFault, Report, Script, Sequence, Settings, TextKind, read_orders,

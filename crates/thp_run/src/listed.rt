@@ -10,7 +10,7 @@ ghost use Rattle.thp_worker.specs.declared.reply.Answer.{Answer as KeptAnswer};
 use crate::report::report_of_logs;
 use std::alloc::{AllocError, Global};
 use std::marker::Model;
-use thp_model::Refusal;
+use thp_history::Refusal;
 use thp_node::{Node, Tried};
 use thp_script::{Command, Settings};
 use thp_worker::{Answer, AnswerLog, Answers, Gate, KeptAnswers, KeptSection, Reply, Rest, Steps};

@@ -4,7 +4,7 @@ ghost use Rattle.thp_node.specs.Prelude.{NodeState};
 ghost use Rattle.thp_run.specs.NewNodes.{shape_of, AreNodesFor};
 
 use std::alloc::{AllocError, Global};
-use thp_model::Shape;
+use thp_history::Shape;
 use thp_node::{NewFault, Node, Recorder};
 use thp_script::Settings;
 

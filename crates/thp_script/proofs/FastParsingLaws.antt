@@ -8,14 +8,14 @@ use Rattle.std.proofs.lemmas.Int.Digits.{digits_value_push}
 use Rattle.std.proofs.lemmas.List.Folds.{list_all-append}
 use Rattle.std.proofs.lemmas.Option.{cond_some}
 use Rattle.std.proofs.Math.Seq.{take-length}
-use Rattle.thp_model.specs.Prelude.{max_batch}
+use Rattle.thp_history.specs.Prelude.{max_batch}
 use Rattle.thp_script.specs.Prelude.{Command, Op, CommandWord, OfNode, OfPage, OfRange, OfBatch, Settings, Call, FastCommand, FastLine, FastOperands, FastNumber, batch_command, command_of, node_command, page_command, range_command, Reading, reading_of, ◌>>=◌, by_words, says_nothing, section_or_call, Text, is_numeral, lines_of, number_of, pieces_at, words_of}
 use Rattle.thp_script.specs.declared.script.Op.TheVariants.{Alloc, Close, Count, SplitNext, PutBack}
 use Rattle.thp_script.specs.declared.script.BatchCall.TheVariants as batch
 use Rattle.thp_script.specs.declared.script.RangeCall.TheVariants as range
-use Rattle.thp_model.specs.declared.page_call.Gain.TheVariants as gain
-use Rattle.thp_model.specs.declared.page_call.Loss.TheVariants as loss
-use Rattle.thp_model.specs.declared.page_call.PageCall.TheVariants as either
+use Rattle.thp_history.specs.declared.page_call.Gain.TheVariants as gain
+use Rattle.thp_history.specs.declared.page_call.Loss.TheVariants as loss
+use Rattle.thp_history.specs.declared.page_call.PageCall.TheVariants as either
 use Rattle.thp_script.proofs.GrammarLaws.{statement_of-read}
 use Rattle.thp_script.proofs.NumberLaws.{numeral_parts, some_of_numeral}
 use Rattle.thp_script.proofs.TextLaws.{pieces-append}

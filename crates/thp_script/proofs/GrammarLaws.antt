@@ -3,7 +3,7 @@
 use Rattle.std.proofs.Common.{◌≡◌, ◌<◌, ◌≤◌, ℕ, Bool, true, false, cond, List, [], ◌∷◌, Option, Result, Ok, Err, arith, subst, refl, sym, inl, inr, codes, All}
 use Rattle.std.specs.List.{AllByRecursion, list_all, list_any}
 use Rattle.std.proofs.lemmas.List.Elements.{All-cons}
-use Rattle.thp_model.specs.Prelude.{max_batch}
+use Rattle.thp_history.specs.Prelude.{max_batch}
 use Rattle.thp_script.specs.Prelude.{TextKind, BadByte, BadWord, Command, Op, Settings, Statement, Section, batch_command, command_in, command_of, commands, node_command, node_number, page_command, range_command, FitsBatch, IsCommandFor, Reading, is_empty, is_printable, by_words, call_of, says_nothing, section_of, section_or_call, statement_in, statement_of, worker_number, worker_of, worker_or_call, IsInRange, IsSectionFor, Text, words_of}
 use Rattle.thp_script.specs.declared.script.Op.TheVariants.{Alloc, MapWhole, UnmapWhole, Map, Unmap, Write, Zero, SplitPmd, Pin, Unpin, Close, Scan, Count, Take, SplitNext, PutBack}
 use Rattle.thp_script.specs.Statements.{setup_of}

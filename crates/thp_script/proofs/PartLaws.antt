@@ -3,7 +3,7 @@ use Rattle.std.proofs.Common.{◌≡◌, ◌∙◌, ◌+◌, ◌<◌, ℕ, List,
 use Rattle.std.proofs.lemmas.Bool.{cases_lt}
 use Rattle.std.proofs.lemmas.List.Elements.{All-get_or, All-head, All-push, All-set, All-tail}
 use Rattle.thp_script.specs.Prelude.{TextKind, Command, Settings, Statement, Nothing, Section, Call, IsCommandFor, max_input, fault_after, lines_spell, script_in, spelled_with, with_commands, ◌>>=◌, Fault, IsScriptFor, Placed, commands_from, placed, script_of, script_with, IsInRange, section_after, statement_in, nothing_of, Text, lines_of}
-pub use Rattle.thp_model.proofs.Options.{not_there}
+pub use Rattle.thp_history.proofs.Options.{not_there}
 use Rattle.thp_script.proofs.TextLaws.{whole_comes}
 use Rattle.thp_script.proofs.ScriptLaws.{behind, line_ends, line_fails, line_says}
 use Rattle.thp_script.proofs.SectionLaws.{sections_with, sections_with-none, sections_with-push, sections_with-push_beyond, sections_with-script}

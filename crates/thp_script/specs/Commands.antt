@@ -1,6 +1,6 @@
 -- The commands of scripts by their words (this project's script format).
 use Rattle.std.specs.Prelude.{◌≤◌, ◌<◌, ℕ, ◌-◌, ⊤, List, [], ◌∷◌, Result, Ok, Err, codes, ok_or, if◌then◌else◌, bytes_eq}
-use Rattle.thp_model.specs.Prelude.{max_batch}
+use Rattle.thp_history.specs.Prelude.{max_batch}
 use Rattle.thp_script.specs.declared.fault.TextKind.{TextKind}
 use Rattle.thp_script.specs.declared.fault.TextKind.TheVariants.{BadWord, BadCount, BadNumber}
 use Rattle.thp_script.specs.declared.script.Command.{Command}

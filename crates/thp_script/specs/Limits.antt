@@ -1,6 +1,6 @@
 -- The limits of a run and of its texts (this project's profile); each is defined here only.
 use Rattle.std.specs.Prelude.{ℕ, ◌-◌, ◌^◌}
-use Rattle.thp_model.specs.Prelude.{max_callers}
+use Rattle.thp_history.specs.Prelude.{max_callers}
 
 -- the greatest number of nodes of a run
 abbrev pub max_nodes : ℕ

@@ -1,9 +1,9 @@
 -- The commands about one page: the page, and the call.
 use Rattle.std.specs.Prelude.{ℕ, min, Option, Some, None}
-use Rattle.thp_model.specs.declared.page_call.Gain.TheVariants as gain
-use Rattle.thp_model.specs.declared.page_call.Loss.TheVariants as loss
-use Rattle.thp_model.specs.declared.page_call.PageCall.{PageCall}
-use Rattle.thp_model.specs.declared.page_call.PageCall.TheVariants.{Gain, Loss}
+use Rattle.thp_history.specs.declared.page_call.Gain.TheVariants as gain
+use Rattle.thp_history.specs.declared.page_call.Loss.TheVariants as loss
+use Rattle.thp_history.specs.declared.page_call.PageCall.{PageCall}
+use Rattle.thp_history.specs.declared.page_call.PageCall.TheVariants.{Gain, Loss}
 use Rattle.thp_script.specs.declared.script.Op.{Op}
 use Rattle.thp_script.specs.declared.script.Op.TheVariants as op
 

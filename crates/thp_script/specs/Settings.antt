@@ -1,7 +1,7 @@
 -- The limits of a run (this project's profile).
 use Rattle.std.specs.Prelude.{◌≡◌, ◌≤◌, ◌<◌, ◌&&◌, ◌^◌, nat_le, nat_lt, ℕ, Bool, true, List, length, slice_index, slice_index_or, Option, Some, None}
 use Rattle.std.specs.List.{list_all}
-use Rattle.thp_model.specs.Prelude.{max_blocks, max_order, min_order}
+use Rattle.thp_history.specs.Prelude.{max_blocks, max_order, min_order}
 use Rattle.thp_script.specs.Limits.{max_nodes, max_workers}
 
 -- one to 8 nodes of 1 to 4,096 blocks each, and 1 to 63 workers

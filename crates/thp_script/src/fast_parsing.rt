@@ -9,7 +9,7 @@ ghost use Rattle.thp_script.specs.PageCommands.{page_op};
 use crate::fast_words::parse_number_fast;
 use crate::script::{BatchCall, Command, Op, RangeCall};
 use crate::settings::Settings;
-use thp_model::{MAX_BATCH, PageCall};
+use thp_history::{MAX_BATCH, PageCall};
 
 /// Parses the operands of a command on a whole node: `NODE`
 #[inline(always)]

@@ -2,7 +2,7 @@
 ghost use Rattle.std.specs.Prelude.{◌≡◌};
 ghost use Rattle.thp_script.specs.Limits.{max_counted, max_input, max_nodes, max_workers};
 
-use thp_model::MAX_CALLERS;
+use thp_history::MAX_CALLERS;
 
 /// The greatest number of nodes of a run.
 pub const MAX_NODES: usize = 8;

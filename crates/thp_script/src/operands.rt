@@ -8,7 +8,7 @@ use crate::fault::TextKind;
 use crate::script::{BatchCall, Command, CommandWord, Op, RangeCall, command_word};
 use crate::settings::Settings;
 use crate::words::{Words, number};
-use thp_model::{MAX_BATCH, PageCall};
+use thp_history::{MAX_BATCH, PageCall};
 
 #[inline(always)]
 pub(crate) fn number_up_to(most: u64, word: &[u8]) -> Result<u64, TextKind>

@@ -12,7 +12,7 @@ use crate::fast_words::after_name;
 use crate::fault::TextKind;
 use crate::sequence::Sequence;
 use crate::settings::Settings;
-use thp_model::{Gain, Loss, PageCall};
+use thp_history::{Gain, Loss, PageCall};
 
 /// A call on a node, with its operands.
 #[derive(Clone, Copy, Debug, PartialEq, Eq)]

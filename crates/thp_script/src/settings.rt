@@ -1,12 +1,12 @@
 //! The parameters of a run: its nodes, their blocks, its workers and its report.
 ghost use Rattle.std.specs.Prelude.{◌≡◌, ◌↔◌, ◌++◌, IsSome, IfSome, IsTrue, None, drop, replicate, true};
 ghost use Rattle.std.specs.List.{list_all};
-ghost use Rattle.thp_model.specs.Prelude.{max_order};
+ghost use Rattle.thp_history.specs.Prelude.{max_order};
 ghost use Rattle.thp_script.specs.Limits.{max_nodes};
 ghost use Rattle.thp_script.specs.Settings.{is_low, is_order, AreLow, AreOrdersFor, AreThresholdsFor, IsWithinLimits};
 
 use crate::limits::{MAX_NODES, MAX_WORKERS};
-use thp_model::Shape;
+use thp_history::Shape;
 
 /// The output of a run.
 #[derive(Clone, Copy, Debug, PartialEq, Eq)]

@@ -6,8 +6,8 @@ use Rattle.thp_script.specs.declared.script.Command.{Command}
 use Rattle.thp_worker.specs.Prelude.{CommandProgress, Reply, Step, Reaction, IsFit, answer_of, Fronts, HoldsCaller, Goes, Answered, StepDone, CommandState, On, Ended, Comes, by_cell, IsReady, is_scan, next_step, goes_on, scan_goes_on, Made, IsCommandFor, Proceeds, told_by}
 use Rattle.thp_cell.specs.declared.fault.CellFault.{CellFault}
 use Rattle.thp_cell.specs.declared.fault.CellFault.TheVariants.{Busy, Refused}
-use Rattle.thp_model.specs.declared.refusal.Refusal.{Refusal}
-use Rattle.thp_model.specs.declared.refusal.Refusal.TheVariants as why
+use Rattle.thp_history.specs.declared.refusal.Refusal.{Refusal}
+use Rattle.thp_history.specs.declared.refusal.Refusal.TheVariants as why
 use Rattle.thp_script.specs.declared.script.Op.{Op}
 use Rattle.thp_script.specs.declared.script.Op.TheVariants as op
 use Rattle.thp_worker.proofs.TurnLaws.{turned, fares}

@@ -1,7 +1,7 @@
 -- Workers that come together.
 use Rattle.std.proofs.Common.{◌≡◌, ◌∙◌, ◌++◌, ◌+◌, ◌<◌, ◌≤◌, ap, ℕ, Bool, List, [], ◌∷◌, length, sym, subst, inl, inr, arith, append_assoc, length-append, Option, Some, None, Vec, slice_get}
 use Rattle.std.specs.declared.alloc.Global.{Global}
-use Rattle.thp_model.specs.Prelude.{History, events_of, IsLegal}
+use Rattle.thp_history.specs.Prelude.{History, events_of, IsLegal}
 use Rattle.thp_script.specs.declared.script.Command.{Command}
 use Rattle.thp_worker.specs.Prelude.{Answer, Rest, SectionOutcome, CommandProgress, Fronts, HoldsCaller, Goes, Grows, SameNodes, Made, Steps, Works, WorksTo, Begins, Ends, IsNext, batches_after, progress_of, steps_of, KnowsOf, IsSplit, CanJoin, IsJoined, AllWork, CanRun, RangeDone}
 use Rattle.thp_worker.proofs.OpenLaws.{known_as}

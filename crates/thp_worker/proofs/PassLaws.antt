@@ -2,8 +2,8 @@
 use Rattle.std.proofs.Common.{◌≡◌, ◌∙◌, ◌≢◌, ◌++◌, ◌<◌, ◌==◌, ap, ℕ, Bool, true, false, List, [], ◌∷◌, length, refl, sym, subst, Option, Some, Ok, Err, set, map, zero, suc, slice_get, get_or, Result}
 use Rattle.std.proofs.lemmas.Bool.{eqb-true, eqb-false}
 use Rattle.std.proofs.lemmas.Option.{slice_get_within, slice_get_read}
-use Rattle.thp_model.specs.declared.events.Event.{Event}
-use Rattle.thp_model.specs.declared.refusal.Refusal.TheVariants.{OutOfMemory}
+use Rattle.thp_history.specs.declared.events.Event.{Event}
+use Rattle.thp_history.specs.declared.refusal.Refusal.TheVariants.{OutOfMemory}
 use Rattle.thp_cell.specs.declared.fault.CellFault.{CellFault}
 use Rattle.thp_cell.specs.declared.fault.CellFault.TheVariants.{Busy, Refused}
 use Rattle.thp_cell.specs.Prelude.{at_front, PassState}

@@ -5,9 +5,9 @@ use Rattle.std.proofs.lemmas.Bool.{eqb-true, eqb-false, eq-eqb, ne_eqb, cases_lt
 use Rattle.std.proofs.lemmas.Grind.{flat_map-append}
 use Rattle.std.proofs.lemmas.List.{append-nil, take-append-le, drop-append-le, length-drop, get_or_append_left, get_or-append_right}
 use Rattle.std.proofs.lemmas.List.Elements.{filter-append, All-nil, All-cons, All-append, All-head, All-tail, All-weaker}
-use Rattle.thp_model.specs.declared.events.Event.{Event}
-use Rattle.thp_model.specs.declared.shape.Shape.{Shape}
-use Rattle.thp_model.specs.Prelude.{History, events_of, IsLegal}
+use Rattle.thp_history.specs.declared.events.Event.{Event}
+use Rattle.thp_history.specs.declared.shape.Shape.{Shape}
+use Rattle.thp_history.specs.Prelude.{History, events_of, IsLegal}
 use Rattle.thp_worker.specs.Prelude.{Step, PutBack, Open, Reaction, Does, StepAnswer, Fronts, HoldsCaller, IsOther, SameHolding, Moves, Answered, Goes, Grows, Made, IsMade, ComesBefore, own_events, with_batch, batches_after, Carries, Steps, told_by}
 
 -- ---- events by callers

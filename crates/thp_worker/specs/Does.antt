@@ -1,17 +1,17 @@
 -- The effect of one step of a caller on its node and on its open batch there, and the result.
 use Rattle.std.specs.Prelude.{◌≡◌, ℕ, ◌≤◌, ⊤, Bool, List, [], ◌∷◌, Option, Some, None, Result, Ok, Err, length, take}
-use Rattle.thp_model.specs.Prelude.{max_batch, allocations, History, by, queue, refusal, take_events, split_next_events, put_back_events, next_page, rest_after, still_flying, gain_what, loss_what, page_call}
-use Rattle.thp_model.specs.declared.events.Event.{Event}
-use Rattle.thp_model.specs.declared.events.Outcome.{Outcome}
-use Rattle.thp_model.specs.declared.events.What.{What}
-use Rattle.thp_model.specs.declared.events.What.TheVariants as what
-use Rattle.thp_model.specs.declared.refusal.Refusal.{Refusal}
-use Rattle.thp_model.specs.declared.refusal.Refusal.TheVariants.{HasBatch}
-use Rattle.thp_model.specs.declared.shape.Shape.{Shape}
-use Rattle.thp_model.specs.Refusals as call
-use Rattle.thp_model.specs.declared.page_call.Done.{Done}
-use Rattle.thp_model.specs.declared.page_call.PageCall.{PageCall}
-use Rattle.thp_model.specs.declared.page_call.PageCall.TheVariants as either
+use Rattle.thp_history.specs.Prelude.{max_batch, allocations, History, by, queue, refusal, take_events, split_next_events, put_back_events, next_page, rest_after, still_flying, gain_what, loss_what, page_call}
+use Rattle.thp_history.specs.declared.events.Event.{Event}
+use Rattle.thp_history.specs.declared.events.Outcome.{Outcome}
+use Rattle.thp_history.specs.declared.events.What.{What}
+use Rattle.thp_history.specs.declared.events.What.TheVariants as what
+use Rattle.thp_history.specs.declared.refusal.Refusal.{Refusal}
+use Rattle.thp_history.specs.declared.refusal.Refusal.TheVariants.{HasBatch}
+use Rattle.thp_history.specs.declared.shape.Shape.{Shape}
+use Rattle.thp_history.specs.Refusals as call
+use Rattle.thp_history.specs.declared.page_call.Done.{Done}
+use Rattle.thp_history.specs.declared.page_call.PageCall.{PageCall}
+use Rattle.thp_history.specs.declared.page_call.PageCall.TheVariants as either
 use Rattle.thp_node.specs.Prelude.{BatchState, rest, tried, back_reply}
 use Rattle.thp_script.specs.Prelude.{page_call_of}
 use Rattle.thp_script.specs.declared.script.Op.{Op}

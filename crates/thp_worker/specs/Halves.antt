@@ -1,7 +1,7 @@
 -- Concurrent workers on the same nodes.
 use Rattle.std.specs.Prelude.{◌≡◌, ℕ, ◌+◌, ◌<◌, ◌≤◌, ◌^◌, ⊤, List, [], ◌∷◌, ◌++◌, length, All, Vec}
 use Rattle.std.specs.declared.alloc.Global.{Global}
-use Rattle.thp_model.specs.Prelude.{History, events_of, IsLegal}
+use Rattle.thp_history.specs.Prelude.{History, events_of, IsLegal}
 use Rattle.thp_script.specs.declared.script.Command.{Command}
 use Rattle.thp_worker.specs.declared.reply.SectionOutcome.{SectionOutcome}
 use Rattle.thp_worker.specs.Fronts.{Fronts, HoldsCaller, SameNodes}

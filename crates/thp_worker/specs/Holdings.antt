@@ -1,10 +1,10 @@
 -- The state of the holder of a pass of one node, and the effect of a step on it.
 use Rattle.std.specs.Prelude.{◌≡◌, ◌≢◌, ◌<◌, ℕ, ◌+◌, ◌-◌, nat_le, true, List, [], ◌++◌, All, Option, Some, None, Result, Ok, Err, length, slice_get, take, drop, if◌then◌else◌}
 use Rattle.atomic_table.specs.Seated.{TableId}
-use Rattle.thp_model.specs.declared.events.Event.{Event}
-use Rattle.thp_model.specs.declared.refusal.Refusal.TheVariants.{OutOfMemory}
-use Rattle.thp_model.specs.Prelude.{IsLegal}
-use Rattle.thp_model.specs.declared.page_call.Done.{Done}
+use Rattle.thp_history.specs.declared.events.Event.{Event}
+use Rattle.thp_history.specs.declared.refusal.Refusal.TheVariants.{OutOfMemory}
+use Rattle.thp_history.specs.Prelude.{IsLegal}
+use Rattle.thp_history.specs.declared.page_call.Done.{Done}
 use Rattle.thp_node.specs.Prelude.{BatchState, IsInFront}
 use Rattle.thp_cell.specs.declared.fault.CellFault.{CellFault}
 use Rattle.thp_cell.specs.declared.fault.CellFault.TheVariants.{Busy, Refused}

@@ -1,7 +1,7 @@
 -- The view that contracts have of `KeptAnswers`.
 use Rattle.std.specs.Prelude.{◌≤◌, ◌<◌, ℕ, false, List, map, length, get_or, All, Vec, vec_capacity, vec_len, Ok, Err, ⊤}
 use Rattle.std.specs.declared.alloc.Global.{Global}
-use Rattle.thp_model.specs.Prelude.{set_of}
+use Rattle.thp_history.specs.Prelude.{set_of}
 use Rattle.thp_worker.specs.declared.kept_answers.ShortAnswer.{ShortAnswer}
 use Rattle.thp_worker.specs.declared.kept_answers.ShortReply.{ShortReply}
 use Rattle.thp_worker.specs.declared.kept_answers.ShortReply.TheVariants as short

@@ -1,8 +1,8 @@
 -- What the holder of passes of all nodes knows.
 use Rattle.std.specs.Prelude.{◌≡◌, ℕ, ◌<◌, ◌^◌, ⊤, List, [], ◌∷◌, Option, Some, None, length, slice_get, map}
 use Rattle.atomic_table.specs.Seated.{TableId}
-use Rattle.thp_model.specs.declared.shape.Shape.{Shape}
-use Rattle.thp_model.specs.Prelude.{History, IsLegal}
+use Rattle.thp_history.specs.declared.shape.Shape.{Shape}
+use Rattle.thp_history.specs.Prelude.{History, IsLegal}
 use Rattle.thp_cell.specs.Prelude.{IsJoined, PartsStay, HasAll}
 use Rattle.thp_worker.specs.Does.{Open}
 use Rattle.thp_worker.specs.Fronts.{Fronts}

@@ -1,9 +1,9 @@
 -- The effect of the commands of a section, as far as they were executed, in histories that are extended.
 use Rattle.std.specs.Prelude.{◌≡◌, ◌⊎◌, ℕ, ◌+◌, ◌<◌, ◌≤◌, nat_eq, ⊤, Bool, List, [], ◌∷◌, ◌++◌, All, AllPairs, Option, Some, None, length, take, drop, map, flat_map, filter, slice_get, if◌then◌else◌}
 use Rattle.std.specs.List.{range_with_len}
-use Rattle.thp_model.specs.declared.events.Event.{Event}
-use Rattle.thp_model.specs.declared.shape.Shape.{Shape}
-use Rattle.thp_model.specs.Prelude.{History, events_of}
+use Rattle.thp_history.specs.declared.events.Event.{Event}
+use Rattle.thp_history.specs.declared.shape.Shape.{Shape}
+use Rattle.thp_history.specs.Prelude.{History, events_of}
 use Rattle.thp_script.specs.declared.script.Command.{Command}
 use Rattle.thp_script.specs.declared.script.Op.TheVariants as op
 use Rattle.thp_worker.specs.declared.answer_log.Answers.{Answers}

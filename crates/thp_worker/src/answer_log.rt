@@ -7,7 +7,7 @@ use crate::kept_answers::KeptAnswers;
 use crate::reply::{Answer, Reply};
 use std::alloc::{AllocError, Global};
 use std::marker::Model;
-use thp_model::{Refusal, Trace};
+use thp_history::{Refusal, Trace};
 
 /// What happens to the answers to the commands of a section.
 #[derive(Clone, Copy, Debug, PartialEq, Eq)]

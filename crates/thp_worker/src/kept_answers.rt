@@ -7,7 +7,7 @@ ghost use Rattle.thp_worker.specs.declared.kept_answers.ShortReply.{ShortReply};
 use crate::reply::{Answer, Reply};
 use std::alloc::{AllocError, Global};
 use std::marker::Model;
-use thp_model::{Outcome, PageId, Refusal, SubSet};
+use thp_history::{Outcome, PageId, Refusal, SubSet};
 use thp_node::{BackReply, Done, Tried};
 
 // The answer to a command, in 24 bytes. Longer replies, of scans and of calls that gave frames back, are stored separately, and

@@ -1,6 +1,6 @@
 //! A pass of one node, with the open batches of its callers there.
 ghost use Rattle.std.specs.Prelude.{◌≡◌, ◌<◌, ◌≤◌, ℕ, length, slice_get, slice_set, IfOk, MatchBool, MatchOption, None, Ok, Some};
-ghost use Rattle.thp_model.specs.Prelude.{IsLegal};
+ghost use Rattle.thp_history.specs.Prelude.{IsLegal};
 ghost use Rattle.thp_node.specs.Prelude.{no_batch};
 ghost use Rattle.thp_cell.specs.Prelude.{IsJoined, PartsStay, HasAll, HasCaller};
 ghost use Rattle.thp_script.specs.declared.script.Op.{Op};
@@ -12,7 +12,7 @@ use crate::steps::{NodeCall, Step, node_call};
 use std::alloc::{AllocError, Global};
 use std::marker::Model;
 use thp_cell::{CellFault, NodeCell, Pass};
-use thp_model::{Loss, PageCall, PageId, Refusal};
+use thp_history::{Loss, PageCall, PageId, Refusal};
 use thp_node::{Batch, Done, FullLog, Recorder};
 use thp_script::Op;
 

@@ -3,7 +3,7 @@ ghost use Rattle.std.specs.Prelude.{◌≡◌, ◌<◌, false, get_or, length, r
 ghost use Rattle.thp_worker.specs.OpenBatches.{marked};
 
 use std::alloc::{AllocError, Global};
-use thp_model::Refusal;
+use thp_history::Refusal;
 use thp_script::{Command, Op};
 
 /// Returns that no batch is open on any of `nodes` nodes.

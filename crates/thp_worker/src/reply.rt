@@ -1,7 +1,7 @@
 //! The replies to steps and the answers to commands.
 use crate::answer_log::AnswerLog;
 use std::alloc::Global;
-use thp_model::{PageId, Refusal};
+use thp_history::{PageId, Refusal};
 use thp_node::{BackReply, Done, ScanReply, Tried};
 
 /// The reply to a step or a command that was not refused.

@@ -1,6 +1,6 @@
 //! The progress of a command's steps.
 ghost use Rattle.std.specs.Prelude.{◌≡◌, ◌+◌, ◌≤◌, Ok, MatchOption};
-ghost use Rattle.thp_model.specs.Prelude.{max_batch};
+ghost use Rattle.thp_history.specs.Prelude.{max_batch};
 ghost use Rattle.thp_script.specs.declared.script.Op.TheVariants.{Scan};
 ghost use Rattle.thp_worker.specs.Turns.{On, Ended, no_progress, is_scan, next_step, scan_goes_on, tries_of};
 

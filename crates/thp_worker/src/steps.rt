@@ -9,7 +9,7 @@ use crate::reply::Reply;
 use std::alloc::AllocError;
 use std::hint::spin_loop;
 use thp_cell::CellFault;
-use thp_model::{PageCall, Refusal};
+use thp_history::{PageCall, Refusal};
 use thp_script::Op;
 
 /// A call of a node that involves no batch.

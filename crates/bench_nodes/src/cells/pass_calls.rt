@@ -8,7 +8,7 @@ use crate::stopwatch::tell_nanos;
 use anyhow::{Context, Result};
 use std::time::CpuClock;
 use thp_cell::{CellFault, NodeCell, Pass};
-use thp_model::{Done, PageId};
+use thp_history::{Done, PageId};
 use thp_node::Batch;
 
 // Rounds on one cell, few enough that the growth of its journal affects none.

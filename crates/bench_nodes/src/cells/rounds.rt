@@ -5,7 +5,7 @@ ghost use Rattle.thp_cell.specs.Prelude.{HasCaller, at_front};
 use crate::nodes::{new_cell, new_node};
 use std::alloc::Global;
 use thp_cell::{CellFault, NodeCell, Pass};
-use thp_model::PageId;
+use thp_history::PageId;
 
 /// The numbers of successful calls, and of calls that found the node busy.
 #[derive(Clone, Copy)]

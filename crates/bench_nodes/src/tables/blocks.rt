@@ -6,7 +6,7 @@ use crate::tables::links::after;
 use anyhow::Result;
 use std::alloc::{AllocError, Global};
 use std::time::CpuClock;
-use thp_model::PageId;
+use thp_history::PageId;
 use thp_page::PageTable;
 
 // Numbers this far apart have the same low bits, so all their blocks are in one chain.

@@ -5,7 +5,7 @@ use crate::stopwatch::tell_nanos;
 use anyhow::{Context, Result};
 use std::alloc::Global;
 use std::time::CpuClock;
-use thp_model::PageId;
+use thp_history::PageId;
 use thp_node::{Done, Node, Refusal};
 
 // Rounds on one node, few enough that none waits for fresh memory; and the greatest number of events of a round.

@@ -3,7 +3,7 @@
 use crate::stopwatch::Stopwatch;
 use anyhow::Result;
 use std::time::CpuClock;
-use thp_model::SubSet;
+use thp_history::SubSet;
 use thp_page::Page;
 
 const ORDER: u32 = 9;

@@ -5,7 +5,7 @@ ghost use Rattle.thp_cell.specs.Prelude.{HasCaller, at_front};
 use crate::steps::{cell_of, is_allocation};
 use std::thread;
 use thp_cell::{NodeCell, Pass};
-use thp_model::{Event, PageId};
+use thp_history::{Event, PageId};
 
 // Allocates 20 pages, or gives up after 50,000,000 calls.
 fn allocate_20(cell: &NodeCell, pass: Pass, caller: u32) -> (Pass, u32)

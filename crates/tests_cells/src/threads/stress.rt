@@ -12,7 +12,7 @@ use std::thread;
 use std::thread::Threads;
 use thp_cell::{NodeCell, Pass};
 use thp_check::check;
-use thp_model::{Event, Outcome, PageId, What};
+use thp_history::{Event, Outcome, PageId, What};
 use thp_node::{BackReply, Batch, Node, Tried};
 
 // The pass of a thread that has finished, and the results of its calls.

@@ -5,7 +5,7 @@ use crate::nodes::{event_count, expect, expect_queued, is_scanned, node_of, queu
 use std::alloc::{AllocError, Global};
 use std::process::Abort;
 use tests_steps::{Answer, Call};
-use thp_model::{Event, PageId, What};
+use thp_history::{Event, PageId, What};
 use thp_node::Node;
 
 // The most pages of a batch.

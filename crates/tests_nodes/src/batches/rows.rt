@@ -6,7 +6,7 @@ use crate::event_rows::{ONE, TWO, ZERO};
 use crate::nodes::{expect, expect_queued, node_of, node_with_queued};
 use std::process::Abort;
 use tests_steps::{Answer, Call, FREED, QUEUED, STAYS};
-use thp_model::{Outcome, PageId, Refusal};
+use thp_history::{Outcome, PageId, Refusal};
 use thp_node::Node;
 
 const CLOSED: Answer = Answer::Refused(Refusal::Closed);

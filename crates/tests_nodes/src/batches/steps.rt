@@ -5,7 +5,7 @@ ghost use Rattle.thp_node.specs.Prelude.{IsInFront, FrontsStay, OtherFrontsStay}
 use crate::nodes::{has_frames, is_scanned};
 use std::process::Abort;
 use tests_steps::{Answer, Call, answer_of};
-use thp_model::{PageId, Refusal};
+use thp_history::{PageId, Refusal};
 use thp_node::{BackReply, Batch, Node, Tried};
 
 // A batch of up to `n` pages.

@@ -3,7 +3,7 @@ use crate::batches::steps::{BatchStep, expect_batches};
 use crate::event_rows::{ONE, ZERO};
 use crate::nodes::small_node;
 use tests_steps::{Answer, Call, STAYS};
-use thp_model::Refusal;
+use thp_history::Refusal;
 
 const WRITE_AND_ZERO: &[BatchStep] = &[
     BatchStep::Call(0, Call::Alloc, Answer::Page(ZERO)),

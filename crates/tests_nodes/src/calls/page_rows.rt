@@ -2,7 +2,7 @@
 use crate::calls::steps::{Start, Step, expect_events, expect_row};
 use crate::event_rows::{FIRST, Kind, ONE, ZERO};
 use tests_steps::{Answer, Call, FREED, QUEUED, STAYS};
-use thp_model::{Outcome, Refusal};
+use thp_history::{Outcome, Refusal};
 
 const BAD_RANGE: Answer = Answer::Refused(Refusal::BadRange);
 

@@ -4,7 +4,7 @@ use crate::event_rows::{FIRST, Kind, NONE, ONE, TWO, ZERO};
 use crate::nodes::node_of;
 use std::alloc::Global;
 use tests_steps::{Answer, Call, FREED, QUEUED, STAYS, shape_of};
-use thp_model::{Outcome, Shape};
+use thp_history::{Outcome, Shape};
 use thp_node::{Counters, NewFault, Node};
 
 const TWO_OF_THREE_OLDEST: &[Step] = &[

@@ -4,7 +4,7 @@ use crate::nodes::{has_frames, is_scanned, node_of, node_with_queued, small_node
 use std::alloc::Global;
 use std::process::Abort;
 use tests_steps::{Answer, Call, first_wrong};
-use thp_model::Event;
+use thp_history::Event;
 use thp_node::{Counters, Node};
 
 // A step of caller 0 on a node, or a query of the node, with the expected result.

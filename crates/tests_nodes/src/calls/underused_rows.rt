@@ -2,7 +2,7 @@
 use crate::calls::steps::{Start, Step, expect_events, expect_row};
 use crate::event_rows::{FIRST, Kind, NONE, ONE, ZERO};
 use tests_steps::{Answer, Call, QUEUED, STAYS};
-use thp_model::{Outcome, Refusal};
+use thp_history::{Outcome, Refusal};
 use thp_node::Counters;
 
 const UNDERUSED_SCAN: &[Step] = &[

@@ -7,7 +7,7 @@ use crate::event_rows::{FIRST, Kind, NONE, ONE, Row, TWO, ZERO, event_of};
 use std::alloc::Global;
 use std::process::Abort;
 use thp_check::{Misfit, put_explanation};
-use thp_model::{Event, Outcome, Refusal, Shape};
+use thp_history::{Event, Outcome, Refusal, Shape};
 
 // An event on line 7 that doesn't fit for this reason is explained so.
 fn is_explained(alloc: Global, event: &Event, misfit: &Misfit, want: &str) -> bool {

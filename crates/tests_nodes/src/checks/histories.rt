@@ -5,7 +5,8 @@ use crate::event_rows::{Kind, NONE, Row, event_of};
 use std::alloc::Global;
 use std::process::Abort;
 use thp_check::{CheckFault, Misfit, Replay, check};
-use thp_model::{Event, Outcome, Shape, check as slow_check};
+use thp_history::{Event, Outcome, Shape};
+use thp_model::check as slow_check;
 
 // The events of these rows, after those that are there.
 pub(crate) fn add_rows(rt: &impl Abort, events: &mut Vec<Event>, rows: &[Row]) {

@@ -2,7 +2,7 @@
 use crate::checks::histories::{events_of, expect_legal, large, legal};
 use crate::event_rows::{FIRST, Kind, NONE, ONE, Row, TWO, WHOLE, ZERO, event_of};
 use thp_check::{CheckFault, check};
-use thp_model::{Outcome, Shape};
+use thp_history::{Outcome, Shape};
 
 const FIRST_RUN: &[Row] = &[
     (0, Kind::Alloc(ZERO, 0)),

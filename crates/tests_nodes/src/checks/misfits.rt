@@ -1,7 +1,7 @@
 //! For each kind of event histories whose last event doesn't fit.
 use crate::checks::histories::{expect_misfits, last_misfits};
 use crate::event_rows::{FIRST, Kind, NONE, ONE, Row, TWO, ZERO};
-use thp_model::Outcome;
+use thp_history::Outcome;
 
 const MISFITS_OF_PAGES: &[(&str, [Row; 1])] = &[
     ("a block in use", [(0, Kind::Alloc(ONE, 0))]),

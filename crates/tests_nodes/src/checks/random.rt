@@ -3,7 +3,8 @@ ghost use Rattle.std.specs.Prelude.{◌≡◌, ◌+◌, ◌<◌};
 
 use std::alloc::Global;
 use thp_check::check;
-use thp_model::{Event, Outcome, PageId, Shape, SubSet, What, check as slow_check};
+use thp_history::{Event, Outcome, PageId, Shape, SubSet, What};
+use thp_model::check as slow_check;
 
 // Numbers that look random, the same in each run.
 #[derive(Drop)]

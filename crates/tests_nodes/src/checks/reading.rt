@@ -7,7 +7,7 @@ use crate::event_rows::{FIRST, Kind, ONE, Row, TWO, WHOLE, ZERO};
 use std::alloc::Global;
 use std::process::Abort;
 use thp_check::{LivePage, Replay, Standing};
-use thp_model::{Event, Outcome, PageId, Shape, SubSet};
+use thp_history::{Event, Outcome, PageId, Shape, SubSet};
 
 // The replay of these events, which are legal on a node of this shape.
 fn replay_of(rt: &impl Abort, alloc: Global, shape: Shape, events: &[Event]) -> Replay

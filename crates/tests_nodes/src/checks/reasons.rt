@@ -7,7 +7,7 @@ use crate::event_rows::{FIRST, Frames, Kind, NONE, ONE, Row, TWO, WHOLE, ZERO, s
 use std::alloc::Global;
 use std::process::Abort;
 use thp_check::Misfit;
-use thp_model::{Event, Outcome, PageId, Refusal, Shape};
+use thp_history::{Event, Outcome, PageId, Refusal, Shape};
 
 // A reason as a constant.
 #[derive(Clone, Copy)]

@@ -5,7 +5,7 @@ use crate::checks::histories::{events_of, expect_legal, expect_misfit, last_misf
 use crate::event_rows::{FIRST, Frames, Kind, NONE, ONE, Row, TWO, WHOLE, ZERO};
 use std::alloc::Global;
 use std::process::Abort;
-use thp_model::{Outcome, Shape};
+use thp_history::{Outcome, Shape};
 
 pub(crate) fn small(blocks: u32) -> Shape
     ensures { result.order ≡ 2 }

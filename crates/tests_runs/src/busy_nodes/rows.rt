@@ -1,6 +1,6 @@
 //! Rows of a section on a node that is busy at chosen calls.
 use crate::busy_nodes::sections::{BusyCalls, Queued, SectionResult, section};
-use thp_model::{Event, PageId, Refusal, What};
+use thp_history::{Event, PageId, Refusal, What};
 use thp_node::{ScanReply, Tried};
 use thp_worker::{Answer, Command, Op, Reply};
 

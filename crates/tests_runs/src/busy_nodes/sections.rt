@@ -9,7 +9,7 @@ use crate::busy_nodes::stutter::Stutter;
 use std::alloc::{AllocError, Global};
 use std::process::Abort;
 use thp_cell::{CellFault, NodeCell, Pass};
-use thp_model::{Refusal, Shape};
+use thp_history::{Refusal, Shape};
 use thp_node::{Node, ScanReply};
 use thp_run::{Worked, work, work_rest};
 use thp_worker::{Answer, Command, NoGate, NodePass, NodePasses, Op, Reply, Step, Steps};

@@ -1,6 +1,6 @@
 //! Rows of open batches in sections.
 use crate::scripts::runs::{ExpectedAnswer, are_answers, events_on, ran, settings_of};
-use thp_model::{Outcome, Refusal};
+use thp_history::{Outcome, Refusal};
 use thp_worker::NoGate;
 
 #[test]

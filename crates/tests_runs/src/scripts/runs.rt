@@ -2,7 +2,7 @@
 use std::alloc::Global;
 use std::process::Abort;
 use std::thread::Threads;
-use thp_model::{Outcome, PageId, Refusal};
+use thp_history::{Outcome, PageId, Refusal};
 use thp_node::{BackReply, ScanReply, Tried};
 use thp_run::{RunResult, run_script};
 use thp_script::{Report, Settings, read_script};

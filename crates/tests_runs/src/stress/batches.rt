@@ -2,7 +2,7 @@
 use crate::stress::parts::Part;
 use crate::stress::tallies::Tally;
 use std::alloc::Global;
-use thp_model::{PageId, What};
+use thp_history::{PageId, What};
 use thp_node::{BackReply, Tried};
 
 // The pages of a take, oldest first, without those that were split or found in use, and how many places were passed.

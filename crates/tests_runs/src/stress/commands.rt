@@ -1,5 +1,5 @@
 //! The events that a command's answer implies.
-use thp_model::{PageId, Refusal, What};
+use thp_history::{PageId, Refusal, What};
 use thp_script::Op;
 use thp_worker::Reply;
 

@@ -1,6 +1,6 @@
 //! A caller's part of a journal.
 use std::alloc::{AllocError, Global};
-use thp_model::{Event, What};
+use thp_history::{Event, What};
 
 // The events of one caller on a node, and how many of them are explained.
 #[derive(Drop)]

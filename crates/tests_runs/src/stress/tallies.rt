@@ -2,7 +2,7 @@
 use crate::stress::pages::PageSeen;
 use crate::stress::scripts::subpages_of;
 use std::alloc::{AllocError, Global};
-use thp_model::{Event, Outcome, PageId, SubSet, What};
+use thp_history::{Event, Outcome, PageId, SubSet, What};
 use thp_node::Node;
 
 // The pages of a node and its totals.

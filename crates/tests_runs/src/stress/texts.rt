@@ -2,8 +2,8 @@
 use crate::stress::commands::without_block;
 use crate::stress::tallies::Tally;
 use std::alloc::{AllocError, Global};
+use thp_history::{Event, Outcome, PageId, Refusal, SubSet};
 use thp_journal_reader::{NodeJournal, check_text, read_journal};
-use thp_model::{Event, Outcome, PageId, Refusal, SubSet};
 use thp_node::{BackReply, Node, ScanReply, Tried};
 use thp_run::report_of_logs;
 use thp_script::{Report, Settings};

@@ -4,7 +4,7 @@ use crate::stress::commands::{event_of, may_refuse, without_block};
 use crate::stress::parts::Part;
 use crate::stress::tallies::Tally;
 use std::alloc::Global;
-use thp_model::Refusal;
+use thp_history::Refusal;
 use thp_node::{Node, ScanReply, Tried};
 use thp_script::{Command, Op};
 use thp_worker::{KeptAnswers, KeptSection, Reply};

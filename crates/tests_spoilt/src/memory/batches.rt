@@ -5,7 +5,7 @@ ghost use Rattle.thp_node.specs.Prelude.{IsInFront};
 use crate::memory::nodes::{MOST, event_count, expect_unchanged, node_after, view_of};
 use std::alloc::Global;
 use std::process::Abort;
-use thp_model::PageId;
+use thp_history::PageId;
 use thp_node::{BackReply, Batch, Node, Tried};
 
 /// Takes this many pages, at the second try at the latest.

@@ -8,7 +8,7 @@ use crate::memory::nodes::{event_count, expect_unchanged, node_at_last, view_of}
 use std::alloc::Global;
 use std::process::Abort;
 use tests_steps::{Answer, Call, STAYS, answer_of, first_wrong, queueing, shape_of};
-use thp_model::{PageId, Refusal, Shape};
+use thp_history::{PageId, Refusal, Shape};
 use thp_node::{Node, ScanReply, Tried};
 
 // The answer to a call at the second try at the latest; none if the first one failed and changed something.

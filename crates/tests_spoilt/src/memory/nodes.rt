@@ -2,7 +2,7 @@
 use crate::memory::devices::tell;
 use std::alloc::Global;
 use std::process::Abort;
-use thp_model::{PageId, Refusal, Shape};
+use thp_history::{PageId, Refusal, Shape};
 use thp_node::{Counters, NewFault, Node};
 
 /// The greatest number of events before a call.

@@ -5,10 +5,10 @@ use std::alloc::Global;
 use std::process::Abort;
 use thp_check::{CheckFault, check};
 use thp_cli::read_line;
+use thp_history::{Event, PageId, Shape, What};
 use thp_journal_reader::{LeastBlocks, check_text, read_journal};
 use thp_journal_writer::{NodeHistory, journal_text};
 use thp_live_pages::PageStore;
-use thp_model::{Event, PageId, Shape, What};
 use thp_page::PageTable;
 use thp_script::{ReadFault, Report, Settings, read_script};
 

@@ -4,8 +4,8 @@ ghost use Rattle.std.specs.Prelude.{◌≡◌, ◌<◌, length};
 use crate::drawing::columns::at;
 use std::alloc::Global;
 use std::process::Abort;
+use thp_history::{Event, Outcome, PageId, Shape, SubSet, What};
 use thp_metrics::{NodeSeries, Pages, Span, StuckPage};
-use thp_model::{Event, Outcome, PageId, Shape, SubSet, What};
 
 /// 16 blocks of 512 subpages each.
 pub(crate) const LARGE: Shape = Shape {

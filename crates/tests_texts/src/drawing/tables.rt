@@ -1,7 +1,7 @@
 //! Tables of nodes.
 use crate::drawing::nodes::{LARGE, PAGE, first_run, followed};
 use thp_drawing::{DrawnNode, IllegalEvent, put_table};
-use thp_model::{Event, What};
+use thp_history::{Event, What};
 
 // The output of a plain external program for the same events.
 const TABLE: &[u8] =

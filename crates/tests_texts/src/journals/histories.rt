@@ -2,8 +2,8 @@
 
 use std::alloc::Global;
 use std::process::Abort;
+use thp_history::{Event, Outcome, PageId, Shape, SubSet, What};
 use thp_journal_writer::{NodeHistory, journal_text};
-use thp_model::{Event, Outcome, PageId, Shape, SubSet, What};
 
 pub(crate) const ZERO: PageId = PageId(0);
 

@@ -2,8 +2,8 @@
 use crate::journals::histories::{
     ONE, ZERO, by, expect_text, expect_texts, large, queued, small, split, unmap,
 };
+use thp_history::{Outcome, PageId, SubSet, What};
 use thp_journal_writer::NodeHistory;
-use thp_model::{Outcome, PageId, SubSet, What};
 
 // The kinds that no worked row has, by several callers.
 #[test]

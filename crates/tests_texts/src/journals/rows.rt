@@ -3,8 +3,8 @@ use crate::journals::histories::{
     ONE, TWO, ZERO, alloc_page, by, expect_text, expect_texts, large, queued, small, split,
     split_pmd, taken, unmap,
 };
+use thp_history::{Outcome, SubSet, What};
 use thp_journal_writer::NodeHistory;
-use thp_model::{Outcome, SubSet, What};
 
 #[test]
 fn first_run(rt: HostRuntime) {

@@ -5,11 +5,11 @@ use crate::journals::histories::{
     ZERO, by, expect_texts, large, queued, small, split, split_pmd, taken,
 };
 use std::alloc::{AllocError, Global};
+use thp_history::{Event, PageId, Shape, SubSet, What};
 use thp_journal_reader::{JournalCheck, read_journal};
 use thp_journal_writer::{
     NodeHistory, PutFault, Version, put_end, put_event, put_node, put_version,
 };
-use thp_model::{Event, PageId, Shape, SubSet, What};
 
 const VERSIONS: [Version; 3] = [Version::Plain, Version::Orders, Version::Underused];
 

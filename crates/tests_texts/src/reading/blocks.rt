@@ -1,6 +1,6 @@
 //! The blocks that a reader gives the pages of a journal.
+use thp_history::{Event, What};
 use thp_journal_reader::{NodeJournal, read_journal};
-use thp_model::{Event, What};
 
 /// The block of the allocation at an index, `None` if that is no allocation.
 fn block_at(node: &NodeJournal, place: usize) -> Option<u32> {

@@ -1,8 +1,8 @@
 //! Single events from the bytes of their lines.
 use std::alloc::Global;
+use thp_history::{Event, Outcome, PageId, SubSet, What};
 use thp_journal_reader::read_event;
 use thp_journal_writer::{Version, put_event};
-use thp_model::{Event, Outcome, PageId, SubSet, What};
 use thp_script::TextKind;
 
 const PAGE: PageId = PageId(7);

@@ -3,8 +3,8 @@ ghost use Rattle.std.specs.Prelude.{◌<◌};
 
 use std::alloc::Global;
 use thp_check::Misfit;
+use thp_history::{Event, PageId, What};
 use thp_journal_reader::{Illegal, JournalCheck, JournalReader, LongCheck, check_journals};
-use thp_model::{Event, PageId, What};
 use thp_script::{ReadFault, TextFault, TextKind};
 
 /// The first illegal line of a text that comes in parts of so many bytes.

@@ -2,7 +2,7 @@
 use crate::reports::nodes::{empty_node, expect, small_node};
 use std::alloc::Global;
 use std::process::Abort;
-use thp_model::{Outcome, PageId, Refusal, SubSet};
+use thp_history::{Outcome, PageId, Refusal, SubSet};
 use thp_node::{BackReply, Done, ScanReply, Tried};
 use thp_script::Report;
 use thp_worker::{KeptAnswers, KeptSection, Reply};

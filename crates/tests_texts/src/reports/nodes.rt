@@ -1,7 +1,7 @@
 //! Nodes on which a row was run, and what is expected of a report on them.
 use std::alloc::Global;
 use std::process::Abort;
-use thp_model::{PageId, Shape};
+use thp_history::{PageId, Shape};
 use thp_node::Node;
 use thp_run::report_of_logs;
 use thp_script::{Report, Settings};

@@ -3,7 +3,7 @@ use crate::reports::answers::{done, section};
 use crate::reports::nodes::empty_node;
 use std::alloc::Global;
 use std::process::Abort;
-use thp_model::{Outcome, PageId, Refusal, SubSet};
+use thp_history::{Outcome, PageId, Refusal, SubSet};
 use thp_node::Node;
 use thp_run::{AnswerParts, answers_text};
 use thp_worker::{KeptSection, Reply};

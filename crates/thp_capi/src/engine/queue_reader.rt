@@ -3,13 +3,13 @@
 //! A node lends its table for reading, and the table's links are read only by calls that count the reads. So the order comes from
 //! the journal: pages are in the queue in the order of the events that queued them last.
 ghost use Rattle.std.specs.Prelude.{◌≡◌, ◌<◌, false, true, IfNone, IfSome, Some, length};
-ghost use Rattle.thp_model.specs.Prelude.{has_page, queue};
+ghost use Rattle.thp_history.specs.Prelude.{has_page, queue};
 ghost use Rattle.thp_live_pages.specs.Prelude.{block_of};
 ghost use Rattle.thp_capi.specs.Joining.{joins};
 ghost use Rattle.thp_capi.specs.Reading.{filled_with};
 
 use crate::engine::Engine;
-use thp_model::{Outcome, PageId, Shape, What};
+use thp_history::{Outcome, PageId, Shape, What};
 use thp_node::FullLog;
 use thp_page::Standing;
 

@@ -1,12 +1,12 @@
 //! The readers of an engine's pages.
 ghost use Rattle.std.specs.Prelude.{◌≡◌, ◌<◌, true, false, IfErr, IfOk, OnOk};
-ghost use Rattle.thp_model.specs.Prelude.{is_live, own, subpages};
+ghost use Rattle.thp_history.specs.Prelude.{is_live, own, subpages};
 ghost use Rattle.thp_capi.specs.Reading.{WhyUncounted, page_state_of};
 
 use crate::codes::Fault;
 use crate::engine::Engine;
 use crate::page_state::ThpPageState;
-use thp_model::{PageId, Refusal};
+use thp_history::{PageId, Refusal};
 use thp_node::Recorder;
 
 impl<R: Recorder> Engine<R> {

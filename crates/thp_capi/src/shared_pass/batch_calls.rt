@@ -8,7 +8,7 @@ use crate::open_batches::{is_open, put_at, take_at};
 use crate::replies::{ThpBack, ThpTried};
 use crate::shared_pass::SharedPass;
 use thp_cell::CellFault;
-use thp_model::MAX_BATCH;
+use thp_history::MAX_BATCH;
 use thp_node::Recorder;
 
 impl<R: Recorder> SharedPass<R> {

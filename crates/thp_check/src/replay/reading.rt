@@ -1,7 +1,7 @@
 //! The state of a replay for display: its queue, its flights and its pages, and the sums of its events.
 ghost use Rattle.std.specs.Prelude.{◌≡◌, ℕ, length, map, slice_get, is_some, IfOk, IfSome, IsSome, Some, ◌&&◌, nat_lt};
 ghost use Rattle.std.specs.List.{filter, range_with_len};
-ghost use Rattle.thp_model.specs.Prelude.{thp_split_page, thp_split_page_failed, thp_deferred_split_page, thp_split_pmd, thp_underused_split_page, is_live, is_split, is_used, own, pins, whole, block_in_use, frames_given, frames_held, is_held, flight, queue, set_of, subpages, is_partly_mapped, is_worth_split, is_zero_filled};
+ghost use Rattle.thp_history.specs.Prelude.{thp_split_page, thp_split_page_failed, thp_deferred_split_page, thp_split_pmd, thp_underused_split_page, is_live, is_split, is_used, own, pins, whole, block_in_use, frames_given, frames_held, is_held, flight, queue, set_of, subpages, is_partly_mapped, is_worth_split, is_zero_filled};
 ghost use Rattle.thp_page.specs.Prelude.{slot_at};
 ghost use Rattle.thp_live_pages.specs.Prelude.{block_of, standing_of};
 ghost use Rattle.thp_check.specs.Showing.{is_taken, page_at};
@@ -9,8 +9,8 @@ ghost use Rattle.thp_check.specs.Showing.{is_taken, page_at};
 use crate::live_page::{LivePage, PageLocation};
 use crate::replay::Replay;
 use std::alloc::{AllocError, Global};
+use thp_history::PageId;
 use thp_live_pages::PageStore;
-use thp_model::PageId;
 
 impl Replay {
     /// Returns the pages in the deferred split queue, oldest first. It takes `&mut self` because each read of a link is counted;

@@ -1,17 +1,14 @@
 //! Which frames a page holds, which an event gives back, and the outcome of an unmap or an unpin.
 ghost use Rattle.std.specs.Prelude.{◌≡◌, ◌≤◌, ◌&&◌, not, IfOk};
-ghost use Rattle.thp_model.specs.Limits.{max_order};
-ghost use Rattle.thp_model.specs.Frames.{keeps_frame, is_held, released, outcome, places_live, block_in_use};
+ghost use Rattle.thp_history.specs.Limits.{max_order};
+ghost use Rattle.thp_history.specs.Frames.{keeps_frame, is_held, released, outcome, places_live, block_in_use};
 
 use super::pages::{is_closed, is_live, is_mapped, is_split, is_used, loses_use, pins};
 use super::passing::any_event;
 use super::places::stands;
 use super::underused::is_zero_filled;
-use crate::events::{Event, Outcome, PageId, What};
-use crate::limits::MAX_SUBPAGES;
-use crate::shape::Shape;
-use crate::sub_set::SubSet;
 use std::alloc::{AllocError, Global};
+use thp_history::{Event, MAX_SUBPAGES, Outcome, PageId, Shape, SubSet, What};
 
 // Whether a split of the page leaves subpage i its frame.
 fn keeps_frame(shape: Shape, events: &[Event], page: PageId, i: u32) -> bool

@@ -1,27 +1,23 @@
 //! Kind by kind: what an event does to a page, why a call is refused, and whether an event fits a history.
 ghost use Rattle.std.specs.Prelude.{◌≡◌, ◌<◌, ◌≤◌, ◌↔◌, ◌&&◌, not, IsTrue, true, false, None, Some, IfOk, slice_get};
-ghost use Rattle.thp_model.specs.Limits.{max_order};
-ghost use Rattle.thp_model.specs.declared.shape.Shape.{Shape};
-ghost use Rattle.thp_model.specs.Counts.{maps, unmaps, maps_whole, unmaps_whole, pins, pins_page, unpins_page, allocates, is_alloc, is_closed, is_freed, is_split, frees, splits, closes};
-ghost use Rattle.thp_model.specs.Sets.{covers};
-ghost use Rattle.thp_model.specs.Places.{flight, has_page};
-ghost use Rattle.thp_model.specs.Frames.{is_held, released};
-ghost use Rattle.thp_model.specs.Refusals as call;
-ghost use Rattle.thp_model.specs.Refusals.{refusal, first_of, no_page, bad_range, split_page, some_of};
-ghost use Rattle.thp_model.specs.Underused.{writes, zeroes, zero_after, unmaps_some, is_partly_mapped, is_worth_split};
-ghost use Rattle.thp_model.specs.Legal.{FitsBy, FitsAlloc, FitsTaken, FitsSplit, Gives, is_dropped};
+ghost use Rattle.thp_history.specs.Limits.{max_order};
+ghost use Rattle.thp_history.specs.declared.shape.Shape.{Shape};
+ghost use Rattle.thp_history.specs.Counts.{maps, unmaps, maps_whole, unmaps_whole, pins, pins_page, unpins_page, allocates, is_alloc, is_closed, is_freed, is_split, frees, splits, closes};
+ghost use Rattle.thp_history.specs.Sets.{covers};
+ghost use Rattle.thp_history.specs.Places.{flight, has_page};
+ghost use Rattle.thp_history.specs.Frames.{is_held, released};
+ghost use Rattle.thp_history.specs.Refusals as call;
+ghost use Rattle.thp_history.specs.Refusals.{refusal, first_of, no_page, bad_range, split_page, some_of};
+ghost use Rattle.thp_history.specs.Underused.{writes, zeroes, zero_after, unmaps_some, is_partly_mapped, is_worth_split};
+ghost use Rattle.thp_history.specs.Legal.{FitsBy, FitsAlloc, FitsTaken, FitsSplit, Gives, is_dropped};
 
 use super::frames::{block_in_use, is_held, outcome, released};
 use super::pages::{allocations, is_closed, is_live, is_split, own, pins, total, whole};
 use super::passing::any_below;
 use super::places::{flight, has_page, is_first, is_taking, queue};
 use super::underused::{is_partly_mapped, is_worth_split};
-use crate::events::{Event, Outcome, PageId, What};
-use crate::page_call::Done;
-use crate::refusal::Refusal;
-use crate::shape::Shape;
-use crate::sub_set::SubSet;
 use std::alloc::{AllocError, Global};
+use thp_history::{Done, Event, Outcome, PageId, Refusal, Shape, SubSet, What};
 
 // Whether a range covers subpage i.
 pub(super) fn covers(first: u32, count: u32, i: u32) -> bool

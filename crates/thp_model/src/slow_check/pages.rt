@@ -1,15 +1,14 @@
 //! The state of one page after a history: its map counts, its pins and its states.
 ghost use Rattle.std.specs.Prelude.{◌≡◌, ◌≤◌};
-ghost use Rattle.thp_model.specs.Limits.{max_order};
-ghost use Rattle.thp_model.specs.Counts.{allocations, total, is_split, whole, own, pins, is_mapped, loses_use, is_live, is_closed, is_used};
+ghost use Rattle.thp_history.specs.Limits.{max_order};
+ghost use Rattle.thp_history.specs.Counts.{allocations, total, is_split, whole, own, pins, is_mapped, loses_use, is_live, is_closed, is_used};
 
 use super::kinds::{
     allocates, closes, frees, is_alloc, maps, maps_whole, pins_page, splits, unmaps, unmaps_whole,
     unpins_page,
 };
 use super::passing::{any_below, any_event, count_events};
-use crate::events::{Event, PageId};
-use crate::shape::Shape;
+use thp_history::{Event, PageId, Shape};
 
 // How many pages were allocated.
 pub(super) fn allocations(events: &[Event]) -> usize

@@ -1,11 +1,11 @@
 //! Counts and tests over events, and over the numbers below a bound.
 ghost use Rattle.std.specs.Prelude.{◌≡◌, ℕ, Bool};
-ghost use Rattle.thp_model.specs.declared.events.What.{What};
-ghost use Rattle.thp_model.specs.Asking.{AsksBelow, AsksEvents};
-ghost use Rattle.thp_model.specs.History.{count_of, some_event};
-ghost use Rattle.thp_model.specs.Sets.{count_below, some_below};
+ghost use Rattle.thp_history.specs.declared.events.What.{What};
+ghost use Rattle.thp_history.specs.Asking.{AsksBelow, AsksEvents};
+ghost use Rattle.thp_history.specs.History.{count_of, some_event};
+ghost use Rattle.thp_history.specs.Sets.{count_below, some_below};
 
-use crate::events::{Event, What};
+use thp_history::{Event, What};
 
 // How many events pass a test of what happened.
 pub(super) fn count_events<F: Fn(&What) -> bool>(events: &[Event], test: F) -> usize

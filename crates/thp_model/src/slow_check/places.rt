@@ -1,11 +1,10 @@
 //! The list that each page is on: the queue, or the flight of the caller that took it.
 ghost use Rattle.std.specs.Prelude.{◌≡◌, ◌↔◌, IsTrue, IfOk, OnOk, Some, slice_get};
-ghost use Rattle.thp_model.specs.Places.{queue, queue_by, queue_after, flights, flights_by, flights_after, flight, leaves, standing, stands, has_page, takes_by, is_taking};
+ghost use Rattle.thp_history.specs.Places.{queue, queue_by, queue_after, flights, flights_by, flights_after, flight, leaves, standing, stands, has_page, takes_by, is_taking};
 
-use crate::events::{Event, Outcome, PageId, What};
-use crate::shape::Shape;
 use std::alloc::{AllocError, Global};
 use std::collections::VecDeque;
+use thp_history::{Event, Outcome, PageId, Shape, What};
 
 // The queue after an outcome of the page.
 fn queue_outcome(

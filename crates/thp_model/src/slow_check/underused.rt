@@ -1,14 +1,13 @@
 //! Which subpages of a page are zero-filled, and whether the page is worth a split.
 ghost use Rattle.std.specs.Prelude.{◌≡◌, ◌≤◌, ◌&&◌};
-ghost use Rattle.thp_model.specs.Limits.{max_order};
-ghost use Rattle.thp_model.specs.Counts.{is_mapped, loses_use};
-ghost use Rattle.thp_model.specs.Underused.{is_zero_filled, is_partly_mapped, is_above, zero_filled, is_underused, is_worth_split, unmaps_some};
+ghost use Rattle.thp_history.specs.Limits.{max_order};
+ghost use Rattle.thp_history.specs.Counts.{is_mapped, loses_use};
+ghost use Rattle.thp_history.specs.Underused.{is_zero_filled, is_partly_mapped, is_above, zero_filled, is_underused, is_worth_split, unmaps_some};
 
 use super::kinds::{unmaps_some, zero_after};
 use super::pages::{is_mapped, loses_use};
 use super::passing::how_many_below;
-use crate::events::{Event, PageId, What};
-use crate::shape::Shape;
+use thp_history::{Event, PageId, Shape, What};
 
 // Whether subpage i of the page is zero-filled.
 pub(super) fn is_zero_filled(events: &[Event], page: PageId, i: u32) -> bool

@@ -1,7 +1,7 @@
 //! The shrinker's calls: a take, tries, a put back, and the scan that combines them.
 ghost use Rattle.std.specs.Prelude.{◌≡◌, ℕ, ◌+◌, ◌*◌, ◌<◌, ◌≤◌, Bool, true, false, ◌||◌, [], ◌∷◌, length, drop, take, slice_get, min, Option, None, Some, IsSome, IfOk, IfErr, IfSome, IfNone, OnOk, OnErr};
-ghost use Rattle.thp_model.specs.Prelude.{max_batch, max_callers, by, is_closed, IsLegal, queue, flight, no_pages, is_taking, has_page, refusal, take_events, split_next_events, put_back_events, scan_events, next_page, rest_after, still_flying, try_event, return_event};
-ghost use Rattle.thp_model.specs.Refusals as call;
+ghost use Rattle.thp_history.specs.Prelude.{max_batch, max_callers, by, is_closed, IsLegal, queue, flight, no_pages, is_taking, has_page, refusal, take_events, split_next_events, put_back_events, scan_events, next_page, rest_after, still_flying, try_event, return_event};
+ghost use Rattle.thp_history.specs.Refusals as call;
 ghost use Rattle.thp_node.specs.Batches.{rest, tried, IsInFront, FrontsStay, OtherFrontsStay, OlderAreInFront};
 ghost use Rattle.thp_node.specs.Calls.{Did, Refused};
 ghost use Rattle.thp_live_pages.specs.Prelude.{block_of};
@@ -11,10 +11,10 @@ use crate::batch::Batch;
 use crate::journal::EventContext;
 use crate::node::Node;
 use crate::recorder::Recorder;
-use thp_model::{PageId, Refusal, What};
+use thp_history::{PageId, Refusal, What};
 
 impl<R: Recorder> Node<R> {
-    ghost use Rattle.thp_model.specs.Prelude.{is_split_candidate, is_worth_split};
+    ghost use Rattle.thp_history.specs.Prelude.{is_split_candidate, is_worth_split};
     ghost use Rattle.thp_page.specs.Prelude.{slot_at};
     ghost use Rattle.thp_live_pages.specs.Prelude.{IsFlyingAt, IsUnpinnedAt, AtSlot};
 

@@ -1,14 +1,14 @@
 //! The calls about the node: an allocation, and the close.
 ghost use Rattle.std.specs.Prelude.{◌≡◌, ℕ, ◌<◌, [], ◌∷◌, None, IfOk, IfErr, OnOk};
-ghost use Rattle.thp_model.specs.Prelude.{max_callers, allocations, by, refusal};
-ghost use Rattle.thp_model.specs.Refusals as call;
+ghost use Rattle.thp_history.specs.Prelude.{max_callers, allocations, by, refusal};
+ghost use Rattle.thp_history.specs.Refusals as call;
 ghost use Rattle.thp_node.specs.Batches.{FrontsStay};
 ghost use Rattle.thp_node.specs.Calls.{Did, DidAlloc, Refused};
 
 use crate::journal::EventContext;
 use crate::node::Node;
 use crate::recorder::Recorder;
-use thp_model::{PageId, Refusal, What};
+use thp_history::{PageId, Refusal, What};
 
 impl<R: Recorder> Node<R> {
     /// Allocates a page, mapped whole once, in a block that holds no live page. The page's number is the number of allocations

@@ -1,7 +1,7 @@
 //! The calls about one page: its mappings, its pins, and writes to it.
 ghost use Rattle.std.specs.Prelude.{◌≡◌, ℕ, ◌<◌, ◌≤◌, [], ◌∷◌, None, Some, IfOk, IfErr, OnOk};
-ghost use Rattle.thp_model.specs.Prelude.{max_callers, by, outcome, released, refusal, gain_call, loss_call, page_call, gain_what, loss_what};
-ghost use Rattle.thp_model.specs.Refusals as call;
+ghost use Rattle.thp_history.specs.Prelude.{max_callers, by, outcome, released, refusal, gain_call, loss_call, page_call, gain_what, loss_what};
+ghost use Rattle.thp_history.specs.Refusals as call;
 ghost use Rattle.thp_node.specs.Batches.{FrontsStay};
 ghost use Rattle.thp_node.specs.Calls.{Did, Refused};
 ghost use Rattle.thp_page.specs.Prelude.{slot_at, HoldsPage};
@@ -10,7 +10,7 @@ ghost use Rattle.thp_live_pages.specs.Prelude.{block_of};
 use crate::journal::EventContext;
 use crate::node::Node;
 use crate::recorder::Recorder;
-use thp_model::{Done, Gain, Loss, PageCall, PageId, Refusal, What};
+use thp_history::{Done, Gain, Loss, PageCall, PageId, Refusal, What};
 
 impl<R: Recorder> Node<R> {
     /// Maps the whole page once more, by a PMD entry. Fails with `NoPage`, `IsSplit`, `TooMany` or `OutOfMemory`.

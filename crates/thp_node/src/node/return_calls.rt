@@ -1,7 +1,7 @@
 //! The calls by which pages leave a batch together: a put back, and the scan, which is a take, tries and a put back.
 ghost use Rattle.std.specs.Prelude.{◌≡◌, not, ◌&&◌, ℕ, ◌*◌, ◌<◌, ◌≤◌, [], ◌∷◌, length, map, take, count_by, slice_get, None, Some, IfOk, IfErr, OnOk};
-ghost use Rattle.thp_model.specs.Prelude.{max_batch, max_callers, IsLegal, flight, refusal, take_events, put_back_events, scan_events, still_flying, try_event, return_event, goes_back};
-ghost use Rattle.thp_model.specs.Refusals as call;
+ghost use Rattle.thp_history.specs.Prelude.{max_batch, max_callers, IsLegal, flight, refusal, take_events, put_back_events, scan_events, still_flying, try_event, return_event, goes_back};
+ghost use Rattle.thp_history.specs.Refusals as call;
 ghost use Rattle.thp_node.specs.Batches.{back_reply, scan_reply, IsInFront, FrontsStay};
 ghost use Rattle.thp_node.specs.Calls.{Did, Refused};
 ghost use Rattle.thp_live_pages.specs.Prelude.{block_of};
@@ -13,7 +13,7 @@ use crate::journal::EventContext;
 use crate::node::Node;
 use crate::recorder::Recorder;
 use arrayvec::ArrayVec;
-use thp_model::{MAX_BATCH, PageId, Refusal, What};
+use thp_history::{MAX_BATCH, PageId, Refusal, What};
 
 impl<R: Recorder> Node<R> {
     ghost use Rattle.thp_live_pages.specs.Prelude.{IsFlyingAt};

@@ -1,12 +1,12 @@
 //! The calls of a page, as a value and by name, with the tests that refuse them.
 ghost use Rattle.std.specs.Prelude.{◌≡◌, ℕ, ◌+◌, ◌≤◌, OnOk, OnErr, IfOk, None};
 ghost use Rattle.std.specs.Result.{result_err};
-ghost use Rattle.thp_model.specs.Prelude.{max_subpages, page_refusal, WholeMapped, WholeUnmapped, RangeMapped, RangeUnmapped, PmdSplit, RangeWritten, RangeZeroed, gain_call, Gains, loss_call, Loses, page_call};
-ghost use Rattle.thp_model.specs.Pages.{Pinned};
-ghost use Rattle.thp_model.specs.Refusals as call;
+ghost use Rattle.thp_history.specs.Prelude.{max_subpages, page_refusal, WholeMapped, WholeUnmapped, RangeMapped, RangeUnmapped, PmdSplit, RangeWritten, RangeZeroed, gain_call, Gains, loss_call, Loses, page_call};
+ghost use Rattle.thp_history.specs.Pages.{Pinned};
+ghost use Rattle.thp_history.specs.Refusals as call;
 
 use super::{Change, Page};
-use thp_model::{Gain, Loss, PageCall, Refusal, SubSet};
+use thp_history::{Gain, Loss, PageCall, Refusal, SubSet};
 
 impl Page {
     ghost use Rattle.thp_page.specs.Changes.{IsChange};
@@ -225,7 +225,7 @@ impl Page {
     }
 
     // Fails with the reason why `map_whole` would be refused.
-    #[tactic(auto, using(crate::proofs::PageSizes::whole_range), unfolding(thp_model::specs::Pages::page_refusal))]
+    #[tactic(auto, using(crate::proofs::PageSizes::whole_range), unfolding(thp_history::specs::Pages::page_refusal))]
     fn check_map_whole(&self) -> Result<(), Refusal>
         ensures { (p : ℕ) → result_err result ≡ page_refusal self.now (call.map_whole p) }
     {
@@ -239,7 +239,7 @@ impl Page {
     }
 
     // Fails with the reason why `unmap_whole` and `split_pmd` would be refused.
-    #[tactic(auto, unfolding(thp_model::specs::Pages::page_refusal))]
+    #[tactic(auto, unfolding(thp_history::specs::Pages::page_refusal))]
     fn check_unmap_whole(&self) -> Result<(), Refusal>
         ensures unmap { (p : ℕ) → result_err result ≡ page_refusal self.now (call.unmap_whole p) }
         ensures split { (p : ℕ) → result_err result ≡ page_refusal self.now (call.split_pmd p) }
@@ -254,7 +254,7 @@ impl Page {
     }
 
     // Fails with the reason why `map_sub` would be refused.
-    #[tactic(auto, unfolding(thp_model::specs::Pages::page_refusal))]
+    #[tactic(auto, unfolding(thp_history::specs::Pages::page_refusal))]
     #[inline(always)]
     fn check_map_sub(&self, first: u32, count: u32) -> Result<(), Refusal>
         ensures { (p : ℕ) → result_err result ≡ page_refusal self.now (call.map_sub p first count) }
@@ -273,7 +273,7 @@ impl Page {
     }
 
     // Fails with the reason why `unmap_sub` would be refused.
-    #[tactic(auto, unfolding(thp_model::specs::Pages::page_refusal))]
+    #[tactic(auto, unfolding(thp_history::specs::Pages::page_refusal))]
     #[inline(always)]
     fn check_unmap_sub(&self, first: u32, count: u32) -> Result<(), Refusal>
         ensures { (p : ℕ) → result_err result ≡ page_refusal self.now (call.unmap_sub p first count) }
@@ -288,7 +288,7 @@ impl Page {
     }
 
     // Fails with the reason why `pin` would be refused.
-    #[tactic(auto, unfolding(thp_model::specs::Pages::page_refusal))]
+    #[tactic(auto, unfolding(thp_history::specs::Pages::page_refusal))]
     #[inline(always)]
     fn check_pin(&self) -> Result<(), Refusal>
         ensures { (p : ℕ) → result_err result ≡ page_refusal self.now (call.pin p) }
@@ -303,7 +303,7 @@ impl Page {
     }
 
     // Fails with the reason why `unpin` would be refused.
-    #[tactic(auto, unfolding(thp_model::specs::Pages::page_refusal))]
+    #[tactic(auto, unfolding(thp_history::specs::Pages::page_refusal))]
     #[inline(always)]
     fn check_unpin(&self) -> Result<(), Refusal>
         ensures { (p : ℕ) → result_err result ≡ page_refusal self.now (call.unpin p) }
@@ -318,7 +318,7 @@ impl Page {
     }
 
     // Fails with the reason why `write` and `zero` would be refused.
-    #[tactic(auto, unfolding(thp_model::specs::Pages::page_refusal))]
+    #[tactic(auto, unfolding(thp_history::specs::Pages::page_refusal))]
     fn check_write(&self, first: u32, count: u32) -> Result<(), Refusal>
         ensures data { (p : ℕ) → result_err result ≡ page_refusal self.now (call.write p first count) }
         ensures zeros { (p : ℕ) → result_err result ≡ page_refusal self.now (call.zero_fill p first count) }

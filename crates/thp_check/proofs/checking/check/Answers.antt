@@ -1,7 +1,7 @@
 use Rattle.std.proofs.Common.{List, take, sym, subst, arith}
-use Rattle.thp_model.specs.declared.events.Event.{Event}
-use Rattle.thp_model.proofs.LegalSteps.{first_misfit}
-use Rattle.thp_model.proofs.ListPlaces.{step_of}
+use Rattle.thp_history.specs.declared.events.Event.{Event}
+use Rattle.thp_history.proofs.LegalSteps.{first_misfit}
+use Rattle.thp_history.proofs.ListPlaces.{step_of}
 use Rattle.thp_check.specs.Prelude.{Means}
 use Rattle.thp_check.proofs.Beginning.{few_pages}
 use Rattle.thp_check.proofs.checking.check.Goals as goal

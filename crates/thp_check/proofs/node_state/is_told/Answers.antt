@@ -1,5 +1,5 @@
 use Rattle.std.proofs.Common.{◌≡◌, inl, inr, rules, ap, sym, ◌∙◌}
-use Rattle.thp_model.proofs.WordLemmas.{same_set-Decides}
+use Rattle.thp_history.proofs.WordLemmas.{same_set-Decides}
 use Rattle.thp_check.proofs.PageEvents.{frames_in, outcome_in, told_by}
 use Rattle.thp_check.proofs.node_state.is_told.Goals as goal
 

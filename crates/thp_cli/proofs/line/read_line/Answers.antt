@@ -1,5 +1,5 @@
 use Rattle.std.proofs.Common.{arith}
-use Rattle.thp_model.specs.Prelude.{max_blocks}
+use Rattle.thp_history.specs.Prelude.{max_blocks}
 use Rattle.thp_script.specs.Prelude.{max_nodes, max_workers}
 use Rattle.thp_cli.proofs.CommandLineLaws.{memory_fails, parse_fails, parse_done, line_held}
 use Rattle.thp_cli.proofs.line.read_line.Goals as goal

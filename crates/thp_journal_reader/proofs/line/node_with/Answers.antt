@@ -1,6 +1,6 @@
 use Rattle.std.proofs.Common.{◌≡◌, ◌≤◌, ◌<◌, ◌^◌, ℕ, Option, Some, IfSome}
-use Rattle.thp_model.specs.declared.shape.Shape.{Shape}
-use Rattle.thp_model.specs.Prelude.{subpages, IsShape}
+use Rattle.thp_history.specs.declared.shape.Shape.{Shape}
+use Rattle.thp_history.specs.Prelude.{subpages, IsShape}
 use Rattle.thp_journal_reader.proofs.line.node_with.Goals as goal
 
 -- the threshold, where there is one, keeps to its bound

@@ -1,5 +1,5 @@
 use Rattle.std.proofs.Common.{◌≡◌, ◌∙◌, ◌||◌, Bool, List, [], ◌∷◌, ◌++◌, ap, arith, rules, length}
-use Rattle.thp_model.specs.Prelude.{has, set_of}
+use Rattle.thp_history.specs.Prelude.{has, set_of}
 use Rattle.thp_journal_reader.specs.Prelude.{covers_number}
 use Rattle.thp_journal_reader.proofs.SetLaws.{length-set_with, read_none, read_run_more, runs_end, runs_fail, set_with_none, set_with_push}
 use Rattle.thp_journal_reader.proofs.set_text.set_of_runs.Goals as goal

@@ -1,7 +1,8 @@
 use Rattle.std.proofs.Common.{List, take, sym, subst}
-use Rattle.thp_model.specs.Prelude.{Event, IsLegal, FitsBy}
-use Rattle.thp_model.proofs.LegalSteps.{first_misfit, legal_push}
-use Rattle.thp_model.proofs.ListPlaces.{step_of}
+use Rattle.thp_history.specs.Prelude.{IsLegal, FitsBy}
+use Rattle.thp_history.specs.declared.events.Event.{Event}
+use Rattle.thp_history.proofs.LegalSteps.{first_misfit, legal_push}
+use Rattle.thp_history.proofs.ListPlaces.{step_of}
 use Rattle.thp_model.proofs.slow_check.check.Goals as goal
 
 pub returns-in-Ok-false-clause-illegal : goal.returns-in-Ok-false-clause-illegal

@@ -1,5 +1,5 @@
 use Rattle.std.proofs.Common.{take}
-use Rattle.thp_model.specs.Prelude.{IsLegal}
+use Rattle.thp_history.specs.Prelude.{IsLegal}
 use Rattle.thp_model.proofs.slow_check.check.Given as goal
 
 -- the events so far are legal

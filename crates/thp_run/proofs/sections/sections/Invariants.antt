@@ -1,6 +1,6 @@
 use Rattle.std.proofs.Common.{◌≡◌, ◌++◌, ◌∷◌, ◌≤◌, ◌+◌, length}
 use Rattle.std.specs.Vec.Iter.{into_iter_items}
-use Rattle.thp_model.specs.Prelude.{max_callers}
+use Rattle.thp_history.specs.Prelude.{max_callers}
 use Rattle.thp_run.specs.Sections.{numbered}
 use Rattle.thp_run.proofs.sections.sections.Given as goal
 

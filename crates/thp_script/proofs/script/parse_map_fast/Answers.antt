@@ -1,8 +1,8 @@
 use Rattle.std.proofs.Common.{codes}
 use Rattle.thp_script.specs.Prelude.{OfPage, OfRange}
 use Rattle.thp_script.specs.declared.script.RangeCall.TheVariants as range
-use Rattle.thp_model.specs.declared.page_call.Gain.TheVariants as gain
-use Rattle.thp_model.specs.declared.page_call.PageCall.TheVariants as either
+use Rattle.thp_history.specs.declared.page_call.Gain.TheVariants as gain
+use Rattle.thp_history.specs.declared.page_call.PageCall.TheVariants as either
 use Rattle.thp_script.proofs.FastParsingLaws.{map_is, mapwhole_is, named}
 use Rattle.thp_script.proofs.script.parse_map_fast.Goals as goal
 

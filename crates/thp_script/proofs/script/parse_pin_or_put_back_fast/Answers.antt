@@ -1,8 +1,8 @@
 use Rattle.std.proofs.Common.{codes}
 use Rattle.thp_script.specs.Prelude.{OfNode, OfPage}
 use Rattle.thp_script.specs.declared.script.Op.TheVariants.{PutBack}
-use Rattle.thp_model.specs.declared.page_call.Gain.TheVariants as gain
-use Rattle.thp_model.specs.declared.page_call.PageCall.TheVariants as either
+use Rattle.thp_history.specs.declared.page_call.Gain.TheVariants as gain
+use Rattle.thp_history.specs.declared.page_call.PageCall.TheVariants as either
 use Rattle.thp_script.proofs.FastParsingLaws.{pin_is, putback_is, named}
 use Rattle.thp_script.proofs.script.parse_pin_or_put_back_fast.Goals as goal
 

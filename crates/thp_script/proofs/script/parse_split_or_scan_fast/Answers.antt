@@ -2,8 +2,8 @@ use Rattle.std.proofs.Common.{codes}
 use Rattle.thp_script.specs.declared.script.BatchCall.TheVariants as batch
 use Rattle.thp_script.specs.Prelude.{OfNode, OfPage, OfBatch}
 use Rattle.thp_script.specs.declared.script.Op.TheVariants.{SplitNext}
-use Rattle.thp_model.specs.declared.page_call.Gain.TheVariants as gain
-use Rattle.thp_model.specs.declared.page_call.PageCall.TheVariants as either
+use Rattle.thp_history.specs.declared.page_call.Gain.TheVariants as gain
+use Rattle.thp_history.specs.declared.page_call.PageCall.TheVariants as either
 use Rattle.thp_script.proofs.FastParsingLaws.{splitpmd_is, scan_is, splitnext_is, named}
 use Rattle.thp_script.proofs.script.parse_split_or_scan_fast.Goals as goal
 

@@ -1,5 +1,5 @@
 use Rattle.std.proofs.Common.{◌∙◌, ◌<◌, arith, sym, refl, false, length-set}
-use Rattle.thp_model.proofs.Options.{not_there}
+use Rattle.thp_history.proofs.Options.{not_there}
 use Rattle.thp_worker.specs.Prelude.{Reaction, answer_of, no_progress, PutsBack}
 use Rattle.thp_worker.proofs.StepLaws.{goes_trans}
 use Rattle.thp_worker.proofs.CommandLaws.{cell_comes}

@@ -1,6 +1,6 @@
 use Rattle.std.proofs.Common.{◌≡◌, ◌∙◌, ap, arith, get_or, length, refl, sym, Some, slice_get, length-set}
 use Rattle.std.proofs.lemmas.Option.{slice_get-get_or}
-use Rattle.thp_model.proofs.Options.{not_there}
+use Rattle.thp_history.proofs.Options.{not_there}
 use Rattle.thp_script.specs.declared.script.Op.TheVariants.{Alloc}
 use Rattle.thp_worker.proofs.StepLaws.{goes_trans}
 use Rattle.thp_worker.proofs.SectionLaws.{begun_on, begins_told, begins_stop, ends_first, works_stop}

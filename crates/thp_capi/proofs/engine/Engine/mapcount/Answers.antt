@@ -1,7 +1,7 @@
 -- What the table has of the subpage is what the journal determines.
 use Rattle.std.proofs.Common.{◌≡◌, ◌∙◌, ◌<◌, ◌≤◌, ap, sym, arith, cond, nat_lt, true, ℕ}
-use Rattle.thp_model.specs.Prelude.{is_live, own, own_at, subpages}
-use Rattle.thp_model.proofs.Tallying.{own_is, size_is}
+use Rattle.thp_history.specs.Prelude.{is_live, own, own_at, subpages}
+use Rattle.thp_history.proofs.Tallying.{own_is, size_is}
 use Rattle.thp_capi.specs.Engines.{EngineState}
 use Rattle.thp_capi.proofs.Reading.{at_block, page_is, unseen}
 use Rattle.thp_capi.proofs.engine.Engine.mapcount.Goals as goal

@@ -1,6 +1,6 @@
 -- What the table has of the page is what the journal determines.
 use Rattle.std.proofs.Common.{◌∙◌, ap, sym}
-use Rattle.thp_model.specs.Prelude.{is_live}
+use Rattle.thp_history.specs.Prelude.{is_live}
 use Rattle.thp_capi.specs.Engines.{EngineState}
 use Rattle.thp_capi.specs.Reading.{page_state_of}
 use Rattle.thp_capi.proofs.Reading.{at_block, page_is, standing_is, state_is, unseen}

@@ -1,6 +1,6 @@
 -- Where no batch is open none has to be in front of a flight.
 use Rattle.std.proofs.Common.{◌≡◌, ◌∙◌, ◌+◌, ℕ, None, get_or, length, subst, sym}
-use Rattle.thp_model.specs.Prelude.{max_callers}
+use Rattle.thp_history.specs.Prelude.{max_callers}
 use Rattle.thp_node.specs.Prelude.{NodeState}
 use Rattle.thp_capi.specs.Engines.{IsEngine, NoneOpen}
 use Rattle.thp_capi.proofs.Places.{Batches, for_none}

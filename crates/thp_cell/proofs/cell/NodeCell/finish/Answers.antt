@@ -1,8 +1,8 @@
 -- The node is in the slot at the end, and its journal is the pass's front.
 use Rattle.std.proofs.Common.{◌≡◌, ◌∙◌, ◌<◌, arith, subst, ap, sym, false, All}
 use Rattle.std.proofs.lemmas.List.Elements.{All-weaker}
-use Rattle.thp_model.specs.declared.events.Event.{Event}
-use Rattle.thp_model.specs.Prelude.{events_of}
+use Rattle.thp_history.specs.declared.events.Event.{Event}
+use Rattle.thp_history.specs.Prelude.{events_of}
 use Rattle.thp_node.specs.Prelude.{NodeState}
 use Rattle.thp_cell.specs.Prelude.{IsOwn, returning_node, IsWhole, PassState, HasAll, Place, pass_state}
 use Rattle.thp_cell.proofs.Ending.{EndsWith, ends}

@@ -1,6 +1,6 @@
 -- The join of two seats and the load after it keep the rule, and tell that both fronts begin the new one.
 use Rattle.std.proofs.Common.{rules, arith, ap, subst, sym, ◌∙◌, ◌≡◌, ◌≤◌, ◌<◌, [], false}
-use Rattle.thp_model.specs.Prelude.{IsLegal}
+use Rattle.thp_history.specs.Prelude.{IsLegal}
 use Rattle.thp_cell.specs.Prelude.{SeatValue, PassState, returning_node, IsJoined, known_state, pass_state}
 use Rattle.thp_cell.proofs.Keeping.{free_state}
 use Rattle.thp_cell.proofs.Locking.{looks_at}

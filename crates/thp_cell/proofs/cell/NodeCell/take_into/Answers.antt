@@ -1,7 +1,7 @@
 -- One call of the node within a hold.
 use Rattle.std.proofs.Common.{rules, refl, length}
-use Rattle.thp_model.specs.Prelude.{refusal, take_events}
-use Rattle.thp_model.specs.Refusals as call
+use Rattle.thp_history.specs.Prelude.{refusal, take_events}
+use Rattle.thp_history.specs.Refusals as call
 use Rattle.thp_cell.specs.Prelude.{DidTake}
 use Rattle.thp_cell.proofs.Calling.{holds, may_leave, after, went, batches_stay, refused, called}
 use Rattle.thp_cell.proofs.cell.NodeCell.take_into.Goals as goal

@@ -1,6 +1,6 @@
 use Rattle.std.proofs.Common.{◌≡◌, Bool, ℕ, Contains, refl, sym, ◌∙◌, subst}
-use Rattle.thp_model.specs.Prelude.{PageSplit, shrinks_underused}
-use Rattle.thp_model.proofs.WordLemmas.{same_set-Decides}
+use Rattle.thp_history.specs.Prelude.{PageSplit, shrinks_underused}
+use Rattle.thp_history.proofs.WordLemmas.{same_set-Decides}
 use Rattle.thp_check.proofs.Deciding.{differs, agrees}
 use Rattle.thp_check.specs.Prelude.{blocks_in}
 use Rattle.thp_check.proofs.TakeSteps.{split_absent, split_idle, split_pinned, split_goes, split_differs, flies_whole, same_slot, is_there, same_some}

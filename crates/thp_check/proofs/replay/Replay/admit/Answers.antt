@@ -1,7 +1,7 @@
 use Rattle.std.proofs.Common.{◌≡◌, ◌∙◌, ◌++◌, ◌∷◌, [], length, ap, arith, subst, sym}
-use Rattle.thp_model.specs.declared.events.Event.{Event}
-use Rattle.thp_model.specs.declared.shape.Shape.{Shape}
-use Rattle.thp_model.specs.Prelude.{allocations, is_alloc, History, in_words}
+use Rattle.thp_history.specs.declared.events.Event.{Event}
+use Rattle.thp_history.specs.declared.shape.Shape.{Shape}
+use Rattle.thp_history.specs.Prelude.{allocations, is_alloc, History, in_words}
 use Rattle.thp_live_pages.proofs.Starting.{few_events}
 use Rattle.thp_check.specs.Prelude.{NodeState, Tally, free_after, MarksFree, Means, Replayed, AddsUp, HasRoom}
 use Rattle.thp_check.proofs.FreeMarks.{freed_inside, marks_push}

@@ -1,5 +1,5 @@
 use Rattle.std.proofs.Common.{◌≡◌, ℕ, List, ap, ◌∙◌, subst, IfOk}
-use Rattle.thp_model.specs.Prelude.{flight}
+use Rattle.thp_history.specs.Prelude.{flight}
 use Rattle.thp_check.specs.Prelude.{NodeState, blocks_in, Replayed}
 use Rattle.thp_check.proofs.Showing.{each_of, pages_are}
 use Rattle.thp_check.proofs.replay.Replay.flight.Goals as goal

@@ -1,5 +1,5 @@
 use Rattle.std.proofs.Common.{◌∙◌, ap, arith}
-use Rattle.thp_model.specs.Prelude.{frames_held, subpages}
+use Rattle.thp_history.specs.Prelude.{frames_held, subpages}
 use Rattle.thp_check.specs.Prelude.{NodeState, Tally, Replayed}
 use Rattle.thp_check.proofs.Totals.{all_frames}
 use Rattle.thp_check.proofs.replay.Replay.frames_held.Goals as goal

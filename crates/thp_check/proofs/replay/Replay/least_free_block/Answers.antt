@@ -1,5 +1,5 @@
 use Rattle.std.proofs.Common.{◌∙◌, ap}
-use Rattle.thp_model.specs.Prelude.{least_free}
+use Rattle.thp_history.specs.Prelude.{least_free}
 use Rattle.thp_check.specs.Prelude.{Replayed}
 use Rattle.thp_check.proofs.FreeMarks.{least_found, least_missing}
 use Rattle.thp_check.proofs.replay.Replay.least_free_block.Goals as goal

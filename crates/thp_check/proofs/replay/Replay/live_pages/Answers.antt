@@ -1,6 +1,6 @@
 use Rattle.std.proofs.Common.{◌≡◌, ℕ, List, Some, map, length, ap, sym, ◌∙◌, subst}
 use Rattle.std.specs.List.{filter, range_with_len}
-use Rattle.thp_model.specs.Prelude.{block_in_use}
+use Rattle.thp_history.specs.Prelude.{block_in_use}
 use Rattle.thp_live_pages.specs.Prelude.{block_of}
 use Rattle.thp_check.specs.Prelude.{NodeState, Replayed, is_taken, page_at}
 use Rattle.thp_check.proofs.Showing.{each_of, pages_are, lie_there, live_lie, if_ok_then}

@@ -1,6 +1,6 @@
 use Rattle.std.proofs.Common.{◌≡◌, ℕ, List, [], sym, ◌∙◌, subst}
-use Rattle.thp_model.specs.declared.shape.Shape.{Shape}
-use Rattle.thp_model.specs.Prelude.{History}
+use Rattle.thp_history.specs.declared.shape.Shape.{Shape}
+use Rattle.thp_history.specs.Prelude.{History}
 use Rattle.thp_check.specs.Prelude.{NodeState, MarksFree, Means, AddsUp, Tally}
 use Rattle.thp_check.proofs.FreeMarks.{marks_none}
 use Rattle.thp_check.proofs.Totals.{adds_none}

@@ -1,5 +1,5 @@
 use Rattle.std.proofs.Common.{◌≡◌, List, ℕ, ap, sym, ◌∙◌, subst, slice_get, IsSome}
-use Rattle.thp_model.specs.Prelude.{queue}
+use Rattle.thp_history.specs.Prelude.{queue}
 use Rattle.thp_page.specs.Prelude.{slot_at}
 use Rattle.thp_live_pages.specs.Prelude.{AtSlot}
 use Rattle.thp_check.specs.Prelude.{NodeState, Replayed}

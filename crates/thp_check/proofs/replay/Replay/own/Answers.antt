@@ -1,6 +1,6 @@
 use Rattle.std.proofs.Common.{◌≡◌, ℕ, ◌<◌, Bool, true, false, cond, ◌&&◌, nat_lt, refl, ap, sym, ◌∙◌, arith}
-use Rattle.thp_model.specs.Prelude.{is_live, own, own_at, subpages}
-use Rattle.thp_model.proofs.Tallying.{own_is, size_is}
+use Rattle.thp_history.specs.Prelude.{is_live, own, own_at, subpages}
+use Rattle.thp_history.proofs.Tallying.{own_is, size_is}
 use Rattle.thp_check.specs.Prelude.{NodeState, Replayed}
 use Rattle.thp_check.proofs.Showing.{seen, unseen}
 use Rattle.thp_check.proofs.replay.Replay.own.Goals as goal

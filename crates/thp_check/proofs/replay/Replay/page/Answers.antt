@@ -1,6 +1,6 @@
 use Rattle.std.proofs.Common.{◌&&◌, nat_lt, ap, sym, ◌∙◌, is_some}
-use Rattle.thp_model.specs.Prelude.{is_live, is_used, pins, whole, is_held, is_split_candidate, set_of, subpages, is_worth_split, is_zero_filled}
-use Rattle.thp_model.proofs.Tallying.{pins_is, whole_is}
+use Rattle.thp_history.specs.Prelude.{is_live, is_used, pins, whole, is_held, is_split_candidate, set_of, subpages, is_worth_split, is_zero_filled}
+use Rattle.thp_history.proofs.Tallying.{pins_is, whole_is}
 use Rattle.thp_live_pages.proofs.Worth.{worth_is}
 use Rattle.thp_check.specs.Prelude.{NodeState, Replayed}
 use Rattle.thp_check.proofs.Showing.{seen, unseen, shrinks_is, used_is, zero_is, frames_are}

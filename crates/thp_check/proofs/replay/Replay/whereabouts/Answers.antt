@@ -1,5 +1,5 @@
 use Rattle.std.proofs.Common.{ap, sym, ◌∙◌}
-use Rattle.thp_model.specs.Prelude.{is_live}
+use Rattle.thp_history.specs.Prelude.{is_live}
 use Rattle.thp_check.specs.Prelude.{NodeState, Replayed}
 use Rattle.thp_check.proofs.Showing.{seen, unseen}
 use Rattle.thp_check.proofs.replay.Replay.whereabouts.Goals as goal

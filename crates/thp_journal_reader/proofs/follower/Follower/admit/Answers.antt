@@ -1,10 +1,10 @@
 use Rattle.std.proofs.Common.{◌≡◌, ◌∙◌, ℕ, None, ap, refl, sym}
 use Rattle.std.proofs.lemmas.Result.{IfOk-weaker}
-use Rattle.thp_model.proofs.Options.{not_there}
-use Rattle.thp_model.specs.declared.events.Event.{Event}
-use Rattle.thp_model.specs.declared.events.What.{What}
-use Rattle.thp_model.specs.declared.events.What.TheVariants.{Alloc}
-use Rattle.thp_model.specs.Prelude.{least_free, with_block}
+use Rattle.thp_history.proofs.Options.{not_there}
+use Rattle.thp_history.specs.declared.events.Event.{Event}
+use Rattle.thp_history.specs.declared.events.What.{What}
+use Rattle.thp_history.specs.declared.events.What.TheVariants.{Alloc}
+use Rattle.thp_history.specs.Prelude.{least_free, with_block}
 use Rattle.thp_journal_reader.specs.Prelude.{on_last, with_event}
 use Rattle.thp_journal_reader.proofs.FollowLaws.{at_hand_is, follows_none, none_is, still}
 use Rattle.thp_journal_reader.proofs.follower.Follower.admit.Goals as goal

@@ -1,6 +1,6 @@
 use Rattle.std.proofs.Common.{◌≡◌, ◌∙◌, None, inl, sym}
 use Rattle.std.proofs.lemmas.Result.{IfOk-weaker}
-use Rattle.thp_model.proofs.Options.{not_there}
+use Rattle.thp_history.proofs.Options.{not_there}
 use Rattle.thp_journal_reader.proofs.FollowLaws.{at_hand_is, ends, none_ended, none_is}
 use Rattle.thp_journal_reader.proofs.follower.Follower.end.Goals as goal
 

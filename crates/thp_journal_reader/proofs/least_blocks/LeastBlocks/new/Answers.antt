@@ -1,5 +1,5 @@
 use Rattle.std.proofs.Common.{ℕ, List, [], sym, subst, replicate}
-use Rattle.thp_model.specs.Prelude.{History}
+use Rattle.thp_history.specs.Prelude.{History}
 use Rattle.thp_journal_reader.specs.declared.page_blocks.Allocation.{Allocation}
 use Rattle.thp_journal_reader.specs.HeldBlocks.{Keeps}
 use Rattle.thp_journal_reader.specs.PageRecord.{known_of}

@@ -1,5 +1,5 @@
 use Rattle.thp_journal_reader.specs.PageRecord.{known_of}
-use Rattle.thp_model.specs.Prelude.{least_free}
+use Rattle.thp_history.specs.Prelude.{least_free}
 use Rattle.thp_journal_reader.proofs.Noting.{placed_alloc, least_now}
 use Rattle.thp_journal_reader.proofs.least_blocks.LeastBlocks.with_block.Goals as goal
 

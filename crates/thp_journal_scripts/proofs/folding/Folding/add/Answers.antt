@@ -1,6 +1,6 @@
 use Rattle.std.proofs.Common.{◌≡◌, ◌∙◌, ap, refl, subst, sym}
-use Rattle.thp_model.specs.Prelude.{event_with}
-use Rattle.thp_model.specs.declared.events.What.{What}
+use Rattle.thp_history.specs.Prelude.{event_with}
+use Rattle.thp_history.specs.declared.events.What.{What}
 use Rattle.thp_journal_scripts.specs.Prelude.{Moved, flying_after, pages_at, IsAt, IsAtPlace, kind_of, once_ended, scan_place_of, ScanPlace}
 use Rattle.thp_journal_scripts.proofs.FoldingLaws.{event_then, folded_more, in_any_block, more_commands, still_plain}
 use Rattle.thp_journal_scripts.proofs.WholeScanLaws.{event_after, still_at}

@@ -1,5 +1,5 @@
 use Rattle.std.proofs.Common.{◌∙◌, refl, sym}
-use Rattle.thp_model.specs.Prelude.{event_with}
+use Rattle.thp_history.specs.Prelude.{event_with}
 use Rattle.thp_journal_scripts.specs.Prelude.{Call, Try, Put, kind_of}
 use Rattle.thp_journal_scripts.proofs.FoldingLaws.{in_any_block}
 use Rattle.thp_journal_scripts.proofs.WholeScanLaws.{goes_by, goes_take, plain_by, plain_take}

@@ -1,6 +1,6 @@
 use Rattle.std.proofs.Common.{◌∙◌, ◌+◌, ◌++◌, ap, refl, sym, if◌then◌else◌}
-use Rattle.thp_model.specs.Prelude.{event_with}
-use Rattle.thp_model.specs.declared.events.What.{What}
+use Rattle.thp_history.specs.Prelude.{event_with}
+use Rattle.thp_history.specs.declared.events.What.{What}
 use Rattle.thp_journal_scripts.specs.Prelude.{counted, done_page, is_other, taken_by, tried_page, unless_done}
 use Rattle.thp_journal_scripts.proofs.FoldingLaws.{in_any_block}
 use Rattle.thp_journal_scripts.proofs.NodeScriptLaws.{goes_on}

@@ -1,6 +1,6 @@
 use Rattle.std.proofs.Common.{◌≡◌, ℕ, ◌<◌, ◌*◌, ◌/◌, ◌%◌, ◌^◌, true, cond, nat_eq, length, set, arith, ap, subst, sym, ◌∙◌, List, bit_or}
 use Rattle.std.proofs.lemmas.List.{get_or_default}
-use Rattle.thp_model.specs.Prelude.{in_words}
+use Rattle.thp_history.specs.Prelude.{in_words}
 use Rattle.thp_live_pages.proofs.FreeWords.{in-with}
 use Rattle.thp_live_pages.proofs.free_blocks.FreeBlocks.insert.Goals as goal
 

@@ -1,7 +1,7 @@
 use Rattle.std.proofs.Common.{◌≡◌, ℕ, ◌+◌, ◌*◌, ◌<◌, ◌/◌, ◌∙◌, ◌^◌, true, false, List, length, get_or, sym, ap, subst, arith, ◌≤◌, inl, inr}
 use Rattle.std.proofs.lemmas.Bool.{cases_lt}
 use Rattle.std.specs.Int.{w64, trailing_zeros}
-use Rattle.thp_model.specs.Prelude.{in_words}
+use Rattle.thp_history.specs.Prelude.{in_words}
 use Rattle.thp_live_pages.proofs.FreeWords.{in-passed, in-lowest, in-past}
 use Rattle.thp_live_pages.proofs.free_blocks.FreeBlocks.least.Goals as goal
 

@@ -1,5 +1,5 @@
 use Rattle.std.proofs.Common.{◌≡◌, ℕ, ◌<◌, ◌/◌, false}
-use Rattle.thp_model.specs.Prelude.{in_words}
+use Rattle.thp_history.specs.Prelude.{in_words}
 use Rattle.thp_live_pages.proofs.free_blocks.FreeBlocks.least.Given as goal
 
 -- no block in the words passed

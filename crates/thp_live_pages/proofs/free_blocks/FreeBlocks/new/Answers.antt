@@ -1,5 +1,5 @@
 use Rattle.std.proofs.Common.{ℕ, ◌∙◌, sym, ap, arith, List, le-ltb}
-use Rattle.thp_model.specs.Prelude.{in_words}
+use Rattle.thp_history.specs.Prelude.{in_words}
 use Rattle.thp_live_pages.proofs.FreeWords.{in-zeros}
 use Rattle.thp_live_pages.proofs.free_blocks.FreeBlocks.new.Goals as goal
 

@@ -1,5 +1,5 @@
 use Rattle.std.proofs.Common.{◌≡◌, ℕ, ◌*◌, ◌≤◌, nat_lt, length}
-use Rattle.thp_model.specs.Prelude.{in_words}
+use Rattle.thp_history.specs.Prelude.{in_words}
 use Rattle.thp_live_pages.proofs.free_blocks.FreeBlocks.new.Given as goal
 
 -- the blocks so far are in the set

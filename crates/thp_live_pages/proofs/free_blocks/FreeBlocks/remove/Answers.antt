@@ -1,7 +1,7 @@
 use Rattle.std.proofs.Common.{◌≡◌, ℕ, ◌<◌, ◌*◌, ◌/◌, ◌%◌, ◌^◌, false, cond, nat_eq, length, set, arith, ap, subst, sym, ◌∙◌, List, bit_and}
 use Rattle.std.specs.Int.{w64, bit_not}
 use Rattle.std.proofs.lemmas.List.{get_or_default}
-use Rattle.thp_model.specs.Prelude.{in_words}
+use Rattle.thp_history.specs.Prelude.{in_words}
 use Rattle.thp_live_pages.proofs.FreeWords.{in-without}
 use Rattle.thp_live_pages.proofs.free_blocks.FreeBlocks.remove.Goals as goal
 

@@ -1,5 +1,5 @@
 use Rattle.std.proofs.Common.{◌≡◌, Some, ap, ◌∙◌, subst, arith, slice_set}
-use Rattle.thp_model.specs.Prelude.{PageState, PageSplit, gives_frames}
+use Rattle.thp_history.specs.Prelude.{PageState, PageSplit, gives_frames}
 use Rattle.thp_page.specs.Prelude.{slot_at, Table}
 use Rattle.thp_page.specs.declared.standing.Standing.TheVariants.{Nowhere}
 use Rattle.thp_live_pages.specs.Prelude.{PageStoreState}

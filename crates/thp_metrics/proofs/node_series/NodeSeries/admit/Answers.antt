@@ -1,6 +1,6 @@
 use Rattle.thp_metrics.specs.Prelude.{Numbers, count_gone, count_more, MayCount, CountsBatches, batch_of, home}
 use Rattle.std.proofs.Common.{◌≡◌, ◌+◌, ◌<◌, ◌^◌, ◌∙◌, [], ◌∷◌, ◌++◌, ℕ, List, ap, sym, subst, arith, length, option_and_then}
-use Rattle.thp_model.specs.Prelude.{Fits}
+use Rattle.thp_history.specs.Prelude.{Fits}
 use Rattle.thp_check.specs.Prelude.{Replayed, with_event}
 use Rattle.thp_journal_writer.specs.Prelude.{event_page}
 use Rattle.thp_metrics.proofs.Counting.{counts_on, may_count, may_go}

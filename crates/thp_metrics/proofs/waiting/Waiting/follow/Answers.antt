@@ -1,7 +1,7 @@
 use Rattle.std.proofs.Common.{◌≡◌, ◌+◌, ◌<◌, ◌^◌, ◌∙◌, [], ◌∷◌, ◌++◌, length, refl, subst, sym, option_and_then}
 use Rattle.thp_check.specs.Prelude.{Replayed}
 use Rattle.thp_journal_writer.specs.Prelude.{event_page}
-use Rattle.thp_model.specs.Prelude.{History, Fits}
+use Rattle.thp_history.specs.Prelude.{History, Fits}
 use Rattle.thp_metrics.specs.Prelude.{KeepsWaits, KeepsFinds, home, Inside}
 use Rattle.thp_metrics.proofs.Arriving.{absent, comes, comes_of, goes, goes_of, inside, none_moves, present, stays_in, stays_out}
 use Rattle.thp_metrics.proofs.Finding.{finds_on, may_note}

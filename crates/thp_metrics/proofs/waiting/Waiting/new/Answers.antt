@@ -1,5 +1,5 @@
 use Rattle.std.proofs.Common.{sym, subst}
-use Rattle.thp_model.specs.Prelude.{History}
+use Rattle.thp_history.specs.Prelude.{History}
 use Rattle.thp_metrics.specs.Prelude.{KeepsWaits, KeepsFinds}
 use Rattle.thp_metrics.proofs.Arriving.{nothing_waits}
 use Rattle.thp_metrics.proofs.Finding.{nothing_found}

@@ -1,6 +1,6 @@
 use Rattle.std.proofs.Common.{ℕ, Bool, ◌≡◌, ◌&&◌, not, nat_lt, slice_set, true, ap, sym, ◌∙◌, arith}
-use Rattle.thp_model.specs.Prelude.{is_held, set_of}
-use Rattle.thp_model.proofs.Asked.{set_more, set_same, set_all}
+use Rattle.thp_history.specs.Prelude.{is_held, set_of}
+use Rattle.thp_history.proofs.Asked.{set_more, set_same, set_all}
 use Rattle.thp_model.proofs.slow_check.frames.released.Goals as goal
 use Rattle.thp_model.proofs.slow_check.frames.released.Goals.{then-is_released, else-is_released}
 

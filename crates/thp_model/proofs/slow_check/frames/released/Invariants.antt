@@ -1,5 +1,5 @@
 use Rattle.std.proofs.Common.{◌≡◌, ◌&&◌, not, nat_lt}
-use Rattle.thp_model.specs.Prelude.{is_held, set_of}
+use Rattle.thp_history.specs.Prelude.{is_held, set_of}
 use Rattle.thp_model.proofs.slow_check.frames.released.Given as goal
 
 -- of the frames so far, those that are held before and not after

@@ -1,5 +1,5 @@
 use Rattle.std.proofs.Common.{sym, ◌∙◌}
-use Rattle.thp_model.proofs.Asked.{first_yes, first_no}
+use Rattle.thp_history.proofs.Asked.{first_yes, first_no}
 use Rattle.thp_model.proofs.slow_check.kinds.first_of.Goals as goal
 
 pub loop-reason-preserved : goal.loop-reason-preserved

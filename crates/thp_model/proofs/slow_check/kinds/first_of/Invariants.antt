@@ -1,5 +1,5 @@
 use Rattle.std.proofs.Common.{◌≡◌, drop}
-use Rattle.thp_model.specs.Prelude.{first_of}
+use Rattle.thp_history.specs.Prelude.{first_of}
 use Rattle.thp_model.proofs.slow_check.kinds.first_of.Given as goal
 
 -- no reason so far holds

@@ -1,5 +1,7 @@
 use Rattle.std.proofs.Common.{◌≡◌, sym, subst, Option, None, IfOk, IsTrue, ◌↔◌}
-use Rattle.thp_model.specs.Prelude.{What, Refusal, FitsBy, Gives}
+use Rattle.thp_history.specs.Prelude.{FitsBy, Gives}
+use Rattle.thp_history.specs.declared.events.What.{What}
+use Rattle.thp_history.specs.declared.refusal.Refusal.{Refusal}
 use Rattle.thp_model.proofs.slow_check.kinds.fits.Goals as goal
 
 pub returns-in-Alloc : goal.returns-in-Alloc

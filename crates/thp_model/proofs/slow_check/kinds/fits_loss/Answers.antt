@@ -1,5 +1,5 @@
 use Rattle.std.proofs.Common.{sym, ◌∙◌}
-use Rattle.thp_model.proofs.Asked.{none_is}
+use Rattle.thp_history.proofs.Asked.{none_is}
 use Rattle.thp_model.proofs.slow_check.kinds.fits_loss.Goals as goal
 
 pub returns-then-is_none : goal.returns-then-is_none

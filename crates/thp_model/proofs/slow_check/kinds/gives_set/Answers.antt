@@ -1,5 +1,5 @@
 use Rattle.std.proofs.Common.{sym, ◌∙◌}
-use Rattle.thp_model.proofs.WordLemmas.{same_set-Decides}
+use Rattle.thp_history.proofs.WordLemmas.{same_set-Decides}
 use Rattle.thp_model.proofs.slow_check.kinds.gives_set.Goals as goal
 
 pub returns : goal.returns

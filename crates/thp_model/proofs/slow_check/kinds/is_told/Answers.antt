@@ -1,5 +1,5 @@
 use Rattle.std.proofs.Common.{rules, sym, ◌∙◌}
-use Rattle.thp_model.proofs.WordLemmas.{same_set-Decides}
+use Rattle.thp_history.proofs.WordLemmas.{same_set-Decides}
 use Rattle.thp_model.proofs.slow_check.kinds.is_told.Goals as goal
 
 pub returns-then-eq : goal.returns-then-eq

@@ -1,6 +1,6 @@
 use Rattle.std.proofs.Common.{rules, ℕ, Bool, not, ap, ◌∙◌}
-use Rattle.thp_model.specs.Prelude.{block_in_use, refusal}
-use Rattle.thp_model.proofs.Asked.{each_where}
+use Rattle.thp_history.specs.Prelude.{block_in_use, refusal}
+use Rattle.thp_history.proofs.Asked.{each_where}
 use Rattle.thp_model.proofs.slow_check.kinds.of_alloc.Goals as goal
 
 pub returns : goal.returns

@@ -1,5 +1,5 @@
 use Rattle.std.proofs.Common.{rules, ℕ, Bool, nat_eq, ap, ◌∙◌}
-use Rattle.thp_model.specs.Prelude.{total, refusal, most, some_below}
+use Rattle.thp_history.specs.Prelude.{total, refusal, most, some_below}
 use Rattle.thp_model.proofs.slow_check.kinds.of_map_whole.Goals as goal
 
 pub returns : goal.returns

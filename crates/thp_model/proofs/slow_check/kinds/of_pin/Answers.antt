@@ -1,4 +1,4 @@
-use Rattle.thp_model.specs.Prelude.{refusal}
+use Rattle.thp_history.specs.Prelude.{refusal}
 use Rattle.thp_model.proofs.slow_check.kinds.of_pin.Goals as goal
 
 pub returns : goal.returns

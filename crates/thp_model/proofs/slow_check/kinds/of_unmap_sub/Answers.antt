@@ -1,5 +1,5 @@
 use Rattle.std.proofs.Common.{rules, ℕ, Bool, ◌&&◌, nat_eq, ap, ◌∙◌}
-use Rattle.thp_model.specs.Prelude.{own, refusal, covers, some_below}
+use Rattle.thp_history.specs.Prelude.{own, refusal, covers, some_below}
 use Rattle.thp_model.proofs.slow_check.kinds.of_unmap_sub.Goals as goal
 
 pub returns : goal.returns

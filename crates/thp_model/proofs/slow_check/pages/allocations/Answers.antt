@@ -1,5 +1,5 @@
 use Rattle.std.proofs.Common.{rules}
-use Rattle.thp_model.specs.Prelude.{is_alloc}
+use Rattle.thp_history.specs.Prelude.{is_alloc}
 use Rattle.thp_model.proofs.slow_check.pages.allocations.Goals as goal
 
 pub returns : goal.returns

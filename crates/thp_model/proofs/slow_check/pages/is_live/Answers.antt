@@ -1,6 +1,6 @@
 use Rattle.std.proofs.Common.{rules, not, ap, ◌∙◌}
-use Rattle.thp_model.specs.Prelude.{allocates, frees}
-use Rattle.thp_model.proofs.Asked.{and_then, and_else}
+use Rattle.thp_history.specs.Prelude.{allocates, frees}
+use Rattle.thp_history.proofs.Asked.{and_then, and_else}
 use Rattle.thp_model.proofs.slow_check.pages.is_live.Goals as goal
 
 pub returns-then-allocated : goal.returns-then-allocated

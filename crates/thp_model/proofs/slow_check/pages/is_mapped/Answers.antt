@@ -1,5 +1,5 @@
 use Rattle.std.proofs.Common.{rules, ℕ, Bool, nat_lt, ap, ◌∙◌}
-use Rattle.thp_model.specs.Prelude.{total, some_below}
+use Rattle.thp_history.specs.Prelude.{total, some_below}
 use Rattle.thp_model.proofs.slow_check.pages.is_mapped.Goals as goal
 
 pub returns : goal.returns

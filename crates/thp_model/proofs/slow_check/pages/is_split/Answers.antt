@@ -1,5 +1,5 @@
 use Rattle.std.proofs.Common.{rules}
-use Rattle.thp_model.specs.Prelude.{splits}
+use Rattle.thp_history.specs.Prelude.{splits}
 use Rattle.thp_model.proofs.slow_check.pages.is_split.Goals as goal
 
 pub returns : goal.returns

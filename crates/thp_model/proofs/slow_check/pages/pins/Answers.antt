@@ -1,5 +1,5 @@
 use Rattle.std.proofs.Common.{rules, arith}
-use Rattle.thp_model.specs.Prelude.{pins_page, unpins_page}
+use Rattle.thp_history.specs.Prelude.{pins_page, unpins_page}
 use Rattle.thp_model.proofs.slow_check.pages.pins.Goals as goal
 
 pub returns : goal.returns

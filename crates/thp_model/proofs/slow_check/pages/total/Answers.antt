@@ -1,5 +1,5 @@
 use Rattle.std.proofs.Common.{rules, arith}
-use Rattle.thp_model.specs.Prelude.{maps, unmaps}
+use Rattle.thp_history.specs.Prelude.{maps, unmaps}
 use Rattle.thp_model.proofs.slow_check.pages.total.Goals as goal
 
 pub returns : goal.returns

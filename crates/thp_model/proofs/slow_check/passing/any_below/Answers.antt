@@ -1,5 +1,5 @@
 use Rattle.std.proofs.Common.{◌≡◌, false, sym, ◌∙◌, arith, below_more}
-use Rattle.thp_model.proofs.Below.{some_yes, some_no}
+use Rattle.thp_history.proofs.Below.{some_yes, some_no}
 use Rattle.thp_model.proofs.slow_check.passing.any_below.Goals as goal
 
 pub returns-then-test : goal.returns-then-test

@@ -1,5 +1,5 @@
 use Rattle.std.proofs.Common.{◌≡◌, ◌<◌, ℕ, Bool, false}
-use Rattle.thp_model.specs.Prelude.{AsksBelow}
+use Rattle.thp_history.specs.Prelude.{AsksBelow}
 use Rattle.thp_model.proofs.slow_check.passing.any_below.Given as goal
 
 -- each number so far answers false

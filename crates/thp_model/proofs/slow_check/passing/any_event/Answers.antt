@@ -1,8 +1,8 @@
 use Rattle.std.proofs.Common.{◌≡◌, ◌||◌, refl, ap, sym, ◌∙◌}
-use Rattle.thp_model.specs.Prelude.{some_event}
-use Rattle.thp_model.proofs.Asked.{some_next}
-use Rattle.thp_model.proofs.ListPlaces.{get_at}
-use Rattle.thp_model.proofs.SomeEvents.{some_passes}
+use Rattle.thp_history.specs.Prelude.{some_event}
+use Rattle.thp_history.proofs.Asked.{some_next}
+use Rattle.thp_history.proofs.ListPlaces.{get_at}
+use Rattle.thp_history.proofs.SomeEvents.{some_passes}
 use Rattle.thp_model.proofs.slow_check.passing.any_event.Goals as goal
 
 pub loop-event-init : goal.loop-event-init

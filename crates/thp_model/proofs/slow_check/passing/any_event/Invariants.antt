@@ -1,5 +1,6 @@
 use Rattle.std.proofs.Common.{◌≡◌, Bool, false, take}
-use Rattle.thp_model.specs.Prelude.{What, AsksEvents, some_event}
+use Rattle.thp_history.specs.Prelude.{AsksEvents, some_event}
+use Rattle.thp_history.specs.declared.events.What.{What}
 use Rattle.thp_model.proofs.slow_check.passing.any_event.Given as goal
 
 -- none of the events so far passes

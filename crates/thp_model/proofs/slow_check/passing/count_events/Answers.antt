@@ -1,7 +1,7 @@
 use Rattle.std.proofs.Common.{◌≡◌, refl, ap, sym, ◌∙◌, arith, take_all}
-use Rattle.thp_model.specs.Prelude.{count_of}
-use Rattle.thp_model.proofs.Asked.{count_next}
-use Rattle.thp_model.proofs.Bools.{one_if, none_if}
+use Rattle.thp_history.specs.Prelude.{count_of}
+use Rattle.thp_history.proofs.Asked.{count_next}
+use Rattle.thp_history.proofs.Bools.{one_if, none_if}
 use Rattle.thp_model.proofs.slow_check.passing.count_events.Goals as goal
 use Rattle.thp_model.proofs.slow_check.passing.count_events.Goals.{then-test, else-test}
 

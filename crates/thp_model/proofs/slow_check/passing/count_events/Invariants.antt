@@ -1,5 +1,6 @@
 use Rattle.std.proofs.Common.{◌≡◌, ◌≤◌, Bool, take}
-use Rattle.thp_model.specs.Prelude.{What, AsksEvents, count_of}
+use Rattle.thp_history.specs.Prelude.{AsksEvents, count_of}
+use Rattle.thp_history.specs.declared.events.What.{What}
 use Rattle.thp_model.proofs.slow_check.passing.count_events.Given as goal
 
 -- so many of the events so far pass

@@ -1,6 +1,6 @@
 use Rattle.std.proofs.Common.{◌≡◌, ℕ, Bool, cond, ◌+◌, refl, sym, ◌∙◌, arith, add-one}
-use Rattle.thp_model.specs.Prelude.{count_below, sum_below}
-use Rattle.thp_model.proofs.Bools.{one_if, none_if}
+use Rattle.thp_history.specs.Prelude.{count_below, sum_below}
+use Rattle.thp_history.proofs.Bools.{one_if, none_if}
 use Rattle.thp_model.proofs.slow_check.passing.how_many_below.Goals as goal
 use Rattle.thp_model.proofs.slow_check.passing.how_many_below.Goals.{then-test, else-test}
 

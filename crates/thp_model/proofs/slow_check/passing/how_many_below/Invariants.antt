@@ -1,5 +1,5 @@
 use Rattle.std.proofs.Common.{◌≡◌, ◌≤◌, ℕ, Bool}
-use Rattle.thp_model.specs.Prelude.{AsksBelow, count_below}
+use Rattle.thp_history.specs.Prelude.{AsksBelow, count_below}
 use Rattle.thp_model.proofs.slow_check.passing.how_many_below.Given as goal
 
 -- so many of the numbers so far pass

@@ -1,6 +1,6 @@
 use Rattle.std.proofs.Common.{[], ◌∷◌, ◌++◌, cond, take, ap, sym, ◌∙◌, eq-eqb, ne_eqb}
-use Rattle.thp_model.proofs.Asked.{flight_next, pages_by}
-use Rattle.thp_model.proofs.ListPlaces.{append_none}
+use Rattle.thp_history.proofs.Asked.{flight_next, pages_by}
+use Rattle.thp_history.proofs.ListPlaces.{append_none}
 use Rattle.thp_model.proofs.slow_check.places.flight.Goals as goal
 use Rattle.thp_model.proofs.slow_check.places.flight.Goals.{then-flight-caller+in_ok-push_back, else-flight-caller}
 

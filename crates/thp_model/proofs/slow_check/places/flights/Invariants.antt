@@ -1,5 +1,5 @@
 use Rattle.std.proofs.Common.{◌≡◌, take}
-use Rattle.thp_model.specs.Prelude.{flights}
+use Rattle.thp_history.specs.Prelude.{flights}
 use Rattle.thp_model.proofs.slow_check.places.flights.Given as goal
 
 -- the flights after the events so far

@@ -1,6 +1,6 @@
 use Rattle.std.proofs.Common.{rules, ℕ, not, nat_eq, ap, sym, ◌∙◌}
 use Rattle.std.proofs.lemmas.Fn.{filter_same}
-use Rattle.thp_model.specs.Prelude.{flights_by}
+use Rattle.thp_history.specs.Prelude.{flights_by}
 use Rattle.thp_model.proofs.slow_check.places.flights_outcome.Goals as goal
 
 pub returns-in-Freed : goal.returns-in-Freed

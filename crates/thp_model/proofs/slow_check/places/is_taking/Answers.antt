@@ -1,6 +1,6 @@
 use Rattle.std.proofs.Common.{refl, sym, ◌∙◌}
-use Rattle.thp_model.specs.Prelude.{is_taking}
-use Rattle.thp_model.proofs.Asked.{taking_next}
+use Rattle.thp_history.specs.Prelude.{is_taking}
+use Rattle.thp_history.proofs.Asked.{taking_next}
 use Rattle.thp_model.proofs.slow_check.places.is_taking.Goals as goal
 
 pub loop-event-init : goal.loop-event-init

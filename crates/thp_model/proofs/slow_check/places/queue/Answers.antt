@@ -1,6 +1,6 @@
 use Rattle.std.proofs.Common.{rules, ap, sym, ◌∙◌}
-use Rattle.thp_model.specs.Prelude.{queue, queue_after}
-use Rattle.thp_model.proofs.Asked.{queue_next}
+use Rattle.thp_history.specs.Prelude.{queue, queue_after}
+use Rattle.thp_history.proofs.Asked.{queue_next}
 use Rattle.thp_model.proofs.slow_check.places.queue.Goals as goal
 
 pub loop-event-init : goal.loop-event-init

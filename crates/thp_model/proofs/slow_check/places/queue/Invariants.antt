@@ -1,5 +1,5 @@
 use Rattle.std.proofs.Common.{◌≡◌, take}
-use Rattle.thp_model.specs.Prelude.{queue}
+use Rattle.thp_history.specs.Prelude.{queue}
 use Rattle.thp_model.proofs.slow_check.places.queue.Given as goal
 
 -- the queue after the events so far

@@ -1,6 +1,6 @@
 use Rattle.std.proofs.Common.{ℕ, [], ◌∷◌, ◌++◌, map, take, ap, sym, ◌∙◌, append_assoc}
-use Rattle.thp_model.specs.Prelude.{queue}
-use Rattle.thp_model.proofs.Asked.{pages_next}
+use Rattle.thp_history.specs.Prelude.{queue}
+use Rattle.thp_history.proofs.Asked.{pages_next}
 use Rattle.thp_model.proofs.slow_check.places.standing.Goals as goal
 
 pub loop-flight-preserved : goal.loop-flight-preserved

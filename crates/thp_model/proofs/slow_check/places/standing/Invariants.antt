@@ -1,5 +1,5 @@
 use Rattle.std.proofs.Common.{◌≡◌, ℕ, ◌++◌, map, take}
-use Rattle.thp_model.specs.Prelude.{queue}
+use Rattle.thp_history.specs.Prelude.{queue}
 use Rattle.thp_model.proofs.slow_check.places.standing.Given as goal
 
 -- the pages of the queue and of the flights so far

@@ -1,6 +1,6 @@
 use Rattle.std.proofs.Common.{◌+◌, take, refl, sym, ◌∙◌}
-use Rattle.thp_model.proofs.Asked.{partly_next, or_then, or_else}
-use Rattle.thp_model.proofs.Pushes.{is_partly_mapped_none}
+use Rattle.thp_history.proofs.Asked.{partly_next, or_then, or_else}
+use Rattle.thp_history.proofs.Pushes.{is_partly_mapped_none}
 use Rattle.thp_model.proofs.slow_check.underused.is_partly_mapped.Goals as goal
 use Rattle.thp_model.proofs.slow_check.underused.is_partly_mapped.Goals.{then-partly, else-partly}
 

@@ -1,7 +1,7 @@
 use Rattle.std.proofs.Common.{take, refl, ap, sym, ◌∙◌}
-use Rattle.thp_model.specs.Prelude.{is_zero_filled, zero_after}
-use Rattle.thp_model.proofs.ListPlaces.{step_of}
-use Rattle.thp_model.proofs.Pushes.{is_zero_filled_push}
+use Rattle.thp_history.specs.Prelude.{is_zero_filled, zero_after}
+use Rattle.thp_history.proofs.ListPlaces.{step_of}
+use Rattle.thp_history.proofs.Pushes.{is_zero_filled_push}
 use Rattle.thp_model.proofs.slow_check.underused.is_zero_filled.Goals as goal
 
 pub loop-event-init : goal.loop-event-init

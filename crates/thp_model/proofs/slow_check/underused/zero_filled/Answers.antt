@@ -1,5 +1,5 @@
 use Rattle.std.proofs.Common.{rules, ap, ◌∙◌}
-use Rattle.thp_model.specs.Prelude.{count_below, is_zero_filled}
+use Rattle.thp_history.specs.Prelude.{count_below, is_zero_filled}
 use Rattle.thp_model.proofs.slow_check.underused.zero_filled.Goals as goal
 
 pub returns : goal.returns

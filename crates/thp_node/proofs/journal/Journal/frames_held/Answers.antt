@@ -1,5 +1,5 @@
 use Rattle.std.proofs.Common.{◌∙◌, ap, arith}
-use Rattle.thp_model.specs.Prelude.{frames_held}
+use Rattle.thp_history.specs.Prelude.{frames_held}
 use Rattle.thp_node.specs.Prelude.{JournalState}
 use Rattle.thp_node.proofs.JournalLemmas.{all_frames}
 use Rattle.thp_node.proofs.journal.Journal.frames_held.Goals as goal

@@ -1,5 +1,5 @@
 use Rattle.std.proofs.Common.{false, List, replicate, sym, subst}
-use Rattle.thp_model.specs.declared.events.Event.{Event}
+use Rattle.thp_history.specs.declared.events.Event.{Event}
 use Rattle.thp_node.specs.Prelude.{IsJournal}
 use Rattle.thp_node.proofs.Recording.{journal_none}
 use Rattle.thp_node.proofs.journal.Journal.new.Goals as goal

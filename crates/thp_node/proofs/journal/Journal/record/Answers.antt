@@ -1,7 +1,7 @@
 use Rattle.std.proofs.Common.{◌≡◌, ℕ, length, ap, sym, ◌∙◌, subst, arith}
 use Rattle.std.proofs.lemmas.List.{length_push}
-use Rattle.thp_model.specs.declared.events.What.{What}
-use Rattle.thp_model.specs.Prelude.{History, by, Fits}
+use Rattle.thp_history.specs.declared.events.What.{What}
+use Rattle.thp_history.specs.Prelude.{History, by, Fits}
 use Rattle.thp_node.specs.Prelude.{EventContext, JournalState, IsJournal, context_of, leaves_by}
 use Rattle.thp_node.proofs.Recording.{count_room, may_leave, leaves_told, journal_push}
 use Rattle.thp_node.proofs.journal.Journal.record.Goals as goal

@@ -1,5 +1,5 @@
 use Rattle.std.proofs.Common.{refl, sym, ◌∙◌, inl, ap}
-use Rattle.thp_model.specs.Prelude.{refusal, page_call}
+use Rattle.thp_history.specs.Prelude.{refusal, page_call}
 use Rattle.thp_node.specs.Prelude.{NodeState}
 use Rattle.thp_live_pages.proofs.Admitting.{refused_gone_page}
 use Rattle.thp_node.proofs.node.Node.admit.Goals as goal

@@ -1,6 +1,6 @@
 use Rattle.std.proofs.Common.{◌≡◌, ◌*◌, length, refl, ap, sym, ◌∙◌, inl, inr, arith}
-use Rattle.thp_model.specs.Prelude.{queue, refusal, take_events}
-use Rattle.thp_model.specs.Refusals as call
+use Rattle.thp_history.specs.Prelude.{queue, refusal, take_events}
+use Rattle.thp_history.specs.Refusals as call
 use Rattle.thp_node.specs.Prelude.{JournalState, NodeState}
 use Rattle.thp_node.proofs.CallLemmas.{node_of}
 use Rattle.thp_node.proofs.BatchRuns.{refused_take, unrefused_take, queue_length, take_length}

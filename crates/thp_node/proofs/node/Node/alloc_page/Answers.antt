@@ -1,9 +1,9 @@
 use Rattle.std.proofs.Common.{◌≡◌, ◌<◌, ℕ, Bool, [], ◌∷◌, ◌++◌, refl, sym, ◌∙◌, subst, ap, arith, inl, inr, IsSome, length}
 use Rattle.std.specs.Bool.{OnTrue, OnFalse}
-use Rattle.thp_model.specs.declared.shape.Shape.{Shape}
-use Rattle.thp_model.specs.declared.events.What.TheVariants as what
-use Rattle.thp_model.specs.Prelude.{History, by, Fits, refusal, shrinks_underused}
-use Rattle.thp_model.specs.Refusals as call
+use Rattle.thp_history.specs.declared.shape.Shape.{Shape}
+use Rattle.thp_history.specs.declared.events.What.TheVariants as what
+use Rattle.thp_history.specs.Prelude.{History, by, Fits, refusal, shrinks_underused}
+use Rattle.thp_history.specs.Refusals as call
 use Rattle.thp_page.specs.Prelude.{slot_at}
 use Rattle.thp_live_pages.specs.Prelude.{HasFree, IsNode}
 use Rattle.thp_node.specs.Prelude.{JournalState, NodeState}
@@ -52,7 +52,7 @@ pub place-block-requires-clause-new : goal.place-block-requires-clause-new
 place-block-requires-clause-new g c =
     let j = c.self.inside.journal in
     let b = c.self.inside.blocks in
-    let number : c.next.result ≡ Rattle.thp_model.specs.Counts.allocations j.events = c.next.ensures ∙ ap (λ h. Rattle.thp_model.specs.Counts.allocations h) c.in_default.ensures.events in
+    let number : c.next.result ≡ Rattle.thp_history.specs.Counts.allocations j.events = c.next.ensures ∙ ap (λ h. Rattle.thp_history.specs.Counts.allocations h) c.in_default.ensures.events in
     next_is_new j.shape j.events b.table b.queue c.next.result c.self.invariant number
 
 pub record-requires-clause-fits : goal.record-requires-clause-fits
@@ -60,7 +60,7 @@ record-requires-clause-fits g c =
     let j = c.self.inside.journal in
     let b = c.self.inside.blocks in
     let P : Bool → Type 0 = λ z. OnTrue z (HasFree b.table) in
-    let number : c.next.result ≡ Rattle.thp_model.specs.Counts.allocations j.events = c.next.ensures ∙ ap (λ h. Rattle.thp_model.specs.Counts.allocations h) c.in_default.ensures.events in
+    let number : c.next.result ≡ Rattle.thp_history.specs.Counts.allocations j.events = c.next.ensures ∙ ap (λ h. Rattle.thp_history.specs.Counts.allocations h) c.in_default.ensures.events in
     let allowed = allowed_alloc j.shape j.events b.table b.queue c.self.invariant (sym c.is_closed.ensures ∙ c.if-is_closed.false) (subst P c.if-not-has_free.false c.has_free.ensures.some) in
     let fits : Fits j.shape j.events (by c.args.caller (what.Alloc c.next.result c.place-block.result)) =
     placed_fits j.shape j.events c.args.caller c.next.result c.place-block.result b.table b.queue (legal_homed j.shape j.events c.self.invariant.legal) c.self.invariant allowed number c.place-block.ensures.inside c.place-block.ensures.free in
@@ -72,7 +72,7 @@ invariant_of-self-2 g c =
     let j = c.self.inside.journal in
     let b = c.self.inside.blocks in
     let P : Bool → Type 0 = λ z. OnTrue z (HasFree b.table) in
-    let number : c.next.result ≡ Rattle.thp_model.specs.Counts.allocations j.events = c.next.ensures ∙ ap (λ h. Rattle.thp_model.specs.Counts.allocations h) c.in_default.ensures.events in
+    let number : c.next.result ≡ Rattle.thp_history.specs.Counts.allocations j.events = c.next.ensures ∙ ap (λ h. Rattle.thp_history.specs.Counts.allocations h) c.in_default.ensures.events in
     let allowed = allowed_alloc j.shape j.events b.table b.queue c.self.invariant (sym c.is_closed.ensures ∙ c.if-is_closed.false) (subst P c.if-not-has_free.false c.has_free.ensures.some) in
     let homed = legal_homed j.shape j.events c.self.invariant.legal in
     let w = what.Alloc c.next.result c.place-block.result in

@@ -1,8 +1,8 @@
 use Rattle.std.proofs.Common.{◌≡◌, false, [], ◌∷◌, ◌++◌, refl, sym, ◌∙◌, subst, ap, arith, inl, inr}
-use Rattle.thp_model.specs.declared.shape.Shape.{Shape}
-use Rattle.thp_model.specs.declared.events.What.TheVariants as what
-use Rattle.thp_model.specs.Prelude.{History, by, refusal}
-use Rattle.thp_model.specs.Refusals as call
+use Rattle.thp_history.specs.declared.shape.Shape.{Shape}
+use Rattle.thp_history.specs.declared.events.What.TheVariants as what
+use Rattle.thp_history.specs.Prelude.{History, by, refusal}
+use Rattle.thp_history.specs.Refusals as call
 use Rattle.thp_live_pages.specs.Prelude.{IsNode}
 use Rattle.thp_node.specs.Prelude.{JournalState, NodeState}
 use Rattle.thp_node.proofs.CallLemmas.{node_of}
@@ -32,7 +32,7 @@ returns-in-Err-clause-refused g c = record {
 pub record-requires-clause-fits : goal.record-requires-clause-fits
 record-requires-clause-fits g c =
     allowed_close c.reserve.new.self.shape c.reserve.new.self.events
-    (let P : History → Type 0 = λ h. Rattle.thp_model.specs.Counts.is_closed h ≡ false in subst P (sym c.in_default.ensures.events) (sym c.is_closed.ensures ∙ c.if-is_closed.false))
+    (let P : History → Type 0 = λ h. Rattle.thp_history.specs.Counts.is_closed h ≡ false in subst P (sym c.in_default.ensures.events) (sym c.is_closed.ensures ∙ c.if-is_closed.false))
 
 pub invariant_of-self-2 : goal.invariant_of-self-2
 invariant_of-self-2 g c =

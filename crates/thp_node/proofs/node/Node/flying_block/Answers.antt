@@ -1,5 +1,5 @@
 use Rattle.std.proofs.Common.{ap, sym, ◌∙◌}
-use Rattle.thp_model.specs.Prelude.{flight, has_page}
+use Rattle.thp_history.specs.Prelude.{flight, has_page}
 use Rattle.thp_node.specs.Prelude.{NodeState}
 use Rattle.thp_live_pages.proofs.Admitting.{Found, found, flies_not_there, flies_nowhere}
 use Rattle.thp_node.proofs.BatchRuns.{flies_there}

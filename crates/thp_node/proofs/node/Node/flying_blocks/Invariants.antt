@@ -1,5 +1,5 @@
 use Rattle.std.proofs.Common.{◌≡◌, ◌≤◌, Some, length, map, take}
-use Rattle.thp_model.specs.Prelude.{still_flying}
+use Rattle.thp_history.specs.Prelude.{still_flying}
 use Rattle.thp_live_pages.specs.Prelude.{block_of}
 use Rattle.thp_node.proofs.node.Node.flying_blocks.Given as goal
 

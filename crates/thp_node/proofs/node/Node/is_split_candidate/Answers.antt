@@ -1,5 +1,5 @@
 use Rattle.std.proofs.Common.{ap, sym, ◌∙◌}
-use Rattle.thp_model.specs.Prelude.{is_split_candidate, is_worth_split}
+use Rattle.thp_history.specs.Prelude.{is_split_candidate, is_worth_split}
 use Rattle.thp_node.specs.Prelude.{NodeState}
 use Rattle.thp_node.proofs.BatchRuns.{flies_inside, worth_there}
 use Rattle.thp_node.proofs.node.Node.is_split_candidate.Goals as goal

@@ -1,6 +1,6 @@
 use Rattle.std.proofs.Common.{ap, subst}
-use Rattle.thp_model.specs.declared.shape.Shape.{Shape}
-use Rattle.thp_model.specs.Prelude.{History, IsLegal, IsShape}
+use Rattle.thp_history.specs.declared.shape.Shape.{Shape}
+use Rattle.thp_history.specs.Prelude.{History, IsLegal, IsShape}
 use Rattle.thp_node.specs.Prelude.{NodeState}
 use Rattle.thp_node.proofs.JournalFacts.{stands_once, all_stand_whole, takes_oldest, leaves_freed_alone, allocates_once, nothing_enters, has_frames_once, keeps_frames, holds_while_live, lives_apart, others_free, flights_go_on, queue_goes_on, none_is_underused}
 use Rattle.thp_node.proofs.node.Node.laws.Given.{Over}

@@ -1,7 +1,7 @@
 use Rattle.std.proofs.Common.{◌≡◌, false, ◌∷◌, [], ◌++◌, ap, ◌∙◌, subst, arith}
-use Rattle.thp_model.specs.declared.events.Event.{Event}
-use Rattle.thp_model.specs.declared.events.What.TheVariants.{Used}
-use Rattle.thp_model.specs.Prelude.{is_split_candidate, by, try_event}
+use Rattle.thp_history.specs.declared.events.Event.{Event}
+use Rattle.thp_history.specs.declared.events.What.TheVariants.{Used}
+use Rattle.thp_history.specs.Prelude.{is_split_candidate, by, try_event}
 use Rattle.thp_node.specs.Prelude.{Did, NodeState}
 use Rattle.thp_node.proofs.BatchRuns.{flies_inside, slot_inside, node_recorded, found_used}
 use Rattle.thp_node.proofs.CallLemmas.{did_one, node_of}

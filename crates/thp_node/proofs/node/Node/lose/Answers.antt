@@ -1,10 +1,10 @@
 use Rattle.std.proofs.Common.{◌≡◌, ℕ, None, Some, [], ◌∷◌, ◌++◌, sym, ◌∙◌, subst, ap, ap₂, arith}
-use Rattle.thp_model.specs.declared.shape.Shape.{Shape}
-use Rattle.thp_model.specs.declared.events.What.{What}
-use Rattle.thp_model.specs.Prelude.{History, by, outcome, released, refusal, page_refusal, loss_call, loss_what}
-use Rattle.thp_model.specs.declared.page_call.PageCall.TheVariants as either
+use Rattle.thp_history.specs.declared.shape.Shape.{Shape}
+use Rattle.thp_history.specs.declared.events.What.{What}
+use Rattle.thp_history.specs.Prelude.{History, by, outcome, released, refusal, page_refusal, loss_call, loss_what}
+use Rattle.thp_history.specs.declared.page_call.PageCall.TheVariants as either
 use Rattle.thp_live_pages.specs.Prelude.{IsNode, block_of, PageStoreState, AtSlot}
-use Rattle.thp_model.specs.declared.page_call.Loss.{Loss}
+use Rattle.thp_history.specs.declared.page_call.Loss.{Loss}
 use Rattle.thp_node.specs.Prelude.{NodeState}
 use Rattle.thp_live_pages.proofs.Admitting.{Found, at_home, refused_by_page}
 use Rattle.thp_node.proofs.CallLemmas.{did_one, refused_by, node_of}

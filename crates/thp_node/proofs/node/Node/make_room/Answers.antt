@@ -1,5 +1,5 @@
 use Rattle.std.proofs.Common.{◌≡◌, None, sym, ◌∙◌, inl, inr, ap, subst, arith, refl}
-use Rattle.thp_model.specs.Prelude.{refusal, page_call}
+use Rattle.thp_history.specs.Prelude.{refusal, page_call}
 use Rattle.thp_page.specs.Prelude.{slot_at, HoldsPage}
 use Rattle.thp_node.specs.Prelude.{NodeState, JournalState}
 use Rattle.thp_node.proofs.CallLemmas.{node_of}

@@ -1,5 +1,5 @@
 use Rattle.std.proofs.Common.{◌≡◌, drop}
-use Rattle.thp_model.specs.Prelude.{next_page, rest_after}
+use Rattle.thp_history.specs.Prelude.{next_page, rest_after}
 use Rattle.thp_node.proofs.node.Node.next_flying.Given as goal
 
 abbrev pub invariant-loop-passed : goal.invariant-loop-passed

@@ -1,5 +1,5 @@
 use Rattle.std.proofs.Common.{◌-◌, length, map, Some, Option, ℕ, sym, ap, ap₂, ◌∙◌, subst, arith}
-use Rattle.thp_model.specs.Prelude.{History, still_flying}
+use Rattle.thp_history.specs.Prelude.{History, still_flying}
 use Rattle.thp_live_pages.specs.Prelude.{block_of}
 use Rattle.thp_node.specs.Prelude.{NodeState, BeginsIn}
 use Rattle.thp_node.proofs.Fronts.{fronts_grown, return_takes_none}

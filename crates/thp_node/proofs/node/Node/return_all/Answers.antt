@@ -1,6 +1,6 @@
 use Rattle.std.proofs.Common.{take, get_or, refl, arith, subst, length-take}
 use Rattle.std.proofs.lemmas.List.Sums.{count_by-le-length}
-use Rattle.thp_model.specs.Prelude.{flight, goes_back}
+use Rattle.thp_history.specs.Prelude.{flight, goes_back}
 use Rattle.thp_node.specs.Prelude.{OneBack}
 use Rattle.thp_node.proofs.CallLemmas.{did_none}
 use Rattle.thp_node.proofs.Recording.{few_one}

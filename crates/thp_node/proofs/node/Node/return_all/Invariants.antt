@@ -1,5 +1,5 @@
 use Rattle.std.proofs.Common.{◌≡◌, count_by, take}
-use Rattle.thp_model.specs.Prelude.{flight, goes_back}
+use Rattle.thp_history.specs.Prelude.{flight, goes_back}
 use Rattle.thp_node.specs.Prelude.{Did, return_first}
 use Rattle.thp_node.proofs.node.Node.return_all.Given as goal
 

@@ -1,5 +1,5 @@
 use Rattle.std.proofs.Common.{[], ◌∷◌, Option, map, refl, ap, sym, subst, IsSome}
-use Rattle.thp_model.specs.Prelude.{return_event}
+use Rattle.thp_history.specs.Prelude.{return_event}
 use Rattle.thp_page.specs.Prelude.{Slot}
 use Rattle.thp_node.specs.Prelude.{Did, NodeState, BeginsIn}
 use Rattle.thp_node.proofs.ReturnLemmas.{FirstFlies, first_flies, first_leaves}

@@ -1,6 +1,6 @@
 use Rattle.std.proofs.Common.{true, false, [], ◌∷◌, ◌++◌, sym, ◌∙◌, subst, ap, arith, slice_get}
-use Rattle.thp_model.specs.declared.events.What.TheVariants as what
-use Rattle.thp_model.specs.Prelude.{by, flight, goes_back}
+use Rattle.thp_history.specs.declared.events.What.TheVariants as what
+use Rattle.thp_history.specs.Prelude.{by, flight, goes_back}
 use Rattle.thp_live_pages.specs.Prelude.{IsFlyingAt}
 use Rattle.thp_node.specs.Prelude.{NodeState}
 use Rattle.thp_node.proofs.CallLemmas.{did_one}

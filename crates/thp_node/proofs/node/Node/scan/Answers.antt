@@ -1,8 +1,8 @@
 use Rattle.std.proofs.Common.{◌*◌, Option, length, sym, ap, ◌∙◌, subst, rules, IfErr}
-use Rattle.thp_model.specs.declared.refusal.Refusal.{Refusal}
-use Rattle.thp_model.specs.Prelude.{flight, take_events}
-use Rattle.thp_model.proofs.ScanRuns.{scan_run}
-use Rattle.thp_model.proofs.TakeRuns.{none_length}
+use Rattle.thp_history.specs.declared.refusal.Refusal.{Refusal}
+use Rattle.thp_history.specs.Prelude.{flight, take_events}
+use Rattle.thp_history.proofs.ScanRuns.{scan_run}
+use Rattle.thp_history.proofs.TakeRuns.{none_length}
 use Rattle.thp_node.specs.Prelude.{Refused, NodeState}
 use Rattle.thp_node.proofs.Fronts.{fronts_emptied}
 use Rattle.thp_node.proofs.ScanLemmas.{scan_as_take, took_admitted, batch_admitted, scan_flies, scan_recorded, scan_replied}

@@ -1,5 +1,5 @@
 use Rattle.std.proofs.Common.{◌≡◌, Some, ap, ap₂, sym, ◌∙◌, arith}
-use Rattle.thp_model.specs.Prelude.{History, next_page}
+use Rattle.thp_history.specs.Prelude.{History, next_page}
 use Rattle.thp_node.specs.Prelude.{rest, NodeState}
 use Rattle.thp_node.proofs.BatchRuns.{none_left, tried_after, did_after}
 use Rattle.thp_node.proofs.Fronts.{fronts_same, fronts_grown, front_advanced, try_takes_none}

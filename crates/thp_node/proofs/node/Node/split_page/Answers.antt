@@ -1,7 +1,7 @@
 use Rattle.std.proofs.Common.{◌≡◌, true, ◌∷◌, [], ◌++◌, ap, ap₂, sym, ◌∙◌, subst, arith}
-use Rattle.thp_model.specs.declared.events.Event.{Event}
-use Rattle.thp_model.specs.declared.events.What.TheVariants.{Split}
-use Rattle.thp_model.specs.Prelude.{is_split_candidate, shrinks_underused, by, try_event}
+use Rattle.thp_history.specs.declared.events.Event.{Event}
+use Rattle.thp_history.specs.declared.events.What.TheVariants.{Split}
+use Rattle.thp_history.specs.Prelude.{is_split_candidate, shrinks_underused, by, try_event}
 use Rattle.thp_node.specs.Prelude.{Did, OfSplit, NodeState}
 use Rattle.thp_node.proofs.BatchRuns.{flies_inside, unpinned_inside, node_recorded, slot_inside, ready_there, whole_there, partly_there, SplitOff, split_off}
 use Rattle.thp_node.proofs.CallLemmas.{did_one, node_of}

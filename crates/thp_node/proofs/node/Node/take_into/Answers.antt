@@ -1,6 +1,6 @@
 use Rattle.std.proofs.Common.{◌≡◌, ap, sym, ◌∙◌}
-use Rattle.thp_model.specs.Prelude.{flight}
-use Rattle.thp_model.proofs.TakeRuns.{none_length}
+use Rattle.thp_history.specs.Prelude.{flight}
+use Rattle.thp_history.proofs.TakeRuns.{none_length}
 use Rattle.thp_node.specs.Prelude.{NodeState}
 use Rattle.thp_node.proofs.Fronts.{fronts_did, front_whole, older_in_front}
 use Rattle.thp_node.proofs.ScanLemmas.{took_admitted, batch_admitted, scan_flies}

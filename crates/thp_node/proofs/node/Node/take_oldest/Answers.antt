@@ -1,6 +1,6 @@
 use Rattle.std.proofs.Common.{true, true≢false, ◌≡◌, ◌+◌, ℕ, ◌<◌, List, ◌∷◌, [], ◌++◌, length, ap, sym, ◌∙◌, arith, refl, subst, slice_get}
-use Rattle.thp_model.specs.Prelude.{queue, flight, no_pages}
-use Rattle.thp_model.proofs.TakeRuns.{more_taken}
+use Rattle.thp_history.specs.Prelude.{queue, flight, no_pages}
+use Rattle.thp_history.proofs.TakeRuns.{more_taken}
 use Rattle.thp_node.specs.Prelude.{BatchState}
 use Rattle.thp_node.proofs.JournalLemmas.{flight_grows}
 use Rattle.thp_node.proofs.BatchRuns.{took_none, took_more, some_left}

@@ -1,5 +1,5 @@
 use Rattle.std.proofs.Common.{◌≡◌, ◌+◌, ◌≤◌, length, take}
-use Rattle.thp_model.specs.Prelude.{queue, flight}
+use Rattle.thp_history.specs.Prelude.{queue, flight}
 use Rattle.thp_node.specs.Prelude.{Took}
 use Rattle.thp_node.proofs.node.Node.take_oldest.Given as goal
 

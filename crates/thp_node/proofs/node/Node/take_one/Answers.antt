@@ -1,6 +1,6 @@
 use Rattle.std.proofs.Common.{◌||◌, ap, sym, ◌∙◌, slice_get}
-use Rattle.thp_model.specs.declared.events.What.TheVariants.{Taken}
-use Rattle.thp_model.specs.Prelude.{by, FitsTaken, queue, flight, no_pages, is_taking}
+use Rattle.thp_history.specs.declared.events.What.TheVariants.{Taken}
+use Rattle.thp_history.specs.Prelude.{by, FitsTaken, queue, flight, no_pages, is_taking}
 use Rattle.thp_node.specs.Prelude.{NodeState}
 use Rattle.thp_node.proofs.BatchRuns.{node_recorded}
 use Rattle.thp_live_pages.proofs.Homing.{legal_homed}

@@ -1,5 +1,5 @@
 use Rattle.std.proofs.Common.{◌≡◌, count_by, take, drop, map}
-use Rattle.thp_model.specs.Prelude.{try_event}
+use Rattle.thp_history.specs.Prelude.{try_event}
 use Rattle.thp_node.specs.Prelude.{rest, Did, is_used}
 use Rattle.thp_node.proofs.node.Node.try_all.Given as goal
 

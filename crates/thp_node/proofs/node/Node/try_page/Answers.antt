@@ -1,7 +1,7 @@
 use Rattle.std.proofs.Common.{◌≡◌, ◌∷◌, [], ◌++◌, ap, sym, ◌∙◌, subst, arith}
-use Rattle.thp_model.specs.declared.events.Event.{Event}
-use Rattle.thp_model.specs.declared.events.What.TheVariants.{Pinned}
-use Rattle.thp_model.specs.Prelude.{by, pins, is_split_candidate, try_event}
+use Rattle.thp_history.specs.declared.events.Event.{Event}
+use Rattle.thp_history.specs.declared.events.What.TheVariants.{Pinned}
+use Rattle.thp_history.specs.Prelude.{by, pins, is_split_candidate, try_event}
 use Rattle.thp_node.specs.Prelude.{Did, NodeState}
 use Rattle.thp_node.proofs.BatchRuns.{flies_inside, slot_inside, node_recorded, pins_there, tried_split, tried_pinned, tried_used, FoundPinned, found_pinned}
 use Rattle.thp_node.proofs.CallLemmas.{did_one, node_of}

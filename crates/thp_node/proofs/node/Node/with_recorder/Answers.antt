@@ -1,6 +1,6 @@
 use Rattle.std.proofs.Common.{[], sym, subst}
-use Rattle.thp_model.specs.declared.shape.Shape.{Shape}
-use Rattle.thp_model.specs.Prelude.{History}
+use Rattle.thp_history.specs.declared.shape.Shape.{Shape}
+use Rattle.thp_history.specs.Prelude.{History}
 use Rattle.thp_live_pages.specs.Prelude.{IsNode}
 use Rattle.thp_live_pages.proofs.Starting.{node_none}
 use Rattle.thp_node.proofs.node.Node.with_recorder.Goals as goal

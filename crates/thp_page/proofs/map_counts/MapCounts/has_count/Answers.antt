@@ -1,6 +1,6 @@
 use Rattle.std.proofs.Common.{◌∙◌, ◌&&◌, ap, sym, nat_eq}
-use Rattle.thp_model.specs.Prelude.{covers}
-use Rattle.thp_model.proofs.Below.{some_below-ext}
+use Rattle.thp_history.specs.Prelude.{covers}
+use Rattle.thp_history.proofs.Below.{some_below-ext}
 use Rattle.thp_page.proofs.Seen.{seen_at}
 use Rattle.thp_page.proofs.map_counts.MapCounts.has_count.Goals as goal
 

@@ -1,5 +1,5 @@
 use Rattle.std.proofs.Common.{◌∙◌, ap, sym, nat_lt, slice_index}
-use Rattle.thp_model.specs.Prelude.{has}
+use Rattle.thp_history.specs.Prelude.{has}
 use Rattle.thp_page.proofs.Seen.{mapped_at, seen_at, some_found}
 use Rattle.thp_page.proofs.map_counts.MapCounts.has_mapped.Goals as goal
 

@@ -1,5 +1,5 @@
 use Rattle.std.proofs.Common.{◌∙◌, ◌&&◌, not, ap, sym, nat_eq, slice_index}
-use Rattle.thp_model.specs.Prelude.{has, covers, get_or-set_of}
+use Rattle.thp_history.specs.Prelude.{has, covers, get_or-set_of}
 use Rattle.thp_page.specs.Prelude.{in_word}
 use Rattle.thp_page.proofs.Seen.{seen_at, mapped_at, some_found, not_mapped}
 use Rattle.thp_page.proofs.map_counts.MapCounts.has_unmapped.Goals as goal

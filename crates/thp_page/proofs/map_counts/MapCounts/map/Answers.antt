@@ -1,5 +1,5 @@
 use Rattle.std.proofs.Common.{◌∙◌, ◌+◌, ap, sym, cond, slice_index}
-use Rattle.thp_model.specs.Prelude.{has, covers, get_or-set_of}
+use Rattle.thp_history.specs.Prelude.{has, covers, get_or-set_of}
 use Rattle.thp_page.proofs.map_counts.MapCounts.map.Goals as goal
 
 pub map_each-requires-else-holds : goal.map_each-requires-else-holds

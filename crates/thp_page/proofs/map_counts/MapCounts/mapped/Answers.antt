@@ -1,5 +1,5 @@
 use Rattle.std.proofs.Common.{◌∙◌, ap, sym, nat_lt}
-use Rattle.thp_model.proofs.WordLemmas.{set_of-ext}
+use Rattle.thp_history.proofs.WordLemmas.{set_of-ext}
 use Rattle.thp_page.proofs.Seen.{seen_at}
 use Rattle.thp_page.proofs.map_counts.MapCounts.mapped.Goals as goal
 

@@ -1,6 +1,6 @@
 use Rattle.std.proofs.Common.{◌∙◌, ◌+◌, ◌&&◌, ap, sym, cond, nat_eq, slice_index}
-use Rattle.thp_model.specs.Prelude.{has, covers, get_or-set_of}
-use Rattle.thp_model.proofs.Below.{some_below-ext}
+use Rattle.thp_history.specs.Prelude.{has, covers, get_or-set_of}
+use Rattle.thp_history.proofs.Below.{some_below-ext}
 use Rattle.thp_page.proofs.map_counts.MapCounts.unmap.Goals as goal
 
 pub unmap_each-requires-else-holds : goal.unmap_each-requires-else-holds

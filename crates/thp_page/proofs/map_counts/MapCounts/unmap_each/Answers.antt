@@ -1,6 +1,6 @@
 use Rattle.std.proofs.Common.{◌∙◌, ◌+◌, ◌&&◌, ap, sym, arith, cond, nat_eq, slice_index}
-use Rattle.thp_model.specs.Prelude.{has}
-use Rattle.thp_model.proofs.WordLemmas.{set_of-ext}
+use Rattle.thp_history.specs.Prelude.{has}
+use Rattle.thp_history.proofs.WordLemmas.{set_of-ext}
 use Rattle.thp_page.proofs.Seen.{seen_at, count_at, mapped_at, mapped_less, was_one, some_found}
 use Rattle.thp_page.proofs.map_counts.MapCounts.unmap_each.Goals as goal
 

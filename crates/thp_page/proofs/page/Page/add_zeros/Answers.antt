@@ -1,6 +1,6 @@
 use Rattle.std.proofs.Common.{subst}
-use Rattle.thp_model.specs.Prelude.{PageState, RangeZeroed}
-use Rattle.thp_model.specs.Refusals as call
+use Rattle.thp_history.specs.Prelude.{PageState, RangeZeroed}
+use Rattle.thp_history.specs.Refusals as call
 use Rattle.thp_page.specs.Prelude.{state_of}
 use Rattle.thp_page.proofs.PageRefusals.{allowed_as, write_allowed}
 use Rattle.thp_page.proofs.PageChanges.{kept_zeros}

@@ -1,6 +1,6 @@
 use Rattle.std.proofs.Common.{ap, arith}
 use Rattle.std.proofs.lemmas.Bool.Decides.{nat_tests}
-use Rattle.thp_model.specs.Prelude.{size}
+use Rattle.thp_history.specs.Prelude.{size}
 use Rattle.thp_page.specs.Prelude.{state_of}
 use Rattle.thp_page.proofs.PageSizes.{size_most}
 use Rattle.thp_page.proofs.page.Page.check_write.Goals as goal

@@ -1,6 +1,6 @@
 use Rattle.std.proofs.Common.{◌≡◌, ◌+◌, ◌-◌, ◌<◌, ◌≤◌, ℕ, List, cond, get_or, refl, ap, sym, ◌∙◌, arith, subst}
-use Rattle.thp_model.specs.Prelude.{covers, PageState, size, own_at, RangeMapped, PmdSplit}
-use Rattle.thp_model.specs.Refusals as call
+use Rattle.thp_history.specs.Prelude.{covers, PageState, size, own_at, RangeMapped, PmdSplit}
+use Rattle.thp_history.specs.Refusals as call
 use Rattle.thp_page.specs.Prelude.{state_of}
 use Rattle.thp_page.proofs.RangeLemmas.{covers_inside, covers_true}
 use Rattle.thp_page.proofs.PageSizes.{size_least, size_most}

@@ -1,6 +1,6 @@
 use Rattle.std.proofs.Common.{◌≡◌, ◌∙◌, ◌&&◌, ◌<◌, ℕ, Bool, List, get_or, nat_eq, nat_lt, not, refl, true, false, ap, arith}
 use Rattle.std.proofs.lemmas.Bool.Decides.{nat_tests}
-use Rattle.thp_model.specs.Prelude.{get_or-set_of, has, set_of, PageState, own_at, zero_at}
+use Rattle.thp_history.specs.Prelude.{get_or-set_of, has, set_of, PageState, own_at, zero_at}
 use Rattle.thp_page.specs.Prelude.{state_of}
 use Rattle.thp_page.proofs.SubSets.{set_of-ext}
 use Rattle.thp_page.proofs.page.Page.gone_since.Goals as goal

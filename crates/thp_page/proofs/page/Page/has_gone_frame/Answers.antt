@@ -1,5 +1,5 @@
 use Rattle.std.proofs.Common.{◌≡◌, ◌||◌, ◌&&◌, not, nat_eq, Bool, true, false, refl, ap, sym, ◌∙◌}
-use Rattle.thp_model.specs.Prelude.{PageState, own_at, zero_at, holds, some_in_range}
+use Rattle.thp_history.specs.Prelude.{PageState, own_at, zero_at, holds, some_in_range}
 use Rattle.thp_page.proofs.ZeroSets.{some_gone}
 use Rattle.thp_page.proofs.page.Page.has_gone_frame.Goals.{Joined-self, then-self, else-self}
 use Rattle.thp_page.proofs.page.Page.has_gone_frame.Goals as goal

@@ -1,8 +1,8 @@
 use Rattle.std.proofs.Common.{◌≡◌, ◌+◌, ◌-◌, ◌≤◌, ◌&&◌, ℕ, ap, sym, ◌∙◌, arith, nat_eq}
 use Rattle.std.proofs.lemmas.Bool.Decides.{nat_tests}
-use Rattle.thp_model.specs.Prelude.{covers, most, PageState, size, own_at, total_at, some_in_range}
+use Rattle.thp_history.specs.Prelude.{covers, most, PageState, size, own_at, total_at, some_in_range}
 use Rattle.thp_page.specs.Prelude.{state_of}
-use Rattle.thp_model.proofs.Below.{some_below-ext}
+use Rattle.thp_history.proofs.Below.{some_below-ext}
 use Rattle.thp_page.proofs.PageSizes.{size_least, size_most, range_test}
 use Rattle.thp_page.proofs.page.Page.has_total_at_limit.Goals as goal
 

@@ -1,5 +1,5 @@
 use Rattle.std.proofs.Common.{ap, sym, ◌∙◌, arith, nat_eq}
-use Rattle.thp_model.specs.Prelude.{PageState, size, own_at, some_in_range}
+use Rattle.thp_history.specs.Prelude.{PageState, size, own_at, some_in_range}
 use Rattle.thp_page.specs.Prelude.{state_of}
 use Rattle.thp_page.proofs.PageSizes.{size_most, range_test}
 use Rattle.thp_page.proofs.page.Page.has_unmapped.Goals as goal

@@ -1,7 +1,7 @@
 use Rattle.std.proofs.Common.{◌≡◌, ◌≢◌, ◌+◌, ◌&&◌, ℕ, Bool, false, nat_eq, ap, sym, ◌∙◌, arith, ne_eqb}
 use Rattle.std.proofs.lemmas.Bool.Decides.{nat_tests}
-use Rattle.thp_model.specs.Prelude.{covers, PageState, size, own_at, total_at}
-use Rattle.thp_model.proofs.Below.{some_no}
+use Rattle.thp_history.specs.Prelude.{covers, PageState, size, own_at, total_at}
+use Rattle.thp_history.proofs.Below.{some_no}
 use Rattle.thp_page.proofs.page.Page.has_unused.Goals as goal
 
 pub returns-else-self-eq0 : goal.returns-else-self-eq0

@@ -1,6 +1,6 @@
 use Rattle.std.proofs.Common.{ap, sym, ◌∙◌, arith}
 use Rattle.std.proofs.lemmas.Bool.Decides.{nat_tests}
-use Rattle.thp_model.specs.Prelude.{PageState, has_use}
+use Rattle.thp_history.specs.Prelude.{PageState, has_use}
 use Rattle.thp_page.specs.Prelude.{state_of}
 use Rattle.thp_page.proofs.Trailing.{some_inside}
 use Rattle.thp_page.proofs.PageUse.{has_use-mapped, has_use-unmapped}

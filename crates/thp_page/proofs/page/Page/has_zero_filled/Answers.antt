@@ -1,5 +1,5 @@
 use Rattle.std.proofs.Common.{ap, ◌∙◌, arith}
-use Rattle.thp_model.specs.Prelude.{PageState, size, zero_at, some_in_range}
+use Rattle.thp_history.specs.Prelude.{PageState, size, zero_at, some_in_range}
 use Rattle.thp_page.specs.Prelude.{state_of}
 use Rattle.thp_page.proofs.PageSizes.{size_most}
 use Rattle.thp_page.proofs.ZeroSets.{some_zero}

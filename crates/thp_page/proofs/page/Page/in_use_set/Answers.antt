@@ -1,5 +1,5 @@
 use Rattle.std.proofs.Common.{ap, ◌∙◌, arith}
-use Rattle.thp_model.specs.Prelude.{PageState, used_set}
+use Rattle.thp_history.specs.Prelude.{PageState, used_set}
 use Rattle.thp_page.specs.Prelude.{state_of}
 use Rattle.thp_page.proofs.PageUse.{used_set-mapped, used_set-unmapped}
 use Rattle.thp_page.proofs.page.Page.in_use_set.Goals as goal

@@ -1,11 +1,11 @@
 use Rattle.std.proofs.Common.{◌≡◌, ◌≢◌, ◌+◌, ◌-◌, ◌<◌, ◌≤◌, ◌&&◌, ◌||◌, not, nat_eq, nat_lt, ℕ, Bool, true, false, List, cond, get_or, None, refl, ap, ap₂, sym, ◌∙◌, arith, subst, ne_eqb}
 use Rattle.std.proofs.lemmas.Bool.Decides.{nat_tests}
-use Rattle.thp_model.specs.declared.page_call.Loss.{Loss}
-use Rattle.thp_model.specs.declared.page_call.Loss.TheVariants as loss
-use Rattle.thp_model.specs.Prelude.{covers, has, set_of, get_or-set_of, some_below, PageState, size, own_at, zero_at, drops_use, gives_frames, partly_after, page_refusal, WholeUnmapped, RangeUnmapped, Loses}
-use Rattle.thp_model.specs.Pages.{Pinned}
-use Rattle.thp_model.proofs.WordLemmas.{set_of-ext}
-use Rattle.thp_model.specs.Refusals as call
+use Rattle.thp_history.specs.declared.page_call.Loss.{Loss}
+use Rattle.thp_history.specs.declared.page_call.Loss.TheVariants as loss
+use Rattle.thp_history.specs.Prelude.{covers, has, set_of, get_or-set_of, some_below, PageState, size, own_at, zero_at, drops_use, gives_frames, partly_after, page_refusal, WholeUnmapped, RangeUnmapped, Loses}
+use Rattle.thp_history.specs.Pages.{Pinned}
+use Rattle.thp_history.proofs.WordLemmas.{set_of-ext}
+use Rattle.thp_history.specs.Refusals as call
 use Rattle.thp_page.specs.declared.page.Change.{Change}
 use Rattle.thp_page.specs.Prelude.{Inside, state_of, IsKept, IsChange}
 use Rattle.thp_page.proofs.PageSizes.{size_most, whole_test}

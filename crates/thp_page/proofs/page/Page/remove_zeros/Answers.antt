@@ -1,5 +1,5 @@
 use Rattle.std.proofs.Common.{subst}
-use Rattle.thp_model.specs.Prelude.{PageState, RangeWritten}
+use Rattle.thp_history.specs.Prelude.{PageState, RangeWritten}
 use Rattle.thp_page.specs.Prelude.{state_of}
 use Rattle.thp_page.proofs.PageChanges.{kept_zeros}
 use Rattle.thp_page.proofs.ZeroSets.{written, written_inside}

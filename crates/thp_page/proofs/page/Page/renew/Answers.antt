@@ -1,5 +1,5 @@
 use Rattle.std.proofs.Common.{sym, subst}
-use Rattle.thp_model.specs.Prelude.{PageState, IsFresh}
+use Rattle.thp_history.specs.Prelude.{PageState, IsFresh}
 use Rattle.thp_page.proofs.PageChanges.{fresh_page_is_fresh, fresh_made, fresh_kept}
 use Rattle.thp_page.proofs.page.Page.renew.Goals as goal
 

@@ -1,7 +1,7 @@
 use Rattle.std.proofs.Common.{◌≡◌, ◌+◌, ◌^◌, ◌<◌, ◌≤◌, ℕ, Bool, nat_lt, true, List, cond, get_or, refl, ap, sym, ◌∙◌, arith, subst}
 use Rattle.std.proofs.Math.Pow.{pow_mono}
 use Rattle.std.proofs.lemmas.Bool.Decides.{nat_tests}
-use Rattle.thp_model.specs.Prelude.{has, set_of, get_or-set_of, PageState, size, own_at, gives_frames, PageSplit}
+use Rattle.thp_history.specs.Prelude.{has, set_of, get_or-set_of, PageState, size, own_at, gives_frames, PageSplit}
 use Rattle.thp_page.specs.Prelude.{split_set, state_of}
 use Rattle.thp_page.proofs.Trailing.{behind-split}
 use Rattle.thp_page.proofs.PageChanges.{IsPage-split, zero_inside-same}

@@ -1,5 +1,5 @@
 use Rattle.std.proofs.Common.{ap, ◌∙◌, arith}
-use Rattle.thp_model.specs.Prelude.{size}
+use Rattle.thp_history.specs.Prelude.{size}
 use Rattle.thp_page.specs.Prelude.{state_of}
 use Rattle.thp_page.proofs.PageSizes.{shifted_is_size, size_most}
 use Rattle.thp_page.proofs.page.Page.subpages.Goals as goal

@@ -1,5 +1,5 @@
 use Rattle.std.proofs.Common.{ap, ◌∙◌}
-use Rattle.thp_model.specs.Prelude.{zero_count}
+use Rattle.thp_history.specs.Prelude.{zero_count}
 use Rattle.thp_page.specs.Prelude.{state_of}
 use Rattle.thp_page.proofs.ZeroSets.{set_size-zeros}
 use Rattle.thp_page.proofs.page.Page.zero_count.Goals as goal

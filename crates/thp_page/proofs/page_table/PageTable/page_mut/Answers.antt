@@ -2,7 +2,7 @@ use Rattle.std.proofs.Common.{ap, ap₂, sym, ◌∙◌, refl, get_or, cond, Som
 use Rattle.std.proofs.Math.Path.{fun_ext}
 use Rattle.std.specs.Option.{ghost_name_of, is_some}
 use borrow.Follows.Closed.{read_of}
-use Rattle.thp_model.specs.Prelude.{PageState}
+use Rattle.thp_history.specs.Prelude.{PageState}
 use Rattle.thp_page.specs.Prelude.{with_slot, page_in, paged, with_page}
 use Rattle.thp_page.proofs.TableSteps.{slot_read, descriptor_written, descriptor_kept, slot_of-page, page_in-slot_of}
 use Rattle.thp_page.proofs.page_table.PageTable.page_mut.Goals as goal

@@ -1,5 +1,5 @@
 use Rattle.std.proofs.Common.{ap, ◌∙◌, refl, Some}
-use Rattle.thp_model.specs.Prelude.{PageState}
+use Rattle.thp_history.specs.Prelude.{PageState}
 use Rattle.thp_page.specs.Prelude.{Nowhere, fresh_page, Table, with_slot}
 use Rattle.thp_page.proofs.TableSteps.{both_written, no_number}
 use Rattle.thp_page.proofs.page_table.PageTable.place.Goals as goal

@@ -1,6 +1,6 @@
 use Rattle.std.proofs.Common.{◌^◌, ap, sym, ◌∙◌, arith, ◌≡◌, ◌&&◌, cond, ◌+◌}
 use Rattle.std.proofs.Math.Pow.{pow_mono}
-use Rattle.thp_model.specs.Prelude.{has}
+use Rattle.thp_history.specs.Prelude.{has}
 use Rattle.thp_page.specs.Prelude.{tally}
 use Rattle.thp_page.proofs.Carries.{carried, ends_without, no_carry_out, counts_below, at_plane, turned_at}
 use Rattle.thp_page.proofs.Chosen.{none_chosen}

@@ -1,5 +1,5 @@
 use Rattle.std.proofs.Common.{◌∙◌, ◌+◌, ◌^◌, ap, sym, arith, cond, eq-eqb, ne_eqb}
-use Rattle.thp_model.specs.Prelude.{has}
+use Rattle.thp_history.specs.Prelude.{has}
 use Rattle.thp_page.specs.Prelude.{Planes, tally}
 use Rattle.thp_page.proofs.Chosen.{added_bit, nothing, room_for_bit, bit_read}
 use Rattle.thp_page.proofs.planes.Planes.add_number.Goals as goal

@@ -1,5 +1,5 @@
 use Rattle.std.proofs.Common.{◌≡◌, ℕ, ◌+◌, ◌<◌, ◌≤◌, ◌^◌, ◌%◌, cond}
-use Rattle.thp_model.specs.Prelude.{has}
+use Rattle.thp_history.specs.Prelude.{has}
 use Rattle.thp_page.specs.Prelude.{tally}
 use Rattle.thp_page.proofs.planes.Planes.add_number.Given as goal
 

@@ -1,6 +1,6 @@
 use Rattle.std.proofs.Common.{◌∙◌, ◌^◌, ap, sym, arith, cond}
 use Rattle.std.proofs.Math.Pow.{pow_mono}
-use Rattle.thp_model.specs.Prelude.{has}
+use Rattle.thp_history.specs.Prelude.{has}
 use Rattle.thp_page.proofs.Carries.{at_plane, counts_below, no_planes, one_more}
 use Rattle.thp_page.proofs.planes.Planes.count.Goals as goal
 use Rattle.thp_page.proofs.planes.Planes.count.Goals.{then-contains, else-contains}

@@ -1,5 +1,5 @@
 use Rattle.std.proofs.Common.{◌∙◌, ◌^◌, ◌/◌, ap, sym, ne_eqb}
-use Rattle.thp_model.specs.Prelude.{covers}
+use Rattle.thp_history.specs.Prelude.{covers}
 use Rattle.thp_page.proofs.Chosen.{none_as_large}
 use Rattle.thp_page.proofs.planes.Planes.has_count.Goals as goal
 

@@ -1,5 +1,5 @@
 use Rattle.std.proofs.Common.{◌∙◌, ◌&&◌, ap, nat_eq}
-use Rattle.thp_model.specs.Prelude.{has, covers, get_or-set_of}
+use Rattle.thp_history.specs.Prelude.{has, covers, get_or-set_of}
 use Rattle.thp_page.specs.Prelude.{tally}
 use Rattle.thp_page.proofs.Seen.{some_found}
 use Rattle.thp_page.proofs.planes.Planes.has_small_count.Goals as goal

@@ -1,5 +1,5 @@
 use Rattle.std.proofs.Common.{◌^◌, ap, ◌∙◌, arith, ◌≡◌, ◌&&◌, cond, ◌+◌, get_or-set_same}
-use Rattle.thp_model.specs.Prelude.{has}
+use Rattle.thp_history.specs.Prelude.{has}
 use Rattle.thp_page.specs.Prelude.{tally}
 use Rattle.thp_page.proofs.Carries.{borrowed, ends_even, no_borrow_out, counts_below, turned_at}
 use Rattle.thp_page.proofs.Chosen.{none_chosen}

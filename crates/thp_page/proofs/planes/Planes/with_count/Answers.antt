@@ -1,6 +1,6 @@
 use Rattle.std.proofs.Common.{◌^◌, ◌%◌, ap, sym, ◌∙◌, arith, ◌≡◌, ◌&&◌, nat_eq, Bool, List, eq-eqb, ne_eqb}
 use Rattle.std.specs.Int.{bit_at}
-use Rattle.thp_model.specs.Prelude.{has}
+use Rattle.thp_history.specs.Prelude.{has}
 use Rattle.thp_page.specs.Prelude.{count_in}
 use Rattle.thp_page.proofs.Carries.{at_plane}
 use Rattle.thp_page.proofs.Chosen.{none_chosen, alike_before, compared, none_left, all_compared, with_bit, without_bit, bit_read}

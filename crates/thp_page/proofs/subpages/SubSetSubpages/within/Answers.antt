@@ -1,5 +1,5 @@
 use Rattle.std.proofs.Common.{ap, ◌∙◌, ◌&&◌}
-use Rattle.thp_model.specs.Prelude.{has, get_or-set_of}
+use Rattle.thp_history.specs.Prelude.{has, get_or-set_of}
 use Rattle.thp_page.proofs.subpages.SubSetSubpages.within.Goals as goal
 
 pub returns : goal.returns

@@ -1,6 +1,6 @@
 use Rattle.std.proofs.Common.{◌≡◌, ◌∙◌, ◌++◌, [], ap, sym, Ok, None}
 use Rattle.thp_script.specs.Prelude.{Script, lines_spell, fault_with}
-use Rattle.thp_model.proofs.Options.{not_there}
+use Rattle.thp_history.proofs.Options.{not_there}
 use Rattle.thp_script.proofs.PartLaws.{end_is_wrong, end_spells, script_in_range}
 use Rattle.thp_script.proofs.TextLaws.{told_end}
 use Rattle.thp_script.proofs.script_reader.ScriptReader.finish.Goals as goal

@@ -1,7 +1,7 @@
 use Rattle.std.proofs.Common.{◌≡◌, ◌∙◌, ◌++◌, ◌∷◌, [], arith, length, rules, sym, true, None, vec_len, eqb-true}
 use Rattle.std.specs.Cow.{cow_slice_items}
 use Rattle.thp_script.specs.Prelude.{lines_of}
-use Rattle.thp_model.proofs.Options.{not_there}
+use Rattle.thp_history.proofs.Options.{not_there}
 use Rattle.thp_script.proofs.TextLaws.{nothing_begun, still_one_line, whole_line}
 use Rattle.thp_script.proofs.text_in_parts.TextInParts.next_line.Goals as goal
 use Rattle.thp_script.proofs.text_in_parts.TextInParts.next_line.Goals.{then-is_empty, else-is_empty+in_ok-extend_from_slice-2}

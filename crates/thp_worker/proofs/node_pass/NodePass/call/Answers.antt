@@ -1,8 +1,8 @@
 use Rattle.std.proofs.Common.{◌≡◌, ◌∙◌, refl, sym}
-use Rattle.thp_model.specs.Prelude.{gain_call, gain_what}
-use Rattle.thp_model.specs.Refusals as call
-use Rattle.thp_model.specs.declared.events.What.TheVariants as what
-use Rattle.thp_model.specs.declared.page_call.PageCall.TheVariants as either
+use Rattle.thp_history.specs.Prelude.{gain_call, gain_what}
+use Rattle.thp_history.specs.Refusals as call
+use Rattle.thp_history.specs.declared.events.What.TheVariants as what
+use Rattle.thp_history.specs.declared.page_call.PageCall.TheVariants as either
 use Rattle.thp_worker.specs.Prelude.{node_call_of}
 use Rattle.thp_worker.specs.declared.steps.NodeCall.TheVariants as node
 use Rattle.thp_worker.proofs.HoldingLaws.{alloc_told, count_done, unit_done}

@@ -1,6 +1,6 @@
 use Rattle.std.proofs.Common.{refl, subst, Err, Ok}
-use Rattle.thp_model.specs.Prelude.{loss_call, loss_what}
-use Rattle.thp_model.specs.declared.page_call.PageCall.TheVariants as either
+use Rattle.thp_history.specs.Prelude.{loss_call, loss_what}
+use Rattle.thp_history.specs.declared.page_call.PageCall.TheVariants as either
 use Rattle.thp_worker.specs.Prelude.{One, HeldDone}
 use Rattle.thp_worker.specs.declared.steps.NodeCall.TheVariants as node
 use Rattle.thp_worker.proofs.CommandLaws.{handed_on}

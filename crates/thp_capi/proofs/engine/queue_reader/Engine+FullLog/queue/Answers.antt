@@ -1,6 +1,6 @@
 -- Each event that is read finds a page of the queue, or leaves what is to be found.
 use Rattle.std.proofs.Common.{◌∙◌, ℕ, ◌-◌, true, length, set, ap, sym, subst, arith}
-use Rattle.thp_model.specs.Prelude.{IsLegal, queue}
+use Rattle.thp_history.specs.Prelude.{IsLegal, queue}
 use Rattle.thp_capi.specs.Engines.{EngineState}
 use Rattle.thp_capi.proofs.QueueSteps.{Progress, progress_begins, progress_done, progress_ends, progress_found, progress_on, progress_passes, progress_stores, progress_unqueued, reads}
 use Rattle.thp_capi.proofs.engine.queue_reader.Engine+FullLog.queue.Goals as goal

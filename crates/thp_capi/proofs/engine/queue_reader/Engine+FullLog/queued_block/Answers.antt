@@ -1,6 +1,6 @@
 -- The list that the table has of the page is the one that the journal determines.
 use Rattle.std.proofs.Common.{◌∙◌, ap, sym}
-use Rattle.thp_model.specs.Prelude.{has_page, queue}
+use Rattle.thp_history.specs.Prelude.{has_page, queue}
 use Rattle.thp_live_pages.proofs.Standings.{queued_has}
 use Rattle.thp_capi.specs.Engines.{EngineState}
 use Rattle.thp_capi.proofs.Reading.{at_block, elsewhere, standing_is, unqueued, unseen}

@@ -1,0 +1,13 @@
+use Rattle.std.proofs.Common.{ap, ◌∙◌, ◌||◌}
+use Rattle.thp_history.specs.Prelude.{has, set_of, in_words}
+use Rattle.thp_history.proofs.WordLemmas.{or_words-AreWords, or_words-set_of}
+use Rattle.thp_history.proofs.sub_set.SubSet.union.Goals as goal
+
+pub invariant_of-result : goal.invariant_of-result
+invariant_of-result c = or_words-AreWords c.self.inside.words c.other.inside.words c.self.invariant c.other.invariant
+
+pub returns : goal.returns
+returns c =
+    or_words-set_of c.self.inside.words c.other.inside.words
+    ∙ ap (λ t. set_of (λ i. has t i || has (set_of (in_words c.other.inside.words)) i)) c.self.view_is
+    ∙ ap (λ t. set_of (λ i. has c.args.self i || has t i)) c.other.view_is

@@ -1,0 +1,59 @@
+//! The size of a node.
+ghost use Rattle.std.specs.Prelude.{◌≡◌, ◌≤◌, IsTrue, ◌↔◌};
+ghost use Rattle.thp_history.specs.Limits.{max_order};
+ghost use Rattle.thp_history.specs.Shapes.{subpages, IsShape};
+ghost use Rattle.thp_history.specs.Underused.{shrinks_underused};
+
+/// The number of a node's blocks and the order of its pages. Each page has `2 ^ order` subpages, and each block as many frames.
+/// On x86-64 a page that one PMD entry maps has order 9.
+///
+/// If `underused` is a threshold, the shrinker considers every page and also splits those with more zero-filled subpages than the
+/// threshold (the kernel's switch `shrink_underused`). `None` turns this off.
+#[derive(Clone, Copy, PartialEq, Eq, Debug)]
+pub struct Shape {
+    /// The number of blocks, 1 to 4,096.
+    pub blocks: u32,
+    /// The order of the pages, 2 to 9.
+    pub order: u32,
+    /// The threshold for underused pages, below the number of subpages; `None` if the switch is off.
+    pub underused: Option<u32>,
+}
+
+impl Shape {
+    /// The greatest number of blocks of a node.
+    pub const MAX_BLOCKS: u32 = 4096;
+    /// The least order of a node's pages; `MAX_ORDER` is the greatest.
+    pub const MIN_ORDER: u32 = 2;
+
+    /// The greatest order of a node's pages.
+    pub const MAX_ORDER: u32 = 9;
+
+    /// Returns whether a node can have this shape: 1 to 4,096 blocks, order 2 to 9, and a threshold below the number of subpages.
+    pub fn is_valid(&self) -> bool
+        ensures { IsTrue result ↔ IsShape self.now }
+    {
+        if self.order < Shape::MIN_ORDER || Shape::MAX_ORDER < self.order {
+            return false;
+        }
+        let has_low_threshold = match self.underused {
+            None => true,
+            Some(threshold) => threshold < self.subpages(),
+        };
+        has_low_threshold && 1 <= self.blocks && self.blocks <= Shape::MAX_BLOCKS
+    }
+
+    /// Returns whether the shrinker looks for underused pages, that is, whether the switch is on.
+    pub fn shrinks_underused(&self) -> bool
+        ensures { result ≡ shrinks_underused self.now }
+    {
+        self.underused.is_some()
+    }
+
+    /// Returns the number of subpages of a page.
+    pub fn subpages(&self) -> u32
+        requires { self.now.order ≤ max_order }
+        ensures { result ≡ subpages self.now }
+    {
+        1 << self.order
+    }
+}

@@ -1,9 +1,0 @@
-use Rattle.thp_model.proofs.FlightLaws.{stands_whole}
-use Rattle.thp_model.proofs.Standing.{once_of_legal}
-use Rattle.thp_model.proofs.laws.no_page_stands_twice.Goals as goal
-
-pub returns-clause-once : goal.returns-clause-once
-returns-clause-once c = once_of_legal
-
-pub returns-clause-whole : goal.returns-clause-whole
-returns-clause-whole c = stands_whole
