@@ -123,15 +123,5 @@ is_closed h = some_event closes h
 abbrev pub is_used : History → ℕ → ℕ → Bool
 is_used h p i = is_live h p && nat_lt 0 (total h p i)
 
--- the same as propositions
-abbrev pub IsLive : History → ℕ → Type 0
-IsLive h p = IsTrue (is_live h p)
-
 abbrev pub IsSplit : History → ℕ → Type 0
 IsSplit h p = IsTrue (is_split h p)
-
-abbrev pub IsClosed : History → Type 0
-IsClosed h = IsTrue (is_closed h)
-
-abbrev pub IsUsed : History → ℕ → ℕ → Type 0
-IsUsed h p i = IsTrue (is_used h p i)

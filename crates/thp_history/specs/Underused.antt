@@ -71,13 +71,3 @@ is_underused s h p = is_above s.underused (zero_filled s h p)
 -- page p is worth a split
 abbrev pub is_worth_split : Shape → History → ℕ → Bool
 is_worth_split s h p = is_partly_mapped s h p || is_underused s h p
-
--- the same as propositions
-abbrev pub IsZeroFilled : History → ℕ → ℕ → Type 0
-IsZeroFilled h p i = IsTrue (is_zero_filled h p i)
-
-abbrev pub IsPartlyMapped : Shape → History → ℕ → Type 0
-IsPartlyMapped s h p = IsTrue (is_partly_mapped s h p)
-
-abbrev pub IsUnderused : Shape → History → ℕ → Type 0
-IsUnderused s h p = IsTrue (is_underused s h p)

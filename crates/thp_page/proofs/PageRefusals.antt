@@ -90,10 +90,6 @@ pub write_allowed : (t : PageState) (p first count : ℕ) → page_refusal t (ca
 unfolding page_refusal
 write_allowed t p first count e = grind (arith, good_range, none_of_three, nat_eq)
 
-pub zero_fill_allowed : (t : PageState) (p first count : ℕ) → page_refusal t (call.zero_fill p first count) ≡ None → first + count ≤ size t
-unfolding page_refusal
-zero_fill_allowed t p first count e = grind (arith, good_range, none_of_three, nat_eq)
-
 -- what isn't refused of a page isn't refused of its fields' state
 pub allowed_as : (t u : PageState) (k : call.Call) → t ≡ u → page_refusal u k ≡ None → page_refusal t k ≡ None
 allowed_as t u k same e = ap (λ v. page_refusal v k) same ∙ e
