@@ -10,9 +10,9 @@ proves the crate again from scratch.
 
 `rt` proves one library after the other, and allows only one run in a crate and the crates below it. This program therefore
 runs `rt lib` for each library in a folder of its own, with the built libraries that it uses next to it, and then moves the
-result to the tree, where the next `rt` finds it. A library with the longest chain of remaining work, or nearly so, gets a process for
-each processor. Each of the others gets one, at a lower priority: several processes take a fifth more processor time. Libraries that
-are already proved are left alone: `rt` itself checks them at the end.
+result to the tree, where the next `rt` finds it. A library gets one process, at a lower priority, where that delays no other: several
+processes take a fifth more processor time. A library with the longest chain of remaining work, or with one that would become the
+longest, gets a process for each processor. Libraries that are already proved are left alone: `rt` itself checks them at the end.
 
 The line in which `rt` reports that a crate is proved, its verdict line, is stored in the crate's out/, with the sum of the sources
 that it is for, and the hashes of what was built from them (`verdict`). Where `rt` takes a proof from another checkout, the line of
@@ -50,8 +50,8 @@ PARTS = ("src", "specs", "proofs")
 AT_ONCE, EACH = 4, 5
 """The greatest number of concurrent proofs, and the free memory in GiB that each needs."""
 
-NEAR = 0.8
-"""A chain of remaining work with this part of the longest one's lines counts as nearly as long."""
+ALONE = 3
+"""How many times as long a proof takes by one process at a lower priority as by a process for each processor."""
 
 ENDING = threading.Event()
 """Set when the run must end because a library is not proved."""
@@ -86,13 +86,18 @@ def files(name: str) -> list[Path]:
     return [it for part in PARTS for it in (CRATES / name / part).rglob("*") if it.is_file()]
 
 
+def lines(name: str) -> int:
+    """The number of lines of these files."""
+    return sum(it.read_bytes().count(b"\n") for it in files(name))
+
+
 def works_after(target: str) -> dict[str, int]:
     """For each library below the crate, the number of lines that must be proved one after the other from it on, itself
     included."""
     behind: dict[str, int] = {}
     for name in reversed(below(target)):
         above = [behind[it] for it in below(target) if name in listed()[it][1]]
-        behind[name] = max(above, default=0) + sum(it.read_bytes().count(b"\n") for it in files(name))
+        behind[name] = max(above, default=0) + lines(name)
     return behind
 
 
@@ -307,7 +312,8 @@ def prove_all(target: str, most: int, started: list[subprocess.Popen[str]]) -> b
             missing = {*left, *running.values()}
             ready = [it for it in left if not missing & {*below(it)}]
             for name in ready[: most - len(running)]:
-                is_urgent = behind[name] >= NEAR * max(behind[it] for it in missing)
+                slowly = behind[name] + (ALONE - 1) * lines(name)
+                is_urgent = slowly >= max(behind[it] for it in missing)
                 running[pool.submit(prove, name, is_urgent, started)] = name
                 left.remove(name)
             for ended in wait(running, return_when=FIRST_COMPLETED).done:
