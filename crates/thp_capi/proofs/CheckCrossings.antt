@@ -19,7 +19,7 @@ use Rattle.thp_links.specs.contracts.link_vec.LinkVec as LinkVec
 use Rattle.thp_links.specs.contracts.link_vec.LinkVec.TheInside as in_links
 use Rattle.thp_history.specs.contracts.events.Event as Event
 use Rattle.thp_check.specs.contracts.node_state.NodeState as NodeState
-use Rattle.thp_check.proofs.tally.Tally.TheSendSync as tally
+use Rattle.thp_history.proofs.tally.Tally.TheSendSync as tally
 use Rattle.thp_check.specs.contracts.replay.Replay as Replay
 use Rattle.thp_check.specs.contracts.replay.Replay.TheInside as in_replay
 use Rattle.thp_journal_reader.specs.contracts.line.Line as Line

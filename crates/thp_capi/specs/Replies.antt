@@ -2,12 +2,12 @@
 use Rattle.std.specs.Prelude.{◌≡◌, ℕ, ◌<◌, ◌≤◌, ◌-◌, ◌^◌, min, Bool, List, length, if◌then◌else◌, nat_eq}
 use Rattle.thp_history.specs.declared.events.Outcome.{Outcome}
 use Rattle.thp_history.specs.declared.events.Outcome.TheVariants.{Stays, Queued, Freed}
-use Rattle.thp_history.specs.Prelude.{allocations, frames_given, frames_held, max_subpages, queue, has, in_words}
+use Rattle.thp_history.specs.Prelude.{allocations, frames_given, frames_held, max_subpages, queue, has, in_words, counters_of}
 use Rattle.thp_node.specs.declared.answers.BackReply.{BackReply}
 use Rattle.thp_node.specs.declared.answers.ScanReply.{ScanReply}
 use Rattle.thp_node.specs.declared.answers.Tried.{Tried}
 use Rattle.thp_node.specs.declared.answers.Tried.TheVariants as try
-use Rattle.thp_node.specs.Prelude.{counters_of, NodeState}
+use Rattle.thp_node.specs.Prelude.{NodeState}
 use Rattle.thp_capi.specs.declared.replies.ThpBack.{ThpBack}
 use Rattle.thp_capi.specs.declared.replies.ThpScan.{ThpScan}
 use Rattle.thp_capi.specs.declared.replies.ThpTried.{ThpTried}

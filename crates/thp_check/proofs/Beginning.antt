@@ -7,7 +7,7 @@ use Rattle.thp_history.proofs.FlightLaws.{flight_none}
 use Rattle.thp_history.proofs.Pushes.{is_taking_push}
 use Rattle.thp_page.specs.Prelude.{slot_at}
 use Rattle.thp_live_pages.specs.Prelude.{block_of}
-use Rattle.thp_live_pages.proofs.Starting.{few_events}
+use Rattle.thp_history.proofs.Totals.{few_events}
 use Rattle.thp_live_pages.proofs.Starting.{node_none}
 use Rattle.thp_check.specs.Prelude.{NodeState, blocks_in, Keeps, Means, is_taker}
 

@@ -9,6 +9,5 @@ pub mod Beginning
 pub mod Deciding
 pub mod FreeMarks
 pub mod Showing
-pub mod Totals
 pub mod Joined
 pub mod Fitting

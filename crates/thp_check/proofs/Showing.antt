@@ -7,7 +7,7 @@ use Rattle.std.proofs.lemmas.List.Elements.{filter-append}
 use Rattle.std.proofs.lemmas.List.FromFn.{map-range_with_len_more}
 use Rattle.thp_history.specs.declared.events.What.TheVariants.{Split}
 use Rattle.thp_history.specs.declared.shape.Shape.{Shape}
-use Rattle.thp_history.specs.Prelude.{is_live, is_used, whole, block_in_use, is_held, History, PageState, Tallies, size, total_at, zero_at, zero_set, used_set, holds, set_of, has, subpages, is_zero_filled, is_partly_mapped, shrinks_underused, get_or-set_of}
+use Rattle.thp_history.specs.Prelude.{is_live, is_used, whole, block_in_use, is_held, History, PageState, Tallies, size, total_at, zero_at, zero_set, used_set, holds, set_of, has, subpages, is_zero_filled, is_partly_mapped, shrinks_underused, get_or-set_of, IsContext}
 use Rattle.thp_history.proofs.ListPlaces.{append_none}
 use Rattle.thp_history.proofs.PageRefusals.{held_is}
 use Rattle.thp_history.proofs.Tallying.{size_is, total_is, whole_is}
@@ -18,7 +18,7 @@ use Rattle.thp_live_pages.proofs.Admitting.{Found, found, at_home, not_live}
 use Rattle.thp_live_pages.proofs.Homing.{Homed, legal_homed, block_free, block_taken}
 use Rattle.thp_live_pages.proofs.Looking.{node_read}
 use Rattle.thp_live_pages.proofs.Relinking.{page_there}
-use Rattle.thp_check.specs.Prelude.{NodeState, Means, is_taken, page_at, number_or_0, IsContext}
+use Rattle.thp_check.specs.Prelude.{NodeState, Means, is_taken, page_at, number_or_0}
 use Rattle.thp_check.proofs.FlightBlocks.{LieIn}
 
 -- two lists that begin alike

@@ -3,7 +3,6 @@ pub mod Reasons
 pub mod Meanings
 pub mod Replays
 pub mod Freeing
-pub mod Totals
 pub mod Showing
 pub mod Explanations
 pub mod Fitting

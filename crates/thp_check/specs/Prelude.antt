@@ -10,8 +10,5 @@ pub use Rattle.thp_check.specs.Meanings.{Follows, IsMisfit, Keeps, Means, is_tak
 pub use Rattle.thp_check.specs.Reasons.{Explains, ExplainsBy, with_frames, with_outcome}
 pub use Rattle.thp_check.specs.Replays.{Replayed, with_event}
 pub use Rattle.thp_check.specs.Showing.{is_taken, number_or_0, page_at}
-pub use Rattle.thp_check.specs.Totals.{Adds, AddsUp, HasRoom, IsContext, frames_of, pmds_of, underused_of}
 pub use Rattle.thp_check.specs.declared.misfit.Misfit.{Misfit}
 pub use Rattle.thp_check.specs.declared.node_state.NodeState.{NodeState}
-pub use Rattle.thp_check.specs.declared.tally.EventContext.{EventContext}
-pub use Rattle.thp_check.specs.declared.tally.Tally.{Tally}

@@ -24,7 +24,6 @@ mod node_state;
 mod pieces;
 mod reason_text;
 mod replay;
-mod tally;
 
 pub use checking::check;
 pub use explanation::put_explanation;

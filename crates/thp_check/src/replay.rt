@@ -1,21 +1,19 @@
 //! A replay of a history, event by event.
 ghost use Rattle.std.specs.Prelude.{◌≡◌, ◌≤◌, ◌<◌, ◌+◌, ◌*◌, ◌^◌, ℕ, [], ◌∷◌, ◌++◌, length, slice_get, IfOk, IfErr, IfSome};
-ghost use Rattle.thp_history.specs.Prelude.{least_free, allocations, is_closed, History, by, Fits, IsLegal, max_order, min_order, queue, in_words};
+ghost use Rattle.thp_history.specs.Prelude.{least_free, allocations, is_closed, History, by, Fits, IsLegal, max_order, min_order, queue, in_words, IsContext};
 ghost use Rattle.thp_history.specs.declared.shape.Shape.{Shape};
 ghost use Rattle.thp_check.specs.Freeing.{free_after, taken_block, IsFreed};
 ghost use Rattle.thp_check.specs.Meanings.{Means};
 ghost use Rattle.thp_check.specs.Reasons.{Explains};
 ghost use Rattle.thp_check.specs.Replays.{with_event};
-ghost use Rattle.thp_check.specs.Totals.{IsContext};
 
 mod reading;
 
 use crate::misfit::Misfit;
 use crate::node_state::NodeState;
-use crate::tally::{EventContext, Tally};
 use std::alloc::{AllocError, Global};
 use std::marker::Model;
-use thp_history::{Event, PageId, Shape, Trace, What};
+use thp_history::{Event, PageId, Shape, SplitContext, Tally, Trace, What};
 use thp_live_pages::{FreeBlocks, freed_page};
 
 /// The state of a node after the events of its history so far, which is legal: its pages, its queue, and its flights. It stores
@@ -36,7 +34,7 @@ impl Model for Replay {
     ghost use Rattle.thp_check.specs.Freeing.{MarksFree};
     ghost use Rattle.thp_check.specs.Meanings.{Means};
     ghost use Rattle.thp_check.specs.Replays.{Replayed};
-    ghost use Rattle.thp_check.specs.Totals.{AddsUp};
+    ghost use Rattle.thp_history.specs.Prelude.{AddsUp};
 
     ghost Value = { Replayed };
 
@@ -146,22 +144,18 @@ fn freed_block(state: &NodeState, what: &What) -> Option<u32>
 }
 
 // The facts about a split that its event does not contain.
-fn context_of(state: &NodeState, what: &What) -> EventContext
+fn context_of(state: &NodeState, what: &What) -> SplitContext
     ensures { (s : Shape) (h : History) (c : ℕ) → Means s h state.now → Fits s h (by c what.now) → IsContext s h what.now result }
 {
-    let none = EventContext {
-        mappings: 0,
-        underused: false,
-    };
     let What::Split { page, .. } = what else {
-        return none;
+        return SplitContext::none();
     };
     match state.places.find(*page) {
-        Some(block) => EventContext {
+        Some(block) => SplitContext {
             mappings: state.places.whole(block),
             underused: !state.places.is_partly(block),
         },
-        None => none,
+        None => SplitContext::none(),
     }
 }
 

@@ -198,6 +198,23 @@ as_live_step shape h c (UnmapSub o p x m r) t f s = living_by h (by c (UnmapSub 
 as_live_step shape h c (Unpin o p r) t f s = living_by h (by c (Unpin o p r)) p o refl refl (λ q. refl) (λ q. refl) s
 as_live_step shape h c w t f s = living_same h (by c w) refl refl (λ q. refl) (λ q. refl) s
 
+-- blocks taken out stay apart
+all_filter : (P : ℕ → Type 0) (t : ℕ × ℕ → Bool) (bs : List (ℕ × ℕ)) → AllByRecursion P (map (λ (f : ℕ × ℕ). f.0) bs) → AllByRecursion P (map (λ (f : ℕ × ℕ). f.0) (filter t bs))
+all_filter P t [] a = a
+all_filter P t (f ∷ bs) a = go (t f) (filter t bs) (all_filter P t bs a.1) where
+  go : (b : Bool) (gs : List (ℕ × ℕ)) → AllByRecursion P (map (λ (f : ℕ × ℕ). f.0) gs) → AllByRecursion P (map (λ (f : ℕ × ℕ). f.0) (cond b (f ∷ gs) gs))
+  go true gs h = (a.0, h)
+  go false gs h = h
+
+-- what a filter keeps stays apart
+apart_filter : (t : ℕ × ℕ → Bool) (bs : List (ℕ × ℕ)) → IsDistinct nat_eq (map (λ (f : ℕ × ℕ). f.0) bs) → IsDistinct nat_eq (map (λ (f : ℕ × ℕ). f.0) (filter t bs))
+unfolding IsDistinct
+apart_filter t [] a = a
+apart_filter t (f ∷ bs) a = go (t f) (filter t bs) (all_filter (λ y. nat_eq f.0 y ≡ false) t bs a.0) (apart_filter t bs a.1) where
+  go : (b : Bool) (gs : List (ℕ × ℕ)) → AllByRecursion (λ y. nat_eq f.0 y ≡ false) (map (λ (f : ℕ × ℕ). f.0) gs) → IsDistinct nat_eq (map (λ (f : ℕ × ℕ). f.0) gs) → IsDistinct nat_eq (map (λ (f : ℕ × ℕ). f.0) (cond b (f ∷ gs) gs))
+  go true gs h k = (h, k)
+  go false gs h k = k
+
 -- what a filter keeps was there
 in_filter : (b : ℕ) (t : ℕ × ℕ → Bool) (bs : List (ℕ × ℕ)) → list_any (nat_eq b) (map (λ (f : ℕ × ℕ). f.0) (filter t bs)) ≡ true → list_any (nat_eq b) (map (λ (f : ℕ × ℕ). f.0) bs) ≡ true
 in_filter b t [] e = e
@@ -212,6 +229,27 @@ in_filter b t (f ∷ bs) e = go (t f) (nat_eq b f.0) _ refl (in_filter b t bs) e
 record Good (blocks : ℕ) (bs : List (ℕ × ℕ)) : Type 0 where
   apart : IsDistinct nat_eq (map (λ (f : ℕ × ℕ). f.0) bs)
   in_range : (b : ℕ) → list_any (nat_eq b) (map (λ (f : ℕ × ℕ). f.0) bs) ≡ true → b < blocks
+
+-- blocks in use after an outcome stay apart and below the limit
+good_by : (blocks : ℕ) (bs : List (ℕ × ℕ)) (p : ℕ) (o : Outcome) → Good blocks bs → Good blocks (occupied_by bs p o)
+good_by blocks bs p x g = grind (arith, apart_filter, nat_eq, in_filter)
+
+-- the same after any event that fits
+good_step : (shape : Shape) (h k : History) (c : ℕ) (w : What) → ((b : ℕ) → block_in_use h b ≡ list_any (nat_eq b) (blocks_in_use h)) → FitsBy shape h k c w → Good shape.blocks (occupied h) → Good shape.blocks (occupied_after (occupied h) w)
+good_step shape h k c (Alloc p b) is f g =
+    let keys : map (λ (f : ℕ × ℕ). f.0) (occupied h ++ (b, p) ∷ []) ≡ blocks_in_use h ++ b ∷ [] = map-append (λ (f : ℕ × ℕ). f.0) (occupied h) ((b, p) ∷ []) in
+    let D : List ℕ → Type 0 = λ ks. IsDistinct nat_eq ks in
+    record {
+      apart = subst D (sym keys) (IsDistinct-push eqb_laws (blocks_in_use h) b g.apart (sym (is b) ∙ f.free));
+      in_range = λ d e. go d _ refl (sym (list_any-append (nat_eq d) (blocks_in_use h) (b ∷ [])) ∙ sym (ap (λ ks. list_any (nat_eq d) ks) keys) ∙ e);
+    } where
+      go : (d : ℕ) (x : Bool) → list_any (nat_eq d) (blocks_in_use h) ≡ x → (list_any (nat_eq d) (blocks_in_use h) || (nat_eq d b || false)) ≡ true → d < shape.blocks
+      go d true i e = g.in_range d i
+      go d false i e = let y : nat_eq d b ≡ true = sym (or-false (nat_eq d b)) ∙ sym (ap (λ v. v || (nat_eq d b || false)) i) ∙ e in let z : d ≡ b = eqb-true d b y in omega (arith, f.inside)
+good_step shape h k c (UnmapWhole o p r) is f g = good_by shape.blocks (occupied h) p o g
+good_step shape h k c (UnmapSub o p x m r) is f g = good_by shape.blocks (occupied h) p o g
+good_step shape h k c (Unpin o p r) is f g = good_by shape.blocks (occupied h) p o g
+good_step shape h k c w is f g = g
 
 -- what holds of the blocks of a legal history
 pub record Placed (shape : Shape) (h : History) : Type 0 where

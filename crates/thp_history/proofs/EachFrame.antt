@@ -20,6 +20,23 @@ Turns shape h e p i = cond (is_held shape (h ++ e ∷ []) p i) 1 0 + cond (gives
 same_turn : (shape : Shape) (h : History) (e : Event) (p i : ℕ) → is_held shape (h ++ e ∷ []) p i ≡ is_held shape h p i → gives_frame p i e.what ≡ false → allocates p e.what ≡ false → Turns shape h e p i
 same_turn shape h e p i s g a = grind arith
 
+-- an event that gives back frames of page q
+release_turn : (shape : Shape) (h : History) (e : Event) (q : ℕ) (r : List Bool) (p i : ℕ) → shape.order ≤ 9 → i < subpages shape → allocates p e.what ≡ false → gives_frame p i e.what ≡ (nat_eq p q && has r i) →
+    r ≡ released shape h (h ++ e ∷ []) q → (is_held shape (h ++ e ∷ []) q i ≡ true → is_held shape h q i ≡ true) → ((p ≢ q) → is_held shape (h ++ e ∷ []) p i ≡ is_held shape h p i) → Turns shape h e p i
+release_turn shape h e q r p i small below a g is falls still =
+    elim (eqb_tells p q) [
+      | inl y ↦
+          let at : has r i ≡ (is_held shape h q i && not (is_held shape (h ++ e ∷ []) q i)) = ap (λ t. has t i) is ∙ get_or-set_of (λ j. is_held shape h q j && not (is_held shape (h ++ e ∷ []) q j)) i (omega (arith, few_subpages shape small)) in
+          let P : ℕ → Type 0 = λ x. cond {A = ℕ} (is_held shape (h ++ e ∷ []) x i) 1 0 + cond (gives_frame p i e.what) 1 0 ≡ cond (is_held shape h x i) 1 0 + cond (allocates p e.what) 1 0 in
+          subst P (sym y.1) (go (is_held shape h q i) (is_held shape (h ++ e ∷ []) q i) (has r i) _ _ _ at g y.0 a falls)
+      | inr y ↦ same_turn shape h e p i (still y.1) (g ∙ and_no _ _ y.0) a
+    ] where
+      go : (x y t g m a : Bool) → t ≡ (x && not y) → g ≡ (m && t) → m ≡ true → a ≡ false → (y ≡ true → x ≡ true) → cond {A = ℕ} y 1 0 + cond g 1 0 ≡ cond x 1 0 + cond a 1 0
+      go true true t g m a e f i j k = rw (f, i, e, j) refl
+      go true false t g m a e f i j k = rw (f, i, e, j) refl
+      go false true t g m a e f i j k = absurd (let z : false ≡ true = k refl in cc)
+      go false false t g m a e f i j k = rw (f, i, e, j) refl
+
 -- a page without events holds nothing
 fresh_held : (shape : Shape) (h : History) (p i : ℕ) → Fresh h p → is_held shape h p i ≡ false
 fresh_held shape h p i f = grind (arith, nat_lt)

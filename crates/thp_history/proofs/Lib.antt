@@ -28,6 +28,7 @@ pub mod PageRefusals
 pub mod PageOutcomes
 pub mod FlightLaws
 pub mod EachFrame
+pub mod Totals
 pub mod PartlyStands
 pub mod Alike
 pub mod Asked

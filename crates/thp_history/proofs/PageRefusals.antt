@@ -30,6 +30,11 @@ held_gone shape h p i l = go (nat_lt i (subpages shape)) _ _ l where
   go true false y e = refl
   go false l y e = refl
 
+-- the first test, of a live page
+live_first : (l : Bool) (x : Refusal) (r : Option Refusal) → l ≡ true → cond (not l) (Some x) r ≡ r
+live_first true x r e = refl
+live_first false x r e = absurd (cc)
+
 -- whether a subpage's total is at the limit
 full_is : (shape : Shape) (h : History) (p : ℕ) (t : PageState) → Tallies shape h p t → (i : ℕ) → i < subpages shape → nat_eq (total h p i) most ≡ nat_eq (total_at t i) most
 full_is shape h p t m i below = ap (λ n. nat_eq n most) (total_is shape h p i t m below)

@@ -153,6 +153,11 @@ entered : (shape : Shape) (h : History) (p q n : ℕ) (a b : Bool) → Sound sha
     n ≡ stand shape h q + cond (nat_eq p q) 1 0 → a ≡ false → b ≡ false → Next h q n a b
 entered shape h p q n a b s l w none e f g = grind (arith, eqb_tells, nat_eq, one_if, none_if, less)
 
+-- a page that is p, or isn't
+unless_same : (shape : Shape) (h : History) (p q n : ℕ) (a b : Bool) → Sound shape h → n ≤ stand shape h q → (q ≡ p → n ≡ 0) →
+    (nat_eq q p ≡ false → (a ≡ false) × (b ≡ false)) → Next h q n a b
+unless_same shape h p q n a b s le f g = grind (arith, eqb_tells, gone, less)
+
 -- what holds at p
 at : (q p : ℕ) (f : ℕ → ℕ) → f p ≡ 0 → q ≡ p → f q ≡ 0
 at q p f e y = ap f y ∙ e

@@ -16,6 +16,23 @@ pub record Took (shape : Shape) (h k : History) (c : ℕ) (ps qs : List ℕ) : T
   pub joined : flight k c ≡ flight h c ++ ps
   pub may : (no_pages (flight k c) || is_taking k c) ≡ true
 
+-- the oldest pages can be taken one by one by a caller with nothing in flight, or one that goes on taking
+pub take_run : (shape : Shape) (h : History) (c : ℕ) (ps qs : List ℕ) → IsLegal shape h → queue shape h ≡ ps ++ qs → (no_pages (flight h c) || is_taking h c) ≡ true →
+    Took shape h (h ++ takes_of c ps) c ps qs
+take_run shape h c [] qs l q t =
+    let P : History → Type 0 = λ x. Took shape h x c [] qs in
+    subst P (sym (append_none h)) (record { legal = l; left = q; joined = sym (append_none (flight h c)); may = t })
+take_run shape h c (p ∷ ps) qs l q t =
+    let e : Event = by c (Taken p) in
+    let k : History = h ++ e ∷ [] in
+    let more : IsLegal shape k = legal_push shape h e l (record { oldest = ap (λ x. slice_get x 0) q; may_take = t }) in
+    let r : Took shape k (k ++ takes_of c ps) c ps qs =
+    take_run shape k c ps qs more (queue_push shape h e ∙ ap (λ x. drop 1 x) q) (or_second _ _ (is_taking_push h c e ∙ eq-eqb c c refl)) in
+    let one : flight k c ≡ flight h c ++ p ∷ [] = flight_push h c c (Taken p) ∙ ap (λ b. cond b (flight h c ++ p ∷ []) (flight h c)) (eq-eqb c c refl) in
+    let P : History → Type 0 = λ x. Took shape h x c (p ∷ ps) qs in
+    subst P (append_assoc h (e ∷ []) (takes_of c ps))
+    (record { legal = r.legal; left = r.left; joined = r.joined ∙ ap (λ x. x ++ ps) one ∙ append_assoc (flight h c) (p ∷ []) ps; may = r.may })
+
 -- a take of n: the queue loses its n oldest pages, which join the flight
 pub take_runs : (shape : Shape) (h : History) (c n : ℕ) → IsLegal shape h → no_pages (flight h c) ≡ true →
     Took shape h (h ++ take_events shape h c n) c (take n (queue shape h)) (drop n (queue shape h))

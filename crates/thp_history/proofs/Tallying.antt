@@ -65,6 +65,17 @@ tallies_stay shape h e p t u m = grind (arith, count_same, some_same, zero_stays
 in_size : (shape : Shape) (h : History) (p : ℕ) (t : PageState) → Tallies shape h p t → (i : ℕ) → i < subpages shape → i < size t
 in_size shape h p t m i below = omega (arith, size_is shape h p t m)
 
+-- the event changes no count of page p
+record IsFilling (p : ℕ) (w : What) : Type 0 where
+  no_maps : (i : ℕ) → maps p i w ≡ false
+  no_unmaps : (i : ℕ) → unmaps p i w ≡ false
+  no_maps_whole : maps_whole p w ≡ false
+  no_unmaps_whole : unmaps_whole p w ≡ false
+  no_pin : pins_page p w ≡ false
+  no_unpin : unpins_page p w ≡ false
+  no_split : splits p w ≡ false
+  no_unmap : unmaps_some p w ≡ false
+
 -- an event of page p covers what its range covers
 covered : (p first count i : ℕ) → (nat_eq p p && covers first count i) ≡ covers first count i
 covered p first count i = ap (λ b. b && covers first count i) (eq-eqb p p refl)
@@ -206,6 +217,21 @@ tallies_split shape h c p r old new t w =
       go : (a b : Bool) → b ≡ true → (a || b) ≡ true
       go true b e = refl
       go false b e = e
+
+-- a write leaves the counts of the page
+counts_kept : (shape : Shape) (h : History) (e : Event) (p : ℕ) (old new : PageState) → Tallies shape h p old → KeepsCounts old new → IsFilling p e.what →
+    ((i : ℕ) → i < subpages shape → zero_at new i ≡ is_zero_filled (h ++ e ∷ []) p i) → Tallies shape (h ++ e ∷ []) p new
+counts_kept shape h e p old new t k u zero = record {
+  order = k.order ∙ t.order;
+  totals = λ i below. omega (arith, count_same (maps p i) h e (u.no_maps i), count_same (unmaps p i) h e (u.no_unmaps i), t.totals i below, k.whole, ap (λ o. slice_index_or o i 0) k.own);
+  whole_of = λ g. omega (arith, count_same (maps_whole p) h e u.no_maps_whole, count_same (unmaps_whole p) h e u.no_unmaps_whole, t.whole_of (sym (some_same (splits p) h e u.no_split) ∙ g), k.whole);
+  no_whole = λ g. k.whole ∙ t.no_whole (sym (some_same (splits p) h e u.no_split) ∙ g);
+  pins_of = omega (arith, count_same (pins_page p) h e u.no_pin, count_same (unpins_page p) h e u.no_unpin, t.pins_of, k.pins);
+  split = k.split ∙ t.split ∙ sym (some_same (splits p) h e u.no_split);
+  zero = zero;
+  partly = partly_kept shape h e p old new t k.partly u.no_unmap;
+  freed_zero_frames = λ g. k.freed_zero_frames ∙ t.freed_zero_frames (sym k.split ∙ g);
+}
 
 -- data written to a range
 pub tallies_write : (shape : Shape) (h : History) (c p first count : ℕ) (old new : PageState) → Tallies shape h p old → RangeWritten first count old new →

@@ -95,6 +95,10 @@ with_bit-set_of ws i h e =
     set_of-ext _ _ (λ k below. with_bit-in ws i k h e ∙ ap (λ b. nat_eq k i || b) (sym (get_or-set_of (in_words ws) k below)))
     ∙ sym (set_set_of (set_of (in_words ws)) i (length-set_of (in_words ws)) h)
 
+-- the bits of either
+abbrev pub or_words : List ℕ → List ℕ → List ℕ
+or_words ws vs = map (λ k. bit_or (get_or ws k 0) (get_or vs k 0)) (range_with_len 0 8)
+
 -- they are words
 pub or_words-AreWords : (ws vs : List ℕ) → AreWords ws → AreWords vs → AreWords (or_words ws vs)
 or_words-AreWords ws vs a b = record {
@@ -131,6 +135,10 @@ ones_below n k = 2 ^ min 64 (n - 64 * k) - 1
 pub below_bit : (n k r : ℕ) → r < 64 → nat_eq (bit_at (ones_below n k) r) 1 ≡ nat_lt (64 * k + r) n
 below_bit n k r h = grind (arith, cases_lt, eq-eqb, bit_at_ones, lt-ltb, nat_eq, bit_at_ones_above, nat_lt, nat_tests)
 
+-- the bits of the first that aren't of the second
+abbrev pub without_words : List ℕ → List ℕ → List ℕ
+without_words ws vs = map (λ k. bit_and (get_or ws k 0) (18446744073709551615 - get_or vs k 0)) (range_with_len 0 8)
+
 -- they are words
 pub without_words-AreWords : (ws vs : List ℕ) → AreWords ws → AreWords (without_words ws vs)
 without_words-AreWords ws vs a = record {
@@ -157,6 +165,10 @@ without_words-set_of ws vs v =
     ∙ sym (ap (λ b. b && not (in_words vs i)) (get_or-set_of (in_words ws) i h))
     ∙ sym (ap (λ b. has (set_of (in_words ws)) i && not b) (get_or-set_of (in_words vs) i h)))
 
+-- the bits of both
+abbrev pub and_words : List ℕ → List ℕ → List ℕ
+and_words ws vs = map (λ k. bit_and (get_or ws k 0) (get_or vs k 0)) (range_with_len 0 8)
+
 -- they are words
 pub and_words-AreWords : (ws vs : List ℕ) → AreWords ws → AreWords (and_words ws vs)
 and_words-AreWords ws vs a = record {
@@ -181,6 +193,10 @@ and_words-set_of ws vs =
     ∙ common_bit _ _ (bit_at-lt (get_or ws (i / 64) 0) (i % 64)) (bit_at-lt (get_or vs (i / 64) 0) (i % 64))
     ∙ sym (ap (λ b. b && in_words vs i) (get_or-set_of (in_words ws) i h))
     ∙ sym (ap (λ b. has (set_of (in_words ws)) i && b) (get_or-set_of (in_words vs) i h)))
+
+-- the bits of one alone
+abbrev pub xor_words : List ℕ → List ℕ → List ℕ
+xor_words ws vs = map (λ k. bit_xor (get_or ws k 0) (get_or vs k 0)) (range_with_len 0 8)
 
 -- they are words
 pub xor_words-AreWords : (ws vs : List ℕ) → AreWords ws → AreWords vs → AreWords (xor_words ws vs)

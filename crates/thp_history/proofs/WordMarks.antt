@@ -34,6 +34,11 @@ unmarked false w r f h e = eq-eqb _ 1 (go (bit_at w r) (bit_at-lt w r) (sym (bit
   go : (n : ℕ) → n < 2 → 1 - n ≡ 0 → n ≡ 1
   go n a b = omega arith
 
+-- a number of the word at hand, by its bit
+has_bit : (ws : List ℕ) (at i : ℕ) → i < 512 → i / 64 ≡ at / 64 → has (set_of (in_words ws)) i ≡ nat_eq (bit_at (get_or ws (at / 64) 0) (i % 64)) 1
+unfolding in_words
+has_bit ws at i h e = get_or-set_of (in_words ws) i h ∙ ap (λ k. nat_eq (bit_at (get_or ws k 0) (i % 64)) 1) e
+
 -- the word at hand fits
 word_fits : (ws : List ℕ) (at : ℕ) → AreWords ws → at < 512 → get_or ws (at / 64) 0 < 2 ^ 64
 word_fits ws at a h = a.fit (at / 64) 0 (omega (arith, a.eight))
@@ -57,6 +62,31 @@ pub record FastFirst (set : List Bool) (b : Bool) (at z : ℕ) : Type 0 where
   pub inside : at + z < 512
   pub found : has set (at + z) ≡ b
   pub none_before : (i : ℕ) → at ≤ i → i < at + z → has set i ≡ not b
+
+-- a mark is below 64
+mark_below : (m r : ℕ) → m < 2 ^ 64 → bit_at m r ≡ 1 → r < 64
+mark_below m r f e = elim (cases_lt r 64) [ inl y ↦ y | inr y ↦ absurd (go (bit_at m r) e (bit_at_above m 64 r f y)) ] where
+  go : (n : ℕ) → n ≡ 1 → n ≡ 0 → ⊥
+  go n a b = omega arith
+
+-- what the bits of the word at hand say of its numbers
+first_in_word : (ws : List ℕ) (b : Bool) (at z : ℕ) → AreWords ws → at < 512 → bit_at (marks b (get_or ws (at / 64) 0)) (at % 64 + z) ≡ 1 →
+    ((i : ℕ) → i < z → bit_at (marks b (get_or ws (at / 64) 0)) (at % 64 + i) ≡ 0) → FastFirst (set_of (in_words ws)) b at z
+first_in_word ws b at z a h e f =
+    let w : ℕ = get_or ws (at / 64) 0 in
+    let fits : w < 2 ^ 64 = word_fits ws at a h in
+    let small : at % 64 + z < 64 = mark_below (marks b w) (at % 64 + z) (marks_fit b w fits) e in
+    record {
+      inside = omega arith;
+      found =
+          has_bit ws at (at + z) (omega arith) (omega arith)
+          ∙ marked b w ((at + z) % 64) fits (omega arith) (ap (λ r. bit_at (marks b w) r) (place at z small) ∙ e);
+      none_before = λ i low high.
+          has_bit ws at i (omega arith) (omega arith)
+          ∙ unmarked b w (i % 64) fits (omega arith) (ap (λ r. bit_at (marks b w) r) (behind at z i small low high) ∙ f (i - at) (omega arith));
+    } where
+      place : (at z : ℕ) → at % 64 + z < 64 → (at + z) % 64 ≡ at % 64 + z
+      place at z h = omega arith
 
       behind : (at z i : ℕ) → at % 64 + z < 64 → at ≤ i → i < at + z → i % 64 ≡ at % 64 + (i - at)
       behind at z i h low high = omega arith

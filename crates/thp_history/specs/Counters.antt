@@ -5,6 +5,7 @@ use Rattle.thp_history.specs.declared.events.Event.{Event}
 use Rattle.thp_history.specs.declared.events.What.{What}
 use Rattle.thp_history.specs.declared.events.What.TheVariants.{UnmapWhole, UnmapSub, SplitPmd, Unpin, Split, Pinned}
 use Rattle.thp_history.specs.declared.shape.Shape.{Shape}
+use Rattle.thp_history.specs.declared.tally.Counters.{Counters}
 use Rattle.thp_history.specs.History.{History, count_of}
 use Rattle.thp_history.specs.Counts.{whole, is_queued}
 use Rattle.thp_history.specs.Underused.{is_partly_mapped}
@@ -62,3 +63,13 @@ add_split_underused s sofar e = (sofar.0 ++ e ∷ [], sofar.1 + splits_underused
 -- the number of pages split as underused
 unfoldable pub thp_underused_split_page : Shape → History → ℕ
 thp_underused_split_page s h = (fold (add_split_underused s) ([], 0) h).1
+
+-- the statistics that a history determines
+abbrev pub counters_of : Shape → History → Counters
+counters_of s h = record {
+  split_page = thp_split_page h;
+  split_page_failed = thp_split_page_failed h;
+  deferred_split_page = thp_deferred_split_page h;
+  underused_split_page = thp_underused_split_page s h;
+  split_pmd = thp_split_pmd h;
+}

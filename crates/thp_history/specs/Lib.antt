@@ -14,6 +14,7 @@ pub mod Checks
 pub mod Asking
 pub mod Runs
 pub mod Counters
+pub mod Totals
 pub mod Pages
 pub mod FlightSteps
 pub mod PageChanges

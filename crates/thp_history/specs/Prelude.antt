@@ -3,7 +3,7 @@ pub use Rattle.thp_history.specs.Asking.{AsksBelow, AsksEvents}
 pub use Rattle.thp_history.specs.BlockLaws.{SameButBlocks, event_with, first_that, with_block}
 unfoldable pub use Rattle.thp_history.specs.BlockLaws.{least_free, with_least_blocks, without_blocks}
 pub use Rattle.thp_history.specs.Checks.{IsCheckResult}
-pub use Rattle.thp_history.specs.Counters.{add_split_pmds, add_split_underused, is_failed_try, is_page_split, queues, splits_pmds, splits_underused, thp_deferred_split_page, thp_split_page, thp_split_page_failed}
+pub use Rattle.thp_history.specs.Counters.{add_split_pmds, add_split_underused, counters_of, is_failed_try, is_page_split, queues, splits_pmds, splits_underused, thp_deferred_split_page, thp_split_page, thp_split_page_failed}
 unfoldable pub use Rattle.thp_history.specs.Counters.{thp_split_pmd, thp_underused_split_page}
 pub use Rattle.thp_history.specs.Counts.{allocates, allocations, closes, frees, is_alloc, is_closed, is_freed, is_live, is_mapped, is_queued, is_split, is_used, loses_use, maps, maps_whole, own, pins, pins_page, splits, total, unmaps, unmaps_whole, unpins_page, whole}
 pub use Rattle.thp_history.specs.FlightSteps.{flight_after, flight_by}
@@ -31,6 +31,7 @@ pub use Rattle.thp_history.specs.Sets.{count_below, covers, has, one_alone, same
 unfoldable pub use Rattle.thp_history.specs.Sets.{each_below, set_of, some_below, sum_below}
 pub use Rattle.thp_history.specs.Shapes.{IsShape}
 unfoldable pub use Rattle.thp_history.specs.Shapes.{subpages}
+pub use Rattle.thp_history.specs.Totals.{Adds, AddsUp, HasRoom, IsContext, frames_of, pmds_of, underused_of, with_loss}
 pub use Rattle.thp_history.specs.Underused.{add_unmap, is_above, is_worth_split, shrinks_underused, unmaps_part, unmaps_some, writes, zero_after, zero_filled, zeroes}
 unfoldable pub use Rattle.thp_history.specs.Underused.{is_partly_mapped, is_zero_filled}
 pub use Rattle.thp_history.specs.UnderusedLaws.{finds_used}

@@ -3,8 +3,8 @@
 //! This is the part to believe: `specs/` has the definitions that all contracts cite; docs/MODEL.md explains them.
 //!
 //! - Values: `events` (`Event`, `What`, `Outcome`, `PageId`), `page_call` (`Gain`, `Loss`, `PageCall`, `Done`), `refusal`,
-//!   `shape`, `limits`, `sub_set` (a set of subpages as 512 bits; proofs `WordSpans`, `WordMarks`), `trace` (what
-//!   happened so far, for contracts alone).
+//!   `shape`, `limits`, `sub_set` (a set of subpages as 512 bits; proofs `WordSpans`, `WordMarks`), `tally` (the sums of
+//!   events; `Totals`), `trace` (what happened so far, for contracts alone).
 //! - Laws of every legal history, as contracts of empty functions: `laws`; worked histories likewise: `rows`.
 //! - `slow_check` of `thp_model` reads the definitions one for one. A definition that changes is changed there, too.
 //! - A page by itself: `Pages`, `PageCalls`, `PageChanges`; proof `PageRefusals`: its refusals are those of the history.
@@ -23,6 +23,7 @@ mod refusal;
 mod rows;
 mod shape;
 mod sub_set;
+mod tally;
 mod trace;
 
 pub use check_fault::CheckFault;
@@ -41,4 +42,5 @@ pub use rows::{
 };
 pub use shape::Shape;
 pub use sub_set::SubSet;
+pub use tally::{Counters, SplitContext, Tally};
 pub use trace::Trace;

@@ -51,6 +51,11 @@ same_without xs b = record {
   from = λ k n m. (Contains-from_without b xs k m).0;
 }
 
+-- the queue after an edit of the slot of block b
+relinked : (t u : Table) (q r : List ℕ) (b : ℕ) (o : Option Slot) → IsLinked t q → u.slots ≡ slice_set t.slots b o → b < length t.slots → length u.links ≡ length t.links →
+    Stands r u.links → SameBut q r b → IsListed o r b → IsLinked u r
+relinked t u q r b o m slots inside links queue same at = grind (arith, length-set, eqb_tells, get_or, get_or-set_same, get_or-set_other)
+
 -- what stands in a block is in the queue exactly where the queue has the block
 listed_at : (t : Table) (q : List ℕ) (b : ℕ) (o : Option Slot) → IsLinked t q → slot_at t b ≡ o → IsListed o q b
 listed_at t q b o m at = let P : Option Slot → Type 0 = λ z. IsListed z q b in subst P at (m.listed b)

@@ -1,10 +1,7 @@
 -- A node with no history.
-use Rattle.std.proofs.Common.{◌≡◌, ℕ, ◌≤◌, Bool, List, [], map, length, Option, Some, None, refl, ap, sym, ◌∙◌, subst}
-use Rattle.std.proofs.lemmas.List.Sums.{count_by-le-length}
-use Rattle.thp_history.specs.declared.events.Event.{Event}
-use Rattle.thp_history.specs.declared.events.What.{What}
+use Rattle.std.proofs.Common.{◌≡◌, ℕ, List, [], map, length, Option, Some, None, refl, ap, sym, ◌∙◌, subst}
 use Rattle.thp_history.specs.declared.shape.Shape.{Shape}
-use Rattle.thp_history.specs.Prelude.{History, count_of, queue}
+use Rattle.thp_history.specs.Prelude.{queue}
 use Rattle.thp_history.proofs.LegalSteps.{legal_none}
 use Rattle.thp_page.specs.Prelude.{Slot, Table, slot_at}
 use Rattle.thp_live_pages.specs.Prelude.{Fills, IsNode, block_of}
@@ -26,8 +23,3 @@ node_none s t q size order empty none = record {
   fills = λ b. let P : Option Slot → Type 0 = λ o. Fills s [] b o in subst P (sym (empty b)) (λ p e. lies_nowhere p b e);
   queue_is = queue_none s ∙ ap (map (λ b. Some b)) (sym none);
 }
-
--- no more events pass a test than there are
-pub few_events : (test : What → Bool) (h : History) → count_of test h ≤ length h
-unfolding count_of
-few_events test h = count_by-le-length (λ (e : Event). test e.what) h

@@ -19,7 +19,7 @@ use Rattle.thp_journal_writer.specs.Prelude.{event_page}
 use Rattle.thp_page.specs.declared.standing.Standing.TheVariants as at
 use Rattle.thp_live_pages.specs.Prelude.{standing_of}
 use Rattle.thp_live_pages.proofs.Standings.{batch_has, names, standing_flying, standing_other}
-use Rattle.thp_live_pages.proofs.Starting.{few_events}
+use Rattle.thp_history.proofs.Totals.{few_events}
 use Rattle.thp_check.specs.Prelude.{Replayed, with_event}
 use Rattle.thp_metrics.specs.Prelude.{callers_in, count_at, count_gone, count_more, MayCount, MayGo, batched, CountsBatches, batch_by, batch_of, is_caller, callers_at}
 use Rattle.thp_metrics.proofs.Moving.{no_more, no_page, none_named, not_about, not_named, part_of, sums_differ_at, unborn, unborn_still}

@@ -15,7 +15,7 @@ use Rattle.thp_journal_writer.specs.Prelude.{event_page}
 use Rattle.thp_live_pages.specs.Prelude.{block_after, block_of, standing_of}
 use Rattle.thp_live_pages.proofs.Homing.{block_freed, block_push, block_stays, legal_homed}
 use Rattle.thp_live_pages.proofs.Standings.{standing_flying}
-use Rattle.thp_live_pages.proofs.Starting.{few_events}
+use Rattle.thp_history.proofs.Totals.{few_events}
 use Rattle.thp_metrics.specs.Prelude.{PinCount, KeepsFinds, MayNote, counted, noted, home, stage_by, finds, finds_pinned, waits, waits_in}
 use Rattle.thp_metrics.proofs.Arriving.{home_waits, waits_home}
 

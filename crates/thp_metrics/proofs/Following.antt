@@ -9,7 +9,7 @@ use Rattle.thp_history.specs.Prelude.{allocations, is_live, thp_split_page, thp_
 use Rattle.thp_history.proofs.Alive.{legal_grown}
 use Rattle.thp_history.proofs.LegalSteps.{legal_none, legal_push}
 use Rattle.thp_history.proofs.Numbers.{live_below}
-use Rattle.thp_live_pages.proofs.Starting.{few_events}
+use Rattle.thp_history.proofs.Totals.{few_events}
 use Rattle.thp_check.specs.Prelude.{Replayed, with_event}
 use Rattle.thp_metrics.specs.Prelude.{Numbers, Pages, Stage, Allocated, PartlyMapped, Queued, InBatch, Split, count_in, entered, left, staged, GoesAlong, MayEnter, MayLeave, numbers_at, series, pages_at, pages_in, stage_of, stages_at, callers_at, longest_wait}
 use Rattle.thp_journal_writer.specs.Prelude.{event_page}

@@ -15,17 +15,8 @@ use Rattle.thp_history.proofs.OnePlace.{times_flight, has_times, once_flies}
 use Rattle.thp_history.proofs.Sizes.{few_subpages}
 use Rattle.thp_history.proofs.Standing.{times, flying, pages, times-cons, flying-cons, first_has, legal_sound}
 use Rattle.thp_live_pages.specs.Prelude.{flier}
-use Rattle.thp_live_pages.proofs.Starting.{few_events}
+use Rattle.thp_history.proofs.Totals.{few_events}
 use Rattle.thp_node.specs.Prelude.{leaves_of, left_by, joins_of, one_for}
-
--- each page had 512 frames at most to give back
-pub few_frames_given : (shape : Shape) (h : History) → shape.order ≤ 9 → IsLegal shape h → frames_given h ≤ 512 * length h
-few_frames_given shape h small l = grind (arith, frames_kept, mul-le-mul, few_subpages, few_events)
-
--- the frames of all pages ever allocated are those held and those given back
-pub all_frames : (shape : Shape) (h : History) (n m g : ℕ) → IsShape shape → IsLegal shape h →
-    n ≡ subpages shape → m ≡ allocations h → g ≡ frames_given h → n * m ≡ frames_held shape h + g
-all_frames shape h n m g s l e f i = grind (arith, frames_kept)
 
 -- the pages that c has among those in flight
 abbrev of : ℕ → List (ℕ × ℕ) → List ℕ

@@ -268,6 +268,33 @@ counts_after s h c ps =
     counts_as (events_after s h c ps) _ _ _ _ _ _ 0 (count_by (gets_split s h) ps) (count_by (is_pinned s h) ps) (count_by (goes_back s h) qs) (count_by (drops s h) qs) (count_by (is_used s h) ps) r
     (omega arith) (omega arith) (omega arith) (omega arith) (omega arith) (omega arith)
 
+-- each page that is tried is split, found pinned or found in use
+three_kinds : (s : Shape) (h : History) (ps : List ℕ) → count_by (gets_split s h) ps + count_by (is_pinned s h) ps + count_by (is_used s h) ps ≡ length ps
+three_kinds s h [] = refl
+three_kinds s h (p ∷ ps) =
+    omega (
+      arith,
+      count-cons (gets_split s h) p ps,
+      count-cons (is_pinned s h) p ps,
+      count-cons (is_used s h) p ps,
+      one (is_worth_split s h p) (nat_eq (pins h p) 0) (nat_lt 0 (pins h p)) (none_pinned (pins h p)),
+      three_kinds s h ps,
+    ) where
+      one : (a b d : Bool) → b ≡ not d → bit (a && b) + bit (a && d) + bit (not a) ≡ 1
+      one true true true e = absurd (cc)
+      one true true false e = refl
+      one true false true e = refl
+      one true false false e = absurd (cc)
+      one false b d e = refl
+
+-- each page that is returned goes back or is dropped
+two_kinds : (s : Shape) (h : History) (qs : List ℕ) → count_by (goes_back s h) qs + count_by (drops s h) qs ≡ length qs
+two_kinds s h [] = refl
+two_kinds s h (q ∷ qs) = omega (arith, count-cons (goes_back s h) q qs, count-cons (drops s h) q qs, one (drops s h q), two_kinds s h qs) where
+  one : (z : Bool) → bit (not z) + bit z ≡ 1
+  one true = refl
+  one false = refl
+
 -- a reply with these numbers
 pub counted_reply : (es : List Event) (x : ScanReply) → Counts es x.taken x.split x.pinned x.back x.dropped x.used → scan_reply es ≡ x
 counted_reply es x r = rw (r.taken_is, r.split_is, r.pinned_is, r.back_is, r.dropped_is, r.used_is) refl
@@ -277,6 +304,26 @@ the_reply b d = record { back = b; dropped = d }
 
 abbrev the_scan : ℕ → ℕ → ℕ → ℕ → ℕ → ℕ → ScanReply
 the_scan a b d e f g = record { taken = a; split = b; pinned = d; back = e; dropped = f; used = g }
+
+-- the reply of a scan behind its take, by that of the put-back and the pages found in use
+pub after_reply : (s : Shape) (h k : History) (c : ℕ) (ps : List ℕ) (back dropped n used : ℕ) → AllTried s h k c ps → the_reply back dropped ≡ back_reply s k (still_flying k c ps) →
+    n ≡ length ps → used ≡ count_by (is_used s h) ps →
+    (used + (back + dropped) ≤ n) × (the_scan n (n - used - (back + dropped)) (back + dropped) back dropped used ≡ record (scan_reply (events_after s h c ps)) { taken = length ps })
+after_reply s h k c ps back dropped n used a e is u =
+    let qs : List ℕ = filter (is_pinned s h) ps in
+    let backs : back ≡ count_by (goes_back s h) qs =
+    ap (λ (x : BackReply). x.back) e ∙ ap (count_by (goes_back s k)) a.still ∙ count_same (goes_back s k) (goes_back s h) qs (λ q. ap not (a.dropped q)) in
+    let drops_are : dropped ≡ count_by (drops s h) qs =
+    ap (λ (x : BackReply). x.dropped) e ∙ ap (count_by (drops s k)) a.still ∙ count_same (drops s k) (drops s h) qs a.dropped in
+    let pinned : back + dropped ≡ count_by (is_pinned s h) ps = omega (arith, backs, drops_are, two_kinds s h qs, length-filter (is_pinned s h) ps) in
+    let r = counts_after s h c ps in
+    let all = three_kinds s h ps in (
+      omega (arith, pinned, all, is, u),
+      sym (numbers (scan_reply (events_after s h c ps)) is (r.split_is ∙ omega (arith, pinned, all, is, u)) (r.pinned_is ∙ sym pinned) (r.back_is ∙ sym backs) (r.dropped_is ∙ sym drops_are) (r.used_is ∙ sym u)),
+    ) where
+      numbers : (x : ScanReply) → n ≡ length ps → x.split ≡ n - used - (back + dropped) → x.pinned ≡ back + dropped → x.back ≡ back → x.dropped ≡ dropped → x.used ≡ used →
+          record x { taken = length ps } ≡ the_scan n (n - used - (back + dropped)) (back + dropped) back dropped used
+      numbers x u v y z t w = rw (v, y, z, t, w, sym u) refl
 
 -- a batch that was all in flight, and each page of which was tried
 module _ (a b : NodeState) (t : BatchState) (c : ℕ) (ps : List ℕ) (l : IsLegal a.shape a.journal) (f : flight a.journal c ≡ ps) (did : Did a b c (map (try_event a.shape a.journal c) ps))

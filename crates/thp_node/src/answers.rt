@@ -50,19 +50,3 @@ pub struct ScanReply {
     /// The number of pages found in use, that is, not worth a split.
     pub used: u32,
 }
-
-/// The node's statistics, named as in /proc/vmstat without the prefix `thp_` (admin-guide/mm/transhuge.rst, "Monitoring usage";
-/// when each of them increases is this project's profile).
-#[derive(Clone, Copy, PartialEq, Eq, Debug)]
-pub struct Counters {
-    /// The number of pages split.
-    pub split_page: u64,
-    /// The number of tries that found a page pinned.
-    pub split_page_failed: u64,
-    /// The number of times that an unmap or an unpin queued a page. A put back or an allocation doesn't count.
-    pub deferred_split_page: u64,
-    /// The number of pages split that were underused and not partly mapped.
-    pub underused_split_page: u64,
-    /// The number of PMD mappings split: one for each `split_pmd`, and all mappings of the whole page for each page split.
-    pub split_pmd: u128,
-}

@@ -1,14 +1,15 @@
 //! The journal of a node, and the numbers that are maintained with it.
 ghost use Rattle.std.specs.Prelude.{◌≡◌, ℕ, ◌+◌, ◌<◌, ◌≤◌, [], ◌∷◌, ◌++◌, ◌^◌, length, OnOk, OnErr, IfSome, IsTrue, ◌↔◌, None, Some, not};
-ghost use Rattle.std.specs.Int.{from_bool};
-ghost use Rattle.thp_history.specs.Prelude.{max_callers, by, IsShape, set_size, allocations, is_closed, is_queued, frames_given, frames_held, flight, IsLegal, Fits, loss_what};
-ghost use Rattle.thp_node.specs.Journals.{HasFlightRoom, context_of, leaves_by, joins_of, counters_of, HasCountRoom, CanJoin, CanLeave, Moves, Counts, freed_from, mappings_of, is_underused};
+ghost use Rattle.thp_history.specs.Prelude.{max_callers, by, IsShape, allocations, is_closed, counters_of, frames_given, frames_held, flight, IsLegal, Fits, loss_what, with_loss};
+ghost use Rattle.thp_node.specs.Journals.{HasFlightRoom, context_of, leaves_by, joins_of, HasCountRoom, CanJoin, CanLeave, Moves, Counts, freed_from, of_split};
 
-use crate::answers::Counters;
 use crate::recorder::{FullLog, Recorder};
 use std::alloc::{AllocError, Global};
 use std::marker::Model;
-use thp_history::{Done, Event, Loss, MAX_CALLERS, Outcome, PageId, Shape, SubSet, What};
+use thp_history::{
+    Counters, Done, Event, Loss, MAX_CALLERS, Outcome, PageId, Shape, SplitContext, SubSet, Tally,
+    What,
+};
 
 // The facts about an event that the event itself does not contain.
 #[derive(Clone, Copy)]
@@ -17,8 +18,8 @@ pub(crate) enum EventContext {
     Nothing,
     // The caller, if any, from whose flight an unmap or an unpin freed its page.
     FreedFrom(Option<u32>),
-    // The number of PMD mappings of a page that was split, and whether it was partly mapped.
-    OfSplit { mappings: u32, partly: bool },
+    // What a page was before its split.
+    OfSplit(SplitContext),
 }
 
 // The number of callers that a journal counts for.
@@ -29,19 +30,18 @@ const SEATS: usize = MAX_CALLERS as usize;
 pub(crate) struct Journal<R: Recorder> {
     shape: Shape,
     events: R,
-    tally: Tally,
+    tally: NodeTally,
 }
 
 // The numbers of a journal's events.
 #[derive(Drop)]
-struct Tally {
+struct NodeTally {
     // the number of pages allocated: the next page's number
     next: u64,
     closed: bool,
     // the number of pages that each caller has in flight
     flying: [u8; SEATS],
-    frames_given: u128,
-    counters: Counters,
+    sums: Tally,
 }
 
 impl<R: Recorder> Model for Journal<R> {
@@ -64,18 +64,11 @@ impl<R: Recorder> Journal<R> {
         Journal {
             shape,
             events: R::empty(alloc),
-            tally: Tally {
+            tally: NodeTally {
                 next: 0,
                 closed: false,
                 flying: [0; SEATS],
-                frames_given: 0,
-                counters: Counters {
-                    split_page: 0,
-                    split_page_failed: 0,
-                    deferred_split_page: 0,
-                    underused_split_page: 0,
-                    split_pmd: 0,
-                },
+                sums: Tally::new(),
             },
         }
     }
@@ -186,21 +179,22 @@ impl<R: Recorder> Journal<R> {
     pub(crate) fn frames_given(&self) -> u128
         ensures { result ≡ frames_given self.now.events }
     {
-        self.tally.frames_given
+        self.tally.sums.frames_given
     }
 
     // The number of frames that the live pages hold: those of all pages ever allocated, except those given back.
     pub(crate) fn frames_held(&self) -> u128
         ensures { result ≡ frames_held self.now.shape self.now.events }
     {
-        u128::from(self.shape.subpages()) * u128::from(self.tally.next) - self.tally.frames_given
+        u128::from(self.shape.subpages()) * u128::from(self.tally.next)
+            - self.tally.sums.frames_given
     }
 
     // The statistics.
     pub(crate) fn counters(&self) -> Counters
         ensures { result ≡ counters_of self.now.shape self.now.events }
     {
-        self.tally.counters
+        self.tally.sums.counters
     }
 }
 
@@ -213,7 +207,7 @@ impl Journal<FullLog> {
     }
 }
 
-impl Tally {
+impl NodeTally {
     // Counts one more event of a caller: changes the numbers that its kind of event changes. Inlined with `record`.
     #[inline(always)]
     fn count(&mut self, caller: u32, what: &What, unsaid: EventContext)
@@ -222,28 +216,14 @@ impl Tally {
         requires leaves { IfSome (leaves_by caller what.now unsaid) (CanLeave self.old.flying) }
         ensures { Counts self.old self.new caller what.now unsaid }
     {
+        self.sums.count(what, unsaid.of_split());
         match what {
             What::Alloc { .. } => self.next += 1,
-            What::UnmapWhole {
-                outcome,
-                released,
-                ..
+            What::UnmapWhole { .. } | What::UnmapSub { .. } | What::Unpin { .. } => {
+                leave(&mut self.flying, unsaid.freed_from());
             }
-            | What::UnmapSub {
-                outcome,
-                released,
-                ..
-            }
-            | What::Unpin {
-                outcome,
-                released,
-                ..
-            } => self.count_loss(*outcome, released, unsaid.freed_from()),
-            What::SplitPmd { .. } => self.counters.split_pmd += 1,
             What::Taken { .. } => join(&mut self.flying, caller),
-            What::Split { released, .. } => self.count_split(caller, released, unsaid),
-            What::Pinned { .. } => self.counters.split_page_failed += 1,
-            What::Used { .. } | What::Back { .. } | What::Dropped { .. } => {
+            What::Split { .. } | What::Used { .. } | What::Back { .. } | What::Dropped { .. } => {
                 leave(&mut self.flying, Some(caller));
             }
             What::Close => self.closed = true,
@@ -257,26 +237,11 @@ impl Tally {
         requires room { HasCountRoom self.old }
         requires leaves { IfSome left (CanLeave self.old.flying) }
         ensures flying { Moves self.old.flying self.new.flying None left }
-        ensures numbers { self.new ≡ record self.old { flying = self.new.flying; frames_given = self.old.frames_given + set_size released.now; counters = record self.old.counters { deferred_split_page = self.old.counters.deferred_split_page + from_bool (is_queued outcome) } } }
+        ensures sums { self.new.sums ≡ with_loss outcome released.now self.old.sums }
+        ensures rest { self.new ≡ record self.old { flying = self.new.flying; sums = self.new.sums } }
     {
-        self.frames_given += u128::from(released.count());
-        self.counters.deferred_split_page += u64::from(is_queued(outcome));
+        self.sums.count_loss(outcome, released);
         leave(&mut self.flying, left);
-    }
-
-    // Counts the split of a page in a caller's flight.
-    fn count_split(&mut self, caller: u32, released: &SubSet, unsaid: EventContext)
-        requires room { HasCountRoom self.old }
-        requires leaves { CanLeave self.old.flying caller }
-        ensures flying { Moves self.old.flying self.new.flying None (Some caller) }
-        ensures few { mappings_of unsaid < 2 ^ 32 }
-        ensures numbers { self.new ≡ record self.old { flying = self.new.flying; frames_given = self.old.frames_given + set_size released.now; counters = record self.old.counters { split_page = self.old.counters.split_page + 1; underused_split_page = self.old.counters.underused_split_page + from_bool (is_underused unsaid); split_pmd = self.old.counters.split_pmd + mappings_of unsaid } } }
-    {
-        self.frames_given += u128::from(released.count());
-        self.counters.split_page += 1;
-        self.counters.underused_split_page += u64::from(unsaid.is_underused());
-        self.counters.split_pmd += u128::from(unsaid.mappings());
-        leave(&mut self.flying, Some(caller));
     }
 }
 
@@ -291,22 +256,14 @@ impl EventContext {
         }
     }
 
-    // The number of PMD mappings of the page that the event split.
-    fn mappings(self) -> u32
-        ensures value { result ≡ mappings_of self }
-        ensures few { result < 2 ^ 32 }
+    // What the page was before its split, if the event is one.
+    fn of_split(self) -> SplitContext
+        ensures { result ≡ of_split self }
     {
         match self {
-            EventContext::OfSplit { mappings, .. } => mappings,
-            _ => 0,
+            EventContext::OfSplit(context) => context,
+            _ => SplitContext::none(),
         }
-    }
-
-    // Whether the event split a page that is not partly mapped.
-    fn is_underused(self) -> bool
-        ensures { result ≡ is_underused self }
-    {
-        matches!(self, EventContext::OfSplit { partly: false, .. })
     }
 }
 
@@ -326,10 +283,4 @@ fn leave(flying: &mut [u8; SEATS], flier: Option<u32>)
     if let Some(caller) = flier {
         flying[caller as usize] -= 1;
     }
-}
-
-fn is_queued(outcome: Outcome) -> bool
-    ensures { result ≡ is_queued outcome }
-{
-    matches!(outcome, Outcome::Queued)
 }

@@ -24,10 +24,12 @@ mod journal;
 mod node;
 mod recorder;
 
-pub use answers::{BackReply, Counters, NewFault, ScanReply, Tried};
+pub use answers::{BackReply, NewFault, ScanReply, Tried};
 pub use batch::Batch;
 pub use node::Node;
 pub use recorder::{CountOnly, FullLog, Recorder};
-pub use thp_history::{Done, Event, Gain, Loss, Outcome, PageId, Refusal, Shape, SubSet, What};
+pub use thp_history::{
+    Counters, Done, Event, Gain, Loss, Outcome, PageId, Refusal, Shape, SubSet, What,
+};
 pub use thp_links::Queue;
 pub use thp_page::PageTable;

@@ -1,24 +1,23 @@
 //! A memory node: its parts, its constructors, and what can be read of it.
 ghost use Rattle.std.specs.Prelude.{◌≡◌, ℕ, ◌<◌, ◌≤◌, true, [], length, map, Some, ◌↔◌, Err, IfOk, IfErr, OnOk, OnErr};
 ghost use Rattle.thp_links.specs.Prelude.{Stands};
-ghost use Rattle.thp_history.specs.Prelude.{allocations, is_live, IsShape, frames_given, frames_held, IsLegal, queue};
+ghost use Rattle.thp_history.specs.Prelude.{allocations, is_live, IsShape, counters_of, frames_given, frames_held, IsLegal, queue};
 ghost use Rattle.thp_page.specs.Prelude.{slot_at};
 ghost use Rattle.thp_live_pages.specs.Prelude.{Fills, HasBlock, block_of, LiesWherePlaced};
 ghost use Rattle.thp_node.specs.JournalLaws.{StandsOnce, StandsWhole, TakesOldest, LeavesFreedAlone, AllocatesOnce, NothingEnters, HasFramesOnce, KeepsFrames, HoldsWhileLive, LivesApart, OthersFree, FlightsGoOn, QueueGoesOn, NoneIsUnderused};
-ghost use Rattle.thp_node.specs.Journals.{counters_of};
 
 mod batch_calls;
 mod list_calls;
 mod page_calls;
 mod return_calls;
 
-use crate::answers::{Counters, NewFault};
+use crate::answers::NewFault;
 use crate::blocks::Blocks;
 use crate::journal::Journal;
 use crate::recorder::{FullLog, Recorder};
 use std::alloc::Global;
 use std::marker::Model;
-use thp_history::{Event, Refusal, Shape};
+use thp_history::{Counters, Event, Refusal, Shape};
 use thp_links::Queue;
 use thp_page::PageTable;
 

@@ -135,35 +135,35 @@ impl Replay {
     pub fn thp_split_page(&self) -> u64
         ensures { result ≡ thp_split_page self.now.history }
     {
-        self.tally.split_page
+        self.tally.counters.split_page
     }
 
     /// Returns the number of tries that found a page pinned.
     pub fn thp_split_page_failed(&self) -> u64
         ensures { result ≡ thp_split_page_failed self.now.history }
     {
-        self.tally.split_page_failed
+        self.tally.counters.split_page_failed
     }
 
     /// Returns the number of times that an unmap or an unpin queued a page. A put back or an allocation doesn't count.
     pub fn thp_deferred_split_page(&self) -> u64
         ensures { result ≡ thp_deferred_split_page self.now.history }
     {
-        self.tally.deferred_split_page
+        self.tally.counters.deferred_split_page
     }
 
     /// Returns the number of PMD mappings split: one for each `SplitPmd`, and all mappings of the whole page for each page split.
     pub fn thp_split_pmd(&self) -> u128
         ensures { result ≡ thp_split_pmd self.now.history }
     {
-        self.tally.split_pmd
+        self.tally.counters.split_pmd
     }
 
     /// Returns the number of pages split that were underused and not partly mapped.
     pub fn thp_underused_split_page(&self) -> u64
         ensures { result ≡ thp_underused_split_page self.now.shape self.now.history }
     {
-        self.tally.underused_split_page
+        self.tally.counters.underused_split_page
     }
 }
 

@@ -11,7 +11,7 @@ use crate::batch::Batch;
 use crate::journal::EventContext;
 use crate::node::Node;
 use crate::recorder::Recorder;
-use thp_history::{PageId, Refusal, What};
+use thp_history::{PageId, Refusal, SplitContext, What};
 
 impl<R: Recorder> Node<R> {
     ghost use Rattle.thp_history.specs.Prelude.{is_split_candidate, is_worth_split};
@@ -244,10 +244,10 @@ impl<R: Recorder> Node<R> {
         requires unpinned { IsUnpinnedAt self.old.table block }
         ensures did { Did self.old self.new caller (try_event self.old.shape self.old.journal caller page ∷ []) }
     {
-        let unsaid = EventContext::OfSplit {
+        let unsaid = EventContext::OfSplit(SplitContext {
             mappings: self.blocks.store().whole(block),
-            partly: self.blocks.store().is_partly(block),
-        };
+            underused: !self.blocks.store().is_partly(block),
+        });
         let give_zero = self.journal.shape().shrinks_underused();
         let released = self.blocks.split(block, give_zero);
         self.journal

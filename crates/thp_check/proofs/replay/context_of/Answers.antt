@@ -1,7 +1,6 @@
 use Rattle.std.proofs.Common.{not, inl, sym, subst}
 use Rattle.thp_history.specs.declared.events.What.{What}
-use Rattle.thp_history.specs.Prelude.{by, Fits}
-use Rattle.thp_check.specs.Prelude.{IsContext}
+use Rattle.thp_history.specs.Prelude.{by, Fits, IsContext}
 use Rattle.thp_check.proofs.Showing.{unsaid_there}
 use Rattle.thp_check.proofs.TakeSteps.{split_absent}
 use Rattle.thp_check.proofs.replay.context_of.Goals as goal

@@ -1,11 +1,12 @@
 use Rattle.std.proofs.Common.{◌≡◌, ◌∙◌, ◌++◌, ◌∷◌, [], length, ap, arith, subst, sym}
 use Rattle.thp_history.specs.declared.events.Event.{Event}
 use Rattle.thp_history.specs.declared.shape.Shape.{Shape}
-use Rattle.thp_history.specs.Prelude.{allocations, is_alloc, History, in_words}
-use Rattle.thp_live_pages.proofs.Starting.{few_events}
-use Rattle.thp_check.specs.Prelude.{NodeState, Tally, free_after, MarksFree, Means, Replayed, AddsUp, HasRoom}
+use Rattle.thp_history.specs.declared.tally.Tally.{Tally}
+use Rattle.thp_history.specs.Prelude.{allocations, is_alloc, History, in_words, AddsUp, HasRoom}
+use Rattle.thp_history.proofs.Totals.{few_events}
+use Rattle.thp_check.specs.Prelude.{NodeState, free_after, MarksFree, Means, Replayed}
 use Rattle.thp_check.proofs.FreeMarks.{freed_inside, marks_push}
-use Rattle.thp_check.proofs.Totals.{has_room, adds_push}
+use Rattle.thp_history.proofs.Totals.{has_room, adds_push}
 use Rattle.thp_check.proofs.replay.Replay.admit.Goals as goal
 
 pub admit-requires-clause-small : goal.admit-requires-clause-small

@@ -1,7 +1,8 @@
 use Rattle.std.proofs.Common.{◌∙◌, ap, arith}
+use Rattle.thp_history.specs.declared.tally.Tally.{Tally}
 use Rattle.thp_history.specs.Prelude.{frames_held, subpages}
-use Rattle.thp_check.specs.Prelude.{NodeState, Tally, Replayed}
-use Rattle.thp_check.proofs.Totals.{all_frames}
+use Rattle.thp_check.specs.Prelude.{NodeState, Replayed}
+use Rattle.thp_history.proofs.Totals.{all_frames}
 use Rattle.thp_check.proofs.replay.Replay.frames_held.Goals as goal
 
 pub overflow_sub-result : goal.overflow_sub-result

@@ -1,9 +1,10 @@
 use Rattle.std.proofs.Common.{◌≡◌, ℕ, List, [], sym, ◌∙◌, subst}
 use Rattle.thp_history.specs.declared.shape.Shape.{Shape}
-use Rattle.thp_history.specs.Prelude.{History}
-use Rattle.thp_check.specs.Prelude.{NodeState, MarksFree, Means, AddsUp, Tally}
+use Rattle.thp_history.specs.declared.tally.Tally.{Tally}
+use Rattle.thp_history.specs.Prelude.{History, AddsUp}
+use Rattle.thp_check.specs.Prelude.{NodeState, MarksFree, Means}
 use Rattle.thp_check.proofs.FreeMarks.{marks_none}
-use Rattle.thp_check.proofs.Totals.{adds_none}
+use Rattle.thp_history.proofs.Totals.{adds_none}
 use Rattle.thp_check.proofs.replay.Replay.new.Goals as goal
 
 pub invariant_of-result-2 : goal.invariant_of-result-2

@@ -1,6 +1,6 @@
 use Rattle.std.proofs.Common.{◌≡◌, ℕ, List, refl, ap, sym, ◌∙◌, subst, IfOk}
-use Rattle.thp_history.specs.Prelude.{queue}
-use Rattle.thp_check.specs.Prelude.{NodeState, MarksFree, Means, Replayed, AddsUp}
+use Rattle.thp_history.specs.Prelude.{queue, AddsUp}
+use Rattle.thp_check.specs.Prelude.{NodeState, MarksFree, Means, Replayed}
 use Rattle.thp_check.proofs.Showing.{each_of, pages_are, means_read}
 use Rattle.thp_check.proofs.replay.Replay.queue.Goals as goal
 

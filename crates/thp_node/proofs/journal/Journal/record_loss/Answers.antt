@@ -39,7 +39,7 @@ invariant_of-self g c =
     subst P (sym (c.record.ensures.history ∙ ap (λ v. h ++ by c.args.caller v ∷ []) c.what.ensures))
     (journal_push c.self.inside.shape h c.args.caller w (FreedFrom c.args.left) _ _ j (fits_inside _ _ c.args.caller w c.self.view_is c.requires.fits)
     (unsaid_inside _ _ w (FreedFrom c.args.left) c.self.view_is c.requires.unsaid)
-    (counts_lost _ _ c.args.caller c.args.page c.args.loss done.outcome done.released (FreedFrom c.args.left) c.count_loss.ensures.flying c.count_loss.ensures.numbers))
+    (counts_lost _ _ c.args.caller c.args.page c.args.loss done.outcome done.released (FreedFrom c.args.left) c.count_loss.ensures.flying c.count_loss.ensures.sums c.count_loss.ensures.rest))
 
 pub returns-clause-legal : goal.returns-clause-legal
 returns-clause-legal g c = (invariant_of-self g c).legal

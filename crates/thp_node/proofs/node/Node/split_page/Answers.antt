@@ -1,4 +1,4 @@
-use Rattle.std.proofs.Common.{◌≡◌, true, ◌∷◌, [], ◌++◌, ap, ap₂, sym, ◌∙◌, subst, arith}
+use Rattle.std.proofs.Common.{not, ◌≡◌, true, ◌∷◌, [], ◌++◌, ap, ap₂, sym, ◌∙◌, subst, arith}
 use Rattle.thp_history.specs.declared.events.Event.{Event}
 use Rattle.thp_history.specs.declared.events.What.TheVariants.{Split}
 use Rattle.thp_history.specs.Prelude.{is_split_candidate, shrinks_underused, by, try_event}
@@ -32,7 +32,7 @@ pub record-requires-clause-unsaid : goal.record-requires-clause-unsaid
 record-requires-clause-unsaid g c =
     let j = c.self.inside.journal in
     let w = flies_inside _ c.args.self.now c.args.caller c.args.page c.args.block c.self.view_is c.requires.flies in
-    ap₂ (λ n z. OfSplit n z) ((rw c.store.ensures at c.whole.ensures) w.slot w.at ∙ sym (whole_there j.shape j.events c.args.caller c.args.page c.args.block c.self.inside.blocks c.self.invariant w))
+    ap₂ (λ n z. OfSplit (record { mappings = n; underused = not z })) ((rw c.store.ensures at c.whole.ensures) w.slot w.at ∙ sym (whole_there j.shape j.events c.args.caller c.args.page c.args.block c.self.inside.blocks c.self.invariant w))
     ((rw c.store-2.ensures at c.is_partly.ensures) w.slot w.at ∙ sym (partly_there j.shape j.events c.args.caller c.args.page c.args.block c.self.inside.blocks c.self.invariant w))
 
 pub invariant_of-self : goal.invariant_of-self
