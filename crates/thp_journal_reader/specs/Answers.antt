@@ -37,11 +37,6 @@ pub record IsFirstIllegalEvent (nodes : List NodeJournal) (illegal : Illegal) : 
   pub event : slice_get line.node.events line.first.place ≡ Some illegal.event
   pub why : Explains line.node.shape (take line.first.place line.node.events) illegal.event illegal.misfit
 
--- for one node: no line if it is legal, otherwise that of its first illegal event
-abbrev pub ReportsNode : NodeJournal → Option ℕ → Type 0
-ReportsNode node None = IsLegalNode node
-ReportsNode node (Some line) = IsFirstIllegal node line
-
 -- for all nodes: no line if each is legal, otherwise that of the first illegal event in the order of the text
 abbrev pub ReportsIllegal : List NodeJournal → Option ℕ → Type 0
 ReportsIllegal nodes None = AreLegalBefore (length nodes) nodes

@@ -1,8 +1,7 @@
 -- The content of a journal's line, and its allowed positions (this project's journal format).
 use Rattle.std.specs.Prelude.{◌==◌, ◌^◌, ◌-◌, ◌+◌, not, nat_lt, nat_le, ℕ, Bool, true, false, List, [], ◌∷◌, Option, Some, None, Result, Ok, Err, codes, if◌then◌else◌, bytes_eq}
 use Rattle.std.specs.List.{list_all, list_any}
-use Rattle.thp_history.specs.declared.events.Event.{Event}
-use Rattle.thp_history.specs.Prelude.{event_with, max_blocks, max_order, min_order}
+use Rattle.thp_history.specs.Prelude.{max_blocks, max_order, min_order}
 use Rattle.thp_script.specs.declared.fault.TextKind.{TextKind}
 use Rattle.thp_script.specs.declared.fault.TextKind.TheVariants.{BadByte, BadWord, BadNumber, BadOrder}
 use Rattle.thp_script.specs.Prelude.{number_up_to, one_word, max_nodes, is_empty, is_printable, ◌>>=◌, Text, words_of}
@@ -112,15 +111,6 @@ line_of v text =
     if not (list_all is_printable text) then Err BadByte
     else if list_any is_empty (words_of text) then Err BadWord
     else by_words v (words_of text)
-
--- the event of a line, with this block if it is an allocation; a line of another kind is not allowed here
-abbrev pub event_said : ℕ → Line → Result Event TextKind
-event_said block (Happened event) = Ok (event_with block event)
-event_said block _ = Err BadOrder
-
--- the event of a line's bytes in a version; no line contains the block of a new page
-unfoldable pub event_told : Version → ℕ → Text → Result Event TextKind
-event_told v block text = line_of v text >>= event_said block
 
 -- before the first line with the version, lines are read as those of version 1
 abbrev pub version_at : Place → Version

@@ -17,7 +17,7 @@ pub use Rattle.thp_journal_reader.specs.LineRanges.{IsInRange}
 pub use Rattle.thp_journal_reader.specs.Parts.{ReadSoFar, journals_in, so_far, told_with, with_lines}
 unfoldable pub use Rattle.thp_journal_reader.specs.Parts.{lines_tell}
 pub use Rattle.thp_journal_reader.specs.ReadTexts.{HasReadText, more_text_read, no_text_read}
-pub use Rattle.thp_journal_reader.specs.Reading.{IsNodeBefore, began, fault_at, journal_so_far, nodes_in, on_last, with_event, with_line}
+pub use Rattle.thp_journal_reader.specs.Reading.{IsNodeBefore, began, fault_at, nodes_in, on_last, with_event, with_line}
 pub use Rattle.thp_journal_reader.specs.SetTexts.{Run, covers_number, longer_run, run_of_numbers, runs_of, set_of_runs, subpage_number}
 unfoldable pub use Rattle.thp_journal_reader.specs.SetTexts.{run_from, run_of, set_of_text, set_with}
 pub use Rattle.thp_journal_reader.specs.Verdicts.{IsVerdict, IsVerdictWithin, is_legal}

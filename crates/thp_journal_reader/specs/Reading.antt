@@ -15,12 +15,8 @@ use Rattle.thp_journal_reader.specs.declared.reading.OpenNode.{OpenNode}
 
 -- the blocks are those chosen for the node's shape and its events
 pub record GoesAlong (node : OpenNode) : Type 0 where
-  pub shape_is : node.blocks.shape ≡ node.shape
-  pub history_is : node.blocks.history ≡ node.events
-
--- the journal of a node so far
-abbrev pub journal_so_far : OpenNode → NodeJournal
-journal_so_far node = record { shape = node.shape; first_line = node.first_line; events = node.events }
+  pub shape_is : node.blocks.shape ≡ node.journal.shape
+  pub history_is : node.blocks.history ≡ node.journal.events
 
 -- the journal of a node before its first event
 abbrev pub began : ℕ → Shape → NodeJournal
@@ -49,7 +45,7 @@ with_line number nodes _ = nodes
 -- the nodes read so far
 abbrev pub nodes_in : Option Nodes → List NodeJournal
 nodes_in None = []
-nodes_in (Some nodes) = nodes.closed ++ journal_so_far nodes.last ∷ []
+nodes_in (Some nodes) = nodes.closed ++ nodes.last.journal ∷ []
 
 -- a node of a valid shape, whose lines are before this one
 pub record IsNodeBefore (number : ℕ) (node : NodeJournal) : Type 0 where

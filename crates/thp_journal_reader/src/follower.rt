@@ -39,17 +39,6 @@ impl<K: Drop, F: FollowsNode<Kept = K>> Follower<F, K> {
         self.illegal.is_some() && !F::follows_all()
     }
 
-    /// Adds the kept data of a node.
-    fn keep(&mut self, kept: K) -> Result<(), AllocError>
-        ensures kept { OnOk result (self.new.kept.items ≡ self.old.kept.items ++ kept ∷ []) }
-        ensures at_hand { self.new.at_hand ≡ self.old.at_hand }
-        ensures next_line { self.new.next_line ≡ self.old.next_line }
-        ensures illegal { self.new.illegal ≡ self.old.illegal }
-    {
-        self.kept.push(kept)?;
-        Ok(())
-    }
-
     /// Ends the current node, if there is one.
     fn end(&mut self) -> Result<(), AllocError>
         ensures ended { OnOk result ((nodes : List NodeJournal) → Follows F.replayed F.keeps F.follows_all nodes self.old → HasEnded F.keeps F.follows_all nodes self.new.illegal self.new.kept.items) }
@@ -59,7 +48,8 @@ impl<K: Drop, F: FollowsNode<Kept = K>> Follower<F, K> {
             return Ok(());
         };
         let kept = node.end(self.alloc)?;
-        self.keep(kept)
+        self.kept.push(kept)?;
+        Ok(())
     }
 
     /// Begins a node whose first event is on this line.
@@ -102,7 +92,8 @@ impl<K: Drop, F: FollowsNode<Kept = K>> Follower<F, K> {
         };
         let kept = F::stop(rest, self.alloc, &illegal)?;
         self.note(&illegal);
-        self.keep(kept)
+        self.kept.push(kept)?;
+        Ok(())
     }
 
     /// Replays an event on the current node. The event has no block if it is an allocation, as no line contains blocks.

@@ -63,9 +63,7 @@ impl LeastBlocks {
         ensures failed { OnErr result (self.new ≡ self.old) }
     {
         let placed = self.with_block(&event);
-        if let Err(_) = self.note(&placed) {
-            return Err(AllocError);
-        }
+        self.note(&placed)?;
         Ok(placed)
     }
 
@@ -109,10 +107,8 @@ impl LeastBlocks {
         ensures noted { OnOk result (self.new ≡ with_event self.old event.now) }
         ensures failed { OnErr result (self.new ≡ self.old) }
     {
-        if let PageRecord::Holds { last } = self.pages.known(page) {
-            if let Err(_) = self.pages.add(page, block, last) {
-                return Err(AllocError);
-            }
+        if let PageRecord::Holds { last } = self.pages.pages.known(page) {
+            self.pages.add(page, block, last)?;
             self.holders.hold(block);
             self.past.push(event);
             return Ok(());
@@ -127,10 +123,8 @@ impl LeastBlocks {
         ensures noted { OnOk result (self.new ≡ with_event self.old event.now) }
         ensures failed { OnErr result (self.new ≡ self.old) }
     {
-        if let PageRecord::Holds { last } = self.pages.known(page) {
-            if let Err(_) = self.pages.free(page) {
-                return Err(AllocError);
-            }
+        if let PageRecord::Holds { last } = self.pages.pages.known(page) {
+            self.pages.pages.set(page, PageRecord::Freed)?;
             self.pages.give_back(last, &mut self.holders);
             self.past.push(event);
             return Ok(());

@@ -2,11 +2,12 @@
 //!
 //! - The grammar: `line_of`, `journals_of` (`JournalLines`, `Journals`, `EventLines`, `EventWords`, `SetTexts`); code in `line`,
 //!   `event_line`, `event_word`, `set_text`, `place`, `journals`. Texts have no blocks: each page gets its least block.
-//! - `journal_reader`, `text_reader`, `reading`, `keeps_nodes`: texts in parts (`Parts`), and what is stored of the nodes.
+//! - `text_reader`, `reading`, `keeps_nodes`: texts in parts (`Parts`), and what is stored of the nodes; `journal_reader`: all of
+//!   them, with their events.
 //! - `least_blocks` (`BlocksState`): gives each allocation, legal or not, its least free block; built from `holders`, `page_blocks`,
 //!   `pages`.
-//! - `parse_event_fast` (`FastParsing`): events read in one pass over the bytes; `event_reader`: one event from its line
-//!   (`event_told`). Proofs `PlainWords`, `PlainLines`: a line whose words parse needs no second look at its bytes.
+//! - `parse_event_fast` (`FastParsing`): events read in one pass over the bytes. Proofs `PlainWords`, `PlainLines`: a line whose
+//!   words parse needs no second look at its bytes.
 //! - Checks: `checking` (`ReportsIllegal`, `CanBeLegal` of `Answers`), `journal_check` (16 MiB), `long_check` (any length),
 //!   `illegal` (the event and why), `verdicts` (`Verdicts`).
 //! - `follower` (`Following`, proof `FollowLaws`), generic in `follows_node`: what follows a node line by line, and what is kept of
@@ -15,7 +16,6 @@
 
 mod checking;
 mod event_line;
-mod event_reader;
 mod event_word;
 mod follower;
 mod follows_node;
@@ -37,14 +37,13 @@ mod set_text;
 mod text_reader;
 mod verdicts;
 
-pub use checking::{check_journals, check_text};
-pub use event_reader::read_event;
+pub use checking::check_text;
 pub use event_word::{EventWord, PageWord, RangeWord};
 pub use follower::FollowedNodes;
 pub use follows_node::{FollowsNode, Stopped};
 pub use illegal::Illegal;
 pub use journal_check::JournalCheck;
-pub use journal_reader::{JournalReader, read_journal};
+pub use journal_reader::read_journal;
 pub use journals::{Journals, NodeJournal};
 pub use keeps_nodes::KeepsNodes;
 pub use least_blocks::LeastBlocks;

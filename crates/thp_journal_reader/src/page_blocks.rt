@@ -18,7 +18,7 @@ pub(crate) struct Allocation {
 // The blocks of each page: its allocations are linked from the last to the first.
 #[derive(Drop)]
 pub(crate) struct PageBlocks {
-    pages: Pages,
+    pub(crate) pages: Pages,
     allocations: Vec<Allocation>,
 }
 
@@ -32,13 +32,6 @@ impl PageBlocks {
             pages: Pages::new(alloc),
             allocations: Vec::new(alloc),
         }
-    }
-
-    // The record of a page.
-    pub(crate) fn known(&self, page: PageId) -> PageRecord
-        ensures { result ≡ known_of self.now.pages page }
-    {
-        self.pages.known(page)
     }
 
     // Adds a block of a page, whose last allocation is `before`. Fails if memory can't be allocated, and then changes nothing.
@@ -58,26 +51,13 @@ impl PageBlocks {
         if place >= u32::MAX as usize {
             return Err(AllocError);
         }
-        if let Err(_) = self.allocations.try_reserve(1) {
-            return Err(AllocError);
-        }
+        self.allocations.try_reserve(1)?;
         let known = PageRecord::Holds {
             last: Some(place as u32),
         };
-        if let Err(_) = self.pages.set(page, known) {
-            return Err(AllocError);
-        }
+        self.pages.set(page, known)?;
         self.allocations.push_reserved(Allocation { block, before });
         Ok(())
-    }
-
-    // Records that the page is freed. Fails if memory can't be allocated, and then changes nothing.
-    pub(crate) fn free(&mut self, page: PageId) -> Result<(), AllocError>
-        ensures known { OnOk result ((p : ℕ) → known_of self.new.pages p ≡ cond (nat_eq p page) PageRecord.Freed (known_of self.old.pages p)) }
-        ensures same { OnErr result ((p : ℕ) → known_of self.new.pages p ≡ known_of self.old.pages p) }
-        ensures kept { self.new.allocations.items ≡ self.old.allocations.items }
-    {
-        self.pages.set(page, PageRecord::Freed)
     }
 
     // Frees the blocks of the allocations from `last` on.

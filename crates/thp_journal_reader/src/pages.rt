@@ -61,14 +61,10 @@ impl Pages {
             return Ok(());
         }
         if place == self.dense.len() {
-            if let Err(_) = self.dense.push(known) {
-                return Err(AllocError);
-            }
+            self.dense.push(known)?;
             return Ok(());
         }
-        if let Err(_) = self.others.insert(page.0, known) {
-            return Err(AllocError);
-        }
+        self.others.insert(page.0, known)?;
         Ok(())
     }
 }

@@ -3,7 +3,7 @@ ghost use Rattle.std.specs.Prelude.{◌≡◌, ◌≤◌, ◌+◌, ◌++◌, ◌
 ghost use Rattle.thp_history.specs.Prelude.{by};
 ghost use Rattle.thp_journal_reader.specs.Later.{reads_later};
 ghost use Rattle.thp_journal_reader.specs.LineRanges.{IsInRange};
-ghost use Rattle.thp_journal_reader.specs.Reading.{began, journal_so_far, nodes_in, with_event, with_line, on_last, GoesAlong, IsReading};
+ghost use Rattle.thp_journal_reader.specs.Reading.{began, nodes_in, with_event, with_line, on_last, GoesAlong, IsReading};
 ghost use Rattle.thp_script.specs.Prelude.{max_input};
 ghost use Rattle.thp_script.specs.declared.fault.ReadFault.TheVariants.{OutOfMemory};
 
@@ -18,9 +18,7 @@ use thp_script::{ReadFault, Sequence};
 /// A node whose events are being read, and the blocks of its pages.
 #[derive(Drop)]
 pub(crate) struct OpenNode {
-    shape: Shape,
-    first_line: u32,
-    events: Sequence<Event>,
+    journal: NodeJournal,
     blocks: LeastBlocks,
 }
 
@@ -28,36 +26,26 @@ impl OpenNode {
     fn new(alloc: Global, first_line: u32, shape: Shape) -> Result<OpenNode, AllocError>
         requires { 1 ≤ shape.blocks }
         ensures along { IfOk result GoesAlong }
-        ensures began { IfOk result (λ node. journal_so_far node ≡ began first_line shape) }
+        ensures began { IfOk result (λ node. node.journal ≡ began first_line shape) }
     {
         let blocks = LeastBlocks::new(alloc, shape)?;
-        Ok(OpenNode {
+        let journal = NodeJournal {
             shape,
             first_line,
             events: Sequence::new(alloc),
-            blocks,
-        })
+        };
+        Ok(OpenNode { journal, blocks })
     }
 
     /// Appends an event; an allocation gets the least free block.
     fn push(&mut self, caller: u32, what: What) -> Result<(), AllocError>
         requires { GoesAlong self.old }
         ensures along { OnOk result (GoesAlong self.new) }
-        ensures pushed { OnOk result (journal_so_far self.new ≡ with_event (by caller what) (journal_so_far self.old)) }
+        ensures pushed { OnOk result (self.new.journal ≡ with_event (by caller what) self.old.journal) }
     {
         let event = self.blocks.place(Event { caller, what })?;
-        self.events.push(event)?;
+        self.journal.events.push(event)?;
         Ok(())
-    }
-
-    fn close(self) -> NodeJournal
-        ensures { result ≡ journal_so_far self }
-    {
-        NodeJournal {
-            shape: self.shape,
-            first_line: self.first_line,
-            events: self.events,
-        }
     }
 }
 
@@ -68,32 +56,33 @@ pub(crate) struct Nodes {
     last: OpenNode,
 }
 
-impl Nodes {
-    /// Closes the last node, and begins another.
-    fn begin(&mut self, node: OpenNode) -> Result<(), AllocError>
-        ensures closed { OnOk result (self.new.closed ≡ self.old.closed ++ journal_so_far self.old.last ∷ []) }
-        ensures last { OnOk result (self.new.last ≡ node) }
-    {
-        let last = std::mem::replace(&mut self.last, node);
-        self.closed.push(last.close())?;
-        Ok(())
-    }
+/// Closes the last node, and returns the nodes.
+fn close(alloc: Global, nodes: Option<Nodes>) -> Result<Sequence<NodeJournal>, AllocError>
+    ensures { IfOk result (λ closed. closed ≡ nodes_in nodes) }
+{
+    let Some(nodes) = nodes else {
+        return Ok(Sequence::new(alloc));
+    };
+    let Nodes { mut closed, last } = nodes;
+    closed.push(last.journal)?;
+    Ok(closed)
 }
 
-/// Begins a node.
-fn begin(alloc: Global, nodes: &mut Option<Nodes>, node: OpenNode) -> Result<(), AllocError>
-    ensures nodes { OnOk result (nodes_in nodes.new ≡ nodes_in nodes.old ++ journal_so_far node ∷ []) }
-    ensures along { OnOk result (GoesAlong node → IfSome nodes.new (λ n. GoesAlong n.last)) }
+/// Begins a node, after the end of the one before it.
+fn begin(
+    alloc: Global,
+    nodes: &mut Option<Nodes>,
+    number: u64,
+    shape: Shape,
+) -> Result<(), AllocError>
+    requires blocks { 1 ≤ shape.blocks }
+    requires room { number ≤ max_input }
+    ensures nodes { OnOk result (nodes_in nodes.new ≡ nodes_in nodes.old ++ began (number + 1) shape ∷ []) }
+    ensures along { OnOk result (IfSome nodes.new (λ n. GoesAlong n.last)) }
 {
-    match nodes {
-        None => {
-            *nodes = Some(Nodes {
-                closed: Sequence::new(alloc),
-                last: node,
-            });
-        }
-        Some(nodes) => nodes.begin(node)?,
-    }
+    let last = OpenNode::new(alloc, number as u32 + 1, shape)?;
+    let closed = close(alloc, nodes.take())?;
+    *nodes = Some(Nodes { closed, last });
     Ok(())
 }
 
@@ -109,22 +98,6 @@ fn push(nodes: &mut Option<Nodes>, event: Event) -> Result<(), AllocError>
     Ok(())
 }
 
-fn add_node(
-    alloc: Global,
-    nodes: &mut Option<Nodes>,
-    number: u64,
-    shape: Shape,
-) -> Result<(), AllocError>
-    requires blocks { 1 ≤ shape.blocks }
-    requires room { number ≤ max_input }
-    ensures nodes { OnOk result (nodes_in nodes.new ≡ nodes_in nodes.old ++ began (number + 1) shape ∷ []) }
-    ensures along { OnOk result (IfSome nodes.new (λ n. GoesAlong n.last)) }
-{
-    let node = OpenNode::new(alloc, number as u32 + 1, shape)?;
-    begin(alloc, nodes, node)?;
-    Ok(())
-}
-
 impl KeepsNodes for Option<Nodes> {
     ghost told = { λ nodes. nodes_in nodes };
 
@@ -136,7 +109,7 @@ impl KeepsNodes for Option<Nodes> {
 
     fn add(&mut self, alloc: Global, number: u64, line: &Line) -> Result<(), AllocError> {
         match line {
-            Line::Node { shape, .. } => add_node(alloc, self, number, *shape)?,
+            Line::Node { shape, .. } => begin(alloc, self, number, *shape)?,
             Line::Happened(event) => push(self, *event)?,
             Line::Head(_) | Line::End => {}
         }
@@ -151,12 +124,6 @@ pub(crate) fn finish(alloc: Global, nodes: Option<Nodes>) -> Result<Journals, Re
     ensures nodes { IfOk result (λ journals. journals.nodes ≡ nodes_in nodes) }
     ensures memory { IfErr result (λ fault. fault ≡ OutOfMemory) }
 {
-    let Some(nodes) = nodes else {
-        return Ok(Journals {
-            nodes: Sequence::new(alloc),
-        });
-    };
-    let mut closed = nodes.closed;
-    closed.push(nodes.last.close())?;
-    Ok(Journals { nodes: closed })
+    let nodes = close(alloc, nodes)?;
+    Ok(Journals { nodes })
 }

@@ -1,7 +1,7 @@
 //! Parses sets of subpages.
-ghost use Rattle.std.specs.Prelude.{◌≡◌, ◌≤◌, ◌+◌, ◌||◌, [], IfOk, length};
+ghost use Rattle.std.specs.Prelude.{◌≡◌, ◌≤◌, ◌+◌, ◌||◌, IfOk, length};
 ghost use Rattle.thp_history.specs.Prelude.{has, set_of};
-ghost use Rattle.thp_journal_reader.specs.SetTexts.{covers_number, longer_run, run_from, run_of, run_of_one, set_of_runs, set_of_text, set_with, subpage_number};
+ghost use Rattle.thp_journal_reader.specs.SetTexts.{covers_number, longer_run, run_from, run_of, set_of_runs, set_of_text, subpage_number};
 
 use thp_history::SubSet;
 use thp_script::{TextKind, cut_at, number};
@@ -12,15 +12,6 @@ fn subpage_number(word: &[u8]) -> Result<u32, TextKind>
 {
     let value = number(511, word).ok_or(TextKind::BadSet)?;
     Ok(value as u32)
-}
-
-fn run_of_one(word: &[u8]) -> Result<(u32, u32), TextKind>
-    ensures value { result ≡ run_of_one word.now }
-    ensures order { IfOk result (λ run. run.0 ≤ run.1) }
-    ensures bound { IfOk result (λ run. run.1 ≤ 511) }
-{
-    let value = subpage_number(word)?;
-    Ok((value, value))
 }
 
 fn longer_run(first: &[u8], last: &[u8]) -> Result<(u32, u32), TextKind>
@@ -45,7 +36,8 @@ fn run_of(text: &[u8]) -> Result<(u32, u32), TextKind>
 {
     let (first, behind) = cut_at(b'-', text);
     let Some(behind) = behind else {
-        return run_of_one(first);
+        let number = subpage_number(first)?;
+        return Ok((number, number));
     };
     let (last, more) = cut_at(b'-', behind);
     if more.is_some() {
@@ -106,20 +98,13 @@ fn set_of_runs(text: &[u8]) -> Result<SubSet, TextKind>
     }
 }
 
-#[tactic(auto, unfolding(crate::specs::SetTexts::set_with))]
-fn set_of_none() -> SubSet
-    ensures { result ≡ set_with [] }
-{
-    SubSet::empty()
-}
-
 /// Parses a set: its maximal runs in ascending order, separated by commas, or `-` if it is empty.
-#[tactic(auto, unfolding(crate::specs::SetTexts::set_of_text))]
+#[tactic(auto, unfolding(crate::specs::SetTexts::set_of_text, crate::specs::SetTexts::set_with))]
 pub(crate) fn set_of_text(text: &[u8]) -> Result<SubSet, TextKind>
     ensures { result ≡ set_of_text text.now }
 {
     if text == b"-".as_slice() {
-        return Ok(set_of_none());
+        return Ok(SubSet::empty());
     }
     set_of_runs(text)
 }

@@ -191,7 +191,7 @@ module _ (o : List Op) (a b : Folding) (e : Event) where
       )
 
 -- where no flight waits
-pub still_plain : (f : Folding) (o p : List Op) → (f.waiting.flights.items ≡ [] → p ≡ o) → (s : ScanPlace) → IsAtPlace s f → (s ≡ Elsewhere → ⊥) → HasAdded o p (All IsCallOrScan)
+pub still_plain : (f : Folding) (o p : List Op) → (f.waiting.items ≡ [] → p ≡ o) → (s : ScanPlace) → IsAtPlace s f → (s ≡ Elsewhere → ⊥) → HasAdded o p (All IsCallOrScan)
 still_plain f o p same Between at ne = no_command o p (same at.quiet.none_waits)
 still_plain f o p same (InTakes c ps) at ne = no_command o p (same at.quiet.none_waits)
 still_plain f o p same (InTries c n k ps) at ne = no_command o p (same at.quiet.none_waits)

@@ -56,10 +56,10 @@ module _ (old : Folding) (by : ℕ) where
 
 -- ---- calls
 
-pub calls_on : (old new : Folding) → (old.batch ≡ batch.Idle → old.waiting.flights.items ≡ [] → new ≡ old) → (s : ScanPlace) → IsAtPlace s old → IsAt (place_of_call s) (pages_at s) new
+pub calls_on : (old new : Folding) → (old.batch ≡ batch.Idle → old.waiting.items ≡ [] → new ≡ old) → (s : ScanPlace) → IsAtPlace s old → IsAt (place_of_call s) (pages_at s) new
 calls_on old new same x at = grind (arith, same_at)
 
-pub settled_idle : (a m d : Folding) → m ≡ record a { batch = settled a.batch } → (m.waiting.flights.items ≡ [] → d ≡ m) → a.batch ≡ batch.Idle → a.waiting.flights.items ≡ [] → d ≡ a
+pub settled_idle : (a m d : Folding) → m ≡ record a { batch = settled a.batch } → (m.waiting.items ≡ [] → d ≡ m) → a.batch ≡ batch.Idle → a.waiting.items ≡ [] → d ≡ a
 settled_idle a m d rest same idle none = grind arith
 
 -- ---- takes
@@ -75,7 +75,7 @@ module _ (old : Folding) (by : ℕ) where
   pub takes_first : (m : Folding) (x p : ℕ) → EndsTakes old.batch by → (old.batch ≡ batch.Idle → m ≡ old) → (s : ScanPlace) → IsAtPlace s old → IsAt (place_of_take s by (what.Taken p)) (pages_at s) (record m { flight = x; flights = x; batch = batch.Taking by 1 })
   takes_first m x p ends same = grind (arith, takes_end, same_at)
 
-  pub takes_not : (m new : Folding) (p : ℕ) → EndsTakes old.batch by → (old.batch ≡ batch.Idle → m ≡ old) → (m.batch ≡ batch.Idle → m.waiting.flights.items ≡ [] → ⊥) → (s : ScanPlace) → IsAtPlace s old → IsAt (place_of_take s by (what.Taken p)) (pages_at s) new
+  pub takes_not : (m new : Folding) (p : ℕ) → EndsTakes old.batch by → (old.batch ≡ batch.Idle → m ≡ old) → (m.batch ≡ batch.Idle → m.waiting.items ≡ [] → ⊥) → (s : ScanPlace) → IsAtPlace s old → IsAt (place_of_take s by (what.Taken p)) (pages_at s) new
   takes_not m new p ends same busy = grind (arith, takes_end, same_at)
 
   -- ---- tries
@@ -202,7 +202,7 @@ pub scans_more : (h : History) (e : Event) (f : Folding) → IsAtPlace (scan_pla
 scans_more h e f at = subst (λ s. IsAtPlace s f) (sym (place_more h e)) at
 
 -- where no flight waits
-pub still_at : (old new : Folding) → (old.waiting.flights.items ≡ [] → new ≡ old) → (s : ScanPlace) → IsAtPlace s old → IsAtPlace s new
+pub still_at : (old new : Folding) → (old.waiting.items ≡ [] → new ≡ old) → (s : ScanPlace) → IsAtPlace s old → IsAtPlace s new
 still_at old new same x at = grind (arith, same_at)
 
 -- the end of a script whose batches are whole scans

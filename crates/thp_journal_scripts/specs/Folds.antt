@@ -84,7 +84,7 @@ flying flight p = record { page = p; flight = flight }
 -- these pages are in flight, all of one flight; no flight waits, and nothing moved
 pub record IsQuiet (ps : List ℕ) (f : Folding) : Type 0 where
   pub pages_are : f.pages.pages.items ≡ map (flying f.flight) ps
-  pub none_waits : f.waiting.flights.items ≡ []
+  pub none_waits : f.waiting.items ≡ []
   pub none_moved : f.moved ≡ nothing_moved
   pub last_flight : f.flights ≡ f.flight
 
@@ -137,7 +137,7 @@ flying_after _ flight ps = ps
 
 -- no flight begins or waits more
 pub record KeepsFlights (old new : Folding) : Type 0 where
-  pub none_waits : old.waiting.flights.items ≡ [] → new.waiting.flights.items ≡ []
+  pub none_waits : old.waiting.items ≡ [] → new.waiting.items ≡ []
   pub flight : new.flight ≡ old.flight
   pub flights : new.flights ≡ old.flights
 

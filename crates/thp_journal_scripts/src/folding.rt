@@ -16,8 +16,9 @@ use crate::event_kind::{EventKind, kind_of};
 use crate::moved::Moved;
 use crate::open_flights::OpenFlights;
 use crate::script_batch::ScriptBatch;
-use crate::waiting_flights::WaitingFlights;
+use crate::waiting_flights::{WaitingFlight, extend_last, lose_page};
 use std::alloc::{AllocError, Global};
+use std::collections::VecDeque;
 use thp_history::{Event, Outcome, PageId, What};
 use thp_script::Op;
 
@@ -36,7 +37,7 @@ pub(crate) struct Folding {
     // the number of flights so far
     flights: u64,
     pages: OpenFlights,
-    waiting: WaitingFlights,
+    waiting: VecDeque<WaitingFlight>,
     pub(crate) moved: Moved,
 }
 
@@ -50,7 +51,7 @@ impl Folding {
             flight: 0,
             flights: 0,
             pages: OpenFlights::new(alloc),
-            waiting: WaitingFlights::new(alloc),
+            waiting: VecDeque::new(alloc),
             moved: Moved::nothing(),
         }
     }
@@ -74,22 +75,10 @@ impl Folding {
         ensures plain { OnOk result (AddsPlain (λ s. scan_place_of s (kind_of event.now.what) event.now.caller event.now.what) self.old ops.old.items ops.new.items) }
     {
         match kind_of(&event.what) {
-            EventKind::Call(op) => {
-                self.call(op, ops)?;
-                Ok(())
-            }
-            EventKind::Take => {
-                self.take(event.caller, ops)?;
-                Ok(())
-            }
-            EventKind::Try => {
-                self.try_page(event.caller, ops)?;
-                Ok(())
-            }
-            EventKind::Put => {
-                self.put_page(event.caller, ops)?;
-                Ok(())
-            }
+            EventKind::Call(op) => self.call(op, ops),
+            EventKind::Take => self.take(event.caller, ops),
+            EventKind::Try => self.try_page(event.caller, ops),
+            EventKind::Put => self.put_page(event.caller, ops),
         }
     }
 
@@ -123,9 +112,9 @@ impl Folding {
     fn count_call(&mut self)
         ensures batch { self.new.batch ≡ self.old.batch }
         ensures events { self.new.moved.events ≡ self.old.moved.events }
-        ensures none_waits { self.old.waiting.flights.items ≡ [] → self.new ≡ self.old }
+        ensures none_waits { self.old.waiting.items ≡ [] → self.new ≡ self.old }
     {
-        if self.waiting.first().is_some() {
+        if !self.waiting.is_empty() {
             self.moved.calls = self.moved.calls.saturating_add(1);
         }
     }
@@ -174,9 +163,9 @@ impl Folding {
     /// Returns whether a batch can begin.
     fn is_free(&self) -> bool
         ensures sound { result ≡ true → self.now.batch ≡ Idle }
-        ensures complete { self.now.batch ≡ Idle → self.now.waiting.flights.items ≡ [] → result ≡ true }
+        ensures complete { self.now.batch ≡ Idle → self.now.waiting.items ≡ [] → result ≡ true }
     {
-        matches!(self.batch, ScriptBatch::Idle) && self.waiting.first().is_none()
+        matches!(self.batch, ScriptBatch::Idle) && self.waiting.is_empty()
     }
 
     /// Adds a take to the flights that wait.
@@ -185,12 +174,17 @@ impl Folding {
         ensures events { self.new.moved.events ≡ counted (self.old.moved.events + 1) }
     {
         self.count_event();
-        if self.pages.has(self.flights) && self.waiting.extend(caller) {
+        if self.pages.has(self.flights) && extend_last(&mut self.waiting, caller) {
             return Ok(());
         }
         self.moved.batches = self.moved.batches.saturating_add(1);
         self.flights = self.flights.saturating_add(1);
-        self.waiting.push(caller, self.flights)
+        self.waiting.push_back(WaitingFlight {
+            caller,
+            taken: 1,
+            flight: self.flights,
+        })?;
+        Ok(())
     }
 
     /// Adds a try.
@@ -235,10 +229,7 @@ impl Folding {
     fn has_open(&self, by: u32) -> bool
         ensures { result ≡ true → self.now.batch ≡ Open by }
     {
-        match self.batch {
-            ScriptBatch::Open { caller } => caller == by,
-            _ => false,
-        }
+        matches!(self.batch, ScriptBatch::Open { caller } if caller == by)
     }
 
     /// Follows the pages in flight.
@@ -278,7 +269,7 @@ impl Folding {
             return;
         }
         if let Some(flight) = self.pages.remove(page) {
-            self.waiting.lose(flight);
+            lose_page(&mut self.waiting, flight);
         }
     }
 
@@ -334,11 +325,11 @@ impl Folding {
 
     /// Appends a scan for each flight that has ended and waits for no other one.
     fn release(&mut self, ops: &mut Vec<Op>) -> Result<(), AllocError>
-        ensures none_waits { OnOk result (self.old.waiting.flights.items ≡ [] → self.new ≡ self.old) }
-        ensures none_written { OnOk result (self.old.waiting.flights.items ≡ [] → ops.new.items ≡ ops.old.items) }
+        ensures none_waits { OnOk result (self.old.waiting.items ≡ [] → self.new ≡ self.old) }
+        ensures none_written { OnOk result (self.old.waiting.items ≡ [] → ops.new.items ≡ ops.old.items) }
         ensures adds { OnOk result (HasAdded ops.old.items ops.new.items (AddsCommands self.old self.new)) }
     {
-        if self.waiting.len() == 0 {
+        if self.waiting.is_empty() {
             return Ok(());
         }
         self.put_back_nothing(ops)?;
@@ -351,7 +342,7 @@ impl Folding {
 
     /// Returns the number of pages of the first flight that waits; `None` if it has not ended, unless `all` flights are meant.
     fn next_scan(&self, all: bool) -> Option<u16> {
-        let first = self.waiting.first()?;
+        let first = self.waiting.front()?;
         if !all && self.pages.has(first.flight) {
             return None;
         }
@@ -373,7 +364,7 @@ impl Folding {
                 return Ok(());
             };
             ops.push(Op::Scan { count })?;
-            self.waiting.pop();
+            self.waiting.pop_front();
         }
         Ok(())
     }

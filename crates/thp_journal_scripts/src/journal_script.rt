@@ -1,7 +1,7 @@
 //! The script of the nodes in a journal.
 ghost use Rattle.std.specs.Prelude.{◌≡◌, ◌++◌, ◌-◌, [], ℕ, None, OnOk};
 ghost use Rattle.thp_history.specs.Prelude.{event_with};
-ghost use Rattle.thp_journal_scripts.specs.NodeScripts.{head_text, moved_by, out_of_turn_by, taken_of, untaken, BeginsNode, EndsNode, GoesOnWith, IsWriting, StaysWritten};
+ghost use Rattle.thp_journal_scripts.specs.NodeScripts.{head_text, taken_of, untaken, BeginsNode, EndsNode, GoesOnWith, IsWriting, StaysWritten};
 ghost use Rattle.thp_journal_scripts.specs.ScriptTexts.{commands_text};
 
 use crate::command_text::put_commands;
@@ -27,13 +27,13 @@ pub(crate) struct JournalScript {
     nodes: u32,
     // the last of them, if it has not ended
     node: Option<Folding>,
-    turns: Turns,
+    pub(crate) turns: Turns,
     // the commands that are not in the text yet
     ops: Vec<Op>,
-    text: Vec<u8>,
+    pub(crate) text: Vec<u8>,
     // the text that was taken out; has no bytes
     taken: TextTrace,
-    moved: Moved,
+    pub(crate) moved: Moved,
 }
 
 impl JournalScript {
@@ -65,7 +65,7 @@ impl JournalScript {
         self.nodes = self.nodes.saturating_add(1);
         put_head(&mut self.text, self.shapes.as_slice())?;
         self.node = Some(Folding::new(self.alloc));
-        self.turns.begin_node();
+        self.turns.untried.clear();
         Ok(())
     }
 
@@ -113,20 +113,6 @@ impl JournalScript {
         Ok(())
     }
 
-    /// Returns the text that was not taken out.
-    pub(crate) fn text(&self) -> &[u8]
-        ensures { result.now ≡ untaken self.now }
-    {
-        self.text.as_slice()
-    }
-
-    /// Returns the text that was not taken out, when the script has ended.
-    pub(crate) fn into_text(self) -> Vec<u8>
-        ensures { result.items ≡ untaken self }
-    {
-        self.text
-    }
-
     /// Takes the text out.
     pub(crate) fn clear_text(&mut self)
         ensures none { untaken self.new ≡ [] }
@@ -135,21 +121,6 @@ impl JournalScript {
     {
         self.taken.push(&self.text);
         self.text.clear();
-    }
-
-    /// Returns what the script does in another order than the journal, for the nodes that have ended.
-    pub(crate) fn moved(&self) -> Moved
-        ensures { result ≡ moved_by self.now }
-    {
-        self.moved
-    }
-
-    /// Returns the number of tries so far of another page than the first that its caller has taken and not tried yet: the script
-    /// tries pages in the order of their takes.
-    pub(crate) fn out_of_turn(&self) -> u64
-        ensures { result ≡ out_of_turn_by self.now }
-    {
-        self.turns.out_of_turn()
     }
 }
 

@@ -33,15 +33,11 @@ impl ScriptBatch {
         ensures { MatchOption result (EndsTakes self by) (TakesMore self by) }
     {
         match self {
-            ScriptBatch::Taking { caller, taken } => {
-                if caller == by && taken < MAX_TAKEN {
-                    Some(ScriptBatch::Taking {
-                        caller,
-                        taken: taken + 1,
-                    })
-                } else {
-                    None
-                }
+            ScriptBatch::Taking { caller, taken } if caller == by && taken < MAX_TAKEN => {
+                Some(ScriptBatch::Taking {
+                    caller,
+                    taken: taken + 1,
+                })
             }
             _ => None,
         }
@@ -52,32 +48,20 @@ impl ScriptBatch {
         ensures { MatchOption result (EndsTries self by) (TriesMore self by) }
     {
         match self {
-            ScriptBatch::Taking { caller, taken } => {
-                if caller == by {
-                    Some(ScriptBatch::Trying {
-                        caller,
-                        taken,
-                        tried: 1,
-                    })
-                } else {
-                    None
-                }
-            }
+            ScriptBatch::Taking { caller, taken } if caller == by => Some(ScriptBatch::Trying {
+                caller,
+                taken,
+                tried: 1,
+            }),
             ScriptBatch::Trying {
                 caller,
                 taken,
                 tried,
-            } => {
-                if caller == by && tried < taken {
-                    Some(ScriptBatch::Trying {
-                        caller,
-                        taken,
-                        tried: tried + 1,
-                    })
-                } else {
-                    None
-                }
-            }
+            } if caller == by && tried < taken => Some(ScriptBatch::Trying {
+                caller,
+                taken,
+                tried: tried + 1,
+            }),
             _ => None,
         }
     }
@@ -91,13 +75,7 @@ impl ScriptBatch {
                 caller,
                 taken,
                 tried,
-            } => {
-                if caller == by && tried == taken {
-                    Some(ScriptBatch::Scanned { caller, taken })
-                } else {
-                    None
-                }
-            }
+            } if caller == by && tried == taken => Some(ScriptBatch::Scanned { caller, taken }),
             ScriptBatch::Scanned { caller, .. } | ScriptBatch::Closing { caller } => {
                 if caller == by { Some(self) } else { None }
             }
@@ -125,12 +103,8 @@ impl ScriptBatch {
         ensures { MatchOption result (IsIncomplete self) (Completes self) }
     {
         match self {
-            ScriptBatch::Trying { taken, tried, .. } => {
-                if tried == taken {
-                    Some(Op::Scan { count: taken })
-                } else {
-                    None
-                }
+            ScriptBatch::Trying { taken, tried, .. } if tried == taken => {
+                Some(Op::Scan { count: taken })
             }
             ScriptBatch::Scanned { taken, .. } => Some(Op::Scan { count: taken }),
             ScriptBatch::Closing { .. } => Some(Op::PutBack),

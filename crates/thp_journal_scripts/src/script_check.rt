@@ -63,7 +63,7 @@ impl ScriptCheck {
     pub fn script(&self) -> &[u8]
         ensures { result.now ≡ self.now.untaken }
     {
-        self.text.nodes.script.text()
+        self.text.nodes.script.text.as_slice()
     }
 
     /// Takes the text of the script out.

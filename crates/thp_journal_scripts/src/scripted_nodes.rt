@@ -46,9 +46,9 @@ impl ScriptedNodes {
         script.end_node()?;
         Ok(Scripted {
             illegal: checked.illegal(),
-            moved: script.moved(),
-            out_of_turn: script.out_of_turn(),
-            text: script.into_text(),
+            moved: script.moved,
+            out_of_turn: script.turns.out_of_turn,
+            text: script.text,
         })
     }
 }

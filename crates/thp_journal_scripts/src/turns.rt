@@ -9,7 +9,7 @@ use thp_history::{Event, Outcome, PageId, What};
 
 /// A page that was taken and not tried yet.
 #[derive(Clone, Copy)]
-struct UntriedPage {
+pub(crate) struct UntriedPage {
     caller: u32,
     page: PageId,
 }
@@ -18,8 +18,8 @@ struct UntriedPage {
 /// another page than the first that its caller has taken and not tried yet.
 #[derive(Drop)]
 pub(crate) struct Turns {
-    untried: Vec<UntriedPage>,
-    out_of_turn: u64,
+    pub(crate) untried: Vec<UntriedPage>,
+    pub(crate) out_of_turn: u64,
 }
 
 impl Turns {
@@ -34,31 +34,15 @@ impl Turns {
         }
     }
 
-    /// Begins a node.
-    pub(crate) fn begin_node(&mut self)
-        ensures untried { self.new.untried.items ≡ [] }
-        ensures count { self.new.out_of_turn ≡ self.old.out_of_turn }
-    {
-        self.untried.clear();
-    }
-
     /// Adds an event of the node.
     pub(crate) fn add(&mut self, event: &Event) -> Result<(), AllocError>
         ensures untried { OnOk result (self.new.untried.items ≡ untried_after self.old.untried.items event.now) }
         ensures count { OnOk result (self.new.out_of_turn ≡ counted (self.old.out_of_turn + (if is_out_of_turn self.old.untried.items event.now then 1 else 0))) }
     {
-        self.count_if_out_of_turn(event);
-        self.leave(done_page(&event.what));
-        self.take(event.caller, &event.what)
-    }
-
-    /// Counts an event if it tries another page than the first that its caller has taken and not tried yet.
-    fn count_if_out_of_turn(&mut self, event: &Event)
-        ensures untried { self.new.untried ≡ self.old.untried }
-        ensures count { self.new.out_of_turn ≡ counted (self.old.out_of_turn + (if is_out_of_turn self.old.untried.items event.now then 1 else 0)) }
-    {
         let more = u64::from(self.is_out_of_turn(event));
         self.out_of_turn = self.out_of_turn.saturating_add(more);
+        self.leave(done_page(&event.what));
+        self.take(event.caller, &event.what)
     }
 
     /// Adds the page that an event takes.
@@ -113,13 +97,6 @@ impl Turns {
         if let Some(place) = self.place_of(page) {
             self.untried.remove(place);
         }
-    }
-
-    /// Returns the number of tries out of turn so far.
-    pub(crate) fn out_of_turn(&self) -> u64
-        ensures { result ≡ self.now.out_of_turn }
-    {
-        self.out_of_turn
     }
 }
 

@@ -1,9 +1,9 @@
 //! Single events from the bytes of their lines.
 use std::alloc::Global;
 use thp_history::{Event, Outcome, PageId, SubSet, What};
-use thp_journal_reader::read_event;
-use thp_journal_writer::{Version, put_event};
-use thp_script::TextKind;
+use thp_journal_reader::{check_text, read_journal};
+use thp_journal_writer::{Version, put, put_event};
+use thp_script::{ReadFault, TextKind};
 
 const PAGE: PageId = PageId(7);
 
@@ -11,12 +11,19 @@ const PAGE: PageId = PageId(7);
 fn is_read_back(alloc: Global, what: What) -> bool {
     let event = Event { caller: 3, what };
     let mut text = Vec::new(alloc);
-    if put_event(&mut text, Version::Underused, &event).is_err() {
+    let head = b"thp-journal 3\nnode 0 blocks 4 order 9 underused off\n";
+    if put(&mut text, head).is_err()
+        || put_event(&mut text, Version::Underused, &event).is_err()
+        || put(&mut text, b"end\n").is_err()
+    {
         return false;
     }
-    match text.as_slice() {
-        [line @ .., b'\n'] => read_event(Version::Underused, line, 5) == Ok(event),
-        _ => false,
+    match read_journal(alloc, text.as_slice()) {
+        Ok(journals) => match journals.nodes.as_slice() {
+            [node] => node.events.as_slice() == [event].as_slice(),
+            _ => false,
+        },
+        Err(_) => false,
     }
 }
 
@@ -26,7 +33,7 @@ fn events_are_read_back(rt: HostRuntime) {
     let released = SubSet::range(3, 4);
     let outcome = Outcome::Queued;
     let kinds = [
-        What::Alloc { page, block: 5 },
+        What::Alloc { page, block: 0 },
         What::Split { page, released },
         What::Used { page },
         What::Close,
@@ -53,20 +60,23 @@ fn events_are_read_back(rt: HostRuntime) {
     }
 }
 
-#[test]
-fn blocks_are_the_callers(rt: HostRuntime) {
-    for block in [0, 9, 4095] {
-        let what = What::Alloc { page: PAGE, block };
-        let read = read_event(Version::Plain, b"0 alloc 7", block);
-        assert!(rt; read == Ok(Event { caller: 0, what }));
+// The error of the third line of a text.
+fn fault_of_line(alloc: Global, line: &[u8]) -> Option<TextKind> {
+    let mut text = Vec::new(alloc);
+    put(&mut text, b"thp-journal 1\nnode 0 blocks 4\n").ok()?;
+    put(&mut text, line).ok()?;
+    put(&mut text, b"\n").ok()?;
+    match check_text(alloc, text.as_slice()) {
+        Err(ReadFault::Text { line: 3, kind }) => Some(kind),
+        _ => None,
     }
 }
 
 #[test]
 fn faults_of_a_line(rt: HostRuntime) {
-    let rows: [(&[u8], TextKind); 10] = [
+    let rows: [(&[u8], TextKind); 9] = [
         (b"", TextKind::BadWord),
-        (b"0 alloc 7\n", TextKind::BadByte),
+        (b"0 alloc 7\t", TextKind::BadByte),
         (b"0 alloc  7", TextKind::BadWord),
         (b"0 used 7", TextKind::BadWord),
         (b"0 alloc", TextKind::BadCount),
@@ -74,9 +84,8 @@ fn faults_of_a_line(rt: HostRuntime) {
         (b"0 split 7 1,2", TextKind::BadSet),
         (b"thp-journal 1", TextKind::BadOrder),
         (b"node 0 blocks 4", TextKind::BadOrder),
-        (b"end", TextKind::BadOrder),
     ];
     for (line, kind) in rows {
-        assert!(rt; read_event(Version::Plain, line, 0) == Err(kind));
+        assert!(rt; fault_of_line(rt.alloc(), line) == Some(kind));
     }
 }

@@ -4,22 +4,10 @@ ghost use Rattle.std.specs.Prelude.{◌<◌};
 use std::alloc::Global;
 use thp_check::Misfit;
 use thp_history::{Event, PageId, What};
-use thp_journal_reader::{Illegal, JournalCheck, JournalReader, LongCheck, check_journals};
+use thp_journal_reader::{Illegal, JournalCheck, LongCheck};
 use thp_script::{ReadFault, TextFault, TextKind};
 
-/// The first illegal line of a text that comes in parts of so many bytes.
-fn by_parts(alloc: Global, text: &[u8], size: usize) -> Result<Option<u32>, ReadFault>
-    requires { 0 < size }
-{
-    let mut journals = JournalReader::new(alloc);
-    for part in text.chunks(size) {
-        journals = journals.read_part(part)?;
-    }
-    let journals = journals.finish()?;
-    Ok(check_journals(alloc, &journals)?)
-}
-
-/// The same by a check that keeps no event.
+/// The first illegal line of a text of at most 16 MiB that comes in parts of so many bytes.
 fn checked_by_parts(alloc: Global, text: &[u8], size: usize) -> Result<Option<u32>, ReadFault>
     requires { 0 < size }
 {
@@ -50,8 +38,6 @@ fn parts_of_each_length(rt: HostRuntime) {
     let text =
         b"thp-journal 1\nnode 0 blocks 4\n0 alloc 0\n0 close\nnode 1 blocks 4\n0 alloc 0\n0 pin 1\nend\n";
     for size in 1..100 {
-        let told = by_parts(rt.alloc(), text.as_slice(), size).expect(&rt, "journals");
-        assert!(rt; told == Some(7), "{size}");
         let checked = checked_by_parts(rt.alloc(), text.as_slice(), size).expect(&rt, "journals");
         assert!(rt; checked == Some(7), "{size}");
     }
@@ -86,8 +72,6 @@ fn an_illegal_page_has_the_least_block(rt: HostRuntime) {
 fn first_fault_of_parts(rt: HostRuntime) {
     let text = b"thp-journal 1\nnode 0 blocks 4\n0 fly 0\n0 close 1\n";
     for size in 1..52 {
-        let told = by_parts(rt.alloc(), text.as_slice(), size);
-        assert!(rt; is_bad_word_on_line_3(&told), "{size}");
         let checked = checked_by_parts(rt.alloc(), text.as_slice(), size);
         assert!(rt; is_bad_word_on_line_3(&checked), "{size}");
         let found = found_by_parts(rt.alloc(), text.as_slice(), size);

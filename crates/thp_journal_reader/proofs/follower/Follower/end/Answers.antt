@@ -1,5 +1,4 @@
 use Rattle.std.proofs.Common.{◌≡◌, ◌∙◌, None, inl, sym}
-use Rattle.std.proofs.lemmas.Result.{IfOk-weaker}
 use Rattle.thp_history.proofs.Options.{not_there}
 use Rattle.thp_journal_reader.proofs.FollowLaws.{at_hand_is, ends, none_ended, none_is}
 use Rattle.thp_journal_reader.proofs.follower.Follower.end.Goals as goal
@@ -12,13 +11,10 @@ returns-in_default-clause-ended g c = λ nodes f.
     (f.first, none_ended F.keeps F.follows_all nodes old.illegal old.kept.items (none_is F.keeps F.replayed F.follows_all nodes old.at_hand old.next_line old.illegal old.kept.items f.known none))
 
 pub returns-clause-ended : goal.returns-clause-ended
-returns-clause-ended g c =
+returns-clause-ended g c = λ nodes f.
     let F = g.F.FollowsNode in
-    let old = c.args.self.now in
-    IfOk-weaker c.keep.result _ _
-    (λ u kept nodes f. (
-      rw c.keep.ensures.illegal f.first,
-      inl (ends F.keeps nodes (F.replayed c.in-Some.node) old.next_line old.kept.items c.keep.new.self.kept.items c.in_ok-kept.kept
-          (at_hand_is F.keeps F.replayed F.follows_all nodes old.at_hand old.next_line old.illegal old.kept.items f.known c.in-Some.node (sym c.take.ensures.value ∙ c.in-Some.is)) c.in_ok-kept.ensures kept),
-    ))
-    c.keep.ensures.kept
+    let old = c.args.self.now in (
+      f.first,
+      inl (ends F.keeps nodes (F.replayed c.in-Some.node) old.next_line old.kept.items c.push.new.self.items c.in_ok-kept.kept
+          (at_hand_is F.keeps F.replayed F.follows_all nodes old.at_hand old.next_line old.illegal old.kept.items f.known c.in-Some.node (sym c.take.ensures.value ∙ c.in-Some.is)) c.in_ok-kept.ensures c.in_ok-push.ensures.items),
+    )

@@ -8,7 +8,7 @@ pub invariant_of-self-in-Holds : goal.invariant_of-self-in-Holds
 invariant_of-self-in-Holds c =
     noted_alloc c.self.inside.shape c.self.inside.past c.push.new.self c.self.inside.holders c.hold.new.self (known_of c.self.inside.pages.pages) (known_of c.add.new.self.pages)
     c.self.inside.pages.allocations.items c.add.new.self.allocations.items c.args.event.now c.args.page c.args.block c.in-Holds.last c.known.result
-    c.self.invariant c.requires.is_so (subst (λ (v : BlocksState). c.args.block < v.shape.blocks) (sym c.self.view_is) c.requires.inside) c.known.ensures c.in-Holds.is c.push.ensures c.hold.ensures c.in_default-add.ensures.known c.in_default-add.ensures.added
+    c.self.invariant c.requires.is_so (subst (λ (v : BlocksState). c.args.block < v.shape.blocks) (sym c.self.view_is) c.requires.inside) c.known.ensures c.in-Holds.is c.push.ensures c.hold.ensures c.in_ok-add.ensures.known c.in_ok-add.ensures.added
 
 pub invariant_of-self-2 : goal.invariant_of-self-2
 invariant_of-self-2 c =

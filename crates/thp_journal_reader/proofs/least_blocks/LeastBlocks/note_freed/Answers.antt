@@ -1,17 +1,18 @@
+use Rattle.std.proofs.Common.{refl}
 use Rattle.thp_journal_reader.specs.PageRecord.{known_of}
 use Rattle.thp_journal_reader.proofs.Noting.{noted_covered, noted_freed, noted_freed_again}
 use Rattle.thp_journal_reader.proofs.least_blocks.LeastBlocks.note_freed.Goals as goal
 
 pub give_back-requires : goal.give_back-requires
 give_back-requires c =
-    noted_covered c.self.inside.shape c.self.inside.past c.self.inside.holders (known_of c.self.inside.pages.pages) c.self.inside.pages.allocations.items c.free.new.self.allocations.items
-    c.args.event.now c.args.page c.in-Holds.last c.known.result c.self.invariant c.requires.frees c.known.ensures c.in-Holds.is c.in_default-free.ensures.kept
+    noted_covered c.self.inside.shape c.self.inside.past c.self.inside.holders (known_of c.self.inside.pages.pages) c.self.inside.pages.allocations.items c.self.inside.pages.allocations.items
+    c.args.event.now c.args.page c.in-Holds.last c.known.result c.self.invariant c.requires.frees c.known.ensures c.in-Holds.is refl
 
 pub invariant_of-self-in-Holds : goal.invariant_of-self-in-Holds
 invariant_of-self-in-Holds c =
-    noted_freed c.self.inside.shape c.self.inside.past c.push.new.self c.self.inside.holders c.give_back.new.holders (known_of c.self.inside.pages.pages) (known_of c.free.new.self.pages)
-    c.self.inside.pages.allocations.items c.free.new.self.allocations.items c.args.event.now c.args.page c.in-Holds.last c.known.result
-    c.self.invariant c.requires.frees c.known.ensures c.in-Holds.is c.push.ensures c.in_default-free.ensures.known c.in_default-free.ensures.kept c.give_back.ensures.size c.give_back.ensures.given
+    noted_freed c.self.inside.shape c.self.inside.past c.push.new.self c.self.inside.holders c.give_back.new.holders (known_of c.self.inside.pages.pages) (known_of c.set.new.self)
+    c.self.inside.pages.allocations.items c.self.inside.pages.allocations.items c.args.event.now c.args.page c.in-Holds.last c.known.result
+    c.self.invariant c.requires.frees c.known.ensures c.in-Holds.is c.push.ensures c.in_ok-set.ensures.done refl c.give_back.ensures.size c.give_back.ensures.given
 
 pub invariant_of-self-2 : goal.invariant_of-self-2
 invariant_of-self-2 c =

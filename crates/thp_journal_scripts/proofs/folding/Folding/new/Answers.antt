@@ -19,6 +19,6 @@ returns c = record {
     count = ap (λ (moved : Moved). moved.events) c.nothing.ensures;
     none_late = λ zero. refl;
   };
-  scans = record { batch_is = refl; some = tt; quiet = record { pages_are = c.new.ensures; none_waits = c.new-2.ensures; none_moved = c.nothing.ensures; last_flight = refl } };
+  scans = record { batch_is = refl; some = tt; quiet = record { pages_are = c.new.ensures; none_waits = c.new-2.ensures.items; none_moved = c.nothing.ensures; last_flight = refl } };
   plain = λ ne. All-nil IsCallOrScan;
 }

@@ -8,7 +8,7 @@ loop-flight-init c = record { batch = refl; events = refl; adds = adds_nothing c
 pub loop-flight-preserved : goal.loop-flight-preserved
 loop-flight-preserved c =
     let m = c.loop-flight.self in
-    let d = record m { waiting = c.pop.new.self } in
+    let d = record m { waiting = c.pop_front.new.self } in
     record {
       batch = c.loop-flight.invariant.batch;
       events = c.loop-flight.invariant.events;
