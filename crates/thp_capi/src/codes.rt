@@ -1,8 +1,13 @@
 //! The results of calls, as numbers.
 ghost use Rattle.std.specs.Prelude.{◌≡◌, Err, OnErr};
-ghost use Rattle.thp_capi.specs.Codes.{answer_of, answer_with, IsCode};
+ghost use Rattle.thp_history.specs.declared.refusal.Refusal.TheVariants.{OutOfMemory};
+ghost use Rattle.thp_capi.specs.Codes.{answer_of, answer_with, fault_in, fault_made, IsCode};
+ghost use Rattle.thp_capi.specs.declared.codes.Fault.TheVariants.{Refused};
 
+use std::alloc::{AllocError, AllocFailed};
+use thp_cell::CellFault;
 use thp_history::Refusal;
+use thp_node::NewFault;
 
 /// Why a call has no effect.
 #[derive(Clone, Copy, PartialEq, Eq, Debug)]
@@ -36,6 +41,52 @@ pub enum Fault {
     NoReason,
     /// The node only counts its events.
     NoJournal,
+}
+
+impl From<Refusal> for Fault {
+    ghost from_gives = { λ refusal fault. fault ≡ Refused refusal };
+
+    fn from(refusal: Refusal) -> Fault {
+        Fault::Refused(refusal)
+    }
+}
+
+impl From<CellFault> for Fault {
+    ghost from_gives = { λ cell fault. fault ≡ fault_in cell };
+
+    fn from(fault: CellFault) -> Fault {
+        match fault {
+            CellFault::Busy => Fault::Busy,
+            CellFault::Refused(refusal) => Fault::Refused(refusal),
+        }
+    }
+}
+
+impl From<NewFault> for Fault {
+    ghost from_gives = { λ new fault. fault ≡ fault_made new };
+
+    fn from(fault: NewFault) -> Fault {
+        match fault {
+            NewFault::BadSize => Fault::BadSize,
+            NewFault::OutOfMemory => Fault::Refused(Refusal::OutOfMemory),
+        }
+    }
+}
+
+impl From<AllocError> for Fault {
+    ghost from_gives = { λ _ fault. fault ≡ Refused OutOfMemory };
+
+    fn from(_error: AllocError) -> Fault {
+        Fault::Refused(Refusal::OutOfMemory)
+    }
+}
+
+impl<T: Drop> From<AllocFailed<T>> for Fault {
+    ghost from_gives = { λ _ fault. fault ≡ Refused OutOfMemory };
+
+    fn from(_error: AllocFailed<T>) -> Fault {
+        Fault::Refused(Refusal::OutOfMemory)
+    }
 }
 
 /// Converts a result to its number in `thp_code`.

@@ -1,14 +1,15 @@
 //! What the handles of nodes and of passes hold: a node's events are stored, or only counted.
-ghost use Rattle.std.specs.Prelude.{◌≡◌, ◌↔◌, [], Err, IfOk};
+ghost use Rattle.std.specs.Prelude.{◌≡◌, ◌⊎◌, [], IfErr, IfOk};
 ghost use Rattle.thp_history.specs.Prelude.{IsShape};
 ghost use Rattle.thp_capi.specs.Engines.{NoneOpen};
 ghost use Rattle.thp_capi.specs.Held.{events_in, held_value};
 
+use crate::codes::Fault;
 use crate::engine::Engine;
 use crate::shared_pass::SharedPass;
 use std::alloc::Global;
-use thp_history::Shape;
-use thp_node::{CountOnly, FullLog, NewFault};
+use thp_history::{Refusal, Shape};
+use thp_node::{CountOnly, FullLog};
 
 /// What becomes of the events of a node.
 #[derive(Clone, Copy, PartialEq, Eq, Debug)]
@@ -35,24 +36,19 @@ pub type HeldEngine = Held<Engine<FullLog>, Engine<CountOnly>>;
 pub type HeldPass = Held<SharedPass<FullLog>, SharedPass<CountOnly>>;
 
 impl Held<Engine<FullLog>, Engine<CountOnly>> {
-    /// Creates the engine of a node with no page.
-    pub fn new(alloc: Global, shape: Shape, are: Events) -> Result<HeldEngine, NewFault>
-        ensures bad_size { (result ≡ Err NewFault.BadSize) ↔ ¬ IsShape shape }
-        ensures are { IfOk result (λ held. events_in held ≡ are) }
-        ensures shape { IfOk result (λ held. (held_value held).node.shape ≡ shape) }
-        ensures journal { IfOk result (λ held. (held_value held).node.journal ≡ []) }
-        ensures none_open { IfOk result (λ held. NoneOpen (held_value held)) }
+    /// Creates the engine of a node with no page, on the heap.
+    pub fn new(alloc: Global, shape: Shape, are: Events) -> Result<Box<HeldEngine>, Fault>
+        ensures are { IfOk result (λ held. events_in held.value ≡ are) }
+        ensures shape { IfOk result (λ held. (held_value held.value).node.shape ≡ shape) }
+        ensures journal { IfOk result (λ held. (held_value held.value).node.journal ≡ []) }
+        ensures none_open { IfOk result (λ held. NoneOpen (held_value held.value)) }
+        ensures size { IfOk result (λ held. IsShape shape) }
+        ensures why { IfErr result (λ f. ((f ≡ Fault.BadSize) × ¬ IsShape shape) ⊎ (f ≡ Fault.Refused Refusal.OutOfMemory)) }
     {
-        match are {
-            Events::Kept => match Engine::new(alloc, shape) {
-                Ok(engine) => Ok(Held::Kept(engine)),
-                Err(fault) => Err(fault),
-            },
-            Events::Counted => match Engine::new(alloc, shape) {
-                Ok(engine) => Ok(Held::Counted(engine)),
-                Err(fault) => Err(fault),
-            },
-        }
+        Ok(match are {
+            Events::Kept => Box::new(alloc, Held::Kept(Engine::new(alloc, shape)?))?,
+            Events::Counted => Box::new(alloc, Held::Counted(Engine::new(alloc, shape)?))?,
+        })
     }
 }
 

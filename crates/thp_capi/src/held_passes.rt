@@ -1,5 +1,5 @@
 //! Creating, dividing and joining what the handles of passes hold, and the end of a cell.
-ghost use Rattle.std.specs.Prelude.{◌≡◌, ◌⊎◌, Err, IfErr, IfOk, OnOk, Some};
+ghost use Rattle.std.specs.Prelude.{◌≡◌, ◌⊎◌, IfErr, IfOk, OnOk, Some};
 ghost use Rattle.thp_capi.specs.Engines.{NoneOpen};
 ghost use Rattle.thp_capi.specs.Held.{events_in, held_value};
 ghost use Rattle.thp_capi.specs.Passes.{AdjoinHeld, Dismantled, Divided, Divides, Finished, IsCellSize, IsNewPass, Joined, OneCell};
@@ -11,7 +11,7 @@ use crate::held::{Events, Held, HeldEngine, HeldPass};
 use crate::shared_pass::SharedPass;
 use std::alloc::Global;
 use thp_history::{Refusal, Shape};
-use thp_node::{CountOnly, FullLog, NewFault, Recorder};
+use thp_node::{CountOnly, FullLog, Recorder};
 
 impl Held<SharedPass<FullLog>, SharedPass<CountOnly>> {
     /// Creates a cell of a new node, and returns the pass of all its callers.
@@ -21,24 +21,18 @@ impl Held<SharedPass<FullLog>, SharedPass<CountOnly>> {
         are: Events,
         callers: u32,
         mark: u64,
-    ) -> Result<HeldPass, NewFault>
+    ) -> Result<HeldPass, Fault>
         ensures are { IfOk result (λ held. events_in held ≡ are) }
         ensures made { IfOk result (λ held. IsNewPass shape callers (held_value held).pass) }
         ensures mark { IfOk result (λ held. (held_value held).mark ≡ mark) }
         ensures shut { IfOk result (λ held. IsShut (held_value held)) }
         ensures size { IfOk result (λ held. IsCellSize shape callers) }
-        ensures bad_size { result ≡ Err NewFault.BadSize → IsCellSize shape callers → ⊥ }
+        ensures why { IfErr result (λ f. ((f ≡ Fault.BadSize) × (IsCellSize shape callers → ⊥)) ⊎ (f ≡ Fault.Refused Refusal.OutOfMemory)) }
     {
-        match are {
-            Events::Kept => match SharedPass::new(alloc, shape, callers, mark) {
-                Ok(pass) => Ok(Held::Kept(pass)),
-                Err(fault) => Err(fault),
-            },
-            Events::Counted => match SharedPass::new(alloc, shape, callers, mark) {
-                Ok(pass) => Ok(Held::Counted(pass)),
-                Err(fault) => Err(fault),
-            },
-        }
+        Ok(match are {
+            Events::Kept => Held::Kept(SharedPass::new(alloc, shape, callers, mark)?),
+            Events::Counted => Held::Counted(SharedPass::new(alloc, shape, callers, mark)?),
+        })
     }
 
     /// Returns what becomes of the events of its cell's node.
@@ -133,11 +127,6 @@ fn finish_in<R: Recorder>(
     ensures same { IfErr result (λ e. e.0 ≡ pass) }
     ensures why { IfErr result (λ e. ((e.1 ≡ Fault.BatchOpen) × HasOpen pass) ⊎ (e.1 ≡ Fault.BadPass)) }
 {
-    match pass.finish() {
-        Ok(node) => {
-            engine.replace(node);
-            Ok(())
-        }
-        Err(refused) => Err(refused),
-    }
+    engine.replace(pass.finish()?);
+    Ok(())
 }

@@ -6,14 +6,13 @@ ghost use Rattle.thp_capi.specs.Codes.{answer_of, answer_with, IsCode};
 ghost use Rattle.thp_capi.specs.Engines.{shape_of};
 ghost use Rattle.thp_capi.specs.Held.{Does, Made};
 
-use crate::codes::{Fault, code};
+use crate::codes::{Fault, code, report};
 use crate::held::{Events, HeldEngine};
 use crate::node_handle::ThpNode;
 use crate::on_node;
 use crate::replies::ThpDone;
 use std::alloc::Global;
-use thp_history::{Gain, Loss, PageId, Refusal, Shape};
-use thp_node::NewFault;
+use thp_history::{Gain, Loss, PageId, Shape};
 
 /// Creates a node and fills the handle with it. The greatest number as the threshold turns the search for underused pages off.
 pub fn node_create(
@@ -32,15 +31,11 @@ pub fn node_create(
         return code(Err(Fault::InUse));
     }
     match HeldEngine::new(alloc, shape(blocks, order, underused), are) {
-        Ok(engine) => match Box::new(alloc, engine) {
-            Ok(engine) => {
-                handle.store(engine);
-                code(Ok(()))
-            }
-            Err(_) => code(Err(Fault::Refused(Refusal::OutOfMemory))),
-        },
-        Err(NewFault::BadSize) => code(Err(Fault::BadSize)),
-        Err(NewFault::OutOfMemory) => code(Err(Fault::Refused(Refusal::OutOfMemory))),
+        Ok(engine) => {
+            handle.store(engine);
+            code(Ok(()))
+        }
+        Err(fault) => code(Err(fault)),
     }
 }
 
@@ -84,13 +79,10 @@ pub fn node_lose(
     ensures known { IsCode result }
     ensures kept { OnErr (answer_of result) (done.new ≡ done.old) }
 {
-    match on_node!(handle, alloc, engine => engine.lose(caller, PageId(page), loss)) {
-        Ok(did) => {
-            *done = ThpDone::of(&did);
-            code(Ok(()))
-        }
-        Err(fault) => code(Err(fault)),
-    }
+    report(
+        on_node!(handle, alloc, engine => engine.lose(caller, PageId(page), loss)),
+        done,
+    )
 }
 
 /// Writes the text to the start of the buffer if it fits there.

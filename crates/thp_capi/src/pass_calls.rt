@@ -7,7 +7,7 @@ ghost use Rattle.thp_capi.specs.Held.{Does, events_in, held_value};
 ghost use Rattle.thp_capi.specs.Rooms.{value_of};
 ghost use Rattle.thp_capi.specs.Passes.{PassOne, PassLost, CellMade};
 
-use crate::codes::{Fault, code};
+use crate::codes::{Fault, code, report};
 use crate::held::{Events, HeldEngine, HeldPass};
 use crate::node_calls::shape;
 use crate::on_pass;
@@ -16,7 +16,6 @@ use crate::replies::ThpDone;
 use crate::room::Room;
 use std::alloc::Global;
 use thp_history::{Gain, Loss, PageId, Refusal, Shape};
-use thp_node::NewFault;
 
 /// Creates a shared node for `callers` callers, and fills the handle with the pass of all of them. `mark` distinguishes passes of
 /// this cell from those of others.
@@ -45,8 +44,7 @@ pub fn cell_create(
             handle.put(room, pass);
             code(Ok(()))
         }
-        Err(NewFault::BadSize) => code(Err(Fault::BadSize)),
-        Err(NewFault::OutOfMemory) => { code(Err(Fault::Refused(Refusal::OutOfMemory))) }
+        Err(fault) => code(Err(fault)),
     }
 }
 
@@ -60,13 +58,7 @@ pub fn spare_engine(alloc: Global, are: Events) -> Option<Box<HeldEngine>>
         order: 2,
         underused: None,
     };
-    match HeldEngine::new(alloc, shape, are) {
-        Ok(engine) => match Box::new(alloc, engine) {
-            Ok(engine) => Some(engine),
-            Err(_) => None,
-        },
-        Err(_) => None,
-    }
+    HeldEngine::new(alloc, shape, are).ok()
 }
 
 /// Adds mappings or a pin, or fills subpages of the page.
@@ -92,11 +84,8 @@ pub fn pass_lose(
     ensures known { IsCode result }
     ensures kept { OnErr (answer_of result) (done.new ≡ done.old) }
 {
-    match on_pass!(handle, alloc, pass => pass.lose(caller, PageId(page), loss)) {
-        Ok(did) => {
-            *done = ThpDone::of(&did);
-            code(Ok(()))
-        }
-        Err(fault) => code(Err(fault)),
-    }
+    report(
+        on_pass!(handle, alloc, pass => pass.lose(caller, PageId(page), loss)),
+        done,
+    )
 }
