@@ -11,13 +11,13 @@ ghost use Rattle.thp_journal_writer.specs.Prelude.{journal_text};
 
 use std::alloc::Global;
 use thp_capi::{
-    Events, Fault, Held, ThpBack, ThpNode, ThpScan, ThpStats, ThpTried, code, on_node, put_text,
-    report,
+    Fault, Held, HeldEngine, ThpBack, ThpNode, ThpScan, ThpStats, ThpTried, code, on_node,
+    put_text, report, shape,
 };
 use thp_history::{Refusal, What};
 
-/// Creates a node and fills the handle with it. The greatest number as the threshold turns the search for
-/// underused pages off.
+/// Creates a node and fills the handle with it. A node that is counting only counts its events, and does not keep them. The
+/// greatest number as the threshold turns the search for underused pages off.
 #[unsafe(no_mangle)]
 pub extern "C" fn thp_c_node_create(
     handle: &mut ThpNode,
@@ -25,26 +25,22 @@ pub extern "C" fn thp_c_node_create(
     blocks: u32,
     order: u32,
     underused: u32,
+    counting: bool,
 ) -> u32
-    ensures does { Made handle.old.held handle.new.held (shape_of blocks order underused) Events.Kept (answer_of result) }
+    ensures does { Made handle.old.held handle.new.held (shape_of blocks order underused) counting (answer_of result) }
     ensures known { IsCode result }
 {
-    thp_capi::node_create(handle, alloc, blocks, order, underused, Events::Kept)
-}
-
-/// Creates a node that only counts its events, as `thp_c_node_create` creates one that keeps them.
-#[unsafe(no_mangle)]
-pub extern "C" fn thp_c_node_create_counting(
-    handle: &mut ThpNode,
-    alloc: Global,
-    blocks: u32,
-    order: u32,
-    underused: u32,
-) -> u32
-    ensures does { Made handle.old.held handle.new.held (shape_of blocks order underused) Events.Counted (answer_of result) }
-    ensures known { IsCode result }
-{
-    thp_capi::node_create(handle, alloc, blocks, order, underused, Events::Counted)
+    if let Some(engine) = handle.take(alloc) {
+        handle.store(engine);
+        return code(Err(Fault::InUse));
+    }
+    match HeldEngine::new(alloc, shape(blocks, order, underused), counting) {
+        Ok(engine) => {
+            handle.store(engine);
+            code(Ok(()))
+        }
+        Err(fault) => code(Err(fault)),
+    }
 }
 
 /// Frees the node that the handle refers to, and empties the handle.

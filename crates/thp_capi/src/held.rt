@@ -2,7 +2,7 @@
 ghost use Rattle.std.specs.Prelude.{◌≡◌, ◌⊎◌, [], IfErr, IfOk};
 ghost use Rattle.thp_history.specs.Prelude.{IsShape};
 ghost use Rattle.thp_capi.specs.Engines.{NoneOpen};
-ghost use Rattle.thp_capi.specs.Held.{events_in, held_value};
+ghost use Rattle.thp_capi.specs.Held.{held_value, is_counting};
 
 use crate::codes::Fault;
 use crate::engine::Engine;
@@ -10,15 +10,6 @@ use crate::shared_pass::SharedPass;
 use std::alloc::Global;
 use thp_history::{Refusal, Shape};
 use thp_node::{CountOnly, FullLog};
-
-/// What becomes of the events of a node.
-#[derive(Clone, Copy, PartialEq, Eq, Debug)]
-pub enum Events {
-    /// They are stored, so that the journal can be read.
-    Kept,
-    /// They are only counted, which needs no memory.
-    Counted,
-}
 
 /// An engine or a pass, by what becomes of its node's events.
 #[derive(Drop)]
@@ -37,17 +28,18 @@ pub type HeldPass = Held<SharedPass<FullLog>, SharedPass<CountOnly>>;
 
 impl Held<Engine<FullLog>, Engine<CountOnly>> {
     /// Creates the engine of a node with no page, on the heap.
-    pub fn new(alloc: Global, shape: Shape, are: Events) -> Result<Box<HeldEngine>, Fault>
-        ensures are { IfOk result (λ held. events_in held.value ≡ are) }
+    pub fn new(alloc: Global, shape: Shape, counting: bool) -> Result<Box<HeldEngine>, Fault>
+        ensures counting { IfOk result (λ held. is_counting held.value ≡ counting) }
         ensures shape { IfOk result (λ held. (held_value held.value).node.shape ≡ shape) }
         ensures journal { IfOk result (λ held. (held_value held.value).node.journal ≡ []) }
         ensures none_open { IfOk result (λ held. NoneOpen (held_value held.value)) }
         ensures size { IfOk result (λ held. IsShape shape) }
         ensures why { IfErr result (λ f. ((f ≡ Fault.BadSize) × ¬ IsShape shape) ⊎ (f ≡ Fault.Refused Refusal.OutOfMemory)) }
     {
-        Ok(match are {
-            Events::Kept => Box::new(alloc, Held::Kept(Engine::new(alloc, shape)?))?,
-            Events::Counted => Box::new(alloc, Held::Counted(Engine::new(alloc, shape)?))?,
+        Ok(if counting {
+            Box::new(alloc, Held::Counted(Engine::new(alloc, shape)?))?
+        } else {
+            Box::new(alloc, Held::Kept(Engine::new(alloc, shape)?))?
         })
     }
 }

@@ -1,13 +1,13 @@
 //! Creating, dividing and joining what the handles of passes hold, and the end of a cell.
 ghost use Rattle.std.specs.Prelude.{◌≡◌, ◌⊎◌, IfErr, IfOk, OnOk, Some};
 ghost use Rattle.thp_capi.specs.Engines.{NoneOpen};
-ghost use Rattle.thp_capi.specs.Held.{events_in, held_value};
+ghost use Rattle.thp_capi.specs.Held.{held_value, is_counting};
 ghost use Rattle.thp_capi.specs.Passes.{AdjoinHeld, Dismantled, Divided, Divides, Finished, IsCellSize, IsNewPass, Joined, OneCell};
 ghost use Rattle.thp_capi.specs.Sharing.{HasOpen, IsShut};
 
 use crate::codes::Fault;
 use crate::engine::Engine;
-use crate::held::{Events, Held, HeldEngine, HeldPass};
+use crate::held::{Held, HeldEngine, HeldPass};
 use crate::shared_pass::SharedPass;
 use std::alloc::Global;
 use thp_history::{Refusal, Shape};
@@ -18,31 +18,29 @@ impl Held<SharedPass<FullLog>, SharedPass<CountOnly>> {
     pub fn new(
         alloc: Global,
         shape: Shape,
-        are: Events,
         callers: u32,
         mark: u64,
+        counting: bool,
     ) -> Result<HeldPass, Fault>
-        ensures are { IfOk result (λ held. events_in held ≡ are) }
+        ensures counting { IfOk result (λ held. is_counting held ≡ counting) }
         ensures made { IfOk result (λ held. IsNewPass shape callers (held_value held).pass) }
         ensures mark { IfOk result (λ held. (held_value held).mark ≡ mark) }
         ensures shut { IfOk result (λ held. IsShut (held_value held)) }
         ensures size { IfOk result (λ held. IsCellSize shape callers) }
         ensures why { IfErr result (λ f. ((f ≡ Fault.BadSize) × (IsCellSize shape callers → ⊥)) ⊎ (f ≡ Fault.Refused Refusal.OutOfMemory)) }
     {
-        Ok(match are {
-            Events::Kept => Held::Kept(SharedPass::new(alloc, shape, callers, mark)?),
-            Events::Counted => Held::Counted(SharedPass::new(alloc, shape, callers, mark)?),
+        Ok(if counting {
+            Held::Counted(SharedPass::new(alloc, shape, callers, mark)?)
+        } else {
+            Held::Kept(SharedPass::new(alloc, shape, callers, mark)?)
         })
     }
 
-    /// Returns what becomes of the events of its cell's node.
-    pub fn events(&self) -> Events
-        ensures { result ≡ events_in self.now }
+    /// Returns whether its cell's node only counts its events.
+    pub fn is_counting(&self) -> bool
+        ensures { result ≡ is_counting self.now }
     {
-        match self {
-            Held::Kept(_) => Events::Kept,
-            Held::Counted(_) => Events::Counted,
-        }
+        matches!(self, Held::Counted(_))
     }
 
     /// Divides the callers of the pass at this one. Open batches stay with their callers.
@@ -97,7 +95,7 @@ impl Held<SharedPass<FullLog>, SharedPass<CountOnly>> {
 
     /// Dismantles the cell, and puts its node in an engine of the same kind. Otherwise returns the pass and the reason.
     pub fn finish(self, engine: &mut HeldEngine) -> Result<(), (HeldPass, Fault)>
-        requires alike { events_in engine.old ≡ events_in self }
+        requires alike { is_counting engine.old ≡ is_counting self }
         requires none_open { NoneOpen (held_value engine.old) }
         ensures done { OnOk result (Finished (Some self) (Some engine.new)) }
         ensures same { IfErr result (λ e. e.0 ≡ self) }

@@ -2,63 +2,30 @@
 ghost use Rattle.std.specs.Prelude.{◌≡◌, OnErr, IfSome};
 ghost use Rattle.thp_history.specs.Prelude.{gain_call, gain_what, loss_call, loss_what};
 ghost use Rattle.thp_capi.specs.Codes.{answer_of, answer_with, IsCode};
-ghost use Rattle.thp_capi.specs.Engines.{NoneOpen, shape_of};
-ghost use Rattle.thp_capi.specs.Held.{Does, events_in, held_value};
+ghost use Rattle.thp_capi.specs.Engines.{NoneOpen};
+ghost use Rattle.thp_capi.specs.Held.{Does, held_value, is_counting};
 ghost use Rattle.thp_capi.specs.Rooms.{value_of};
-ghost use Rattle.thp_capi.specs.Passes.{PassOne, PassLost, CellMade};
+ghost use Rattle.thp_capi.specs.Passes.{PassOne, PassLost};
 
-use crate::codes::{Fault, code, report};
-use crate::held::{Events, HeldEngine, HeldPass};
-use crate::node_calls::shape;
+use crate::codes::{code, report};
+use crate::held::HeldEngine;
 use crate::on_pass;
 use crate::pass_handle::ThpPass;
 use crate::replies::ThpDone;
-use crate::room::Room;
 use std::alloc::Global;
-use thp_history::{Gain, Loss, PageId, Refusal, Shape};
-
-/// Creates a shared node for `callers` callers, and fills the handle with the pass of all of them. `mark` distinguishes passes of
-/// this cell from those of others.
-pub fn cell_create(
-    handle: &mut ThpPass,
-    alloc: Global,
-    blocks: u32,
-    order: u32,
-    underused: u32,
-    are: Events,
-    callers: u32,
-    mark: u64,
-) -> u32
-    ensures does { CellMade (value_of handle.old.held) (value_of handle.new.held) (shape_of blocks order underused) are callers mark (answer_of result) }
-    ensures known { IsCode result }
-{
-    if let Some((room, pass)) = handle.take(alloc) {
-        handle.put(room, pass);
-        return code(Err(Fault::InUse));
-    }
-    let Some(room) = Room::new(alloc) else {
-        return code(Err(Fault::Refused(Refusal::OutOfMemory)));
-    };
-    match HeldPass::new(alloc, shape(blocks, order, underused), are, callers, mark) {
-        Ok(pass) => {
-            handle.put(room, pass);
-            code(Ok(()))
-        }
-        Err(fault) => code(Err(fault)),
-    }
-}
+use thp_history::{Gain, Loss, PageId, Shape};
 
 /// Creates an engine of the smallest node, allocated first to hold the other node: so nothing is lost if memory can't be allocated.
-pub fn spare_engine(alloc: Global, are: Events) -> Option<Box<HeldEngine>>
+pub fn spare_engine(alloc: Global, counting: bool) -> Option<Box<HeldEngine>>
     ensures none_open { IfSome result (λ engine. NoneOpen (held_value engine.value)) }
-    ensures are { IfSome result (λ engine. events_in engine.value ≡ are) }
+    ensures counting { IfSome result (λ engine. is_counting engine.value ≡ counting) }
 {
     let shape = Shape {
         blocks: 1,
         order: 2,
         underused: None,
     };
-    HeldEngine::new(alloc, shape, are).ok()
+    HeldEngine::new(alloc, shape, counting).ok()
 }
 
 /// Adds mappings or a pin, or fills subpages of the page.
