@@ -44,12 +44,7 @@ impl<R: Recorder> Model for SharedPass<R> {
 
 impl<R: Recorder> SharedPass<R> {
     /// Creates a cell of a new node, and returns the pass of all its callers.
-    pub fn new(
-        alloc: Global,
-        shape: Shape,
-        callers: u32,
-        mark: u64,
-    ) -> Result<SharedPass<R>, Fault>
+    pub fn new(alloc: Global, shape: Shape, callers: u32, mark: u64) -> Result<SharedPass<R>, Fault>
         ensures made { IfOk result (λ s. IsNewPass shape callers s.pass) }
         ensures mark { IfOk result (λ s. s.mark ≡ mark) }
         ensures shut { IfOk result IsShut }
@@ -143,48 +138,29 @@ impl<R: Recorder> SharedPass<R> {
         ensures same { IfErr result (λ e. e.0 ≡ self) }
         ensures why { IfErr result (λ e. ((e.1 ≡ Fault.BadCaller) × (Divides at self.pass → ⊥)) ⊎ (e.1 ≡ Fault.Refused Refusal.OutOfMemory)) }
     {
-        let (first, end) = self.pass.callers();
+        let mut all = self;
+        let (first, end) = all.pass.callers();
         if at <= first || end <= at {
-            return Err((self, Fault::BadCaller));
+            return Err((all, Fault::BadCaller));
         }
-        let Ok(other) = Arc::try_clone(&self.cell) else {
-            return Err((self, Fault::Refused(Refusal::OutOfMemory)));
+        let Ok(other) = Arc::try_clone(&all.cell) else {
+            return Err((all, Fault::Refused(Refusal::OutOfMemory)));
         };
-        let SharedPass {
-            cell,
-            pass,
-            mut batches,
-            callers,
-            mark,
-        } = self;
         let places = (at - first) as usize;
-        let Ok(rest) = cut(alloc, &mut batches, places, (callers - at) as usize) else {
-            let same = SharedPass {
-                cell,
-                pass,
-                batches,
-                callers,
-                mark,
-            };
-            return Err((same, Fault::Refused(Refusal::OutOfMemory)));
+        let room = (all.callers - at) as usize;
+        let Ok(rest) = cut(alloc, &mut all.batches, places, room) else {
+            return Err((all, Fault::Refused(Refusal::OutOfMemory)));
         };
-        let (left, right) = cell.split(pass, at);
-        Ok((
-            SharedPass {
-                cell,
-                pass: left,
-                batches,
-                callers,
-                mark,
-            },
-            SharedPass {
-                cell: other,
-                pass: right,
-                batches: rest,
-                callers,
-                mark,
-            },
-        ))
+        let pass = all.pass;
+        let (left, right) = all.cell.split(pass, at);
+        let upper = SharedPass {
+            cell: other,
+            pass: right,
+            batches: rest,
+            callers: all.callers,
+            mark: all.mark,
+        };
+        Ok((SharedPass { pass: left, ..all }, upper))
     }
 
     /// Returns whether the other pass can be joined to this one.
@@ -206,28 +182,13 @@ impl<R: Recorder> SharedPass<R> {
         ensures left { OpenStay self result }
         ensures right { OpenStay other result }
     {
-        let SharedPass {
-            cell,
-            pass: left,
-            batches,
-            callers,
-            mark,
-        } = self;
-        let SharedPass {
-            cell: _,
-            pass: right,
-            batches: more,
-            callers: _,
-            mark: _,
-        } = other;
-        let pass = cell.join(left, right);
-        let batches = joined(batches, more);
+        let left = self.pass;
+        let pass = self.cell.join(left, other.pass);
+        let batches = joined(self.batches, other.batches);
         SharedPass {
-            cell,
             pass,
             batches,
-            callers,
-            mark,
+            ..self
         }
     }
 
@@ -248,25 +209,9 @@ impl<R: Recorder> SharedPass<R> {
         if some_open(&self.batches) {
             return Err((self, Fault::BatchOpen));
         }
-        let SharedPass {
-            cell,
-            pass,
-            batches,
-            callers,
-            mark,
-        } = self;
-        match Arc::try_unwrap(cell) {
-            Ok(cell) => Ok(cell.finish(pass)),
-            Err(cell) => {
-                let same = SharedPass {
-                    cell,
-                    pass,
-                    batches,
-                    callers,
-                    mark,
-                };
-                Err((same, Fault::BadPass))
-            }
+        match Arc::try_unwrap(self.cell) {
+            Ok(cell) => Ok(cell.finish(self.pass)),
+            Err(cell) => Err((SharedPass { cell, ..self }, Fault::BadPass)),
         }
     }
 }
