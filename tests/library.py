@@ -181,10 +181,10 @@ def codes_agree() -> str | None:
     in_c = {name.replace("_", "").lower(): int(number) for name, number in re.findall(r"THP_(\w+) = (\d+)\b", (C / "thp.h").read_text())}
     in_rust = re.findall(r"^    (\w+) = sys::THP_(\w+),", (ROOT / "rust/src/fault.rs").read_text(), re.M)
     proved = "".join(path.read_text() for path in (ROOT / "crates/thp_capi/src").glob("*codes.rt"))
-    in_proved = re.findall(r"(?:Fault|Refusal)::(\w+)\)? => (\d+),", proved)
+    in_proved = re.findall(r"(?:Fault|Refusal)::(\w+)\)* => (\d+),", proved)
     replies = (ROOT / "crates/thp_capi/src/replies.rt").read_text()
     effects = re.findall(r"Outcome::(\w+) => (\d),", replies)
-    effects += [(f"Try{name}", kind) for name, kind in re.findall(r"Tried::(\w+)[^=]* => ThpTried \{\s*kind: (\d)", replies)]
+    effects += [(f"Try{name}", kind) for name, kind in re.findall(r"Tried::(\w+)[^=]* => \((\d)", replies)]
     lists = re.findall(r"Standing::(\w+)[^=]* => \((\d)", (ROOT / "crates/thp_capi/src/page_state.rt").read_text())
     effects += [({"Nowhere": "ListNone", "Queued": "ListQueue", "Batch": "ListFlight"}[name], number) for name, number in lists]
     wrong = [name for name, number in [*in_proved, *effects] if in_c.get(name.lower()) != int(number)]

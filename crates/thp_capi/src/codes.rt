@@ -96,7 +96,17 @@ pub fn code(answer: Result<(), Fault>) -> u32
 {
     match answer {
         Ok(()) => 0,
-        Err(Fault::Refused(refusal)) => code_of_refusal(refusal),
+        Err(Fault::Refused(Refusal::NoPage)) => 1,
+        Err(Fault::Refused(Refusal::BadRange)) => 2,
+        Err(Fault::Refused(Refusal::IsSplit)) => 3,
+        Err(Fault::Refused(Refusal::NotMapped)) => 4,
+        Err(Fault::Refused(Refusal::Gone)) => 5,
+        Err(Fault::Refused(Refusal::NotPinned)) => 6,
+        Err(Fault::Refused(Refusal::TooMany)) => 7,
+        Err(Fault::Refused(Refusal::Closed)) => 8,
+        Err(Fault::Refused(Refusal::NoBlock)) => 9,
+        Err(Fault::Refused(Refusal::HasBatch)) => 10,
+        Err(Fault::Refused(Refusal::OutOfMemory)) => 11,
         Err(Fault::Empty) => 12,
         Err(Fault::InUse) => 13,
         Err(Fault::BadCaller) => 14,
@@ -110,25 +120,6 @@ pub fn code(answer: Result<(), Fault>) -> u32
         Err(Fault::Finished) => 32,
         Err(Fault::NoReason) => 33,
         Err(Fault::NoJournal) => 34,
-    }
-}
-
-fn code_of_refusal(refusal: Refusal) -> u32
-    ensures value { answer_of result ≡ Err (Fault.Refused refusal) }
-    ensures known { IsCode result }
-{
-    match refusal {
-        Refusal::NoPage => 1,
-        Refusal::BadRange => 2,
-        Refusal::IsSplit => 3,
-        Refusal::NotMapped => 4,
-        Refusal::Gone => 5,
-        Refusal::NotPinned => 6,
-        Refusal::TooMany => 7,
-        Refusal::Closed => 8,
-        Refusal::NoBlock => 9,
-        Refusal::HasBatch => 10,
-        Refusal::OutOfMemory => 11,
     }
 }
 
