@@ -14,7 +14,7 @@ use thp_capi::{
     Fault, Held, HeldEngine, ThpBack, ThpNode, ThpScan, ThpStats, ThpTried, code, on_node,
     put_text, report, shape,
 };
-use thp_history::{Refusal, What};
+use thp_history::What;
 
 /// Creates a node and fills the handle with it. A node that is counting only counts its events, and does not keep them. The
 /// greatest number as the threshold turns the search for underused pages off.
@@ -217,16 +217,15 @@ pub extern "C" fn thp_c_node_journal(
         return code(Err(Fault::Empty));
     };
     let text = match &*engine {
-        Held::Kept(engine) => Some(engine.text(alloc)),
-        Held::Counted(_) => None,
+        Held::Kept(engine) => engine.text(alloc),
+        Held::Counted(_) => Err(Fault::NoJournal),
     };
     handle.store(engine);
     match text {
-        Some(Ok(text)) => {
+        Ok(text) => {
             *size = text.len();
             code(put_text(buffer, &text))
         }
-        Some(Err(_)) => code(Err(Fault::Refused(Refusal::OutOfMemory))),
-        None => code(Err(Fault::NoJournal)),
+        Err(fault) => code(Err(fault)),
     }
 }

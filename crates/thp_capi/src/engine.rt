@@ -13,7 +13,7 @@ use crate::codes::Fault;
 use crate::open_batches::{is_open, none_open, put_at, take_at};
 use crate::replies::{ThpBack, ThpDone, ThpScan, ThpTried};
 use crate::stats::{ThpStats, narrow};
-use std::alloc::{AllocError, Global};
+use std::alloc::Global;
 use std::marker::Model;
 use thp_history::{Gain, Loss, MAX_BATCH, MAX_CALLERS, PageId, Refusal, Shape, What};
 use thp_journal_writer::{NodeHistory, journal_text};
@@ -240,13 +240,14 @@ impl Engine<FullLog> {
     ghost use Rattle.thp_journal_writer.specs.Prelude.{journal_text as text_of};
 
     /// Returns the node's journal as text.
-    pub fn text(&self, alloc: Global) -> Result<Vec<u8>, AllocError>
-        ensures { IfOk result (λ text. text.items ≡ text_of ((self.now.node.shape, self.now.node.journal) ∷ [])) }
+    pub fn text(&self, alloc: Global) -> Result<Vec<u8>, Fault>
+        ensures text { IfOk result (λ text. text.items ≡ text_of ((self.now.node.shape, self.now.node.journal) ∷ [])) }
+        ensures fault { IfErr result (λ fault. fault ≡ Fault.Refused Refusal.OutOfMemory) }
     {
         let node = NodeHistory {
             shape: self.node.shape(),
             events: self.node.journal(),
         };
-        journal_text(alloc, &[node])
+        Ok(journal_text(alloc, &[node])?)
     }
 }
