@@ -12,7 +12,7 @@ ghost use Rattle.thp_journal_writer.specs.Prelude.{journal_text};
 use std::alloc::Global;
 use thp_capi::{
     Fault, Held, HeldEngine, ThpBack, ThpNode, ThpScan, ThpStats, ThpTried, code, on_node,
-    put_text, report, shape,
+    put_text, shape,
 };
 use thp_history::What;
 
@@ -67,10 +67,7 @@ pub extern "C" fn thp_c_node_alloc(
     ensures known { IsCode result }
     ensures kept { OnErr (answer_of result) (page.new ≡ page.old) }
 {
-    report(
-        on_node!(handle, alloc, engine => engine.alloc_page(caller)),
-        page,
-    )
+    on_node!(handle, alloc, engine => engine.alloc_page(caller), page)
 }
 
 /// Closes the node: no page is queued or allocated afterwards.
@@ -95,10 +92,7 @@ pub extern "C" fn thp_c_node_scan(
     ensures known { IsCode result }
     ensures kept { OnErr (answer_of result) (scan.new ≡ scan.old) }
 {
-    report(
-        on_node!(handle, alloc, engine => engine.scan(caller, n)),
-        scan,
-    )
+    on_node!(handle, alloc, engine => engine.scan(caller, n), scan)
 }
 
 /// Takes up to `n` of the oldest queued pages, in order, into the caller's batch, which is open afterwards. `count` is the number
@@ -115,10 +109,7 @@ pub extern "C" fn thp_c_node_take(
     ensures known { IsCode result }
     ensures kept { OnErr (answer_of result) (count.new ≡ count.old) }
 {
-    report(
-        on_node!(handle, alloc, engine => engine.take(caller, n)),
-        count,
-    )
+    on_node!(handle, alloc, engine => engine.take(caller, n), count)
 }
 
 /// Tries the next page of the caller's open batch.
@@ -133,10 +124,7 @@ pub extern "C" fn thp_c_node_split_next(
     ensures known { IsCode result }
     ensures kept { OnErr (answer_of result) (tried.new ≡ tried.old) }
 {
-    report(
-        on_node!(handle, alloc, engine => engine.split_next(caller)),
-        tried,
-    )
+    on_node!(handle, alloc, engine => engine.split_next(caller), tried)
 }
 
 /// Returns the remaining pages of the caller's open batch, and closes the batch.
@@ -151,10 +139,7 @@ pub extern "C" fn thp_c_node_put_back(
     ensures known { IsCode result }
     ensures kept { OnErr (answer_of result) (back.new ≡ back.old) }
 {
-    report(
-        on_node!(handle, alloc, engine => engine.put_back(caller)),
-        back,
-    )
+    on_node!(handle, alloc, engine => engine.put_back(caller), back)
 }
 
 /// Discards the caller's open batch: its pages stay in the caller's flight, out of the queue.

@@ -9,7 +9,7 @@ ghost use Rattle.thp_capi.specs.Passes.{PassOne, PassAlloc, PassScan, PassCount,
 
 use std::alloc::Global;
 use thp_capi::{
-    Fault, HeldPass, Room, ThpNode, ThpPass, ThpScan, code, on_pass, report, shape, spare_engine,
+    Fault, HeldPass, Room, ThpNode, ThpPass, ThpScan, code, on_pass, shape, spare_engine,
 };
 use thp_history::{Refusal, What};
 
@@ -174,10 +174,7 @@ pub extern "C" fn thp_c_pass_alloc(
     ensures known { IsCode result }
     ensures kept { OnErr (answer_of result) (page.new ≡ page.old) }
 {
-    report(
-        on_pass!(handle, alloc, pass => pass.alloc_page(caller)),
-        page,
-    )
+    on_pass!(handle, alloc, pass => pass.alloc_page(caller), page)
 }
 
 /// Closes the node: no page is queued or allocated afterwards.
@@ -202,7 +199,7 @@ pub extern "C" fn thp_c_pass_scan(
     ensures known { IsCode result }
     ensures kept { OnErr (answer_of result) (scan.new ≡ scan.old) }
 {
-    report(on_pass!(handle, alloc, pass => pass.scan(caller, n)), scan)
+    on_pass!(handle, alloc, pass => pass.scan(caller, n), scan)
 }
 
 /// Stores in `pages` the number of queued pages, even while another pass has the node.

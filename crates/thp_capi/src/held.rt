@@ -45,9 +45,12 @@ impl Held<Engine<FullLog>, Engine<CountOnly>> {
 }
 
 /// Does a call on the engine of a node's handle, which is written once for both kinds. Returns what the call returns; where the
-/// handle is empty, the function returns that.
+/// handle is empty, the function returns that. With a place, the value is stored there, and the code is what is returned.
 #[macro_export]
 macro_rules! on_node {
+    ($handle:expr, $alloc:expr, $engine:ident => $call:expr, $place:expr) => {
+        $crate::report($crate::on_node!($handle, $alloc, $engine => $call), $place)
+    };
     ($handle:expr, $alloc:expr, $engine:ident => $call:expr) => {{
         let Some(mut held) = $handle.take($alloc) else {
             return $crate::code(Err($crate::Fault::Empty));
@@ -61,10 +64,12 @@ macro_rules! on_node {
     }};
 }
 
-/// Does a call on the pass of a handle, which is written once for both kinds. Returns what the call returns; where the handle is
-/// empty, the function returns that.
+/// Does a call on the pass of a handle, as `on_node` does one on an engine.
 #[macro_export]
 macro_rules! on_pass {
+    ($handle:expr, $alloc:expr, $pass:ident => $call:expr, $place:expr) => {
+        $crate::report($crate::on_pass!($handle, $alloc, $pass => $call), $place)
+    };
     ($handle:expr, $alloc:expr, $pass:ident => $call:expr) => {{
         let Some(mut room) = $handle.lend($alloc) else {
             return $crate::code(Err($crate::Fault::Empty));

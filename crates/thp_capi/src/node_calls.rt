@@ -6,7 +6,7 @@ ghost use Rattle.thp_capi.specs.Codes.{answer_of, answer_with, IsCode};
 ghost use Rattle.thp_capi.specs.Engines.{shape_of};
 ghost use Rattle.thp_capi.specs.Held.{Does};
 
-use crate::codes::{Fault, code, report};
+use crate::codes::{Fault, code};
 use crate::node_handle::ThpNode;
 use crate::on_node;
 use crate::replies::ThpDone;
@@ -54,10 +54,7 @@ pub fn node_lose(
     ensures known { IsCode result }
     ensures kept { OnErr (answer_of result) (done.new ≡ done.old) }
 {
-    report(
-        on_node!(handle, alloc, engine => engine.lose(caller, PageId(page), loss)),
-        done,
-    )
+    on_node!(handle, alloc, engine => engine.lose(caller, PageId(page), loss), done)
 }
 
 /// Writes the text to the start of the buffer if it fits there.

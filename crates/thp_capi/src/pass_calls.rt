@@ -7,7 +7,7 @@ ghost use Rattle.thp_capi.specs.Held.{Does, held_value, is_counting};
 ghost use Rattle.thp_capi.specs.Rooms.{value_of};
 ghost use Rattle.thp_capi.specs.Passes.{PassOne, PassLost};
 
-use crate::codes::{code, report};
+use crate::codes::code;
 use crate::held::HeldEngine;
 use crate::on_pass;
 use crate::pass_handle::ThpPass;
@@ -51,8 +51,5 @@ pub fn pass_lose(
     ensures known { IsCode result }
     ensures kept { OnErr (answer_of result) (done.new ≡ done.old) }
 {
-    report(
-        on_pass!(handle, alloc, pass => pass.lose(caller, PageId(page), loss)),
-        done,
-    )
+    on_pass!(handle, alloc, pass => pass.lose(caller, PageId(page), loss), done)
 }
