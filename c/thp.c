@@ -111,8 +111,15 @@ uint32_t thp_c_check_reason(thp_check *check, uint8_t *buffer, size_t capacity, 
 uint32_t thp_c_node_create(thp_node *node, uint32_t blocks, uint32_t order, uint32_t underused, bool counting);
 uint32_t thp_c_node_destroy(thp_node *node);
 uint32_t thp_c_node_alloc(thp_node *node, uint32_t caller, uint64_t *page);
-uint32_t thp_c_node_gain(thp_node *node, uint32_t caller, uint64_t page, uint32_t call, uint32_t first, uint32_t count);
-uint32_t thp_c_node_lose(thp_node *node, uint32_t caller, uint64_t page, uint32_t call, uint32_t first, uint32_t count, thp_done *done);
+uint32_t thp_c_node_map_whole(thp_node *node, uint32_t caller, uint64_t page);
+uint32_t thp_c_node_unmap_whole(thp_node *node, uint32_t caller, uint64_t page, thp_done *done);
+uint32_t thp_c_node_map_sub(thp_node *node, uint32_t caller, uint64_t page, uint32_t first, uint32_t count);
+uint32_t thp_c_node_unmap_sub(thp_node *node, uint32_t caller, uint64_t page, uint32_t first, uint32_t count, thp_done *done);
+uint32_t thp_c_node_split_pmd(thp_node *node, uint32_t caller, uint64_t page);
+uint32_t thp_c_node_pin(thp_node *node, uint32_t caller, uint64_t page);
+uint32_t thp_c_node_unpin(thp_node *node, uint32_t caller, uint64_t page, thp_done *done);
+uint32_t thp_c_node_write(thp_node *node, uint32_t caller, uint64_t page, uint32_t first, uint32_t count);
+uint32_t thp_c_node_zero(thp_node *node, uint32_t caller, uint64_t page, uint32_t first, uint32_t count);
 uint32_t thp_c_node_close(thp_node *node, uint32_t caller);
 uint32_t thp_c_node_scan(thp_node *node, uint32_t caller, uint32_t n, thp_scan *scan);
 uint32_t thp_c_node_take(thp_node *node, uint32_t caller, uint32_t n, uint32_t *count);
@@ -134,19 +141,22 @@ uint32_t thp_c_pass_split(thp_pass *pass, uint32_t at, thp_pass *other);
 uint32_t thp_c_pass_join(thp_pass *pass, thp_pass *other);
 uint32_t thp_c_pass_callers(thp_pass *pass, uint32_t *first, uint32_t *end);
 uint32_t thp_c_pass_alloc(thp_pass *pass, uint32_t caller, uint64_t *page);
-uint32_t thp_c_pass_gain(thp_pass *pass, uint32_t caller, uint64_t page, uint32_t call, uint32_t first, uint32_t count);
-uint32_t thp_c_pass_lose(thp_pass *pass, uint32_t caller, uint64_t page, uint32_t call, uint32_t first, uint32_t count, thp_done *done);
+uint32_t thp_c_pass_split_pmd(thp_pass *pass, uint32_t caller, uint64_t page);
+uint32_t thp_c_pass_unmap_sub(thp_pass *pass, uint32_t caller, uint64_t page, uint32_t first, uint32_t count, thp_done *done);
+uint32_t thp_c_pass_map_whole(thp_pass *pass, uint32_t caller, uint64_t page);
+uint32_t thp_c_pass_map_sub(thp_pass *pass, uint32_t caller, uint64_t page, uint32_t first, uint32_t count);
+uint32_t thp_c_pass_pin(thp_pass *pass, uint32_t caller, uint64_t page);
+uint32_t thp_c_pass_write(thp_pass *pass, uint32_t caller, uint64_t page, uint32_t first, uint32_t count);
+uint32_t thp_c_pass_zero(thp_pass *pass, uint32_t caller, uint64_t page, uint32_t first, uint32_t count);
 uint32_t thp_c_pass_close(thp_pass *pass, uint32_t caller);
+uint32_t thp_c_pass_unmap_whole(thp_pass *pass, uint32_t caller, uint64_t page, thp_done *done);
+uint32_t thp_c_pass_unpin(thp_pass *pass, uint32_t caller, uint64_t page, thp_done *done);
 uint32_t thp_c_pass_scan(thp_pass *pass, uint32_t caller, uint32_t n, thp_scan *scan);
 uint32_t thp_c_pass_take(thp_pass *pass, uint32_t caller, uint32_t n, uint32_t *count);
 uint32_t thp_c_pass_split_next(thp_pass *pass, uint32_t caller, thp_tried *tried);
 uint32_t thp_c_pass_put_back(thp_pass *pass, uint32_t caller, thp_back *back);
 uint32_t thp_c_pass_abandon(thp_pass *pass, uint32_t caller);
 uint32_t thp_c_pass_count(thp_pass *pass, uint32_t *pages);
-
-/* the calls about a page, by the numbers of the proved functions `gain` and `lose`; one about the whole page has no range */
-enum { MAP_WHOLE, MAP_SUB, SPLIT_PMD, PIN, WRITE, ZERO };
-enum { UNMAP_WHOLE, UNMAP_SUB, UNPIN };
 
 /* the proved functions have structs of the same layout */
 _Static_assert(sizeof(thp_node) == 16 && offsetof(thp_node, live) == 8, "a handle is a pointer and a mark");
@@ -216,47 +226,47 @@ thp_code thp_node_alloc(thp_node *node, uint32_t caller, uint64_t *page) {
 
 thp_code thp_node_map_whole(thp_node *node, uint32_t caller, uint64_t page) {
     if (node == NULL) return THP_NULL;
-    return (thp_code)thp_c_node_gain(node, caller, page, MAP_WHOLE, 0, 0);
+    return (thp_code)thp_c_node_map_whole(node, caller, page);
 }
 
 thp_code thp_node_unmap_whole(thp_node *node, uint32_t caller, uint64_t page, thp_done *done) {
     if (node == NULL || done == NULL) return THP_NULL;
-    return (thp_code)thp_c_node_lose(node, caller, page, UNMAP_WHOLE, 0, 0, done);
+    return (thp_code)thp_c_node_unmap_whole(node, caller, page, done);
 }
 
 thp_code thp_node_map_sub(thp_node *node, uint32_t caller, uint64_t page, uint32_t first, uint32_t count) {
     if (node == NULL) return THP_NULL;
-    return (thp_code)thp_c_node_gain(node, caller, page, MAP_SUB, first, count);
+    return (thp_code)thp_c_node_map_sub(node, caller, page, first, count);
 }
 
 thp_code thp_node_unmap_sub(thp_node *node, uint32_t caller, uint64_t page, uint32_t first, uint32_t count, thp_done *done) {
     if (node == NULL || done == NULL) return THP_NULL;
-    return (thp_code)thp_c_node_lose(node, caller, page, UNMAP_SUB, first, count, done);
+    return (thp_code)thp_c_node_unmap_sub(node, caller, page, first, count, done);
 }
 
 thp_code thp_node_split_pmd(thp_node *node, uint32_t caller, uint64_t page) {
     if (node == NULL) return THP_NULL;
-    return (thp_code)thp_c_node_gain(node, caller, page, SPLIT_PMD, 0, 0);
+    return (thp_code)thp_c_node_split_pmd(node, caller, page);
 }
 
 thp_code thp_node_pin(thp_node *node, uint32_t caller, uint64_t page) {
     if (node == NULL) return THP_NULL;
-    return (thp_code)thp_c_node_gain(node, caller, page, PIN, 0, 0);
+    return (thp_code)thp_c_node_pin(node, caller, page);
 }
 
 thp_code thp_node_unpin(thp_node *node, uint32_t caller, uint64_t page, thp_done *done) {
     if (node == NULL || done == NULL) return THP_NULL;
-    return (thp_code)thp_c_node_lose(node, caller, page, UNPIN, 0, 0, done);
+    return (thp_code)thp_c_node_unpin(node, caller, page, done);
 }
 
 thp_code thp_node_write(thp_node *node, uint32_t caller, uint64_t page, uint32_t first, uint32_t count) {
     if (node == NULL) return THP_NULL;
-    return (thp_code)thp_c_node_gain(node, caller, page, WRITE, first, count);
+    return (thp_code)thp_c_node_write(node, caller, page, first, count);
 }
 
 thp_code thp_node_zero(thp_node *node, uint32_t caller, uint64_t page, uint32_t first, uint32_t count) {
     if (node == NULL) return THP_NULL;
-    return (thp_code)thp_c_node_gain(node, caller, page, ZERO, first, count);
+    return (thp_code)thp_c_node_zero(node, caller, page, first, count);
 }
 
 thp_code thp_node_close(thp_node *node, uint32_t caller) {
@@ -385,37 +395,37 @@ thp_code thp_pass_alloc(thp_pass *pass, uint32_t caller, uint64_t *page) {
 
 thp_code thp_pass_split_pmd(thp_pass *pass, uint32_t caller, uint64_t page) {
     if (pass == NULL) return THP_NULL;
-    return (thp_code)thp_c_pass_gain(pass, caller, page, SPLIT_PMD, 0, 0);
+    return (thp_code)thp_c_pass_split_pmd(pass, caller, page);
 }
 
 thp_code thp_pass_unmap_sub(thp_pass *pass, uint32_t caller, uint64_t page, uint32_t first, uint32_t count, thp_done *done) {
     if (pass == NULL || done == NULL) return THP_NULL;
-    return (thp_code)thp_c_pass_lose(pass, caller, page, UNMAP_SUB, first, count, done);
+    return (thp_code)thp_c_pass_unmap_sub(pass, caller, page, first, count, done);
 }
 
 thp_code thp_pass_map_whole(thp_pass *pass, uint32_t caller, uint64_t page) {
     if (pass == NULL) return THP_NULL;
-    return (thp_code)thp_c_pass_gain(pass, caller, page, MAP_WHOLE, 0, 0);
+    return (thp_code)thp_c_pass_map_whole(pass, caller, page);
 }
 
 thp_code thp_pass_map_sub(thp_pass *pass, uint32_t caller, uint64_t page, uint32_t first, uint32_t count) {
     if (pass == NULL) return THP_NULL;
-    return (thp_code)thp_c_pass_gain(pass, caller, page, MAP_SUB, first, count);
+    return (thp_code)thp_c_pass_map_sub(pass, caller, page, first, count);
 }
 
 thp_code thp_pass_pin(thp_pass *pass, uint32_t caller, uint64_t page) {
     if (pass == NULL) return THP_NULL;
-    return (thp_code)thp_c_pass_gain(pass, caller, page, PIN, 0, 0);
+    return (thp_code)thp_c_pass_pin(pass, caller, page);
 }
 
 thp_code thp_pass_write(thp_pass *pass, uint32_t caller, uint64_t page, uint32_t first, uint32_t count) {
     if (pass == NULL) return THP_NULL;
-    return (thp_code)thp_c_pass_gain(pass, caller, page, WRITE, first, count);
+    return (thp_code)thp_c_pass_write(pass, caller, page, first, count);
 }
 
 thp_code thp_pass_zero(thp_pass *pass, uint32_t caller, uint64_t page, uint32_t first, uint32_t count) {
     if (pass == NULL) return THP_NULL;
-    return (thp_code)thp_c_pass_gain(pass, caller, page, ZERO, first, count);
+    return (thp_code)thp_c_pass_zero(pass, caller, page, first, count);
 }
 
 thp_code thp_pass_close(thp_pass *pass, uint32_t caller) {
@@ -425,12 +435,12 @@ thp_code thp_pass_close(thp_pass *pass, uint32_t caller) {
 
 thp_code thp_pass_unmap_whole(thp_pass *pass, uint32_t caller, uint64_t page, thp_done *done) {
     if (pass == NULL || done == NULL) return THP_NULL;
-    return (thp_code)thp_c_pass_lose(pass, caller, page, UNMAP_WHOLE, 0, 0, done);
+    return (thp_code)thp_c_pass_unmap_whole(pass, caller, page, done);
 }
 
 thp_code thp_pass_unpin(thp_pass *pass, uint32_t caller, uint64_t page, thp_done *done) {
     if (pass == NULL || done == NULL) return THP_NULL;
-    return (thp_code)thp_c_pass_lose(pass, caller, page, UNPIN, 0, 0, done);
+    return (thp_code)thp_c_pass_unpin(pass, caller, page, done);
 }
 
 thp_code thp_pass_scan(thp_pass *pass, uint32_t caller, uint32_t n, thp_scan *scan) {

@@ -38,9 +38,6 @@ DECLARED = re.compile(r"^([\w ]+?[ *])(thp_\w+)\(([^;{}]*)\);", re.M)
 EXPORT = re.compile(r'pub extern "C" fn thp_c_(\w+)\((.*?)\) -> u32', re.S)
 """An export of the proved crate."""
 
-NUMBERED = re.compile(r"nat_eq call (\d) then Some \(?(gain|loss)\.(\w+)( first count)?")
-"""A call about a page in the definitions of the proved crate: its number, whether it is a gain, its name, and its range."""
-
 BORROWED = re.compile(r"pub fn (thp_\w+)\((.*?)\) -> ([^;]+);", re.S)
 """A declaration of the crate leversorrel-sys."""
 
@@ -144,40 +141,13 @@ def exports_are_declared() -> str | None:
     return differing(exports(), inner())
 
 
-def page_calls() -> list[tuple[str, str, int, bool]]:
-    """The calls about a page, of which two exports do all: kind and export, the call's name, its number, and whether it has a range."""
-    found = NUMBERED.findall((ROOT / "crates/thp_capi/specs/Calls.antt").read_text())
-    named = [(re.sub(r"\B(?=[A-Z])", "_", name).lower(), sort, int(number), bool(ranged)) for number, sort, name, ranged in found]
-    exported = {"gain": "gain", "loss": "lose"}
-    return [(f"thp_{kind}_{exported[sort]}", f"thp_{kind}_{name}", number, ranged)
-            for kind in ("node", "pass") for name, sort, number, ranged in named]
-
-
 def header_is_proved() -> str | None:
     """The header's functions are the proved ones, parameter for parameter, and three of thp.c's own. A const handle is copied first."""
     own = {"thp_strerror", "thp_version", "thp_use_allocator"}
     proved = {name: it + OWN.get(name.removesuffix("_counting"), []) for name, it in header().items() if name not in own}
     known = inner()
     known |= {f"{name}_counting": known[name] for name in OWN}
-    for export, name, _, ranged in page_calls():
-        known[name] = [it for it in inner()[export] if it[0] != "call" and (ranged or it[0] not in ("first", "count"))]
-        known.pop(export, None)
     return differing({name: [(word, type_.removeprefix("const ")) for word, type_ in it] for name, it in proved.items()}, known)
-
-
-def page_calls_are_numbered() -> str | None:
-    """thp.c passes the number of the call that the contract names, the range if the call has one, and all else in its place."""
-    text = (C / "thp.c").read_text()
-    numbers = {name: number for names in re.findall(r"^enum \{ (.*) \};", text, re.M) for number, name in enumerate(names.split(", "))}
-    wrong = []
-    for export, name, number, ranged in page_calls():
-        _, kind, word = name.split("_", 2)
-        passed = [kind, "caller", "page", word.upper(), *(("first", "count") if ranged else "00"), *(["done"] if "lose" in export else [])]
-        body = text.partition(f"\nthp_code {name}(")[2].partition("\n}")[0]
-        is_made = f"return (thp_code){export.replace('thp_', 'thp_c_')}({', '.join(passed)});" in body
-        if numbers.get(word.upper()) != number or not is_made:
-            wrong.append(name)
-    return ", ".join(wrong) or (None if len(page_calls()) == 18 else "not nine calls of nodes and of passes")
 
 
 def names_are_listed() -> str | None:
@@ -588,7 +558,6 @@ def texts(tally: Tally) -> None:
     """What needs no archive."""
     tally.run("what the proved crate exports is declared", exports_are_declared)
     tally.run("the header's functions are the proved ones", header_is_proved)
-    tally.run("the calls about a page have the proved numbers", page_calls_are_numbered)
     tally.run("the names that are shown are the header's", names_are_listed)
     tally.run("leversorrel-sys declares what the header does", crate_is_declared)
     tally.run("codes have one number", codes_agree)

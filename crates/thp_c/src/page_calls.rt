@@ -1,126 +1,290 @@
-//! The calls about one page, exported: of a node, and of a pass of a shared node. `c/thp.c` passes the number of the call: there is
-//! one function for all that add something to a page, and one for all that remove something.
-ghost use Rattle.std.specs.Prelude.{◌≡◌, Err, IfNone, IfSome, OnErr};
-ghost use Rattle.thp_history.specs.Prelude.{gain_call, gain_what, loss_call, loss_what};
-ghost use Rattle.thp_history.specs.declared.refusal.Refusal.TheVariants.{BadRange};
-ghost use Rattle.thp_capi.specs.Calls.{LoseCall, OneCall, gain_of, loss_of};
+//! The calls about one page, exported: of a node, and of a pass of a shared node.
+ghost use Rattle.std.specs.Prelude.{◌≡◌, OnErr};
+ghost use Rattle.thp_history.specs.Refusals as call;
+ghost use Rattle.thp_capi.specs.Calls.{LoseCall, OneCall};
 ghost use Rattle.thp_capi.specs.Codes.{answer_of, answer_with, IsCode};
 ghost use Rattle.thp_capi.specs.Held.{Does};
 ghost use Rattle.thp_capi.specs.Rooms.{value_of};
 ghost use Rattle.thp_capi.specs.Passes.{PassOne, PassLost};
 
 use std::alloc::Global;
-use thp_capi::{
-    Fault, ThpDone, ThpNode, ThpPass, code, node_gain, node_lose, pass_gain, pass_lose,
-};
-use thp_history::{Gain, Loss, Refusal};
+use thp_capi::{ThpDone, ThpNode, ThpPass};
+use thp_history::{Gain, Loss, What};
 
-/// Adds mappings or a pin, or fills subpages of the page, by the number of the call. Each arm is a call of a known kind, which
-/// executes that kind only.
+/// Maps the whole page once more, by a PMD entry.
 #[unsafe(no_mangle)]
-pub extern "C" fn thp_c_node_gain(
+pub extern "C" fn thp_c_node_map_whole(
     handle: &mut ThpNode,
     alloc: Global,
     caller: u32,
     page: u64,
-    call: u32,
-    first: u32,
-    count: u32,
 ) -> u32
-    ensures does { IfSome (gain_of call first count) (λ gain. Does handle.old.held handle.new.held (answer_of result) (OneCall caller (gain_call gain page) (gain_what gain page))) }
-    ensures unknown { IfNone (gain_of call first count) (answer_of result ≡ Err (Fault.Refused BadRange)) }
-    ensures same { IfNone (gain_of call first count) (handle.new.held ≡ handle.old.held) }
+    ensures does { Does handle.old.held handle.new.held (answer_of result) (OneCall caller (call.map_whole page) (What.MapWhole page)) }
     ensures known { IsCode result }
 {
-    match call {
-        0 => node_gain(handle, alloc, caller, page, Gain::MapWhole),
-        1 => node_gain(handle, alloc, caller, page, Gain::MapSub { first, count }),
-        2 => node_gain(handle, alloc, caller, page, Gain::SplitPmd),
-        3 => node_gain(handle, alloc, caller, page, Gain::Pin),
-        4 => node_gain(handle, alloc, caller, page, Gain::Write { first, count }),
-        5 => node_gain(handle, alloc, caller, page, Gain::Zero { first, count }),
-        _ => code(Err(Fault::Refused(Refusal::BadRange))),
-    }
+    thp_capi::node_gain(handle, alloc, caller, page, Gain::MapWhole)
 }
 
-/// Removes mappings or a pin of the page, by the number of the call.
+/// Maps each of the `count` subpages from `first` on once more, by PTE entries.
 #[unsafe(no_mangle)]
-pub extern "C" fn thp_c_node_lose(
+pub extern "C" fn thp_c_node_map_sub(
     handle: &mut ThpNode,
     alloc: Global,
     caller: u32,
     page: u64,
-    call: u32,
+    first: u32,
+    count: u32,
+) -> u32
+    ensures does { Does handle.old.held handle.new.held (answer_of result) (OneCall caller (call.map_sub page first count) (What.MapSub page first count)) }
+    ensures known { IsCode result }
+{
+    let gain = Gain::MapSub { first, count };
+    thp_capi::node_gain(handle, alloc, caller, page, gain)
+}
+
+/// Replaces one PMD mapping of the page by a PTE mapping of each subpage.
+#[unsafe(no_mangle)]
+pub extern "C" fn thp_c_node_split_pmd(
+    handle: &mut ThpNode,
+    alloc: Global,
+    caller: u32,
+    page: u64,
+) -> u32
+    ensures does { Does handle.old.held handle.new.held (answer_of result) (OneCall caller (call.split_pmd page) (What.SplitPmd page)) }
+    ensures known { IsCode result }
+{
+    thp_capi::node_gain(handle, alloc, caller, page, Gain::SplitPmd)
+}
+
+/// Adds a pin to the page.
+#[unsafe(no_mangle)]
+pub extern "C" fn thp_c_node_pin(handle: &mut ThpNode, alloc: Global, caller: u32, page: u64) -> u32
+    ensures does { Does handle.old.held handle.new.held (answer_of result) (OneCall caller (call.pin page) (What.Pin page)) }
+    ensures known { IsCode result }
+{
+    thp_capi::node_gain(handle, alloc, caller, page, Gain::Pin)
+}
+
+/// Records that data is written to each of the `count` subpages from `first` on.
+#[unsafe(no_mangle)]
+pub extern "C" fn thp_c_node_write(
+    handle: &mut ThpNode,
+    alloc: Global,
+    caller: u32,
+    page: u64,
+    first: u32,
+    count: u32,
+) -> u32
+    ensures does { Does handle.old.held handle.new.held (answer_of result) (OneCall caller (call.write page first count) (What.Write page first count)) }
+    ensures known { IsCode result }
+{
+    let gain = Gain::Write { first, count };
+    thp_capi::node_gain(handle, alloc, caller, page, gain)
+}
+
+/// Records that zeros are written to each of the `count` subpages from `first` on.
+#[unsafe(no_mangle)]
+pub extern "C" fn thp_c_node_zero(
+    handle: &mut ThpNode,
+    alloc: Global,
+    caller: u32,
+    page: u64,
+    first: u32,
+    count: u32,
+) -> u32
+    ensures does { Does handle.old.held handle.new.held (answer_of result) (OneCall caller (call.zero_fill page first count) (What.Zero page first count)) }
+    ensures known { IsCode result }
+{
+    let gain = Gain::Zero { first, count };
+    thp_capi::node_gain(handle, alloc, caller, page, gain)
+}
+
+/// Removes one mapping of the whole page.
+#[unsafe(no_mangle)]
+pub extern "C" fn thp_c_node_unmap_whole(
+    handle: &mut ThpNode,
+    alloc: Global,
+    caller: u32,
+    page: u64,
+    done: &mut ThpDone,
+) -> u32
+    ensures does { Does handle.old.held handle.new.held (answer_of result) (λ old new answer. LoseCall caller (call.unmap_whole page) page (λ o released. What.UnmapWhole o page released) old new (answer_with answer done.new)) }
+    ensures known { IsCode result }
+    ensures kept { OnErr (answer_of result) (done.new ≡ done.old) }
+{
+    thp_capi::node_lose(handle, alloc, caller, page, Loss::UnmapWhole, done)
+}
+
+/// Removes one mapping of each of the `count` subpages from `first` on.
+#[unsafe(no_mangle)]
+pub extern "C" fn thp_c_node_unmap_sub(
+    handle: &mut ThpNode,
+    alloc: Global,
+    caller: u32,
+    page: u64,
     first: u32,
     count: u32,
     done: &mut ThpDone,
 ) -> u32
-    ensures does { IfSome (loss_of call first count) (λ loss. Does handle.old.held handle.new.held (answer_of result) (λ old new answer. LoseCall caller (loss_call loss page) page (loss_what loss page) old new (answer_with answer done.new))) }
-    ensures unknown { IfNone (loss_of call first count) (answer_of result ≡ Err (Fault.Refused BadRange)) }
-    ensures same { IfNone (loss_of call first count) (handle.new.held ≡ handle.old.held) }
+    ensures does { Does handle.old.held handle.new.held (answer_of result) (λ old new answer. LoseCall caller (call.unmap_sub page first count) page (λ o released. What.UnmapSub o page first count released) old new (answer_with answer done.new)) }
     ensures known { IsCode result }
     ensures kept { OnErr (answer_of result) (done.new ≡ done.old) }
 {
-    let unmap_sub = Loss::UnmapSub { first, count };
-    match call {
-        0 => node_lose(handle, alloc, caller, page, Loss::UnmapWhole, done),
-        1 => node_lose(handle, alloc, caller, page, unmap_sub, done),
-        2 => node_lose(handle, alloc, caller, page, Loss::Unpin, done),
-        _ => code(Err(Fault::Refused(Refusal::BadRange))),
-    }
+    let loss = Loss::UnmapSub { first, count };
+    thp_capi::node_lose(handle, alloc, caller, page, loss, done)
 }
 
-/// Adds mappings or a pin, or fills subpages of the page, by the number of the call. Each arm is a call of a known kind, which
-/// executes that kind only.
+/// Removes a pin of the page.
 #[unsafe(no_mangle)]
-pub extern "C" fn thp_c_pass_gain(
+pub extern "C" fn thp_c_node_unpin(
+    handle: &mut ThpNode,
+    alloc: Global,
+    caller: u32,
+    page: u64,
+    done: &mut ThpDone,
+) -> u32
+    ensures does { Does handle.old.held handle.new.held (answer_of result) (λ old new answer. LoseCall caller (call.unpin page) page (λ o released. What.Unpin o page released) old new (answer_with answer done.new)) }
+    ensures known { IsCode result }
+    ensures kept { OnErr (answer_of result) (done.new ≡ done.old) }
+{
+    thp_capi::node_lose(handle, alloc, caller, page, Loss::Unpin, done)
+}
+
+/// Maps the whole page once more, by a PMD entry.
+#[unsafe(no_mangle)]
+pub extern "C" fn thp_c_pass_map_whole(
     handle: &mut ThpPass,
     alloc: Global,
     caller: u32,
     page: u64,
-    call: u32,
+) -> u32
+    ensures does { Does (value_of handle.old.held) (value_of handle.new.held) (answer_of result) (PassOne caller (call.map_whole page) (What.MapWhole page)) }
+    ensures known { IsCode result }
+{
+    thp_capi::pass_gain(handle, alloc, caller, page, Gain::MapWhole)
+}
+
+/// Maps each of the `count` subpages from `first` on once more, by PTE entries.
+#[unsafe(no_mangle)]
+pub extern "C" fn thp_c_pass_map_sub(
+    handle: &mut ThpPass,
+    alloc: Global,
+    caller: u32,
+    page: u64,
     first: u32,
     count: u32,
 ) -> u32
-    ensures does { IfSome (gain_of call first count) (λ gain. Does (value_of handle.old.held) (value_of handle.new.held) (answer_of result) (PassOne caller (gain_call gain page) (gain_what gain page))) }
-    ensures unknown { IfNone (gain_of call first count) (answer_of result ≡ Err (Fault.Refused BadRange)) }
-    ensures same { IfNone (gain_of call first count) (handle.new.held ≡ handle.old.held) }
+    ensures does { Does (value_of handle.old.held) (value_of handle.new.held) (answer_of result) (PassOne caller (call.map_sub page first count) (What.MapSub page first count)) }
     ensures known { IsCode result }
 {
-    match call {
-        0 => pass_gain(handle, alloc, caller, page, Gain::MapWhole),
-        1 => pass_gain(handle, alloc, caller, page, Gain::MapSub { first, count }),
-        2 => pass_gain(handle, alloc, caller, page, Gain::SplitPmd),
-        3 => pass_gain(handle, alloc, caller, page, Gain::Pin),
-        4 => pass_gain(handle, alloc, caller, page, Gain::Write { first, count }),
-        5 => pass_gain(handle, alloc, caller, page, Gain::Zero { first, count }),
-        _ => code(Err(Fault::Refused(Refusal::BadRange))),
-    }
+    let gain = Gain::MapSub { first, count };
+    thp_capi::pass_gain(handle, alloc, caller, page, gain)
 }
 
-/// Removes mappings or a pin of the page, by the number of the call.
+/// Replaces one PMD mapping of the page by a PTE mapping of each subpage.
 #[unsafe(no_mangle)]
-pub extern "C" fn thp_c_pass_lose(
+pub extern "C" fn thp_c_pass_split_pmd(
     handle: &mut ThpPass,
     alloc: Global,
     caller: u32,
     page: u64,
-    call: u32,
+) -> u32
+    ensures does { Does (value_of handle.old.held) (value_of handle.new.held) (answer_of result) (PassOne caller (call.split_pmd page) (What.SplitPmd page)) }
+    ensures known { IsCode result }
+{
+    thp_capi::pass_gain(handle, alloc, caller, page, Gain::SplitPmd)
+}
+
+/// Adds a pin to the page.
+#[unsafe(no_mangle)]
+pub extern "C" fn thp_c_pass_pin(handle: &mut ThpPass, alloc: Global, caller: u32, page: u64) -> u32
+    ensures does { Does (value_of handle.old.held) (value_of handle.new.held) (answer_of result) (PassOne caller (call.pin page) (What.Pin page)) }
+    ensures known { IsCode result }
+{
+    thp_capi::pass_gain(handle, alloc, caller, page, Gain::Pin)
+}
+
+/// Records that data is written to each of the `count` subpages from `first` on.
+#[unsafe(no_mangle)]
+pub extern "C" fn thp_c_pass_write(
+    handle: &mut ThpPass,
+    alloc: Global,
+    caller: u32,
+    page: u64,
+    first: u32,
+    count: u32,
+) -> u32
+    ensures does { Does (value_of handle.old.held) (value_of handle.new.held) (answer_of result) (PassOne caller (call.write page first count) (What.Write page first count)) }
+    ensures known { IsCode result }
+{
+    let gain = Gain::Write { first, count };
+    thp_capi::pass_gain(handle, alloc, caller, page, gain)
+}
+
+/// Records that zeros are written to each of the `count` subpages from `first` on.
+#[unsafe(no_mangle)]
+pub extern "C" fn thp_c_pass_zero(
+    handle: &mut ThpPass,
+    alloc: Global,
+    caller: u32,
+    page: u64,
+    first: u32,
+    count: u32,
+) -> u32
+    ensures does { Does (value_of handle.old.held) (value_of handle.new.held) (answer_of result) (PassOne caller (call.zero_fill page first count) (What.Zero page first count)) }
+    ensures known { IsCode result }
+{
+    let gain = Gain::Zero { first, count };
+    thp_capi::pass_gain(handle, alloc, caller, page, gain)
+}
+
+/// Removes one mapping of the whole page.
+#[unsafe(no_mangle)]
+pub extern "C" fn thp_c_pass_unmap_whole(
+    handle: &mut ThpPass,
+    alloc: Global,
+    caller: u32,
+    page: u64,
+    done: &mut ThpDone,
+) -> u32
+    ensures does { Does (value_of handle.old.held) (value_of handle.new.held) (answer_of result) (λ old new answer. PassLost caller (call.unmap_whole page) page (λ o released. What.UnmapWhole o page released) old new (answer_with answer done.new)) }
+    ensures known { IsCode result }
+    ensures kept { OnErr (answer_of result) (done.new ≡ done.old) }
+{
+    thp_capi::pass_lose(handle, alloc, caller, page, Loss::UnmapWhole, done)
+}
+
+/// Removes one mapping of each of the `count` subpages from `first` on.
+#[unsafe(no_mangle)]
+pub extern "C" fn thp_c_pass_unmap_sub(
+    handle: &mut ThpPass,
+    alloc: Global,
+    caller: u32,
+    page: u64,
     first: u32,
     count: u32,
     done: &mut ThpDone,
 ) -> u32
-    ensures does { IfSome (loss_of call first count) (λ loss. Does (value_of handle.old.held) (value_of handle.new.held) (answer_of result) (λ old new answer. PassLost caller (loss_call loss page) page (loss_what loss page) old new (answer_with answer done.new))) }
-    ensures unknown { IfNone (loss_of call first count) (answer_of result ≡ Err (Fault.Refused BadRange)) }
-    ensures same { IfNone (loss_of call first count) (handle.new.held ≡ handle.old.held) }
+    ensures does { Does (value_of handle.old.held) (value_of handle.new.held) (answer_of result) (λ old new answer. PassLost caller (call.unmap_sub page first count) page (λ o released. What.UnmapSub o page first count released) old new (answer_with answer done.new)) }
     ensures known { IsCode result }
     ensures kept { OnErr (answer_of result) (done.new ≡ done.old) }
 {
-    let unmap_sub = Loss::UnmapSub { first, count };
-    match call {
-        0 => pass_lose(handle, alloc, caller, page, Loss::UnmapWhole, done),
-        1 => pass_lose(handle, alloc, caller, page, unmap_sub, done),
-        2 => pass_lose(handle, alloc, caller, page, Loss::Unpin, done),
-        _ => code(Err(Fault::Refused(Refusal::BadRange))),
-    }
+    let loss = Loss::UnmapSub { first, count };
+    thp_capi::pass_lose(handle, alloc, caller, page, loss, done)
+}
+
+/// Removes a pin of the page.
+#[unsafe(no_mangle)]
+pub extern "C" fn thp_c_pass_unpin(
+    handle: &mut ThpPass,
+    alloc: Global,
+    caller: u32,
+    page: u64,
+    done: &mut ThpDone,
+) -> u32
+    ensures does { Does (value_of handle.old.held) (value_of handle.new.held) (answer_of result) (λ old new answer. PassLost caller (call.unpin page) page (λ o released. What.Unpin o page released) old new (answer_with answer done.new)) }
+    ensures known { IsCode result }
+    ensures kept { OnErr (answer_of result) (done.new ≡ done.old) }
+{
+    thp_capi::pass_lose(handle, alloc, caller, page, Loss::Unpin, done)
 }

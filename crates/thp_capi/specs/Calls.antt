@@ -1,11 +1,7 @@
 -- The effect of the calls on the engine of a node's handle, and their results.
-use Rattle.std.specs.Prelude.{◌≡◌, ℕ, ◌≤◌, ◌<◌, ◌*◌, List, Bool, if◌then◌else◌, nat_eq, [], ◌∷◌, length, take, drop, ◌++◌, Option, None, Some, IfSome, IsSome, Result, Ok, Err, OnOk, IfOk, IfErr}
+use Rattle.std.specs.Prelude.{◌≡◌, ℕ, ◌≤◌, ◌<◌, ◌*◌, List, Bool, [], ◌∷◌, length, take, drop, ◌++◌, Option, None, Some, IfSome, IsSome, Result, Ok, Err, OnOk, IfOk, IfErr}
 use Rattle.thp_history.specs.declared.events.Outcome.{Outcome}
 use Rattle.thp_history.specs.declared.events.What.{What}
-use Rattle.thp_history.specs.declared.page_call.Gain.{Gain}
-use Rattle.thp_history.specs.declared.page_call.Gain.TheVariants as gain
-use Rattle.thp_history.specs.declared.page_call.Loss.{Loss}
-use Rattle.thp_history.specs.declared.page_call.Loss.TheVariants as loss
 use Rattle.thp_history.specs.declared.refusal.Refusal.{Refusal}
 use Rattle.thp_history.specs.declared.refusal.Refusal.TheVariants.{OutOfMemory}
 use Rattle.thp_history.specs.Prelude.{allocations, outcome, released, by, max_batch, max_callers, queue, Call, refusal, alloc_page, scan, take as take_call, take_events, split_next_events, put_back_events, scan_events, next_page, rest_after, still_flying}
@@ -45,25 +41,6 @@ FailsOnBatch caller m old new (RefusedWith r) = (new ≡ old) × IsSome (open_of
 FailsOnBatch caller m old new _ = ⊥
 
 -- ---- calls about pages
-
--- the call that adds something to a page, by the number that C passes; some are about `count` subpages from `first` on
-abbrev pub gain_of : ℕ → ℕ → ℕ → Option Gain
-gain_of call first count =
-    if nat_eq call 0 then Some gain.MapWhole
-    else if nat_eq call 1 then Some (gain.MapSub first count)
-    else if nat_eq call 2 then Some gain.SplitPmd
-    else if nat_eq call 3 then Some gain.Pin
-    else if nat_eq call 4 then Some (gain.Write first count)
-    else if nat_eq call 5 then Some (gain.Zero first count)
-    else None
-
--- the same for a call that removes something
-abbrev pub loss_of : ℕ → ℕ → ℕ → Option Loss
-loss_of call first count =
-    if nat_eq call 0 then Some loss.UnmapWhole
-    else if nat_eq call 1 then Some (loss.UnmapSub first count)
-    else if nat_eq call 2 then Some loss.Unpin
-    else None
 
 -- a call that records one event
 abbrev pub OneCall : ℕ → Call → What → EngineState → EngineState → Answer → Type 0
