@@ -108,8 +108,7 @@ uint32_t thp_c_check_destroy(thp_check *check);
 uint32_t thp_c_check_read(thp_check *check, const uint8_t *part, size_t length);
 uint32_t thp_c_check_finish(thp_check *check, uint64_t *line);
 uint32_t thp_c_check_reason(thp_check *check, uint8_t *buffer, size_t capacity, size_t *size);
-uint32_t thp_c_node_create(thp_node *node, uint32_t blocks, uint32_t order, uint32_t underused);
-uint32_t thp_c_node_create_counting(thp_node *node, uint32_t blocks, uint32_t order, uint32_t underused);
+uint32_t thp_c_node_create(thp_node *node, uint32_t blocks, uint32_t order, uint32_t underused, bool counting);
 uint32_t thp_c_node_destroy(thp_node *node);
 uint32_t thp_c_node_alloc(thp_node *node, uint32_t caller, uint64_t *page);
 uint32_t thp_c_node_map_whole(thp_node *node, uint32_t caller, uint64_t page);
@@ -134,8 +133,8 @@ uint32_t thp_c_node_page(thp_node *node, uint64_t page, thp_page_state *state);
 uint32_t thp_c_node_mapcount(thp_node *node, uint64_t page, uint32_t subpage, uint32_t *own);
 uint32_t thp_c_node_stats(thp_node *node, thp_stats *stats);
 uint32_t thp_c_node_journal(thp_node *node, uint8_t *buffer, size_t capacity, size_t *size);
-uint32_t thp_c_cell_create(thp_pass *pass, uint32_t blocks, uint32_t order, uint32_t underused, uint32_t callers, uint64_t mark);
-uint32_t thp_c_cell_create_counting(thp_pass *pass, uint32_t blocks, uint32_t order, uint32_t underused, uint32_t callers, uint64_t mark);
+uint32_t thp_c_cell_create(thp_pass *pass, uint32_t blocks, uint32_t order, uint32_t underused, uint32_t callers, uint64_t mark,
+                           bool counting);
 uint32_t thp_c_cell_finish(thp_pass *pass, thp_node *node);
 uint32_t thp_c_pass_destroy(thp_pass *pass);
 uint32_t thp_c_pass_split(thp_pass *pass, uint32_t at, thp_pass *other);
@@ -207,12 +206,12 @@ thp_code thp_check_reason(thp_check *check, void *buffer, size_t capacity, size_
 
 thp_code thp_node_create(thp_node *node, uint32_t blocks, uint32_t order, uint32_t underused) {
     if (node == NULL) return THP_NULL;
-    return (thp_code)thp_c_node_create(node, blocks, order, underused);
+    return (thp_code)thp_c_node_create(node, blocks, order, underused, false);
 }
 
 thp_code thp_node_create_counting(thp_node *node, uint32_t blocks, uint32_t order, uint32_t underused) {
     if (node == NULL) return THP_NULL;
-    return (thp_code)thp_c_node_create_counting(node, blocks, order, underused);
+    return (thp_code)thp_c_node_create(node, blocks, order, underused, true);
 }
 
 thp_code thp_node_destroy(thp_node *node) {
@@ -352,13 +351,13 @@ static uint64_t next_mark = 0;
 thp_code thp_cell_create(thp_pass *pass, uint32_t blocks, uint32_t order, uint32_t underused, uint32_t callers) {
     if (pass == NULL) return THP_NULL;
     const uint64_t mark = __atomic_fetch_add(&next_mark, 1, __ATOMIC_RELAXED);
-    return (thp_code)thp_c_cell_create(pass, blocks, order, underused, callers, mark);
+    return (thp_code)thp_c_cell_create(pass, blocks, order, underused, callers, mark, false);
 }
 
 thp_code thp_cell_create_counting(thp_pass *pass, uint32_t blocks, uint32_t order, uint32_t underused, uint32_t callers) {
     if (pass == NULL) return THP_NULL;
     const uint64_t mark = __atomic_fetch_add(&next_mark, 1, __ATOMIC_RELAXED);
-    return (thp_code)thp_c_cell_create_counting(pass, blocks, order, underused, callers, mark);
+    return (thp_code)thp_c_cell_create(pass, blocks, order, underused, callers, mark, true);
 }
 
 thp_code thp_cell_finish(thp_pass *pass, thp_node *node) {

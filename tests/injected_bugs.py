@@ -55,7 +55,8 @@ def bug(name: str, file: str, old: str, new: str, test: str) -> Bug:
 HEADER, SOURCE, MAKE, RUST, SYS = "c/thp.h", "c/thp.c", "c/Makefile", "rust/src", "rust/leversorrel-sys/src"
 GIVEN = "    uint64_t frames_given;         /**< frames given back */\n"
 HELD = "    uint64_t frames_held;          /**< frames that the live pages hold */\n"
-ATOMIC, CREATE = "__atomic_fetch_add(&next_mark, 1, __ATOMIC_RELAXED);", "\n    return (thp_code)thp_c_cell_create"
+ATOMIC = "__atomic_fetch_add(&next_mark, 1, __ATOMIC_RELAXED);"
+CREATE = "\n    return (thp_code)thp_c_cell_create(pass, blocks, order, underused, callers, mark, "
 CONTROL, RULES, PRE = "debian/control", "debian/rules", "Pre-Depends: ${misc:Pre-Depends}\n"
 LENT, BATCH = "pub fn batch(&mut self, caller: u32, n: u32) -> Result<Batch<'_, {}>, Fault> {{", "Ok(Batch::new(self, caller, taken))"
 
@@ -70,8 +71,8 @@ BUGS = (
     bug("a fault of the crate has another code", f"{RUST}/fault.rs", "Gone = sys::THP_GONE", "Gone = sys::THP_NULL", "texts"),
     bug("the mark has 8 bits", SOURCE, "static uint64_t next_mark", "static uint8_t next_mark", "marks"),
     bug("the mark has 16 bits", SOURCE, "static uint64_t next_mark", "static uint16_t next_mark", "marks"),
-    bug("the mark of a cell is counted without atomics", SOURCE, f"{ATOMIC}{CREATE}(", f"next_mark++;{CREATE}(", "races"),
-    bug("the mark of a counting cell is counted without atomics", SOURCE, f"{ATOMIC}{CREATE}_counting(", f"next_mark++;{CREATE}_counting(",
+    bug("the mark of a cell is counted without atomics", SOURCE, f"{ATOMIC}{CREATE}false", f"next_mark++;{CREATE}false", "races"),
+    bug("the mark of a counting cell is counted without atomics", SOURCE, f"{ATOMIC}{CREATE}true", f"next_mark++;{CREATE}true",
         "races"),
     bug("the soname is the file's name", MAKE, "-soname,$(SONAME)", "-soname,libthp.so.$(VERSION)", "elf"),
     bug("no RELRO", MAKE, "-Wl,-z,relro", "-Wl,-z,norelro", "elf"),

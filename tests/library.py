@@ -44,7 +44,7 @@ BORROWED = re.compile(r"pub fn (thp_\w+)\((.*?)\) -> ([^;]+);", re.S)
 TYPES = {
     "thp_node *": "handle", "uint32_t *": "u32*", "uint64_t *": "u64*", "size_t *": "usize*", "thp_done *": "done",
     "thp_scan *": "scan", "thp_tried *": "tried", "thp_back *": "back", "thp_stats *": "stats", "const uint8_t *": "u8*",
-    "const void *": "u8*", "void *": "u8*",
+    "const void *": "u8*", "void *": "u8*", "bool": "bool",
     "uint8_t *": "u8*", "uint32_t": "u32", "uint64_t": "u64", "size_t": "usize", "thp_code": "u32", "const thp_allocator *": "allocator",
     "thp_pass *": "pass", "&mut ThpPass": "pass", "*mut thp_pass": "pass", "&mut ThpNode": "handle",
     "thp_check *": "check", "&mut ThpCheck": "check", "*mut thp_check": "check", "*const thp_allocator": "allocator",
@@ -73,8 +73,10 @@ SYS = ROOT / "rust/leversorrel-sys/src/lib.rs"
 HANDLES = {"&mut ThpNode": "node", "&mut ThpPass": "pass", "&mut ThpCheck": "check"}
 """The header's name for the handle of a proved function."""
 
-OWN = {"thp_cell_create": [("mark", "u64")], "thp_cell_create_counting": [("mark", "u64")]}
-"""The parameters that `thp.c` adds to those of the header."""
+COUNTING = ("counting", "bool")
+
+OWN = {"thp_node_create": [COUNTING], "thp_cell_create": [("mark", "u64"), COUNTING]}
+"""The parameters that `thp.c` adds to those of the header, also where it passes that a node only counts its events."""
 
 
 def without_comments(text: str) -> str:
@@ -142,8 +144,10 @@ def exports_are_declared() -> str | None:
 def header_is_proved() -> str | None:
     """The header's functions are the proved ones, parameter for parameter, and three of thp.c's own. A const handle is copied first."""
     own = {"thp_strerror", "thp_version", "thp_use_allocator"}
-    proved = {name: it + OWN.get(name, []) for name, it in header().items() if name not in own}
-    return differing({name: [(word, type_.removeprefix("const ")) for word, type_ in it] for name, it in proved.items()}, inner())
+    proved = {name: it + OWN.get(name.removesuffix("_counting"), []) for name, it in header().items() if name not in own}
+    known = inner()
+    known |= {f"{name}_counting": known[name] for name in OWN}
+    return differing({name: [(word, type_.removeprefix("const ")) for word, type_ in it] for name, it in proved.items()}, known)
 
 
 def names_are_listed() -> str | None:
@@ -177,10 +181,10 @@ def codes_agree() -> str | None:
     in_c = {name.replace("_", "").lower(): int(number) for name, number in re.findall(r"THP_(\w+) = (\d+)\b", (C / "thp.h").read_text())}
     in_rust = re.findall(r"^    (\w+) = sys::THP_(\w+),", (ROOT / "rust/src/fault.rs").read_text(), re.M)
     proved = "".join(path.read_text() for path in (ROOT / "crates/thp_capi/src").glob("*codes.rt"))
-    in_proved = re.findall(r"(?:Fault|Refusal)::(\w+)\)? => (\d+),", proved)
+    in_proved = re.findall(r"(?:Fault|Refusal)::(\w+)\)* => (\d+),", proved)
     replies = (ROOT / "crates/thp_capi/src/replies.rt").read_text()
     effects = re.findall(r"Outcome::(\w+) => (\d),", replies)
-    effects += [(f"Try{name}", kind) for name, kind in re.findall(r"Tried::(\w+)[^=]* => ThpTried \{\s*kind: (\d)", replies)]
+    effects += [(f"Try{name}", kind) for name, kind in re.findall(r"Tried::(\w+)[^=]* => \((\d)", replies)]
     lists = re.findall(r"Standing::(\w+)[^=]* => \((\d)", (ROOT / "crates/thp_capi/src/page_state.rt").read_text())
     effects += [({"Nowhere": "ListNone", "Queued": "ListQueue", "Batch": "ListFlight"}[name], number) for name, number in lists]
     wrong = [name for name, number in [*in_proved, *effects] if in_c.get(name.lower()) != int(number)]

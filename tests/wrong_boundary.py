@@ -59,15 +59,13 @@ PAGE, MAPCOUNT = "return (thp_code)thp_c_node_page(&copy, page, state);", "retur
 QUEUE = "return (thp_code)thp_c_node_queue(&copy, pages != NULL ? pages : &no_pages, room, count);"
 CALLERS = "return (thp_code)thp_c_pass_callers(&copy, first, end);"
 
-COUNTING_NODE, COUNTING_CELL = "thp_c_node_create_counting", "thp_c_cell_create_counting"
-
 WRONG = (
     # a node that should only count its events stores them, or the other way about
-    Wrong(C, "thp_node_create_counting", COUNTING_NODE, "thp_c_node_create"),
-    Wrong(C, "thp_cell_create_counting", COUNTING_CELL, "thp_c_cell_create"),
-    Wrong(C, "thp_node_create", "thp_c_node_create", COUNTING_NODE),
-    Wrong(C, "thp_cell_create", "thp_c_cell_create", COUNTING_CELL),
-    Wrong(C, "thp_node_create_counting", "blocks, order, underused);", "blocks, order, THP_UNDERUSED_OFF);"),
+    Wrong(C, "thp_node_create_counting", "underused, true", "underused, false"),
+    Wrong(C, "thp_cell_create_counting", "mark, true", "mark, false"),
+    Wrong(C, "thp_node_create", "underused, false", "underused, true"),
+    Wrong(C, "thp_cell_create", "mark, false", "mark, true"),
+    Wrong(C, "thp_node_create_counting", "order, underused, true", "order, THP_UNDERUSED_OFF, true"),
     Wrong(NODE, "counting", "thp_node_create_counting", "thp_node_create"),
     Wrong(CELL, "counting", "thp_cell_create_counting", "thp_cell_create"),
     # the call is made for something else

@@ -11,13 +11,13 @@ ghost use Rattle.thp_journal_writer.specs.Prelude.{journal_text};
 
 use std::alloc::Global;
 use thp_capi::{
-    Events, Fault, Held, ThpBack, ThpNode, ThpScan, ThpStats, ThpTried, code, on_node, put_text,
-    report,
+    Fault, Held, HeldEngine, ThpBack, ThpNode, ThpScan, ThpStats, ThpTried, code, on_node,
+    put_text, shape,
 };
-use thp_history::{Refusal, What};
+use thp_history::What;
 
-/// Creates a node and fills the handle with it. The greatest number as the threshold turns the search for
-/// underused pages off.
+/// Creates a node and fills the handle with it. A node that is counting only counts its events, and does not keep them. The
+/// greatest number as the threshold turns the search for underused pages off.
 #[unsafe(no_mangle)]
 pub extern "C" fn thp_c_node_create(
     handle: &mut ThpNode,
@@ -25,26 +25,22 @@ pub extern "C" fn thp_c_node_create(
     blocks: u32,
     order: u32,
     underused: u32,
+    counting: bool,
 ) -> u32
-    ensures does { Made handle.old.held handle.new.held (shape_of blocks order underused) Events.Kept (answer_of result) }
+    ensures does { Made handle.old.held handle.new.held (shape_of blocks order underused) counting (answer_of result) }
     ensures known { IsCode result }
 {
-    thp_capi::node_create(handle, alloc, blocks, order, underused, Events::Kept)
-}
-
-/// Creates a node that only counts its events, as `thp_c_node_create` creates one that keeps them.
-#[unsafe(no_mangle)]
-pub extern "C" fn thp_c_node_create_counting(
-    handle: &mut ThpNode,
-    alloc: Global,
-    blocks: u32,
-    order: u32,
-    underused: u32,
-) -> u32
-    ensures does { Made handle.old.held handle.new.held (shape_of blocks order underused) Events.Counted (answer_of result) }
-    ensures known { IsCode result }
-{
-    thp_capi::node_create(handle, alloc, blocks, order, underused, Events::Counted)
+    if let Some(engine) = handle.take(alloc) {
+        handle.store(engine);
+        return code(Err(Fault::InUse));
+    }
+    match HeldEngine::new(alloc, shape(blocks, order, underused), counting) {
+        Ok(engine) => {
+            handle.store(engine);
+            code(Ok(()))
+        }
+        Err(fault) => code(Err(fault)),
+    }
 }
 
 /// Frees the node that the handle refers to, and empties the handle.
@@ -71,10 +67,7 @@ pub extern "C" fn thp_c_node_alloc(
     ensures known { IsCode result }
     ensures kept { OnErr (answer_of result) (page.new ≡ page.old) }
 {
-    report(
-        on_node!(handle, alloc, engine => engine.alloc_page(caller)),
-        page,
-    )
+    on_node!(handle, alloc, engine => engine.alloc_page(caller), page)
 }
 
 /// Closes the node: no page is queued or allocated afterwards.
@@ -99,10 +92,7 @@ pub extern "C" fn thp_c_node_scan(
     ensures known { IsCode result }
     ensures kept { OnErr (answer_of result) (scan.new ≡ scan.old) }
 {
-    report(
-        on_node!(handle, alloc, engine => engine.scan(caller, n)),
-        scan,
-    )
+    on_node!(handle, alloc, engine => engine.scan(caller, n), scan)
 }
 
 /// Takes up to `n` of the oldest queued pages, in order, into the caller's batch, which is open afterwards. `count` is the number
@@ -119,10 +109,7 @@ pub extern "C" fn thp_c_node_take(
     ensures known { IsCode result }
     ensures kept { OnErr (answer_of result) (count.new ≡ count.old) }
 {
-    report(
-        on_node!(handle, alloc, engine => engine.take(caller, n)),
-        count,
-    )
+    on_node!(handle, alloc, engine => engine.take(caller, n), count)
 }
 
 /// Tries the next page of the caller's open batch.
@@ -137,10 +124,7 @@ pub extern "C" fn thp_c_node_split_next(
     ensures known { IsCode result }
     ensures kept { OnErr (answer_of result) (tried.new ≡ tried.old) }
 {
-    report(
-        on_node!(handle, alloc, engine => engine.split_next(caller)),
-        tried,
-    )
+    on_node!(handle, alloc, engine => engine.split_next(caller), tried)
 }
 
 /// Returns the remaining pages of the caller's open batch, and closes the batch.
@@ -155,10 +139,7 @@ pub extern "C" fn thp_c_node_put_back(
     ensures known { IsCode result }
     ensures kept { OnErr (answer_of result) (back.new ≡ back.old) }
 {
-    report(
-        on_node!(handle, alloc, engine => engine.put_back(caller)),
-        back,
-    )
+    on_node!(handle, alloc, engine => engine.put_back(caller), back)
 }
 
 /// Discards the caller's open batch: its pages stay in the caller's flight, out of the queue.
@@ -221,16 +202,15 @@ pub extern "C" fn thp_c_node_journal(
         return code(Err(Fault::Empty));
     };
     let text = match &*engine {
-        Held::Kept(engine) => Some(engine.text(alloc)),
-        Held::Counted(_) => None,
+        Held::Kept(engine) => engine.text(alloc),
+        Held::Counted(_) => Err(Fault::NoJournal),
     };
     handle.store(engine);
     match text {
-        Some(Ok(text)) => {
+        Ok(text) => {
             *size = text.len();
             code(put_text(buffer, &text))
         }
-        Some(Err(_)) => code(Err(Fault::Refused(Refusal::OutOfMemory))),
-        None => code(Err(Fault::NoJournal)),
+        Err(fault) => code(Err(fault)),
     }
 }

@@ -20,10 +20,7 @@ pub extern "C" fn thp_c_node_page(
     ensures known { IsCode result }
     ensures kept { OnErr (answer_of result) (state.new ≡ state.old) }
 {
-    report(
-        on_node!(handle, alloc, engine => engine.page(PageId(page))),
-        state,
-    )
+    on_node!(handle, alloc, engine => engine.page(PageId(page)), state)
 }
 
 /// Stores the own map count of a subpage of a live page in `own`: the number of PTE entries that map it.
@@ -39,10 +36,7 @@ pub extern "C" fn thp_c_node_mapcount(
     ensures known { IsCode result }
     ensures kept { OnErr (answer_of result) (own.new ≡ own.old) }
 {
-    report(
-        on_node!(handle, alloc, engine => engine.mapcount(PageId(page), subpage)),
-        own,
-    )
+    on_node!(handle, alloc, engine => engine.mapcount(PageId(page), subpage), own)
 }
 
 /// Stores in `pages` the queued pages, oldest first, as many as there is room for, and in `count` the number of queued pages.

@@ -9,12 +9,12 @@ ghost use Rattle.thp_capi.specs.Passes.{PassOne, PassAlloc, PassScan, PassCount,
 
 use std::alloc::Global;
 use thp_capi::{
-    Events, Fault, Room, ThpNode, ThpPass, ThpScan, code, on_pass, report, spare_engine,
+    Fault, HeldPass, Room, ThpNode, ThpPass, ThpScan, code, on_pass, shape, spare_engine,
 };
 use thp_history::{Refusal, What};
 
 /// Creates a shared node for `callers` callers, and fills the handle with the pass of all of them. `mark` distinguishes passes of
-/// this cell from those of others.
+/// this cell from those of others. A node that is counting only counts its events, and does not keep them.
 #[unsafe(no_mangle)]
 pub extern "C" fn thp_c_cell_create(
     handle: &mut ThpPass,
@@ -24,46 +24,26 @@ pub extern "C" fn thp_c_cell_create(
     underused: u32,
     callers: u32,
     mark: u64,
+    counting: bool,
 ) -> u32
-    ensures does { CellMade (value_of handle.old.held) (value_of handle.new.held) (shape_of blocks order underused) Events.Kept callers mark (answer_of result) }
+    ensures does { CellMade (value_of handle.old.held) (value_of handle.new.held) (shape_of blocks order underused) callers mark counting (answer_of result) }
     ensures known { IsCode result }
 {
-    thp_capi::cell_create(
-        handle,
-        alloc,
-        blocks,
-        order,
-        underused,
-        Events::Kept,
-        callers,
-        mark,
-    )
-}
-
-/// Creates a shared node that only counts its events, as `thp_c_cell_create` creates one that keeps them.
-#[unsafe(no_mangle)]
-pub extern "C" fn thp_c_cell_create_counting(
-    handle: &mut ThpPass,
-    alloc: Global,
-    blocks: u32,
-    order: u32,
-    underused: u32,
-    callers: u32,
-    mark: u64,
-) -> u32
-    ensures does { CellMade (value_of handle.old.held) (value_of handle.new.held) (shape_of blocks order underused) Events.Counted callers mark (answer_of result) }
-    ensures known { IsCode result }
-{
-    thp_capi::cell_create(
-        handle,
-        alloc,
-        blocks,
-        order,
-        underused,
-        Events::Counted,
-        callers,
-        mark,
-    )
+    if let Some((room, pass)) = handle.take(alloc) {
+        handle.put(room, pass);
+        return code(Err(Fault::InUse));
+    }
+    let Some(room) = Room::new(alloc) else {
+        return code(Err(Fault::Refused(Refusal::OutOfMemory)));
+    };
+    let shape = shape(blocks, order, underused);
+    match HeldPass::new(alloc, shape, callers, mark, counting) {
+        Ok(pass) => {
+            handle.put(room, pass);
+            code(Ok(()))
+        }
+        Err(fault) => code(Err(fault)),
+    }
 }
 
 /// Frees the pass that the handle refers to, and empties the handle. The last pass frees the cell too.
@@ -166,7 +146,7 @@ pub extern "C" fn thp_c_cell_finish(handle: &mut ThpPass, alloc: Global, node: &
     let Some((room, pass)) = handle.take(alloc) else {
         return code(Err(Fault::Empty));
     };
-    let Some(mut engine) = spare_engine(alloc, pass.events()) else {
+    let Some(mut engine) = spare_engine(alloc, pass.is_counting()) else {
         handle.put(room, pass);
         return code(Err(Fault::Refused(Refusal::OutOfMemory)));
     };
@@ -194,10 +174,7 @@ pub extern "C" fn thp_c_pass_alloc(
     ensures known { IsCode result }
     ensures kept { OnErr (answer_of result) (page.new ≡ page.old) }
 {
-    report(
-        on_pass!(handle, alloc, pass => pass.alloc_page(caller)),
-        page,
-    )
+    on_pass!(handle, alloc, pass => pass.alloc_page(caller), page)
 }
 
 /// Closes the node: no page is queued or allocated afterwards.
@@ -222,7 +199,7 @@ pub extern "C" fn thp_c_pass_scan(
     ensures known { IsCode result }
     ensures kept { OnErr (answer_of result) (scan.new ≡ scan.old) }
 {
-    report(on_pass!(handle, alloc, pass => pass.scan(caller, n)), scan)
+    on_pass!(handle, alloc, pass => pass.scan(caller, n), scan)
 }
 
 /// Stores in `pages` the number of queued pages, even while another pass has the node.

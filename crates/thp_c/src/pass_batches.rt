@@ -6,7 +6,7 @@ ghost use Rattle.thp_capi.specs.Held.{Does};
 ghost use Rattle.thp_capi.specs.Rooms.{value_of};
 
 use std::alloc::Global;
-use thp_capi::{ThpBack, ThpPass, ThpTried, code, on_pass, report};
+use thp_capi::{ThpBack, ThpPass, ThpTried, code, on_pass};
 
 /// Takes up to `n` of the oldest queued pages, in order, into the caller's batch, which is open afterwards. `count` is the number
 /// of pages taken.
@@ -22,7 +22,7 @@ pub extern "C" fn thp_c_pass_take(
     ensures known { IsCode result }
     ensures kept { OnErr (answer_of result) (count.new ≡ count.old) }
 {
-    report(on_pass!(handle, alloc, pass => pass.take(caller, n)), count)
+    on_pass!(handle, alloc, pass => pass.take(caller, n), count)
 }
 
 /// Tries the next page of the caller's open batch.
@@ -37,10 +37,7 @@ pub extern "C" fn thp_c_pass_split_next(
     ensures known { IsCode result }
     ensures kept { OnErr (answer_of result) (tried.new ≡ tried.old) }
 {
-    report(
-        on_pass!(handle, alloc, pass => pass.split_next(caller)),
-        tried,
-    )
+    on_pass!(handle, alloc, pass => pass.split_next(caller), tried)
 }
 
 /// Returns the remaining pages of the caller's open batch, and closes the batch.
@@ -55,7 +52,7 @@ pub extern "C" fn thp_c_pass_put_back(
     ensures known { IsCode result }
     ensures kept { OnErr (answer_of result) (back.new ≡ back.old) }
 {
-    report(on_pass!(handle, alloc, pass => pass.put_back(caller)), back)
+    on_pass!(handle, alloc, pass => pass.put_back(caller), back)
 }
 
 /// Discards the caller's open batch: its pages stay in the caller's flight, out of the queue.

@@ -7,7 +7,8 @@ use Rattle.thp_node.specs.Prelude.{BatchState, IsInFront, rest}
 use Rattle.thp_history.specs.Prelude.{put_back_events, split_next_events}
 use Rattle.thp_cell.specs.Prelude.{at_front, BatchesStay, OtherBatchesStay, Called, Failed, IsJoined, below, from, DidPutBack, DidTry, PassState, HasCaller}
 use Rattle.thp_cell.specs.declared.fault.CellFault.{CellFault}
-use Rattle.thp_capi.specs.PassBatches.{PassNext, PassBack, PassFailsOnBatch, fault_in}
+use Rattle.thp_capi.specs.Codes.{fault_in}
+use Rattle.thp_capi.specs.PassBatches.{PassNext, PassBack, PassFailsOnBatch}
 use Rattle.thp_capi.specs.Replies.{back_of, tried_of}
 use Rattle.thp_capi.specs.Sharing.{IsShared, OnlyOf, batch_of}
 use Rattle.thp_capi.specs.declared.replies.ThpBack.{ThpBack}

@@ -6,11 +6,8 @@ use Rattle.thp_script.specs.Prelude.{max_counted, Text}
 use Rattle.thp_capi.specs.LongChecks.{HasRead, IsVerdictOn, ReadsOn, Verdict}
 
 -- a part more
-pub reads_on : (old new : ReadSoFar) (part : Text) → ((more : Text) → told_with new more ≡ told_with old (part ++ more)) → ReadsOn part old new
-reads_on old new part on text has more = on more ∙ has (part ++ more) ∙ ap (journals_within max_counted) (sym (append_assoc text part more))
-
 pub reads_on_ok : {E : Type 0} (old : ReadSoFar) (part : Text) (r : Result ReadSoFar E) → IfOk r (λ new. (more : Text) → told_with new more ≡ told_with old (part ++ more)) → IfOk r (ReadsOn part old)
-reads_on_ok old part (Ok new) on = reads_on old new part on
+reads_on_ok old part (Ok new) on = λ text has more. on more ∙ has (part ++ more) ∙ ap (journals_within max_counted) (sym (append_assoc text part more))
 reads_on_ok old part (Err e) on = tt
 
 -- the verdict, told as the check tells it

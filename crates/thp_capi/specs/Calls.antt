@@ -2,7 +2,6 @@
 use Rattle.std.specs.Prelude.{◌≡◌, ℕ, ◌≤◌, ◌<◌, ◌*◌, List, Bool, [], ◌∷◌, length, take, drop, ◌++◌, Option, None, Some, IfSome, IsSome, Result, Ok, Err, OnOk, IfOk, IfErr}
 use Rattle.thp_history.specs.declared.events.Outcome.{Outcome}
 use Rattle.thp_history.specs.declared.events.What.{What}
-use Rattle.thp_history.specs.declared.page_call.Done.{Done}
 use Rattle.thp_history.specs.declared.refusal.Refusal.{Refusal}
 use Rattle.thp_history.specs.declared.refusal.Refusal.TheVariants.{OutOfMemory}
 use Rattle.thp_history.specs.Prelude.{allocations, outcome, released, by, max_batch, max_callers, queue, Call, refusal, alloc_page, scan, take as take_call, take_events, split_next_events, put_back_events, scan_events, next_page, rest_after, still_flying}
@@ -58,23 +57,6 @@ AllocCall caller old new answer =
     × IfOk answer (λ p. p ≡ allocations old.node.journal)
     × IfOk answer (DidAlloc old.node new.node caller)
     × IfErr answer (Fails caller (refusal old.node.shape old.node.journal alloc_page) 1 old new)
-
--- the call is not refused
-abbrev pub Allowed : EngineState → Call → Type 0
-Allowed old call = refusal old.node.shape old.node.journal call ≡ None
-
--- the page lost a mapping or a pin, with the event that `what` builds from the outcome, which is returned
-abbrev pub Loses : ℕ → (Outcome → List Bool → What) → EngineState → EngineState → Done → Type 0
-Loses caller what old new d = Did old.node new.node caller (by caller (what d.outcome d.released) ∷ [])
-
-abbrev pub ReportsOutcome : ℕ → EngineState → EngineState → Done → Type 0
-ReportsOutcome p old new d = d.outcome ≡ outcome old.node.shape old.node.journal new.node.journal p
-
-abbrev pub ReportsReleased : ℕ → EngineState → EngineState → Done → Type 0
-ReportsReleased p old new d = d.released ≡ released old.node.shape old.node.journal new.node.journal p
-
-abbrev pub FailsAt : ℕ → Call → EngineState → EngineState → Fault → Type 0
-FailsAt caller call old new f = Fails caller (refusal old.node.shape old.node.journal call) 1 old new f
 
 -- a call that removes a mapping or a pin of page p: the event contains the outcome and the frames given back, as defined, and so
 -- do the numbers

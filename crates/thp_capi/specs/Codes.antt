@@ -1,12 +1,25 @@
 -- The meaning of the number that a call returns.
 use Rattle.std.specs.Prelude.{ℕ, ◌<◌, ◌≤◌, ◌+◌, ◌-◌, ◌⊎◌, zero, suc, List, [], ◌∷◌, length, nat_le, if◌then◌else◌, Result, Ok, Err, ⊤}
 use Rattle.thp_history.specs.declared.refusal.Refusal.TheVariants.{NoPage, BadRange, IsSplit, NotMapped, Gone, NotPinned, TooMany, Closed, NoBlock, HasBatch, OutOfMemory}
+use Rattle.thp_cell.specs.declared.fault.CellFault.{CellFault}
+use Rattle.thp_cell.specs.declared.fault.CellFault.TheVariants as cell_fault
+use Rattle.thp_node.specs.declared.answers.NewFault.{NewFault}
+use Rattle.thp_node.specs.declared.answers.NewFault.TheVariants as new_fault
 use Rattle.thp_capi.specs.declared.codes.Fault.{Fault}
 use Rattle.thp_capi.specs.declared.codes.Fault.TheVariants.{Refused, Empty, InUse, BadCaller, BadSize, BadCount, NoBatch, BatchOpen, TooSmall, Busy, BadPass, Finished, NoReason, NoJournal}
 
 -- success, or why the call has no effect
 abbrev pub Answer : Type 0
 Answer = Result ⊤ Fault
+
+-- a cell's fault as that of a call, and the reason why a node or a cell was not made
+abbrev pub fault_in : CellFault → Fault
+fault_in cell_fault.Busy = Busy
+fault_in (cell_fault.Refused r) = Refused r
+
+abbrev pub fault_made : NewFault → Fault
+fault_made new_fault.BadSize = BadSize
+fault_made new_fault.OutOfMemory = Refused OutOfMemory
 
 -- the results in the order of their numbers, as the header's `thp_code` names them: from 0 on, and from 30 on
 abbrev pub answers : List Answer

@@ -1,5 +1,5 @@
 -- What the handle of a node or of a pass holds, and the effect of the calls on it.
-use Rattle.std.specs.Prelude.{◌≡◌, ◌⊎◌, [], Option, None, Some, Ok, Err}
+use Rattle.std.specs.Prelude.{◌≡◌, ◌⊎◌, Bool, true, false, [], Option, None, Some, Ok, Err}
 use Rattle.thp_history.specs.declared.refusal.Refusal.TheVariants.{OutOfMemory}
 use Rattle.thp_history.specs.declared.shape.Shape.{Shape}
 use Rattle.thp_history.specs.Prelude.{IsShape}
@@ -7,8 +7,6 @@ use Rattle.thp_capi.specs.Codes.{Answer}
 use Rattle.thp_capi.specs.Engines.{EngineState, NoneOpen}
 use Rattle.thp_capi.specs.Sharing.{SharedState}
 use Rattle.thp_capi.specs.declared.codes.Fault.TheVariants.{Refused, BadSize, Empty, InUse}
-use Rattle.thp_capi.specs.declared.held.Events.{Events}
-use Rattle.thp_capi.specs.declared.held.Events.TheVariants as events
 use Rattle.thp_capi.specs.declared.held.Held.{Held}
 use Rattle.thp_capi.specs.declared.held.Held.TheVariants.{Kept, Counted}
 
@@ -24,10 +22,10 @@ abbrev pub held_value : {X : Type 0} → Held X X → X
 held_value (Kept x) = x
 held_value (Counted x) = x
 
--- what becomes of its node's events
-abbrev pub events_in : {X : Type 0} → Held X X → Events
-events_in (Kept x) = events.Kept
-events_in (Counted x) = events.Counted
+-- whether its node only counts its events
+abbrev pub is_counting : {X : Type 0} → Held X X → Bool
+is_counting (Kept x) = false
+is_counting (Counted x) = true
 
 -- a query that only a node answers which stores its events: P is what it does there, and Q what it does elsewhere
 abbrev pub DoesIfKept : {X : Type 0} → Option (Held X X) → Option (Held X X) → Answer → (X → X → Answer → Type 0) → (X → X → Answer → Type 0) → Type 0
@@ -49,9 +47,9 @@ Filled (Some old) (Some new) P IsSize answer = (new ≡ old) × (answer ≡ Err 
 Filled (Some old) None P IsSize answer = ⊥
 
 -- a node of this shape was created, with no page and no batch
-abbrev pub Made : Option HeldEngine → Option HeldEngine → Shape → Events → Answer → Type 0
-Made old new s are answer =
-    Filled old new (λ held. (events_in held ≡ are) × ((held_value held).node.shape ≡ s) × ((held_value held).node.journal ≡ []) × NoneOpen (held_value held)) (IsShape s) answer
+abbrev pub Made : Option HeldEngine → Option HeldEngine → Shape → Bool → Answer → Type 0
+Made old new s counting answer =
+    Filled old new (λ held. (is_counting held ≡ counting) × ((held_value held).node.shape ≡ s) × ((held_value held).node.journal ≡ []) × NoneOpen (held_value held)) (IsShape s) answer
 
 -- the handle is empty, whatever it had before
 abbrev pub Emptied : {X : Type 0} → Option X → Option X → Answer → Type 0

@@ -2,8 +2,6 @@
 use Rattle.std.specs.Prelude.{◌≡◌, ℕ, ◌≤◌, None, IsSome, IfSome, Result, OnOk, IfOk, IfErr, length}
 use Rattle.thp_history.specs.Prelude.{refusal, take as take_call, take_events, split_next_events, put_back_events}
 use Rattle.thp_node.specs.Prelude.{BatchState, rest}
-use Rattle.thp_cell.specs.declared.fault.CellFault.{CellFault}
-use Rattle.thp_cell.specs.declared.fault.CellFault.TheVariants as cell_fault
 use Rattle.thp_cell.specs.Prelude.{Called, DidTake, DidTry, DidPutBack, HasCaller}
 use Rattle.thp_capi.specs.Calls.{Batched}
 use Rattle.thp_capi.specs.Codes.{Answer}
@@ -11,7 +9,7 @@ use Rattle.thp_capi.specs.Passes.{PassFails, PassFailsAsking}
 use Rattle.thp_capi.specs.Replies.{back_of, tried_of}
 use Rattle.thp_capi.specs.Sharing.{SharedState, OnlyFront, OnlyOf, batch_of}
 use Rattle.thp_capi.specs.declared.codes.Fault.{Fault}
-use Rattle.thp_capi.specs.declared.codes.Fault.TheVariants.{BadCaller, BatchOpen, Busy, NoBatch, Refused}
+use Rattle.thp_capi.specs.declared.codes.Fault.TheVariants.{BadCaller, BatchOpen, NoBatch}
 use Rattle.thp_capi.specs.declared.replies.ThpBack.{ThpBack}
 use Rattle.thp_capi.specs.declared.replies.ThpTried.{ThpTried}
 
@@ -82,8 +80,3 @@ PassAbandon caller old new answer =
     × OnOk answer (IsSome (batch_of old caller))
     × OnOk answer (batch_of new caller ≡ None)
     × IfErr answer (λ f. WhyKept caller old f × (new ≡ old))
-
--- a cell's fault, as that of a call on a pass
-abbrev pub fault_in : CellFault → Fault
-fault_in cell_fault.Busy = Busy
-fault_in (cell_fault.Refused r) = Refused r

@@ -10,10 +10,9 @@ use Rattle.thp_history.specs.Prelude.{max_batch, max_callers, queue, Call, refus
 use Rattle.thp_cell.specs.Prelude.{Called, Follows, IsBusy, IsRefused, IsJoined, below, from, DidOne, DidAlloc, DidLose, DidScan, PassState, HasCaller, HasAll}
 use Rattle.thp_capi.specs.Codes.{Answer}
 use Rattle.thp_capi.specs.Engines.{EngineState, NoneOpen}
-use Rattle.thp_capi.specs.Held.{Filled, HeldEngine, HeldPass, events_in, held_value}
+use Rattle.thp_capi.specs.Held.{Filled, HeldEngine, HeldPass, held_value, is_counting}
 use Rattle.thp_capi.specs.Replies.{MasksSet, outcome_number, scan_of}
 use Rattle.thp_capi.specs.Sharing.{SharedState, OnlyFront, IsPart, IsShut, HasOpen, OpenStay}
-use Rattle.thp_capi.specs.declared.held.Events.{Events}
 use Rattle.thp_capi.specs.declared.held.Held.TheVariants.{Kept, Counted}
 use Rattle.thp_capi.specs.declared.codes.Fault.{Fault}
 use Rattle.thp_capi.specs.declared.codes.Fault.TheVariants.{Refused as RefusedWith, BadCaller, BadCount, BadPass, BatchOpen, Busy, Empty, InUse}
@@ -107,9 +106,9 @@ AdjoinHeld _ _ = ⊥
 -- ---- the contents of the handles, before and after a call
 
 -- the pass of all callers of a new cell, with this mark and no open batch
-abbrev pub CellMade : Option HeldPass → Option HeldPass → Shape → Events → ℕ → ℕ → Answer → Type 0
-CellMade old new s are callers mark answer =
-    Filled old new (λ held. (events_in held ≡ are) × IsNewPass s callers (held_value held).pass × IsShut (held_value held) × ((held_value held).mark ≡ mark)) (IsCellSize s callers) answer
+abbrev pub CellMade : Option HeldPass → Option HeldPass → Shape → ℕ → ℕ → Bool → Answer → Type 0
+CellMade old new s callers mark counting answer =
+    Filled old new (λ held. (is_counting held ≡ counting) × IsNewPass s callers (held_value held).pass × IsShut (held_value held) × ((held_value held).mark ≡ mark)) (IsCellSize s callers) answer
 
 -- the callers below `at` stay, and those from `at` on are another pass's, each with its open batch
 abbrev pub Parts : ℕ → SharedState → SharedState → SharedState → Type 0

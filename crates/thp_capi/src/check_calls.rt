@@ -8,7 +8,6 @@ use crate::checks::code_of_kind;
 use crate::codes::Fault;
 use std::alloc::{AllocError, Global};
 use thp_check::put_explanation;
-use thp_history::Refusal;
 use thp_journal_reader::{Illegal, LongCheck};
 use thp_script::TextFault;
 
@@ -53,13 +52,8 @@ pub fn reason_text(alloc: Global, stage: &CheckStage) -> Result<Vec<u8>, Fault>
     ensures why { IfErr result (WhyNoReason (reason_of stage.now)) }
 {
     match stage {
-        CheckStage::Judged(Ok(Some(illegal))) => match explained(alloc, illegal) {
-            Ok(text) => Ok(text),
-            Err(_) => Err(Fault::Refused(Refusal::OutOfMemory)),
-        },
-        CheckStage::Judged(Ok(None)) => Err(Fault::NoReason),
-        CheckStage::Judged(Err(_)) => Err(Fault::NoReason),
-        CheckStage::Reading(_) => Err(Fault::NoReason),
+        CheckStage::Judged(Ok(Some(illegal))) => Ok(explained(alloc, illegal)?),
+        _ => Err(Fault::NoReason),
     }
 }
 

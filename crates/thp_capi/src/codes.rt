@@ -1,8 +1,13 @@
 //! The results of calls, as numbers.
 ghost use Rattle.std.specs.Prelude.{◌≡◌, Err, OnErr};
-ghost use Rattle.thp_capi.specs.Codes.{answer_of, answer_with, IsCode};
+ghost use Rattle.thp_history.specs.declared.refusal.Refusal.TheVariants.{OutOfMemory};
+ghost use Rattle.thp_capi.specs.Codes.{answer_of, answer_with, fault_in, fault_made, IsCode};
+ghost use Rattle.thp_capi.specs.declared.codes.Fault.TheVariants.{Refused};
 
+use std::alloc::{AllocError, AllocFailed};
+use thp_cell::CellFault;
 use thp_history::Refusal;
+use thp_node::NewFault;
 
 /// Why a call has no effect.
 #[derive(Clone, Copy, PartialEq, Eq, Debug)]
@@ -38,6 +43,52 @@ pub enum Fault {
     NoJournal,
 }
 
+impl From<Refusal> for Fault {
+    ghost from_gives = { λ refusal fault. fault ≡ Refused refusal };
+
+    fn from(refusal: Refusal) -> Fault {
+        Fault::Refused(refusal)
+    }
+}
+
+impl From<CellFault> for Fault {
+    ghost from_gives = { λ cell fault. fault ≡ fault_in cell };
+
+    fn from(fault: CellFault) -> Fault {
+        match fault {
+            CellFault::Busy => Fault::Busy,
+            CellFault::Refused(refusal) => Fault::Refused(refusal),
+        }
+    }
+}
+
+impl From<NewFault> for Fault {
+    ghost from_gives = { λ new fault. fault ≡ fault_made new };
+
+    fn from(fault: NewFault) -> Fault {
+        match fault {
+            NewFault::BadSize => Fault::BadSize,
+            NewFault::OutOfMemory => Fault::Refused(Refusal::OutOfMemory),
+        }
+    }
+}
+
+impl From<AllocError> for Fault {
+    ghost from_gives = { λ _ fault. fault ≡ Refused OutOfMemory };
+
+    fn from(_error: AllocError) -> Fault {
+        Fault::Refused(Refusal::OutOfMemory)
+    }
+}
+
+impl<T: Drop> From<AllocFailed<T>> for Fault {
+    ghost from_gives = { λ _ fault. fault ≡ Refused OutOfMemory };
+
+    fn from(_error: AllocFailed<T>) -> Fault {
+        Fault::Refused(Refusal::OutOfMemory)
+    }
+}
+
 /// Converts a result to its number in `thp_code`.
 pub fn code(answer: Result<(), Fault>) -> u32
     ensures value { answer_of result ≡ answer }
@@ -45,7 +96,17 @@ pub fn code(answer: Result<(), Fault>) -> u32
 {
     match answer {
         Ok(()) => 0,
-        Err(Fault::Refused(refusal)) => code_of_refusal(refusal),
+        Err(Fault::Refused(Refusal::NoPage)) => 1,
+        Err(Fault::Refused(Refusal::BadRange)) => 2,
+        Err(Fault::Refused(Refusal::IsSplit)) => 3,
+        Err(Fault::Refused(Refusal::NotMapped)) => 4,
+        Err(Fault::Refused(Refusal::Gone)) => 5,
+        Err(Fault::Refused(Refusal::NotPinned)) => 6,
+        Err(Fault::Refused(Refusal::TooMany)) => 7,
+        Err(Fault::Refused(Refusal::Closed)) => 8,
+        Err(Fault::Refused(Refusal::NoBlock)) => 9,
+        Err(Fault::Refused(Refusal::HasBatch)) => 10,
+        Err(Fault::Refused(Refusal::OutOfMemory)) => 11,
         Err(Fault::Empty) => 12,
         Err(Fault::InUse) => 13,
         Err(Fault::BadCaller) => 14,
@@ -59,25 +120,6 @@ pub fn code(answer: Result<(), Fault>) -> u32
         Err(Fault::Finished) => 32,
         Err(Fault::NoReason) => 33,
         Err(Fault::NoJournal) => 34,
-    }
-}
-
-fn code_of_refusal(refusal: Refusal) -> u32
-    ensures value { answer_of result ≡ Err (Fault.Refused refusal) }
-    ensures known { IsCode result }
-{
-    match refusal {
-        Refusal::NoPage => 1,
-        Refusal::BadRange => 2,
-        Refusal::IsSplit => 3,
-        Refusal::NotMapped => 4,
-        Refusal::Gone => 5,
-        Refusal::NotPinned => 6,
-        Refusal::TooMany => 7,
-        Refusal::Closed => 8,
-        Refusal::NoBlock => 9,
-        Refusal::HasBatch => 10,
-        Refusal::OutOfMemory => 11,
     }
 }
 

@@ -1,8 +1,8 @@
 //! The engine that a node's handle owns: a node, and the open batches of its callers.
-ghost use Rattle.std.specs.Prelude.{◌≡◌, ◌<◌, ◌≤◌, None, IsSome, IfSome, IfNone, IfOk, IfErr, OnOk, length};
-ghost use Rattle.thp_history.specs.Prelude.{gain_call, gain_what, loss_call, loss_what, queue};
+ghost use Rattle.std.specs.Prelude.{◌≡◌, ◌<◌, ◌≤◌, None, IsSome, IfOk, IfErr, OnOk, length};
+ghost use Rattle.thp_history.specs.Prelude.{gain_call, gain_what, loss_call, loss_what, max_callers, queue};
 ghost use Rattle.thp_history.specs.Refusals as call;
-ghost use Rattle.thp_capi.specs.Calls.{OneCall, Allowed, Loses, ReportsOutcome, ReportsReleased, FailsAt, AllocCall, ScanCall, TakeCall, NextCall, BackReplies, BackRecords, BackFails, ReserveCall, AbandonCall};
+ghost use Rattle.thp_capi.specs.Calls.{OneCall, AllocCall, LoseCall, ScanCall, TakeCall, NextCall, BackReplies, BackRecords, BackFails, ReserveCall, AbandonCall};
 ghost use Rattle.thp_capi.specs.Engines.{NoneOpen, OthersOpen, open_of};
 ghost use Rattle.thp_capi.specs.Replies.{stats_of};
 
@@ -11,25 +11,25 @@ mod readers;
 
 use crate::codes::Fault;
 use crate::open_batches::{is_open, none_open, put_at, take_at};
-use crate::replies::{ThpBack, ThpScan, ThpTried};
+use crate::replies::{ThpBack, ThpDone, ThpScan, ThpTried};
 use crate::stats::{ThpStats, narrow};
-use std::alloc::{AllocError, Global};
+use std::alloc::Global;
 use std::marker::Model;
-use thp_history::{Done, Gain, Loss, MAX_BATCH, MAX_CALLERS, PageId, Shape, What};
+use thp_history::{Gain, Loss, MAX_BATCH, MAX_CALLERS, PageId, Refusal, Shape, What};
 use thp_journal_writer::{NodeHistory, journal_text};
-use thp_node::{Batch, FullLog, NewFault, Node, Recorder};
+use thp_node::{Batch, FullLog, Node, Recorder};
 
-// Asks the node for a call of this caller, if the number is a caller's, and converts what it returns.
-macro_rules! asked {
-    ($caller:ident, $call:expr, $value:pat => $reply:expr) => {{
-        if $caller >= MAX_CALLERS {
-            return Err(Fault::BadCaller);
-        }
-        match $call {
-            Ok($value) => Ok($reply),
-            Err(refusal) => Err(Fault::Refused(refusal)),
-        }
-    }};
+// Fails if the number is not a caller's.
+#[inline(always)]
+fn check_caller(caller: u32) -> Result<(), Fault>
+    ensures ok { OnOk result (caller < max_callers) }
+    ensures err { IfErr result (λ fault. (fault ≡ Fault.BadCaller) × (max_callers ≤ caller)) }
+{
+    if caller < MAX_CALLERS {
+        Ok(())
+    } else {
+        Err(Fault::BadCaller)
+    }
 }
 
 /// A node and the open batches of its callers. The remaining pages of each batch are a prefix of its caller's flight.
@@ -51,24 +51,20 @@ impl<R: Recorder> Model for Engine<R> {
 }
 
 impl<R: Recorder> Engine<R> {
-    ghost use Rattle.std.specs.Prelude.{[], ◌∷◌, ◌↔◌, Err};
+    ghost use Rattle.std.specs.Prelude.{[], ◌∷◌, ◌⊎◌};
     ghost use Rattle.thp_history.specs.Prelude.{IsShape};
 
     /// Creates an engine of a node with no page.
-    pub fn new(alloc: Global, shape: Shape) -> Result<Engine<R>, NewFault>
-        ensures bad_size { (result ≡ Err NewFault.BadSize) ↔ ¬ IsShape shape }
+    pub fn new(alloc: Global, shape: Shape) -> Result<Engine<R>, Fault>
+        ensures size { IfOk result (λ e. IsShape shape) }
+        ensures why { IfErr result (λ f. ((f ≡ Fault.BadSize) × ¬ IsShape shape) ⊎ (f ≡ Fault.Refused Refusal.OutOfMemory)) }
         ensures shape { IfOk result (λ e. e.node.shape ≡ shape) }
         ensures journal { IfOk result (λ e. e.node.journal ≡ []) }
         ensures none_open { IfOk result NoneOpen }
     {
-        let node = match Node::with_recorder(alloc, shape) {
-            Ok(node) => node,
-            Err(fault) => return Err(fault),
-        };
-        match none_open(alloc, MAX_CALLERS) {
-            Some(batches) => Ok(Engine { node, batches }),
-            None => Err(NewFault::OutOfMemory),
-        }
+        let node = Node::with_recorder(alloc, shape)?;
+        let batches = none_open(alloc, MAX_CALLERS)?;
+        Ok(Engine { node, batches })
     }
 
     /// Replaces its node by another one.
@@ -84,7 +80,8 @@ impl<R: Recorder> Engine<R> {
     pub fn alloc_page(&mut self, caller: u32) -> Result<u64, Fault>
         ensures { AllocCall caller self.old self.new result }
     {
-        asked!(caller, self.node.alloc_page(caller), page => page.0)
+        check_caller(caller)?;
+        Ok(self.node.alloc_page(caller)?.0)
     }
 
     /// Adds mappings or a pin, or fills subpages of the page.
@@ -92,43 +89,36 @@ impl<R: Recorder> Engine<R> {
     pub fn gain(&mut self, caller: u32, page: PageId, gain: Gain) -> Result<(), Fault>
         ensures { OneCall caller (gain_call gain page) (gain_what gain page) self.old self.new result }
     {
-        asked!(caller, self.node.gain(caller, page, gain), () => ())
+        check_caller(caller)?;
+        Ok(self.node.gain(caller, page, gain)?)
     }
 
     /// Closes the node: no page is queued or allocated afterwards.
     pub fn close(&mut self, caller: u32) -> Result<(), Fault>
         ensures { OneCall caller call.close What.Close self.old self.new result }
     {
-        asked!(caller, self.node.close(caller), () => ())
+        check_caller(caller)?;
+        Ok(self.node.close(caller)?)
     }
 
     /// Removes mappings or a pin of the page, which can queue or free it.
     #[inline(always)]
-    pub fn lose(&mut self, caller: u32, page: PageId, loss: Loss) -> Result<Done, Fault>
-        ensures batches { self.new.batches ≡ self.old.batches }
-        ensures allowed { OnOk result (Allowed self.old (loss_call loss page)) }
-        ensures recorded { IfOk result (Loses caller (loss_what loss page) self.old self.new) }
-        ensures outcome { IfOk result (ReportsOutcome page self.old self.new) }
-        ensures released { IfOk result (ReportsReleased page self.old self.new) }
-        ensures failed { IfErr result (FailsAt caller (loss_call loss page) self.old self.new) }
+    pub fn lose(&mut self, caller: u32, page: PageId, loss: Loss) -> Result<ThpDone, Fault>
+        ensures { LoseCall caller (loss_call loss page) page (loss_what loss page) self.old self.new result }
     {
-        asked!(caller, self.node.lose(caller, page, loss), done => done)
+        check_caller(caller)?;
+        Ok(ThpDone::of(&self.node.lose(caller, page, loss)?))
     }
 
     /// Takes up to `n` of the oldest queued pages, in order, tries each, and returns the pinned ones.
     pub fn scan(&mut self, caller: u32, n: u32) -> Result<ThpScan, Fault>
         ensures { ScanCall caller n self.old self.new result }
     {
-        if caller >= MAX_CALLERS {
-            return Err(Fault::BadCaller);
-        }
+        check_caller(caller)?;
         if n as usize > MAX_BATCH {
             return Err(Fault::BadCount);
         }
-        match self.node.scan(caller, n) {
-            Ok(reply) => Ok(ThpScan::of(&reply)),
-            Err(refusal) => Err(Fault::Refused(refusal)),
-        }
+        Ok(ThpScan::of(&self.node.scan(caller, n)?))
     }
 
     /// Takes up to `n` of the oldest queued pages, in order, into the caller's batch, which is open afterwards. Returns the
@@ -136,36 +126,30 @@ impl<R: Recorder> Engine<R> {
     pub fn take(&mut self, caller: u32, n: u32) -> Result<u32, Fault>
         ensures { TakeCall caller n self.old self.new result }
     {
-        if caller >= MAX_CALLERS {
-            return Err(Fault::BadCaller);
-        }
+        check_caller(caller)?;
         if n as usize > MAX_BATCH {
             return Err(Fault::BadCount);
         }
         if is_open(&self.batches, caller as usize) {
             return Err(Fault::BatchOpen);
         }
-        match self.node.take(caller, n) {
-            Ok(batch) => {
-                let count = batch.pages().len() as u32;
-                put_at(&mut self.batches, caller as usize, batch);
-                Ok(count)
-            }
-            Err(refusal) => Err(Fault::Refused(refusal)),
-        }
+        let batch = self.node.take(caller, n)?;
+        let count = batch.pages().len() as u32;
+        put_at(&mut self.batches, caller as usize, batch);
+        Ok(count)
     }
 
     // The index of the caller's batch, if the number is a caller's.
-    fn place(&self, caller: u32) -> Option<usize>
-        ensures at { IfSome result (λ place. place ≡ caller) }
-        ensures inside { IfSome result (λ place. place < length self.now.batches) }
-        ensures none { IfNone result (open_of self.now caller ≡ None) }
+    fn place(&self, caller: u32) -> Result<usize, Fault>
+        ensures at { IfOk result (λ place. place ≡ caller) }
+        ensures inside { IfOk result (λ place. place < length self.now.batches) }
+        ensures none { IfErr result (λ fault. (fault ≡ Fault.NoBatch) × (open_of self.now caller ≡ None)) }
     {
         let place = caller as usize;
         if place < self.batches.len() {
-            Some(place)
+            Ok(place)
         } else {
-            None
+            Err(Fault::NoBatch)
         }
     }
 
@@ -173,9 +157,7 @@ impl<R: Recorder> Engine<R> {
     pub fn split_next(&mut self, caller: u32) -> Result<ThpTried, Fault>
         ensures { NextCall caller self.old self.new result }
     {
-        let Some(place) = self.place(caller) else {
-            return Err(Fault::NoBatch);
-        };
+        let place = self.place(caller)?;
         let Some(batch) = &mut self.batches[place] else {
             return Err(Fault::NoBatch);
         };
@@ -194,9 +176,7 @@ impl<R: Recorder> Engine<R> {
         ensures recorded { OnOk result (BackRecords caller self.old self.new) }
         ensures failed { IfErr result (BackFails caller self.old self.new) }
     {
-        let Some(place) = self.place(caller) else {
-            return Err(Fault::NoBatch);
-        };
+        let place = self.place(caller)?;
         let Some(batch) = take_at(&mut self.batches, place) else {
             return Err(Fault::NoBatch);
         };
@@ -213,9 +193,7 @@ impl<R: Recorder> Engine<R> {
     pub fn abandon(&mut self, caller: u32) -> Result<(), Fault>
         ensures { AbandonCall caller self.old self.new result }
     {
-        let Some(place) = self.place(caller) else {
-            return Err(Fault::NoBatch);
-        };
+        let place = self.place(caller)?;
         let Some(batch) = take_at(&mut self.batches, place) else {
             return Err(Fault::NoBatch);
         };
@@ -227,10 +205,7 @@ impl<R: Recorder> Engine<R> {
     pub fn reserve(&mut self, events: u32) -> Result<(), Fault>
         ensures { ReserveCall events self.old self.new result }
     {
-        match self.node.reserve(events) {
-            Ok(()) => Ok(()),
-            Err(refusal) => Err(Fault::Refused(refusal)),
-        }
+        Ok(self.node.reserve(events)?)
     }
 
     /// Returns the number of queued pages.
@@ -265,13 +240,14 @@ impl Engine<FullLog> {
     ghost use Rattle.thp_journal_writer.specs.Prelude.{journal_text as text_of};
 
     /// Returns the node's journal as text.
-    pub fn text(&self, alloc: Global) -> Result<Vec<u8>, AllocError>
-        ensures { IfOk result (λ text. text.items ≡ text_of ((self.now.node.shape, self.now.node.journal) ∷ [])) }
+    pub fn text(&self, alloc: Global) -> Result<Vec<u8>, Fault>
+        ensures text { IfOk result (λ text. text.items ≡ text_of ((self.now.node.shape, self.now.node.journal) ∷ [])) }
+        ensures fault { IfErr result (λ fault. fault ≡ Fault.Refused Refusal.OutOfMemory) }
     {
         let node = NodeHistory {
             shape: self.node.shape(),
             events: self.node.journal(),
         };
-        journal_text(alloc, &[node])
+        Ok(journal_text(alloc, &[node])?)
     }
 }

@@ -1,23 +1,15 @@
 //! What the handles of nodes and of passes hold: a node's events are stored, or only counted.
-ghost use Rattle.std.specs.Prelude.{◌≡◌, ◌↔◌, [], Err, IfOk};
+ghost use Rattle.std.specs.Prelude.{◌≡◌, ◌⊎◌, [], IfErr, IfOk};
 ghost use Rattle.thp_history.specs.Prelude.{IsShape};
 ghost use Rattle.thp_capi.specs.Engines.{NoneOpen};
-ghost use Rattle.thp_capi.specs.Held.{events_in, held_value};
+ghost use Rattle.thp_capi.specs.Held.{held_value, is_counting};
 
+use crate::codes::Fault;
 use crate::engine::Engine;
 use crate::shared_pass::SharedPass;
 use std::alloc::Global;
-use thp_history::Shape;
-use thp_node::{CountOnly, FullLog, NewFault};
-
-/// What becomes of the events of a node.
-#[derive(Clone, Copy, PartialEq, Eq, Debug)]
-pub enum Events {
-    /// They are stored, so that the journal can be read.
-    Kept,
-    /// They are only counted, which needs no memory.
-    Counted,
-}
+use thp_history::{Refusal, Shape};
+use thp_node::{CountOnly, FullLog};
 
 /// An engine or a pass, by what becomes of its node's events.
 #[derive(Drop)]
@@ -35,31 +27,30 @@ pub type HeldEngine = Held<Engine<FullLog>, Engine<CountOnly>>;
 pub type HeldPass = Held<SharedPass<FullLog>, SharedPass<CountOnly>>;
 
 impl Held<Engine<FullLog>, Engine<CountOnly>> {
-    /// Creates the engine of a node with no page.
-    pub fn new(alloc: Global, shape: Shape, are: Events) -> Result<HeldEngine, NewFault>
-        ensures bad_size { (result ≡ Err NewFault.BadSize) ↔ ¬ IsShape shape }
-        ensures are { IfOk result (λ held. events_in held ≡ are) }
-        ensures shape { IfOk result (λ held. (held_value held).node.shape ≡ shape) }
-        ensures journal { IfOk result (λ held. (held_value held).node.journal ≡ []) }
-        ensures none_open { IfOk result (λ held. NoneOpen (held_value held)) }
+    /// Creates the engine of a node with no page, on the heap.
+    pub fn new(alloc: Global, shape: Shape, counting: bool) -> Result<Box<HeldEngine>, Fault>
+        ensures counting { IfOk result (λ held. is_counting held.value ≡ counting) }
+        ensures shape { IfOk result (λ held. (held_value held.value).node.shape ≡ shape) }
+        ensures journal { IfOk result (λ held. (held_value held.value).node.journal ≡ []) }
+        ensures none_open { IfOk result (λ held. NoneOpen (held_value held.value)) }
+        ensures size { IfOk result (λ held. IsShape shape) }
+        ensures why { IfErr result (λ f. ((f ≡ Fault.BadSize) × ¬ IsShape shape) ⊎ (f ≡ Fault.Refused Refusal.OutOfMemory)) }
     {
-        match are {
-            Events::Kept => match Engine::new(alloc, shape) {
-                Ok(engine) => Ok(Held::Kept(engine)),
-                Err(fault) => Err(fault),
-            },
-            Events::Counted => match Engine::new(alloc, shape) {
-                Ok(engine) => Ok(Held::Counted(engine)),
-                Err(fault) => Err(fault),
-            },
-        }
+        Ok(if counting {
+            Box::new(alloc, Held::Counted(Engine::new(alloc, shape)?))?
+        } else {
+            Box::new(alloc, Held::Kept(Engine::new(alloc, shape)?))?
+        })
     }
 }
 
 /// Does a call on the engine of a node's handle, which is written once for both kinds. Returns what the call returns; where the
-/// handle is empty, the function returns that.
+/// handle is empty, the function returns that. With a place, the value is stored there, and the code is what is returned.
 #[macro_export]
 macro_rules! on_node {
+    ($handle:expr, $alloc:expr, $engine:ident => $call:expr, $place:expr) => {
+        $crate::report($crate::on_node!($handle, $alloc, $engine => $call), $place)
+    };
     ($handle:expr, $alloc:expr, $engine:ident => $call:expr) => {{
         let Some(mut held) = $handle.take($alloc) else {
             return $crate::code(Err($crate::Fault::Empty));
@@ -73,10 +64,12 @@ macro_rules! on_node {
     }};
 }
 
-/// Does a call on the pass of a handle, which is written once for both kinds. Returns what the call returns; where the handle is
-/// empty, the function returns that.
+/// Does a call on the pass of a handle, as `on_node` does one on an engine.
 #[macro_export]
 macro_rules! on_pass {
+    ($handle:expr, $alloc:expr, $pass:ident => $call:expr, $place:expr) => {
+        $crate::report($crate::on_pass!($handle, $alloc, $pass => $call), $place)
+    };
     ($handle:expr, $alloc:expr, $pass:ident => $call:expr) => {{
         let Some(mut room) = $handle.lend($alloc) else {
             return $crate::code(Err($crate::Fault::Empty));

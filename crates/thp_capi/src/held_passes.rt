@@ -1,54 +1,46 @@
 //! Creating, dividing and joining what the handles of passes hold, and the end of a cell.
-ghost use Rattle.std.specs.Prelude.{◌≡◌, ◌⊎◌, Err, IfErr, IfOk, OnOk, Some};
+ghost use Rattle.std.specs.Prelude.{◌≡◌, ◌⊎◌, IfErr, IfOk, OnOk, Some};
 ghost use Rattle.thp_capi.specs.Engines.{NoneOpen};
-ghost use Rattle.thp_capi.specs.Held.{events_in, held_value};
+ghost use Rattle.thp_capi.specs.Held.{held_value, is_counting};
 ghost use Rattle.thp_capi.specs.Passes.{AdjoinHeld, Dismantled, Divided, Divides, Finished, IsCellSize, IsNewPass, Joined, OneCell};
 ghost use Rattle.thp_capi.specs.Sharing.{HasOpen, IsShut};
 
 use crate::codes::Fault;
 use crate::engine::Engine;
-use crate::held::{Events, Held, HeldEngine, HeldPass};
+use crate::held::{Held, HeldEngine, HeldPass};
 use crate::shared_pass::SharedPass;
 use std::alloc::Global;
 use thp_history::{Refusal, Shape};
-use thp_node::{CountOnly, FullLog, NewFault, Recorder};
+use thp_node::{CountOnly, FullLog, Recorder};
 
 impl Held<SharedPass<FullLog>, SharedPass<CountOnly>> {
     /// Creates a cell of a new node, and returns the pass of all its callers.
     pub fn new(
         alloc: Global,
         shape: Shape,
-        are: Events,
         callers: u32,
         mark: u64,
-    ) -> Result<HeldPass, NewFault>
-        ensures are { IfOk result (λ held. events_in held ≡ are) }
+        counting: bool,
+    ) -> Result<HeldPass, Fault>
+        ensures counting { IfOk result (λ held. is_counting held ≡ counting) }
         ensures made { IfOk result (λ held. IsNewPass shape callers (held_value held).pass) }
         ensures mark { IfOk result (λ held. (held_value held).mark ≡ mark) }
         ensures shut { IfOk result (λ held. IsShut (held_value held)) }
         ensures size { IfOk result (λ held. IsCellSize shape callers) }
-        ensures bad_size { result ≡ Err NewFault.BadSize → IsCellSize shape callers → ⊥ }
+        ensures why { IfErr result (λ f. ((f ≡ Fault.BadSize) × (IsCellSize shape callers → ⊥)) ⊎ (f ≡ Fault.Refused Refusal.OutOfMemory)) }
     {
-        match are {
-            Events::Kept => match SharedPass::new(alloc, shape, callers, mark) {
-                Ok(pass) => Ok(Held::Kept(pass)),
-                Err(fault) => Err(fault),
-            },
-            Events::Counted => match SharedPass::new(alloc, shape, callers, mark) {
-                Ok(pass) => Ok(Held::Counted(pass)),
-                Err(fault) => Err(fault),
-            },
-        }
+        Ok(if counting {
+            Held::Counted(SharedPass::new(alloc, shape, callers, mark)?)
+        } else {
+            Held::Kept(SharedPass::new(alloc, shape, callers, mark)?)
+        })
     }
 
-    /// Returns what becomes of the events of its cell's node.
-    pub fn events(&self) -> Events
-        ensures { result ≡ events_in self.now }
+    /// Returns whether its cell's node only counts its events.
+    pub fn is_counting(&self) -> bool
+        ensures { result ≡ is_counting self.now }
     {
-        match self {
-            Held::Kept(_) => Events::Kept,
-            Held::Counted(_) => Events::Counted,
-        }
+        matches!(self, Held::Counted(_))
     }
 
     /// Divides the callers of the pass at this one. Open batches stay with their callers.
@@ -103,7 +95,7 @@ impl Held<SharedPass<FullLog>, SharedPass<CountOnly>> {
 
     /// Dismantles the cell, and puts its node in an engine of the same kind. Otherwise returns the pass and the reason.
     pub fn finish(self, engine: &mut HeldEngine) -> Result<(), (HeldPass, Fault)>
-        requires alike { events_in engine.old ≡ events_in self }
+        requires alike { is_counting engine.old ≡ is_counting self }
         requires none_open { NoneOpen (held_value engine.old) }
         ensures done { OnOk result (Finished (Some self) (Some engine.new)) }
         ensures same { IfErr result (λ e. e.0 ≡ self) }
@@ -133,11 +125,6 @@ fn finish_in<R: Recorder>(
     ensures same { IfErr result (λ e. e.0 ≡ pass) }
     ensures why { IfErr result (λ e. ((e.1 ≡ Fault.BatchOpen) × HasOpen pass) ⊎ (e.1 ≡ Fault.BadPass)) }
 {
-    match pass.finish() {
-        Ok(node) => {
-            engine.replace(node);
-            Ok(())
-        }
-        Err(refused) => Err(refused),
-    }
+    engine.replace(pass.finish()?);
+    Ok(())
 }

@@ -4,50 +4,20 @@ ghost use Rattle.thp_history.specs.Prelude.{gain_call, gain_what, loss_call, los
 ghost use Rattle.thp_capi.specs.Calls.{LoseCall, OneCall};
 ghost use Rattle.thp_capi.specs.Codes.{answer_of, answer_with, IsCode};
 ghost use Rattle.thp_capi.specs.Engines.{shape_of};
-ghost use Rattle.thp_capi.specs.Held.{Does, Made};
+ghost use Rattle.thp_capi.specs.Held.{Does};
 
 use crate::codes::{Fault, code};
-use crate::held::{Events, HeldEngine};
 use crate::node_handle::ThpNode;
 use crate::on_node;
 use crate::replies::ThpDone;
 use std::alloc::Global;
-use thp_history::{Gain, Loss, PageId, Refusal, Shape};
-use thp_node::NewFault;
-
-/// Creates a node and fills the handle with it. The greatest number as the threshold turns the search for underused pages off.
-pub fn node_create(
-    handle: &mut ThpNode,
-    alloc: Global,
-    blocks: u32,
-    order: u32,
-    underused: u32,
-    are: Events,
-) -> u32
-    ensures does { Made handle.old.held handle.new.held (shape_of blocks order underused) are (answer_of result) }
-    ensures known { IsCode result }
-{
-    if let Some(engine) = handle.take(alloc) {
-        handle.store(engine);
-        return code(Err(Fault::InUse));
-    }
-    match HeldEngine::new(alloc, shape(blocks, order, underused), are) {
-        Ok(engine) => match Box::new(alloc, engine) {
-            Ok(engine) => {
-                handle.store(engine);
-                code(Ok(()))
-            }
-            Err(_) => code(Err(Fault::Refused(Refusal::OutOfMemory))),
-        },
-        Err(NewFault::BadSize) => code(Err(Fault::BadSize)),
-        Err(NewFault::OutOfMemory) => code(Err(Fault::Refused(Refusal::OutOfMemory))),
-    }
-}
+use thp_history::{Gain, Loss, PageId, Shape};
 
 // The number that means no threshold, the header's `THP_UNDERUSED_OFF`.
 const UNDERUSED_OFF: u32 = u32::MAX;
 
-pub(crate) fn shape(blocks: u32, order: u32, underused: u32) -> Shape
+/// Assembles the shape of a node.
+pub fn shape(blocks: u32, order: u32, underused: u32) -> Shape
     ensures { result ≡ shape_of blocks order underused }
 {
     Shape {
@@ -84,13 +54,7 @@ pub fn node_lose(
     ensures known { IsCode result }
     ensures kept { OnErr (answer_of result) (done.new ≡ done.old) }
 {
-    match on_node!(handle, alloc, engine => engine.lose(caller, PageId(page), loss)) {
-        Ok(did) => {
-            *done = ThpDone::of(&did);
-            code(Ok(()))
-        }
-        Err(fault) => code(Err(fault)),
-    }
+    on_node!(handle, alloc, engine => engine.lose(caller, PageId(page), loss), done)
 }
 
 /// Writes the text to the start of the buffer if it fits there.

@@ -1,22 +1,20 @@
 //! The open batches of a pass's callers, each at its caller's index.
-ghost use Rattle.std.specs.Prelude.{◌≡◌, ◌+◌, ◌<◌, ◌≤◌, ◌++◌, ℕ, IfSome, IfNone, IsSome, None, Some, drop, false, get_or, is_some, length, slice_set, take, true, vec_capacity};
+ghost use Rattle.std.specs.Prelude.{◌≡◌, ◌+◌, ◌<◌, ◌≤◌, ◌++◌, ℕ, IfOk, IsSome, None, OnErr, OnOk, Some, drop, false, get_or, is_some, length, slice_set, take, true, vec_capacity};
 
-use std::alloc::Global;
+use std::alloc::{AllocError, Global};
 use thp_node::Batch;
 
-/// Allocates `callers` places with no batch, or returns `None` if that is not possible.
-pub fn none_open(alloc: Global, callers: u32) -> Option<Vec<Option<Batch>>>
-    ensures places { IfSome result (λ places. length places.items ≡ callers) }
-    ensures none { IfSome result (λ places. (k : ℕ) → get_or places.items k None ≡ None) }
-    ensures room { IfSome result (λ places. callers ≤ vec_capacity places) }
+/// Allocates `callers` places with no batch.
+pub fn none_open(alloc: Global, callers: u32) -> Result<Vec<Option<Batch>>, AllocError>
+    ensures places { IfOk result (λ places. length places.items ≡ callers) }
+    ensures none { IfOk result (λ places. (k : ℕ) → get_or places.items k None ≡ None) }
+    ensures room { IfOk result (λ places. callers ≤ vec_capacity places) }
 {
-    let Ok(mut places) = Vec::with_capacity(alloc, callers as usize) else {
-        return None;
-    };
+    let mut places = Vec::with_capacity(alloc, callers as usize)?;
     for _ in 0..callers {
         places.push_reserved(None);
     }
-    Some(places)
+    Ok(places)
 }
 
 /// Returns whether a batch is open at this place.
@@ -52,26 +50,20 @@ pub fn cut(
     places: &mut Vec<Option<Batch>>,
     at: usize,
     room: usize,
-) -> Option<Vec<Option<Batch>>>
+) -> Result<Vec<Option<Batch>>, AllocError>
     requires inside { at ≤ length places.old.items }
     requires enough { length places.old.items ≤ at + room }
-    ensures kept { IfSome result (λ rest. places.new.items ≡ take at places.old.items) }
-    ensures rest { IfSome result (λ rest. rest.items ≡ drop at places.old.items) }
-    ensures room { IfSome result (λ rest. room ≤ vec_capacity rest) }
-    ensures same { IfNone result (places.new.items ≡ places.old.items) }
+    ensures kept { OnOk result (places.new.items ≡ take at places.old.items) }
+    ensures rest { IfOk result (λ rest. rest.items ≡ drop at places.old.items) }
+    ensures room { IfOk result (λ rest. room ≤ vec_capacity rest) }
+    ensures same { OnErr result (places.new.items ≡ places.old.items) }
     ensures room_kept { vec_capacity places.new ≡ vec_capacity places.old }
 {
-    let Ok(mut rest) = Vec::with_capacity(alloc, room) else {
-        return None;
-    };
-    let Ok(mut tail) = places.split_off(at) else {
-        return None;
-    };
+    let mut rest = Vec::with_capacity(alloc, room)?;
+    let mut tail = places.split_off(at)?;
     // can't fail: there is room
-    match rest.append(&mut tail) {
-        Ok(()) => Some(rest),
-        Err(_) => None,
-    }
+    rest.append(&mut tail)?;
+    Ok(rest)
 }
 
 /// Appends the places of `more` to `places`, in the memory of the latter.

@@ -2,71 +2,30 @@
 ghost use Rattle.std.specs.Prelude.{◌≡◌, OnErr, IfSome};
 ghost use Rattle.thp_history.specs.Prelude.{gain_call, gain_what, loss_call, loss_what};
 ghost use Rattle.thp_capi.specs.Codes.{answer_of, answer_with, IsCode};
-ghost use Rattle.thp_capi.specs.Engines.{NoneOpen, shape_of};
-ghost use Rattle.thp_capi.specs.Held.{Does, events_in, held_value};
+ghost use Rattle.thp_capi.specs.Engines.{NoneOpen};
+ghost use Rattle.thp_capi.specs.Held.{Does, held_value, is_counting};
 ghost use Rattle.thp_capi.specs.Rooms.{value_of};
-ghost use Rattle.thp_capi.specs.Passes.{PassOne, PassLost, CellMade};
+ghost use Rattle.thp_capi.specs.Passes.{PassOne, PassLost};
 
-use crate::codes::{Fault, code};
-use crate::held::{Events, HeldEngine, HeldPass};
-use crate::node_calls::shape;
+use crate::codes::code;
+use crate::held::HeldEngine;
 use crate::on_pass;
 use crate::pass_handle::ThpPass;
 use crate::replies::ThpDone;
-use crate::room::Room;
 use std::alloc::Global;
-use thp_history::{Gain, Loss, PageId, Refusal, Shape};
-use thp_node::NewFault;
-
-/// Creates a shared node for `callers` callers, and fills the handle with the pass of all of them. `mark` distinguishes passes of
-/// this cell from those of others.
-pub fn cell_create(
-    handle: &mut ThpPass,
-    alloc: Global,
-    blocks: u32,
-    order: u32,
-    underused: u32,
-    are: Events,
-    callers: u32,
-    mark: u64,
-) -> u32
-    ensures does { CellMade (value_of handle.old.held) (value_of handle.new.held) (shape_of blocks order underused) are callers mark (answer_of result) }
-    ensures known { IsCode result }
-{
-    if let Some((room, pass)) = handle.take(alloc) {
-        handle.put(room, pass);
-        return code(Err(Fault::InUse));
-    }
-    let Some(room) = Room::new(alloc) else {
-        return code(Err(Fault::Refused(Refusal::OutOfMemory)));
-    };
-    match HeldPass::new(alloc, shape(blocks, order, underused), are, callers, mark) {
-        Ok(pass) => {
-            handle.put(room, pass);
-            code(Ok(()))
-        }
-        Err(NewFault::BadSize) => code(Err(Fault::BadSize)),
-        Err(NewFault::OutOfMemory) => { code(Err(Fault::Refused(Refusal::OutOfMemory))) }
-    }
-}
+use thp_history::{Gain, Loss, PageId, Shape};
 
 /// Creates an engine of the smallest node, allocated first to hold the other node: so nothing is lost if memory can't be allocated.
-pub fn spare_engine(alloc: Global, are: Events) -> Option<Box<HeldEngine>>
+pub fn spare_engine(alloc: Global, counting: bool) -> Option<Box<HeldEngine>>
     ensures none_open { IfSome result (λ engine. NoneOpen (held_value engine.value)) }
-    ensures are { IfSome result (λ engine. events_in engine.value ≡ are) }
+    ensures counting { IfSome result (λ engine. is_counting engine.value ≡ counting) }
 {
     let shape = Shape {
         blocks: 1,
         order: 2,
         underused: None,
     };
-    match HeldEngine::new(alloc, shape, are) {
-        Ok(engine) => match Box::new(alloc, engine) {
-            Ok(engine) => Some(engine),
-            Err(_) => None,
-        },
-        Err(_) => None,
-    }
+    HeldEngine::new(alloc, shape, counting).ok()
 }
 
 /// Adds mappings or a pin, or fills subpages of the page.
@@ -92,11 +51,5 @@ pub fn pass_lose(
     ensures known { IsCode result }
     ensures kept { OnErr (answer_of result) (done.new ≡ done.old) }
 {
-    match on_pass!(handle, alloc, pass => pass.lose(caller, PageId(page), loss)) {
-        Ok(did) => {
-            *done = ThpDone::of(&did);
-            code(Ok(()))
-        }
-        Err(fault) => code(Err(fault)),
-    }
+    on_pass!(handle, alloc, pass => pass.lose(caller, PageId(page), loss), done)
 }

@@ -2,7 +2,7 @@
 ghost use Rattle.std.specs.Prelude.{◌≡◌, ◌≤◌};
 ghost use Rattle.thp_capi.specs.Replies.{outcome_number, MasksSet, scan_of, tried_of, back_of};
 
-use thp_history::{Done, Outcome, PageId, SubSet};
+use thp_history::{Done, Outcome, SubSet};
 use thp_node::{BackReply, ScanReply, Tried};
 
 /// The effect of an unmap or an unpin on its page and frames.
@@ -93,21 +93,13 @@ impl ThpTried {
         ensures value { tried_of result ≡ tried.now }
         ensures kind { result.kind ≤ 3 }
     {
-        match tried {
-            Tried::Done => ThpTried { kind: 0, page: 0 },
-            Tried::Split(PageId(page)) => ThpTried {
-                kind: 1,
-                page: *page,
-            },
-            Tried::Pinned(PageId(page)) => ThpTried {
-                kind: 2,
-                page: *page,
-            },
-            Tried::Used(PageId(page)) => ThpTried {
-                kind: 3,
-                page: *page,
-            },
-        }
+        let (kind, page) = match *tried {
+            Tried::Done => (0, 0),
+            Tried::Split(page) => (1, page.0),
+            Tried::Pinned(page) => (2, page.0),
+            Tried::Used(page) => (3, page.0),
+        };
+        ThpTried { kind, page }
     }
 }
 

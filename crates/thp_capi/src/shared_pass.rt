@@ -1,36 +1,22 @@
 //! A pass with a share of its cell.
 ghost use Rattle.std.specs.Prelude.{◌≡◌, ◌≤◌, true, false, IfOk, IfErr, ◌⊎◌};
-ghost use Rattle.thp_history.specs.Prelude.{gain_call, gain_what, loss_call, loss_what, refusal};
+ghost use Rattle.thp_history.specs.Prelude.{gain_call, gain_what, loss_call, loss_what};
 ghost use Rattle.thp_history.specs.Refusals as call;
-ghost use Rattle.thp_cell.specs.Prelude.{Called, below, from, IsJoined, DidLose, HasCaller, HasAll};
-ghost use Rattle.thp_capi.specs.Passes.{PassOne, PassAlloc, PassFails, PassScan, PassCount, IsNewPass, IsCellSize, Divides, Adjoin};
+ghost use Rattle.thp_cell.specs.Prelude.{below, from, IsJoined, HasCaller, HasAll};
+ghost use Rattle.thp_capi.specs.Passes.{PassOne, PassAlloc, PassLost, PassScan, PassCount, IsNewPass, IsCellSize, Divides, Adjoin};
 ghost use Rattle.thp_capi.specs.Sharing.{OnlyFront, IsPart, IsShut, HasOpen, OpenStay};
 
 mod batch_calls;
 
 use crate::codes::Fault;
 use crate::open_batches::{cut, joined, none_open, some_open};
-use crate::replies::ThpScan;
+use crate::replies::{ThpDone, ThpScan};
 use std::alloc::Global;
 use std::marker::Model;
 use std::sync::Arc;
-use thp_cell::{CellFault, NodeCell, Pass};
-use thp_history::{Done, Gain, Loss, MAX_BATCH, PageId, Refusal, Shape, What};
-use thp_node::{Batch, NewFault, Node, Recorder};
-
-// Asks the cell for a call of this caller, if it is one of the pass's, and converts what it returns.
-macro_rules! asked {
-    ($pass:ident, $caller:ident, $call:expr, $value:pat => $reply:expr) => {{
-        if !$pass.has($caller) {
-            return Err(Fault::BadCaller);
-        }
-        match $call {
-            Ok($value) => Ok($reply),
-            Err(CellFault::Busy) => Err(Fault::Busy),
-            Err(CellFault::Refused(refusal)) => Err(Fault::Refused(refusal)),
-        }
-    }};
-}
+use thp_cell::{NodeCell, Pass};
+use thp_history::{Gain, Loss, MAX_BATCH, PageId, Refusal, Shape, What};
+use thp_node::{Batch, Node, Recorder};
 
 /// A pass, its share of the cell, and the mark that distinguishes it from passes of other cells.
 #[derive(Drop)]
@@ -58,55 +44,32 @@ impl<R: Recorder> Model for SharedPass<R> {
 
 impl<R: Recorder> SharedPass<R> {
     /// Creates a cell of a new node, and returns the pass of all its callers.
-    pub fn new(
-        alloc: Global,
-        shape: Shape,
-        callers: u32,
-        mark: u64,
-    ) -> Result<SharedPass<R>, NewFault>
+    pub fn new(alloc: Global, shape: Shape, callers: u32, mark: u64) -> Result<SharedPass<R>, Fault>
         ensures made { IfOk result (λ s. IsNewPass shape callers s.pass) }
         ensures mark { IfOk result (λ s. s.mark ≡ mark) }
         ensures shut { IfOk result IsShut }
         ensures size { IfOk result (λ s. IsCellSize shape callers) }
-        ensures bad_size { result ≡ Err NewFault.BadSize → IsCellSize shape callers → ⊥ }
+        ensures why { IfErr result (λ f. ((f ≡ Fault.BadSize) × (IsCellSize shape callers → ⊥)) ⊎ (f ≡ Fault.Refused Refusal.OutOfMemory)) }
     {
-        let node = match Node::with_recorder(alloc, shape) {
-            Ok(node) => node,
-            Err(fault) => return Err(fault),
-        };
-        let (cell, pass) = match NodeCell::new(alloc, node, callers) {
-            Ok(made) => made,
-            Err(fault) => return Err(fault),
-        };
-        let Some(batches) = none_open(alloc, callers) else {
-            return Err(NewFault::OutOfMemory);
-        };
-        match Arc::new(alloc, cell) {
-            Ok(cell) => Ok(SharedPass {
-                cell,
-                pass,
-                batches,
-                callers,
-                mark,
-            }),
-            Err(_) => Err(NewFault::OutOfMemory),
-        }
-    }
-
-    // Whether the caller is one of the pass's.
-    fn has(&self, caller: u32) -> bool
-        ensures yes { result ≡ true → HasCaller self.now.pass caller }
-        ensures no { result ≡ false → HasCaller self.now.pass caller → ⊥ }
-    {
-        let (first, end) = self.pass.callers();
-        first <= caller && caller < end
+        let node = Node::with_recorder(alloc, shape)?;
+        let (cell, pass) = NodeCell::new(alloc, node, callers)?;
+        let batches = none_open(alloc, callers)?;
+        let cell = Arc::new(alloc, cell)?;
+        Ok(SharedPass {
+            cell,
+            pass,
+            batches,
+            callers,
+            mark,
+        })
     }
 
     /// Allocates a page, mapped whole once, and returns its number.
     pub fn alloc_page(&mut self, caller: u32) -> Result<u64, Fault>
         ensures { PassAlloc caller self.old self.new result }
     {
-        asked!(self, caller, self.cell.alloc_page(&mut self.pass, caller), page => page.0)
+        self.place(caller)?;
+        Ok(self.cell.alloc_page(&mut self.pass, caller)?.0)
     }
 
     /// Adds mappings or a pin, or fills subpages of the page.
@@ -114,41 +77,38 @@ impl<R: Recorder> SharedPass<R> {
     pub fn gain(&mut self, caller: u32, page: PageId, gain: Gain) -> Result<(), Fault>
         ensures { PassOne caller (gain_call gain page) (gain_what gain page) self.old self.new result }
     {
-        asked!(self, caller, self.cell.gain(&mut self.pass, caller, page, gain), () => ())
+        self.place(caller)?;
+        Ok(self.cell.gain(&mut self.pass, caller, page, gain)?)
     }
 
     /// Removes mappings or a pin of the page, which can queue or free it.
     #[inline(always)]
-    pub fn lose(&mut self, caller: u32, page: PageId, loss: Loss) -> Result<Done, Fault>
-        ensures front { OnlyFront self.old self.new }
-        ensures recorded { IfOk result (λ d. Called self.old.pass self.new.pass caller (DidLose self.old.pass.shape (loss_call loss page) caller page (loss_what loss page) d)) }
-        ensures failed { IfErr result (PassFails caller (refusal self.new.pass.shape self.new.pass.front (loss_call loss page)) 1 self.old.pass self.new.pass) }
+    pub fn lose(&mut self, caller: u32, page: PageId, loss: Loss) -> Result<ThpDone, Fault>
+        ensures { PassLost caller (loss_call loss page) page (loss_what loss page) self.old self.new result }
     {
-        asked!(self, caller, self.cell.lose(&mut self.pass, caller, page, loss), done => done)
+        self.place(caller)?;
+        let done = self.cell.lose(&mut self.pass, caller, page, loss)?;
+        Ok(ThpDone::of(&done))
     }
 
     /// Closes the node: no page is queued or allocated afterwards.
     pub fn close(&mut self, caller: u32) -> Result<(), Fault>
         ensures { PassOne caller call.close What.Close self.old self.new result }
     {
-        asked!(self, caller, self.cell.close(&mut self.pass, caller), () => ())
+        self.place(caller)?;
+        Ok(self.cell.close(&mut self.pass, caller)?)
     }
 
     /// Takes up to `n` of the oldest queued pages, in order, tries each, and returns the pinned ones.
     pub fn scan(&mut self, caller: u32, n: u32) -> Result<ThpScan, Fault>
         ensures { PassScan caller n self.old self.new result }
     {
-        if !self.has(caller) {
-            return Err(Fault::BadCaller);
-        }
+        self.place(caller)?;
         if n as usize > MAX_BATCH {
             return Err(Fault::BadCount);
         }
-        match self.cell.scan(&mut self.pass, caller, n) {
-            Ok(reply) => Ok(ThpScan::of(&reply)),
-            Err(CellFault::Busy) => Err(Fault::Busy),
-            Err(CellFault::Refused(refusal)) => Err(Fault::Refused(refusal)),
-        }
+        let reply = self.cell.scan(&mut self.pass, caller, n)?;
+        Ok(ThpScan::of(&reply))
     }
 
     /// Returns the number of queued pages, even while another pass has the node.
@@ -178,48 +138,29 @@ impl<R: Recorder> SharedPass<R> {
         ensures same { IfErr result (λ e. e.0 ≡ self) }
         ensures why { IfErr result (λ e. ((e.1 ≡ Fault.BadCaller) × (Divides at self.pass → ⊥)) ⊎ (e.1 ≡ Fault.Refused Refusal.OutOfMemory)) }
     {
-        let (first, end) = self.pass.callers();
+        let mut all = self;
+        let (first, end) = all.pass.callers();
         if at <= first || end <= at {
-            return Err((self, Fault::BadCaller));
+            return Err((all, Fault::BadCaller));
         }
-        let Ok(other) = Arc::try_clone(&self.cell) else {
-            return Err((self, Fault::Refused(Refusal::OutOfMemory)));
+        let Ok(other) = Arc::try_clone(&all.cell) else {
+            return Err((all, Fault::Refused(Refusal::OutOfMemory)));
         };
-        let SharedPass {
-            cell,
-            pass,
-            mut batches,
-            callers,
-            mark,
-        } = self;
         let places = (at - first) as usize;
-        let Some(rest) = cut(alloc, &mut batches, places, (callers - at) as usize) else {
-            let same = SharedPass {
-                cell,
-                pass,
-                batches,
-                callers,
-                mark,
-            };
-            return Err((same, Fault::Refused(Refusal::OutOfMemory)));
+        let room = (all.callers - at) as usize;
+        let Ok(rest) = cut(alloc, &mut all.batches, places, room) else {
+            return Err((all, Fault::Refused(Refusal::OutOfMemory)));
         };
-        let (left, right) = cell.split(pass, at);
-        Ok((
-            SharedPass {
-                cell,
-                pass: left,
-                batches,
-                callers,
-                mark,
-            },
-            SharedPass {
-                cell: other,
-                pass: right,
-                batches: rest,
-                callers,
-                mark,
-            },
-        ))
+        let pass = all.pass;
+        let (left, right) = all.cell.split(pass, at);
+        let upper = SharedPass {
+            cell: other,
+            pass: right,
+            batches: rest,
+            callers: all.callers,
+            mark: all.mark,
+        };
+        Ok((SharedPass { pass: left, ..all }, upper))
     }
 
     /// Returns whether the other pass can be joined to this one.
@@ -241,28 +182,13 @@ impl<R: Recorder> SharedPass<R> {
         ensures left { OpenStay self result }
         ensures right { OpenStay other result }
     {
-        let SharedPass {
-            cell,
-            pass: left,
-            batches,
-            callers,
-            mark,
-        } = self;
-        let SharedPass {
-            cell: _,
-            pass: right,
-            batches: more,
-            callers: _,
-            mark: _,
-        } = other;
-        let pass = cell.join(left, right);
-        let batches = joined(batches, more);
+        let left = self.pass;
+        let pass = self.cell.join(left, other.pass);
+        let batches = joined(self.batches, other.batches);
         SharedPass {
-            cell,
             pass,
             batches,
-            callers,
-            mark,
+            ..self
         }
     }
 
@@ -283,25 +209,9 @@ impl<R: Recorder> SharedPass<R> {
         if some_open(&self.batches) {
             return Err((self, Fault::BatchOpen));
         }
-        let SharedPass {
-            cell,
-            pass,
-            batches,
-            callers,
-            mark,
-        } = self;
-        match Arc::try_unwrap(cell) {
-            Ok(cell) => Ok(cell.finish(pass)),
-            Err(cell) => {
-                let same = SharedPass {
-                    cell,
-                    pass,
-                    batches,
-                    callers,
-                    mark,
-                };
-                Err((same, Fault::BadPass))
-            }
+        match Arc::try_unwrap(self.cell) {
+            Ok(cell) => Ok(cell.finish(self.pass)),
+            Err(cell) => Err((SharedPass { cell, ..self }, Fault::BadPass)),
         }
     }
 }

@@ -71,19 +71,11 @@ fn joining_page(shape: Shape, what: &What) -> Option<PageId>
     ensures { result ≡ joins shape what.now }
 {
     match *what {
-        What::Alloc { page, .. } => {
-            if shape.shrinks_underused() {
-                Some(page)
-            } else {
-                None
-            }
-        }
+        What::Alloc { page, .. } if shape.shrinks_underused() => Some(page),
         What::UnmapWhole { outcome, page, .. }
         | What::UnmapSub { outcome, page, .. }
-        | What::Unpin { outcome, page, .. } => match outcome {
-            Outcome::Queued => Some(page),
-            _ => None,
-        },
+        | What::Unpin { outcome, page, .. }
+            if matches!(outcome, Outcome::Queued) => { Some(page) }
         What::Back { page } => Some(page),
         _ => None,
     }

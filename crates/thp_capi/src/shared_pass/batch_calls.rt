@@ -1,29 +1,28 @@
 //! The calls about a caller's open batch.
-ghost use Rattle.std.specs.Prelude.{◌≡◌, ◌+◌, ◌<◌, IfSome, IfNone, length};
+ghost use Rattle.std.specs.Prelude.{◌≡◌, ◌+◌, ◌<◌, IfOk, IfErr, length};
 ghost use Rattle.thp_cell.specs.Prelude.{HasCaller};
-ghost use Rattle.thp_capi.specs.PassBatches.{fault_in, PassTake, PassNext, PassBack, PassAbandon};
+ghost use Rattle.thp_capi.specs.PassBatches.{PassTake, PassNext, PassBack, PassAbandon};
 
 use crate::codes::Fault;
 use crate::open_batches::{is_open, put_at, take_at};
 use crate::replies::{ThpBack, ThpTried};
 use crate::shared_pass::SharedPass;
-use thp_cell::CellFault;
 use thp_history::MAX_BATCH;
 use thp_node::Recorder;
 
 impl<R: Recorder> SharedPass<R> {
     // The caller's index, if it is one of the pass's.
-    fn place(&self, caller: u32) -> Option<usize>
-        ensures own { IfSome result (λ place. HasCaller self.now.pass caller) }
-        ensures at { IfSome result (λ place. place + self.now.pass.first ≡ caller) }
-        ensures inside { IfSome result (λ place. place < length self.now.batches) }
-        ensures none { IfNone result (HasCaller self.now.pass caller → ⊥) }
+    pub(crate) fn place(&self, caller: u32) -> Result<usize, Fault>
+        ensures own { IfOk result (λ place. HasCaller self.now.pass caller) }
+        ensures at { IfOk result (λ place. place + self.now.pass.first ≡ caller) }
+        ensures inside { IfOk result (λ place. place < length self.now.batches) }
+        ensures none { IfErr result (λ fault. (fault ≡ Fault.BadCaller) × (HasCaller self.now.pass caller → ⊥)) }
     {
         let (first, end) = self.pass.callers();
         if caller < first || end <= caller {
-            return None;
+            return Err(Fault::BadCaller);
         }
-        Some((caller - first) as usize)
+        Ok((caller - first) as usize)
     }
 
     /// Takes up to `n` of the oldest queued pages, in order, into the caller's batch, which is open afterwards. Returns the
@@ -31,38 +30,30 @@ impl<R: Recorder> SharedPass<R> {
     pub fn take(&mut self, caller: u32, n: u32) -> Result<u32, Fault>
         ensures { PassTake caller n self.old self.new result }
     {
-        let Some(place) = self.place(caller) else {
-            return Err(Fault::BadCaller);
-        };
+        let place = self.place(caller)?;
         if n as usize > MAX_BATCH {
             return Err(Fault::BadCount);
         }
         if is_open(&self.batches, place) {
             return Err(Fault::BatchOpen);
         }
-        match self.cell.take(&mut self.pass, caller, n) {
-            Ok(batch) => {
-                let count = batch.pages().len() as u32;
-                put_at(&mut self.batches, place, batch);
-                Ok(count)
-            }
-            Err(fault) => Err(fault_of(fault)),
-        }
+        let batch = self.cell.take(&mut self.pass, caller, n)?;
+        let count = batch.pages().len() as u32;
+        put_at(&mut self.batches, place, batch);
+        Ok(count)
     }
 
     /// Tries the next page of the caller's open batch.
     pub fn split_next(&mut self, caller: u32) -> Result<ThpTried, Fault>
         ensures { PassNext caller self.old self.new result }
     {
-        let Some(place) = self.place(caller) else {
-            return Err(Fault::BadCaller);
-        };
+        let place = self.place(caller)?;
         let Some(batch) = &mut self.batches[place] else {
             return Err(Fault::NoBatch);
         };
         match self.cell.split_next(&mut self.pass, batch) {
             Ok(tried) => Ok(ThpTried::of(&tried)),
-            Err(fault) => Err(fault_of(fault)),
+            Err(fault) => Err(Fault::from(fault)),
         }
     }
 
@@ -70,9 +61,7 @@ impl<R: Recorder> SharedPass<R> {
     pub fn put_back(&mut self, caller: u32) -> Result<ThpBack, Fault>
         ensures { PassBack caller self.old self.new result }
     {
-        let Some(place) = self.place(caller) else {
-            return Err(Fault::BadCaller);
-        };
+        let place = self.place(caller)?;
         let Some(batch) = take_at(&mut self.batches, place) else {
             return Err(Fault::NoBatch);
         };
@@ -80,7 +69,7 @@ impl<R: Recorder> SharedPass<R> {
             Ok(back) => Ok(ThpBack::of(&back)),
             Err((batch, fault)) => {
                 put_at(&mut self.batches, place, batch);
-                Err(fault_of(fault))
+                Err(Fault::from(fault))
             }
         }
     }
@@ -89,23 +78,11 @@ impl<R: Recorder> SharedPass<R> {
     pub fn abandon(&mut self, caller: u32) -> Result<(), Fault>
         ensures { PassAbandon caller self.old self.new result }
     {
-        let Some(place) = self.place(caller) else {
-            return Err(Fault::BadCaller);
-        };
+        let place = self.place(caller)?;
         let Some(batch) = take_at(&mut self.batches, place) else {
             return Err(Fault::NoBatch);
         };
         batch.abandon();
         Ok(())
-    }
-}
-
-// Why the cell's call had no effect.
-fn fault_of(fault: CellFault) -> Fault
-    ensures { result ≡ fault_in fault }
-{
-    match fault {
-        CellFault::Busy => Fault::Busy,
-        CellFault::Refused(refusal) => Fault::Refused(refusal),
     }
 }

@@ -5,5 +5,5 @@ use Rattle.thp_capi.proofs.engine.Engine.abandon.Goals as goal
 
 pub invariant_of-self-2 : goal.invariant_of-self-2
 invariant_of-self-2 g c =
-    let lt : c.in-Some.place < length c.self.inside.batches.items = subst (λ x. c.in-Some.place < length x.batches) (sym c.self.view_is) c.in-Some.ensures.inside in
-    engine_closed _ c.self.inside.node _ c.self.invariant _ c.in-Some.place (λ b front. front) lt c.take_at.ensures.now
+    let lt : c.in_ok-place.place < length c.self.inside.batches.items = subst (λ x. c.in_ok-place.place < length x.batches) (sym c.self.view_is) c.in_ok-place.ensures.inside in
+    engine_closed _ c.self.inside.node _ c.self.invariant _ c.in_ok-place.place (λ b front. front) lt c.take_at.ensures.now

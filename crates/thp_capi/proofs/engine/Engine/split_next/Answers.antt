@@ -7,8 +7,8 @@ use Rattle.thp_capi.proofs.engine.Engine.split_next.Goals as goal
 pub invariant_of-self-2 : goal.invariant_of-self-2
 invariant_of-self-2 g c =
     let bs = c.self.inside.batches.items in
-    let lt : c.in-Some.place < length c.self.inside.batches.items = subst (λ x. c.in-Some.place < length x.batches) (sym c.self.view_is) c.in-Some.ensures.inside in
-    let is : get_or bs c.in-Some.place None ≡ Some c.in-Some-index_mut.batch = get_or_default bs c.in-Some.place None c.index_mut.result.now lt ∙ sym c.index_mut.ensures.value ∙ c.in-Some-index_mut.is in
-    let own = own_front _ c.self.inside.node _ c.self.invariant c.in-Some.place c.in-Some-index_mut.batch lt is in
+    let lt : c.in_ok-place.place < length c.self.inside.batches.items = subst (λ x. c.in_ok-place.place < length x.batches) (sym c.self.view_is) c.in_ok-place.ensures.inside in
+    let is : get_or bs c.in_ok-place.place None ≡ Some c.in-Some.batch = get_or_default bs c.in_ok-place.place None c.index_mut.result.now lt ∙ sym c.index_mut.ensures.value ∙ c.in-Some.is in
+    let own = own_front _ c.self.inside.node _ c.self.invariant c.in_ok-place.place c.in-Some.batch lt is in
     let e = c.split_next.ensures in
-    engine_took _ c.split_next.new.self _ c.self.invariant _ c.in-Some.place c.split_next.new.batch (λ b other front. e.fronts b front) lt (e.same_caller ∙ own.0) (e.front own.1) refl
+    engine_took _ c.split_next.new.self _ c.self.invariant _ c.in_ok-place.place c.split_next.new.batch (λ b other front. e.fronts b front) lt (e.same_caller ∙ own.0) (e.front own.1) refl

@@ -5,14 +5,14 @@ use Rattle.thp_capi.proofs.shared_pass.SharedPass.split.Goals as goal
 
 pub invariant_of-result : goal.invariant_of-result
 invariant_of-result g c =
-    let p = c.self.inside.pass in
+    let p = c.all.inside.pass in
     let k : ℕ = c.args.at - c.callers-first.result.0 in
-    rw (c.split-left.ensures.left, c.in-Some.ensures.kept, c.cut.ensures.room_kept)
-    (shared_below _ _ _ p _ c.args.at k c.self.invariant (omega (arith, c.callers-first.ensures.first, c.if-at-first.false)) (omega (arith, c.callers-first.ensures.end, c.if-end-at.false)))
+    rw (c.split-left.ensures.left, c.in-Ok-cut.ensures.kept, c.cut.ensures.room_kept)
+    (shared_below _ _ _ p _ c.args.at k c.all.invariant (omega (arith, c.callers-first.ensures.first, c.if-at-first.false)) (omega (arith, c.callers-first.ensures.end, c.if-end-at.false)))
 
-pub invariant_of-result-2 : goal.invariant_of-result-2
-invariant_of-result-2 g c =
-    let p = c.self.inside.pass in
+pub invariant_of-upper : goal.invariant_of-upper
+invariant_of-upper g c =
+    let p = c.all.inside.pass in
     let k : ℕ = c.args.at - c.callers-first.result.0 in
-    rw (c.split-left.ensures.right, c.in-Some.ensures.rest, c.in-Ok.ensures)
-    (shared_from _ _ _ _ p _ c.args.at k c.self.invariant (omega (arith, c.callers-first.ensures.first, c.if-at-first.false)) (omega (arith, c.callers-first.ensures.end, c.if-end-at.false)) (omega (arith, c.in-Some.ensures.room)))
+    rw (c.split-left.ensures.right, c.in-Ok-cut.ensures.rest, c.in-Ok.ensures)
+    (shared_from _ _ _ _ p _ c.args.at k c.all.invariant (omega (arith, c.callers-first.ensures.first, c.if-at-first.false)) (omega (arith, c.callers-first.ensures.end, c.if-end-at.false)) (omega (arith, c.in-Ok-cut.ensures.room)))

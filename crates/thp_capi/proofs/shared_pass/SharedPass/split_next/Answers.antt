@@ -11,21 +11,21 @@ pub split_next-requires-clause-caller : goal.split_next-requires-clause-caller
 split_next-requires-clause-caller g c =
     let p = c.self.inside.pass in
     let bs = c.self.inside.batches.items in
-    let place = c.in-Some.place in
-    let lt : place < length bs = subst (λ x. place < length x.batches) (sym c.self.view_is) c.in-Some.ensures.inside in
-    let b = c.in-Some-index_mut.batch in
-    let is : get_or bs place None ≡ Some b = get_or_default bs place None c.index_mut.result.now lt ∙ sym c.index_mut.ensures.value ∙ c.in-Some-index_mut.is in
+    let place = c.in_ok-place.place in
+    let lt : place < length bs = subst (λ x. place < length x.batches) (sym c.self.view_is) c.in_ok-place.ensures.inside in
+    let b = c.in-Some.batch in
+    let is : get_or bs place None ≡ Some b = get_or_default bs place None c.index_mut.result.now lt ∙ sym c.index_mut.ensures.value ∙ c.in-Some.is in
     own_at _ _ _ p bs c.self.invariant place b lt (c.self.invariant.each place b lt is).0
 
 pub invariant_of-self-2 : goal.invariant_of-self-2
 invariant_of-self-2 g c =
     let p = c.self.inside.pass in
     let bs = c.self.inside.batches.items in
-    let place = c.in-Some.place in
-    let at : place + p.first ≡ c.args.caller = subst (λ x. place + x.pass.first ≡ c.args.caller) (sym c.self.view_is) c.in-Some.ensures.at in
-    let lt : place < length bs = subst (λ x. place < length x.batches) (sym c.self.view_is) c.in-Some.ensures.inside in
-    let b = c.in-Some-index_mut.batch in
-    let is : get_or bs place None ≡ Some b = get_or_default bs place None c.index_mut.result.now lt ∙ sym c.index_mut.ensures.value ∙ c.in-Some-index_mut.is in
+    let place = c.in_ok-place.place in
+    let at : place + p.first ≡ c.args.caller = subst (λ x. place + x.pass.first ≡ c.args.caller) (sym c.self.view_is) c.in_ok-place.ensures.at in
+    let lt : place < length bs = subst (λ x. place < length x.batches) (sym c.self.view_is) c.in_ok-place.ensures.inside in
+    let b = c.in-Some.batch in
+    let is : get_or bs place None ≡ Some b = get_or_default bs place None c.index_mut.result.now lt ∙ sym c.index_mut.ensures.value ∙ c.in-Some.is in
     let was = c.self.invariant.each place b lt is in
     let own : b.caller ≡ c.args.caller = omega (arith, was.0, at) in
     let e = c.split_next.ensures in
@@ -36,11 +36,11 @@ pub returns : goal.returns
 returns g c =
     let p = c.self.inside.pass in
     let bs = c.self.inside.batches.items in
-    let place = c.in-Some.place in
-    let at : place + p.first ≡ c.args.caller = subst (λ x. place + x.pass.first ≡ c.args.caller) (sym c.self.view_is) c.in-Some.ensures.at in
-    let lt : place < length bs = subst (λ x. place < length x.batches) (sym c.self.view_is) c.in-Some.ensures.inside in
-    let b = c.in-Some-index_mut.batch in
-    let is : get_or bs place None ≡ Some b = get_or_default bs place None c.index_mut.result.now lt ∙ sym c.index_mut.ensures.value ∙ c.in-Some-index_mut.is in
+    let place = c.in_ok-place.place in
+    let at : place + p.first ≡ c.args.caller = subst (λ x. place + x.pass.first ≡ c.args.caller) (sym c.self.view_is) c.in_ok-place.ensures.at in
+    let lt : place < length bs = subst (λ x. place < length x.batches) (sym c.self.view_is) c.in_ok-place.ensures.inside in
+    let b = c.in-Some.batch in
+    let is : get_or bs place None ≡ Some b = get_or_default bs place None c.index_mut.result.now lt ∙ sym c.index_mut.ensures.value ∙ c.in-Some.is in
     let own : b.caller ≡ c.args.caller = omega (arith, (c.self.invariant.each place b lt is).0, at) in
     let e = c.split_next.ensures in
     let q = c.split_next.new.pass in
@@ -51,5 +51,5 @@ returns g c =
     (elim c.match-split_next.branch [
       | in-Ok w ↦ rw w.result-is (next_done mark p q bs new c.args.caller place e.same at lt b b' w.of.result w.of.ensures.kind is own refl e.same_caller e.same_pages
           (subst (λ t. Called p q b.caller (DidTry p.shape b b' t)) (sym w.of.ensures.value) w.in-Ok.ensures.recorded))
-      | in-Err w ↦ rw (w.result-is, w.fault_of.ensures) (next_failed mark p q bs new c.args.caller place e.same at lt b b' w.in-Err.fault is own refl w.in-Err.ensures.kept w.in-Err.ensures.failed)
+      | in-Err w ↦ rw (w.result-is, w.from.ensures) (next_failed mark p q bs new c.args.caller place e.same at lt b b' w.in-Err.fault is own refl w.in-Err.ensures.kept w.in-Err.ensures.failed)
     ])
