@@ -49,19 +49,6 @@ fn text_of<A: WordsAnswer>(alloc: Global, answer: &A) -> Result<String, AllocErr
     Ok(format!(in alloc; "{answer}")?)
 }
 
-/// Writes the requested text.
-fn show<A: WordsAnswer, W: Write>(
-    alloc: Global,
-    answer: &A,
-    output: &mut Watched<W>,
-) -> Result<(), RunFault>
-    requires { output.old.failed ≡ false }
-    ensures { IsShown (A.output answer.now) (device_of W.contents output.old output.new) result }
-{
-    let text = text_of(alloc, answer)?;
-    write_text(output, text.as_bytes()).ok_or(RunFault::Write)
-}
-
 /// Writes the requested text, or returns the error in the words.
 pub fn answer<A: WordsAnswer, W: Write>(
     alloc: Global,
@@ -73,7 +60,8 @@ pub fn answer<A: WordsAnswer, W: Write>(
 {
     let kind = answer.kind();
     if is_request(kind) {
-        show(alloc, answer, output)?;
+        let text = text_of(alloc, answer)?;
+        write_text(output, text.as_bytes()).ok_or(RunFault::Write)?;
         return Ok(());
     }
     if kind == ErrorKind::OutOfMemory {

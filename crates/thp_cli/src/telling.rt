@@ -3,7 +3,6 @@ ghost use Rattle.std.specs.Prelude.{◌≡◌, ◌≤◌, ◌++◌, Err, false, 
 ghost use Rattle.arrayvec.specs.ArrayString.{array_string_len};
 ghost use Rattle.thp_script.specs.Prelude.{kind_word};
 ghost use Rattle.thp_cli.specs.Outcomes.{device_of, end_status, fault_line, name_front, no_node_line, status_of, Takes, WritesMessage};
-ghost use Rattle.thp_cli.specs.declared.fault.RunFault.TheVariants as run;
 ghost use Rattle.thp_cli.specs.RunFaults.{fault_text, seen_fault};
 
 use crate::device::write_text;
@@ -57,18 +56,6 @@ fn word_of(kind: TextKind) -> &'static str
     kind.word()
 }
 
-/// Appends the first error of a text to a line that has only a name.
-fn put_text_fault(text: &mut ArrayString<LINE>, line: u64, kind: TextKind)
-    requires room { array_string_len text.old ≤ 10 }
-    ensures bytes { text.new.bytes ≡ text.old.bytes ++ fault_text (run.Text line kind) }
-    ensures few { array_string_len text.new ≤ 80 }
-{
-    text.push_str("line ");
-    text.push_str(Buffer::new().format(line));
-    text.push_str(": ");
-    text.push_str(word_of(kind));
-}
-
 /// Appends what an error displays to a line that has only a name.
 fn put_fault(text: &mut ArrayString<LINE>, fault: &LongRunFault)
     requires room { array_string_len text.old ≤ 10 }
@@ -76,7 +63,12 @@ fn put_fault(text: &mut ArrayString<LINE>, fault: &LongRunFault)
     ensures few { array_string_len text.new ≤ 80 }
 {
     match fault {
-        LongRunFault::Text { line, kind } => put_text_fault(text, *line, *kind),
+        LongRunFault::Text { line, kind } => {
+            text.push_str("line ");
+            text.push_str(Buffer::new().format(*line));
+            text.push_str(": ");
+            text.push_str(word_of(*kind));
+        }
         LongRunFault::OutOfMemory => text.push_str("out of memory"),
         LongRunFault::Read => text.push_str("read failed"),
         LongRunFault::Write => text.push_str("write failed"),
@@ -116,16 +108,6 @@ fn no_node_line(program: Program, number: u32) -> ArrayString<LINE>
     text
 }
 
-/// Returns the exit status of an error.
-fn status_of_fault(fault: &LongRunFault) -> u8
-    ensures { result ≡ status_of (seen_fault fault.now) }
-{
-    match fault {
-        LongRunFault::Text { .. } => FAULTY,
-        _ => FAILED,
-    }
-}
-
 /// Writes a text to standard error. A failure is ignored, as it can't be reported.
 pub fn tell_text<E: Write>(errors: &mut Watched<E>, text: &[u8])
     requires { errors.old.failed ≡ false }
@@ -142,7 +124,10 @@ pub fn tell_run<E: Write>(program: Program, fault: LongRunFault, errors: &mut Wa
 {
     let text = fault_line(program, &fault);
     tell_text(errors, text.as_str().as_bytes());
-    status_of_fault(&fault)
+    match fault {
+        LongRunFault::Text { .. } => FAULTY,
+        _ => FAILED,
+    }
 }
 
 /// Reports why the program did not do what was requested, and returns the exit status. It allocates nothing.
@@ -151,29 +136,17 @@ pub fn tell<E: Write>(program: Program, fault: ProgramFault, errors: &mut Watche
     ensures { WritesMessage program (device_of E.contents errors.old errors.new) result (Err fault) }
 {
     match fault {
-        ProgramFault::Run(fault) => tell_run(program, LongRunFault::from(fault), errors),
-        ProgramFault::Usage(text) => {
-            tell_text(errors, text.as_bytes());
-            FAULTY
-        }
-        ProgramFault::Orders => {
-            tell_text(errors, b"thpsplit: bad orders\n");
-            FAULTY
-        }
-        ProgramFault::Underused => {
-            tell_text(errors, b"thpsplit: bad underused\n");
-            FAULTY
-        }
+        ProgramFault::Run(fault) => return tell_run(program, LongRunFault::from(fault), errors),
+        ProgramFault::Usage(text) => tell_text(errors, text.as_bytes()),
+        ProgramFault::Orders => tell_text(errors, b"thpsplit: bad orders\n"),
+        ProgramFault::Underused => tell_text(errors, b"thpsplit: bad underused\n"),
         ProgramFault::NoNode(number) => {
             tell_text(errors, no_node_line(program, number).as_str().as_bytes());
-            FAULTY
         }
-        ProgramFault::NoText => {
-            tell_text(
-                errors,
-                b"error: invalid UTF-8 was detected in one or more arguments\n",
-            );
-            FAULTY
-        }
+        ProgramFault::NoText => tell_text(
+            errors,
+            b"error: invalid UTF-8 was detected in one or more arguments\n",
+        ),
     }
+    FAULTY
 }

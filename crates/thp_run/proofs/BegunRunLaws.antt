@@ -13,28 +13,22 @@ use Rattle.thp_worker.specs.Prelude.{Fronts, Goes, HoldsAllCallers, DidFirst, fr
 use Rattle.thp_worker.proofs.StepLaws.{goes_trans}
 use Rattle.thp_run.specs.InParts.{AreNew, HasBegun, StartsOn}
 use Rattle.thp_run.specs.Sections.{IsNew, IsSetUp, RunsTo}
-use Rattle.thp_run.specs.Sharing.{pass_of, AreFew, IsFresh, IsRoot, IsUnused, RunsOn}
+use Rattle.thp_run.specs.Sharing.{pass_of, AreFew, IsUnused, RunsOn}
 use Rattle.thp_run.proofs.NodeLaws.{pairs_length}
-use Rattle.thp_run.proofs.SharingLaws.{is_new, roots_fresh, runs_on, script_fits}
+use Rattle.thp_run.proofs.SharingLaws.{is_new, runs_on, script_fits}
 
 -- ---- new nodes
 
 module _ (s : Settings) (cells : List TableId) (passes : List PassState) (new : AreNew s cells passes) where
-  pub new_fresh : All (IsFresh (s.workers + 1)) passes
-  new_fresh = roots_fresh (s.workers + 1) new.nodes passes new.roots new.new
-
-  pub new_count : length passes ≡ s.nodes
-  new_count = sym (pairs_length (IsRoot (s.workers + 1)) new.nodes passes new.roots) ∙ new.asked.count
-
   pub new_few : length passes ≤ max_nodes
-  new_few = omega (arith, new_count, s.within_limits.most_nodes)
+  new_few = omega (arith, new.count, s.within_limits.most_nodes)
 
   module _ (f : Fronts) (starts : StartsOn s passes f) where
     pub starts_new : (workers : ℕ) → workers ≡ s.workers → IsNew workers f
-    starts_new workers is = subst (IsNew workers) (sym starts.are) (is_new (s.workers + 1) passes starts.held starts.unused new_fresh workers (omega (arith, is)))
+    starts_new workers is = subst (IsNew workers) (sym starts.are) (is_new (s.workers + 1) passes starts.held starts.unused new.fresh workers (omega (arith, is)))
 
     pub starts_nodes : f.nodes ≡ s.nodes
-    starts_nodes = ap (λ (x : Fronts). x.nodes) starts.are ∙ sym (pairs_length IsUnused passes starts.held starts.unused) ∙ new_count
+    starts_nodes = ap (λ (x : Fronts). x.nodes) starts.are ∙ sym (pairs_length IsUnused passes starts.held starts.unused) ∙ new.count
 
 -- ---- a run that has begun
 
@@ -58,5 +52,5 @@ module _ (s : Settings) (cells : List TableId) (old : List PassState) (first : F
 
     pub begun_runs : (q : Passes) (sections : List SectionLog) → Agree q.callers q.first q.end q.held → RunsTo first (fronts_in q) (after_setup before script) sections → RunsOn old (map pass_of q.held) (after_setup before script) sections
     begun_runs q sections agree runs =
-        runs_on (s.workers + 1) old b.starts.held q (after_setup before script) sections b.starts.unused (new_fresh s cells old b.new) (omega (arith, for-it.sections)) agree
+        runs_on (s.workers + 1) old b.starts.held q (after_setup before script) sections b.starts.unused b.new.fresh (omega (arith, for-it.sections)) agree
         (subst (λ f. RunsTo f (fronts_in q) (after_setup before script) sections) b.starts.are runs)

@@ -1,15 +1,15 @@
 -- Reports of the answers that a run kept.
-use Rattle.std.proofs.Common.{◌≡◌, ℕ, List, [], ◌∷◌, ◌∙◌, ap, map, refl, Ok, All, filter}
+use Rattle.std.proofs.Common.{◌≡◌, ℕ, List, [], ◌∷◌, ◌∙◌, ap, map, refl, Ok, All}
 use Rattle.std.proofs.lemmas.List.Elements.{All-head, All-tail}
 use Rattle.thp_node.specs.Prelude.{NodeState}
-use Rattle.thp_run.specs.Answers.{answers_text}
+use Rattle.thp_run.specs.Answers.{answers_text, with_stored}
 use Rattle.thp_run.specs.Reports.{report_of, shape_in, told_of}
 use Rattle.thp_run.specs.NewNodes.{histories_of, shapes_of, AreNodesFor}
 use Rattle.thp_run.specs.Runs.{IsRun}
 use Rattle.thp_run.specs.Sections.{SectionAnswersAre}
 use Rattle.thp_worker.specs.declared.answer_log.Answers.TheVariants.{Kept}
 use Rattle.thp_worker.specs.declared.reply.SectionLog.{SectionLog}
-use Rattle.thp_worker.specs.Prelude.{has_kept, is_kept}
+use Rattle.thp_worker.specs.Prelude.{if_kept}
 use Rattle.thp_script.specs.declared.script.Script.{Script}
 use Rattle.thp_script.specs.declared.settings.Report.{Report}
 use Rattle.thp_script.specs.declared.settings.Report.TheVariants as report
@@ -17,15 +17,16 @@ use Rattle.thp_script.specs.declared.settings.Settings.{Settings}
 use Rattle.thp_script.specs.Prelude.{script_of}
 use Rattle.thp_run.specs.Programs.{IsReport}
 
--- sections of which each keeps its answers are all among those that do
-all_kept : (sections : List SectionLog) → All (SectionAnswersAre Kept) sections → filter has_kept sections ≡ sections
+-- where each section stores its answers, these are all
+all_kept : (sections : List SectionLog) → All (SectionAnswersAre Kept) sections → map with_stored sections ≡ sections
 all_kept [] all = refl
 all_kept (s ∷ sections) all =
-    rw (ap is_kept (All-head (SectionAnswersAre Kept) s sections all)) (ap (λ rest. s ∷ rest) (all_kept sections (All-tail (SectionAnswersAre Kept) s sections all)))
+    let one : with_stored s ≡ s = ap (λ are. record s { answers = record s.answers { items = if_kept are s.answers.items } }) (All-head (SectionAnswersAre Kept) s sections all) in
+    ap (λ x. x ∷ map with_stored sections) one ∙ ap (λ rest. s ∷ rest) (all_kept sections (All-tail (SectionAnswersAre Kept) s sections all))
 
 -- a report doesn't look at answers, or all of them are kept
 kept_report : (r : Report) (nodes : List NodeState) (sections : List SectionLog) → (r ≡ report.Answers → All (SectionAnswersAre Kept) sections) →
-    report_of r (map told_of nodes) (filter has_kept sections) ≡ report_of r (map told_of nodes) sections
+    report_of r (map told_of nodes) (map with_stored sections) ≡ report_of r (map told_of nodes) sections
 kept_report report.Totals nodes sections kept = refl
 kept_report report.Journal nodes sections kept = refl
 kept_report report.Answers nodes sections kept = ap (answers_text (map shape_in (map told_of nodes))) (all_kept sections (kept refl))
@@ -49,7 +50,7 @@ is_report s script nodes sections text made run told = λ input spelled. record 
 
 -- and so is what is told of the answers that it kept
 pub is_kept_report : (s : Settings) (script : Script) (nodes : List NodeState) (sections kept : List SectionLog) (text : List ℕ) → AreNodesFor s nodes →
-    IsRun s.nodes (shapes_of nodes) script (histories_of nodes) sections → (s.report ≡ report.Answers → All (SectionAnswersAre Kept) sections) → kept ≡ filter has_kept sections →
+    IsRun s.nodes (shapes_of nodes) script (histories_of nodes) sections → (s.report ≡ report.Answers → All (SectionAnswersAre Kept) sections) → kept ≡ map with_stored sections →
     text ≡ report_of s.report (map told_of nodes) kept → IsReportOf s script text
 is_kept_report s script nodes sections kept text made run all is told =
     is_report s script nodes sections text made run (told ∙ ap (report_of s.report (map told_of nodes)) is ∙ kept_report s.report nodes sections all)

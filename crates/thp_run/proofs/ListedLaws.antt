@@ -1,5 +1,5 @@
 -- Answers between logs and vectors.
-use Rattle.std.proofs.Common.{◌≡◌, ◌≤◌, ◌+◌, ◌++◌, ◌∷◌, [], ◌∙◌, ℕ, List, ap, append_assoc, drop, length, Some, Ok, Err, sym, slice_get, Bool, IfOk, Result, Vec}
+use Rattle.std.proofs.Common.{◌≡◌, ◌≤◌, ◌+◌, ◌++◌, ◌∷◌, [], ◌∙◌, ℕ, List, ap, append_assoc, drop, length, map, refl, Some, Ok, Err, sym, slice_get, Bool, IfOk, Result, Vec}
 use Rattle.std.specs.declared.alloc.Global.{Global}
 use Rattle.std.specs.declared.alloc.AllocError.{AllocError}
 use Rattle.thp_run.proofs.AnswerLaws.{drop_at_get}
@@ -7,12 +7,18 @@ use Rattle.thp_worker.specs.declared.reply.Answer.{Answer}
 use Rattle.thp_worker.specs.declared.reply.SectionOutcome.{SectionOutcome}
 use Rattle.thp_worker.specs.Prelude.{Fronts, LogState, Works}
 use Rattle.thp_script.specs.declared.script.Command.{Command}
-use Rattle.thp_run.specs.Listed.{WorkedList, WorksOn}
+use Rattle.thp_run.specs.Listed.{SectionList, WorkedList, WorksOn, section_of, sections_of}
+use Rattle.thp_run.specs.Answers.{with_stored}
 
 -- one answer more behind those that were had
 pub one_more : (front all : List Answer) (place : ℕ) (answer : Answer) → front ++ drop place all ≡ all → slice_get all place ≡ Some answer → (front ++ answer ∷ []) ++ drop (place + 1) all ≡ all
 one_more front all place answer had is =
     append_assoc front (answer ∷ []) (drop (place + 1) all) ∙ ap (λ left. front ++ left) (sym (drop_at_get all place answer (sym is))) ∙ had
+
+-- such sections store all of their answers
+pub all_stored : (sections : List SectionList) → map with_stored (sections_of sections) ≡ sections_of sections
+all_stored [] = refl
+all_stored (s ∷ sections) = ap (λ rest. section_of s ∷ rest) (all_stored sections)
 
 -- what a section's rest leads to by a log, it leads to by the vector
 pub rest_works : (c : ℕ) (old mid new : Fronts) (commands : List Command) (w : WorkedList) (log : LogState) (opened : Vec Bool Global) (room : ℕ) (done : SectionOutcome) (r : Result WorkedList AllocError) →

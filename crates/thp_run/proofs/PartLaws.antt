@@ -1,11 +1,12 @@
 -- The text of answers, part by part.
-use Rattle.std.proofs.Common.{◌≡◌, ℕ, ◌+◌, ◌<◌, ◌≤◌, List, [], ◌∷◌, ◌++◌, drop, get_or, length, Some, ap, refl, sym, ◌∙◌, append_assoc, slice_get, flat_map}
+use Rattle.std.proofs.Common.{◌≡◌, ℕ, ◌+◌, ◌<◌, ◌≤◌, List, [], ◌∷◌, ◌++◌, drop, get_or, length, map, Some, ap, refl, sym, ◌∙◌, append_assoc, slice_get, flat_map}
 use Rattle.std.proofs.lemmas.List.{drop_all, drop_more}
 use Rattle.thp_history.specs.declared.shape.Shape.{Shape}
-use Rattle.thp_run.specs.Answers.{answer_line, answers_text, section_text}
+use Rattle.thp_run.specs.Answers.{answer_line, answers_text, section_text, with_stored}
 use Rattle.thp_run.specs.Parts.{text_from}
 use Rattle.thp_worker.specs.declared.reply.Answer.{Answer}
 use Rattle.thp_worker.specs.declared.reply.SectionLog.{SectionLog}
+use Rattle.thp_worker.specs.Prelude.{stored}
 use Rattle.thp_run.proofs.AnswerLaws.{drop_at_get}
 
 -- from the first answer on stands the whole text
@@ -15,9 +16,9 @@ from_start shapes [] = refl
 from_start shapes (s ∷ sections) = refl
 
 -- no text is left behind the last section
-pub none_left : (shapes : List Shape) (place n : ℕ) (sections : List SectionLog) → length sections ≤ n → text_from shapes place (drop n sections) ≡ []
+pub none_left : (shapes : List Shape) (place n : ℕ) (sections : List SectionLog) → length sections ≤ n → text_from shapes place (map with_stored (drop n sections)) ≡ []
 unfolding text_from
-none_left shapes place n sections h = ap (text_from shapes place) (drop_all n sections h)
+none_left shapes place n sections h = ap (λ l. text_from shapes place (map with_stored l)) (drop_all n sections h)
 
 -- where a part took nothing and nothing is left, nothing was
 pub nothing_was : (part left was : List ℕ) → part ++ left ≡ was → left ≡ [] → part ≡ [] → was ≡ []
@@ -25,32 +26,32 @@ nothing_was part left was e f g = sym e ∙ ap (λ x. part ++ x) f ∙ ap (λ x.
 
 -- what is left at a section: its answers, and the sections behind it
 left_at : (shapes : List Shape) (place n : ℕ) (sections : List SectionLog) (s : SectionLog) → n < length sections → s ≡ get_or sections n s →
-    text_from shapes place (drop n sections) ≡ flat_map (answer_line shapes s.worker) (drop place s.answers.items) ++ answers_text shapes (drop (n + 1) sections)
+    text_from shapes place (map with_stored (drop n sections)) ≡ flat_map (answer_line shapes s.worker) (drop place (stored s.answers)) ++ answers_text shapes (map with_stored (drop (n + 1) sections))
 unfolding text_from
-left_at shapes place n sections s h is = ap (text_from shapes place) (drop_more sections n s h ∙ ap (λ x. x ∷ drop (n + 1) sections) (sym is))
+left_at shapes place n sections s h is = ap (λ l. text_from shapes place (map with_stored l)) (drop_more sections n s h ∙ ap (λ x. x ∷ drop (n + 1) sections) (sym is))
 
 -- some answers of a section were put behind a part
 pub some_put : (shapes : List Shape) (place next n : ℕ) (sections : List SectionLog) (s : SectionLog) (t more was : List ℕ) → n < length sections → s ≡ get_or sections n s →
-    more ++ flat_map (answer_line shapes s.worker) (drop next s.answers.items) ≡ t ++ flat_map (answer_line shapes s.worker) (drop place s.answers.items) →
-    t ++ text_from shapes place (drop n sections) ≡ was → more ++ text_from shapes next (drop n sections) ≡ was
+    more ++ flat_map (answer_line shapes s.worker) (drop next (stored s.answers)) ≡ t ++ flat_map (answer_line shapes s.worker) (drop place (stored s.answers)) →
+    t ++ text_from shapes place (map with_stored (drop n sections)) ≡ was → more ++ text_from shapes next (map with_stored (drop n sections)) ≡ was
 some_put shapes place next n sections s t more was h is e f =
-    let rest = answers_text shapes (drop (n + 1) sections) in
+    let rest = answers_text shapes (map with_stored (drop (n + 1) sections)) in
     ap (λ x. more ++ x) (left_at shapes next n sections s h is)
-    ∙ sym (append_assoc more (flat_map (answer_line shapes s.worker) (drop next s.answers.items)) rest)
+    ∙ sym (append_assoc more (flat_map (answer_line shapes s.worker) (drop next (stored s.answers))) rest)
     ∙ ap (λ x. x ++ rest) e
-    ∙ append_assoc t (flat_map (answer_line shapes s.worker) (drop place s.answers.items)) rest
+    ∙ append_assoc t (flat_map (answer_line shapes s.worker) (drop place (stored s.answers))) rest
     ∙ ap (λ x. t ++ x) (sym (left_at shapes place n sections s h is))
     ∙ f
 
 -- all answers of a section were put
 pub all_put : (shapes : List Shape) (place n : ℕ) (sections : List SectionLog) (s : SectionLog) (t more was : List ℕ) → n < length sections → s ≡ get_or sections n s →
-    more ≡ t ++ flat_map (answer_line shapes s.worker) (drop place s.answers.items) →
-    t ++ text_from shapes place (drop n sections) ≡ was → more ++ text_from shapes 0 (drop (n + 1) sections) ≡ was
+    more ≡ t ++ flat_map (answer_line shapes s.worker) (drop place (stored s.answers)) →
+    t ++ text_from shapes place (map with_stored (drop n sections)) ≡ was → more ++ text_from shapes 0 (map with_stored (drop (n + 1) sections)) ≡ was
 all_put shapes place n sections s t more was h is e f =
-    let rest = answers_text shapes (drop (n + 1) sections) in
-    ap (λ x. more ++ x) (from_start shapes (drop (n + 1) sections))
+    let rest = answers_text shapes (map with_stored (drop (n + 1) sections)) in
+    ap (λ x. more ++ x) (from_start shapes (map with_stored (drop (n + 1) sections)))
     ∙ ap (λ x. x ++ rest) e
-    ∙ append_assoc t (flat_map (answer_line shapes s.worker) (drop place s.answers.items)) rest
+    ∙ append_assoc t (flat_map (answer_line shapes s.worker) (drop place (stored s.answers))) rest
     ∙ ap (λ x. t ++ x) (sym (left_at shapes place n sections s h is))
     ∙ f
 

@@ -1,5 +1,5 @@
 -- How a run ends, from what its parts did.
-use Rattle.std.proofs.Common.{◌≡◌, ◌∙◌, ℕ, Bool, true, false, List, Option, Some, Ok, Err, arith, map, sym, IfNone, IfSome, Result, filter, ok_or, append-nil, length-append}
+use Rattle.std.proofs.Common.{◌≡◌, ◌∙◌, ℕ, Bool, true, false, List, Option, Some, Ok, Err, arith, map, sym, IfNone, IfSome, Result, ok_or, append-nil, length-append}
 use Rattle.std.specs.Io.KnownBytes.{Appends}
 use Rattle.std.proofs.lemmas.Bool.{cases_lt}
 use Rattle.thp_script.specs.declared.fault.ReadFault.TheVariants as reading
@@ -14,7 +14,7 @@ use Rattle.thp_cli.proofs.PassageLaws.{ends_early, keeps_same}
 use Rattle.thp_node.specs.Prelude.{NodeState}
 use Rattle.thp_run.specs.Reports.{report_of, told_of}
 use Rattle.thp_worker.specs.declared.reply.SectionLog.{SectionLog}
-use Rattle.thp_worker.specs.Prelude.{has_kept}
+use Rattle.thp_run.specs.Answers.{with_stored}
 use Rattle.thp_run.specs.Programs.{IsReport, RunEnds}
 use Rattle.thp_run.specs.ScriptInProgress.{HasRun, EndsBeforeRun}
 use Rattle.thp_run.specs.Written.{Wrote}
@@ -55,7 +55,7 @@ run_wrote s known nodes sections text old new rf wf r ran told w e = grind (arit
 
 -- the same of the answers that it kept
 pub run_wrote_kept : (s : Settings) (known : Option (List ℕ)) (nodes : List NodeState) (sections : List SectionLog) (text : List ℕ) (old new : Option (List ℕ)) (reader_failed writer_failed : Bool) (r : Result (Unit {0}) RunFault) → HasRun s known nodes sections
-    → text ≡ report_of s.report (map told_of nodes) (filter has_kept sections) → Wrote text old new writer_failed r → reader_failed ≡ false → RunEnds s known old new reader_failed writer_failed r
+    → text ≡ report_of s.report (map told_of nodes) (map with_stored sections) → Wrote text old new writer_failed r → reader_failed ≡ false → RunEnds s known old new reader_failed writer_failed r
 run_wrote_kept s known nodes sections text old new rf wf r ran told w e = grind (arith, ends_of_input, wrote_ends, is_kept_report)
 
 -- no script was run

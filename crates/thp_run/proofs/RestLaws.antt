@@ -1,7 +1,6 @@
 -- What is left of the workers' sections, done one after another.
-use Rattle.std.proofs.Common.{◌≡◌, ◌∙◌, ◌++◌, ◌+◌, ◌<◌, ◌≤◌, ap, ℕ, zero, suc, List, [], ◌∷◌, length, drop, get_or, refl, sym, subst, arith, length-append, append_assoc, Some, All, Vec, slice_get}
-use Rattle.std.specs.declared.alloc.Global.{Global}
-use Rattle.std.proofs.lemmas.List.{append-nil, drop_all, length-map}
+use Rattle.std.proofs.Common.{◌≡◌, ◌∙◌, ◌++◌, ◌+◌, ◌<◌, ◌≤◌, ap, ℕ, zero, suc, List, [], ◌∷◌, length, drop, get_or, refl, sym, subst, arith, length-append, append_assoc, Some, All, slice_get}
+use Rattle.std.proofs.lemmas.List.{append-nil, drop_all}
 use Rattle.std.proofs.lemmas.Option.{slice_get_read}
 use Rattle.std.proofs.lemmas.List.Elements.{All-cons, All-head, All-nil, All-push, All-tail}
 use Rattle.thp_script.specs.declared.script.Command.{Command}
@@ -14,7 +13,7 @@ use Rattle.thp_worker.specs.Prelude.{Fronts, Goes, HoldsAllCallers, HoldsCaller,
 use Rattle.thp_worker.specs.Halves as halves
 use Rattle.thp_worker.proofs.HalvesLaws.{works_from, all_work_as}
 use Rattle.thp_worker.proofs.StepLaws.{same_refl, same_trans, has_later}
-use Rattle.thp_run.specs.Sections.{GoesFrom, InOrder, IsFitScript, IsFitSection, IsNew, RunsTo, SectionAnswersAre, commands_in, numbered}
+use Rattle.thp_run.specs.Sections.{GoesFrom, InOrder, IsFitScript, IsNew, RunsTo, SectionAnswersAre, numbered}
 use Rattle.thp_run.proofs.RunLaws.{all_work-length, same_nodes}
 
 -- ---- callers that went on
@@ -39,13 +38,13 @@ goes_from_trans from f g h a b = record {
 goes_from_one : (from c : ℕ) (f g : Fronts) → from ≤ c → Goes c f g → GoesFrom from f g
 goes_from_one from c f g le goes = grind arith
 
-goes_from_ran : (from : ℕ) (f g : Fronts) (vs : List (Vec Command Global)) (ws : List SectionOutcome) → RangeDone from f g vs ws → GoesFrom from f g
+goes_from_ran : (from : ℕ) (f g : Fronts) (vs : List (List Command)) (ws : List SectionOutcome) → RangeDone from f g vs ws → GoesFrom from f g
 goes_from_ran from f g vs ws r = grind arith
 
 -- ---- one section more
 
 -- the section at this place
-pub work_of : (c : ℕ) (old new : Fronts) (vs : List (Vec Command Global)) (v : Vec Command Global) (done : List SectionOutcome) (w : SectionOutcome) (rest : List SectionOutcome) → AllWork c old new vs (done ++ w ∷ rest) → slice_get vs (length done) ≡ Some v → Works (c + length done) old new v.items w
+pub work_of : (c : ℕ) (old new : Fronts) (vs : List (List Command)) (v : List Command) (done : List SectionOutcome) (w : SectionOutcome) (rest : List SectionOutcome) → AllWork c old new vs (done ++ w ∷ rest) → slice_get vs (length done) ≡ Some v → Works (c + length done) old new v w
 unfolding AllWork
 work_of c old new [] v [] w rest a at = absurd a
 work_of c old new [] v (d ∷ done) w rest a at = absurd a
@@ -58,21 +57,21 @@ work_of c old new (x ∷ vs) v (d ∷ done) w rest a at =
     rw place (work_of (c + 1) old new vs v done w rest a.1 at)
 
 -- the section at this place went on, and the others stayed as they were
-put : (c : ℕ) (old f g : Fronts) (vs : List (Vec Command Global)) (v : Vec Command Global) (done : List SectionOutcome) (w w' : SectionOutcome) (rest : List SectionOutcome)
+put : (c : ℕ) (old f g : Fronts) (vs : List (List Command)) (v : List Command) (done : List SectionOutcome) (w w' : SectionOutcome) (rest : List SectionOutcome)
     → ((k : ℕ) → c ≤ k → k < c + length vs → (k ≡ c + length done → ⊥) → (commands : List Command) (x : SectionOutcome) → Works k old f commands x → Works k old g commands x)
-    → slice_get vs (length done) ≡ Some v → Works (c + length done) old g v.items w' → AllWork c old f vs (done ++ w ∷ rest) → AllWork c old g vs (done ++ w' ∷ rest)
+    → slice_get vs (length done) ≡ Some v → Works (c + length done) old g v w' → AllWork c old f vs (done ++ w ∷ rest) → AllWork c old g vs (done ++ w' ∷ rest)
 unfolding AllWork
 put c old f g [] v [] w w' rest stay at works a = absurd a
 put c old f g [] v (d ∷ done) w w' rest stay at works a = absurd a
 put c old f g (x ∷ vs) v [] w w' rest stay at works a =
     let is : x ≡ v = cc in
     let place : c + 0 ≡ c = omega arith in
-    let here : Works c old g v.items w' = subst (λ k. Works k old g v.items w') place works in
+    let here : Works c old g v w' = subst (λ k. Works k old g v w') place works in
     (rw is here, all_work_as vs rest (c + 1) old old f g (λ k lo hi. stay k (omega (arith, lo)) (omega (arith, hi)) (λ e. absurd (omega (arith, lo, e)))) a.1)
 put c old f g (x ∷ vs) v (d ∷ done) w w' rest stay at works a =
     let place : c + suc (length done) ≡ c + 1 + length done = omega arith in (
-      stay c (omega arith) (omega arith) (λ e. absurd (omega (arith, e))) x.items d a.0,
-      put (c + 1) old f g vs v done w w' rest (λ k lo hi other. stay k (omega (arith, lo)) (omega (arith, hi)) (λ e. other (e ∙ place))) at (subst (λ k. Works k old g v.items w') place works) a.1,
+      stay c (omega arith) (omega arith) (λ e. absurd (omega (arith, e))) x d a.0,
+      put (c + 1) old f g vs v done w w' rest (λ k lo hi other. stay k (omega (arith, lo)) (omega (arith, hi)) (λ e. other (e ∙ place))) at (subst (λ k. Works k old g v w') place works) a.1,
     )
 
 -- the elements from a place on are the one there and those behind it
@@ -82,13 +81,13 @@ drop_one (y ∷ xs) zero x e = let same : y ≡ x = cc in ap (λ z. z ∷ xs) sa
 drop_one (y ∷ xs) (suc n) x e = drop_one xs n x e
 
 -- one worker more, in order
-one_more : (c : ℕ) (f g h : Fronts) (all : List (Vec Command Global)) (v : Vec Command Global) (vs : List (Vec Command Global)) (w w' : SectionOutcome) (rest more : List SectionOutcome) → all ≡ v ∷ vs → Goes c f g
-    → ((old : Fronts) → Works c old f v.items w → Works c old g v.items w') → InOrder (c + 1) g h vs rest more → InOrder c f h all (w ∷ rest) (w' ∷ more)
+one_more : (c : ℕ) (f g h : Fronts) (all : List (List Command)) (v : List Command) (vs : List (List Command)) (w w' : SectionOutcome) (rest more : List SectionOutcome) → all ≡ v ∷ vs → Goes c f g
+    → ((old : Fronts) → Works c old f v w → Works c old g v w') → InOrder (c + 1) g h vs rest more → InOrder c f h all (w ∷ rest) (w' ∷ more)
 unfolding InOrder
 one_more c f g h all v vs w w' rest more is goes works behind = rw is (g, goes, works, behind)
 
 -- what was left of the first sections is done
-pub record RestDone (first f : Fronts) (workers : List (Vec Command Global)) (started done rest : List SectionOutcome) : Type 0 where
+pub record RestDone (first f : Fronts) (workers : List (List Command)) (started done rest : List SectionOutcome) : Type 0 where
   -- whatever goes on in order from here, went on in order from the first worker on
   pub order : (g : Fronts) (more : List SectionOutcome) → InOrder (1 + length done) f g (drop (length done) workers) rest more → InOrder 1 first g workers started (done ++ more)
   pub goes : GoesFrom 1 first f
@@ -96,7 +95,7 @@ pub record RestDone (first f : Fronts) (workers : List (Vec Command Global)) (st
   pub all_done : All IsDoneFor done
   pub count : length workers ≡ length done + length rest
 
-pub rest_first : (old f : Fronts) (workers : List (Vec Command Global)) (started done rest : List SectionOutcome) → AllWork 1 old f workers started → done ≡ [] → rest ≡ started → RestDone f f workers started done rest
+pub rest_first : (old f : Fronts) (workers : List (List Command)) (started done rest : List SectionOutcome) → AllWork 1 old f workers started → done ≡ [] → rest ≡ started → RestDone f f workers started done rest
 rest_first old f workers started done rest a none is = rw (none, is) (record {
   order = λ g more ordered. ordered;
   goes = goes_from_refl 1 f;
@@ -112,18 +111,18 @@ has_worker first f workers k goes all callers lt = record { low = omega (arith, 
 pub has_all_later : (first f : Fronts) → GoesFrom 1 first f → HoldsAllCallers first → HoldsAllCallers f
 has_all_later first f goes all = record { low = goes.same.first ∙ all.low; high = goes.same.end ∙ all.high ∙ sym goes.same.callers }
 
-module _ (first f g : Fronts) (workers : List (Vec Command Global)) (v : Vec Command Global) (started done items : List SectionOutcome) (w : SectionOutcome) (rest : List SectionOutcome) (r : RestDone first f workers started done items) (is : items ≡ w ∷ rest) where
+module _ (first f g : Fronts) (workers : List (List Command)) (v : List Command) (started done items : List SectionOutcome) (w : SectionOutcome) (rest : List SectionOutcome) (r : RestDone first f workers started done items) (is : items ≡ w ∷ rest) where
   pub below : length done < length workers
   below = let shorter = ap length is in omega (arith, r.count, shorter)
 
   listed : (old : Fronts) → AllWork 1 old first workers started → AllWork 1 old f workers (done ++ w ∷ rest)
   listed old a = subst (λ l. AllWork 1 old f workers (done ++ l)) is (r.work old a)
 
-  pub rest_works : (old : Fronts) → AllWork 1 old first workers started → slice_get workers (length done) ≡ Some v → Works (1 + length done) old f v.items w
+  pub rest_works : (old : Fronts) → AllWork 1 old first workers started → slice_get workers (length done) ≡ Some v → Works (1 + length done) old f v w
   rest_works old a at = work_of 1 old f workers v done w rest (listed old a) at
 
   pub rest_more : (w' : SectionOutcome) → HoldsAllCallers first → first.callers ≡ 1 + length workers → slice_get workers (length done) ≡ Some v → Goes (1 + length done) f g
-      → ((old : Fronts) → Works (1 + length done) old f v.items w → Works (1 + length done) old g v.items w') → IsDoneFor w' → RestDone first g workers started (done ++ w' ∷ []) rest
+      → ((old : Fronts) → Works (1 + length done) old f v w → Works (1 + length done) old g v w') → IsDoneFor w' → RestDone first g workers started (done ++ w' ∷ []) rest
   rest_more w' all callers at goes works whole = record {
     order = λ h more ordered.
         let len : length (done ++ w' ∷ []) ≡ suc (length done) = omega (arith, length-append done (w' ∷ [])) in
@@ -143,7 +142,7 @@ module _ (first f g : Fronts) (workers : List (Vec Command Global)) (v : Vec Com
           let has = has_worker first f (length workers) k r.goes all callers hi in
           works_from k old old f g commands x (record { cells = refl; nodes = refl; shape = refl; callers = refl }) (λ n. refl) (λ n. refl) (same_nodes f g goes.same) goes.grown (record { part = λ n. goes.others k n has other; batches = λ n. goes.others_batches k n other }) was
 
-pub rest_ordered : (first f : Fronts) (workers : List (Vec Command Global)) (started done rest : List SectionOutcome) → RestDone first f workers started done rest → length rest ≡ 0 → InOrder 1 first f workers started done
+pub rest_ordered : (first f : Fronts) (workers : List (List Command)) (started done rest : List SectionOutcome) → RestDone first f workers started done rest → length rest ≡ 0 → InOrder 1 first f workers started done
 unfolding InOrder
 rest_ordered first f workers started done [] r none =
     let past : length workers ≤ length done = let count = r.count in omega (arith, count) in
@@ -153,69 +152,47 @@ rest_ordered first f workers started done (w ∷ rest) r none = absurd (omega (a
 
 -- ---- the whole
 
--- each of the vectors has commands that fit
-vectors_fit : (nodes : ℕ) (vs : List (Vec Command Global)) (css : List (List Command)) → commands_in vs ≡ css → All (IsFitSection nodes) css → All (halves.IsSection nodes) vs
-vectors_fit nodes vs css are fit = λ k d lt.
-    let count = length-map vs (λ (v : Vec Command Global). v.items) in
-    let same = ap length are in
-    let at : get_or css k d.items ≡ (get_or vs k d).items = ap (λ l. get_or l k d.items) (sym are) ∙ items_at vs k d in
-    let here = subst (IsFitSection nodes) at (fit k d.items (omega (arith, lt, count, same))) in
-    record { few = here.few; commands = here.fit }
-  where
-    items_at : (vs : List (Vec Command Global)) (k : ℕ) (d : Vec Command Global) → get_or (commands_in vs) k d.items ≡ (get_or vs k d).items
-    items_at [] k d = refl
-    items_at (v ∷ vs) zero d = refl
-    items_at (v ∷ vs) (suc k) d = items_at vs k d
+module _ (f mid : Fronts) (script : Script) (new : IsNew (length script.workers) f) (fits : IsFitScript f.nodes script) (begins : Goes 0 f mid) where
+  pub workers_fit : (nodes : ℕ) → nodes ≡ f.nodes → All (halves.IsSection nodes) script.workers
+  workers_fit nodes is = rw is fits.workers
 
-module _ (f mid : Fronts) (script : Script) (vs : List (Vec Command Global)) (new : IsNew (length script.workers) f) (fits : IsFitScript f.nodes script) (begins : Goes 0 f mid) (are : commands_in vs ≡ script.workers) where
-  count_vs : length vs ≡ length script.workers
-  count_vs = sym (length-map vs (λ (v : Vec Command Global). v.items)) ∙ ap length are
+  pub can_run : CanRun mid 1 script.workers
+  can_run = grind (arith, workers_fit)
 
-  pub workers_fit : (nodes : ℕ) → nodes ≡ f.nodes → All (halves.IsSection nodes) vs
-  workers_fit nodes is = rw is (vectors_fit f.nodes vs script.workers are fits.workers)
-
-  pub can_run : CanRun mid 1 vs
-  can_run = grind (arith, count_vs, workers_fit)
-
-  module _ (ran : Fronts) (ws : List SectionOutcome) (r : RangeDone 1 mid ran vs ws) where
-    pub ran_fit : All (halves.IsSection ran.nodes) vs
+  module _ (ran : Fronts) (ws : List SectionOutcome) (r : RangeDone 1 mid ran script.workers ws) where
+    pub ran_fit : All (halves.IsSection ran.nodes) script.workers
     ran_fit = workers_fit ran.nodes (r.same.nodes ∙ begins.same.nodes)
 
-    pub ran_callers : ran.callers ≡ 1 + length vs
-    ran_callers = r.same.callers ∙ begins.same.callers ∙ new.callers ∙ ap (λ k. 1 + k) (sym count_vs)
+    pub ran_callers : ran.callers ≡ 1 + length script.workers
+    ran_callers = r.same.callers ∙ begins.same.callers ∙ new.callers
 
     pub ran_all : HoldsAllCallers ran
     ran_all = record { low = r.first ∙ begins.same.first ∙ new.first; high = r.end ∙ begins.same.end ∙ new.end ∙ sym new.callers ∙ sym begins.same.callers ∙ sym r.same.callers }
 
-    pub few_vs : length vs ≤ max_workers
-    few_vs = omega (arith, count_vs, fits.most)
-
-    module _ (end : Fronts) (xs : List SectionOutcome) (goes : GoesFrom 1 ran end) (work : AllWork 1 mid end vs xs) (order : InOrder 1 ran end vs ws xs) where
+    module _ (end : Fronts) (xs : List SectionOutcome) (goes : GoesFrom 1 ran end) (work : AllWork 1 mid end script.workers xs) (order : InOrder 1 ran end script.workers ws xs) where
       pub few_done : length xs ≤ max_workers
-      few_done = let same = all_work-length 1 mid end vs xs work in omega (arith, same, few_vs)
+      few_done = let same = all_work-length 1 mid end script.workers xs work in omega (arith, same, fits.most)
 
       pub runs_to : (setup : SectionOutcome) (sections : List SectionLog) → Works 0 f mid script.setup setup → IsDoneFor setup → All IsDoneFor xs → sections ≡ numbered 0 (setup ∷ xs) → RunsTo f end script sections
       runs_to setup sections works setup-done done told = record {
         between = mid;
         setup = setup;
-        vectors = vs;
         workers = xs;
         begins = begins;
         setup_works = works;
         setup_done = setup-done;
-        are = are;
         postponed = ran;
         started = ws;
         side_by_side = r;
         ascending = order;
-        goes = goes_from_trans 1 mid ran end (goes_from_ran 1 mid ran vs ws r) goes;
+        goes = goes_from_trans 1 mid ran end (goes_from_ran 1 mid ran script.workers ws r) goes;
         workers_work = work;
         workers_done = done;
         told = told;
       }
 
 -- an element by its index
-pub at_index : (vs : List (Vec Command Global)) (v : Vec Command Global) (i n : ℕ) → i ≡ n → n < length vs → v ≡ get_or vs i v → slice_get vs n ≡ Some v
+pub at_index : (vs : List (List Command)) (v : List Command) (i n : ℕ) → i ≡ n → n < length vs → v ≡ get_or vs i v → slice_get vs n ≡ Some v
 at_index vs v i n e lt is = subst (λ k. slice_get vs k ≡ Some v) e (slice_get_read vs (length vs) i v refl (omega (arith, e, lt)) is)
 
 -- what became of the answers is the same by section as by worker

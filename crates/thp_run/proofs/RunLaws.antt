@@ -1,6 +1,5 @@
 -- From the sections that a holder of all callers did to a run of the script.
-use Rattle.std.proofs.Common.{◌≡◌, ◌∙◌, ◌⊎◌, ◌++◌, ◌+◌, ◌<◌, ◌≤◌, ap, ℕ, zero, suc, true, false, List, [], ◌∷◌, length, get_or, map, refl, sym, subst, inl, inr, arith, Some, None, All, Vec, nat_eq, slice_get, filter}
-use Rattle.std.specs.declared.alloc.Global.{Global}
+use Rattle.std.proofs.Common.{◌≡◌, ◌∙◌, ◌⊎◌, ◌++◌, ◌+◌, ◌<◌, ◌≤◌, ap, ℕ, zero, suc, true, false, List, [], ◌∷◌, length, get_or, map, refl, sym, subst, inl, inr, arith, Some, None, All, nat_eq, slice_get, filter}
 use Rattle.std.proofs.lemmas.Bool.{cases_lt, eq-eqb, ne_eqb}
 use Rattle.std.proofs.lemmas.Grind.{flat_map-append}
 use Rattle.std.proofs.lemmas.List.{append-nil, length-map}
@@ -18,7 +17,7 @@ use Rattle.thp_worker.specs.declared.reply.SectionOutcome.{SectionOutcome}
 use Rattle.thp_worker.specs.Prelude.{Fronts, HoldsCaller, SameHolding, SameNodes, AllWork, KnowsOf, Turn, IsTurn, Steps, Carries, Works, WorksTo, IsDoneFor, command_of, steps_of, own_events, batches_after, closing}
 use Rattle.thp_worker.proofs.StepLaws.{is_made_stays}
 use Rattle.thp_run.specs.Runs.{IsAnswered, IsRun, IsSection, no_batches, sections_of}
-use Rattle.thp_run.specs.Sections.{IsNew, RunsTo, commands_in, numbered}
+use Rattle.thp_run.specs.Sections.{IsNew, RunsTo, numbered}
 
 -- where callers 1 and on did nothing, all events are caller 0's
 all_by_setup : (callers : ℕ) (h : History) → All (λ (e : Event). e.caller < callers) h → ((c : ℕ) → 0 < c → c < callers → events_of c h ≡ []) → events_of 0 h ≡ h
@@ -109,7 +108,7 @@ length-numbered : (k : ℕ) (ws : List SectionOutcome) → length (numbered k ws
 length-numbered k [] = refl
 length-numbered k (w ∷ ws) = ap suc (length-numbered (k + 1) ws)
 
-pub all_work-length : (c : ℕ) (old new : Fronts) (vs : List (Vec Command Global)) (ws : List SectionOutcome) → AllWork c old new vs ws → length vs ≡ length ws
+pub all_work-length : (c : ℕ) (old new : Fronts) (vs : List (List Command)) (ws : List SectionOutcome) → AllWork c old new vs ws → length vs ≡ length ws
 unfolding AllWork
 all_work-length c old new [] [] a = refl
 all_work-length c old new [] (w ∷ ws) a = absurd a
@@ -126,7 +125,7 @@ record At (c k : ℕ) (old new : Fronts) (commands : List Command) (section : Se
 some_inner : {A : Type 0} (a b : A) → Some a ≡ Some b → a ≡ b
 some_inner a b e = cc
 
-work_at : (c k : ℕ) (old new : Fronts) (vs : List (Vec Command Global)) (ws : List SectionOutcome) (commands : List Command) (section : SectionLog) → AllWork c old new vs ws → All IsDoneFor ws → slice_get (commands_in vs) k ≡ Some commands → slice_get (numbered c ws) k ≡ Some section → At c k old new commands section
+work_at : (c k : ℕ) (old new : Fronts) (vs : List (List Command)) (ws : List SectionOutcome) (commands : List Command) (section : SectionLog) → AllWork c old new vs ws → All IsDoneFor ws → slice_get vs k ≡ Some commands → slice_get (numbered c ws) k ≡ Some section → At c k old new commands section
 unfolding AllWork
 work_at c k old new [] ws commands section a done at-commands at = absurd (cc)
 work_at c k old new (v ∷ vs) [] commands section a done at-commands at = absurd a
@@ -135,7 +134,7 @@ work_at c zero old new (v ∷ vs) (w ∷ ws) commands section a done at-commands
     record {
       worked = w;
       is = sym (some_inner (record { worker = c; answers = w.answers }) section at) ∙ ap (λ k. record { worker = k; answers = w.answers }) (sym place);
-      works = subst (λ vs. Works (c + 0) old new vs w) (some_inner v.items commands at-commands) (rw place a.0);
+      works = subst (λ vs. Works (c + 0) old new vs w) (some_inner v commands at-commands) (rw place a.0);
       done = All-head IsDoneFor w ws done;
     }
 work_at c (suc k) old new (v ∷ vs) (w ∷ ws) commands section a done at-commands at =
@@ -189,7 +188,7 @@ module _ (f g : Fronts) (script : Script) (sections : List SectionLog) (new : Is
   worker_section c commands w some lt works done = grind (arith, section_by, idle, shut, setup_part)
 
   workers_are : length r.workers ≡ length script.workers
-  workers_are = sym (all_work-length 1 r.between g r.vectors r.workers r.workers_work) ∙ sym (length-map r.vectors (λ (v : Vec Command Global). v.items)) ∙ ap length r.are
+  workers_are = sym (all_work-length 1 r.between g script.workers r.workers r.workers_work)
 
   answered : (k : ℕ) (commands : List Command) (section : SectionLog) → slice_get (sections_of script) k ≡ Some commands → slice_get (numbered 0 (r.setup ∷ r.workers)) k ≡ Some section → IsAnswered f.nodes f.shape g.front k commands section
   answered zero commands section at-commands at =
@@ -199,7 +198,7 @@ module _ (f g : Fronts) (script : Script) (sections : List SectionLog) (new : Is
         done = subst (λ cs. IsSection f.nodes f.shape g.front 0 cs r.setup.answers.items) (some_inner script.setup commands at-commands) setup_section;
       })
   answered (suc k) commands section at-commands at =
-      let here = work_at 1 k r.between g r.vectors r.workers commands section r.workers_work r.workers_done (ap (λ l. slice_get l k) r.are ∙ at-commands) at in
+      let here = work_at 1 k r.between g script.workers r.workers commands section r.workers_work r.workers_done at-commands at in
       let lt = within script.workers k commands at-commands in
       let place : 1 + k ≡ suc k = omega arith in
       let done = worker_section (1 + k) commands here.worked (omega arith) (omega (arith, lt)) here.works here.done in

@@ -4,6 +4,7 @@ use Rattle.std.proofs.lemmas.List.{length-map}
 use Rattle.std.proofs.lemmas.List.Elements.{All-nil, All-cons, All-head, All-tail}
 use Rattle.std.proofs.lemmas.Option.{get_or_from_slice_get, slice_get-get_or, slice_get_within}
 use Rattle.thp_history.specs.declared.events.Event.{Event}
+use Rattle.atomic_table.specs.Seated.{TableId}
 use Rattle.thp_node.specs.Prelude.{NodeState}
 use Rattle.thp_cell.specs.Prelude.{AllBelow, PassState}
 use Rattle.thp_script.specs.declared.script.Command.{Command}
@@ -17,25 +18,16 @@ use Rattle.thp_worker.specs.declared.reply.SectionLog.{SectionLog}
 use Rattle.thp_worker.specs.Prelude.{IsFit, Fronts, Held, Agree, Passes, batch_in, cell_in, front_in, fronts_in, fronts_of, shape_in, IsCommandFor}
 use Rattle.thp_run.specs.NewNodes.{AreNodesFor, histories_of, journal_in, shapes_of}
 use Rattle.thp_run.specs.NewNodes as new
+use Rattle.thp_run.specs.InParts.{AreNew}
 use Rattle.thp_run.specs.Runs.{IsRun}
 use Rattle.thp_run.specs.Sections.{IsFitScript, IsNew, RunsTo}
-use Rattle.thp_run.specs.Sharing.{AreFew, IsFresh, IsNodeOf, IsRoot, IsUnused, IsWhole, Pairs, RunsOn, cell_of, front_at, pass_of, shape_at}
+use Rattle.thp_run.specs.Sharing.{AreFew, IsFresh, IsNodeOf, IsUnused, IsWhole, Pairs, RunsOn, cell_of, front_at, pass_of, shape_at}
 use Rattle.thp_run.proofs.NodeLaws.{pairs_at, pairs_length, pairs_map, pairs_same}
 use Rattle.thp_run.proofs.RunLaws.{run_of}
 
 -- what holds of all holds at a place
 all_at : {A : Type 0} (P : A → Type 0) (xs : List A) (n : ℕ) (x : A) → All P xs → slice_get xs n ≡ Some x → P x
 all_at P xs n x all at = subst P (get_or_from_slice_get xs n x x at) (all n x (slice_get_within xs n x at))
-
--- passes of nodes on which nothing happened
-pub roots_fresh : (callers : ℕ) (nodes : List NodeState) (ps : List PassState) → Pairs (IsRoot callers) nodes ps → All (λ (node : NodeState). node.journal ≡ []) nodes → All (IsFresh callers) ps
-unfolding Pairs
-roots_fresh callers [] [] p new = All-nil (IsFresh callers)
-roots_fresh callers [] (x ∷ ps) p new = absurd p
-roots_fresh callers (node ∷ nodes) [] p new = absurd p
-roots_fresh callers (node ∷ nodes) (x ∷ ps) p new = All-cons (IsFresh callers) x ps
-    (record { whole = p.0.whole; front = p.0.front ∙ All-head (λ (node : NodeState). node.journal ≡ []) node nodes new })
-    (roots_fresh callers nodes ps p.1 (All-tail (λ (node : NodeState). node.journal ≡ []) node nodes new))
 
 pub fresh_some : (callers : ℕ) (ps : List PassState) → All (IsFresh callers) ps → All (λ (p : PassState). p.first ≤ p.end) ps
 fresh_some callers ps fresh = λ k d lt. let one = fresh k d lt in let first = one.whole.first_is in omega (arith, first)
@@ -139,27 +131,24 @@ events_below callers (x ∷ ps) (node ∷ nodes) p whole zero =
     subst (λ n. AllBelow n x.front) one.callers_are own
 events_below callers (x ∷ ps) (node ∷ nodes) p whole (suc n) = events_below callers ps nodes p.1 (All-tail (IsWhole callers) x ps whole) n
 
-module _ (s : Settings) (script : Script) (callers : ℕ) (first : List NodeState) (old new-passes : List PassState) (nodes : List NodeState) (sections : List SectionLog)
-    (asked : AreNodesFor s first) (roots : Pairs (IsRoot callers) first old) (run : RunsOn old new-passes script sections) (ends : Pairs IsNodeOf new-passes nodes) where
+module _ (s : Settings) (script : Script) (cells : List TableId) (old new-passes : List PassState) (nodes : List NodeState) (sections : List SectionLog)
+    (began : AreNew s cells old) (run : RunsOn old new-passes script sections) (ends : Pairs IsNodeOf new-passes nodes) where
   count : length nodes ≡ s.nodes
-  count = sym (pairs_length IsNodeOf new-passes nodes ends) ∙ run.count ∙ sym (pairs_length (IsRoot callers) first old roots) ∙ asked.count
+  count = sym (pairs_length IsNodeOf new-passes nodes ends) ∙ run.count ∙ began.count
 
   shapes_same : (n : ℕ) → run.before.shape n ≡ shapes_of nodes n
   shapes_same n =
       sym (ap (λ shape. shape n) (run.runs.goes.same.shape ∙ run.runs.begins.same.shape)) ∙ run.shapes n ∙ pairs_same IsNodeOf shape_at new.shape_in refl (λ p node r. sym r.shape) new-passes nodes ends n
-
-  shapes_first : (n : ℕ) → run.before.shape n ≡ shapes_of first n
-  shapes_first n = run.shapes_before n ∙ sym (pairs_same (IsRoot callers) new.shape_in shape_at refl (λ node p r. sym r.shape) first old roots n)
 
   pub nodes_asked : AreNodesFor s nodes
   nodes_asked = record {
     count = count;
     shapes = λ n node at.
         let within = slice_get_within nodes n node at in
-        let there = slice_get-get_or first n node (omega (arith, within, count, asked.count)) in
+        let later = pairs_at IsNodeOf new-passes nodes n node ends at in
+        let there = slice_get-get_or old n later.0 (omega (arith, within, count, began.count)) in
         let here : shapes_of nodes n ≡ node.shape = ap new.shape_in at in
-        let was : shapes_of first n ≡ (get_or first n node).shape = ap new.shape_in there in
-        sym here ∙ sym (shapes_same n) ∙ shapes_first n ∙ was ∙ asked.shapes n (get_or first n node) there;
+        sym here ∙ sym (shapes_same n) ∙ run.shapes_before n ∙ ap shape_at there ∙ began.shapes n (get_or old n later.0) there;
   }
 
   fronts_same : (n : ℕ) → run.after.front n ≡ histories_of nodes n
@@ -171,7 +160,7 @@ module _ (s : Settings) (script : Script) (callers : ℕ) (first : List NodeStat
   pub is_run : IsRun s.nodes (shapes_of nodes) script (histories_of nodes) sections
   is_run =
       let by = run_of run.before run.after script sections run.starts run.runs below in
-      let counted : run.before.nodes ≡ s.nodes = run.nodes ∙ sym (pairs_length (IsRoot callers) first old roots) ∙ asked.count in
+      let counted : run.before.nodes ≡ s.nodes = run.nodes ∙ began.count in
       let a = subst (λ k. IsRun k run.before.shape script run.after.front sections) counted by in
       let b = subst (λ shape. IsRun s.nodes shape script run.after.front sections) (λ i n. shapes_same n i) a in
       subst (λ history. IsRun s.nodes (shapes_of nodes) script history sections) (λ i n. fronts_same n i) b

@@ -12,7 +12,7 @@ use Rattle.thp_worker.specs.declared.reply.Answer.{Answer}
 use Rattle.thp_worker.specs.declared.reply.Reply.{Reply}
 use Rattle.thp_worker.specs.declared.reply.Reply.TheVariants as reply
 use Rattle.thp_worker.specs.declared.reply.SectionLog.{SectionLog}
-use Rattle.thp_worker.specs.Prelude.{Reaction}
+use Rattle.thp_worker.specs.Prelude.{Reaction, stored}
 
 -- why a command was refused; there is no word for lack of memory, which ends a run without a report
 abbrev pub refusal_word : Refusal → List ℕ
@@ -84,3 +84,7 @@ section_text shapes section = flat_map (answer_line shapes section.worker) secti
 -- the answers of all sections, in order, on nodes of these shapes
 unfoldable pub answers_text : List Shape → List SectionLog → List ℕ
 answers_text shapes sections = flat_map (section_text shapes) sections
+
+-- the section with those of its answers that are stored: all or none
+abbrev pub with_stored : SectionLog → SectionLog
+with_stored s = record s { answers = record s.answers { items = stored s.answers } }

@@ -1,22 +1,20 @@
 -- Runs of a script whose `setup` arrives in parts.
-use Rattle.std.specs.Prelude.{◌≡◌, ◌+◌, List, [], All, map}
+use Rattle.std.specs.Prelude.{◌≡◌, ◌+◌, ℕ, List, All, Some, length, map, slice_get}
 use Rattle.atomic_table.specs.Seated.{TableId}
-use Rattle.thp_node.specs.Prelude.{NodeState}
 use Rattle.thp_cell.specs.Prelude.{PassState}
 use Rattle.thp_script.specs.declared.script.Command.{Command}
 use Rattle.thp_script.specs.declared.settings.Settings.{Settings}
 use Rattle.thp_worker.specs.declared.in_parts.SectionInParts.{SectionInParts}
 use Rattle.thp_worker.specs.Prelude.{Fronts, Goes, Held, DidFirst, fronts_in}
-use Rattle.thp_run.specs.NewNodes.{AreNodesFor}
-use Rattle.thp_run.specs.Sharing.{cell_of, IsRoot, IsUnused, Pairs}
+use Rattle.thp_run.specs.NewNodes.{shape_of}
+use Rattle.thp_run.specs.Sharing.{cell_of, IsFresh, IsUnused, Pairs}
 
--- new nodes in cells, as the settings describe, and the passes that have all of their callers
+-- the cells of new nodes, as the settings describe, and the passes that have all of their callers
 pub record AreNew (s : Settings) (cells : List TableId) (passes : List PassState) : Type 0 where
-  pub nodes : List NodeState
-  pub asked : AreNodesFor s nodes
-  pub new : All (λ (node : NodeState). node.journal ≡ []) nodes
+  pub count : length passes ≡ s.nodes
+  pub shapes : (n : ℕ) (p : PassState) → slice_get passes n ≡ Some p → p.shape ≡ shape_of s n
+  pub fresh : All (IsFresh (s.workers + 1)) passes
   pub in_cells : map cell_of passes ≡ cells
-  pub roots : Pairs (IsRoot (s.workers + 1)) nodes passes
 
 -- the passes' knowledge of the nodes before the first step: no caller has an open batch
 pub record StartsOn (s : Settings) (passes : List PassState) (f : Fronts) : Type 0 where

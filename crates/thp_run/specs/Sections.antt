@@ -1,6 +1,5 @@
 -- All sections of a script, executed by the holder of all callers of the nodes.
-use Rattle.std.specs.Prelude.{◌≡◌, ℕ, ◌+◌, ◌<◌, ◌≤◌, ◌^◌, List, [], ◌∷◌, ◌++◌, All, None, length, map, Vec}
-use Rattle.std.specs.declared.alloc.Global.{Global}
+use Rattle.std.specs.Prelude.{◌≡◌, ℕ, ◌+◌, ◌<◌, ◌≤◌, ◌^◌, List, [], ◌∷◌, ◌++◌, All, None, length}
 use Rattle.thp_history.specs.Prelude.{History, IsLegal}
 use Rattle.thp_script.specs.declared.script.Command.{Command}
 use Rattle.thp_script.specs.declared.script.Script.{Script}
@@ -8,7 +7,7 @@ use Rattle.thp_script.specs.Prelude.{max_workers}
 use Rattle.thp_worker.specs.declared.answer_log.Answers.{Answers}
 use Rattle.thp_worker.specs.declared.reply.SectionLog.{SectionLog}
 use Rattle.thp_worker.specs.declared.reply.SectionOutcome.{SectionOutcome}
-use Rattle.thp_worker.specs.Prelude.{Fronts, Goes, HoldsCaller, SameHolding, AllWork, KnowsOf, RangeDone, IsCommandFor, IsDoneFor, Works}
+use Rattle.thp_worker.specs.Prelude.{Fronts, Goes, HoldsCaller, SameHolding, AllWork, KnowsOf, RangeDone, IsDoneFor, IsSection, Works}
 
 -- nodes without events, held with caller 0 and a caller for each worker
 pub record IsNew (workers : ℕ) (f : Fronts) : Type 0 where
@@ -18,15 +17,10 @@ pub record IsNew (workers : ℕ) (f : Fronts) : Type 0 where
   pub end : f.end ≡ 1 + workers
   pub callers : f.callers ≡ 1 + workers
 
--- few commands, each for an existing node
-pub record IsFitSection (nodes : ℕ) (commands : List Command) : Type 0 where
-  pub few : length commands < 2 ^ 32
-  pub fit : All (IsCommandFor nodes) commands
-
 -- a script for so many nodes, with at least one worker and at most the greatest number
 pub record IsFitScript (nodes : ℕ) (script : Script) : Type 0 where
-  pub setup : IsFitSection nodes script.setup
-  pub workers : All (IsFitSection nodes) script.workers
+  pub setup : IsSection nodes script.setup
+  pub workers : All (IsSection nodes) script.workers
   pub some : 0 < length script.workers
   pub most : length script.workers ≤ max_workers
 
@@ -36,10 +30,6 @@ pub record GoesFrom (from : ℕ) (old new : Fronts) : Type 0 where
   pub grown : (n : ℕ) → (more : History) × (new.front n ≡ old.front n ++ more)
   pub others : (c : ℕ) → HoldsCaller old c → c < from → KnowsOf c old new
   pub legal : (n : ℕ) → IsLegal (old.shape n) (old.front n) → IsLegal (old.shape n) (new.front n)
-
--- the workers' commands as vectors
-abbrev pub commands_in : List (Vec Command Global) → List (List Command)
-commands_in workers = map (λ (v : Vec Command Global). v.items) workers
 
 -- what happened to the section's answers
 abbrev pub SectionAnswersAre : Answers → SectionLog → Type 0
@@ -52,10 +42,10 @@ numbered k (w ∷ ws) = record { worker = k; answers = w.answers } ∷ numbered 
 
 -- The rest of the sections of the workers from c on was executed, one worker after another: each began where the one before it
 -- had ended.
-unfoldable pub InOrder : ℕ → Fronts → Fronts → List (Vec Command Global) → List SectionOutcome → List SectionOutcome → Type 0
+unfoldable pub InOrder : ℕ → Fronts → Fronts → List (List Command) → List SectionOutcome → List SectionOutcome → Type 0
 InOrder c old new [] [] [] = new ≡ old
 InOrder c old new (v ∷ vs) (w ∷ ws) (d ∷ ds) =
-    (next : Fronts) × Goes c old next × ((first : Fronts) → Works c first old v.items w → Works c first next v.items d) × InOrder (c + 1) next new vs ws ds
+    (next : Fronts) × Goes c old next × ((first : Fronts) → Works c first old v w → Works c first next v d) × InOrder (c + 1) next new vs ws ds
 InOrder _ _ _ _ _ _ = ⊥
 
 -- the whole of setup was executed, and then the workers' sections: concurrently, followed by the postponed commands, workers in
@@ -63,18 +53,16 @@ InOrder _ _ _ _ _ _ = ⊥
 pub record RunsTo (old new : Fronts) (script : Script) (sections : List SectionLog) : Type 0 where
   pub between : Fronts
   pub setup : SectionOutcome
-  pub vectors : List (Vec Command Global)
   pub workers : List SectionOutcome
   pub begins : Goes 0 old between
   pub setup_works : Works 0 old between script.setup setup
   pub setup_done : IsDoneFor setup
-  pub are : commands_in vectors ≡ script.workers
   pub postponed : Fronts
   pub started : List SectionOutcome
-  pub side_by_side : RangeDone 1 between postponed vectors started
-  pub ascending : InOrder 1 postponed new vectors started workers
+  pub side_by_side : RangeDone 1 between postponed script.workers started
+  pub ascending : InOrder 1 postponed new script.workers started workers
   pub goes : GoesFrom 1 between new
-  pub workers_work : AllWork 1 between new vectors workers
+  pub workers_work : AllWork 1 between new script.workers workers
   pub workers_done : All IsDoneFor workers
   pub told : sections ≡ numbered 0 (setup ∷ workers)
 

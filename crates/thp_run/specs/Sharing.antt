@@ -28,12 +28,6 @@ pub record IsWhole (callers : ℕ) (p : PassState) : Type 0 where
   pub first_is : p.first ≡ 0
   pub end_is : p.end ≡ callers
 
--- the pass has all callers of the node's cell, and knows its journal
-pub record IsRoot (callers : ℕ) (node : NodeState) (p : PassState) : Type 0 where
-  pub whole : IsWhole callers p
-  pub shape : p.shape ≡ node.shape
-  pub front : p.front ≡ node.journal
-
 -- the pass has all of so many callers, of a node without events
 pub record IsFresh (callers : ℕ) (p : PassState) : Type 0 where
   pub whole : IsWhole callers p

@@ -1,15 +1,16 @@
 //! The text of answers, produced in parts in one buffer.
 ghost use Rattle.std.specs.Prelude.{◌≡◌, ◌<◌, ◌≤◌, ◌+◌, ◌++◌, [], IfOk, IfSome, MatchOption, drop, length, map, vec_capacity, vec_len};
 ghost use Rattle.std.specs.List.{flat_map};
-ghost use Rattle.thp_run.specs.Answers.{answer_line, answers_text};
+ghost use Rattle.thp_run.specs.Answers.{answer_line, answers_text, with_stored};
 ghost use Rattle.thp_run.specs.Parts.{full_part, line_room};
 ghost use Rattle.thp_run.specs.Reports.{shape_of};
+ghost use Rattle.thp_worker.specs.Prelude.{stored};
 
 use crate::answers::put_answer;
 use std::alloc::{AllocError, Global};
 use std::marker::Model;
 use thp_node::{Node, Recorder};
-use thp_worker::{KeptAnswers, KeptSection};
+use thp_worker::{AnswerLog, SectionLog};
 
 // A part of this many bytes is full: no further line is added.
 const FULL_PART: usize = 65_536;
@@ -17,12 +18,12 @@ const FULL_PART: usize = 65_536;
 // The greatest length of a line.
 const MAX_LINE: usize = 4_145;
 
-/// The text of the answers of sections, whose parts are produced one by one. Contracts see the current part, and the rest of the
+/// The text of the answers that sections store, whose parts are produced one by one. Contracts see the current part, and the rest of the
 /// text after it.
 #[derive(Drop)]
 pub struct AnswerParts<'a, R: Recorder> {
     nodes: &'a [Node<R>],
-    sections: &'a [KeptSection],
+    sections: &'a [SectionLog],
     // the next answer: its section, and its index there
     section: usize,
     place: usize,
@@ -32,12 +33,13 @@ pub struct AnswerParts<'a, R: Recorder> {
 
 impl<'a, R: Recorder> Model for AnswerParts<'a, R> {
     ghost use Rattle.std.specs.Prelude.{◌≤◌, ◌+◌, drop, map, vec_capacity};
+    ghost use Rattle.thp_run.specs.Answers.{with_stored};
     ghost use Rattle.thp_run.specs.Parts.{full_part, line_room, text_from, AnswersLeft};
     ghost use Rattle.thp_run.specs.Reports.{shape_of};
 
     ghost Value = { AnswersLeft };
 
-    ghost view = { λ p. record { part = p.part.items; rest = text_from (map shape_of p.nodes.now) p.place (drop p.section p.sections.now) } };
+    ghost view = { λ p. record { part = p.part.items; rest = text_from (map shape_of p.nodes.now) p.place (map with_stored (drop p.section p.sections.now)) } };
 
     ghost invariant = { λ p. full_part + line_room ≤ vec_capacity p.part };
 }
@@ -47,9 +49,9 @@ impl<'a, R: Recorder> AnswerParts<'a, R> {
     pub fn new(
         alloc: Global,
         nodes: &'a [Node<R>],
-        sections: &'a [KeptSection],
+        sections: &'a [SectionLog],
     ) -> Result<AnswerParts<'a, R>, AllocError>
-        ensures { IfOk result (λ parts. parts.rest ≡ answers_text (map shape_of nodes.now) sections.now) }
+        ensures { IfOk result (λ parts. parts.rest ≡ answers_text (map shape_of nodes.now) (map with_stored sections.now)) }
     {
         Ok(AnswerParts {
             nodes,
@@ -99,17 +101,17 @@ fn put_from<R: Recorder>(
     part: &mut Vec<u8>,
     nodes: &[Node<R>],
     worker: u32,
-    answers: &KeptAnswers,
+    answers: &AnswerLog,
     from: usize,
 ) -> Option<usize>
     requires room { full_part + line_room ≤ vec_capacity part.old }
     requires most { vec_len part.old < full_part + line_room }
-    ensures text { let line = answer_line (map shape_of nodes.now) worker in MatchOption result (part.new.items ≡ part.old.items ++ flat_map line (drop from answers.now.items)) (λ place. part.new.items ++ flat_map line (drop place answers.now.items) ≡ part.old.items ++ flat_map line (drop from answers.now.items)) }
+    ensures text { let line = answer_line (map shape_of nodes.now) worker in MatchOption result (part.new.items ≡ part.old.items ++ flat_map line (drop from (stored answers.now))) (λ place. part.new.items ++ flat_map line (drop place (stored answers.now)) ≡ part.old.items ++ flat_map line (drop from (stored answers.now))) }
     ensures full { IfSome result (λ _. full_part ≤ vec_len part.new) }
     ensures most { vec_len part.new < full_part + line_room }
     ensures room { full_part + line_room ≤ vec_capacity part.new }
 {
-    for place in from..answers.len() {
+    for place in from..answers.stored_len() {
         if part.len() >= FULL_PART {
             return Some(place);
         }

@@ -2,48 +2,46 @@
 ghost use Rattle.std.specs.Prelude.{◌≡◌, ◌+◌, ◌++◌, ◌≤◌, ◌∷◌, [], OnOk, IfOk, codes, length, map};
 ghost use Rattle.std.specs.Fmt.{decimal};
 ghost use Rattle.thp_journal_writer.specs.Prelude.{line_of, ended, number_room, outcome_room, Takes};
-ghost use Rattle.thp_run.specs.Answers.{refusal_word, tried_words, back_words, scan_words, used_words, reply_words, looks, answer_line, section_text, answers_text as text_of};
+ghost use Rattle.thp_run.specs.Answers.{refusal_word, tried_words, back_words, scan_words, used_words, reply_words, looks, answer_line, section_text, with_stored, answers_text as text_of};
 ghost use Rattle.thp_run.specs.Parts.{line_room};
 ghost use Rattle.thp_run.specs.Reports.{shape_of};
-ghost use Rattle.thp_worker.specs.Prelude.{kept_log};
 
 use std::alloc::{AllocError, Global};
 use thp_history::Refusal;
 use thp_journal_writer::{put, put_number, put_outcome};
 use thp_node::{Node, Recorder, ScanReply, Tried};
-use thp_worker::{Answer, KeptAnswers, KeptSection, Reply};
+use thp_worker::{Answer, Reply, SectionLog};
 
-/// Returns the answers of the sections, in order, one line each. The nodes need not store their events.
+/// Returns the answers of the sections that are stored, in order, one line each. The nodes need not store their events.
 #[tactic(auto, unfolding(crate::specs::Answers::answers_text))]
 pub fn answers_text<R: Recorder>(
     alloc: Global,
     nodes: &[Node<R>],
-    sections: &[KeptSection],
+    sections: &[SectionLog],
 ) -> Result<Vec<u8>, AllocError>
-    ensures { IfOk result (λ text. text.items ≡ text_of (map shape_of nodes.now) sections.now) }
+    ensures { IfOk result (λ text. text.items ≡ text_of (map shape_of nodes.now) (map with_stored sections.now)) }
 {
     let mut text = Vec::new(alloc);
     for section in sections {
-        put_section(&mut text, nodes, section.worker, &section.answers)?;
+        put_section(&mut text, nodes, section)?;
     }
     Ok(text)
 }
 
-// the answers of a worker's section
+// the answers of a worker's section that are stored
 #[tactic(auto, unfolding(crate::specs::Answers::section_text))]
 fn put_section<R: Recorder>(
     text: &mut Vec<u8>,
     nodes: &[Node<R>],
-    worker: u32,
-    answers: &KeptAnswers,
+    section: &SectionLog,
 ) -> Result<(), AllocError>
-    ensures { OnOk result (text.new.items ≡ text.old.items ++ section_text (map shape_of nodes.now) (record { worker = worker; answers = kept_log answers.now })) }
+    ensures { OnOk result (text.new.items ≡ text.old.items ++ section_text (map shape_of nodes.now) (with_stored section.now)) }
 {
-    for place in 0..answers.len() {
-        let Some(answer) = answers.get(place) else {
+    for place in 0..section.answers.stored_len() {
+        let Some(answer) = section.answers.get(place) else {
             unreachable!();
         };
-        put_answer(text, nodes, worker, &answer)?;
+        put_answer(text, nodes, section.worker, &answer)?;
     }
     Ok(())
 }

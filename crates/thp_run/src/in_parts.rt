@@ -13,10 +13,9 @@ ghost use Rattle.thp_run.specs.Runs.{IsRun};
 ghost use Rattle.thp_run.specs.Sections.{SectionAnswersAre};
 ghost use Rattle.thp_run.specs.Sharing.{AreFew, RunsOn};
 
-use crate::nodes::new_nodes;
 use crate::run_result::RunResult;
 use crate::sections::run_workers_after;
-use crate::sharing::{close, finish, open, share};
+use crate::sharing::{close, finish, open};
 use std::alloc::{AllocError, Global};
 use std::thread::Threads;
 use thp_cell::{NodeCell, Pass};
@@ -26,17 +25,6 @@ use thp_worker::{
     Answers, Gate, NodePasses, Passes, SectionInParts, SectionLog, begin_section, do_commands,
     end_section,
 };
-
-/// Creates nodes that record their events in an `N`, each in a cell, and the passes that have all of their callers.
-pub fn new_cells<N: Recorder>(
-    alloc: Global,
-    settings: &Settings,
-) -> Result<(Vec<NodeCell<N>>, Vec<Pass<N>>), AllocError>
-    ensures { IfOk result (λ r. AreNew settings.now r.0.items r.1.items) }
-{
-    let nodes = new_nodes(alloc, settings)?;
-    share(alloc, nodes, settings.workers + 1)
-}
 
 /// Begins a run on new nodes, before the first command of `setup`. The passes keep the nodes for it.
 pub fn begin_run<'a, N: Recorder>(

@@ -6,7 +6,7 @@
 //!   answers are those of the steps. `Sections` has its phases: `setup`, the workers, what they postponed.
 //! - `in_parts` (`InParts`, proof `BegunRunLaws`): a run whose `setup` arrives in parts, none of which is stored; `run_result`:
 //!   its nodes and answers. `script_run`: the same for a script in memory. `sections` (`do_rest`: postponed commands, workers
-//!   ascending). `nodes` (`NewNodes`): new nodes. `sharing` (`Sharing`): cells, and passes with all callers.
+//!   ascending). `nodes` (`NewNodes`): new nodes in cells. `sharing` (`Sharing`): passes with all callers.
 //! - `script_in_progress` (`ScriptInProgress`): `setup` is done as it is read.
 //! - `report`, `totals`, `answers`: a report as text, a function of the nodes' shapes and histories and of the sections' answers:
 //!   `report_of` (`Reports`), over `Answers`, and `Totals` and `Journals` of `thp_journal_writer`. No block appears in it.

@@ -3,9 +3,9 @@
 ghost use Rattle.std.specs.Prelude.{◌≡◌, ◌+◌, ◌<◌, ◌≤◌, ◌^◌, ◌++◌, ◌∷◌, [], All, IfOk, OnOk, Some, length, map, slice_get};
 ghost use Rattle.thp_run.specs.Reports.{report_of, told_of};
 ghost use Rattle.thp_run.specs.Listed.{section_of, sections_of, IsWhole, WorksOn};
-ghost use Rattle.thp_worker.specs.Prelude.{Fronts, Goes, HoldsAllCallers, HoldsCaller, HasNoBatch, IsCommandFor};
+ghost use Rattle.thp_worker.specs.Prelude.{Fronts, Goes, HoldsAllCallers, HoldsCaller, HasNoBatch, IsCommandFor, stored};
 ghost use Rattle.thp_worker.specs.declared.answer_log.Answers.TheVariants.{Kept};
-ghost use Rattle.thp_worker.specs.declared.reply.Answer.{Answer as KeptAnswer};
+ghost use Rattle.thp_worker.specs.declared.reply.Answer.{Answer as StoredAnswer};
 
 use crate::report::report_of_logs;
 use std::alloc::{AllocError, Global};
@@ -13,7 +13,9 @@ use std::marker::Model;
 use thp_history::Refusal;
 use thp_node::{Node, Tried};
 use thp_script::{Command, Settings};
-use thp_worker::{Answer, AnswerLog, Answers, Gate, KeptAnswers, KeptSection, Reply, Rest, Steps};
+use thp_worker::{
+    Answer, AnswerLog, Answers, Gate, Reply, Rest, SectionLog, SectionOutcome, Steps,
+};
 
 /// The result of a section: the answers to its commands, in order, and the place where it stopped, if it did.
 #[derive(Debug, Drop)]
@@ -135,7 +137,7 @@ pub fn work_rest<S: Steps>(
     let room = commands.len().max(answers.len());
     let list = Vec::with_capacity(alloc, room)?;
     let log = to_log(alloc, room, answers.as_slice())?;
-    let begun = thp_worker::SectionOutcome {
+    let begun = SectionOutcome {
         answers: log,
         rest,
         opened,
@@ -145,6 +147,7 @@ pub fn work_rest<S: Steps>(
 }
 
 /// Returns the report that the settings select, for nodes numbered from 0 and the answers to the sections' commands.
+#[tactic(auto, using(crate::proofs::ListedLaws::all_stored))]
 pub fn report_text(
     alloc: Global,
     settings: &Settings,
@@ -155,95 +158,81 @@ pub fn report_text(
 {
     let mut kept = Vec::with_capacity(alloc, sections.len())?;
     for section in sections {
-        kept.push(to_kept(alloc, section)?)?;
+        kept.push(log_of(alloc, section)?)?;
     }
     report_of_logs(alloc, settings, nodes, kept.as_slice())
 }
 
 /// Copies the content of a log to a vector that has none yet. Allocates nothing if that vector has room.
-fn from_log(list: Vec<Answer>, worked: thp_worker::SectionOutcome) -> Result<Worked, AllocError>
+fn from_log(list: Vec<Answer>, worked: SectionOutcome) -> Result<Worked, AllocError>
     requires none { list.items ≡ [] }
     requires kept { worked.answers.are ≡ Kept }
     ensures answers { IfOk result (λ list. list.answers ≡ worked.answers.items) }
     ensures rest { IfOk result (λ list. list.rest ≡ worked.rest) }
     ensures opened { IfOk result (λ list. list.opened ≡ worked.opened.items) }
 {
-    let thp_worker::SectionOutcome {
+    let SectionOutcome {
         answers: log,
         rest,
         opened,
     } = worked;
-    let kept = kept_by(log);
     let begun = Worked {
         answers: list,
         rest,
         opened,
     };
-    filled(begun, &kept)
+    filled(begun, &log)
 }
 
-/// Returns the answers of a log that stores them.
-fn kept_by(log: AnswerLog) -> KeptAnswers
-    requires { log.are ≡ Kept }
-    ensures items { result.items ≡ log.items }
-    ensures room { result.room ≡ log.room }
-{
-    match log.into_kept() {
-        Some(kept) => kept,
-        None => unreachable!(),
-    }
-}
-
-/// Returns the result of a section with the answers of `kept`; `begun` has none yet.
+/// Returns the result of a section with the answers that a log stores; `begun` has none yet.
 #[tactic(auto, using(crate::proofs::ListedLaws::one_more))]
-fn filled(begun: Worked, kept: &KeptAnswers) -> Result<Worked, AllocError>
+fn filled(begun: Worked, log: &AnswerLog) -> Result<Worked, AllocError>
     requires { begun.answers ≡ [] }
-    ensures answers { IfOk result (λ list. list.answers ≡ kept.now.items) }
+    ensures answers { IfOk result (λ list. list.answers ≡ stored log.now) }
     ensures rest { IfOk result (λ list. list.rest ≡ begun.rest) }
     ensures opened { IfOk result (λ list. list.opened ≡ begun.opened) }
 {
     let mut list = begun;
-    for place in 0..kept.len() {
-        list.push_at(kept, place)?;
+    for place in 0..log.stored_len() {
+        list.push_at(log, place)?;
     }
     Ok(list)
 }
 
 impl Worked {
     /// Appends the answer at a place.
-    fn push_at(&mut self, kept: &KeptAnswers, place: usize) -> Result<(), AllocError>
-        requires { place < length kept.now.items }
-        ensures answers { OnOk result ((answer : KeptAnswer) × (slice_get kept.now.items place ≡ Some answer) × (self.new.answers ≡ self.old.answers ++ answer ∷ [])) }
+    fn push_at(&mut self, log: &AnswerLog, place: usize) -> Result<(), AllocError>
+        requires { place < length (stored log.now) }
+        ensures answers { OnOk result ((answer : StoredAnswer) × (slice_get (stored log.now) place ≡ Some answer) × (self.new.answers ≡ self.old.answers ++ answer ∷ [])) }
         ensures rest { OnOk result (self.new.rest ≡ self.old.rest) }
         ensures opened { OnOk result (self.new.opened ≡ self.old.opened) }
     {
         // the toolchain finds these types, which answers contain, only in functions that name them
         let _in_answers = (Reply::Tried(Tried::Done), Refusal::NoPage);
-        self.answers.push(answer_at(kept, place))?;
+        self.answers.push(answer_at(log, place))?;
         Ok(())
     }
 }
 
 /// Returns the answer at a place.
-fn answer_at(kept: &KeptAnswers, place: usize) -> Answer
-    requires { place < length kept.now.items }
-    ensures { slice_get kept.now.items place ≡ Some result }
+fn answer_at(log: &AnswerLog, place: usize) -> Answer
+    requires { place < length (stored log.now) }
+    ensures { slice_get (stored log.now) place ≡ Some result }
 {
-    match kept.get(place) {
+    match log.get(place) {
         Some(answer) => answer,
         None => unreachable!(),
     }
 }
 
 /// Converts a section to its compact form.
-fn to_kept(alloc: Global, section: &Section) -> Result<KeptSection, AllocError>
+fn log_of(alloc: Global, section: &Section) -> Result<SectionLog, AllocError>
     ensures { IfOk result (λ kept. kept ≡ section_of section.now) }
 {
     let answers = section.answers.as_slice();
-    let log = to_log(alloc, answers.len(), answers)?;
-    Ok(KeptSection {
+    Ok(SectionLog {
         worker: section.worker,
-        answers: kept_by(log),
+        answers: to_log(alloc, answers.len(), answers)?,
     })
 }
 

@@ -1,46 +1,55 @@
-//! The nodes of a run.
-ghost use Rattle.std.specs.Prelude.{◌≡◌, ◌<◌, [], All, IfOk};
-ghost use Rattle.thp_node.specs.Prelude.{NodeState};
-ghost use Rattle.thp_run.specs.NewNodes.{shape_of, AreNodesFor};
+//! The nodes of a run, in cells.
+ghost use Rattle.std.specs.Prelude.{◌≡◌, ◌<◌, ◌+◌, IfOk};
+ghost use Rattle.thp_run.specs.InParts.{AreNew};
+ghost use Rattle.thp_run.specs.NewNodes.{shape_of};
+ghost use Rattle.thp_run.specs.Sharing.{IsFresh};
 
 use std::alloc::{AllocError, Global};
+use thp_cell::{NodeCell, Pass};
 use thp_history::Shape;
-use thp_node::{NewFault, Node, Recorder};
+use thp_node::{Node, Recorder};
 use thp_script::Settings;
 
-/// Creates the nodes that the settings describe.
-pub(crate) fn new_nodes<R: Recorder>(
+/// Creates the nodes that the settings describe, which record their events in an `N`, each in a cell, and the passes that have all
+/// of their callers.
+pub(crate) fn new_cells<N: Recorder>(
     alloc: Global,
     settings: &Settings,
-) -> Result<Vec<Node<R>>, AllocError>
-    ensures shapes { IfOk result (λ r. AreNodesFor settings.now r.items) }
-    ensures new { IfOk result (λ r. All (λ (node : NodeState). node.journal ≡ []) r.items) }
+) -> Result<(Vec<NodeCell<N>>, Vec<Pass<N>>), AllocError>
+    ensures { IfOk result (λ r. AreNew settings.now r.0.items r.1.items) }
 {
-    let mut nodes = Vec::new(alloc);
+    let mut cells = Vec::new(alloc);
+    let mut passes = Vec::new(alloc);
     for index in 0..settings.nodes {
-        let node = new_node(alloc, settings, index)?;
-        nodes.push(node)?;
+        let (cell, pass) = new_cell(alloc, settings, index)?;
+        cells.push(cell)?;
+        passes.push(pass)?;
     }
-    Ok(nodes)
+    Ok((cells, passes))
 }
 
-/// Creates the node of this number. The settings are within the limits of nodes, so this fails only for lack of memory.
-fn new_node<R: Recorder>(
+/// Creates the node of this number in a cell, and its pass. The settings are within the limits of nodes and cells, so this fails
+/// only for lack of memory.
+fn new_cell<N: Recorder>(
     alloc: Global,
     settings: &Settings,
     index: u32,
-) -> Result<Node<R>, AllocError>
+) -> Result<(NodeCell<N>, Pass<N>), AllocError>
     requires { index < settings.now.nodes }
-    ensures shape { IfOk result (λ node. node.shape ≡ shape_of settings.now index) }
-    ensures new { IfOk result (λ node. node.journal ≡ []) }
+    ensures cell { IfOk result (λ r. r.1.cell ≡ r.0) }
+    ensures shape { IfOk result (λ r. r.1.shape ≡ shape_of settings.now index) }
+    ensures fresh { IfOk result (λ r. IsFresh (settings.now.workers + 1) r.1) }
 {
     let shape = Shape {
         blocks: settings.blocks,
         order: settings.orders[index as usize],
         underused: settings.underused[index as usize],
     };
-    match Node::with_recorder(alloc, shape) {
-        Ok(node) => Ok(node),
-        Err(NewFault::BadSize | NewFault::OutOfMemory) => Err(AllocError),
+    let Ok(node) = Node::with_recorder(alloc, shape) else {
+        return Err(AllocError);
+    };
+    match NodeCell::new(alloc, node, settings.workers + 1) {
+        Ok(both) => Ok(both),
+        Err(_) => Err(AllocError),
     }
 }

@@ -1,6 +1,7 @@
 //! The report of a run.
 ghost use Rattle.std.specs.Prelude.{◌≡◌, IfOk, map};
 ghost use Rattle.thp_journal_writer.specs.Prelude.{journal_text as journals_told};
+ghost use Rattle.thp_run.specs.Answers.{with_stored};
 ghost use Rattle.thp_run.specs.Reports.{told_of, report_of};
 
 use crate::answers::answers_text;
@@ -9,7 +10,7 @@ use std::alloc::{AllocError, Global};
 use thp_journal_writer::{NodeHistory, journal_text};
 use thp_node::Node;
 use thp_script::{Report, Settings};
-use thp_worker::KeptSection;
+use thp_worker::SectionLog;
 
 /// Returns the report that the settings select, for nodes numbered from 0 and the answers to the sections' commands.
 ///
@@ -18,7 +19,7 @@ use thp_worker::KeptSection;
 /// - answers: a line `S I ANSWER` for each answer, where section S is 0 for setup and K for worker K, and I is the index of the
 ///   command in its section, counted from 1.
 ///
-/// A report of answers requires sections that store their answers; the other reports ignore the sections. The text is written to
+/// A report of answers has those that the sections store; the other reports ignore the sections. The text is written to
 /// one buffer, which grows. The call fails only if that is not possible. A refusal for lack of memory has no word: such a run has
 /// no report.
 #[tactic(auto, using(crate::proofs::ReportLaws::shapes_told))]
@@ -26,9 +27,9 @@ pub fn report_of_logs(
     alloc: Global,
     settings: &Settings,
     nodes: &[Node],
-    sections: &[KeptSection],
+    sections: &[SectionLog],
 ) -> Result<Vec<u8>, AllocError>
-    ensures { IfOk result (λ text. text.items ≡ report_of settings.now.report (map told_of nodes.now) sections.now) }
+    ensures { IfOk result (λ text. text.items ≡ report_of settings.now.report (map told_of nodes.now) (map with_stored sections.now)) }
 {
     match settings.report {
         Report::Totals => totals_text(alloc, nodes),

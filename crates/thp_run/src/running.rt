@@ -42,7 +42,7 @@ pub fn run<T: Threads + Sync, R: Read, W: Write, G: Gate + Sync>(
         }
         Report::Answers => {
             let ran: RunResult<CountOnly> = run_as_read(rt, alloc, settings, reader, gate)?;
-            write_answers(alloc, ran, writer)
+            write_answers(alloc, &ran, writer)
         }
         Report::Journal => {
             let ran: RunResult = run_as_read(rt, alloc, settings, reader, gate)?;

@@ -13,7 +13,8 @@ ghost use Rattle.thp_run.specs.Sections.{SectionAnswersAre};
 ghost use Rattle.thp_script.specs.declared.fault.ReadFault.TheVariants.{OutOfMemory};
 ghost use Rattle.thp_script.specs.declared.script.Command.{Command};
 
-use crate::in_parts::{begin_run, end_run, new_cells, take_apart};
+use crate::in_parts::{begin_run, end_run, take_apart};
+use crate::nodes::new_cells;
 use crate::run_result::RunResult;
 use std::alloc::Global;
 use std::io::Read;
@@ -37,14 +38,9 @@ impl<'a, N: Recorder> ReadsParts for ScriptInProgress<'a, N> {
     ghost has_read = { λ old bytes new. HasRead old.script old.passes old.setup bytes new.script new.passes new.setup };
 
     fn read_part(self, part: &[u8]) -> Result<Self, ReadFault> {
-        let ScriptInProgress {
-            script,
-            passes,
-            setup,
-        } = self;
-        let mut script = script.read_part(part)?;
-        let mut passes = passes;
-        let setup = do_commands(script.setup(), 0, setup, &mut passes)?;
+        let mut script = self.script.read_part(part)?;
+        let mut passes = self.passes;
+        let setup = do_commands(script.setup(), 0, self.setup, &mut passes)?;
         script.drop_setup();
         Ok(ScriptInProgress {
             script,
@@ -98,12 +94,8 @@ impl<'a, N: Recorder> ScriptInProgress<'a, N> {
         ensures answers { settings.now.report ≡ Report.Answers → self.entry.setup.answers.are ≡ KeptAnswers → IfOk result (λ r. All (SectionAnswersAre KeptAnswers) r.1.items) }
         ensures fault { IfErr result (ReportsFault (spelled_with self.entry.script [])) }
     {
-        let ScriptInProgress {
-            script,
-            passes,
-            setup,
-        } = self;
-        let rest = script.finish()?;
+        let rest = self.script.finish()?;
+        let (passes, setup) = (self.passes, self.setup);
         Ok(end_run(rt, alloc, settings, passes, setup, rest, gate)?)
     }
 }

@@ -5,7 +5,8 @@ ghost use Rattle.thp_run.specs.NewNodes.{histories_of, shapes_of, AreNodesFor};
 ghost use Rattle.thp_run.specs.Runs.{IsRun};
 ghost use Rattle.thp_run.specs.Sections.{SectionAnswersAre};
 
-use crate::in_parts::{begin_run, end_run, new_cells, take_apart};
+use crate::in_parts::{begin_run, end_run, take_apart};
+use crate::nodes::new_cells;
 use crate::run_result::RunResult;
 use std::alloc::{AllocError, Global};
 use std::thread::Threads;

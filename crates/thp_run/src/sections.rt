@@ -4,7 +4,7 @@ ghost use Rattle.thp_worker.specs.declared.answer_log.Answers.{Answers};
 ghost use Rattle.thp_worker.specs.Prelude.{Fronts, HoldsAllCallers, AllWork, IsSection, AnswersAre, IsDoneFor};
 ghost use Rattle.thp_script.specs.Prelude.{max_workers};
 ghost use Rattle.thp_script.specs.declared.script.Command.{Command};
-ghost use Rattle.thp_run.specs.Sections.{commands_in, numbered, GoesFrom, InOrder, IsSetUp, RunsTo, SectionAnswersAre};
+ghost use Rattle.thp_run.specs.Sections.{numbered, GoesFrom, InOrder, IsSetUp, RunsTo, SectionAnswersAre};
 
 use std::alloc::{AllocError, Global};
 use std::thread::Threads;
@@ -27,7 +27,6 @@ pub(crate) fn run_workers_after<R: Threads + Sync, P: Passes + Send + Drop, G: G
     ensures runs { (first : Fronts) (commands : List Command) → IsSetUp first (P.fronts passes) commands workers setup → IfOk result (λ r. RunsTo first (P.fronts r.0) (record { setup = commands; workers = workers }) r.1.items) }
     ensures answers { AnswersAre answers setup → IfOk result (λ r. All (SectionAnswersAre answers) r.1.items) }
 {
-    let workers = vectors(alloc, workers)?;
     let (passes, worked) = run_range(rt, alloc, passes, 1, workers.as_slice(), answers, gate)?;
     let mut passes = passes;
     passes.keep_nodes();
@@ -36,24 +35,10 @@ pub(crate) fn run_workers_after<R: Threads + Sync, P: Passes + Send + Drop, G: G
     Ok((passes, sections))
 }
 
-/// Converts the workers' commands to vectors, without copying a command.
-fn vectors(
-    alloc: Global,
-    workers: Sequence<Sequence<Command>>,
-) -> Result<Vec<Vec<Command>>, AllocError>
-    ensures { IfOk result (λ v. commands_in v.items ≡ workers) }
-{
-    let mut all = Vec::new(alloc);
-    for commands in workers.into_vec() {
-        all.push(commands.into_vec())?;
-    }
-    Ok(all)
-}
-
 /// Executes the rest of the workers' sections, from worker 1 on and in ascending order, with the passes of all callers.
 fn do_rest<P: Steps>(
     alloc: Global,
-    workers: &[Vec<Command>],
+    workers: &[Sequence<Command>],
     worked: Vec<SectionOutcome>,
     passes: &mut P,
 ) -> Result<Vec<SectionOutcome>, AllocError>

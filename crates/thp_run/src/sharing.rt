@@ -1,50 +1,13 @@
 //! Nodes in cells, and the passes that have all callers of each.
-ghost use Rattle.std.specs.Prelude.{◌≡◌, ◌≤◌, [], All, IfOk, map};
+ghost use Rattle.std.specs.Prelude.{◌≡◌, ◌≤◌, All, IfOk, map};
 ghost use Rattle.thp_cell.specs.Prelude.{HasAll, PassState};
-ghost use Rattle.thp_node.specs.Prelude.{NodeState};
 ghost use Rattle.thp_worker.specs.Prelude.{Agree};
-ghost use Rattle.thp_run.specs.Sharing.{cell_of, pass_of, IsNodeOf, IsRoot, IsUnused, Pairs};
+ghost use Rattle.thp_run.specs.Sharing.{cell_of, pass_of, IsNodeOf, IsUnused, Pairs};
 
 use std::alloc::{AllocError, Global};
 use thp_cell::{NodeCell, Pass};
-use thp_node::{NewFault, Node, Recorder};
+use thp_node::{Node, Recorder};
 use thp_worker::{NodePass, NodePasses};
-
-/// Creates a cell of each node that has no events, and the pass that has all of its callers.
-pub(crate) fn share<R: Recorder>(
-    alloc: Global,
-    nodes: Vec<Node<R>>,
-    callers: u32,
-) -> Result<(Vec<NodeCell<R>>, Vec<Pass<R>>), AllocError>
-    requires { All (λ (node : NodeState). node.journal ≡ []) nodes.items }
-    ensures cells { IfOk result (λ r. map cell_of r.1.items ≡ r.0.items) }
-    ensures roots { IfOk result (λ r. Pairs (IsRoot callers) nodes.items r.1.items) }
-{
-    let mut cells = Vec::new(alloc);
-    let mut passes = Vec::new(alloc);
-    for node in nodes {
-        let (cell, pass) = new_cell(alloc, node, callers)?;
-        cells.push(cell)?;
-        passes.push(pass)?;
-    }
-    Ok((cells, passes))
-}
-
-/// Creates the cell of a node. The number of callers is within the limits, so this fails only for lack of memory.
-fn new_cell<R: Recorder>(
-    alloc: Global,
-    node: Node<R>,
-    callers: u32,
-) -> Result<(NodeCell<R>, Pass<R>), AllocError>
-    requires { node.journal ≡ [] }
-    ensures cell { IfOk result (λ r. r.1.cell ≡ r.0) }
-    ensures root { IfOk result (λ r. IsRoot callers node r.1) }
-{
-    match NodeCell::new(alloc, node, callers) {
-        Ok(both) => Ok(both),
-        Err(NewFault::BadSize | NewFault::OutOfMemory) => Err(AllocError),
-    }
-}
 
 /// Converts the passes for steps; none of their callers has an open batch.
 pub(crate) fn open<'a, R: Recorder>(

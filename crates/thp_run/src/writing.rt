@@ -1,11 +1,10 @@
 //! Writes reports to a writer, as one text or in parts.
-ghost use Rattle.std.specs.Prelude.{◌≡◌, IfSome, IfNone, IfErr, filter, map, false, true};
+ghost use Rattle.std.specs.Prelude.{◌≡◌, IfSome, IfNone, IfErr, map, false, true};
 ghost use Rattle.std.specs.Io.KnownBytes.{Appends};
 ghost use Rattle.thp_cli.specs.Prelude.{WritesOn, WritesFront, WritesAnswer};
-ghost use Rattle.thp_run.specs.Answers.{answers_text};
+ghost use Rattle.thp_run.specs.Answers.{answers_text, with_stored};
 ghost use Rattle.thp_run.specs.Reports.{shape_of, told_of};
 ghost use Rattle.thp_journal_writer.specs.Prelude.{journal_text as journals_told, totals_text as totals_told};
-ghost use Rattle.thp_worker.specs.Prelude.{has_kept};
 ghost use Rattle.thp_run.specs.Written.{Wrote};
 
 use crate::answer_parts::AnswerParts;
@@ -16,7 +15,6 @@ use std::alloc::Global;
 use std::io::Write;
 use thp_cli::{RunFault, Watched, write_all, write_text};
 use thp_node::Recorder;
-use thp_worker::kept_sections;
 
 /// Writes the totals of a run's nodes and flushes once.
 pub(crate) fn write_totals<R: Recorder, W: Write>(
@@ -46,20 +44,18 @@ pub(crate) fn write_journals<W: Write>(
     write_whole(writer, text.as_slice())
 }
 
-/// Writes the answers of those of a run's sections that store them, and flushes once. The whole text is never in memory: it is
+/// Writes the answers that a run's sections store, and flushes once. The whole text is never in memory: it is
 /// written in parts from one buffer, which is allocated before the first write.
 pub(crate) fn write_answers<R: Recorder, W: Write>(
     alloc: Global,
-    ran: RunResult<R>,
+    ran: &RunResult<R>,
     writer: &mut Watched<W>,
 ) -> Result<(), RunFault>
     requires { writer.old.failed ≡ false }
-    ensures wrote { Wrote (answers_text (map shape_of ran.nodes.items) (filter has_kept ran.sections.items)) (W.contents writer.old.device) (W.contents writer.new.device) writer.new.failed result }
+    ensures wrote { Wrote (answers_text (map shape_of ran.now.nodes.items) (map with_stored ran.now.sections.items)) (W.contents writer.old.device) (W.contents writer.new.device) writer.new.failed result }
     ensures calls { WritesAnswer result writer.new.failed writer.old.calls writer.new.calls }
 {
-    let RunResult { nodes, sections } = ran;
-    let kept = kept_sections(alloc, sections)?;
-    let mut parts = AnswerParts::new(alloc, nodes.as_slice(), kept.as_slice())?;
+    let mut parts = AnswerParts::new(alloc, ran.nodes.as_slice(), ran.sections.as_slice())?;
     write_parts(&mut parts, writer).ok_or(RunFault::Write)
 }
 

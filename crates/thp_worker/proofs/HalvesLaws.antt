@@ -1,6 +1,5 @@
 -- Workers that come together.
-use Rattle.std.proofs.Common.{◌≡◌, ◌∙◌, ◌++◌, ◌+◌, ◌<◌, ◌≤◌, ap, ℕ, Bool, List, [], ◌∷◌, length, sym, subst, inl, inr, arith, append_assoc, length-append, Option, Some, None, Vec, slice_get}
-use Rattle.std.specs.declared.alloc.Global.{Global}
+use Rattle.std.proofs.Common.{◌≡◌, ◌∙◌, ◌++◌, ◌+◌, ◌<◌, ◌≤◌, ap, ℕ, Bool, List, [], ◌∷◌, length, sym, subst, inl, inr, arith, append_assoc, length-append, Option, Some, None, slice_get}
 use Rattle.thp_history.specs.Prelude.{History, events_of, IsLegal}
 use Rattle.thp_script.specs.declared.script.Command.{Command}
 use Rattle.thp_worker.specs.Prelude.{Answer, Rest, SectionOutcome, CommandProgress, Fronts, HoldsCaller, Goes, Grows, SameNodes, Made, Steps, Works, WorksTo, Begins, Ends, IsNext, batches_after, progress_of, steps_of, KnowsOf, IsSplit, CanJoin, IsJoined, AllWork, CanRun, RangeDone}
@@ -76,18 +75,18 @@ works_from c old old' new new' commands w same front batches later grown knows w
       ],
     )
 
-pub all_work_as : (vs : List (Vec Command Global)) (ws : List SectionOutcome) (c : ℕ) (old old' new new' : Fronts) → ((k : ℕ) → c ≤ k → k < c + length vs → (commands : List Command) (w : SectionOutcome) → Works k old new commands w → Works k old' new' commands w)
+pub all_work_as : (vs : List (List Command)) (ws : List SectionOutcome) (c : ℕ) (old old' new new' : Fronts) → ((k : ℕ) → c ≤ k → k < c + length vs → (commands : List Command) (w : SectionOutcome) → Works k old new commands w → Works k old' new' commands w)
     → AllWork c old new vs ws → AllWork c old' new' vs ws
 unfolding AllWork
 all_work_as [] [] c old old' new new' moved a = tt
 all_work_as [] (w ∷ ws) c old old' new new' moved a = absurd a
 all_work_as (v ∷ vs) [] c old old' new new' moved a = absurd a
 all_work_as (v ∷ vs) (w ∷ ws) c old old' new new' moved a = (
-  moved c (omega arith) (omega arith) v.items w a.0,
+  moved c (omega arith) (omega arith) v w a.0,
   all_work_as vs ws (c + 1) old old' new new' (λ k lo hi. moved k (omega (arith, lo)) (omega (arith, hi))) a.1,
 )
 
-all_work_append : (vs us : List (Vec Command Global)) (ws xs : List SectionOutcome) (c d : ℕ) (old new : Fronts) → d ≡ c + length vs → AllWork c old new vs ws → AllWork d old new us xs → AllWork c old new (vs ++ us) (ws ++ xs)
+all_work_append : (vs us : List (List Command)) (ws xs : List SectionOutcome) (c d : ℕ) (old new : Fronts) → d ≡ c + length vs → AllWork c old new vs ws → AllWork d old new us xs → AllWork c old new (vs ++ us) (ws ++ xs)
 unfolding AllWork
 all_work_append [] us [] xs c d old new e a b = let same : d ≡ c = omega (arith, e) in rw (← same) b
 all_work_append [] us (w ∷ ws) xs c d old new e a b = absurd a
@@ -95,12 +94,12 @@ all_work_append (v ∷ vs) us [] xs c d old new e a b = absurd a
 all_work_append (v ∷ vs) us (w ∷ ws) xs c d old new e a b = (a.0, all_work_append vs us ws xs (c + 1) d old new (omega (arith, e)) a.1 b)
 
 -- one worker alone
-pub ran_one : (c : ℕ) (old new : Fronts) (v : Vec Command Global) (ws : List SectionOutcome) (w : SectionOutcome) → CanRun old c (v ∷ []) → Goes c old new → Works c old new v.items w → ws ≡ w ∷ [] → RangeDone c old new (v ∷ []) ws
+pub ran_one : (c : ℕ) (old new : Fronts) (v : List Command) (ws : List SectionOutcome) (w : SectionOutcome) → CanRun old c (v ∷ []) → Goes c old new → Works c old new v w → ws ≡ w ∷ [] → RangeDone c old new (v ∷ []) ws
 unfolding AllWork
 ran_one c old new v ws w can goes works is = grind arith
 
 -- the halves may run
-module _ (f l r : Fronts) (at first : ℕ) (low high : List (Vec Command Global)) (can : CanRun f first (low ++ high)) (split : IsSplit at f l r) (is : at ≡ first + length low) where
+module _ (f l r : Fronts) (at first : ℕ) (low high : List (List Command)) (can : CanRun f first (low ++ high)) (split : IsSplit at f l r) (is : at ≡ first + length low) where
   module _ (l' r' : Fronts) (ws xs : List SectionOutcome) (a : RangeDone first l l' low ws) (b : RangeDone at r r' high xs) where
     pub can_join : CanJoin l' r'
     can_join = grind (arith, same_nodes_trans, same_nodes_sym)

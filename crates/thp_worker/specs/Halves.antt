@@ -1,6 +1,5 @@
 -- Concurrent workers on the same nodes.
-use Rattle.std.specs.Prelude.{◌≡◌, ℕ, ◌+◌, ◌<◌, ◌≤◌, ◌^◌, ⊤, List, [], ◌∷◌, ◌++◌, length, All, Vec}
-use Rattle.std.specs.declared.alloc.Global.{Global}
+use Rattle.std.specs.Prelude.{◌≡◌, ℕ, ◌+◌, ◌<◌, ◌≤◌, ◌^◌, ⊤, List, [], ◌∷◌, ◌++◌, length, All}
 use Rattle.thp_history.specs.Prelude.{History, events_of, IsLegal}
 use Rattle.thp_script.specs.declared.script.Command.{Command}
 use Rattle.thp_worker.specs.declared.reply.SectionOutcome.{SectionOutcome}
@@ -44,19 +43,19 @@ pub record IsJoined (l r f : Fronts) : Type 0 where
   pub legal : (n : ℕ) → IsLegal (l.shape n) (l.front n) → IsLegal (r.shape n) (r.front n) → IsLegal (f.shape n) (f.front n)
 
 -- the sections of the workers from c on
-unfoldable pub AllWork : ℕ → Fronts → Fronts → List (Vec Command Global) → List SectionOutcome → Type 0
+unfoldable pub AllWork : ℕ → Fronts → Fronts → List (List Command) → List SectionOutcome → Type 0
 AllWork c old new [] [] = ⊤
 AllWork c old new [] (w ∷ ws) = ⊥
 AllWork c old new (v ∷ vs) [] = ⊥
-AllWork c old new (v ∷ vs) (w ∷ ws) = Works c old new v.items w × AllWork (c + 1) old new vs ws
+AllWork c old new (v ∷ vs) (w ∷ ws) = Works c old new v w × AllWork (c + 1) old new vs ws
 
 -- few commands, each for an existing node
-pub record IsSection (nodes : ℕ) (v : Vec Command Global) : Type 0 where
-  pub few : length v.items < 2 ^ 32
-  pub commands : All (IsCommandFor nodes) v.items
+pub record IsSection (nodes : ℕ) (commands : List Command) : Type 0 where
+  pub few : length commands < 2 ^ 32
+  pub fit : All (IsCommandFor nodes) commands
 
 -- the passes have the workers from `from` on, and these are all workers from there on; none has an open batch
-pub record CanRun (f : Fronts) (from : ℕ) (workers : List (Vec Command Global)) : Type 0 where
+pub record CanRun (f : Fronts) (from : ℕ) (workers : List (List Command)) : Type 0 where
   pub some : 0 < length workers
   pub low : f.first ≤ from
   pub high : f.end ≡ from + length workers
@@ -65,7 +64,7 @@ pub record CanRun (f : Fronts) (from : ℕ) (workers : List (Vec Command Global)
   pub shut : (c : ℕ) → HoldsCaller f c → from ≤ c → HasNoBatch c f
 
 -- the workers from `from` on executed their sections after what was known, and the passes' other callers did nothing
-pub record RangeDone (from : ℕ) (old new : Fronts) (workers : List (Vec Command Global)) (done : List SectionOutcome) : Type 0 where
+pub record RangeDone (from : ℕ) (old new : Fronts) (workers : List (List Command)) (done : List SectionOutcome) : Type 0 where
   pub same : SameNodes old new
   pub first : new.first ≡ old.first
   pub end : new.end ≡ old.end

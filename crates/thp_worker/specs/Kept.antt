@@ -1,19 +1,17 @@
--- The view that contracts have of `KeptAnswers`.
-use Rattle.std.specs.Prelude.{◌≤◌, ◌<◌, ℕ, false, List, map, length, get_or, All, Vec, vec_capacity, vec_len, Ok, Err, ⊤}
+-- Answers in less memory than a list of them: how an `AnswerLog` stores them.
+use Rattle.std.specs.Prelude.{◌≡◌, ◌≤◌, ◌<◌, ℕ, false, List, map, length, get_or, All, Vec, vec_capacity, vec_len, Ok, Err, ⊤}
 use Rattle.std.specs.declared.alloc.Global.{Global}
 use Rattle.thp_history.specs.Prelude.{set_of}
-use Rattle.thp_worker.specs.declared.kept_answers.ShortAnswer.{ShortAnswer}
-use Rattle.thp_worker.specs.declared.kept_answers.ShortReply.{ShortReply}
-use Rattle.thp_worker.specs.declared.kept_answers.ShortReply.TheVariants as short
+use Rattle.thp_worker.specs.declared.answer_log.ShortAnswer.{ShortAnswer}
+use Rattle.thp_worker.specs.declared.answer_log.ShortReply.{ShortReply}
+use Rattle.thp_worker.specs.declared.answer_log.ShortReply.TheVariants as short
 use Rattle.thp_worker.specs.declared.reply.Answer.{Answer}
 use Rattle.thp_worker.specs.declared.reply.Reply.{Reply}
 use Rattle.thp_worker.specs.declared.reply.Reply.TheVariants as reply
+use Rattle.thp_worker.specs.declared.answer_log.Answers.{Answers}
+use Rattle.thp_worker.specs.declared.answer_log.Answers.TheVariants.{Kept, Counted}
 use Rattle.thp_worker.specs.Does.{Reaction}
-
--- the answers, in order, and the number that there is room for
-pub record KeptState : Type 0 where
-  pub items : List Answer
-  pub room : ℕ
+use Rattle.thp_worker.specs.Logs.{if_kept}
 
 -- the answer to a command, from the short form and the long replies
 abbrev pub reaction_in : List Reply → ShortReply → Reaction
@@ -39,9 +37,12 @@ abbrev pub is_there : ℕ → ShortReply → Type 0
 is_there many (short.Long place) = place < many
 is_there many _ = ⊤
 
--- each long reply exists, and there is room for so many answers
-pub record AreKept (short : Vec ShortAnswer Global) (long : Vec Reply Global) (room : ℕ) : Type 0 where
+-- These answers are stored, each long reply exists, and there is room for so many; or they are counted.
+pub record IsLog (are : Answers) (told : List Answer) (short : Vec ShortAnswer Global) (long : Vec Reply Global) (count room : ℕ) : Type 0 where
+  pub answers : answers_in long.items short.items ≡ if_kept are told
   pub there : All (λ a. is_there (length long.items) a.reply) short.items
-  pub fewer : vec_len long ≤ vec_len short
-  pub short_room : room ≤ vec_capacity short
-  pub long_room : room ≤ vec_capacity long
+  pub kept : are ≡ Kept → vec_len short ≡ length told
+  pub counted : are ≡ Counted → count ≡ length told
+  pub fewer : vec_len long ≤ length told
+  pub short_room : are ≡ Kept → room ≤ vec_capacity short
+  pub long_room : are ≡ Kept → room ≤ vec_capacity long

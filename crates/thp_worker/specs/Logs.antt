@@ -1,9 +1,8 @@
 -- The view that contracts have of an `AnswerLog`.
-use Rattle.std.specs.Prelude.{ℕ, Bool, true, false, List, Option, Some, None}
+use Rattle.std.specs.Prelude.{ℕ, List, []}
 use Rattle.thp_worker.specs.declared.reply.Answer.{Answer}
 use Rattle.thp_worker.specs.declared.answer_log.Answers.{Answers}
 use Rattle.thp_worker.specs.declared.answer_log.Answers.TheVariants.{Kept, Counted}
-use Rattle.thp_worker.specs.Kept.{KeptState}
 
 -- the answers so far, in order, what happens to them, and the number that there is room for
 pub record LogState : Type 0 where
@@ -11,21 +10,10 @@ pub record LogState : Type 0 where
   pub are : Answers
   pub room : ℕ
 
--- answers that are stored, and answers that are only counted, as a log
-abbrev pub kept_log : KeptState → LogState
-kept_log k = record { items = k.items; are = Kept; room = k.room }
+-- those of the answers that are stored: all or none
+abbrev pub if_kept : Answers → List Answer → List Answer
+if_kept Kept answers = answers
+if_kept Counted answers = []
 
-abbrev pub counted_log : KeptState → LogState
-counted_log k = record { items = k.items; are = Counted; room = k.room }
-
-abbrev pub is_kept : Answers → Bool
-is_kept Kept = true
-is_kept Counted = false
-
--- the available data about answers: the answers themselves if they are stored
-abbrev pub if_kept : {A : Type 0} → Answers → A → Option A
-if_kept Kept answers = Some answers
-if_kept Counted answers = None
-
-abbrev pub kept_in : LogState → Option KeptState
-kept_in l = if_kept l.are (record { items = l.items; room = l.room })
+abbrev pub stored : LogState → List Answer
+stored l = if_kept l.are l.items

@@ -13,7 +13,7 @@ use crate::steps::Steps;
 use crate::working::work;
 use std::alloc::{AllocError, Global};
 use std::thread::{Threads, join};
-use thp_script::Command;
+use thp_script::{Command, Sequence};
 
 /// Nodes whose callers can be divided and joined.
 pub trait Passes: Steps + Sized {
@@ -43,7 +43,7 @@ pub fn run_range<R: Threads + Sync, P: Passes + Send + Drop, G: Gate + Sync>(
     alloc: Global,
     passes: P,
     first: u32,
-    workers: &[Vec<Command>],
+    workers: &[Sequence<Command>],
     answers: Answers,
     gate: &G,
 ) -> Result<(P, Vec<SectionOutcome>), AllocError>
@@ -74,7 +74,10 @@ pub fn run_range<R: Threads + Sync, P: Passes + Send + Drop, G: Gate + Sync>(
     let (left, done) = left?;
     let (right, more) = right?;
     let both = left.join(alloc, right)?;
-    Ok((both, append(done, more)?))
+    let mut all = done;
+    let mut more = more;
+    all.append(&mut more)?;
+    Ok((both, all))
 }
 
 /// Executes the section of one worker.
@@ -82,7 +85,7 @@ fn run_one<P: Passes + Drop, G: Gate>(
     alloc: Global,
     passes: P,
     worker: u32,
-    commands: &Vec<Command>,
+    commands: &Sequence<Command>,
     answers: Answers,
     gate: &G,
 ) -> Result<(P, Vec<SectionOutcome>), AllocError>
@@ -91,20 +94,15 @@ fn run_one<P: Passes + Drop, G: Gate>(
     ensures answers { IfOk result (λ r. All (AnswersAre answers) r.1.items) }
 {
     let mut passes = passes;
-    let worked = work(alloc, commands, worker, answers, &mut passes, gate)?;
+    let worked = work(
+        alloc,
+        commands.as_slice(),
+        worker,
+        answers,
+        &mut passes,
+        gate,
+    )?;
     let mut all = Vec::new(alloc);
     all.push(worked)?;
     Ok((passes, all))
-}
-
-fn append(
-    done: Vec<SectionOutcome>,
-    more: Vec<SectionOutcome>,
-) -> Result<Vec<SectionOutcome>, AllocError>
-    ensures { IfOk result (λ all. all.items ≡ done.items ++ more.items) }
-{
-    let mut all = done;
-    let mut more = more;
-    all.append(&mut more)?;
-    Ok(all)
 }

@@ -8,7 +8,7 @@ ghost use Rattle.thp_script.specs.declared.script.Command.{Command};
 
 use crate::answer_log::{AnswerLog, Answers};
 use crate::command::do_whole_command;
-use crate::open_batches::{mark, none_open};
+use crate::open_batches::mark;
 use crate::reply::{Reply, SectionOutcome};
 use crate::steps::{Steps, told};
 use crate::working::close;
@@ -38,7 +38,7 @@ pub fn begin_section<S: Steps>(
 {
     Ok(SectionInParts {
         answers: AnswerLog::new(alloc, 0, answers)?,
-        opened: none_open(alloc, steps.nodes())?,
+        opened: vec![in alloc; false; steps.nodes() as usize]?,
     })
 }
 

@@ -6,8 +6,7 @@
 //! - `working` (`Sections`): the commands of a section in order, then the put-backs of open batches; where a node stays busy the
 //!   rest is postponed. `open_batches` (`OpenBatches`): on which nodes a batch is open, by the answers.
 //! - `in_parts` (`InParts`): a section whose commands arrive in parts. `halves` (`Halves`): workers side by side.
-//! - `answer_log`, `kept_answers`, `kept_section` (`Logs`, `Kept`, `KeptSections`): answers, stored in little room or only
-//!   counted.
+//! - `answer_log` (`Logs`, `Kept`): answers, stored in little room or only counted.
 //! - `Fronts`: what the holder of some callers knows of all nodes. `gate`: a hook for tests. `reply`, `limits` (`Limits`).
 //! - Proof `Crosses`: passes of all nodes may go to other threads.
 #![tactic(auto)]
@@ -17,8 +16,6 @@ mod command;
 mod gate;
 mod halves;
 mod in_parts;
-mod kept_answers;
-mod kept_section;
 mod limits;
 mod node_pass;
 mod node_passes;
@@ -32,8 +29,6 @@ pub use answer_log::{AnswerLog, Answers};
 pub use gate::{Gate, NoGate};
 pub use halves::{Passes, run_range};
 pub use in_parts::{SectionInParts, begin_section, do_commands, end_section};
-pub use kept_answers::KeptAnswers;
-pub use kept_section::{KeptSection, kept_sections};
 pub use limits::{MAX_TRIES, tries_are_limited};
 pub use node_pass::NodePass;
 pub use node_passes::NodePasses;

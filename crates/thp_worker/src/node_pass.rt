@@ -63,12 +63,7 @@ impl<'a, R: Recorder> NodePass<'a, R> {
     pub fn into_pass(self) -> Pass<R>
         ensures { result ≡ self.entry.pass }
     {
-        let NodePass {
-            cell: _,
-            pass,
-            batches: _,
-        } = self;
-        pass
+        self.pass
     }
 
     /// Keeps the node for the following steps, which saves taking and releasing it for each, until the callers are divided or the
@@ -107,23 +102,18 @@ impl<'a, R: Recorder> NodePass<'a, R> {
         ensures left { IfOk result (λ r. r.0 ≡ lower_part self.entry at) }
         ensures right { IfOk result (λ r. r.1 ≡ upper_part self.entry at) }
     {
-        let NodePass {
-            cell,
-            pass,
-            batches,
-        } = self;
-        let mut batches = batches;
-        let (first, _) = pass.callers();
+        let (first, _) = self.pass.callers();
+        let mut batches = self.batches;
         let rest = batches.split_off((at - first) as usize)?;
-        let (left, right) = cell.split(pass, at);
+        let (left, right) = self.cell.split(self.pass, at);
         Ok((
             NodePass {
-                cell,
+                cell: self.cell,
                 pass: left,
                 batches,
             },
             NodePass {
-                cell,
+                cell: self.cell,
                 pass: right,
                 batches: rest,
             },
@@ -141,23 +131,12 @@ impl<'a, R: Recorder> NodePass<'a, R> {
         ensures left_batches { IfOk result (λ r. OpenStay self.entry r) }
         ensures right_batches { IfOk result (λ r. OpenStay other.entry r) }
     {
-        let NodePass {
-            cell,
-            pass,
-            batches,
-        } = self;
-        let NodePass {
-            cell: _,
-            pass: right,
-            batches: more,
-        } = other;
-        let mut batches = batches;
-        let mut more = more;
+        let mut batches = self.batches;
+        let mut more = other.batches;
         batches.append(&mut more)?;
-        let pass = cell.join(pass, right);
         Ok(NodePass {
-            cell,
-            pass,
+            cell: self.cell,
+            pass: self.cell.join(self.pass, other.pass),
             batches,
         })
     }

@@ -93,18 +93,8 @@ impl<'a, R: Recorder> Passes for NodePasses<'a, R> {
         } = self;
         let (low, high) = split_each(alloc, nodes, at)?;
         Ok((
-            NodePasses {
-                callers,
-                first,
-                end: at,
-                nodes: low,
-            },
-            NodePasses {
-                callers,
-                first: at,
-                end,
-                nodes: high,
-            },
+            NodePasses::new(low, callers, first, at),
+            NodePasses::new(high, callers, at, end),
         ))
     }
 
@@ -112,22 +102,12 @@ impl<'a, R: Recorder> Passes for NodePasses<'a, R> {
         let NodePasses {
             callers,
             first,
-            end: _,
             nodes,
+            ..
         } = self;
-        let NodePasses {
-            callers: _,
-            first: _,
-            end,
-            nodes: more,
-        } = other;
-        let nodes = join_each(alloc, nodes, more)?;
-        Ok(NodePasses {
-            callers,
-            first,
-            end,
-            nodes,
-        })
+        let end = other.end;
+        let nodes = join_each(alloc, nodes, other.nodes)?;
+        Ok(NodePasses::new(nodes, callers, first, end))
     }
 
     fn keep_nodes(&mut self)

@@ -10,7 +10,7 @@ ghost use Rattle.thp_worker.specs.Sections.{Begins, Ends, IsCommandFor, IsDoneFo
 use crate::answer_log::{AnswerLog, Answers};
 use crate::command::do_command;
 use crate::gate::{Gate, NoGate};
-use crate::open_batches::{is_marked, mark, none_open, shut};
+use crate::open_batches::mark;
 use crate::reply::{Reply, Rest, SectionOutcome};
 use crate::scanning::{CommandProgress, no_progress};
 use crate::steps::{Steps, told};
@@ -40,7 +40,7 @@ pub fn work<S: Steps, G: Gate>(
     ensures done { HoldsAllCallers (S.fronts steps.old) → IfOk result IsDoneFor }
 {
     let log = AnswerLog::new(alloc, commands.len(), answers)?;
-    let opened = none_open(alloc, steps.nodes())?;
+    let opened = vec![in alloc; false; steps.nodes() as usize]?;
     go_on(commands, worker, log, opened, no_progress(), steps, gate)
 }
 
@@ -61,18 +61,10 @@ pub fn work_rest<S: Steps>(
     ensures answers { IfOk result (AnswersAre worked.answers.are) }
     ensures done { HoldsAllCallers (S.fronts steps.old) → IfOk result IsDoneFor }
 {
-    let SectionOutcome {
-        answers,
-        rest,
-        opened,
-    } = worked;
-    let Some(rest) = rest else {
-        return Ok(SectionOutcome {
-            answers,
-            rest: None,
-            opened,
-        });
+    let Some(rest) = worked.rest else {
+        return Ok(worked);
     };
+    let (answers, opened) = (worked.answers, worked.opened);
     if rest.command as usize == commands.len() {
         return close(rest.command, worker, answers, opened, rest.steps, steps);
     }
@@ -157,7 +149,7 @@ pub(crate) fn close<S: Steps>(
     let mut reply = Reply::Unit;
     let nodes = steps.nodes();
     for node in 0..nodes {
-        if is_marked(&opened, node) {
+        if opened[node as usize] {
             let called = put_back(worker, node, steps, &mut reply);
             let Some(_) = told(called)? else {
                 let rest = Rest {
@@ -171,7 +163,7 @@ pub(crate) fn close<S: Steps>(
                     opened,
                 });
             };
-            shut(&mut opened, node);
+            opened[node as usize] = false;
             closed += 1;
         }
     }

@@ -63,16 +63,14 @@ fn answered(answer: Answer) -> ExpectedAnswer {
 // The answers of a section are these.
 pub(crate) fn are_answers(ran: &RunResult, section: usize, wanted: &[ExpectedAnswer]) -> bool {
     match ran.sections.get(section) {
-        Some(section) => match section.answers.kept() {
-            Some(answers) => {
-                answers.len() == wanted.len()
-                    && wanted.iter().enumerate().all(|(place, want)| match answers.get(place) {
-                        Some(answer) => answered(answer) == *want,
-                        None => false,
-                    })
-            }
-            None => false,
-        },
+        Some(section) => {
+            let answers = &section.answers;
+            answers.len() == wanted.len()
+                && wanted.iter().enumerate().all(|(place, want)| match answers.get(place) {
+                    Some(answer) => answered(answer) == *want,
+                    None => false,
+                })
+        }
         None => false,
     }
 }

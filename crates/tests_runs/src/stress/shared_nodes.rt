@@ -12,7 +12,7 @@ use thp_check::check;
 use thp_node::Node;
 use thp_run::RunResult;
 use thp_script::{Script, Settings};
-use thp_worker::{KeptSection, kept_sections};
+use thp_worker::SectionLog;
 
 // The sums of the events of each node.
 fn tallies_of(alloc: Global, nodes: &[Node]) -> Option<Vec<Tally>> {
@@ -30,7 +30,7 @@ fn explain_sections(
     tallies: &[Tally],
     script: &Script,
     nodes: &[Node],
-    sections: &[KeptSection],
+    sections: &[SectionLog],
 ) {
     assert!(rt; sections.len() == script.workers.as_slice().len() + 1);
     for (number, section) in sections.iter().enumerate() {
@@ -52,7 +52,7 @@ fn tell_the_run(
     settings: &Settings,
     tallies: &[Tally],
     nodes: &[Node],
-    sections: &[KeptSection],
+    sections: &[SectionLog],
 ) {
     assert!(rt; is_journal(alloc, settings, nodes) == Some(true));
     assert!(rt; are_totals(alloc, settings, nodes, tallies) == Some(true));
@@ -88,7 +88,6 @@ fn run_plan<R: Threads + Clock + Abort + Sync>(rt: &R, alloc: Global, plan: &Pla
     }
     let tallies = tallies_of(alloc, nodes).expect(rt, "a tally");
     let tallies = tallies.as_slice();
-    let sections = kept_sections(alloc, sections).expect(rt, "room");
     let sections = sections.as_slice();
     explain_sections(rt, alloc, tallies, &script, nodes, sections);
     tell_the_run(rt, alloc, &settings, tallies, nodes, sections);

@@ -7,7 +7,7 @@ use thp_journal_reader::{NodeJournal, check_text, read_journal};
 use thp_node::{BackReply, Node, ScanReply, Tried};
 use thp_run::report_of_logs;
 use thp_script::{Report, Settings};
-use thp_worker::{KeptSection, Reply};
+use thp_worker::{Reply, SectionLog};
 
 // The report of this kind.
 fn report_of(
@@ -15,7 +15,7 @@ fn report_of(
     settings: &Settings,
     report: Report,
     nodes: &[Node],
-    sections: &[KeptSection],
+    sections: &[SectionLog],
 ) -> Option<Vec<u8>> {
     let mut settings = *settings;
     settings.report = report;
@@ -67,7 +67,7 @@ pub(crate) fn are_answers(
     alloc: Global,
     settings: &Settings,
     nodes: &[Node],
-    sections: &[KeptSection],
+    sections: &[SectionLog],
 ) -> Option<bool> {
     let told = report_of(alloc, settings, Report::Answers, nodes, sections)?;
     let mut text = String::new(alloc);
@@ -80,7 +80,7 @@ pub(crate) fn are_answers(
 fn write_section(
     text: &mut String,
     nodes: &[Node],
-    section: &KeptSection,
+    section: &SectionLog,
 ) -> Result<(), AllocError> {
     for place in 0..section.answers.len() {
         let Some(answer) = section.answers.get(place) else {

@@ -7,7 +7,7 @@ use std::alloc::Global;
 use thp_history::Refusal;
 use thp_node::{Node, ScanReply, Tried};
 use thp_script::{Command, Op};
-use thp_worker::{KeptAnswers, KeptSection, Reply};
+use thp_worker::{AnswerLog, Reply, SectionLog};
 
 // A caller on a node: the events that aren't explained yet, and the open batch.
 #[derive(Drop)]
@@ -123,7 +123,7 @@ fn is_so(holds: bool) -> Option<()> {
 fn explain_answers(
     alloc: Global,
     commands: &[Command],
-    answers: &KeptAnswers,
+    answers: &AnswerLog,
     walks: &mut Vec<Walk<'_>>,
 ) -> Option<()> {
     if answers.len() != commands.len() {
@@ -148,7 +148,7 @@ pub(crate) fn explain_section(
     nodes: &[Node],
     tallies: &[Tally],
     commands: &[Command],
-    section: &KeptSection,
+    section: &SectionLog,
 ) -> Option<()> {
     let mut walks = Vec::new(alloc);
     for (node, tally) in nodes.iter().zip(tallies) {

@@ -5,7 +5,7 @@ use std::process::Abort;
 use thp_history::{Outcome, PageId, Refusal, SubSet};
 use thp_node::{BackReply, Done, ScanReply, Tried};
 use thp_script::Report;
-use thp_worker::{KeptAnswers, KeptSection, Reply};
+use thp_worker::{AnswerLog, Answers, Reply, SectionLog};
 
 // The answers to the commands of a section, all on one node.
 pub(crate) fn section(
@@ -14,8 +14,8 @@ pub(crate) fn section(
     worker: u32,
     node: u32,
     replies: &[Result<Reply, Refusal>],
-) -> KeptSection {
-    let mut answers = KeptAnswers::new(alloc, replies.len()).expect(rt, "room");
+) -> SectionLog {
+    let mut answers = AnswerLog::new(alloc, replies.len(), Answers::Kept).expect(rt, "room");
     for (command, reply) in replies.iter().enumerate() {
         let command = u32::try_from(command).expect(rt, "a few commands");
         match reply {
@@ -23,7 +23,7 @@ pub(crate) fn section(
             Err(refusal) => answers.push(command, node, Err(*refusal), &Reply::Unit),
         }
     }
-    KeptSection { worker, answers }
+    SectionLog { worker, answers }
 }
 
 pub(crate) fn done(outcome: Outcome, released: SubSet) -> Result<Reply, Refusal> {

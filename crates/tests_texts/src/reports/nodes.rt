@@ -5,7 +5,7 @@ use thp_history::{PageId, Shape};
 use thp_node::Node;
 use thp_run::report_of_logs;
 use thp_script::{Report, Settings};
-use thp_worker::KeptSection;
+use thp_worker::SectionLog;
 
 // A node of 16 blocks of order 9 whose shrinker looks for partly mapped pages alone.
 pub(crate) fn empty_node(rt: &impl Abort, alloc: Global) -> Node {
@@ -95,7 +95,7 @@ pub(crate) fn expect(
     alloc: Global,
     report: Report,
     nodes: &[Node],
-    sections: &[KeptSection],
+    sections: &[SectionLog],
     want: &str,
 ) {
     let count = u32::try_from(nodes.len()).expect(rt, "a few nodes");

@@ -6,7 +6,7 @@ use std::process::Abort;
 use thp_history::{Outcome, PageId, Refusal, SubSet};
 use thp_node::Node;
 use thp_run::{AnswerParts, answers_text};
-use thp_worker::{KeptSection, Reply};
+use thp_worker::{Reply, SectionLog};
 
 // A part isn't full before it has so many bytes, and no line is longer than the room after them.
 const FULL_PART: usize = 65_536;
@@ -14,7 +14,7 @@ const FULL_PART: usize = 65_536;
 const MAX_LINE: usize = 4_145;
 
 // How many parts the text of the sections has: each but the last is full, and they make the whole text.
-fn parts_of(rt: &impl Abort, alloc: Global, nodes: &[Node], sections: &[KeptSection]) -> usize {
+fn parts_of(rt: &impl Abort, alloc: Global, nodes: &[Node], sections: &[SectionLog]) -> usize {
     let whole = answers_text(alloc, nodes, sections).expect(rt, "memory for a text");
     let mut parts = AnswerParts::new(alloc, nodes, sections).expect(rt, "memory for a part");
     let mut rest = whole.as_slice();

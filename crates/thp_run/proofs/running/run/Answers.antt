@@ -1,10 +1,9 @@
-use Rattle.std.proofs.Common.{◌≡◌, ◌∙◌, ap, map, refl, Err, filter}
+use Rattle.std.proofs.Common.{◌≡◌, ◌∙◌, ap, map, refl, Err}
 use Rattle.std.proofs.lemmas.Result.{err_from_is_err_and}
 use Rattle.thp_journal_writer.specs.Prelude.{journal_text, totals_text}
-use Rattle.thp_run.specs.Answers.{answers_text}
+use Rattle.thp_run.specs.Answers.{answers_text, with_stored}
 use Rattle.thp_run.specs.Reports.{report_of, shape_of, told_of}
 use Rattle.thp_run.proofs.ReportLaws.{shapes_told}
-use Rattle.thp_worker.specs.Prelude.{has_kept}
 use Rattle.thp_run.proofs.PassageLaws.{not_run_ends, run_wrote, run_wrote_kept}
 use Rattle.thp_run.proofs.running.run.Goals as goal
 
@@ -48,7 +47,7 @@ pub returns-in_ok-ran-in-Answers-clause-ends : goal.returns-in_ok-ran-in-Answers
 returns-in_ok-ran-in-Answers-clause-ends g c =
     let s = c.args.settings.now in
     let ran = c.in_ok-ran-in-Answers in
-    let text = answers_text (map shape_of ran.ran.nodes.items) (filter has_kept ran.ran.sections.items) in
-    let told : text ≡ report_of s.report (map told_of ran.ran.nodes.items) (filter has_kept ran.ran.sections.items) = rw (c.in-Answers.is, shapes_told ran.ran.nodes.items) refl in
+    let text = answers_text (map shape_of ran.ran.nodes.items) (map with_stored ran.ran.sections.items) in
+    let told : text ≡ report_of s.report (map told_of ran.ran.nodes.items) (map with_stored ran.ran.sections.items) = rw (c.in-Answers.is, shapes_told ran.ran.nodes.items) refl in
     run_wrote_kept s (g.R.Read.remaining c.args.reader.now.device) ran.ran.nodes.items ran.ran.sections.items text (g.W.Write.contents c.args.writer.now.device) (g.W.Write.contents c.write_answers.new.writer.device)
     c.run_as_read-in-Answers.new.reader.failed c.write_answers.new.writer.failed c.write_answers.result ran.ensures.ran told c.write_answers.ensures.wrote ran.ensures.flag

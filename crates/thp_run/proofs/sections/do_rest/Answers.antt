@@ -32,7 +32,7 @@ work_rest-requires-clause-worked g c =
     let place : c.len-index.result ≡ length done = c.len-index.ensures ∙ c.loop-worked.done.ok.0 in
     let at : slice_get vs (length done) ≡ Some v = at_index vs v c.len-index.result (length done) place lt c.index-workers-index.is in
     let a = c.requires.worked in
-    (a.0, rw (c.as_slice.ensures.value, place) (rest_works first f f vs v c.args.worked.items done items w rest inv is a.0 a.1 at))
+    (a.0, rw (c.as_slice.ensures, place) (rest_works first f f vs v c.args.worked.items done items w rest inv is a.0 a.1 at))
 
 pub loop-worked-preserved : goal.loop-worked-preserved
 loop-worked-preserved g c =
@@ -54,9 +54,9 @@ loop-worked-preserved g c =
     let place : c.len-index.result ≡ length done = c.len-index.ensures ∙ c.loop-worked.done.ok.0 in
     let at : slice_get vs (length done) ≡ Some v = at_index vs v c.len-index.result (length done) place lt c.index-workers-index.is in
     let goes : Goes (1 + length done) f h = subst (λ k. Goes (1 + k) f h) place c.in_ok-rest.ensures.goes in
-    let works : (old : Fronts) → Works (1 + length done) old f v.items w → Works (1 + length done) old h v.items w' =
-    subst (λ k. (old : Fronts) → Works (1 + k) old f v.items w → Works (1 + k) old h v.items w') place
-    (subst (λ cs. (old : Fronts) → Works (1 + c.len-index.result) old f cs w → Works (1 + c.len-index.result) old h cs w') c.as_slice.ensures.value c.in_ok-rest.ensures.works) in
+    let works : (old : Fronts) → Works (1 + length done) old f v w → Works (1 + length done) old h v w' =
+    subst (λ k. (old : Fronts) → Works (1 + k) old f v w → Works (1 + k) old h v w') place
+    (subst (λ cs. (old : Fronts) → Works (1 + c.len-index.result) old f cs w → Works (1 + c.len-index.result) old h cs w') c.as_slice.ensures c.in_ok-rest.ensures.works) in
     let shorter = ap length is in
     record {
       rest = rw c.in_ok-push.ensures.items (rest_more first f h vs v c.args.worked.items done items w rest inv is w' c.requires.holds c.requires.callers at goes works (c.in_ok-rest.ensures.done (has_all_later first f inv.goes c.requires.holds)));

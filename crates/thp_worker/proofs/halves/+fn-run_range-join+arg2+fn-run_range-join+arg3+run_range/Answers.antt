@@ -12,9 +12,9 @@ returns-clause-ran g t c =
     let is : c.args.first + length c.args.workers.now / 2 ≡ c.args.first + length low = rw c.split_at.ensures.front_len refl in
     let l = rw c.in_ok-left-2.was at c.join-left.ensures.first.0 in
     let r = rw c.in_ok-right.was at c.join-left.ensures.second.0 in
-    rw (← whole, c.in_ok-append.ensures) (ran_both _ _ _ _ c.args.first low high (rw (← whole) at c.requires) c.in_ok-left.ensures is _ _ _ _ l r _ c.in_ok-both.ensures)
+    rw (← whole, c.in_ok-append.ensures.items) (ran_both _ _ _ _ c.args.first low high (rw (← whole) at c.requires) c.in_ok-left.ensures is _ _ _ _ l r _ c.in_ok-both.ensures)
 
 pub returns-clause-answers : goal.returns-clause-answers
 returns-clause-answers g t c =
-    rw c.in_ok-append.ensures
+    rw c.in_ok-append.ensures.items
     (All-append (AnswersAre c.args.answers) c.in_ok-left-2.done.items c.in_ok-right.more.items (rw c.in_ok-left-2.was at c.join-left.ensures.first.1) (rw c.in_ok-right.was at c.join-left.ensures.second.1))

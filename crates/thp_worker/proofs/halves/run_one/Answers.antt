@@ -5,7 +5,7 @@ use Rattle.thp_worker.proofs.HalvesLaws.{ran_one}
 use Rattle.thp_worker.proofs.halves.run_one.Goals as goal
 
 pub returns-clause-ran : goal.returns-clause-ran
-returns-clause-ran g c = ran_one _ _ _ _ _ _ c.requires c.work.ensures.goes (rw c.deref.ensures.value at c.in_ok-worked.ensures.works) (rw c.new-all.ensures.items at c.in_ok-push.ensures.items)
+returns-clause-ran g c = ran_one _ _ _ _ _ _ c.requires c.work.ensures.goes (rw c.as_slice.ensures at c.in_ok-worked.ensures.works) (rw c.new-all.ensures.items at c.in_ok-push.ensures.items)
 
 pub returns-clause-answers : goal.returns-clause-answers
 returns-clause-answers g c =

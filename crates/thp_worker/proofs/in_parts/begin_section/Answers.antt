@@ -6,7 +6,7 @@ use Rattle.thp_worker.proofs.in_parts.begin_section.Goals as goal
 
 pub returns-clause-did : goal.returns-clause-did
 returns-clause-did g c = record {
-  begins = begins_first _ _ _ _ _ c.in_ok-new.ensures.items (c.in_ok-none_open.ensures ∙ ap (λ k. replicate k false) c.nodes.ensures) c.requires;
+  begins = begins_first _ _ _ _ _ c.in_ok-new.ensures.items (c.in_ok-vec.ensures.items_if_clones_equal (λ y h. h) ∙ ap (λ k. replicate k false) c.nodes.ensures) c.requires;
   each = ap length c.in_ok-new.ensures.items;
   few = omega arith;
   fit = All-nil (IsCommandFor _);

@@ -1,11 +1,19 @@
-use Rattle.std.proofs.Common.{◌∙◌, ◌<◌, arith, sym, refl, false, length-set}
+use Rattle.std.proofs.Common.{◌≡◌, ◌∙◌, ◌<◌, ℕ, Bool, List, arith, get_or, length, sym, refl, false, length-set}
+use Rattle.std.proofs.lemmas.Option.{slice_get-get_or}
 use Rattle.thp_history.proofs.Options.{not_there}
 use Rattle.thp_worker.specs.Prelude.{Reaction, answer_of, no_progress, PutsBack}
 use Rattle.thp_worker.proofs.StepLaws.{goes_trans}
 use Rattle.thp_worker.proofs.CommandLaws.{cell_comes}
 use Rattle.thp_worker.proofs.SectionLaws.{room_for_one, ends_more, ends_stop, shut_more, shut_put, not_open, works_end, works_closing}
-use Rattle.thp_worker.proofs.working.close.Goals.{then-is_marked+in_ok-told+in-Some, else-is_marked}
+use Rattle.thp_worker.proofs.working.close.Goals.{then-index+in_ok-told+in-Some, else-index}
 use Rattle.thp_worker.proofs.working.close.Goals as goal
+
+-- a mark, as the code reads it
+marked : (opened : List Bool) (n : ℕ) (r : Bool) → n < length opened → r ≡ get_or opened n r → get_or opened n false ≡ r
+marked opened n r lt is =
+    let one = slice_get-get_or opened n r lt in
+    let two = slice_get-get_or opened n false lt in
+    cc
 
 pub returns-in_err-told-clause-goes : goal.returns-in_err-told-clause-goes
 returns-in_err-told-clause-goes g c = goes_trans _ _ _ _ c.loop-node.invariant.goes c.put_back-called.ensures.goes
@@ -16,7 +24,7 @@ overflow_add-closed g c =
     let e = inv.ends _ _ c.requires.ends.3 in
     let nodes = c.requires.ends.3.grows.same.nodes in
     let lt : c.loop-node.node < c.requires.ends.0.nodes = omega (arith, c.loop-node-test.true, c.nodes-nodes.ensures, nodes) in
-    let room = room_for_one _ _ _ _ _ _ _ _ e lt inv.shut (sym (e.known.each _ lt) ∙ sym c.is_marked.ensures ∙ c.if-is_marked.true) in
+    let room = room_for_one _ _ _ _ _ _ _ _ e lt inv.shut (sym (e.known.each _ lt) ∙ marked c.loop-node.opened.items c.loop-node.node c.index.result.now (omega (arith, c.loop-node-test.true, c.nodes-nodes.ensures, c.loop-node.invariant.count)) c.index.ensures ∙ c.if-index.true) in
     omega (arith, room, nodes, c.nodes-nodes.ensures, c.nodes-nodes.type_inv)
 
 pub returns-in_default-clause-goes : goal.returns-in_default-clause-goes
@@ -35,24 +43,24 @@ loop-node-preserved g c =
     let mid = fronts c.loop-node.steps in
     let who = c.args.worker in
     let node = c.loop-node.node in
-    elim c.if-is_marked.branch [
-      | then-is_marked+in_ok-told+in-Some w ↦
+    elim c.if-index.branch [
+      | then-index+in_ok-told+in-Some w ↦
           let new = fronts w.put_back-called.new.steps in
           let goes = w.put_back-called.ensures.goes in
           let said = w.in-Some.field-0 in
           let answer : Reaction = answer_of said w.put_back-called.new.reply in
           let back = cell_comes no_progress (PutsBack who node mid new) w.put_back-called.result said w.put_back-called.new.reply (rw w.in-Some.is at w.in_ok-told.ensures.some) (rw w.in-Some.is at w.in_ok-told.ensures.memory) w.put_back-called.ensures.back in
-          rw (w.steps-is, w.closed-is, w.opened-is, w.shut.ensures) (record {
+          rw (w.steps-is, w.closed-is, w.opened-is) (record {
             goes = goes_trans _ _ _ _ inv.goes goes;
             ends = λ old commands e.
                 let lt : node < old.nodes = omega (arith, c.loop-node-test.true, c.nodes-nodes.ensures, e.grows.same.nodes) in
                 let now = inv.ends old commands e in
-                ends_more _ _ _ _ _ _ _ _ now lt inv.shut (sym (now.known.each node lt) ∙ sym c.is_marked.ensures ∙ w.if-is_marked.true) new answer goes back;
+                ends_more _ _ _ _ _ _ _ _ now lt inv.shut (sym (now.known.each node lt) ∙ marked c.loop-node.opened.items c.loop-node.node c.index.result.now (omega (arith, c.loop-node-test.true, c.nodes-nodes.ensures, c.loop-node.invariant.count)) c.index.ensures ∙ w.if-index.true) new answer goes back;
             same = inv.same;
             count = length-set c.loop-node.opened.items node false ∙ inv.count;
             shut = shut_put who node mid new answer inv.shut back;
           })
-      | else-is_marked w ↦
+      | else-index w ↦
           rw (w.steps-is, w.closed-is, w.opened-is) (record {
             goes = inv.goes;
             ends = inv.ends;
@@ -61,7 +69,7 @@ loop-node-preserved g c =
             shut =
                 let e = inv.ends _ _ c.requires.ends.3 in
                 let lt : node < c.requires.ends.0.nodes = omega (arith, c.loop-node-test.true, c.nodes-nodes.ensures, c.requires.ends.3.grows.same.nodes) in
-                shut_more who node mid inv.shut (not_open (mid.batches who node) (sym (e.known.each node lt) ∙ sym c.is_marked.ensures ∙ w.if-is_marked.false));
+                shut_more who node mid inv.shut (not_open (mid.batches who node) (sym (e.known.each node lt) ∙ marked c.loop-node.opened.items c.loop-node.node c.index.result.now (omega (arith, c.loop-node-test.true, c.nodes-nodes.ensures, c.loop-node.invariant.count)) c.index.ensures ∙ w.if-index.false));
           })
     ]
 

@@ -4,7 +4,7 @@ use Rattle.thp_worker.proofs.working.work.Goals as goal
 
 pub go_on-requires-clause-begun : goal.go_on-requires-clause-begun
 go_on-requires-clause-begun g c =
-    (g.S.Steps.fronts c.args.steps.now, rw c.no_progress.ensures (begins_first _ _ _ _ _ c.in_ok-log.ensures.items (c.in_ok-opened.ensures ∙ ap (λ k. replicate k false) c.nodes.ensures) c.requires.shut))
+    (g.S.Steps.fronts c.args.steps.now, rw c.no_progress.ensures (begins_first _ _ _ _ _ c.in_ok-log.ensures.items (c.in_ok-opened.ensures.items_if_clones_equal (λ y h. h) ∙ ap (λ k. replicate k false) c.nodes.ensures) c.requires.shut))
 
 pub returns-clause-works : goal.returns-clause-works
 unfolding go_on-requires-clause-begun

@@ -9,6 +9,6 @@ returns-clause-read g c = record {
   text = λ more. sym (c.in_ok-script.ensures.text more) ∙ c.drop_setup.ensures.text more;
   settings = c.drop_setup.ensures.settings ∙ c.in_ok-script.ensures.settings;
   goes = c.do_commands.ensures.goes;
-  did = λ first before d. subst (λ cs. DidFirst 0 first (fronts_in c.do_commands.new.steps) (before ++ cs) c.in_ok-setup.setup) c.setup-2.ensures.commands (c.in_ok-setup.ensures.did first before d);
+  did = λ first before d. subst (λ cs. DidFirst 0 first (fronts_in c.do_commands.new.steps) (before ++ cs) c.in_ok-setup.setup) c.setup.ensures.commands (c.in_ok-setup.ensures.did first before d);
   answers = c.in_ok-setup.ensures.answers;
 }
