@@ -39,7 +39,7 @@ abbrev pub event_at : ℕ → ℕ → ℕ
 event_at room event = scaled 6000 event room
 
 -- a vertical line of this height at a position
-unfoldable pub upright : ℕ → ℕ → List ℕ
+abbrev pub upright : ℕ → ℕ → List ℕ
 upright high x = codes "M" ++ decimal x ++ codes " 0v" ++ decimal high
 
 -- the first k vertical lines, one for each step of events; the axis is the first

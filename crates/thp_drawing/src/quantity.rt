@@ -1,6 +1,5 @@
 //! The quantities that are drawn over a node's events.
 ghost use Rattle.std.specs.Prelude.{◌≡◌};
-ghost use Rattle.thp_drawing.specs.Areas.{edge_of};
 ghost use Rattle.thp_drawing.specs.Quantities.{last_of, most_of, quantity_class, quantity_name, span_in};
 
 use thp_metrics::{Column, Numbers, Span};
@@ -26,13 +25,6 @@ pub(crate) enum Quantity {
     Wait,
     /// No quantity: the lower half of a panel with one quantity.
     Nothing,
-}
-
-/// The number of a column that is drawn: the least or the greatest.
-#[derive(Clone, Copy, Debug, PartialEq, Eq)]
-pub(crate) enum Edge {
-    Least,
-    Greatest,
 }
 
 impl Quantity {
@@ -100,17 +92,5 @@ impl Quantity {
             most = self.span(column).greatest.max(most);
         }
         most
-    }
-}
-
-impl Edge {
-    /// Returns this number of a span.
-    pub(crate) fn of(self, span: Span) -> u128
-        ensures { result ≡ edge_of self span }
-    {
-        match self {
-            Edge::Least => span.least,
-            Edge::Greatest => span.greatest,
-        }
     }
 }
