@@ -7,9 +7,9 @@ use crate::node::DrawnNode;
 use crate::scale::{plus, round_step, scaled, steps_in, times};
 use thp_journal_writer::put;
 
-/// The line from which areas extend upwards and downwards.
+/// The line from which areas extend upwards and downwards, and the end of their group.
 pub(crate) const BASE_LINE: &[u8] =
-    b"<path class=\"zero\" d=\"M0 0h6000\"/>\n<text class=\"soft e\" x=\"-60\" y=\"0\" dy=\"40\">0</text>\n";
+    b"<path class=\"zero\" d=\"M0 0h6000\"/>\n<text class=\"soft e\" x=\"-60\" y=\"0\" dy=\"40\">0</text>\n</g>\n";
 
 /// Appends the first `count` numbers of an axis, on a scale where `most` is 1,000 high, and lines at their heights.
 pub(crate) fn put_ticks(

@@ -5,9 +5,9 @@
 //! `Elements`, `Grouped`, `Styles`).
 //!
 //! - `node`: what is drawn of a node (`Drawn`): its numbers, its columns, the event at which it ends (`illegal_event`).
-//! - `table`; `picture`, `title`, `overview`, `panel`, `quantity`, `rows_panel`, `rows` (one for each page), `lanes` (one for
-//!   each caller's batches), `stages_panel`, `stages`, `stuck`, `bar`, `axis`, `area`, `scale`, `element`, `grouped`, `style`: by
-//!   the same names. A text is a list of pieces (`element`), which one function appends.
+//! - `table`; `picture`, `title`, `overview`, `panel`, `quantity`, `rows` (one for each page), `lanes` (one for each caller's
+//!   batches), `stages`, `stuck`, `bar`, `axis`, `area`, `scale`, `element`, `grouped`, `style`: by the same names. A text is a
+//!   list of pieces (`element`), which one function appends.
 //! - `escaping` (`Escapes`): words as XML has them. `laws` (`Laws`).
 //!
 //! docs/FORMATS.md has both formats; the stored pictures are compared by `tests/drawer.py`.
@@ -28,10 +28,8 @@ mod panel;
 mod picture;
 mod quantity;
 mod rows;
-mod rows_panel;
 mod scale;
 mod stages;
-mod stages_panel;
 mod stuck;
 mod style;
 mod table;
