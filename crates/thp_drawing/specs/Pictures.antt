@@ -8,7 +8,7 @@ use Rattle.thp_drawing.specs.Scales.{plus}
 use Rattle.thp_drawing.specs.Stucks.{stuck_height, stuck_text}
 use Rattle.thp_drawing.specs.Styles.{style}
 use Rattle.thp_drawing.specs.Titles.{illegal_text, node_words}
-use Rattle.thp_drawing.specs.declared.illegal_event.IllegalEvent.{IllegalEvent}
+use Rattle.thp_drawing.specs.declared.node.IllegalEvent.{IllegalEvent}
 use Rattle.thp_drawing.specs.declared.node.DrawnNode.{DrawnNode}
 
 -- where the text about a node's stuck pages begins, below its first illegal event

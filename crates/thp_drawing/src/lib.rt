@@ -4,7 +4,7 @@
 //! (`Pictures`, and `Titles`, `Overviews`, `Panels`, `Quantities`, `Rows`, `Lanes`, `Stucks`, `Bars`, `Axes`, `Areas`, `Scales`,
 //! `Elements`, `Grouped`, `Styles`).
 //!
-//! - `node`: what is drawn of a node (`Drawn`): its numbers, its columns, the event at which it ends (`illegal_event`).
+//! - `node`: what is drawn of a node (`Drawn`): its numbers, its columns, the event at which it ends.
 //! - `table`; `picture`, `title`, `overview`, `panel`, `quantity`, `rows` (one for each page), `lanes` (one for each caller's
 //!   batches), `stages`, `stuck`, `bar`, `axis`, `area`, `scale`, `element`, `grouped`, `style`: by the same names. A text is a
 //!   list of pieces (`element`), which one function appends.
@@ -19,7 +19,6 @@ mod bar;
 mod element;
 mod escaping;
 mod grouped;
-mod illegal_event;
 mod lanes;
 mod laws;
 mod node;
@@ -36,8 +35,7 @@ mod table;
 mod title;
 
 pub use escaping::{escaped_stays_within, put_escaped};
-pub use illegal_event::IllegalEvent;
 pub use laws::each_page_has_its_row;
-pub use node::DrawnNode;
+pub use node::{DrawnNode, IllegalEvent};
 pub use picture::{put_node_picture, put_picture};
 pub use table::{put_node_table, put_table};

@@ -3,8 +3,7 @@ ghost use Rattle.std.specs.Prelude.{◌≡◌, ◌++◌, OnOk};
 ghost use Rattle.thp_drawing.specs.Overviews.{illegal_mark, live_pages, number_cell, overview, overview_foot, overview_heads, overview_line};
 
 use crate::element::{GROUP_END, PutResult, pieces, put_group, put_text, put_words};
-use crate::illegal_event::IllegalEvent;
-use crate::node::DrawnNode;
+use crate::node::{DrawnNode, IllegalEvent};
 use crate::quantity::Quantity;
 use crate::scale::{plus, times};
 use thp_journal_writer::put;

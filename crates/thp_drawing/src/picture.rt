@@ -4,8 +4,7 @@ ghost use Rattle.thp_drawing.specs.Pictures.{axis_top, foot_of, head, node_drawn
 
 use crate::axis::put_event_axis;
 use crate::element::{GROUP_END, PutResult, draw, put_group, put_text};
-use crate::illegal_event::IllegalEvent;
-use crate::node::DrawnNode;
+use crate::node::{DrawnNode, IllegalEvent};
 use crate::overview::{TITLE_FOOT, overview_foot, put_overview};
 use crate::panel::{panels_foot, put_panels};
 use crate::scale::plus;

@@ -6,8 +6,7 @@ ghost use Rattle.thp_drawing.specs.Tables.{caller_item, caller_words, callers_jo
 use crate::bar::is_among;
 use crate::element::{PutResult, draw};
 use crate::grouped::put_decimal;
-use crate::illegal_event::IllegalEvent;
-use crate::node::DrawnNode;
+use crate::node::{DrawnNode, IllegalEvent};
 use itoa::Buffer;
 use std::alloc::AllocError;
 use thp_journal_writer::{put, put_event_line};
