@@ -22,6 +22,9 @@ six t a b c d e f = simp append_assoc
 pub seven : (t a b c d e f g : List ℕ) → t ++ a ++ b ++ c ++ d ++ e ++ f ++ g ≡ t ++ (a ++ b ++ c ++ d ++ e ++ f ++ g)
 seven t a b c d e f g = simp append_assoc
 
+pub eight : (t a b c d e f g h : List ℕ) → t ++ a ++ b ++ c ++ d ++ e ++ f ++ g ++ h ≡ t ++ (a ++ b ++ c ++ d ++ e ++ f ++ g ++ h)
+eight t a b c d e f g h = simp append_assoc
+
 -- ---- texts each of which is the one before and a piece behind it
 pub two_after : (t a b : List ℕ) {u : List ℕ} → u ≡ t ++ a → u ++ b ≡ t ++ (a ++ b)
 two_after t a b p = ap (λ x. x ++ b) p ∙ two t a b

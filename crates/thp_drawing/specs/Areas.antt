@@ -2,30 +2,23 @@
 -- downwards.
 use Rattle.std.specs.Prelude.{ℕ, ◌+◌, ◌-◌, List, [], ◌∷◌, ◌++◌, length, codes, if◌then◌else◌, nat_eq, decimal}
 use Rattle.thp_metrics.specs.declared.column.Column.{Column}
-use Rattle.thp_metrics.specs.declared.span.Span.{Span}
 use Rattle.thp_metrics.specs.declared.stage.Stage.{Stage}
 use Rattle.thp_drawing.specs.Quantities.{most_in, pages_most, prefixes_of, quantity_class, span_in, stage_class, sum_up_to}
 use Rattle.thp_drawing.specs.Scales.{scaled, times}
 use Rattle.thp_drawing.specs.declared.area.Height.{Height}
-use Rattle.thp_drawing.specs.declared.area.Height.TheVariants.{Of, UpTo}
+use Rattle.thp_drawing.specs.declared.area.Height.TheVariants.{Least, Greatest, UpTo}
 use Rattle.thp_drawing.specs.declared.node.DrawnNode.{DrawnNode}
-use Rattle.thp_drawing.specs.declared.quantity.Edge.{Edge}
-use Rattle.thp_drawing.specs.declared.quantity.Edge.TheVariants.{Least, Greatest}
 use Rattle.thp_drawing.specs.declared.quantity.Quantity.{Quantity}
-
--- the number of a span that an area shows
-abbrev pub edge_of : Edge → Span → ℕ
-edge_of Least s = s.least
-edge_of Greatest s = s.greatest
 
 -- the height of column j, on a scale where `most` is 1,000 high: of the least or the greatest number of a quantity, or of the
 -- mean number of pages up to a stage
 abbrev pub height_at : Height → ℕ → Column → ℕ
-height_at (Of q e most) j c = scaled 1000 (edge_of e (span_in q c)) most
+height_at (Least q most) j c = scaled 1000 (span_in q c).least most
+height_at (Greatest q most) j c = scaled 1000 (span_in q c).greatest most
 height_at (UpTo x w prefixes most) j c = scaled 1000 (sum_up_to x c.pages) (times (prefixes_of w prefixes j) most)
 
 -- a step to this height, and this far to the right
-unfoldable pub step_to : List ℕ → ℕ → ℕ → List ℕ
+abbrev pub step_to : List ℕ → ℕ → ℕ → List ℕ
 step_to sign high wide = codes "V" ++ sign ++ decimal high ++ codes "h" ++ decimal wide
 
 -- the width of column j of n: from its position to that of the next
@@ -46,8 +39,8 @@ area kind shade sign height columns =
 -- the greatest of each column, pale, and on top of it the least; columns of one prefix have only one number
 unfoldable pub quantity_areas : List ℕ → Quantity → ℕ → DrawnNode → List ℕ
 quantity_areas sign q most d =
-    (if nat_eq d.width 1 then [] else area (quantity_class q) (codes " pale") sign (Of q Greatest most) d.columns.items)
-    ++ area (quantity_class q) [] sign (Of q Least most) d.columns.items
+    (if nat_eq d.width 1 then [] else area (quantity_class q) (codes " pale") sign (Greatest q most) d.columns.items)
+    ++ area (quantity_class q) [] sign (Least q most) d.columns.items
 
 -- the pages of a stage, and below them those of earlier ones; nothing if no page was ever in it
 abbrev pub stage_area : Stage → DrawnNode → List ℕ

@@ -16,9 +16,9 @@ abbrev pub ticks : List ℕ → ℕ → ℕ → ℕ → List ℕ
 ticks sign step most zero = []
 ticks sign step most (suc k) = ticks sign step most k ++ tick sign (times step (suc k)) (scaled 1000 (times step (suc k)) most)
 
--- the line from which areas extend upwards and downwards
+-- the line from which areas extend upwards and downwards, and the end of their group
 abbrev pub base_line : List ℕ
-base_line = codes "<path class=\"zero\" d=\"M0 0h6000\"/>\n<text class=\"soft e\" x=\"-60\" y=\"0\" dy=\"40\">0</text>\n"
+base_line = codes "<path class=\"zero\" d=\"M0 0h6000\"/>\n<text class=\"soft e\" x=\"-60\" y=\"0\" dy=\"40\">0</text>\n</g>\n"
 
 -- the number of a node's events that are drawn, and the number that there is room for
 abbrev pub events_of : DrawnNode → ℕ
@@ -39,7 +39,7 @@ abbrev pub event_at : ℕ → ℕ → ℕ
 event_at room event = scaled 6000 event room
 
 -- a vertical line of this height at a position
-unfoldable pub upright : ℕ → ℕ → List ℕ
+abbrev pub upright : ℕ → ℕ → List ℕ
 upright high x = codes "M" ++ decimal x ++ codes " 0v" ++ decimal high
 
 -- the first k vertical lines, one for each step of events; the axis is the first

@@ -1,13 +1,11 @@
 -- The callers of a node: a lane for each that ever had pages in its batch, whose bars show when.
-use Rattle.std.specs.Prelude.{ℕ, zero, suc, Bool, false, ◌+◌, ◌&&◌, List, [], ◌++◌, codes, if◌then◌else◌, nat_le, nat_lt}
+use Rattle.std.specs.Prelude.{ℕ, zero, suc, Bool, false, ◌+◌, List, [], ◌++◌, codes, if◌then◌else◌, nat_le, nat_lt}
 use Rattle.thp_metrics.specs.declared.column.Column.{Column}
 use Rattle.thp_metrics.specs.Prelude.{shown_callers}
 use Rattle.thp_drawing.specs.Axes.{tick}
 use Rattle.thp_drawing.specs.Bars.{bar_at, bar_turns}
-use Rattle.thp_drawing.specs.Elements.{item_at}
-use Rattle.thp_drawing.specs.Panels.{graph_start, panel_end, panel_start}
 use Rattle.thp_drawing.specs.Rows.{max_turns, row_middle}
-use Rattle.thp_drawing.specs.Scales.{plus, times}
+use Rattle.thp_drawing.specs.Scales.{times}
 use Rattle.thp_drawing.specs.declared.bar.Bar.TheVariants.{BatchOf}
 use Rattle.thp_drawing.specs.declared.node.DrawnNode.{DrawnNode}
 
@@ -33,10 +31,6 @@ lane_count columns = lanes_below columns shown_callers
 unfoldable pub all_turns : List Column → ℕ
 all_turns columns = turns_below columns shown_callers
 
--- there are lanes, and their bars can be distinguished
-abbrev pub has_lanes : DrawnNode → Bool
-has_lanes d = nat_le 1 (lane_count d.columns.items) && nat_le (all_turns d.columns.items) max_turns
-
 -- the height of a lane
 abbrev pub lane_height : ℕ
 lane_height = 140
@@ -59,18 +53,7 @@ lanes columns (suc k) = lanes columns k ++ lane_at columns (lanes_below columns 
 unfoldable pub all_lanes : List Column → List ℕ
 all_lanes columns = lanes columns shown_callers
 
-unfoldable pub lanes_title : List ℕ
-lanes_title = item_at (codes "s3") 0 (codes "pages in its batch at least once in a column")
-
-unfoldable pub lanes_drawn : ℕ → DrawnNode → List ℕ
-lanes_drawn y d =
-    panel_start y (codes "caller") ++ lanes_title ++ graph_start (times lane_height (lane_count d.columns.items)) d
-    ++ all_lanes d.columns.items ++ panel_end
-
--- the panel of lanes, from this height on
-abbrev pub lanes_panel : ℕ → DrawnNode → List ℕ
-lanes_panel y d = if has_lanes d then lanes_drawn y d else []
-
--- its height
+-- their height: 0 if there are none, or if their bars can't be distinguished
 abbrev pub lanes_height : DrawnNode → ℕ
-lanes_height d = if has_lanes d then plus 360 (times lane_height (lane_count d.columns.items)) else 0
+lanes_height d =
+    if nat_le (all_turns d.columns.items) max_turns then times lane_height (lane_count d.columns.items) else 0

@@ -5,7 +5,7 @@ use Rattle.thp_drawing.specs.Elements.{group_end, group_start, text_at}
 use Rattle.thp_drawing.specs.Grouped.{grouped}
 use Rattle.thp_drawing.specs.Quantities.{most_of}
 use Rattle.thp_drawing.specs.Scales.{plus, times}
-use Rattle.thp_drawing.specs.declared.illegal_event.IllegalEvent.{IllegalEvent}
+use Rattle.thp_drawing.specs.declared.node.IllegalEvent.{IllegalEvent}
 use Rattle.thp_drawing.specs.declared.node.DrawnNode.{DrawnNode}
 use Rattle.thp_drawing.specs.declared.quantity.Quantity.TheVariants.{Queue}
 

@@ -6,7 +6,7 @@ use Rattle.thp_metrics.specs.declared.pages.PageSums.{PageSums}
 use Rattle.thp_metrics.specs.declared.span.Span.{Span}
 use Rattle.thp_metrics.specs.declared.stage.Stage.{Stage}
 use Rattle.thp_metrics.specs.declared.stage.Stage.TheVariants.{Allocated, PartlyMapped, Queued, InBatch, Split}
-use Rattle.thp_drawing.specs.Scales.{plus, times}
+use Rattle.thp_drawing.specs.Scales.{doubled_step, plus, round_step, times}
 use Rattle.thp_drawing.specs.declared.node.DrawnNode.{DrawnNode}
 use Rattle.thp_drawing.specs.declared.quantity.Quantity.{Quantity}
 use Rattle.thp_drawing.specs.declared.quantity.Quantity.TheVariants.{Queue, InBatches, Held, Given, Splits, PinnedTries, UnderusedSplits, Wait, Nothing}
@@ -28,6 +28,22 @@ quantity_name q = (quantity_row q).0
 
 abbrev pub quantity_class : Quantity → List ℕ
 quantity_class q = (quantity_row q).1
+
+-- what its numbers count
+abbrev pub quantity_unit : Quantity → List ℕ
+quantity_unit Held = codes "frames"
+quantity_unit Given = codes "frames"
+quantity_unit Splits = codes "tries"
+quantity_unit PinnedTries = codes "tries"
+quantity_unit UnderusedSplits = codes "tries"
+quantity_unit Wait = codes "events"
+quantity_unit _ = codes "pages"
+
+-- the step of its numbers up to n
+abbrev pub quantity_step : Quantity → ℕ → ℕ
+quantity_step Held n = doubled_step n
+quantity_step Given n = doubled_step n
+quantity_step _ n = round_step n
 
 -- its least and its greatest number in a column
 abbrev pub span_in : Quantity → Column → Span

@@ -7,7 +7,6 @@ use Rattle.thp_metrics.specs.declared.stage.Stage.TheVariants.{Allocated, Partly
 use Rattle.thp_metrics.specs.Prelude.{shown_pages}
 use Rattle.thp_drawing.specs.Axes.{tick}
 use Rattle.thp_drawing.specs.Bars.{bar_at, bar_turns}
-use Rattle.thp_drawing.specs.Panels.{graph_start, panel_end, panel_start, stage_items}
 use Rattle.thp_drawing.specs.Quantities.{most_in, stage_class}
 use Rattle.thp_drawing.specs.Scales.{plus, steps_in, times}
 use Rattle.thp_drawing.specs.declared.bar.Bar.TheVariants.{PageIn}
@@ -87,16 +86,9 @@ stage_bars x count d =
     else (codes "<path class=\"" ++ row_class count ++ stage_class x ++ codes "\" d=\"")
     ++ stage_rows x (row_height count) d.columns.items count ++ codes "\"/>\n"
 
-unfoldable pub bars : ℕ → DrawnNode → List ℕ
-bars count d =
-    stage_bars Allocated count d ++ stage_bars PartlyMapped count d ++ stage_bars Queued count d
+-- this many rows: numbers, thin lines, and bars
+unfoldable pub rows_drawn : ℕ → DrawnNode → List ℕ
+rows_drawn count d =
+    row_numbers (row_height count) (number_step count) (numbers_of count)
+    ++ stage_bars Allocated count d ++ stage_bars PartlyMapped count d ++ stage_bars Queued count d
     ++ stage_bars InBatch count d ++ stage_bars Split count d
-
--- the panel of this many rows, from this height on
-abbrev pub panel_of_rows : ℕ → ℕ → DrawnNode → List ℕ
-panel_of_rows count y d =
-    panel_start y (codes "page") ++ stage_items d ++ graph_start (rows_height count) d
-    ++ row_numbers (row_height count) (number_step count) (numbers_of count) ++ bars count d ++ panel_end
-
-unfoldable pub rows_panel : ℕ → DrawnNode → List ℕ
-rows_panel y d = panel_of_rows (allocated_pages d) y d

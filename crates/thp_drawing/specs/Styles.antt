@@ -3,7 +3,7 @@ use Rattle.std.specs.Prelude.{ℕ, List, ◌++◌, codes}
 
 -- the size at which the picture is shown, its font, and the sizes of letters, lines and bars; then colours: letters, lines and
 -- frames, and the stages of pages, first on a light background and then on a dark one
-unfoldable pub style : List ℕ
+abbrev pub style : List ℕ
 style =
     codes "<style>\n"
     ++ codes "svg{display:block;width:100%;max-width:1080px;height:auto;margin:0 auto;color-scheme:light dark}\n"

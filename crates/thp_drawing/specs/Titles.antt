@@ -4,7 +4,7 @@ use Rattle.thp_history.specs.declared.events.Event.{Event}
 use Rattle.thp_journal_writer.specs.Prelude.{event_line}
 use Rattle.thp_drawing.specs.Elements.{text_at}
 use Rattle.thp_drawing.specs.Grouped.{many}
-use Rattle.thp_drawing.specs.declared.illegal_event.IllegalEvent.{IllegalEvent}
+use Rattle.thp_drawing.specs.declared.node.IllegalEvent.{IllegalEvent}
 use Rattle.thp_drawing.specs.declared.node.DrawnNode.{DrawnNode}
 
 abbrev pub threshold_words : Option ℕ → List ℕ

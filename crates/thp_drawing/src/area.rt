@@ -1,10 +1,10 @@
 //! Areas over a node's columns.
-ghost use Rattle.std.specs.Prelude.{◌≡◌, ◌<◌, ◌^◌, ◌++◌, length, codes, OnOk};
-ghost use Rattle.thp_drawing.specs.Areas.{area, column_width, height_at, outline, quantity_areas, stage_area, step_to};
+ghost use Rattle.std.specs.Prelude.{◌≡◌, ◌<◌, ◌^◌, ◌++◌, OnOk};
+ghost use Rattle.thp_drawing.specs.Areas.{area, column_width, height_at, quantity_areas, stage_area};
 
 use crate::element::{PutResult, draw};
 use crate::node::DrawnNode;
-use crate::quantity::{Edge, Quantity};
+use crate::quantity::Quantity;
 use crate::scale::{scaled, times};
 use crate::stages::{most_in, pages_most, prefixes_of, stage_words, sum_up_to};
 use thp_journal_writer::put;
@@ -13,8 +13,10 @@ use thp_metrics::{Column, Stage};
 /// What the heights of an area are, on a scale where `most` is 1,000 high.
 #[derive(Clone, Copy, Debug, PartialEq, Eq)]
 pub(crate) enum Height {
-    /// The least or the greatest number of a column.
-    Of(Quantity, Edge, u128),
+    /// The least number of a column.
+    Least(Quantity, u128),
+    /// The greatest number of a column.
+    Greatest(Quantity, u128),
     /// The mean number of pages up to a stage, given the prefixes of a column, and of all columns.
     UpTo(Stage, u64, u128, u128),
 }
@@ -24,7 +26,8 @@ fn height_at(height: Height, place: usize, column: &Column) -> u128
     ensures { result ≡ height_at height place column.now }
 {
     match height {
-        Height::Of(quantity, edge, most) => scaled(1000, edge.of(quantity.span(column)), most),
+        Height::Least(quantity, most) => scaled(1000, quantity.span(column).least, most),
+        Height::Greatest(quantity, most) => scaled(1000, quantity.span(column).greatest, most),
         Height::UpTo(stage, width, prefixes, most) => {
             let room = times(prefixes_of(width, prefixes, place), most);
             scaled(1000, sum_up_to(stage, &column.pages), room)
@@ -45,12 +48,18 @@ pub(crate) fn put_quantity_areas(
 {
     let (_, kind) = quantity.words();
     let columns = node.columns.as_slice();
-    let greatest = Height::Of(quantity, Edge::Greatest, most);
     if node.width != 1 {
+        let greatest = Height::Greatest(quantity, most);
         put_area(text, kind, b" pale", sign, greatest, columns)?;
     }
-    let least = Height::Of(quantity, Edge::Least, most);
-    put_area(text, kind, b"", sign, least, columns)
+    put_area(
+        text,
+        kind,
+        b"",
+        sign,
+        Height::Least(quantity, most),
+        columns,
+    )
 }
 
 // An area of this class, and of this shade.
@@ -66,19 +75,13 @@ fn put_area<'a>(
     ensures { OnOk result (text.new.items ≡ text.old.items ++ area kind.now shade.now sign.now height columns.now) }
 {
     draw!(text; Bytes(b"<path class=\"") Bytes(kind) Bytes(shade) Bytes(b"\" d=\"M0 0"))?;
-    put_outline(text, sign, height, columns)?;
-    put(text, b"V0z\"/>\n")
-}
-
-fn put_outline(text: &mut Vec<u8>, sign: &[u8], height: Height, columns: &[Column]) -> PutResult
-    ensures { OnOk result (text.new.items ≡ text.old.items ++ outline sign.now height (length columns.now) 0 columns.now) }
-{
     let count = columns.len() as u128;
     for (place, column) in columns.iter().enumerate() {
         let high = height_at(height, place, column);
-        put_step(text, sign, high, column_width(count, place as u128))?;
+        let wide = column_width(count, place as u128);
+        draw!(text; Bytes(b"V") Bytes(sign) Decimal(high) Bytes(b"h") Decimal(wide))?;
     }
-    Ok(())
+    put(text, b"V0z\"/>\n")
 }
 
 // The width of the column at this index, of `count`: from its position to that of the next.
@@ -87,14 +90,6 @@ fn column_width(count: u128, place: u128) -> u128
     ensures { result ≡ column_width count place }
 {
     scaled(6000, place + 1, count).saturating_sub(scaled(6000, place, count))
-}
-
-// A step to this height, and this far to the right.
-#[tactic(auto, unfolding(crate::specs::Areas::step_to))]
-fn put_step(text: &mut Vec<u8>, sign: &[u8], high: u128, wide: u128) -> PutResult
-    ensures { OnOk result (text.new.items ≡ text.old.items ++ step_to sign.now high wide) }
-{
-    draw!(text; Bytes(b"V") Bytes(sign) Decimal(high) Bytes(b"h") Decimal(wide))
 }
 
 /// Appends the area of a stage, if any page was ever in it.

@@ -1,16 +1,15 @@
 //! Axes: numbers next to lines.
 ghost use Rattle.std.specs.Prelude.{◌≡◌, ◌++◌, OnOk};
-ghost use Rattle.thp_drawing.specs.Axes.{event_axis, event_marks, event_numbers, event_rules, event_step, room_of, tick};
-ghost use Rattle.thp_drawing.specs.Axes.{ticks, upright, uprights};
+ghost use Rattle.thp_drawing.specs.Axes.{event_axis, event_marks, event_rules, event_step, room_of, tick, ticks};
 
 use crate::element::{GROUP_END, PutResult, draw, pieces, put_group, put_words};
 use crate::node::DrawnNode;
 use crate::scale::{plus, round_step, scaled, steps_in, times};
 use thp_journal_writer::put;
 
-/// The line from which areas extend upwards and downwards.
+/// The line from which areas extend upwards and downwards, and the end of their group.
 pub(crate) const BASE_LINE: &[u8] =
-    b"<path class=\"zero\" d=\"M0 0h6000\"/>\n<text class=\"soft e\" x=\"-60\" y=\"0\" dy=\"40\">0</text>\n";
+    b"<path class=\"zero\" d=\"M0 0h6000\"/>\n<text class=\"soft e\" x=\"-60\" y=\"0\" dy=\"40\">0</text>\n</g>\n";
 
 /// Appends the first `count` numbers of an axis, on a scale where `most` is 1,000 high, and lines at their heights.
 pub(crate) fn put_ticks(
@@ -71,30 +70,13 @@ pub(crate) fn put_event_rules(text: &mut Vec<u8>, high: u128, node: &DrawnNode) 
     ensures { OnOk result (text.new.items ≡ text.old.items ++ event_rules high node.now) }
 {
     put(text, b"<path class=\"rule\" d=\"")?;
-    put_uprights(
-        text,
-        high,
-        event_step(node),
-        room_of(node),
-        event_marks(node),
-    )?;
-    put(text, b"\"/>\n")
-}
-
-fn put_uprights(text: &mut Vec<u8>, high: u128, step: u128, room: u128, count: u128) -> PutResult
-    ensures { OnOk result (text.new.items ≡ text.old.items ++ uprights high step room count) }
-{
-    for before in 0..count {
-        put_upright(text, high, scaled(6000, times(step, before), room))?;
+    let step = event_step(node);
+    let room = room_of(node);
+    for before in 0..event_marks(node) {
+        let x = scaled(6000, times(step, before), room);
+        draw!(text; Bytes(b"M") Decimal(x) Bytes(b" 0v") Decimal(high))?;
     }
-    Ok(())
-}
-
-#[tactic(auto, unfolding(crate::specs::Axes::upright))]
-fn put_upright(text: &mut Vec<u8>, high: u128, x: u128) -> PutResult
-    ensures { OnOk result (text.new.items ≡ text.old.items ++ upright high x) }
-{
-    draw!(text; Bytes(b"M") Decimal(x) Bytes(b" 0v") Decimal(high))
+    put(text, b"\"/>\n")
 }
 
 /// Appends the numbers of events at this height.
@@ -107,17 +89,12 @@ pub(crate) fn put_event_axis(text: &mut Vec<u8>, y: u128, node: &DrawnNode) -> P
         text,
         b"<text class=\"soft e\" x=\"-130\" y=\"0\">event</text>\n",
     )?;
-    put_event_numbers(text, event_step(node), room_of(node), event_marks(node))?;
-    put(text, GROUP_END)
-}
-
-fn put_event_numbers(text: &mut Vec<u8>, step: u128, room: u128, count: u128) -> PutResult
-    ensures { OnOk result (text.new.items ≡ text.old.items ++ event_numbers step room count) }
-{
-    for before in 0..count {
+    let step = event_step(node);
+    let room = room_of(node);
+    for before in 0..event_marks(node) {
         let event = times(step, before);
         let x = scaled(6000, event, room);
         put_words(text, b"soft c", x, 0, &pieces!(Grouped(event)))?;
     }
-    Ok(())
+    put(text, GROUP_END)
 }

@@ -19,16 +19,12 @@ pub fn put_escaped(text: &mut Vec<u8>, words: &[u8]) -> Result<(), AllocError>
 fn put_byte(text: &mut Vec<u8>, byte: u8) -> PutResult
     ensures { OnOk result (text.new.items ≡ text.old.items ++ escaped_byte byte) }
 {
-    if byte == b'&' {
-        put(text, b"&amp;")
-    } else if byte == b'<' {
-        put(text, b"&lt;")
-    } else if byte == b'>' {
-        put(text, b"&gt;")
-    } else if byte == b'"' {
-        put(text, b"&quot;")
-    } else {
-        put(text, &[byte])
+    match byte {
+        b'&' => put(text, b"&amp;"),
+        b'<' => put(text, b"&lt;"),
+        b'>' => put(text, b"&gt;"),
+        b'"' => put(text, b"&quot;"),
+        _ => put(text, &[byte]),
     }
 }
 

@@ -44,19 +44,11 @@ fn put_groups(text: &mut Vec<u8>, number: u128, powers: &[u128]) -> PutResult
     ensures { OnOk result (text.new.items ≡ text.old.items ++ flat_map (group_at number) powers.now) }
 {
     for power in powers {
-        put_group_at(text, number, *power)?;
+        if number >= *power {
+            put_group(text, number / (*power).max(1))?;
+        }
     }
     Ok(())
-}
-
-// The digits that count this power of 1,000.
-fn put_group_at(text: &mut Vec<u8>, number: u128, power: u128) -> PutResult
-    ensures { OnOk result (text.new.items ≡ text.old.items ++ group_at number power) }
-{
-    if number < power {
-        return Ok(());
-    }
-    put_group(text, number / power.max(1))
 }
 
 // The last three digits of a number, after a comma if there are others before them.

@@ -2,10 +2,18 @@
 ghost use Rattle.std.specs.Prelude.{◌≡◌, IfOk};
 ghost use Rattle.thp_drawing.specs.Drawn.{AreColumnsOf, IsDrawn};
 
-use crate::illegal_event::IllegalEvent;
 use std::alloc::{AllocError, Global};
-use thp_history::Shape;
+use thp_history::{Event, Shape};
 use thp_metrics::{Column, Columns, NodeSeries, Numbers, StuckPage};
+
+/// The first event of a node that does not fit those before it.
+#[derive(Clone, Copy, Debug, PartialEq, Eq)]
+pub struct IllegalEvent {
+    /// The line of the event in the journal's text, counted from 1.
+    pub line: u64,
+    /// The event, as in its line.
+    pub event: Event,
+}
 
 /// The data of a node that is drawn: its numbers over its events, or over those before its first illegal event.
 #[derive(Drop)]

@@ -1,11 +1,9 @@
 //! The overview of all nodes.
 ghost use Rattle.std.specs.Prelude.{◌≡◌, ◌++◌, OnOk};
-ghost use Rattle.thp_drawing.specs.Overviews.{illegal_mark, live_pages, number_cell, overview, overview_foot};
-ghost use Rattle.thp_drawing.specs.Overviews.{overview_heads, overview_line, overview_lines};
+ghost use Rattle.thp_drawing.specs.Overviews.{illegal_mark, live_pages, number_cell, overview, overview_foot, overview_heads, overview_line};
 
 use crate::element::{GROUP_END, PutResult, pieces, put_group, put_text, put_words};
-use crate::illegal_event::IllegalEvent;
-use crate::node::DrawnNode;
+use crate::node::{DrawnNode, IllegalEvent};
 use crate::quantity::Quantity;
 use crate::scale::{plus, times};
 use thp_journal_writer::put;
@@ -34,7 +32,11 @@ pub(crate) fn put_overview(text: &mut Vec<u8>, nodes: &[DrawnNode]) -> PutResult
         return Ok(());
     }
     put_overview_heads(text)?;
-    put_overview_lines(text, nodes)
+    for (number, node) in nodes.iter().enumerate() {
+        let y = plus(1060, times(165, number as u128));
+        put_overview_line(text, y, number, node)?;
+    }
+    Ok(())
 }
 
 #[tactic(auto, using(crate::proofs::Pieces::five), unfolding(crate::specs::Overviews::overview_heads))]
@@ -46,16 +48,6 @@ fn put_overview_heads(text: &mut Vec<u8>) -> PutResult
     put_text(text, b"soft e", 3900, 895, b"most queued")?;
     put_text(text, b"soft e", 5400, 895, b"frames held")?;
     put_text(text, b"soft e", 6900, 895, b"given back")
-}
-
-fn put_overview_lines(text: &mut Vec<u8>, nodes: &[DrawnNode]) -> PutResult
-    ensures { OnOk result (text.new.items ≡ text.old.items ++ overview_lines 1060 0 nodes.now) }
-{
-    for (number, node) in nodes.iter().enumerate() {
-        let y = plus(1060, times(165, number as u128));
-        put_overview_line(text, y, number, node)?;
-    }
-    Ok(())
 }
 
 #[tactic(auto, using(crate::proofs::Pieces::seven), unfolding(crate::specs::Overviews::overview_line))]

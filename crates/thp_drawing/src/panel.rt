@@ -1,81 +1,143 @@
-//! Panels: one for each unit of what is drawn.
+//! The panels of a node.
 ghost use Rattle.std.specs.Prelude.{◌≡◌, ◌++◌, [], codes, OnOk};
-ghost use Rattle.thp_drawing.specs.Panels.{graph_start, half_most, panel_at, panel_end, panel_halves, panel_most, panel_start, panel_step, quantities_of, quantity_half, quantity_item, unit_of};
+ghost use Rattle.thp_drawing.specs.Panels.{below, content_height, height_of, panel_at, panel_content, panel_start, panel_title, panels_drawn, panels_foot, panels_of};
+ghost use Rattle.thp_drawing.specs.Panels.{half_most, quantity_half, quantity_halves, quantity_item, unit_of};
 
 use crate::area::put_quantity_areas;
 use crate::axis::{BASE_LINE, put_event_rules, put_ticks};
-use crate::element::{GROUP_END, PutResult, draw, pieces, put_group, put_item};
+use crate::element::{PutResult, draw, pieces, put_group, put_item};
+use crate::lanes::{lanes_height, put_lanes};
 use crate::node::DrawnNode;
 use crate::quantity::Quantity;
-use crate::scale::{doubled_step, plus, round_step, scaled, steps_in, times};
+use crate::rows::{allocated_pages, has_rows, put_rows, rows_height};
+use crate::scale::{plus, scaled, steps_in, times};
+use crate::stages::{pages_most, put_stage_items, put_stages};
 use thp_journal_writer::put;
 
-/// A panel of two quantities, one drawn upwards and the other downwards, each on its own scale.
+/// A panel of a node.
 #[derive(Clone, Copy, Debug, PartialEq, Eq)]
 pub(crate) enum Panel {
-    /// Pages in the queue, and in batches.
-    Pages,
-    /// The time that the longest waiting page has waited.
-    Waits,
-    /// Frames held, and given back.
-    Frames,
-    /// Tries that split a page so far, and that found it pinned.
-    Tries,
-    /// Pages split so far that were underused.
-    Underused,
+    /// Two quantities, one drawn upwards and the other downwards, each on its own scale.
+    Quantities(Quantity, Quantity),
+    /// A lane for each caller that ever had pages in its batch.
+    Lanes,
+    /// A row for each page.
+    Rows,
+    /// The number of pages in each stage.
+    Stages,
 }
 
 impl Panel {
-    // The quantity that is drawn upwards, and the one that is drawn downwards.
-    fn quantities(self) -> (Quantity, Quantity)
-        ensures { (result.0, result.1) ≡ quantities_of self }
-    {
-        match self {
-            Panel::Pages => (Quantity::Queue, Quantity::InBatches),
-            Panel::Waits => (Quantity::Wait, Quantity::Nothing),
-            Panel::Frames => (Quantity::Held, Quantity::Given),
-            Panel::Tries => (Quantity::Splits, Quantity::PinnedTries),
-            Panel::Underused => (Quantity::UnderusedSplits, Quantity::Nothing),
-        }
-    }
-
     // What its numbers count.
     fn unit(self) -> &'static [u8]
         ensures { result.now ≡ unit_of self }
     {
         match self {
-            Panel::Pages => b"pages",
-            Panel::Waits => b"events",
-            Panel::Frames => b"frames",
-            Panel::Tries | Panel::Underused => b"tries",
+            Panel::Quantities(up, _) => up.unit(),
+            Panel::Lanes => b"caller",
+            Panel::Rows => b"page",
+            Panel::Stages => b"pages",
         }
     }
 
-    // The step of the panel's numbers up to this one.
-    fn step(self, number: u128) -> u128
-        ensures { result ≡ panel_step self number }
+    // The height of its content: 0 if the panel is left out.
+    fn content_height(self, node: &DrawnNode) -> u128
+        ensures { result ≡ content_height self node.now }
     {
         match self {
-            Panel::Pages | Panel::Waits | Panel::Tries | Panel::Underused => round_step(number),
-            Panel::Frames => doubled_step(number),
+            Panel::Quantities(up, down) => {
+                let columns = node.columns.as_slice();
+                height_of(plus(up.most(columns), down.most(columns)))
+            }
+            Panel::Lanes => lanes_height(node),
+            Panel::Rows => rows_height(allocated_pages(node)),
+            Panel::Stages => height_of(pages_most(node)),
         }
-    }
-
-    /// Returns the sum of the greatest numbers of both quantities.
-    pub(crate) fn most(self, node: &DrawnNode) -> u128
-        ensures { result ≡ panel_most self node.now }
-    {
-        let (up, down) = self.quantities();
-        plus(
-            up.most(node.columns.as_slice()),
-            down.most(node.columns.as_slice()),
-        )
     }
 }
 
-/// Begins a panel from this height on, whose numbers count these.
+// The height of what is drawn on a scale whose greatest number is this.
+fn height_of(most: u128) -> u128
+    ensures { result ≡ height_of most }
+{
+    if most == 0 { 0 } else { 1000 }
+}
+
+// The lower end of a panel that begins at this height, and whose content is this high.
+fn below(y: u128, high: u128) -> u128
+    ensures { result ≡ below y high }
+{
+    if high == 0 {
+        y
+    } else {
+        plus(y, plus(360, high))
+    }
+}
+
+// The panels of a node, from top to bottom. The last has a row for each page, or the number of pages in each stage.
+fn panels_of(node: &DrawnNode) -> [Panel; 7]
+    ensures { result ≡ panels_of node.now }
+{
+    [
+        Panel::Quantities(Quantity::Queue, Quantity::InBatches),
+        Panel::Lanes,
+        Panel::Quantities(Quantity::Wait, Quantity::Nothing),
+        Panel::Quantities(Quantity::Held, Quantity::Given),
+        Panel::Quantities(Quantity::Splits, Quantity::PinnedTries),
+        Panel::Quantities(Quantity::UnderusedSplits, Quantity::Nothing),
+        if has_rows(node) {
+            Panel::Rows
+        } else {
+            Panel::Stages
+        },
+    ]
+}
+
+/// Returns the lower end of a node's panels, which begin at this height.
+pub(crate) fn panels_foot(top: u128, node: &DrawnNode) -> u128
+    ensures { result ≡ panels_foot top (panels_of node.now) node.now }
+{
+    let panels = panels_of(node);
+    let mut y = top;
+    for panel in &panels {
+        y = below(y, panel.content_height(node));
+    }
+    y
+}
+
+/// Appends a node's panels from this height on.
+pub(crate) fn put_panels(text: &mut Vec<u8>, top: u128, node: &DrawnNode) -> PutResult
+    ensures { OnOk result (text.new.items ≡ text.old.items ++ panels_drawn top (panels_of node.now) node.now) }
+{
+    let panels = panels_of(node);
+    let mut y = top;
+    for panel in &panels {
+        let high = panel.content_height(node);
+        put_panel(text, *panel, y, high, node)?;
+        y = below(y, high);
+    }
+    Ok(())
+}
+
+// A panel from this height on, whose content is this high.
+#[tactic(auto, using(crate::proofs::Pieces::six), unfolding(crate::specs::Panels::panel_at))]
+fn put_panel(text: &mut Vec<u8>, panel: Panel, y: u128, high: u128, node: &DrawnNode) -> PutResult
+    ensures { OnOk result (text.new.items ≡ text.old.items ++ panel_at panel y high node.now) }
+{
+    if high == 0 {
+        return Ok(());
+    }
+    put_panel_start(text, y, panel.unit())?;
+    put_panel_title(text, panel, node)?;
+    put_group(text, 0, 260)?;
+    put_event_rules(text, high, node)?;
+    put_panel_content(text, panel, node)?;
+    put(text, b"</g>\n</g>\n")
+}
+
+// The beginning of a panel whose numbers count these.
 #[tactic(auto, using(crate::proofs::Pieces::two), unfolding(crate::specs::Panels::panel_start))]
-pub(crate) fn put_panel_start(text: &mut Vec<u8>, y: u128, unit: &[u8]) -> PutResult
+fn put_panel_start(text: &mut Vec<u8>, y: u128, unit: &[u8]) -> PutResult
     ensures { OnOk result (text.new.items ≡ text.old.items ++ panel_start y unit.now) }
 {
     put_group(text, 900, y)?;
@@ -84,37 +146,33 @@ pub(crate) fn put_panel_start(text: &mut Vec<u8>, y: u128, unit: &[u8]) -> PutRe
     )
 }
 
-/// Begins the content of a panel, which is this high, below its title.
-#[tactic(auto, using(crate::proofs::Pieces::two), unfolding(crate::specs::Panels::graph_start))]
-pub(crate) fn put_graph_start(text: &mut Vec<u8>, high: u128, node: &DrawnNode) -> PutResult
-    ensures { OnOk result (text.new.items ≡ text.old.items ++ graph_start high node.now) }
+// The colours and words above a panel's content.
+#[tactic(auto, using(crate::proofs::Pieces::two))]
+fn put_panel_title(text: &mut Vec<u8>, panel: Panel, node: &DrawnNode) -> PutResult
+    ensures { OnOk result (text.new.items ≡ text.old.items ++ panel_title panel node.now) }
 {
-    put_group(text, 0, 260)?;
-    put_event_rules(text, high, node)
-}
-
-/// Ends a panel.
-pub(crate) fn put_panel_end(text: &mut Vec<u8>) -> PutResult
-    ensures { OnOk result (text.new.items ≡ text.old.items ++ panel_end) }
-{
-    put(text, b"</g>\n</g>\n")
-}
-
-/// Appends a panel from this height on, unless its numbers are all 0.
-#[tactic(auto, using(crate::proofs::Pieces::six), unfolding(crate::specs::Panels::panel_at))]
-pub(crate) fn put_panel(text: &mut Vec<u8>, panel: Panel, y: u128, node: &DrawnNode) -> PutResult
-    ensures { OnOk result (text.new.items ≡ text.old.items ++ panel_at panel y node.now) }
-{
-    if panel.most(node) == 0 {
-        return Ok(());
+    match panel {
+        Panel::Quantities(up, down) => {
+            put_quantity_item(text, up, 0, node)?;
+            put_quantity_item(text, down, 3000, node)
+        }
+        Panel::Lanes => {
+            let words = pieces!(Bytes(b"pages in its batch at least once in a column"));
+            put_item(text, b"s3", 0, &words)
+        }
+        Panel::Rows | Panel::Stages => put_stage_items(text, node),
     }
-    let (up, down) = panel.quantities();
-    put_panel_start(text, y, panel.unit())?;
-    put_quantity_item(text, up, 0, node)?;
-    put_quantity_item(text, down, 3000, node)?;
-    put_graph_start(text, 1000, node)?;
-    put_panel_halves(text, panel, node)?;
-    put_panel_end(text)
+}
+
+fn put_panel_content(text: &mut Vec<u8>, panel: Panel, node: &DrawnNode) -> PutResult
+    ensures { OnOk result (text.new.items ≡ text.old.items ++ panel_content panel node.now) }
+{
+    match panel {
+        Panel::Quantities(up, down) => put_quantity_halves(text, up, down, node),
+        Panel::Lanes => put_lanes(text, node.columns.as_slice()),
+        Panel::Rows => put_rows(text, node),
+        Panel::Stages => put_stages(text, node),
+    }
 }
 
 // A quantity's colour and words, if it has any number other than 0.
@@ -141,20 +199,22 @@ fn half_most(own: u128, other: u128) -> u128
 }
 
 // The content above and below the base line, each quantity on its own scale.
-#[tactic(auto, using(crate::proofs::Pieces::five), unfolding(crate::specs::Panels::scaled_halves))]
-fn put_panel_halves(text: &mut Vec<u8>, panel: Panel, node: &DrawnNode) -> PutResult
-    ensures { OnOk result (text.new.items ≡ text.old.items ++ panel_halves panel node.now) }
+#[tactic(auto, using(crate::proofs::Pieces::four), unfolding(crate::specs::Panels::scaled_halves))]
+fn put_quantity_halves(
+    text: &mut Vec<u8>,
+    up: Quantity,
+    down: Quantity,
+    node: &DrawnNode,
+) -> PutResult
+    ensures { OnOk result (text.new.items ≡ text.old.items ++ quantity_halves up down node.now) }
 {
-    let (up, down) = panel.quantities();
     let most_up = up.most(node.columns.as_slice());
     let most_down = down.most(node.columns.as_slice());
     let above = half_most(most_up, most_down);
-    let below = half_most(most_down, most_up);
     put_group(text, 0, scaled(1000, most_up, above))?;
-    put_quantity_half(text, b"-", up, panel.step(above), above, node)?;
-    put_quantity_half(text, b"", down, panel.step(below), below, node)?;
-    put(text, BASE_LINE)?;
-    put(text, GROUP_END)
+    put_quantity_half(text, b"-", up, above, node)?;
+    put_quantity_half(text, b"", down, half_most(most_down, most_up), node)?;
+    put(text, BASE_LINE)
 }
 
 // The lines and areas of a quantity, if it has any number other than 0.
@@ -163,16 +223,16 @@ fn put_quantity_half(
     text: &mut Vec<u8>,
     sign: &[u8],
     quantity: Quantity,
-    step: u128,
     most: u128,
     node: &DrawnNode,
 ) -> PutResult
-    ensures { OnOk result (text.new.items ≡ text.old.items ++ quantity_half sign.now quantity step most node.now) }
+    ensures { OnOk result (text.new.items ≡ text.old.items ++ quantity_half sign.now quantity most node.now) }
 {
     let own = quantity.most(node.columns.as_slice());
     if own == 0 {
         return Ok(());
     }
+    let step = quantity.step(most);
     put_ticks(text, sign, step, most, steps_in(step, own))?;
     put_quantity_areas(text, sign, quantity, most, node)
 }

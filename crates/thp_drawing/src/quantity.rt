@@ -1,8 +1,8 @@
 //! The quantities that are drawn over a node's events.
 ghost use Rattle.std.specs.Prelude.{◌≡◌};
-ghost use Rattle.thp_drawing.specs.Areas.{edge_of};
-ghost use Rattle.thp_drawing.specs.Quantities.{last_of, most_of, quantity_class, quantity_name, span_in};
+ghost use Rattle.thp_drawing.specs.Quantities.{last_of, most_of, quantity_class, quantity_name, quantity_step, quantity_unit, span_in};
 
+use crate::scale::{doubled_step, round_step};
 use thp_metrics::{Column, Numbers, Span};
 
 /// A quantity of a node that is drawn over its events.
@@ -28,13 +28,6 @@ pub(crate) enum Quantity {
     Nothing,
 }
 
-/// The number of a column that is drawn: the least or the greatest.
-#[derive(Clone, Copy, Debug, PartialEq, Eq)]
-pub(crate) enum Edge {
-    Least,
-    Greatest,
-}
-
 impl Quantity {
     /// Returns the name, and the class with the quantity's colour.
     pub(crate) fn words(self) -> (&'static [u8], &'static [u8])
@@ -51,6 +44,28 @@ impl Quantity {
             Quantity::UnderusedSplits => (b"split as underused", b"s1"),
             Quantity::Wait => (b"the oldest page has waited", b"wait"),
             Quantity::Nothing => (b"", b""),
+        }
+    }
+
+    /// Returns what the quantity's numbers count.
+    pub(crate) fn unit(self) -> &'static [u8]
+        ensures { result.now ≡ quantity_unit self }
+    {
+        match self {
+            Quantity::Held | Quantity::Given => b"frames",
+            Quantity::Splits | Quantity::PinnedTries | Quantity::UnderusedSplits => b"tries",
+            Quantity::Wait => b"events",
+            Quantity::Queue | Quantity::InBatches | Quantity::Nothing => b"pages",
+        }
+    }
+
+    /// Returns the step of the quantity's numbers up to this one.
+    pub(crate) fn step(self, number: u128) -> u128
+        ensures { result ≡ quantity_step self number }
+    {
+        match self {
+            Quantity::Held | Quantity::Given => doubled_step(number),
+            _ => round_step(number),
         }
     }
 
@@ -100,17 +115,5 @@ impl Quantity {
             most = self.span(column).greatest.max(most);
         }
         most
-    }
-}
-
-impl Edge {
-    /// Returns this number of a span.
-    pub(crate) fn of(self, span: Span) -> u128
-        ensures { result ≡ edge_of self span }
-    {
-        match self {
-            Edge::Least => span.least,
-            Edge::Greatest => span.greatest,
-        }
     }
 }

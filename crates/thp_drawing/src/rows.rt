@@ -1,11 +1,15 @@
-//! The rows of a node's pages: whether there are any, and their positions.
-ghost use Rattle.std.specs.Prelude.{◌≡◌, ◌≤◌, ◌*◌, length};
-ghost use Rattle.thp_drawing.specs.Rows.{allocated_pages, has_rows, number_step, numbers_of, page_turns, row_class, row_height, row_middle, row_turns, rows_height};
+//! The rows of a node's pages: whether there are any, their positions, and their bars.
+ghost use Rattle.std.specs.Prelude.{◌≡◌, ◌≤◌, ◌*◌, ◌++◌, length, OnOk};
+ghost use Rattle.thp_drawing.specs.Rows.{allocated_pages, has_rows, number_step, numbers_of, page_turns, row_class, row_height, row_middle, row_turns, rows_drawn, rows_height, stage_bars, stage_rows};
 
-use crate::bar::Bar;
+use crate::axis::put_tick;
+use crate::bar::{Bar, put_bar};
+use crate::element::{PutResult, draw};
 use crate::node::DrawnNode;
 use crate::scale::{plus, steps_in, times};
+use crate::stages::{most_in, stage_words};
 use thp_history::Shape;
+use thp_journal_writer::put;
 use thp_metrics::{Column, SHOWN_PAGES, Stage};
 
 /// The greatest number of starts and ends for which bars can be distinguished.
@@ -54,8 +58,8 @@ fn page_turns(columns: &[Column], page: u128) -> u128
         + Bar::PageIn(Stage::Split, page).turns(columns)
 }
 
-/// Returns the height of each row, for this many rows.
-pub(crate) fn row_height(count: u128) -> u128
+// The height of each row, for this many rows.
+fn row_height(count: u128) -> u128
     ensures { result ≡ row_height count }
 {
     if count <= FEW_ROWS { 140 } else { 90 }
@@ -75,23 +79,23 @@ pub(crate) fn rows_height(count: u128) -> u128
     times(row_height(count), count)
 }
 
-/// Returns the distance between the numbers of this many rows.
-pub(crate) fn number_step(count: u128) -> u128
+// The distance between the numbers of this many rows.
+fn number_step(count: u128) -> u128
     ensures { result ≡ number_step count }
 {
     if count <= FEW_ROWS { 1 } else { 2 }
 }
 
-/// Returns the number of numbers of this many rows.
-pub(crate) fn numbers_of(count: u128) -> u128
+// The number of numbers of this many rows.
+fn numbers_of(count: u128) -> u128
     ensures { result ≡ numbers_of count }
 {
     let step = number_step(count);
     steps_in(step, plus(count, step - 1))
 }
 
-/// Returns the class of bars in this many rows.
-pub(crate) fn row_class(count: u128) -> &'static [u8]
+// The class of bars in this many rows.
+fn row_class(count: u128) -> &'static [u8]
     ensures { result.now ≡ row_class count }
 {
     if count <= FEW_ROWS {
@@ -99,4 +103,55 @@ pub(crate) fn row_class(count: u128) -> &'static [u8]
     } else {
         b"bar thin "
     }
+}
+
+/// Appends the rows of a node's pages: the numbers of rows and thin lines through them, and bars.
+#[tactic(auto, using(crate::proofs::Pieces::six), unfolding(crate::specs::Rows::rows_drawn))]
+pub(crate) fn put_rows(text: &mut Vec<u8>, node: &DrawnNode) -> PutResult
+    ensures { OnOk result (text.new.items ≡ text.old.items ++ rows_drawn (allocated_pages node.now) node.now) }
+{
+    let count = allocated_pages(node);
+    let high = row_height(count);
+    let step = number_step(count);
+    for before in 0..numbers_of(count) {
+        let page = times(step, before);
+        put_tick(text, b"", page, row_middle(high, page))?;
+    }
+    put_stage_bars(text, Stage::Allocated, count, node)?;
+    put_stage_bars(text, Stage::PartlyMapped, count, node)?;
+    put_stage_bars(text, Stage::Queued, count, node)?;
+    put_stage_bars(text, Stage::InBatch, count, node)?;
+    put_stage_bars(text, Stage::Split, count, node)
+}
+
+// The bars of the first `count` pages in a stage, if any page was ever in it.
+#[tactic(auto, using(crate::proofs::Pieces::three), unfolding(crate::specs::Rows::stage_bars))]
+fn put_stage_bars(text: &mut Vec<u8>, stage: Stage, count: u128, node: &DrawnNode) -> PutResult
+    ensures { OnOk result (text.new.items ≡ text.old.items ++ stage_bars stage count node.now) }
+{
+    let columns = node.columns.as_slice();
+    if most_in(stage, columns) == 0 {
+        return Ok(());
+    }
+    draw!(text;
+        Bytes(b"<path class=\"") Bytes(row_class(count)) Bytes(stage_words(stage).1) Bytes(b"\" d=\"")
+    )?;
+    put_stage_rows(text, stage, row_height(count), columns, count)?;
+    put(text, b"\"/>\n")
+}
+
+fn put_stage_rows(
+    text: &mut Vec<u8>,
+    stage: Stage,
+    high: u128,
+    columns: &[Column],
+    count: u128,
+) -> PutResult
+    ensures { OnOk result (text.new.items ≡ text.old.items ++ stage_rows stage high columns.now count) }
+{
+    for page in 0..count {
+        let y = row_middle(high, page);
+        put_bar(text, Bar::PageIn(stage, page), y, columns)?;
+    }
+    Ok(())
 }

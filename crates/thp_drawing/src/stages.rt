@@ -1,10 +1,15 @@
-//! The numbers of pages in each stage, as drawn.
-ghost use Rattle.std.specs.Prelude.{◌≡◌};
-ghost use Rattle.thp_drawing.specs.Quantities.{most_in, most_pages, pages_most, prefixes_of};
+//! The numbers of pages in each stage, and their panel.
+ghost use Rattle.std.specs.Prelude.{◌≡◌, ◌++◌, OnOk};
+ghost use Rattle.thp_drawing.specs.Panels.{stage_item, stage_items, stages_drawn};
+ghost use Rattle.thp_drawing.specs.Quantities.{most_in, pages_most, prefixes_of};
 ghost use Rattle.thp_drawing.specs.Quantities.{stage_class, stage_name, sum_in, sum_up_to};
 
+use crate::area::put_stage_area;
+use crate::axis::{BASE_LINE, put_ticks};
+use crate::element::{PutResult, pieces, put_group, put_item};
 use crate::node::DrawnNode;
-use crate::scale::{plus, times};
+use crate::scale::{plus, round_step, steps_in, times};
+use thp_journal_writer::put;
 use thp_metrics::{Column, PageSums, Stage};
 
 /// Returns the name of a stage, and the class with its colour.
@@ -72,18 +77,53 @@ pub(crate) fn prefixes_of(width: u64, prefixes: u128, place: usize) -> u128
 pub(crate) fn pages_most(node: &DrawnNode) -> u128
     ensures { result ≡ pages_most node.now }
 {
-    most_pages(node.width, node.prefixes, node.columns.as_slice())
-}
-
-fn most_pages(width: u64, prefixes: u128, columns: &[Column]) -> u128
-    ensures { result ≡ most_pages width prefixes 0 columns.now }
-{
+    let columns = node.columns.as_slice();
     let mut most = 0;
     for (place, column) in columns.iter().enumerate() {
-        let count = prefixes_of(width, prefixes, place);
+        let count = prefixes_of(node.width, node.prefixes, place);
         let sum = sum_up_to(Stage::Split, &column.pages);
         let mean = plus(sum, count.saturating_sub(1)) / count.max(1);
         most = mean.max(most);
     }
     most
+}
+
+/// Appends the colours and names of the stages that occur.
+#[tactic(auto, using(crate::proofs::Pieces::five), unfolding(crate::specs::Panels::stage_items))]
+pub(crate) fn put_stage_items(text: &mut Vec<u8>, node: &DrawnNode) -> PutResult
+    ensures { OnOk result (text.new.items ≡ text.old.items ++ stage_items node.now) }
+{
+    put_stage_item(text, Stage::Allocated, 0, node)?;
+    put_stage_item(text, Stage::PartlyMapped, 1200, node)?;
+    put_stage_item(text, Stage::Queued, 2400, node)?;
+    put_stage_item(text, Stage::InBatch, 3600, node)?;
+    put_stage_item(text, Stage::Split, 4800, node)
+}
+
+// A stage's colour and name, if it occurs.
+fn put_stage_item(text: &mut Vec<u8>, stage: Stage, x: u128, node: &DrawnNode) -> PutResult
+    ensures { OnOk result (text.new.items ≡ text.old.items ++ stage_item stage x node.now) }
+{
+    if most_in(stage, node.columns.as_slice()) == 0 {
+        return Ok(());
+    }
+    let (name, class) = stage_words(stage);
+    put_item(text, class, x, &pieces!(Bytes(name)))
+}
+
+/// Appends the areas of the stages: the last is drawn first, and earlier stages on top of it.
+#[tactic(auto, using(crate::proofs::Pieces::eight), unfolding(crate::specs::Panels::stages_drawn))]
+pub(crate) fn put_stages(text: &mut Vec<u8>, node: &DrawnNode) -> PutResult
+    ensures { OnOk result (text.new.items ≡ text.old.items ++ stages_drawn node.now) }
+{
+    let most = pages_most(node);
+    let step = round_step(most);
+    put_group(text, 0, 1000)?;
+    put_ticks(text, b"-", step, most, steps_in(step, most))?;
+    put_stage_area(text, Stage::Split, node)?;
+    put_stage_area(text, Stage::InBatch, node)?;
+    put_stage_area(text, Stage::Queued, node)?;
+    put_stage_area(text, Stage::PartlyMapped, node)?;
+    put_stage_area(text, Stage::Allocated, node)?;
+    put(text, BASE_LINE)
 }

@@ -1,7 +1,7 @@
 //! The pages whose split is prevented by pins.
-ghost use Rattle.std.specs.Prelude.{◌≡◌, ◌++◌, codes, take, OnOk};
+ghost use Rattle.std.specs.Prelude.{◌≡◌, ◌++◌, codes, OnOk};
 ghost use Rattle.thp_drawing.specs.Elements.{text_at};
-ghost use Rattle.thp_drawing.specs.Stucks.{more_line, stuck_height, stuck_lines, stuck_text, stuck_words, told_stuck};
+ghost use Rattle.thp_drawing.specs.Stucks.{more_line, stuck_height, stuck_lines, stuck_text, stuck_words};
 
 use crate::element::{PutResult, pieces, put_words};
 use crate::node::DrawnNode;
@@ -17,16 +17,9 @@ pub(crate) fn put_stuck_text(text: &mut Vec<u8>, y: u128, node: &DrawnNode) -> P
     ensures { OnOk result (text.new.items ≡ text.old.items ++ stuck_text y node.now) }
 {
     let pages = node.stuck.as_slice();
-    put_stuck_lines(text, y, told(pages))?;
-    put_more_line(text, y, pages.len() as u128)
-}
-
-// The pages that have a line each.
-fn told(pages: &[StuckPage]) -> &[StuckPage]
-    ensures { result.now ≡ take told_stuck pages.now }
-{
     let (front, _) = pages.split_at(pages.len().min(TOLD_STUCK));
-    front
+    put_stuck_lines(text, y, front)?;
+    put_more_line(text, y, pages.len() as u128)
 }
 
 fn put_stuck_lines(text: &mut Vec<u8>, y: u128, pages: &[StuckPage]) -> PutResult

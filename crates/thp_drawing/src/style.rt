@@ -1,11 +1,7 @@
-//! The appearance of a picture: classes of letters, lines, bars and stages, and their colours on a light and on a dark background.
-ghost use Rattle.std.specs.Prelude.{◌≡◌, ◌++◌, OnOk};
-ghost use Rattle.thp_drawing.specs.Styles.{style};
+//! The appearance of a picture.
 
-use crate::element::PutResult;
-use thp_journal_writer::put;
-
-const STYLE: &[u8] = b"<style>
+/// Classes of letters, lines, bars and stages, and their colours on a light and on a dark background.
+pub(crate) const STYLE: &[u8] = b"<style>
 svg{display:block;width:100%;max-width:1080px;height:auto;margin:0 auto;color-scheme:light dark}
 text{font:120px system-ui,sans-serif;font-variant-numeric:tabular-nums}
 .h{font-size:150px;font-weight:600}.hh{font-size:190px;font-weight:600}.e{text-anchor:end}.c{text-anchor:middle}
@@ -20,11 +16,3 @@ svg{background:#14171c}.bg{fill:#14171c}.ink{fill:#e8ebf0}.soft{fill:#a3acb9}.ba
 .s0{color:#5d6878}.s1{color:#ffcc80}.s2{color:#397aff}.s3{color:#e07ab2}.s4{color:#6cca98}
 }</style>
 ";
-
-/// Appends the rules of the classes.
-#[tactic(auto, unfolding(crate::specs::Styles::style))]
-pub(crate) fn put_style(text: &mut Vec<u8>) -> PutResult
-    ensures { OnOk result (text.new.items ≡ text.old.items ++ style) }
-{
-    put(text, STYLE)
-}

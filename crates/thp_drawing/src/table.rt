@@ -6,23 +6,18 @@ ghost use Rattle.thp_drawing.specs.Tables.{caller_item, caller_words, callers_jo
 use crate::bar::is_among;
 use crate::element::{PutResult, draw};
 use crate::grouped::put_decimal;
-use crate::illegal_event::IllegalEvent;
-use crate::node::DrawnNode;
+use crate::node::{DrawnNode, IllegalEvent};
 use itoa::Buffer;
 use std::alloc::AllocError;
 use thp_journal_writer::{put, put_event_line};
 use thp_metrics::{Column, Numbers, SHOWN_CALLERS, Stage, StuckPage};
 
-// The names of a node's fields.
-const NODE_HEADS: &[u8] =
-    b"#node\tnode\tblocks\torder\tunderused\tlegal\twidth\tqueue-last\tin-batches-last\theld-last\tgiven-last\tsplits-last\tunderused-splits-last\tpinned-tries-last\twait-last\tallocated-last\tpartly-mapped-last\tqueued-last\tin-batch-last\tsplit-last\tillegal-line\tillegal-event\n";
-
-// The names of a column's fields.
-const COLUMN_HEADS: &[u8] =
-    b"#column\tnode\tfirst\tlast\tqueue-least\tqueue-greatest\tin-batches-least\tin-batches-greatest\theld-least\theld-greatest\tgiven-least\tgiven-greatest\tsplits-least\tsplits-greatest\tunderused-splits-least\tunderused-splits-greatest\tpinned-tries-least\tpinned-tries-greatest\twait-least\twait-greatest\tallocated-sum\tpartly-mapped-sum\tqueued-sum\tin-batch-sum\tsplit-sum\tstages\tcallers\n";
-
-// The names of a stuck page's fields.
-const STUCK_HEADS: &[u8] = b"#stuck\tnode\tpage\tfinds\tsince\n";
+// The names of the fields of nodes, of columns, and of stuck pages.
+const HEADS: &[u8] =
+    b"#node\tnode\tblocks\torder\tunderused\tlegal\twidth\tqueue-last\tin-batches-last\theld-last\tgiven-last\tsplits-last\tunderused-splits-last\tpinned-tries-last\twait-last\tallocated-last\tpartly-mapped-last\tqueued-last\tin-batch-last\tsplit-last\tillegal-line\tillegal-event
+#column\tnode\tfirst\tlast\tqueue-least\tqueue-greatest\tin-batches-least\tin-batches-greatest\theld-least\theld-greatest\tgiven-least\tgiven-greatest\tsplits-least\tsplits-greatest\tunderused-splits-least\tunderused-splits-greatest\tpinned-tries-least\tpinned-tries-greatest\twait-least\twait-greatest\tallocated-sum\tpartly-mapped-sum\tqueued-sum\tin-batch-sum\tsplit-sum\tstages\tcallers
+#stuck\tnode\tpage\tfinds\tsince
+";
 
 /// Appends the table of nodes, which are numbered from 0, to a text. If memory can't be allocated, the text can contain a prefix
 /// of it.
@@ -42,13 +37,11 @@ pub fn put_node_table(text: &mut Vec<u8>, number: usize, node: &DrawnNode) -> Re
     put_node(text, number, node)
 }
 
-#[tactic(auto, using(crate::proofs::Pieces::three), unfolding(crate::specs::Tables::heads))]
+#[tactic(auto, unfolding(crate::specs::Tables::heads))]
 fn put_heads(text: &mut Vec<u8>) -> PutResult
     ensures { OnOk result (text.new.items ≡ text.old.items ++ heads) }
 {
-    put(text, NODE_HEADS)?;
-    put(text, COLUMN_HEADS)?;
-    put(text, STUCK_HEADS)
+    put(text, HEADS)
 }
 
 fn put_nodes(text: &mut Vec<u8>, nodes: &[DrawnNode]) -> PutResult
@@ -65,33 +58,21 @@ fn put_node(text: &mut Vec<u8>, number: usize, node: &DrawnNode) -> PutResult
     ensures { OnOk result (text.new.items ≡ text.old.items ++ node_lines number node.now) }
 {
     put_node_line(text, number, node)?;
-    put_columns(
-        text,
-        number,
-        node.width,
-        node.prefixes,
-        node.columns.as_slice(),
-    )?;
+    put_columns(text, number, node)?;
     put_stuck_lines(text, number, node.stuck.as_slice())
 }
 
+// The number of times each page was found pinned, and the event since which it waits.
 fn put_stuck_lines(text: &mut Vec<u8>, number: usize, pages: &[StuckPage]) -> PutResult
     ensures { OnOk result (text.new.items ≡ text.old.items ++ stuck_lines number pages.now) }
 {
     for page in pages {
-        put_stuck_line(text, number, page)?;
+        draw!(text;
+            Bytes(b"stuck") Field(number as u128) Field(u128::from(page.page.0))
+            Field(u128::from(page.finds)) Field(u128::from(page.since)) Bytes(b"\n")
+        )?;
     }
     Ok(())
-}
-
-// The number of times a page was found pinned, and the event since which it waits.
-fn put_stuck_line(text: &mut Vec<u8>, number: usize, page: &StuckPage) -> PutResult
-    ensures { OnOk result (text.new.items ≡ text.old.items ++ stuck_line number page.now) }
-{
-    draw!(text;
-        Bytes(b"stuck") Field(number as u128) Field(u128::from(page.page.0))
-        Field(u128::from(page.finds)) Field(u128::from(page.since)) Bytes(b"\n")
-    )
 }
 
 #[tactic(auto, using(crate::proofs::Pieces::four), unfolding(crate::specs::Tables::node_line))]
@@ -148,18 +129,13 @@ fn put_threshold(text: &mut Vec<u8>, threshold: Option<u32>) -> PutResult
     }
 }
 
-fn put_columns(
-    text: &mut Vec<u8>,
-    number: usize,
-    width: u64,
-    prefixes: u128,
-    columns: &[Column],
-) -> PutResult
-    ensures { OnOk result (text.new.items ≡ text.old.items ++ column_lines number width prefixes 0 columns.now) }
+fn put_columns(text: &mut Vec<u8>, number: usize, node: &DrawnNode) -> PutResult
+    ensures { OnOk result (text.new.items ≡ text.old.items ++ column_lines number node.now.width node.now.prefixes 0 node.now.columns.items) }
 {
-    for (place, column) in columns.iter().enumerate() {
-        let first = u128::from(width) * place as u128;
-        let last = (first + u128::from(width)).min(prefixes).saturating_sub(1);
+    let width = u128::from(node.width);
+    for (place, column) in node.columns.iter().enumerate() {
+        let first = width * place as u128;
+        let last = (first + width).min(node.prefixes).saturating_sub(1);
         put_column(text, number, first, last, column)?;
     }
     Ok(())

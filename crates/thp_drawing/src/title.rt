@@ -5,8 +5,7 @@ ghost use Rattle.thp_drawing.specs.Titles.{events_words, illegal_text, illegal_w
 ghost use Rattle.thp_drawing.specs.Titles.{shape_words, shortened, threshold_words};
 
 use crate::element::{PutResult, draw, put_text};
-use crate::illegal_event::IllegalEvent;
-use crate::node::DrawnNode;
+use crate::node::{DrawnNode, IllegalEvent};
 use thp_history::Event;
 use thp_journal_writer::{put, put_event_line};
 

@@ -1,6 +1,6 @@
 -- What is kept of a node for its drawing is its drawing.
 use Rattle.std.proofs.Common.{◌≡◌, ◌∷◌, [], ℕ, Option, Some, arith, subst, sym, slice_get}
-use Rattle.thp_drawing.specs.declared.illegal_event.IllegalEvent.{IllegalEvent}
+use Rattle.thp_drawing.specs.declared.node.IllegalEvent.{IllegalEvent}
 use Rattle.thp_drawing.specs.declared.node.DrawnNode.{DrawnNode}
 use Rattle.thp_journal_reader.specs.declared.illegal.Illegal.{Illegal}
 use Rattle.thp_journal_reader.specs.declared.journals.NodeJournal.{NodeJournal}

@@ -2,7 +2,7 @@
 use Rattle.std.specs.Prelude.{◌≡◌, List, Option, None, Some, slice_get}
 use Rattle.std.specs.List.{AllZip}
 use Rattle.thp_drawing.specs.Drawn.{AreColumnsOf}
-use Rattle.thp_drawing.specs.declared.illegal_event.IllegalEvent.{IllegalEvent}
+use Rattle.thp_drawing.specs.declared.node.IllegalEvent.{IllegalEvent}
 use Rattle.thp_drawing.specs.declared.node.DrawnNode.{DrawnNode}
 use Rattle.thp_journal_reader.specs.declared.journals.NodeJournal.{NodeJournal}
 use Rattle.thp_journal_reader.specs.Prelude.{IsFirstIllegal, IsLegalNode, IsLegalFront}

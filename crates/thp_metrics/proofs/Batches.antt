@@ -2,9 +2,7 @@
 use Rattle.std.proofs.Common.{◌≡◌, ℕ, ◌+◌, Bool, true, false, not, cond, ◌&&◌, List, [], ◌∷◌, ◌++◌, Option, Some, None, length, refl, ap, sym, ◌∙◌, arith, length-append, nat_eq, eq-eqb, filter}
 use Rattle.thp_history.specs.declared.events.Event.{Event}
 use Rattle.thp_history.specs.declared.events.Outcome.{Outcome}
-use Rattle.thp_history.specs.declared.events.Outcome.TheVariants as outcome
 use Rattle.thp_history.specs.declared.events.What.{What}
-use Rattle.thp_history.specs.declared.events.What.TheVariants as what
 use Rattle.thp_history.specs.declared.shape.Shape.{Shape}
 use Rattle.thp_history.specs.Prelude.{is_live, is_split, History, count_of, Fits, IsLegal, flight, flights, flights_after, flights_by, leaves, sum_below, is_partly_mapped}
 use Rattle.thp_history.proofs.LegalSteps.{legal_all, legal_none, legal_push}

@@ -10,7 +10,7 @@ ghost use Rattle.thp_metrics.specs.Stuck.{AreStuck};
 use crate::batch_counts::BatchCounts;
 use crate::columns::Columns;
 use crate::numbers::{Numbers, SHOWN_PAGES};
-use crate::pages::Pages;
+use crate::pages::{NO_PAGES, Pages};
 use crate::spot::spot_in;
 use crate::stage::Stage;
 use crate::stuck_page::StuckPage;
@@ -70,13 +70,7 @@ impl NodeSeries {
         let replay = Replay::new(alloc, shape)?;
         let waiting = Waiting::new(alloc, shape)?;
         let batches = BatchCounts::new(alloc)?;
-        let numbers = numbers_of(
-            &replay,
-            &waiting,
-            &batches,
-            Pages::none(),
-            [None; SHOWN_PAGES],
-        );
+        let numbers = numbers_of(&replay, &waiting, &batches, NO_PAGES, [None; SHOWN_PAGES]);
         let columns = Columns::new(alloc, &numbers)?;
         Ok(NodeSeries {
             replay,

@@ -22,6 +22,15 @@ pub struct Pages {
     pub split: u64,
 }
 
+// No page.
+pub(crate) const NO_PAGES: Pages = Pages {
+    allocated: 0,
+    partly_mapped: 0,
+    queued: 0,
+    in_batch: 0,
+    split: 0,
+};
+
 /// The same numbers, each summed over prefixes.
 #[derive(Clone, Copy, Debug, PartialEq, Eq)]
 pub struct PageSums {
@@ -69,19 +78,6 @@ impl PageSums {
 }
 
 impl Pages {
-    // No page.
-    pub(crate) fn none() -> Pages
-        ensures { result ≡ record { allocated = 0; partly_mapped = 0; queued = 0; in_batch = 0; split = 0 } }
-    {
-        Pages {
-            allocated: 0,
-            partly_mapped: 0,
-            queued: 0,
-            in_batch: 0,
-            split: 0,
-        }
-    }
-
     // A page left this stage, if any.
     pub(crate) fn leave(&mut self, stage: Option<Stage>)
         requires { MayLeave self.old stage }

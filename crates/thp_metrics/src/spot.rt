@@ -1,13 +1,13 @@
 //! The position of an event's page.
-ghost use Rattle.std.specs.Prelude.{◌≡◌, Some, None};
+ghost use Rattle.std.specs.Prelude.{◌≡◌, Some};
 ghost use Rattle.std.specs.Option.{option_and_then};
 ghost use Rattle.thp_journal_writer.specs.Prelude.{event_page};
 ghost use Rattle.thp_metrics.specs.Spots.{batch_by, batch_of, home, home_by};
 ghost use Rattle.thp_metrics.specs.Stages.{stage_by, stage_of};
 
 use crate::stage::{Stage, stage_by};
-use thp_check::{PageLocation, Replay, Standing};
-use thp_history::{PageId, What};
+use thp_check::{Replay, Standing};
+use thp_history::What;
 use thp_journal_writer::event_page;
 
 // The position of a page; all `None` if it is not live.
@@ -20,18 +20,11 @@ pub(crate) struct PagePlace {
     pub(crate) batch: Option<u32>,
 }
 
-impl PagePlace {
-    // No position.
-    fn none() -> PagePlace
-        ensures { result ≡ record { stage = None; home = None; batch = None } }
-    {
-        PagePlace {
-            stage: None,
-            home: None,
-            batch: None,
-        }
-    }
-}
+const NOWHERE: PagePlace = PagePlace {
+    stage: None,
+    home: None,
+    batch: None,
+};
 
 // The position of an event's page, if it has one.
 pub(crate) fn spot_in(replay: &Replay, what: &What) -> PagePlace
@@ -39,29 +32,12 @@ pub(crate) fn spot_in(replay: &Replay, what: &What) -> PagePlace
     ensures home { result.home ≡ option_and_then (home replay.now.shape replay.now.history) (event_page what.now) }
     ensures batch { result.batch ≡ option_and_then (batch_of replay.now.shape replay.now.history) (event_page what.now) }
 {
-    match event_page(what) {
-        Some(page) => spot_of(replay, page),
-        None => PagePlace::none(),
-    }
-}
-
-fn spot_of(replay: &Replay, page: PageId) -> PagePlace
-    ensures stage { result.stage ≡ stage_of replay.now.shape replay.now.history page }
-    ensures home { result.home ≡ home replay.now.shape replay.now.history page }
-    ensures batch { result.batch ≡ batch_of replay.now.shape replay.now.history page }
-{
-    match replay.whereabouts(page) {
-        Some(live) => spot_by(&live),
-        None => PagePlace::none(),
-    }
-}
-
-// The position of a live page.
-fn spot_by(live: &PageLocation) -> PagePlace
-    ensures stage { result.stage ≡ Some (stage_by live.now.split live.now.standing live.now.partly_mapped) }
-    ensures home { result.home ≡ home_by (Some (stage_by live.now.split live.now.standing live.now.partly_mapped)) (Some live.now.block) }
-    ensures batch { result.batch ≡ batch_by live.now.standing }
-{
+    let Some(page) = event_page(what) else {
+        return NOWHERE;
+    };
+    let Some(live) = replay.whereabouts(page) else {
+        return NOWHERE;
+    };
     let stage = stage_by(live.split, live.standing, live.partly_mapped);
     PagePlace {
         stage: Some(stage),
