@@ -43,7 +43,7 @@ pub struct SplitContext {
 }
 
 impl SplitContext {
-    /// Returns what stands for these facts where an event splits no page.
+    /// Returns the context of an event that splits no page: no mapping, and not underused.
     #[inline(always)]
     pub fn none() -> SplitContext
         ensures { result ≡ record { mappings = 0; underused = false } }

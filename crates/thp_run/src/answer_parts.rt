@@ -18,8 +18,8 @@ const FULL_PART: usize = 65_536;
 // The greatest length of a line.
 const MAX_LINE: usize = 4_145;
 
-/// The text of the answers that sections store, whose parts are produced one by one. Contracts see the current part, and the rest of the
-/// text after it.
+/// The text of the answers that sections store, whose parts are produced one by one. Contracts see the current part, and the rest
+/// of the text after it.
 #[derive(Drop)]
 pub struct AnswerParts<'a, R: Recorder> {
     nodes: &'a [Node<R>],

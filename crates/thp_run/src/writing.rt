@@ -44,8 +44,8 @@ pub(crate) fn write_journals<W: Write>(
     write_whole(writer, text.as_slice())
 }
 
-/// Writes the answers that a run's sections store, and flushes once. The whole text is never in memory: it is
-/// written in parts from one buffer, which is allocated before the first write.
+/// Writes the answers that a run's sections store, and flushes once. The whole text is never in memory: it is written in parts
+/// from one buffer, which is allocated before the first write.
 pub(crate) fn write_answers<R: Recorder, W: Write>(
     alloc: Global,
     ran: &RunResult<R>,
