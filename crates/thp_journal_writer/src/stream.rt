@@ -2,16 +2,7 @@
 ghost use Rattle.std.specs.Prelude.{◌≡◌, ◌++◌, true, false, IfErr, OnOk, OnErr};
 ghost use Rattle.thp_journal_writer.specs.EventLines.{event_line};
 ghost use Rattle.thp_journal_writer.specs.Journals.{node_line, ended};
-ghost use Rattle.thp_journal_writer.specs.Streams.{
-  shape_version,
-  what_version,
-  tells,
-  IfTooLow,
-  VersionComesFirst,
-  NodeFollows,
-  EventFollows,
-  LeastVersionIsJournalText,
-};
+ghost use Rattle.thp_journal_writer.specs.Streams.{shape_version, what_version, tells, IfTooLow, VersionComesFirst, NodeFollows, EventFollows, LeastVersionIsJournalText};
 ghost use Rattle.thp_journal_writer.specs.declared.put_fault.PutFault.TheVariants.{VersionTooLow};
 
 use crate::events::put_event_line;

@@ -1,6 +1,6 @@
 //! The totals of a node as lines of text.
 ghost use Rattle.std.specs.Prelude.{◌≡◌, ◌++◌, OnOk};
-ghost use Rattle.thp_journal_writer.specs.Totals.{lines_from, nine_lines, number_line, tenth_line, totals_lines};
+ghost use Rattle.thp_journal_writer.specs.Totals.{lines_from, nine_lines, number_line, totals_lines};
 
 use crate::numbers::put;
 use crate::totals::Totals;
@@ -9,11 +9,15 @@ use std::alloc::AllocError;
 
 /// Appends the lines of the node of this number to a text: nine, and a tenth if its shrinker looks for underused pages. If memory
 /// can't be allocated, the text can contain a prefix of them.
+#[tactic(auto, unfolding(crate::specs::Totals::tenth_line))]
 pub fn put_totals(text: &mut Vec<u8>, number: usize, totals: &Totals) -> Result<(), AllocError>
     ensures { OnOk result (text.new.items ≡ text.old.items ++ totals_lines number totals.now) }
 {
     put_nine_lines(text, number, totals)?;
-    put_tenth_line(text, totals.thp_underused_split_page)
+    match totals.thp_underused_split_page {
+        Some(split) => put_line(text, b"thp_underused_split_page ", u128::from(split)),
+        None => Ok(()),
+    }
 }
 
 /// Appends the lines of nodes, which are numbered from 0, to a text. If memory can't be allocated, the text can contain a prefix
@@ -48,16 +52,6 @@ fn put_nine_lines(text: &mut Vec<u8>, number: usize, totals: &Totals) -> Result<
         u128::from(totals.thp_deferred_split_page),
     )?;
     put_line(text, b"thp_split_pmd ", totals.thp_split_pmd)
-}
-
-#[tactic(auto, unfolding(crate::specs::Totals::tenth_line))]
-fn put_tenth_line(text: &mut Vec<u8>, underused: Option<u64>) -> Result<(), AllocError>
-    ensures { OnOk result (text.new.items ≡ text.old.items ++ tenth_line underused) }
-{
-    match underused {
-        Some(split) => put_line(text, b"thp_underused_split_page ", u128::from(split)),
-        None => Ok(()),
-    }
 }
 
 #[tactic(auto, using(crate::proofs::Pieces::three), unfolding(crate::specs::Totals::number_line))]
