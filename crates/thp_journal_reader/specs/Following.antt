@@ -1,6 +1,7 @@
 -- What is known of nodes that are followed line by line, and what is kept of each (this project's profile).
 use Rattle.std.specs.Prelude.{◌≡◌, ◌≤◌, ◌+◌, ◌⊎◌, ⊤, ℕ, Bool, true, All, List, [], ◌∷◌, ◌++◌, length, not, ◌&&◌, Option, Some, None, IfSome, is_some}
 use Rattle.std.specs.List.{fold, AllZip}
+use Rattle.std.specs.Option.{option_or}
 use Rattle.thp_history.specs.declared.shape.Shape.{Shape}
 use Rattle.thp_history.specs.Prelude.{History, IsFirstMisfit}
 use Rattle.thp_check.specs.Prelude.{Replayed}
@@ -23,8 +24,7 @@ replay_of node = record { shape = node.shape; history = node.events }
 
 -- the first illegal event remains the first
 abbrev pub first_of : Option Illegal → Illegal → Option Illegal
-first_of None illegal = Some illegal
-first_of (Some first) illegal = Some first
+first_of first illegal = option_or first (Some illegal)
 
 -- an event is illegal, and the nodes after it are not followed
 abbrev pub has_stopped : Bool → Option Illegal → Bool

@@ -5,7 +5,7 @@ ghost use Rattle.thp_journal_reader.specs.Answers.{CanBeLegal, ReportsIllegal};
 ghost use Rattle.thp_journal_reader.specs.Journals.{journals_of};
 ghost use Rattle.thp_script.specs.Prelude.{ReportsFault};
 
-use crate::journal_check::JournalCheck;
+use crate::long_check::LongCheck;
 use std::alloc::Global;
 use thp_script::ReadFault;
 
@@ -19,5 +19,5 @@ pub fn check_text(alloc: Global, text: &[u8]) -> Result<Option<u32>, ReadFault>
     ensures free_choice { IfOk result (λ line. (journals : Journals) → journals_of text.now ≡ Ok journals → All CanBeLegal journals.nodes → line ≡ None) }
     ensures fault { IfErr result (ReportsFault (journals_of text.now)) }
 {
-    JournalCheck::new(alloc).read_part(text)?.finish()
+    LongCheck::of_input(alloc).read_part(text)?.finish_input()
 }

@@ -1,7 +1,7 @@
 //! Parses events from the words of a line.
 ghost use Rattle.std.specs.Prelude.{◌≡◌, ◌≤◌, Ok, Err, IfOk, MatchResult};
-ghost use Rattle.thp_script.specs.Prelude.{number_up_to};
-ghost use Rattle.thp_journal_reader.specs.EventLines.{caller_number, close_event, event_by, event_of, loss_event, outcome_and_word, page_event, page_number, range_event, range_number, split_event, unmap_event};
+ghost use Rattle.thp_script.specs.Prelude.{number_up_to, one_word};
+ghost use Rattle.thp_journal_reader.specs.EventLines.{caller_number, close_event, event_of, loss_event, outcome_and_word, page_event, page_number, range_event, range_number, split_event, unmap_event};
 
 use crate::event_word::{EventWord, PageWord, RangeWord, event_word, outcome_of};
 use crate::set_text::set_of_text;
@@ -16,6 +16,16 @@ pub(crate) fn small_number(most: u32, word: &[u8]) -> Result<u32, TextKind>
 {
     let value = number(u64::from(most), word).ok_or(TextKind::BadNumber)?;
     Ok(value as u32)
+}
+
+/// Returns the only word of these.
+pub(crate) fn one_word<'a>(mut words: Words<'a>) -> Result<&'a [u8], TextKind>
+    ensures { MatchResult result (λ word. one_word words.entry ≡ Ok word.now) (λ kind. one_word words.entry ≡ Err kind) }
+{
+    match (words.next(), words.next()) {
+        (Some(word), None) => Ok(word),
+        _ => Err(TextKind::BadCount),
+    }
 }
 
 fn caller_number(word: &[u8]) -> Result<u32, TextKind>
@@ -39,12 +49,10 @@ fn page_number(word: &[u8]) -> Result<PageId, TextKind>
 
 /// Parses `CALLER WORD PAGE`.
 #[tactic(auto, unfolding(crate::specs::EventLines::page_event))]
-fn page_event(name: PageWord, caller: &[u8], mut words: Words) -> Result<Event, TextKind>
+fn page_event(name: PageWord, caller: &[u8], words: Words) -> Result<Event, TextKind>
     ensures { result ≡ page_event name caller.now words.entry }
 {
-    let (Some(page), None) = (words.next(), words.next()) else {
-        return Err(TextKind::BadCount);
-    };
+    let page = one_word(words)?;
     let caller = caller_number(caller)?;
     let page = page_number(page)?;
     Ok(Event {
@@ -86,10 +94,7 @@ fn outcome_and_word<'a>(mut words: Words<'a>) -> Result<(Outcome, &'a [u8]), Tex
         return Err(TextKind::BadCount);
     };
     let outcome = outcome_of(name)?;
-    let (Some(word), None) = (words.next(), words.next()) else {
-        return Err(TextKind::BadCount);
-    };
-    Ok((outcome, word))
+    Ok((outcome, one_word(words)?))
 }
 
 /// Parses `CALLER WORD PAGE OUTCOME SET`.
@@ -167,19 +172,6 @@ fn close_event(caller: &[u8], mut words: Words) -> Result<Event, TextKind>
     })
 }
 
-fn event_by(word: EventWord, caller: &[u8], words: Words) -> Result<Event, TextKind>
-    ensures { result ≡ event_by word caller.now words.entry }
-{
-    match word {
-        EventWord::OfPage(name) => page_event(name, caller, words),
-        EventWord::OfRange(name) => range_event(name, caller, words),
-        EventWord::OfLoss(name) => loss_event(name, caller, words),
-        EventWord::UnmapSub => unmap_event(caller, words),
-        EventWord::Split => split_event(caller, words),
-        EventWord::Close => close_event(caller, words),
-    }
-}
-
 /// Parses the event of a line: its caller, the word of the event, and its operands.
 pub(crate) fn event_of(version: Version, caller: &[u8], mut words: Words) -> Result<Event, TextKind>
     ensures { result ≡ event_of version caller.now words.entry }
@@ -187,6 +179,12 @@ pub(crate) fn event_of(version: Version, caller: &[u8], mut words: Words) -> Res
     let Some(name) = words.next() else {
         return Err(TextKind::BadWord);
     };
-    let word = event_word(version, name)?;
-    event_by(word, caller, words)
+    match event_word(version, name)? {
+        EventWord::OfPage(name) => page_event(name, caller, words),
+        EventWord::OfRange(name) => range_event(name, caller, words),
+        EventWord::OfLoss(name) => loss_event(name, caller, words),
+        EventWord::UnmapSub => unmap_event(caller, words),
+        EventWord::Split => split_event(caller, words),
+        EventWord::Close => close_event(caller, words),
+    }
 }

@@ -1,7 +1,7 @@
 //! Follows the nodes of a journal as its lines are read: replays their events without storing them, and keeps data of each node.
 ghost use Rattle.std.specs.Prelude.{◌≡◌, ◌≤◌, ◌∷◌, ◌++◌, ℕ, [], List, None, IfOk, OnOk};
 ghost use Rattle.thp_check.specs.Prelude.{Replayed};
-ghost use Rattle.thp_journal_reader.specs.Following.{first_of, has_stopped, illegal_so_far, nodes_told, Follows, FollowsLines, FollowsWith, HasEnded, HasRoom, HasRoomIn, KnowsNodes, StopsWith};
+ghost use Rattle.thp_journal_reader.specs.Following.{has_stopped, illegal_so_far, nodes_told, Follows, FollowsLines, FollowsWith, HasEnded, HasRoom, HasRoomIn, KnowsNodes, StopsWith};
 ghost use Rattle.thp_journal_reader.specs.Later.{follows_later};
 ghost use Rattle.thp_journal_reader.specs.LineRanges.{IsInRange};
 ghost use Rattle.thp_journal_reader.specs.Reading.{began, on_last, with_event, with_line};
@@ -67,15 +67,6 @@ impl<K: Drop, F: FollowsNode<Kept = K>> Follower<F, K> {
         Ok(())
     }
 
-    /// Records an illegal event, unless one was recorded before.
-    fn note(&mut self, illegal: &Illegal)
-        ensures { self.new ≡ record self.old { illegal = first_of self.old.illegal illegal.now } }
-    {
-        if self.illegal.is_none() {
-            self.illegal = Some(*illegal);
-        }
-    }
-
     // Rare cases have functions of their own: otherwise each event would clear the stack for them.
 
     /// Records that this event on the current node is illegal.
@@ -91,7 +82,7 @@ impl<K: Drop, F: FollowsNode<Kept = K>> Follower<F, K> {
             misfit,
         };
         let kept = F::stop(rest, self.alloc, &illegal)?;
-        self.note(&illegal);
+        self.illegal = self.illegal.or(Some(illegal));
         self.kept.push(kept)?;
         Ok(())
     }

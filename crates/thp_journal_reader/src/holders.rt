@@ -42,10 +42,7 @@ impl BlockHolders {
         ensures least { result ≡ least_of self.now }
         ensures inside { 0 < length self.now → result < length self.now }
     {
-        match self.free.least() {
-            Some(block) => block,
-            None => 0,
-        }
+        self.free.least().unwrap_or(0)
     }
 
     // Adds a holder of the block.

@@ -4,7 +4,7 @@ ghost use Rattle.thp_journal_reader.specs.Journals.{journals_of, AreJournals};
 ghost use Rattle.thp_script.specs.Prelude.{ReportsFault};
 
 use crate::journals::Journals;
-use crate::reading::{Nodes, finish};
+use crate::reading::{Nodes, close};
 use crate::text_reader::TextReader;
 use std::alloc::Global;
 use thp_script::{ReadFault, TextInParts};
@@ -20,11 +20,13 @@ pub fn read_journal(alloc: Global, text: &[u8]) -> Result<Journals, ReadFault>
 {
     let reader: TextReader<Option<Nodes>> = TextReader::new(alloc, TextInParts::new(alloc), None);
     let reader = reader.read_part(text)?;
-    match reader.fault() {
-        Some((line, kind)) => Err(ReadFault::Text {
-            line: line as u32,
-            kind,
+    match reader.finish() {
+        Err(fault) => Err(ReadFault::Text {
+            line: fault.line as u32,
+            kind: fault.kind,
         }),
-        None => finish(alloc, reader.nodes),
+        Ok(nodes) => Ok(Journals {
+            nodes: close(alloc, nodes)?,
+        }),
     }
 }

@@ -35,7 +35,7 @@ impl Model for LeastBlocks {
 
     ghost view = { λ b. record { shape = b.shape; history = b.past } };
 
-    ghost invariant = { λ b. Keeps b.shape b.past b.holders (known_of b.pages.pages) b.pages.allocations.items };
+    ghost invariant = { λ b. Keeps b.shape b.past b.holders (known_of b.pages.records) b.pages.allocations.items };
 }
 
 impl LeastBlocks {
@@ -107,7 +107,7 @@ impl LeastBlocks {
         ensures noted { OnOk result (self.new ≡ with_event self.old event.now) }
         ensures failed { OnErr result (self.new ≡ self.old) }
     {
-        if let PageRecord::Holds { last } = self.pages.pages.known(page) {
+        if let PageRecord::Holds { last } = self.pages.records.known(page) {
             self.pages.add(page, block, last)?;
             self.holders.hold(block);
             self.past.push(event);
@@ -123,8 +123,8 @@ impl LeastBlocks {
         ensures noted { OnOk result (self.new ≡ with_event self.old event.now) }
         ensures failed { OnErr result (self.new ≡ self.old) }
     {
-        if let PageRecord::Holds { last } = self.pages.pages.known(page) {
-            self.pages.pages.set(page, PageRecord::Freed)?;
+        if let PageRecord::Holds { last } = self.pages.records.known(page) {
+            self.pages.records.set(page, PageRecord::Freed)?;
             self.pages.give_back(last, &mut self.holders);
             self.past.push(event);
             return Ok(());

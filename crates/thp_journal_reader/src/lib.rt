@@ -8,7 +8,7 @@
 //!   `pages`.
 //! - `parse_event_fast` (`FastParsing`): events read in one pass over the bytes. Proofs `PlainWords`, `PlainLines`: a line whose
 //!   words parse needs no second look at its bytes.
-//! - Checks: `checking` (`ReportsIllegal`, `CanBeLegal` of `Answers`), `journal_check` (16 MiB), `long_check` (any length),
+//! - Checks: `checking` (`ReportsIllegal`, `CanBeLegal` of `Answers`), `long_check` (of inputs and of texts of any length),
 //!   `illegal` (the event and why), `verdicts` (`Verdicts`).
 //! - `follower` (`Following`, proof `FollowLaws`), generic in `follows_node`: what follows a node line by line, and what is kept of
 //!   it. `long_check` keeps nothing (`Keeping`); `thp_journal_tools` keeps totals or numbers, `thp_journal_scripts` writes scripts.
@@ -21,7 +21,6 @@ mod follower;
 mod follows_node;
 mod holders;
 mod illegal;
-mod journal_check;
 mod journal_reader;
 mod journals;
 mod keeps_nodes;
@@ -42,7 +41,6 @@ pub use event_word::{EventWord, PageWord, RangeWord};
 pub use follower::FollowedNodes;
 pub use follows_node::{FollowsNode, Stopped};
 pub use illegal::Illegal;
-pub use journal_check::JournalCheck;
 pub use journal_reader::read_journal;
 pub use journals::{Journals, NodeJournal};
 pub use keeps_nodes::KeepsNodes;

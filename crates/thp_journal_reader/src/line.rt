@@ -1,10 +1,10 @@
 //! Parses lines of a journal.
 ghost use Rattle.std.specs.Prelude.{◌≡◌, ◌≤◌, ◌<◌, ◌^◌, Ok, Err, IfOk, IfSome, MatchResult};
 ghost use Rattle.thp_history.specs.Prelude.{max_order, min_order};
-ghost use Rattle.thp_journal_reader.specs.JournalLines.{before, by_words, end_of, event_line, head_of, line_by, line_of, node_of, node_with, number_between, ordered_node, plain_node, threshold_of, underused_node, version_of};
+ghost use Rattle.thp_journal_reader.specs.JournalLines.{before, by_words, head_of, line_of, node_of, node_with, number_between, threshold_of, version_of};
 ghost use Rattle.thp_journal_reader.specs.LineRanges.{IsInRange};
 
-use crate::event_line::{event_of, small_number};
+use crate::event_line::{event_of, one_word, small_number};
 use thp_history::{Event, Shape};
 use thp_journal_writer::Version;
 use thp_script::{MAX_NODES, TextKind, Words, fault_of_line};
@@ -39,14 +39,11 @@ fn version_of(word: &[u8]) -> Result<Version, TextKind>
 
 /// Parses `thp-journal VERSION`.
 #[tactic(auto, unfolding(crate::specs::JournalLines::head_of))]
-fn head_of(mut words: Words) -> Result<Line, TextKind>
+fn head_of(words: Words) -> Result<Line, TextKind>
     ensures value { result ≡ head_of words.entry }
     ensures in_range { IfOk result IsInRange }
 {
-    let (Some(word), None) = (words.next(), words.next()) else {
-        return Err(TextKind::BadCount);
-    };
-    let version = version_of(word)?;
+    let version = version_of(one_word(words)?)?;
     Ok(Line::Head(version))
 }
 
@@ -114,85 +111,44 @@ fn node_with(
     })
 }
 
-/// Parses `node N blocks B`.
-#[tactic(auto, unfolding(crate::specs::JournalLines::plain_node))]
-fn plain_node(mut words: Words) -> Result<Line, TextKind>
-    ensures value { result ≡ plain_node words.entry }
-    ensures in_range { IfOk result IsInRange }
-{
-    let number = before(b"blocks", &mut words)?;
-    let (Some(blocks), None) = (words.next(), words.next()) else {
-        return Err(TextKind::BadCount);
-    };
-    node_with(number, blocks, Shape::MAX_ORDER, None)
-}
-
-/// Parses `node N blocks B order O`.
-#[tactic(auto, unfolding(crate::specs::JournalLines::ordered_node))]
-fn ordered_node(mut words: Words) -> Result<Line, TextKind>
-    ensures value { result ≡ ordered_node words.entry }
-    ensures in_range { IfOk result IsInRange }
-{
-    let number = before(b"blocks", &mut words)?;
-    let blocks = before(b"order", &mut words)?;
-    let (Some(order), None) = (words.next(), words.next()) else {
-        return Err(TextKind::BadCount);
-    };
-    let order = number_between(Shape::MIN_ORDER, Shape::MAX_ORDER, order)?;
-    node_with(number, blocks, order, None)
-}
-
-/// Parses `node N blocks B order O underused T`.
-#[tactic(auto, unfolding(crate::specs::JournalLines::underused_node))]
-fn underused_node(mut words: Words) -> Result<Line, TextKind>
-    ensures value { result ≡ underused_node words.entry }
-    ensures in_range { IfOk result IsInRange }
-{
-    let number = before(b"blocks", &mut words)?;
-    let blocks = before(b"order", &mut words)?;
-    let order = before(b"underused", &mut words)?;
-    let (Some(threshold), None) = (words.next(), words.next()) else {
-        return Err(TextKind::BadCount);
-    };
-    let order = number_between(Shape::MIN_ORDER, Shape::MAX_ORDER, order)?;
-    let threshold = threshold_of(order, threshold)?;
-    node_with(number, blocks, order, threshold)
-}
-
-fn node_of(version: Version, words: Words) -> Result<Line, TextKind>
+/// Parses `node N blocks B`, followed by `order O` and `underused T` in the versions that have them.
+#[tactic(auto, unfolding(crate::specs::JournalLines::plain_node, crate::specs::JournalLines::ordered_node, crate::specs::JournalLines::underused_node))]
+fn node_of(version: Version, mut words: Words) -> Result<Line, TextKind>
     ensures value { result ≡ node_of version words.entry }
     ensures in_range { IfOk result IsInRange }
 {
+    let number = before(b"blocks", &mut words)?;
     match version {
-        Version::Plain => plain_node(words),
-        Version::Orders => ordered_node(words),
-        Version::Underused => underused_node(words),
+        Version::Plain => {
+            let blocks = one_word(words)?;
+            node_with(number, blocks, Shape::MAX_ORDER, None)
+        }
+        Version::Orders => {
+            let blocks = before(b"order", &mut words)?;
+            let order = one_word(words)?;
+            let order = number_between(Shape::MIN_ORDER, Shape::MAX_ORDER, order)?;
+            node_with(number, blocks, order, None)
+        }
+        Version::Underused => {
+            let blocks = before(b"order", &mut words)?;
+            let order = before(b"underused", &mut words)?;
+            let threshold = one_word(words)?;
+            let order = number_between(Shape::MIN_ORDER, Shape::MAX_ORDER, order)?;
+            let threshold = threshold_of(order, threshold)?;
+            node_with(number, blocks, order, threshold)
+        }
     }
 }
 
-fn end_of(mut words: Words) -> Result<Line, TextKind>
-    ensures value { result ≡ end_of words.entry }
-    ensures in_range { IfOk result IsInRange }
-{
-    if words.next().is_some() {
-        return Err(TextKind::BadCount);
-    }
-    Ok(Line::End)
-}
-
-fn event_line(version: Version, caller: &[u8], words: Words) -> Result<Line, TextKind>
-    ensures value { result ≡ event_line version caller.now words.entry }
-    ensures in_range { IfOk result IsInRange }
-{
-    let event = event_of(version, caller, words)?;
-    Ok(Line::Happened(event))
-}
-
+/// Parses the words of a line.
 #[tactic(auto, unfolding(crate::specs::JournalLines::line_by))]
-fn line_by(version: Version, name: &[u8], words: Words) -> Result<Line, TextKind>
-    ensures value { result ≡ line_by version name.now words.entry }
+fn by_words(version: Version, mut words: Words) -> Result<Line, TextKind>
+    ensures value { result ≡ by_words version words.entry }
     ensures in_range { IfOk result IsInRange }
 {
+    let Some(name) = words.next() else {
+        return Err(TextKind::BadWord);
+    };
     if name == b"thp-journal".as_slice() {
         return head_of(words);
     }
@@ -200,19 +156,12 @@ fn line_by(version: Version, name: &[u8], words: Words) -> Result<Line, TextKind
         return node_of(version, words);
     }
     if name == b"end".as_slice() {
-        return end_of(words);
+        if words.next().is_some() {
+            return Err(TextKind::BadCount);
+        }
+        return Ok(Line::End);
     }
-    event_line(version, name, words)
-}
-
-fn by_words(version: Version, mut words: Words) -> Result<Line, TextKind>
-    ensures value { result ≡ by_words version words.entry }
-    ensures in_range { IfOk result IsInRange }
-{
-    match words.next() {
-        Some(name) => line_by(version, name, words),
-        None => Err(TextKind::BadWord),
-    }
+    Ok(Line::Happened(event_of(version, name, words)?))
 }
 
 /// Parses a whole line in a version of the format, regardless of its position. A line whose words parse has no bad bytes and no

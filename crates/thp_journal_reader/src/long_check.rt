@@ -1,11 +1,12 @@
 //! The check of journals of any length.
-ghost use Rattle.std.specs.Prelude.{◌≡◌, ◌≤◌, ◌+◌, ◌++◌, Ok, Err, [], IfOk, IfErr, IfSome};
-ghost use Rattle.thp_journal_reader.specs.Answers.{ReportsFirst};
-ghost use Rattle.thp_journal_reader.specs.Journals.{journals_within};
+ghost use Rattle.std.specs.Prelude.{◌≡◌, ◌≢◌, ◌≤◌, ◌+◌, ◌++◌, Ok, Err, [], IfOk, IfErr, IfSome};
+ghost use Rattle.thp_journal_reader.specs.Answers.{ReportsFirst, ReportsIllegal};
+ghost use Rattle.thp_journal_reader.specs.Journals.{journals_of, journals_within};
 ghost use Rattle.thp_journal_reader.specs.Parts.{told_with};
 ghost use Rattle.thp_journal_reader.specs.declared.journals.Journals.{Journals};
 ghost use Rattle.thp_journal_reader.specs.ReadTexts.{HasReadText, more_text_read, no_text_read};
-ghost use Rattle.thp_script.specs.Prelude.{max_counted, nothing_of, Text};
+ghost use Rattle.thp_script.specs.Prelude.{max_counted, max_input, nothing_of, ReportsFault, Text};
+ghost use Rattle.thp_script.specs.declared.fault.ReadFault.TheVariants.{OutOfMemory};
 
 use crate::follower::FollowedNodes;
 use crate::illegal::Illegal;
@@ -47,8 +48,16 @@ impl LongCheck {
         LongCheck::of(alloc, TextInParts::unlimited(alloc))
     }
 
-    /// Creates a check of this text, of which nothing has been read.
-    pub(crate) fn of(alloc: Global, text: TextInParts) -> LongCheck
+    /// Creates a check of an input, which has at most 16 MiB.
+    pub fn of_input(alloc: Global) -> LongCheck
+        ensures told { (text : Text) → told_with result text ≡ journals_of text }
+        ensures most { result.text.most ≡ max_input }
+    {
+        LongCheck::of(alloc, TextInParts::new(alloc))
+    }
+
+    // a check of this text, of which nothing has been read
+    fn of(alloc: Global, text: TextInParts) -> LongCheck
         requires nothing { text ≡ nothing_of text.most }
         requires counted { text.most ≤ max_counted }
         ensures told { (more : Text) → told_with result more ≡ journals_within text.most more }
@@ -78,9 +87,24 @@ impl LongCheck {
         ensures illegal_line { IfOk result (λ illegal. IfSome illegal (λ i. i.line ≤ self.text.most + 1)) }
         ensures fault_line { IfErr result (λ fault. fault.line ≤ self.text.most + 1) }
     {
-        match self.text.fault() {
-            Some((line, kind)) => Err(TextFault { line, kind }),
-            None => Ok(self.text.nodes.illegal()),
+        Ok(self.text.finish()?.illegal())
+    }
+
+    /// Returns the line of the first illegal event of an input, or `None` if each node's events are legal. Fails with the first
+    /// error of the text, even if that is after an illegal event. Allocates no memory.
+    pub fn finish_input(self) -> Result<Option<u32>, ReadFault>
+        requires { self.text.most ≡ max_input }
+        ensures line { IfOk result (λ line. (journals : Journals) × (told_with self [] ≡ Ok journals) × ReportsIllegal journals.nodes line) }
+        ensures fault { IfErr result (ReportsFault (told_with self [])) }
+        ensures no_memory { IfErr result (λ fault. fault ≢ OutOfMemory) }
+    {
+        match self.finish() {
+            Ok(None) => Ok(None),
+            Ok(Some(illegal)) => Ok(Some(illegal.line as u32)),
+            Err(fault) => Err(ReadFault::Text {
+                line: fault.line as u32,
+                kind: fault.kind,
+            }),
         }
     }
 }

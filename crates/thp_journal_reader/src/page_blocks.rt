@@ -18,18 +18,18 @@ pub(crate) struct Allocation {
 // The blocks of each page: its allocations are linked from the last to the first.
 #[derive(Drop)]
 pub(crate) struct PageBlocks {
-    pub(crate) pages: Pages,
+    pub(crate) records: Pages,
     allocations: Vec<Allocation>,
 }
 
 impl PageBlocks {
     // No page has a block.
     pub(crate) fn new(alloc: Global) -> PageBlocks
-        ensures pages { (p : ℕ) → known_of result.pages p ≡ PageRecord.Holds None }
+        ensures pages { (p : ℕ) → known_of result.records p ≡ PageRecord.Holds None }
         ensures none { result.allocations.items ≡ [] }
     {
         PageBlocks {
-            pages: Pages::new(alloc),
+            records: Pages::new(alloc),
             allocations: Vec::new(alloc),
         }
     }
@@ -43,9 +43,9 @@ impl PageBlocks {
     ) -> Result<(), AllocError>
         ensures small { OnOk result (length self.new.allocations.items < 2 ^ 32) }
         ensures added { OnOk result (self.new.allocations.items ≡ self.old.allocations.items ++ record { block = block; before = before } ∷ []) }
-        ensures known { OnOk result ((p : ℕ) → known_of self.new.pages p ≡ cond (nat_eq p page) (PageRecord.Holds (Some (length self.old.allocations.items))) (known_of self.old.pages p)) }
+        ensures known { OnOk result ((p : ℕ) → known_of self.new.records p ≡ cond (nat_eq p page) (PageRecord.Holds (Some (length self.old.allocations.items))) (known_of self.old.records p)) }
         ensures failed { OnErr result (self.new.allocations.items ≡ self.old.allocations.items) }
-        ensures same { OnErr result ((p : ℕ) → known_of self.new.pages p ≡ known_of self.old.pages p) }
+        ensures same { OnErr result ((p : ℕ) → known_of self.new.records p ≡ known_of self.old.records p) }
     {
         let place = self.allocations.len();
         if place >= u32::MAX as usize {
@@ -55,7 +55,7 @@ impl PageBlocks {
         let known = PageRecord::Holds {
             last: Some(place as u32),
         };
-        self.pages.set(page, known)?;
+        self.records.set(page, known)?;
         self.allocations.push_reserved(Allocation { block, before });
         Ok(())
     }

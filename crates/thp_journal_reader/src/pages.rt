@@ -43,10 +43,8 @@ impl Pages {
         if let Some(known) = self.dense.get(page.0 as usize) {
             return *known;
         }
-        match self.others.get(&page.0) {
-            Some(known) => *known,
-            None => PageRecord::Holds { last: None },
-        }
+        let known = self.others.get(&page.0).copied();
+        known.unwrap_or(PageRecord::Holds { last: None })
     }
 
     // Sets what is known of the page. Fails if memory can't be allocated, and then changes nothing.

@@ -1,19 +1,18 @@
 //! Collects the nodes of a journal as its lines are read.
-ghost use Rattle.std.specs.Prelude.{◌≡◌, ◌≤◌, ◌+◌, ◌++◌, ◌∷◌, [], IfOk, IfErr, OnOk, IfSome};
+ghost use Rattle.std.specs.Prelude.{◌≡◌, ◌≤◌, ◌+◌, ◌++◌, ◌∷◌, [], IfOk, OnOk, IfSome};
 ghost use Rattle.thp_history.specs.Prelude.{by};
 ghost use Rattle.thp_journal_reader.specs.Later.{reads_later};
 ghost use Rattle.thp_journal_reader.specs.LineRanges.{IsInRange};
 ghost use Rattle.thp_journal_reader.specs.Reading.{began, nodes_in, with_event, with_line, on_last, GoesAlong, IsReading};
 ghost use Rattle.thp_script.specs.Prelude.{max_input};
-ghost use Rattle.thp_script.specs.declared.fault.ReadFault.TheVariants.{OutOfMemory};
 
-use crate::journals::{Journals, NodeJournal};
+use crate::journals::NodeJournal;
 use crate::keeps_nodes::KeepsNodes;
 use crate::least_blocks::LeastBlocks;
 use crate::line::Line;
 use std::alloc::{AllocError, Global};
 use thp_history::{Event, Shape, What};
-use thp_script::{ReadFault, Sequence};
+use thp_script::Sequence;
 
 /// A node whose events are being read, and the blocks of its pages.
 #[derive(Drop)]
@@ -57,7 +56,10 @@ pub(crate) struct Nodes {
 }
 
 /// Closes the last node, and returns the nodes.
-fn close(alloc: Global, nodes: Option<Nodes>) -> Result<Sequence<NodeJournal>, AllocError>
+pub(crate) fn close(
+    alloc: Global,
+    nodes: Option<Nodes>,
+) -> Result<Sequence<NodeJournal>, AllocError>
     ensures { IfOk result (λ closed. closed ≡ nodes_in nodes) }
 {
     let Some(nodes) = nodes else {
@@ -117,13 +119,4 @@ impl KeepsNodes for Option<Nodes> {
     }
 
     ghost later = { λ number nodes along. reads_later number nodes along };
-}
-
-/// Returns the journals of the nodes that were read.
-pub(crate) fn finish(alloc: Global, nodes: Option<Nodes>) -> Result<Journals, ReadFault>
-    ensures nodes { IfOk result (λ journals. journals.nodes ≡ nodes_in nodes) }
-    ensures memory { IfErr result (λ fault. fault ≡ OutOfMemory) }
-{
-    let nodes = close(alloc, nodes)?;
-    Ok(Journals { nodes })
 }

@@ -83,10 +83,7 @@ fn set_of_runs(text: &[u8]) -> Result<SubSet, TextKind>
     let mut rest = text;
     loop {
         let (piece, after) = cut_at(b',', rest);
-        let run = match run_from(least, piece) {
-            Ok(run) => run,
-            Err(kind) => return Err(kind),
-        };
+        let run = run_from(least, piece)?;
         put_run(&mut set, run);
         match after {
             None => return Ok(set),

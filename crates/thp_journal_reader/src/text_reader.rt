@@ -1,5 +1,5 @@
 //! Reads journals whose bytes arrive in parts, for any kind of data about their nodes.
-ghost use Rattle.std.specs.Prelude.{◌≡◌, ◌≤◌, ◌+◌, ◌++◌, Ok, Err, [], IfOk, IfNone, IfSome, length};
+ghost use Rattle.std.specs.Prelude.{◌≡◌, ◌≤◌, ◌+◌, ◌++◌, Ok, Err, [], IfOk, IfErr, length};
 ghost use Rattle.thp_journal_reader.specs.Parts.{journals_in, lines_tell, so_far, told_with};
 ghost use Rattle.thp_journal_reader.specs.Reading.{fault_at};
 ghost use Rattle.thp_journal_reader.specs.declared.place.Place.TheVariants.{Start};
@@ -10,7 +10,7 @@ use crate::line::Line;
 use crate::parse_event_fast::parse_event_fast;
 use crate::place::{Place, line_in, place_after};
 use std::alloc::{AllocError, Global};
-use thp_script::{TextInParts, TextKind, WholeLine, fault_after};
+use thp_script::{TextFault, TextInParts, TextKind, WholeLine, fault_after};
 
 /// Returns the error of the text after the last line, at this position.
 fn fault_at(behind: &[u8], place: Place) -> Option<TextKind>
@@ -129,25 +129,19 @@ impl<N: KeepsNodes + Drop> TextReader<N> {
         })
     }
 
-    /// Returns the data about the nodes.
-    pub fn into_nodes(self) -> N
-        ensures { result ≡ self.nodes }
-    {
-        self.nodes
-    }
-
-    /// Returns the first error of the text, if nothing follows.
-    pub fn fault(&self) -> Option<(u64, TextKind)>
-        ensures wrong { IfSome result (λ fault. told_with (so_far (N.told self.now.nodes) self.now.place self.now.text) [] ≡ Err fault) }
-        ensures sound { IfNone result (told_with (so_far (N.told self.now.nodes) self.now.place self.now.text) [] ≡ Ok (journals_in (N.told self.now.nodes))) }
-        ensures line { IfSome result (λ fault. fault.0 ≤ self.now.text.most + 1) }
-        ensures lines { self.now.text.line ≤ self.now.text.most + 1 }
+    /// Returns the data about the nodes of the whole text. Fails with the first error of the text.
+    pub fn finish(self) -> Result<N, TextFault>
+        ensures nodes { IfOk result (λ nodes. nodes ≡ self.nodes) }
+        ensures told { IfOk result (λ nodes. told_with (so_far (N.told self.nodes) self.place self.text) [] ≡ Ok (journals_in (N.told self.nodes))) }
+        ensures fault { IfErr result (λ fault. told_with (so_far (N.told self.nodes) self.place self.text) [] ≡ Err (fault.line, fault.kind)) }
+        ensures fault_line { IfErr result (λ fault. fault.line ≤ self.text.most + 1) }
+        ensures last_line { self.text.line ≤ self.text.most + 1 }
     {
         let (line, behind) = self.text.last_line();
         match (self.text.fault(), fault_at(behind, self.place)) {
-            (Some(fault), _) => Some(fault),
-            (None, Some(kind)) => Some((line, kind)),
-            (None, None) => None,
+            (Some((line, kind)), _) => Err(TextFault { line, kind }),
+            (None, Some(kind)) => Err(TextFault { line, kind }),
+            (None, None) => Ok(self.nodes),
         }
     }
 }

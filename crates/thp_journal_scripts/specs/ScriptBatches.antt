@@ -51,11 +51,6 @@ TakesSome (Trying c n k) = 1 ≤ n
 TakesSome (Scanned c n) = 1 ≤ n
 TakesSome b = Unit {0}
 
--- no batch is open, or some of its events have no command yet
-abbrev pub IsShut : ScriptBatch → Type 0
-IsShut (Open c) = ⊥
-IsShut b = Unit {0}
-
 -- the command repeats the events without a command
 abbrev pub Completes : ScriptBatch → Op → Type 0
 Completes (Trying c n k) o = (k ≡ n) × (o ≡ op.Scan n)

@@ -52,7 +52,7 @@ impl Folding {
             flights: 0,
             pages: OpenFlights::new(alloc),
             waiting: VecDeque::new(alloc),
-            moved: Moved::nothing(),
+            moved: Moved::default(),
         }
     }
 
@@ -299,7 +299,7 @@ impl Folding {
         if self.pages.has(self.flight) {
             return Ok(());
         }
-        let Some(_caller) = self.batch.open_caller() else {
+        let ScriptBatch::Open { caller: _caller } = self.batch else {
             return Ok(());
         };
         ops.push(Op::PutBack)?;
@@ -315,7 +315,7 @@ impl Folding {
         ensures adds { OnOk result (HasAdded ops.old.items ops.new.items (AddsCommands self.old self.new)) }
     {
         self.settle(ops)?;
-        let Some(_caller) = self.batch.open_caller() else {
+        let ScriptBatch::Open { caller: _caller } = self.batch else {
             return Ok(());
         };
         ops.push(Op::PutBack)?;
@@ -333,7 +333,7 @@ impl Folding {
             return Ok(());
         }
         self.put_back_nothing(ops)?;
-        if self.batch.is_idle() {
+        if matches!(self.batch, ScriptBatch::Idle) {
             self.write_scans(false, ops)?;
             return Ok(());
         }

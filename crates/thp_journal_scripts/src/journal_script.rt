@@ -51,7 +51,7 @@ impl JournalScript {
             ops: Vec::new(alloc),
             text: Vec::new(alloc),
             taken: TextTrace::new(),
-            moved: Moved::nothing(),
+            moved: Moved::default(),
         }
     }
 

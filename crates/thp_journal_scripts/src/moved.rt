@@ -5,7 +5,7 @@ ghost use Rattle.thp_journal_scripts.specs.Moving.{both_moved};
 
 /// What a script does in another order than the history, or cannot repeat. All are 0 if each batch of the history is a whole scan.
 /// Counts stop at 2^64 - 1.
-#[derive(Clone, Copy, Debug, PartialEq, Eq)]
+#[derive(Clone, Copy, Debug, PartialEq, Eq, Default)]
 pub struct Moved {
     /// Batches that began while another one was open: each is a scan after that one.
     pub batches: u64,
@@ -19,18 +19,6 @@ pub struct Moved {
 }
 
 impl Moved {
-    /// Returns the value for a script that repeats its history.
-    pub(crate) fn nothing() -> Moved
-        ensures { result ≡ record { batches = 0; calls = 0; events = 0; left = 0 } }
-    {
-        Moved {
-            batches: 0,
-            calls: 0,
-            events: 0,
-            left: 0,
-        }
-    }
-
     /// Returns the sums with those of another node.
     pub(crate) fn and(self, other: Moved) -> Moved
         ensures { result ≡ both_moved self other }

@@ -1,7 +1,7 @@
 //! Appends the options of `thpsplit` for a script to a text.
 ghost use Rattle.std.specs.Prelude.{◌≡◌, [], ◌∷◌, ◌++◌, OnOk};
 ghost use Rattle.thp_journal_writer.specs.Prelude.{underused_word};
-ghost use Rattle.thp_journal_scripts.specs.ScriptTexts.{blocks_text, count_text, most_blocks, options_line, orders_text, thresholds_text};
+ghost use Rattle.thp_journal_scripts.specs.ScriptTexts.{most_blocks, options_line, orders_text, thresholds_text};
 
 use std::alloc::AllocError;
 use thp_history::Shape;
@@ -12,29 +12,14 @@ pub fn put_options(text: &mut Vec<u8>, shapes: &[Shape]) -> Result<(), AllocErro
     ensures { OnOk result (text.new.items ≡ text.old.items ++ options_line shapes.now) }
 {
     put(text, b"# thpsplit --nodes ")?;
-    put_count(text, shapes)?;
+    put_number(text, shapes.len() as u64, b' ')?;
     put(text, b"--blocks ")?;
-    put_blocks(text, shapes)?;
+    put_number(text, u64::from(most_blocks(shapes)), b' ')?;
     put(text, b"--orders ")?;
     put_orders(text, shapes)?;
     put(text, b"--underused ")?;
     put_thresholds(text, shapes)?;
     Ok(())
-}
-
-/// Appends the number of nodes, and a space.
-fn put_count(text: &mut Vec<u8>, shapes: &[Shape]) -> Result<(), AllocError>
-    ensures { OnOk result (text.new.items ≡ text.old.items ++ count_text shapes.now) }
-{
-    put_number(text, shapes.len() as u64, b' ')
-}
-
-/// Appends the greatest number of blocks, and a space.
-fn put_blocks(text: &mut Vec<u8>, shapes: &[Shape]) -> Result<(), AllocError>
-    ensures { OnOk result (text.new.items ≡ text.old.items ++ blocks_text shapes.now) }
-{
-    let blocks = most_blocks(shapes);
-    put_number(text, u64::from(blocks), b' ')
 }
 
 /// Returns the greatest number of blocks.

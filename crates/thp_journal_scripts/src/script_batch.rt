@@ -1,8 +1,7 @@
 //! The batch of a script: how far its commands are written.
 ghost use Rattle.std.specs.Prelude.{◌≡◌, ◌++◌, IfOk, MatchOption, OnOk, replicate};
 ghost use Rattle.thp_script.specs.declared.script.Op.TheVariants.{SplitNext};
-ghost use Rattle.thp_journal_scripts.specs.declared.script_batch.ScriptBatch.TheVariants.{Open};
-ghost use Rattle.thp_journal_scripts.specs.ScriptBatches.{pending_ops, settled, Completes, EndsPuts, EndsTakes, EndsTries, IsIncomplete, IsShut, PutsMore, TakesMore, TriesMore};
+ghost use Rattle.thp_journal_scripts.specs.ScriptBatches.{pending_ops, settled, Completes, EndsPuts, EndsTakes, EndsTries, IsIncomplete, PutsMore, TakesMore, TriesMore};
 
 use std::alloc::AllocError;
 use thp_script::Op;
@@ -79,21 +78,6 @@ impl ScriptBatch {
             ScriptBatch::Scanned { caller, .. } | ScriptBatch::Closing { caller } => {
                 if caller == by { Some(self) } else { None }
             }
-            _ => None,
-        }
-    }
-
-    /// Returns whether there is no batch.
-    pub(crate) fn is_idle(self) -> bool {
-        matches!(self, ScriptBatch::Idle)
-    }
-
-    /// Returns the caller whose batch is open, if all events have their commands.
-    pub(crate) fn open_caller(self) -> Option<u32>
-        ensures { MatchOption result (IsShut self) (λ c. self ≡ Open c) }
-    {
-        match self {
-            ScriptBatch::Open { caller } => Some(caller),
             _ => None,
         }
     }

@@ -10,7 +10,7 @@ use crate::scripted_nodes::ScriptedNodes;
 use std::alloc::{AllocError, Global};
 use std::marker::Model;
 use thp_journal_reader::TextReader;
-use thp_script::{LongReadFault, TextFault, TextInParts};
+use thp_script::{LongReadFault, TextInParts};
 
 /// A check of journals of any length that also writes the script that repeats them, up to the first illegal event. It differs
 /// from a [`LongCheck`](crate::LongCheck) in that the text of the script is taken out after each part.
@@ -80,12 +80,9 @@ impl ScriptCheck {
         ensures scripted { IfOk result (λ scripted. (journals : Journals) × (told_with self.read [] ≡ Ok journals) × AreScripted journals.nodes self.taken scripted) }
         ensures fault { IfErr result (ReportsLongReadFault (told_with self.read [])) }
     {
-        match self.text.fault() {
-            Some((line, kind)) => Err(LongReadFault::Text(TextFault { line, kind })),
-            None => {
-                let scripted = self.text.into_nodes().finish()?;
-                Ok(scripted)
-            }
+        match self.text.finish() {
+            Ok(nodes) => Ok(nodes.finish()?),
+            Err(fault) => Err(LongReadFault::Text(fault)),
         }
     }
 }

@@ -117,13 +117,7 @@ fn done_page(what: &What) -> Option<PageId>
     match *what {
         What::UnmapWhole { outcome, page, .. }
         | What::UnmapSub { outcome, page, .. }
-        | What::Unpin { outcome, page, .. } => {
-            if outcome == Outcome::Freed {
-                Some(page)
-            } else {
-                None
-            }
-        }
+        | What::Unpin { outcome, page, .. } => (outcome == Outcome::Freed).then_some(page),
         What::Back { page } | What::Dropped { page } => Some(page),
         _ => tried_page(what),
     }

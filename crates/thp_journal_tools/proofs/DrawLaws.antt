@@ -25,7 +25,7 @@ use Rattle.thp_journal_tools.specs.Requests.{fault_at_end}
 use Rattle.thp_journal_tools.proofs.CheckLaws.{ends_at_find, ends_at_write, ends_told, none_at_find}
 
 -- the text of what was found
-pub drawing_of : (options : DrawOptions) (bytes text : List ℕ) (nodes : List DrawnNode) (ending : Ending) → IsFound bytes nodes → Shows options.drawing options.node nodes ending text → IsDrawingOf options bytes ending text
+pub drawing_of : (options : DrawOptions) (bytes text : List ℕ) (nodes : List DrawnNode) (ending : Ending) → IsFound bytes nodes → Shows options.table options.node nodes ending text → IsDrawingOf options bytes ending text
 drawing_of options bytes text nodes ending found shown = record { journals = found.journals; spelled = found.spelled; nodes = nodes; drawn = found.drawn; shown = shown }
 
 -- what is drawn of what was read is drawn of the whole input
@@ -76,7 +76,7 @@ module _ (options : DrawOptions) (input : Source) (reads : ReadsOn max_counted i
 -- ---- the text was written, or a prefix of it
 
 module _ (options : DrawOptions) (input : Source) (output : Device) (reads : ReadsOn max_counted input.failed input.called input.calls) (done : input.failed ≡ false) (bytes text : List ℕ) (nodes : List DrawnNode) (ending : Ending) where
-  module _ (read : IfSome input.bytes (IsFrontOf max_counted bytes)) (found : IsFound bytes nodes) (shown : Shows options.drawing options.node nodes ending text) (writes : WritesOn output.failed output.called output.calls) (o : Option (Unit {0})) where
+  module _ (read : IfSome input.bytes (IsFrontOf max_counted bytes)) (found : IsFound bytes nodes) (shown : Shows options.table options.node nodes ending text) (writes : WritesOn output.failed output.called output.calls) (o : Option (Unit {0})) where
     pub cut : o ≡ None → IfNone o (WritesFront output.before output.after text) → IfNone o (output.failed ≡ true) → Draws options input output (Err run.Write)
     cut none front failed = record {
       ends = ends_at_write (IsDrawingOf options) (drawing_of_input options) input.bytes bytes read output.before output.after input.failed output.failed ending text o (Err run.Write) (drawing_of options bytes text nodes ending found shown) none front failed done refl;

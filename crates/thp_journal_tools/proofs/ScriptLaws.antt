@@ -7,7 +7,7 @@ use Rattle.thp_cli.specs.declared.long_fault.LongRunFault.{LongRunFault}
 use Rattle.thp_cli.specs.declared.long_fault.LongRunFault.TheVariants as long
 use Rattle.thp_cli.specs.Prelude.{WritesFront, fault_of_long_read, seen_fault}
 use Rattle.thp_journal_tools.specs.Scripting.{script_end, Grows, IsDeviceFault, IsScriptEnd}
-use Rattle.thp_journal_tools.specs.declared.scripting.ScriptFinding.{ScriptFinding}
+use Rattle.thp_journal_scripts.specs.declared.scripted.Scripted.{Scripted}
 use Rattle.thp_script.specs.Prelude.{max_counted, IsFrontOf}
 use Rattle.thp_script.specs.declared.fault.LongReadFault.{LongReadFault}
 use Rattle.thp_script.specs.declared.fault.LongReadFault.TheVariants as summary
@@ -85,7 +85,7 @@ device_end known old new rf wf Read why = why
 device_end known old new rf wf Write why = why
 
 -- a device failed, or memory could not be allocated
-pub end_at_fault : (known old new : Option (List ℕ)) (rf wf : Bool) (r : Result ScriptFinding LongRunFault) → IfErr r (λ e. IsDeviceFault rf wf (seen_fault e)) → IsErrAnd r (λ e. Unit {0}) → IsScriptEnd known old new rf wf (script_end r)
+pub end_at_fault : (known old new : Option (List ℕ)) (rf wf : Bool) (r : Result Scripted LongRunFault) → IfErr r (λ e. IsDeviceFault rf wf (seen_fault e)) → IsErrAnd r (λ e. Unit {0}) → IsScriptEnd known old new rf wf (script_end r)
 end_at_fault known old new rf wf (Ok found) why is = absurd is
 end_at_fault known old new rf wf (Err e) why is = device_end known old new rf wf (seen_fault e) why
 
@@ -94,7 +94,7 @@ is_err (Ok x) P is = absurd is
 is_err (Err e) P is = tt
 
 -- the journal has an error, or memory could not be allocated
-pub end_at_finish : (known old new : Option (List ℕ)) (bytes : List ℕ) → IfSome known (IsFrontOf max_counted bytes) → (rf wf : Bool) → rf ≡ false → wf ≡ false → (fault : LongReadFault) (r : Result ScriptFinding LongRunFault)
+pub end_at_finish : (known old new : Option (List ℕ)) (bytes : List ℕ) → IfSome known (IsFrontOf max_counted bytes) → (rf wf : Bool) → rf ≡ false → wf ≡ false → (fault : LongReadFault) (r : Result Scripted LongRunFault)
     → IsErrAnd r (λ e. e ≡ fault_of_long_read fault) → ReportsLongReadFault (journals_within max_counted bytes) fault → IsScriptEnd known old new rf wf (script_end r)
 end_at_finish known old new bytes read rf wf no_read no_write fault (Ok found) is told = absurd is
 end_at_finish known old new bytes read rf wf no_read no_write (summary.Text fault) (Err e) is told =

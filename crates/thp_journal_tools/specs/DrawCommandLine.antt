@@ -1,12 +1,10 @@
 -- The command line of `thpdraw`.
-use Rattle.std.specs.Prelude.{◌-◌, ℕ, Bool, true, false, pos, List, Some, Result, codes}
+use Rattle.std.specs.Prelude.{◌-◌, ℕ, pos, List, Some, Result, codes}
 use Rattle.clap.specs.Words.{App, Row, Rule, one_of, with_rule}
 use Rattle.clap.specs.declared.builder.value_parser.ValueParser.TheVariants.{Signed}
 use Rattle.clap.specs.declared.error.Error.{Error}
 use Rattle.thp_cli.specs.Prelude.{bare_app, flag_rule, valued_rule, ReportsFlag, ReportsNumber}
 use Rattle.thp_script.specs.Prelude.{max_nodes}
-use Rattle.thp_journal_tools.specs.declared.draw_options.Drawing.{Drawing}
-use Rattle.thp_journal_tools.specs.declared.draw_options.Drawing.TheVariants.{Picture, Table}
 use Rattle.thp_journal_tools.specs.declared.draw_options.DrawOptions.{DrawOptions}
 use Rattle.thp_journal_tools.specs.Words.{ReadsWords}
 
@@ -18,14 +16,9 @@ node_rule = record (valued_rule (codes "node")) { parser = Some (Signed (pos 0) 
 abbrev pub thpdraw : App
 thpdraw = with_rule (with_rule (with_rule (bare_app (codes "thpdraw")) (flag_rule (codes "table"))) node_rule) (flag_rule (codes "progress"))
 
--- the table is requested
-abbrev pub is_table : Drawing → Bool
-is_table Picture = false
-is_table Table = true
-
 -- the options are those of the matches
 pub record HoldsOptions (matches : List Row) (options : DrawOptions) : Type 0 where
-  pub table : ReportsFlag (one_of (codes "table") matches) (is_table options.drawing)
+  pub table : ReportsFlag (one_of (codes "table") matches) options.table
   pub node : ReportsNumber (one_of (codes "node") matches) options.node
   pub progress : ReportsFlag (one_of (codes "progress") matches) options.progress
 

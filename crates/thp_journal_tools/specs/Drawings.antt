@@ -1,5 +1,6 @@
 -- The output for a journal of any length.
-use Rattle.std.specs.Prelude.{◌≡◌, ◌≤◌, ℕ, Bool, ◌||◌, false, is_some, length, List, [], ◌∷◌, Option, None, Some, IfSome, Result, Ok, if◌then◌else◌, slice_get}
+use Rattle.std.specs.Prelude.{◌≡◌, ◌≤◌, ℕ, Bool, false, is_some, length, List, [], ◌∷◌, Option, None, Some, IfSome, Result, Ok, if◌then◌else◌, slice_get}
+use Rattle.std.specs.List.{list_any}
 use Rattle.thp_journal_tools.specs.Checks.{LongEnds}
 use Rattle.thp_drawing.specs.Pictures.{node_picture, picture_text}
 use Rattle.thp_drawing.specs.Tables.{node_table, table_text}
@@ -11,35 +12,30 @@ use Rattle.thp_cli.specs.declared.ending.Ending.TheVariants.{Illegal, Written}
 use Rattle.thp_cli.specs.declared.fault.RunFault.{RunFault}
 use Rattle.thp_cli.specs.Prelude.{ReadsOn, Device, IsUntouched, Source, WritesAnswer}
 use Rattle.thp_script.specs.Prelude.{max_counted}
-use Rattle.thp_journal_tools.specs.declared.draw_options.Drawing.{Drawing}
-use Rattle.thp_journal_tools.specs.declared.draw_options.Drawing.TheVariants.{Picture, Table}
 use Rattle.thp_journal_tools.specs.declared.draw_options.DrawOptions.{DrawOptions}
 use Rattle.thp_journal_tools.specs.Nodes.{AreDrawnOf}
 
--- the output for all nodes
-abbrev pub drawing_text : Drawing → List DrawnNode → List ℕ
-drawing_text Picture nodes = picture_text nodes
-drawing_text Table nodes = table_text nodes
+-- the output for all nodes: a table if that is requested, otherwise a picture
+abbrev pub drawing_text : Bool → List DrawnNode → List ℕ
+drawing_text table nodes = if table then table_text nodes else picture_text nodes
 
 -- the output for node n alone, with its number
-abbrev pub node_text : Drawing → ℕ → DrawnNode → List ℕ
-node_text Picture n node = node_picture n node
-node_text Table n node = node_table n node
+abbrev pub node_text : Bool → ℕ → DrawnNode → List ℕ
+node_text table n node = if table then node_table n node else node_picture n node
 
 -- some node has an illegal event
 abbrev pub some_illegal : List DrawnNode → Bool
-some_illegal [] = false
-some_illegal (node ∷ nodes) = is_some node.illegal || some_illegal nodes
+some_illegal nodes = list_any (λ (node : DrawnNode). is_some node.illegal) nodes
 
 -- how the program ends after the output was written, by whether an event in it is illegal
 abbrev pub ending_if : Bool → Ending
 ending_if illegal = if illegal then Illegal else Written
 
 -- the output shows all nodes, or exactly the requested one, with its number; and the program ends like this
-abbrev pub Shows : Drawing → Option ℕ → List DrawnNode → Ending → List ℕ → Type 0
-Shows drawing None nodes ending text = (text ≡ drawing_text drawing nodes) × (ending ≡ ending_if (some_illegal nodes))
-Shows drawing (Some n) nodes ending text =
-    (node : DrawnNode) × (slice_get nodes n ≡ Some node) × (text ≡ node_text drawing n node) × (ending ≡ ending_if (is_some node.illegal))
+abbrev pub Shows : Bool → Option ℕ → List DrawnNode → Ending → List ℕ → Type 0
+Shows table None nodes ending text = (text ≡ drawing_text table nodes) × (ending ≡ ending_if (some_illegal nodes))
+Shows table (Some n) nodes ending text =
+    (node : DrawnNode) × (slice_get nodes n ≡ Some node) × (text ≡ node_text table n node) × (ending ≡ ending_if (is_some node.illegal))
 
 -- the text is that of the nodes in the input, each drawn up to its first illegal event; and the program ends like this
 pub record IsDrawingOf (options : DrawOptions) (input : List ℕ) (ending : Ending) (text : List ℕ) : Type 0 where
@@ -47,7 +43,7 @@ pub record IsDrawingOf (options : DrawOptions) (input : List ℕ) (ending : Endi
   pub spelled : journals_within max_counted input ≡ Ok journals
   pub nodes : List DrawnNode
   pub drawn : AreDrawnOf journals.nodes nodes
-  pub shown : Shows options.drawing options.node nodes ending text
+  pub shown : Shows options.table options.node nodes ending text
 
 -- the drawings of the nodes in these bytes
 pub record IsFound (bytes : List ℕ) (nodes : List DrawnNode) : Type 0 where

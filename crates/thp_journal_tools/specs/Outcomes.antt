@@ -8,7 +8,7 @@ use Rattle.thp_cli.specs.declared.ending.ProgramFault.TheVariants.{Run}
 use Rattle.thp_cli.specs.Prelude.{Device, Source}
 use Rattle.thp_journal_tools.specs.declared.options.CheckOptions.{CheckOptions}
 use Rattle.thp_journal_tools.specs.Checks.{explanation_of, Checks}
-use Rattle.thp_journal_tools.specs.declared.scripting.ScriptFinding.{ScriptFinding}
+use Rattle.thp_journal_scripts.specs.declared.scripted.Scripted.{Scripted}
 use Rattle.thp_journal_tools.specs.Progress.{may_show}
 use Rattle.thp_journal_tools.specs.Scripting.{notes_of, Scripts}
 
@@ -32,7 +32,7 @@ Does options input output (Err _) explanation = ⊥
 
 -- a script was written, and this is the text for standard error
 pub record DidScript (options : CheckOptions) (input : Source) (output : Device) (ending : Ending) (notes : Option (List ℕ)) : Type 0 where
-  pub found : ScriptFinding
+  pub found : Scripted
   pub scripts : Scripts input output (Ok found)
   pub ending_is : ending ≡ ending_of found.illegal
   pub notes_are : notes ≡ notes_of options found

@@ -13,13 +13,13 @@ use Rattle.thp_cli.specs.declared.fault.RunFault.TheVariants.{Text, OutOfMemory,
 use Rattle.thp_cli.specs.declared.long_fault.LongRunFault.{LongRunFault}
 use Rattle.thp_cli.specs.Prelude.{ReadsOn, Device, Source, seen_fault}
 use Rattle.thp_journal_tools.specs.declared.options.CheckOptions.{CheckOptions}
-use Rattle.thp_journal_tools.specs.declared.scripting.ScriptFinding.{ScriptFinding}
+use Rattle.thp_journal_scripts.specs.declared.scripted.Scripted.{Scripted}
 
 -- ---- the script
 
 -- The bytes are of journals with this first illegal event, and the text is the script of the events before it; what it does in
 -- another order, and the number of tries out of turn, are as found.
-pub record IsScripted (bytes text : List ℕ) (found : ScriptFinding) : Type 0 where
+pub record IsScripted (bytes text : List ℕ) (found : Scripted) : Type 0 where
   pub journals : Journals
   pub spelled : journals_within max_counted bytes ≡ Ok journals
   pub first : ReportsFirst journals.nodes found.illegal
@@ -37,12 +37,12 @@ IsDeviceFault reader_failed writer_failed Read = (reader_failed ≡ true) × (wr
 IsDeviceFault reader_failed writer_failed Write = (reader_failed ≡ false) × (writer_failed ≡ true)
 
 -- the view that contracts have of the result: line numbers of any size
-abbrev pub script_end : Result ScriptFinding LongRunFault → Result ScriptFinding RunFault
+abbrev pub script_end : Result Scripted LongRunFault → Result Scripted RunFault
 script_end (Ok found) = Ok found
 script_end (Err fault) = Err (seen_fault fault)
 
 -- the result for the bytes that could be read, and what the writer took
-abbrev pub IsScriptEnd : Option (List ℕ) → Option (List ℕ) → Option (List ℕ) → Bool → Bool → Result ScriptFinding RunFault → Type 0
+abbrev pub IsScriptEnd : Option (List ℕ) → Option (List ℕ) → Option (List ℕ) → Bool → Bool → Result Scripted RunFault → Type 0
 IsScriptEnd known old new reader_failed writer_failed (Ok found) =
     ((bytes : List ℕ) × (text : List ℕ) × IfSome known (IsFrontOf max_counted bytes) × Appends old new text × IsScripted bytes text found) × (reader_failed ≡ false) × (writer_failed ≡ false)
 IsScriptEnd known old new reader_failed writer_failed (Err (Text line kind)) =
@@ -50,11 +50,11 @@ IsScriptEnd known old new reader_failed writer_failed (Err (Text line kind)) =
 IsScriptEnd known old new reader_failed writer_failed (Err fault) = IsDeviceFault reader_failed writer_failed fault
 
 -- how it ends: the writer took a text, and the result is right
-abbrev pub ScriptEnds : Option (List ℕ) → Option (List ℕ) → Option (List ℕ) → Bool → Bool → Result ScriptFinding RunFault → Type 0
+abbrev pub ScriptEnds : Option (List ℕ) → Option (List ℕ) → Option (List ℕ) → Bool → Bool → Result Scripted RunFault → Type 0
 ScriptEnds known old new reader_failed writer_failed result = Grows old new × IsScriptEnd known old new reader_failed writer_failed result
 
 -- the script was written like this: with the first illegal event, or none
-pub record Scripts (input : Source) (output : Device) (result : Result ScriptFinding RunFault) : Type 0 where
+pub record Scripts (input : Source) (output : Device) (result : Result Scripted RunFault) : Type 0 where
   pub ends : ScriptEnds input.bytes output.before output.after input.failed output.failed result
   pub reads : ReadsOn max_counted input.failed input.called input.calls
 
@@ -78,7 +78,7 @@ moved_text moved =
     ++ note moved.left (codes "page put back at the end\n") (codes "pages put back at the end\n")
 
 -- the verdict, what is moved, and the number of tries out of turn
-unfoldable pub notes_text : CheckOptions → ScriptFinding → List ℕ
+unfoldable pub notes_text : CheckOptions → Scripted → List ℕ
 notes_text options found =
     illegal_text options found.illegal
     ++ moved_text found.moved
@@ -89,5 +89,5 @@ abbrev pub some_text : List ℕ → Option (List ℕ)
 some_text [] = None
 some_text (b ∷ bytes) = Some (b ∷ bytes)
 
-abbrev pub notes_of : CheckOptions → ScriptFinding → Option (List ℕ)
+abbrev pub notes_of : CheckOptions → Scripted → Option (List ℕ)
 notes_of options found = some_text (notes_text options found)

@@ -1,29 +1,20 @@
 //! The command line of `thpdraw`.
-ghost use Rattle.std.specs.Prelude.{◌≡◌, IfOk, map};
+ghost use Rattle.std.specs.Prelude.{◌≡◌, IfOk};
 ghost use Rattle.clap.specs.Words.{app_of};
 ghost use Rattle.thp_cli.specs.Prelude.{IsOption};
-ghost use Rattle.thp_journal_tools.specs.DrawCommandLine.{is_table, node_rule, thpdraw, AnswersWords};
+ghost use Rattle.thp_journal_tools.specs.DrawCommandLine.{node_rule, thpdraw};
 
 use crate::draw_help::AFTER_HELP;
-use clap::{Arg, ArgAction, Command, Error, value_parser};
+use clap::{Arg, ArgAction, Command, value_parser};
 use std::alloc::{AllocError, Global};
 use thp_cli::{VERSION, flag};
 use thp_script::MAX_NODES;
 
-/// The output for a journal's nodes.
-#[derive(Clone, Copy, Debug, PartialEq, Eq)]
-pub enum Drawing {
-    /// A picture.
-    Picture,
-    /// A table of the same numbers.
-    Table,
-}
-
 /// The request of a command line.
 #[derive(Clone, Copy, Debug, PartialEq, Eq)]
 pub struct DrawOptions {
-    /// The output on standard output.
-    pub drawing: Drawing,
+    /// Whether to write the numbers as a table instead of the picture.
+    pub table: bool,
     /// The number of the only node to draw, if not all are drawn.
     pub node: Option<u32>,
     /// Whether to show the progress of the reading on standard error.
@@ -42,7 +33,7 @@ fn node_option<'a>(alloc: Global) -> Arg<'a>
 }
 
 /// Returns the command with its options.
-fn command<'a>(alloc: Global) -> Result<Command<'a>, AllocError>
+pub(crate) fn command<'a>(alloc: Global) -> Result<Command<'a>, AllocError>
     ensures { IfOk result (λ command. app_of command ≡ thpdraw) }
 {
     Command::new(alloc, "thpdraw")
@@ -60,28 +51,4 @@ fn command<'a>(alloc: Global) -> Result<Command<'a>, AllocError>
             "progress",
             "Show the progress of the reading on standard error",
         ))
-}
-
-/// Returns the output, given whether a table is requested.
-fn asked_for(table: bool) -> Drawing
-    ensures { is_table result ≡ table }
-{
-    if table {
-        Drawing::Table
-    } else {
-        Drawing::Picture
-    }
-}
-
-/// Reads the words of a command line. The first word names the program. The error is `clap`'s: help or the version if the words
-/// request it, otherwise what is wrong with them, or that memory could not be allocated.
-pub fn read_words<'a>(alloc: Global, words: &'a [&'a str]) -> Result<DrawOptions, Error>
-    ensures { AnswersWords (map (λ word. word.now) words.entry.now) result }
-{
-    let matches = command(alloc)?.try_get_matches_from(words)?;
-    Ok(DrawOptions {
-        drawing: asked_for(matches.get_flag("table")),
-        node: matches.get_one::<u32>("node"),
-        progress: matches.get_flag("progress"),
-    })
 }

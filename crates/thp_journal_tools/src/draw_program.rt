@@ -6,7 +6,7 @@ ghost use Rattle.thp_journal_tools.specs.DrawCommandLine.{AnswersWords};
 ghost use Rattle.thp_journal_tools.specs.DrawOutcomes.{shows_progress, DoesRequest};
 ghost use Rattle.thp_journal_tools.specs.Requests.{Finishes, ShowsAsAsked};
 
-use crate::draw_options::{DrawOptions, read_words};
+use crate::draw_options::{DrawOptions, command};
 use crate::end_fault::EndFault;
 use crate::request::{ProgramEnd, Request, run_request};
 use crate::screen::Screen;
@@ -31,7 +31,12 @@ impl Request for DrawOptions {
     }
 
     fn read<'a>(alloc: Global, words: &'a [&'a str]) -> Result<DrawOptions, Error> {
-        read_words(alloc, words)
+        let matches = command(alloc)?.try_get_matches_from(words)?;
+        Ok(DrawOptions {
+            table: matches.get_flag("table"),
+            node: matches.get_one::<u32>("node"),
+            progress: matches.get_flag("progress"),
+        })
     }
 
     fn perform<R: Read, W: Write, S: Write, C: Clock>(

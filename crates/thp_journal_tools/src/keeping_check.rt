@@ -1,13 +1,13 @@
 //! The check of journals of any length that also keeps data of each node.
-ghost use Rattle.std.specs.Prelude.{◌≡◌, ◌++◌, Ok, [], IfOk, IfErr};
+ghost use Rattle.std.specs.Prelude.{◌≡◌, Ok, [], IfOk, IfErr};
 ghost use Rattle.thp_journal_reader.specs.Prelude.{HasReadText, ReportsLongReadFault, HasEnded, journals_within, more_text_read, no_text_read, told_with};
 ghost use Rattle.thp_journal_reader.specs.declared.journals.Journals.{Journals};
 ghost use Rattle.thp_script.specs.Prelude.{max_counted, Text};
 
-use std::alloc::{AllocError, Global};
+use std::alloc::Global;
 use std::marker::Model;
 use thp_journal_reader::{FollowedNodes, FollowsNode, Illegal, TextReader};
-use thp_script::{LongReadFault, ReadFault, ReadsParts, TextFault, TextInParts};
+use thp_script::{LongReadFault, ReadFault, ReadsParts, TextInParts};
 
 /// A check of journals of any length that also keeps data of each node, which `F` makes from the node's legal events: its totals
 /// ([`SummedNode`](crate::SummedNode)) or its numbers ([`SeriesNode`](crate::SeriesNode)).
@@ -42,27 +42,15 @@ impl<K: Drop, F: FollowsNode<Kept = K>> KeepingCheck<K, F> {
         }
     }
 
-    /// Reads the next part of the text. After the first error the part is ignored. Fails if memory for a node's replay or its data,
-    /// or for a line that spans several parts, can't be allocated.
-    pub fn read_part(self, part: &[u8]) -> Result<KeepingCheck<K, F>, AllocError>
-        ensures { IfOk result (λ check. (more : Text) → told_with check more ≡ told_with self (part.now ++ more)) }
-    {
-        let text = self.text.read_part(part)?;
-        Ok(KeepingCheck { text })
-    }
-
     /// Returns the first illegal event of the whole text, and the data of each node. Fails with the first error of the text, even if
     /// that is after an illegal event, and if memory for the last node's data can't be allocated.
     pub fn finish(self) -> Result<(Option<Illegal>, Vec<K>), LongReadFault>
         ensures kept { IfOk result (λ found. (journals : Journals) × (told_with self [] ≡ Ok journals) × HasEnded F.keeps F.follows_all journals.nodes found.0 found.1.items) }
         ensures fault { IfErr result (ReportsLongReadFault (told_with self [])) }
     {
-        match self.text.fault() {
-            Some((line, kind)) => Err(LongReadFault::Text(TextFault { line, kind })),
-            None => {
-                let found = self.text.into_nodes().finish()?;
-                Ok(found)
-            }
+        match self.text.finish() {
+            Ok(nodes) => Ok(nodes.finish()?),
+            Err(fault) => Err(LongReadFault::Text(fault)),
         }
     }
 }
@@ -70,8 +58,11 @@ impl<K: Drop, F: FollowsNode<Kept = K>> KeepingCheck<K, F> {
 impl<K: Drop, F: FollowsNode<Kept = K>> ReadsParts for KeepingCheck<K, F> {
     ghost has_read = { HasReadText };
 
+    /// Reads the next part of the text. After the first error the part is ignored. Fails if memory for a node's replay or its data,
+    /// or for a line that spans several parts, can't be allocated.
     fn read_part(self, part: &[u8]) -> Result<Self, ReadFault> {
-        Ok(KeepingCheck::read_part(self, part)?)
+        let text = self.text.read_part(part)?;
+        Ok(KeepingCheck { text })
     }
 
     ghost nothing_read = { no_text_read };

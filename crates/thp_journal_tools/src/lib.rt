@@ -37,15 +37,15 @@ mod summed_node;
 mod writing;
 
 pub use checking::{CheckFinding, check_long};
-pub use draw_options::{DrawOptions, Drawing};
+pub use draw_options::DrawOptions;
 pub use draw_program::run_draw_program;
 pub use end_fault::EndFault;
 pub use keeping_check::KeepingCheck;
-pub use options::{CheckOptions, read_words};
+pub use options::CheckOptions;
 pub use program::run_check_program;
 pub use reading::read_journal;
 pub use screen::Screen;
-pub use scripting::{ScriptFinding, write_script};
+pub use scripting::write_script;
 pub use series_node::SeriesNode;
 pub use summed::Summed;
 pub use summed_node::SummedNode;

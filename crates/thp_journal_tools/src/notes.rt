@@ -1,13 +1,12 @@
 //! What is reported about a script on standard error.
 ghost use Rattle.std.specs.Prelude.{◌≡◌, ◌++◌, IfOk, OnOk, option_map};
-ghost use Rattle.thp_journal_tools.specs.Scripting.{illegal_text, moved_text, note, notes_of, notes_text, some_text};
+ghost use Rattle.thp_journal_tools.specs.Scripting.{illegal_text, moved_text, note, notes_of, some_text};
 
 use crate::options::CheckOptions;
-use crate::scripting::ScriptFinding;
 use std::alloc::{AllocError, Global};
 use thp_check::put_explanation;
 use thp_journal_reader::{Illegal, verdict};
-use thp_journal_scripts::Moved;
+use thp_journal_scripts::{Moved, Scripted};
 use thp_journal_writer::{put, put_number};
 
 /// Returns the text about a script: the line of the first illegal event, why it is illegal if that is requested, and what the
@@ -15,28 +14,9 @@ use thp_journal_writer::{put, put_number};
 pub(crate) fn notes_of(
     alloc: Global,
     options: CheckOptions,
-    found: &ScriptFinding,
+    found: &Scripted,
 ) -> Result<Option<Vec<u8>>, AllocError>
     ensures { IfOk result (λ text. option_map (λ t. t.items) text ≡ notes_of options found.now) }
-{
-    let text = notes_text(alloc, options, found)?;
-    Ok(some_text(text))
-}
-
-/// Returns a text, if there is one.
-fn some_text(text: Vec<u8>) -> Option<Vec<u8>>
-    ensures { option_map (λ t. t.items) result ≡ some_text text.items }
-{
-    if text.is_empty() { None } else { Some(text) }
-}
-
-/// Returns the text about a script, which can be empty.
-fn notes_text(
-    alloc: Global,
-    options: CheckOptions,
-    found: &ScriptFinding,
-) -> Result<Vec<u8>, AllocError>
-    ensures { IfOk result (λ text. text.items ≡ notes_text options found.now) }
 {
     let mut text = Vec::new(alloc);
     put_illegal(&mut text, options, &found.illegal)?;
@@ -47,7 +27,14 @@ fn notes_text(
         b"try came in another order than the takes\n",
         b"tries came in another order than the takes\n",
     )?;
-    Ok(text)
+    Ok(some_text(text))
+}
+
+/// Returns a text, if there is one.
+fn some_text(text: Vec<u8>) -> Option<Vec<u8>>
+    ensures { option_map (λ t. t.items) result ≡ some_text text.items }
+{
+    if text.is_empty() { None } else { Some(text) }
 }
 
 /// Appends what the script does in another order than the journal.

@@ -1,10 +1,10 @@
 //! The command line of `thpcheck`.
-ghost use Rattle.std.specs.Prelude.{◌≡◌, IfOk, map};
+ghost use Rattle.std.specs.Prelude.{◌≡◌, IfOk};
 ghost use Rattle.clap.specs.Words.{app_of};
-ghost use Rattle.thp_journal_tools.specs.CommandLine.{thpcheck, AnswersWords};
+ghost use Rattle.thp_journal_tools.specs.CommandLine.{thpcheck};
 
 use crate::help::AFTER_HELP;
-use clap::{Command, Error};
+use clap::Command;
 use std::alloc::{AllocError, Global};
 use thp_cli::{VERSION, flag};
 
@@ -22,7 +22,7 @@ pub struct CheckOptions {
 }
 
 /// Returns the command with its options.
-fn command<'a>(alloc: Global) -> Result<Command<'a>, AllocError>
+pub(crate) fn command<'a>(alloc: Global) -> Result<Command<'a>, AllocError>
     ensures { IfOk result (λ command. app_of command ≡ thpcheck) }
 {
     Command::new(alloc, "thpcheck")
@@ -49,18 +49,4 @@ fn command<'a>(alloc: Global) -> Result<Command<'a>, AllocError>
             "script",
             "Write the script that repeats the journal instead of the verdict",
         ))
-}
-
-/// Reads the words of a command line. The first word names the program. The error is `clap`'s: help or the version if the words
-/// request it, otherwise what is wrong with them, or that memory could not be allocated.
-pub fn read_words<'a>(alloc: Global, words: &'a [&'a str]) -> Result<CheckOptions, Error>
-    ensures { AnswersWords (map (λ word. word.now) words.entry.now) result }
-{
-    let matches = command(alloc)?.try_get_matches_from(words)?;
-    Ok(CheckOptions {
-        explain: matches.get_flag("explain"),
-        summary: matches.get_flag("summary"),
-        progress: matches.get_flag("progress"),
-        script: matches.get_flag("script"),
-    })
 }

@@ -10,7 +10,7 @@ ghost use Rattle.thp_journal_tools.specs.Requests.{end_of, notes_by, Finishes, S
 use crate::checking::check_long;
 use crate::end_fault::EndFault;
 use crate::notes::notes_of;
-use crate::options::{CheckOptions, read_words};
+use crate::options::{CheckOptions, command};
 use crate::request::{ProgramEnd, Request, run_request};
 use crate::screen::Screen;
 use crate::scripting::write_script;
@@ -92,7 +92,13 @@ impl Request for CheckOptions {
     }
 
     fn read<'a>(alloc: Global, words: &'a [&'a str]) -> Result<CheckOptions, Error> {
-        read_words(alloc, words)
+        let matches = command(alloc)?.try_get_matches_from(words)?;
+        Ok(CheckOptions {
+            explain: matches.get_flag("explain"),
+            summary: matches.get_flag("summary"),
+            progress: matches.get_flag("progress"),
+            script: matches.get_flag("script"),
+        })
     }
 
     fn perform<R: Read, W: Write, S: Write, C: Clock>(

@@ -92,18 +92,6 @@ impl Progress {
         }
     }
 
-    /// Counts more bytes.
-    fn count(&mut self, bytes: &[u8])
-        requires room { self.old.bytes + length bytes.now ≤ u64.MAX }
-        requires counted { self.old.counted.events ≤ self.old.bytes }
-        ensures counted { (text : List ℕ) → HasCounted self.old text → HasCounted self.new (text ++ bytes.now) }
-        ensures stands { self.new.stands ≡ self.old.stands }
-        ensures program { self.new.program ≡ self.old.program }
-    {
-        self.bytes += bytes.len() as u64;
-        self.counted = self.counted.with(bytes);
-    }
-
     /// Shows the progress, if a line is due and the screen has not failed.
     fn show<S: Write, C: Clock>(&mut self, alloc: Global, screen: &mut Screen<S, C>)
         ensures program { self.new.program ≡ self.old.program }
@@ -138,7 +126,8 @@ impl Progress {
         ensures counted { (text : List ℕ) → HasCounted self.old text → HasCounted self.new (text ++ bytes.now) }
         ensures shown { Looks S.contents self.old.stands self.new screen.old.writer screen.new.writer }
     {
-        self.count(bytes);
+        self.bytes += bytes.len() as u64;
+        self.counted = self.counted.with(bytes);
         self.show(alloc, screen);
     }
 

@@ -2,7 +2,7 @@
 ghost use Rattle.std.specs.Prelude.{◌≡◌, [], ℕ, List, IfErr, IfOk, IfSome, false};
 ghost use Rattle.thp_cli.specs.Prelude.{ReadsOn, device_of, IsReadingFault};
 ghost use Rattle.thp_script.specs.Prelude.{max_counted, IsFrontOf};
-ghost use Rattle.thp_journal_tools.specs.Progress.{may_show, ShowsLines, ShowsProgress};
+ghost use Rattle.thp_journal_tools.specs.Progress.{may_show, ShowsProgress};
 ghost use Rattle.thp_journal_tools.specs.Reaching.{HasCounted, HasShown, IsReadOf};
 
 use crate::progress::Progress;
@@ -53,36 +53,6 @@ fn read_on<R: Read, P: ReadsParts + Drop, S: Write, C: Clock>(
     }
 }
 
-/// Reads all of a reader's bytes in parts, and shows the progress after each; then removes it from the screen.
-fn read_shown<R: Read, P: ReadsParts + Drop, S: Write, C: Clock>(
-    alloc: Global,
-    program: Program,
-    at_once: bool,
-    first: P,
-    reader: &mut Watched<R>,
-    screen: &mut Screen<S, C>,
-) -> Result<P, RunFault>
-    requires reader { reader.old.failed ≡ false }
-    requires screen { screen.old.writer.failed ≡ false }
-    ensures parts { IfOk result (λ last. (bytes : List ℕ) × IfSome (R.remaining reader.old.device) (IsFrontOf max_counted bytes) × P.has_read first bytes last) }
-    ensures flag { IfOk result (λ _. reader.new.failed ≡ false) }
-    ensures fault { IfErr result (IsReadingFault reader.new.failed) }
-    ensures calls { ReadsOn max_counted reader.new.failed reader.old.calls reader.new.calls }
-    ensures shown { ShowsLines program (R.remaining reader.old.device) (device_of S.contents screen.old.writer screen.new.writer) }
-{
-    let mut progress = Progress::begin(&screen.clock, program, at_once);
-    let read = read_on(alloc, first, reader, &mut progress, screen);
-    progress.end(screen);
-    read
-}
-
-/// Returns whether the progress may be shown.
-fn may_show(asked: bool, is_terminal: bool) -> bool
-    ensures { result ≡ may_show asked is_terminal }
-{
-    asked || is_terminal
-}
-
 /// Reads all of a reader's bytes in parts. Shows the progress in lines of the program, if that is requested or the screen is a
 /// terminal, and removes it at the end.
 pub fn read_journal<R: Read, P: ReadsParts + Drop, S: Write, C: Clock>(
@@ -101,8 +71,11 @@ pub fn read_journal<R: Read, P: ReadsParts + Drop, S: Write, C: Clock>(
     ensures calls { ReadsOn max_counted reader.new.failed reader.old.calls reader.new.calls }
     ensures shown { ShowsProgress program (may_show asked screen.old.is_terminal) (R.remaining reader.old.device) (device_of S.contents screen.old.writer screen.new.writer) }
 {
-    if may_show(asked, screen.is_terminal) {
-        read_shown(alloc, program, asked, first, reader, screen)
+    if asked || screen.is_terminal {
+        let mut progress = Progress::begin(&screen.clock, program, asked);
+        let read = read_on(alloc, first, reader, &mut progress, screen);
+        progress.end(screen);
+        read
     } else {
         read_parts(first, MAX_COUNTED, reader)
     }

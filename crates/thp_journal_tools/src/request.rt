@@ -45,7 +45,8 @@ pub(crate) trait Request: Sized {
     fn program() -> Program
         ensures { result ≡ program };
 
-    /// Reads the words of a command line. The first word names the program.
+    /// Reads the words of a command line. The first word names the program. The error is `clap`'s: help or the version if the
+    /// words request it, otherwise what is wrong with them, or that memory could not be allocated.
     fn read<'a>(alloc: Global, words: &'a [&'a str]) -> Result<Self, Error>
         ensures { answers (map (λ word. word.now) words.entry.now) result };
 

@@ -11,23 +11,11 @@ use std::io::{Read, Write};
 use thp_check::Misfit;
 use thp_cli::{LongRunFault, Watched, write_all};
 use thp_history::{Outcome, Refusal, What};
-use thp_journal_reader::Illegal;
-use thp_journal_scripts::{Moved, ScriptCheck};
+use thp_journal_scripts::{ScriptCheck, Scripted};
 use thp_script::MAX_COUNTED;
 
 /// The greatest number of bytes of one read.
 const PART: usize = 65_536;
-
-/// The result of writing a journal's script.
-#[derive(Drop)]
-pub struct ScriptFinding {
-    /// The first illegal event; `None` if the journal is legal.
-    pub illegal: Option<Illegal>,
-    /// What the script does in another order than the journal.
-    pub moved: Moved,
-    /// The number of tries of another page than the first that its caller has taken and not tried yet.
-    pub out_of_turn: u64,
-}
 
 /// Writes the script that repeats the journal from the reader, up to the first illegal event. The journal can have any length: it
 /// is read in parts, and the script of each is written after it. If the journal has an error, the script up to it was written.
@@ -35,7 +23,7 @@ pub fn write_script<R: Read, W: Write>(
     alloc: Global,
     reader: &mut Watched<R>,
     writer: &mut Watched<W>,
-) -> Result<ScriptFinding, LongRunFault>
+) -> Result<Scripted, LongRunFault>
     requires reader { reader.old.failed ≡ false }
     requires writer { writer.old.failed ≡ false }
     ensures ends { ScriptEnds (R.remaining reader.old.device) (W.contents writer.old.device) (W.contents writer.new.device) reader.new.failed writer.new.failed (script_end result) }
@@ -52,11 +40,7 @@ pub fn write_script<R: Read, W: Write>(
     let scripted = check.finish()?;
     write_all(writer, scripted.text.as_slice()).ok_or(LongRunFault::Write)?;
     writer.flush().ok_or(LongRunFault::Write)?;
-    Ok(ScriptFinding {
-        illegal: scripted.illegal,
-        moved: scripted.moved,
-        out_of_turn: scripted.out_of_turn,
-    })
+    Ok(scripted)
 }
 
 /// Reads all of a reader's bytes in parts, and writes the script of each.

@@ -7,7 +7,7 @@ ghost use Rattle.thp_journal_tools.specs.Drawings.{drawing_text, ending_if, node
 ghost use Rattle.thp_journal_tools.specs.DrawOutcomes.{end_of, Does, IsOutputFault};
 
 use crate::draw_finding::find_nodes;
-use crate::draw_options::{DrawOptions, Drawing};
+use crate::draw_options::DrawOptions;
 use crate::{EndFault, Screen};
 use std::alloc::{AllocError, Global};
 use std::io::{Read, Write};
@@ -26,11 +26,7 @@ struct Output {
 fn some_illegal(nodes: &[DrawnNode]) -> bool
     ensures { result ≡ some_illegal nodes.now }
 {
-    let mut illegal = false;
-    for node in nodes {
-        illegal = illegal || node.illegal.is_some();
-    }
-    illegal
+    nodes.iter().any(|node| node.illegal.is_some())
 }
 
 /// Returns how the program ends after the output was written, given whether an event in it is illegal.
@@ -44,14 +40,15 @@ fn ending_if(illegal: bool) -> Ending
     }
 }
 
-/// Returns the output for all nodes.
-fn text_of(alloc: Global, drawing: Drawing, nodes: &[DrawnNode]) -> Result<Vec<u8>, AllocError>
-    ensures { IfOk result (λ text. text.items ≡ drawing_text drawing nodes.now) }
+/// Returns the output for all nodes: a table if that is requested, otherwise a picture.
+fn text_of(alloc: Global, table: bool, nodes: &[DrawnNode]) -> Result<Vec<u8>, AllocError>
+    ensures { IfOk result (λ text. text.items ≡ drawing_text table nodes.now) }
 {
     let mut text = Vec::new(alloc);
-    match drawing {
-        Drawing::Picture => put_picture(&mut text, nodes)?,
-        Drawing::Table => put_table(&mut text, nodes)?,
+    if table {
+        put_table(&mut text, nodes)?;
+    } else {
+        put_picture(&mut text, nodes)?;
     }
     Ok(text)
 }
@@ -59,28 +56,29 @@ fn text_of(alloc: Global, drawing: Drawing, nodes: &[DrawnNode]) -> Result<Vec<u
 /// Returns the output for one node alone.
 fn node_text(
     alloc: Global,
-    drawing: Drawing,
+    table: bool,
     number: usize,
     node: &DrawnNode,
 ) -> Result<Vec<u8>, AllocError>
-    ensures { IfOk result (λ text. text.items ≡ node_text drawing number node.now) }
+    ensures { IfOk result (λ text. text.items ≡ node_text table number node.now) }
 {
     let mut text = Vec::new(alloc);
-    match drawing {
-        Drawing::Picture => put_node_picture(&mut text, number, node)?,
-        Drawing::Table => put_node_table(&mut text, number, node)?,
+    if table {
+        put_node_table(&mut text, number, node)?;
+    } else {
+        put_node_picture(&mut text, number, node)?;
     }
     Ok(text)
 }
 
 /// Returns the output for these nodes, or for the requested one alone.
 fn output_of(alloc: Global, options: DrawOptions, nodes: &[DrawnNode]) -> Result<Output, EndFault>
-    ensures output { IfOk result (λ output. Shows options.drawing options.node nodes.now output.ending output.text.items) }
+    ensures output { IfOk result (λ output. Shows options.table options.node nodes.now output.ending output.text.items) }
     ensures fault { IfErr result (IsOutputFault options.node nodes.now) }
 {
     let Some(number) = options.node else {
         return Ok(Output {
-            text: text_of(alloc, options.drawing, nodes)?,
+            text: text_of(alloc, options.table, nodes)?,
             ending: ending_if(some_illegal(nodes)),
         });
     };
@@ -88,7 +86,7 @@ fn output_of(alloc: Global, options: DrawOptions, nodes: &[DrawnNode]) -> Result
         return Err(EndFault::Words(ProgramFault::NoNode(number)));
     };
     Ok(Output {
-        text: node_text(alloc, options.drawing, number as usize, node)?,
+        text: node_text(alloc, options.table, number as usize, node)?,
         ending: ending_if(node.illegal.is_some()),
     })
 }

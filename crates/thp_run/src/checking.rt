@@ -8,21 +8,21 @@ ghost use Rattle.thp_run.specs.Checks.{CheckEnds};
 use std::alloc::Global;
 use std::io::{Read, Write};
 use thp_cli::{RunFault, Watched, read_parts, write_text};
-use thp_journal_reader::{JournalCheck, verdict};
+use thp_journal_reader::{LongCheck, verdict};
 use thp_script::MAX_INPUT;
 
 /// Checks the journals in a reader's text, part by part: all of its bytes, or more of them than an input may have.
 fn read_check_parts<R: Read>(
     alloc: Global,
     reader: &mut Watched<R>,
-) -> Result<JournalCheck, RunFault>
+) -> Result<LongCheck, RunFault>
     requires { reader.old.failed ≡ false }
-    ensures parts { IfOk result (λ check. (bytes : List ℕ) × IfSome (R.remaining reader.old.device) (IsInputOf bytes) × (told_with check [] ≡ journals_of bytes)) }
+    ensures parts { IfOk result (λ check. (bytes : List ℕ) × IfSome (R.remaining reader.old.device) (IsInputOf bytes) × (told_with check [] ≡ journals_of bytes) × (check.text.most ≡ max_input)) }
     ensures flag { IfOk result (λ _. reader.new.failed ≡ false) }
     ensures fault { IfErr result (IsReadingFault reader.new.failed) }
     ensures calls { ReadsOn max_input reader.new.failed reader.old.calls reader.new.calls }
 {
-    read_parts(JournalCheck::new(alloc), MAX_INPUT, reader)
+    read_parts(LongCheck::of_input(alloc), MAX_INPUT, reader)
 }
 
 /// Converts a line number to 64 bits.
@@ -48,7 +48,7 @@ pub fn check_run<R: Read, W: Write>(
     ensures writes { WritesAnswer result writer.new.failed writer.old.calls writer.new.calls }
 {
     let check = read_check_parts(alloc, reader)?;
-    let illegal = check.finish()?;
+    let illegal = check.finish_input()?;
     let text = verdict(widened(illegal));
     write_text(writer, text.as_str().as_bytes()).ok_or(RunFault::Write)?;
     Ok(illegal.is_none())

@@ -1,6 +1,7 @@
 //! Journals that are checked with the numbers of their nodes.
 use thp_drawing::DrawnNode;
 use thp_journal_tools::{KeepingCheck, SeriesNode};
+use thp_script::ReadsParts;
 
 // The first run on node 0; on node 1 a page that was never allocated is pinned.
 const JOURNAL: &[u8] =

@@ -6,7 +6,7 @@ use crate::journals::histories::{
 };
 use std::alloc::{AllocError, Global};
 use thp_history::{Event, PageId, Shape, SubSet, What};
-use thp_journal_reader::{JournalCheck, read_journal};
+use thp_journal_reader::{LongCheck, read_journal};
 use thp_journal_writer::{
     NodeHistory, PutFault, Version, put_end, put_event, put_node, put_version,
 };
@@ -162,7 +162,7 @@ fn refused_memory_is_a_fault(rt: HostRuntime) {
 #[test]
 fn lines_are_checked_as_they_are_put(rt: HostRuntime) {
     let mut text = Vec::new(rt.alloc());
-    let mut check = JournalCheck::new(rt.alloc());
+    let mut check = LongCheck::of_input(rt.alloc());
     put_version(&mut text, Version::Plain).expect(&rt, "memory");
     put_node(&mut text, Version::Plain, 0, &large(1)).expect(&rt, "memory");
     for page in 0..2 {
@@ -176,5 +176,6 @@ fn lines_are_checked_as_they_are_put(rt: HostRuntime) {
     }
     put_end(&mut text).expect(&rt, "memory");
     check = check.read_part(text.as_slice()).expect(&rt, "memory");
-    assert!(rt; check.finish().expect(&rt, "a journal") == Some(4));
+    let illegal = check.finish().expect(&rt, "a journal");
+    assert!(rt; illegal.is_some_and(|illegal| illegal.line == 4));
 }

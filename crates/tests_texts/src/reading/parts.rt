@@ -1,32 +1,20 @@
 //! Journals whose text comes in parts.
 ghost use Rattle.std.specs.Prelude.{◌<◌};
 
-use std::alloc::Global;
 use thp_check::Misfit;
 use thp_history::{Event, PageId, What};
-use thp_journal_reader::{Illegal, JournalCheck, LongCheck};
-use thp_script::{ReadFault, TextFault, TextKind};
+use thp_journal_reader::{Illegal, LongCheck};
+use thp_script::{TextFault, TextKind};
 
-/// The first illegal line of a text of at most 16 MiB that comes in parts of so many bytes.
-fn checked_by_parts(alloc: Global, text: &[u8], size: usize) -> Result<Option<u32>, ReadFault>
-    requires { 0 < size }
-{
-    let mut check = JournalCheck::new(alloc);
-    for part in text.chunks(size) {
-        check = check.read_part(part)?;
-    }
-    check.finish()
-}
-
-/// The first illegal event by a check of any length, or the first fault; `None` where memory was refused.
+/// The first illegal event by this check, or the first fault; `None` where memory was refused.
 fn found_by_parts(
-    alloc: Global,
+    check: LongCheck,
     text: &[u8],
     size: usize,
 ) -> Option<Result<Option<Illegal>, TextFault>>
     requires { 0 < size }
 {
-    let mut check = LongCheck::new(alloc);
+    let mut check = check;
     for part in text.chunks(size) {
         check = check.read_part(part).ok()?;
     }
@@ -38,15 +26,15 @@ fn parts_of_each_length(rt: HostRuntime) {
     let text =
         b"thp-journal 1\nnode 0 blocks 4\n0 alloc 0\n0 close\nnode 1 blocks 4\n0 alloc 0\n0 pin 1\nend\n";
     for size in 1..100 {
-        let checked = checked_by_parts(rt.alloc(), text.as_slice(), size).expect(&rt, "journals");
-        assert!(rt; checked == Some(7), "{size}");
+        let found = found_by_parts(LongCheck::of_input(rt.alloc()), text.as_slice(), size);
+        assert!(rt; matches!(found, Some(Ok(Some(Illegal { line: 7, .. })))), "{size}");
     }
 }
 
 #[test]
 fn an_illegal_page_has_the_least_block(rt: HostRuntime) {
     let text = b"thp-journal 1\nnode 0 blocks 1\n0 alloc 0\n5 alloc 1\nend\n";
-    let found = found_by_parts(rt.alloc(), text.as_slice(), 8);
+    let found = found_by_parts(LongCheck::new(rt.alloc()), text.as_slice(), 8);
     assert!(rt;
         matches!(
             found,
@@ -64,7 +52,7 @@ fn an_illegal_page_has_the_least_block(rt: HostRuntime) {
         )
     );
     let legal = b"thp-journal 1\nnode 0 blocks 1\n0 alloc 0\nend\n";
-    let found = found_by_parts(rt.alloc(), legal.as_slice(), 8);
+    let found = found_by_parts(LongCheck::new(rt.alloc()), legal.as_slice(), 8);
     assert!(rt; matches!(found, Some(Ok(None))));
 }
 
@@ -72,23 +60,13 @@ fn an_illegal_page_has_the_least_block(rt: HostRuntime) {
 fn first_fault_of_parts(rt: HostRuntime) {
     let text = b"thp-journal 1\nnode 0 blocks 4\n0 fly 0\n0 close 1\n";
     for size in 1..52 {
-        let checked = checked_by_parts(rt.alloc(), text.as_slice(), size);
-        assert!(rt; is_bad_word_on_line_3(&checked), "{size}");
-        let found = found_by_parts(rt.alloc(), text.as_slice(), size);
         let fault = TextFault {
             line: 3,
             kind: TextKind::BadWord,
         };
+        let found = found_by_parts(LongCheck::of_input(rt.alloc()), text.as_slice(), size);
+        assert!(rt; matches!(found, Some(Err(told)) if told == fault), "{size}");
+        let found = found_by_parts(LongCheck::new(rt.alloc()), text.as_slice(), size);
         assert!(rt; matches!(found, Some(Err(told)) if told == fault), "{size}");
     }
-}
-
-fn is_bad_word_on_line_3(told: &Result<Option<u32>, ReadFault>) -> bool {
-    matches!(
-        told,
-        Err(ReadFault::Text {
-            line: 3,
-            kind: TextKind::BadWord
-        })
-    )
 }

@@ -8,11 +8,11 @@ use Rattle.thp_journal_reader.proofs.checking.check_text.Goals as goal
 pub returns-clause-line : goal.returns-clause-line
 returns-clause-line c =
     let text = c.args.text.now in
-    let read : told_with c.in_ok-read_part.field-0 [] ≡ journals_of text = c.in_ok-read_part.ensures.text [] ∙ c.new.ensures (text ++ []) ∙ ap journals_of (append-nil text) in
-    if_ok c.finish.result _ _ c.finish.ensures.line (λ line told. (told.0, sym read ∙ told.1, told.2))
+    let read : told_with c.in_ok-read_part.field-0 [] ≡ journals_of text = c.in_ok-read_part.ensures.text [] ∙ c.of_input.ensures.told (text ++ []) ∙ ap journals_of (append-nil text) in
+    if_ok c.finish_input.result _ _ c.finish_input.ensures.line (λ line told. (told.0, sym read ∙ told.1, told.2))
 
 pub returns-clause-free_choice : goal.returns-clause-free_choice
 returns-clause-free_choice c =
     let text = c.args.text.now in
-    let read : told_with c.in_ok-read_part.field-0 [] ≡ journals_of text = c.in_ok-read_part.ensures.text [] ∙ c.new.ensures (text ++ []) ∙ ap journals_of (append-nil text) in
-    if_ok c.finish.result _ _ c.finish.ensures.line (λ line told. λ journals is can. free_choice max_input text told.0 line (sym read ∙ told.1) told.2 journals is can)
+    let read : told_with c.in_ok-read_part.field-0 [] ≡ journals_of text = c.in_ok-read_part.ensures.text [] ∙ c.of_input.ensures.told (text ++ []) ∙ ap journals_of (append-nil text) in
+    if_ok c.finish_input.result _ _ c.finish_input.ensures.line (λ line told. λ journals is can. free_choice max_input text told.0 line (sym read ∙ told.1) told.2 journals is can)

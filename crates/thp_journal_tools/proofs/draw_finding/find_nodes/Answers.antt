@@ -21,7 +21,7 @@ returns-in_err-nodes-clause-fault g c =
     let P : Result Journals Fault → Type 0 = λ told. ReportsLongReadFault told fault in
     err_at_summary (g.R.Read.remaining c.args.reader.now.device) read.0 read.1 c.read_journal.new.reader.failed c.in_ok-check.ensures.flag fault
     c.from_residual-in_err-nodes.result c.from_residual-in_err-nodes.ensures.1
-    (subst P (read.2 [] ∙ c.new-check.ensures (read.0 ++ []) ∙ ap (journals_within max_counted) (append-nil read.0)) c.in_err-nodes.ensures.fault)
+    (subst P (read.2.text [] ∙ c.new-check.ensures (read.0 ++ []) ∙ ap (journals_within max_counted) (append-nil read.0)) c.in_err-nodes.ensures.fault)
 
 pub returns-clause-found : goal.returns-clause-found
 returns-clause-found g c =
@@ -31,7 +31,7 @@ returns-clause-found g c =
       read.1,
       record {
         journals = kept.0;
-        spelled = sym (read.2 [] ∙ c.new-check.ensures (read.0 ++ []) ∙ ap (journals_within max_counted) (append-nil read.0)) ∙ kept.1;
+        spelled = sym (read.2.text [] ∙ c.new-check.ensures (read.0 ++ []) ∙ ap (journals_within max_counted) (append-nil read.0)) ∙ kept.1;
         drawn = zip_weaker (IsKept KeepsDrawing) IsDrawnOf kept.0.nodes _ as_drawn (ended_kept KeepsDrawing kept.0.nodes _ _ kept.2);
       },
     )

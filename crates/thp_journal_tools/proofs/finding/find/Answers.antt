@@ -18,7 +18,7 @@ returns-in_err-illegal-clause-fault g c =
     let P : Result Journals Fault → Type 0 = λ told. ReportsLongReadFault told fault in
     err_at_summary (g.R.Read.remaining c.args.reader.now.device) read.0 read.1 c.read_journal.new.reader.failed c.in_ok-check.ensures.flag fault
     c.from_residual-in_err-illegal.result c.from_residual-in_err-illegal.ensures.1
-    (subst P (read.2 [] ∙ c.new-check.ensures (read.0 ++ []) ∙ ap (journals_within max_counted) (append-nil read.0)) c.in_err-illegal.ensures.fault)
+    (subst P (read.2.text [] ∙ c.new-check.ensures (read.0 ++ []) ∙ ap (journals_within max_counted) (append-nil read.0)) c.in_err-illegal.ensures.fault)
 
 pub returns-then-options-clause-found : goal.returns-then-options-clause-found
 returns-then-options-clause-found g c =
@@ -29,7 +29,7 @@ returns-then-options-clause-found g c =
       read.1,
       record {
         journals = kept.0;
-        spelled = sym (read.2 [] ∙ c.new-check.ensures (read.0 ++ []) ∙ ap (journals_within max_counted) (append-nil read.0)) ∙ kept.1;
+        spelled = sym (read.2.text [] ∙ c.new-check.ensures (read.0 ++ []) ∙ ap (journals_within max_counted) (append-nil read.0)) ∙ kept.1;
         first = kept.2.0;
         totals_are = subst T (sym c.if-options.true) (zip_weaker (IsKept KeepsTotals) IsSummary kept.0.nodes _ as_summary (ended_kept KeepsTotals kept.0.nodes _ _ kept.2));
       },
@@ -44,7 +44,7 @@ returns-clause-found g c =
       read.1,
       record {
         journals = first.0;
-        spelled = sym (read.2 [] ∙ c.new-check-2.ensures (read.0 ++ []) ∙ ap (journals_within max_counted) (append-nil read.0)) ∙ first.1;
+        spelled = sym (read.2.text [] ∙ c.new-check-2.ensures (read.0 ++ []) ∙ ap (journals_within max_counted) (append-nil read.0)) ∙ first.1;
         first = first.2;
         totals_are = subst T (sym c.if-options.false) c.new.ensures.items;
       },

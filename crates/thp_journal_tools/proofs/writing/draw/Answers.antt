@@ -34,8 +34,8 @@ returns-in_err-ok_or-clause-does g c =
     let output = device_of g.W.Write.contents c.args.writer.now c.write_text.new.writer in
     let found = c.in_ok-nodes.ensures.found in
     let text = c.as_slice-2.result.now in
-    let shown : Shows options.drawing options.node c.in_ok-nodes.nodes.items c.in_ok-output.output.ending text =
-    subst (λ (t : List ℕ). Shows options.drawing options.node c.in_ok-nodes.nodes.items c.in_ok-output.output.ending t) (sym c.as_slice-2.ensures.value) (rw c.as_slice.ensures.value at c.in_ok-output.ensures.output) in
+    let shown : Shows options.table options.node c.in_ok-nodes.nodes.items c.in_ok-output.output.ending text =
+    subst (λ (t : List ℕ). Shows options.table options.node c.in_ok-nodes.nodes.items c.in_ok-output.output.ending t) (sym c.as_slice-2.ensures.value) (rw c.as_slice.ensures.value at c.in_ok-output.ensures.output) in
     let why = cut_from c.write_text.result c.in_err-ok_or.field-0.0 (sym c.ok_or.ensures.value ∙ c.in_err-ok_or.was) in
     does_err options input output (Journal c.in_err-ok_or.field-0.0) c.from_residual-in_err-ok_or.result c.from_residual-in_err-ok_or.ensures.1
     (subst (λ (f : LongRunFault). Does options input output (Err (fault_at_end (Journal f)))) why.1
@@ -49,7 +49,7 @@ returns-clause-does g c =
     let output = device_of g.W.Write.contents c.args.writer.now c.write_text.new.writer in
     let found = c.in_ok-nodes.ensures.found in
     let text = c.as_slice-2.result.now in
-    let shown : Shows options.drawing options.node c.in_ok-nodes.nodes.items c.in_ok-output.output.ending text =
-    subst (λ (t : List ℕ). Shows options.drawing options.node c.in_ok-nodes.nodes.items c.in_ok-output.output.ending t) (sym c.as_slice-2.ensures.value) (rw c.as_slice.ensures.value at c.in_ok-output.ensures.output) in
+    let shown : Shows options.table options.node c.in_ok-nodes.nodes.items c.in_ok-output.output.ending text =
+    subst (λ (t : List ℕ). Shows options.table options.node c.in_ok-nodes.nodes.items c.in_ok-output.output.ending t) (sym c.as_slice-2.ensures.value) (rw c.as_slice.ensures.value at c.in_ok-output.ensures.output) in
     drawn options input output c.find_nodes.ensures.calls c.in_ok-nodes.ensures.flag found.0 text c.in_ok-nodes.nodes.items c.in_ok-output.output.ending found.1 found.2 shown c.write_text.ensures.calls c.write_text.result
     c.in_ok-ok_or.field-0 (sym c.ok_or.ensures.value ∙ c.in_ok-ok_or.was) c.write_text.ensures.written c.write_text.ensures.flag

@@ -5,4 +5,4 @@ use Rattle.thp_run.proofs.checking.read_check_parts.Goals as goal
 
 pub returns-clause-parts : goal.returns-clause-parts
 returns-clause-parts g c =
-    IfOk-weaker c.read_parts.result _ _ (λ journals p. (p.0, p.1, p.2 [] ∙ c.new.ensures (p.0 ++ []) ∙ ap journals_of (append-nil p.0))) c.read_parts.ensures.parts
+    IfOk-weaker c.read_parts.result _ _ (λ journals p. (p.0, p.1, p.2.text [] ∙ c.of_input.ensures.told (p.0 ++ []) ∙ ap journals_of (append-nil p.0), p.2.most ∙ c.of_input.ensures.most)) c.read_parts.ensures.parts

@@ -4,7 +4,7 @@ use Rattle.thp_journal_scripts.proofs.FoldingLaws.{adds_nothing, adds_put_back}
 use Rattle.thp_journal_scripts.proofs.folding.Folding.put_back_nothing.Goals as goal
 
 pub returns-clause-adds : goal.returns-clause-adds
-returns-clause-adds c = adds_put_back c.args.ops.now.items c.args.self.now (record c.args.self.now { batch = Idle }) c.push.new.self.items c.in-Some._caller c.in-Some.ensures c.in_ok-push.ensures.items refl refl
+returns-clause-adds c = adds_put_back c.args.ops.now.items c.args.self.now (record c.args.self.now { batch = Idle }) c.push.new.self.items c.in-Open._caller c.in-Open.is c.in_ok-push.ensures.items refl refl
 
 pub returns-then-has-clause-adds : goal.returns-then-has-clause-adds
 returns-then-has-clause-adds c = adds_nothing c.args.ops.now.items c.args.self.now c.args.self.now refl refl

@@ -3,9 +3,9 @@ use Rattle.thp_journal_reader.specs.Prelude.{nodes_told, Follows, journals_in}
 use Rattle.thp_journal_reader.specs.declared.follower.FollowedNodes.{FollowedNodes}
 use Rattle.thp_journal_tools.proofs.keeping_check.KeepingCheck.finish.Goals as goal
 
-pub returns-in_ok-found-in-None-clause-kept : goal.returns-in_ok-found-in-None-clause-kept
-returns-in_ok-found-in-None-clause-kept g c =
+pub returns-in_ok-finish-in-Ok-clause-kept : goal.returns-in_ok-finish-in-Ok-clause-kept
+returns-in_ok-finish-in-Ok-clause-kept g c =
     let F = g.F.FollowsNode in
     let nodes = nodes_told c.self.inside.text.nodes.lines in
     let P : FollowedNodes _ _ → Type 0 = λ kept. Follows F.replayed F.keeps F.follows_all nodes kept.follower in
-    (journals_in nodes, rw (← c.self.view_is) c.in-None.ensures.sound, c.in_ok-found-in-None.ensures nodes (subst P (sym c.into_nodes.ensures) c.self.invariant.0.follows))
+    (journals_in nodes, rw (← c.self.view_is) c.in-Ok.ensures.told, c.in_ok-finish-in-Ok.ensures nodes (subst P (sym c.in-Ok.ensures.nodes) c.self.invariant.0.follows))

@@ -1,7 +1,7 @@
 use Rattle.clap.specs.Words.{found_of}
 use Rattle.thp_journal_tools.specs.CommandLine.{HoldsOptions, thpcheck}
 use Rattle.thp_journal_tools.proofs.CommandLineLaws.{check_free, check_simple, flag_reported, memory_fails, parse_done, parse_fails}
-use Rattle.thp_journal_tools.proofs.options.read_words.Goals as goal
+use Rattle.thp_journal_tools.proofs.program.CheckOptionsRequest.read.Goals as goal
 
 pub returns-in_err-command : goal.returns-in_err-command
 returns-in_err-command c = memory_fails thpcheck check_simple check_free HoldsOptions _ c.from_residual.result c.from_residual.ensures.1
