@@ -46,13 +46,10 @@ impl Request for DrawOptions {
         output: &mut Watched<W>,
         screen: &mut Screen<S, C>,
     ) -> Result<ProgramEnd, EndFault> {
-        match draw(alloc, self, reader, output, screen) {
-            Ok(ending) => Ok(ProgramEnd {
-                ending,
-                notes: None,
-            }),
-            Err(fault) => Err(fault),
-        }
+        Ok(ProgramEnd {
+            ending: draw(alloc, self, reader, output, screen)?,
+            notes: None,
+        })
     }
 }
 

@@ -3,8 +3,7 @@ ghost use Rattle.std.specs.Prelude.{◌≡◌, false};
 ghost use Rattle.thp_cli.specs.declared.ending.Program.TheVariants.{Thpcheck};
 ghost use Rattle.thp_cli.specs.Prelude.{device_of, given_words, source_of};
 ghost use Rattle.thp_journal_tools.specs.CommandLine.{AnswersWords};
-ghost use Rattle.thp_journal_tools.specs.Outcomes.{ending_of, shows_progress, Does, DoesRequest, DoesScript};
-ghost use Rattle.thp_journal_tools.specs.Progress.{may_show, ShowsProgress};
+ghost use Rattle.thp_journal_tools.specs.Outcomes.{ending_of, shows_progress, DoesRequest, DoesScript};
 ghost use Rattle.thp_journal_tools.specs.Requests.{end_of, notes_by, Finishes, ShowsAsAsked};
 
 use crate::checking::check_long;
@@ -28,29 +27,6 @@ fn ending_of(illegal: &Option<Illegal>) -> Ending
     match illegal {
         Some(_) => Ending::Illegal,
         None => Ending::Written,
-    }
-}
-
-/// Checks the journal.
-fn check<R: Read, W: Write, S: Write, C: Clock>(
-    alloc: Global,
-    options: CheckOptions,
-    reader: &mut Watched<R>,
-    output: &mut Watched<W>,
-    screen: &mut Screen<S, C>,
-) -> Result<ProgramEnd, EndFault>
-    requires reader { reader.old.failed ≡ false }
-    requires output { output.old.failed ≡ false }
-    requires screen { screen.old.writer.failed ≡ false }
-    ensures does { Does options (source_of R.remaining reader.old reader.new) (device_of W.contents output.old output.new) (end_of result) (notes_by result) }
-    ensures screen { ShowsProgress Thpcheck (may_show options.progress screen.old.is_terminal) (R.remaining reader.old.device) (device_of S.contents screen.old.writer screen.new.writer) }
-{
-    match check_long(alloc, options, reader, output, screen) {
-        Ok(checked) => Ok(ProgramEnd {
-            ending: ending_of(&checked.illegal),
-            notes: checked.explanation,
-        }),
-        Err(fault) => Err(EndFault::Journal(fault)),
     }
 }
 
@@ -109,9 +85,14 @@ impl Request for CheckOptions {
         screen: &mut Screen<S, C>,
     ) -> Result<ProgramEnd, EndFault> {
         if self.script {
-            script(alloc, self, reader, output)
-        } else {
-            check(alloc, self, reader, output, screen)
+            return script(alloc, self, reader, output);
+        }
+        match check_long(alloc, self, reader, output, screen) {
+            Ok(checked) => Ok(ProgramEnd {
+                ending: ending_of(&checked.illegal),
+                notes: checked.explanation,
+            }),
+            Err(fault) => Err(EndFault::Journal(fault)),
         }
     }
 }

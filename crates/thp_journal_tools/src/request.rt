@@ -84,9 +84,7 @@ fn serve<Q: Request, R: Read, W: Write, S: Write, C: Clock>(
         Err(WordsFault::NotText) => return Err(EndFault::Words(ProgramFault::NoText)),
         Err(WordsFault::OutOfMemory) => return Err(EndFault::Journal(LongRunFault::OutOfMemory)),
     };
-    let Ok(texts) = texts_of(alloc, words.as_slice()) else {
-        return Err(EndFault::Journal(LongRunFault::OutOfMemory));
-    };
+    let texts = texts_of(alloc, words.as_slice())?;
     match Q::read(alloc, texts.as_slice()) {
         Ok(request) => request.perform(alloc, reader, output, screen),
         Err(error) => match answer(alloc, &error, output) {
