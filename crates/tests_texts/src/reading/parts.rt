@@ -27,7 +27,10 @@ fn parts_of_each_length(rt: HostRuntime) {
         b"thp-journal 1\nnode 0 blocks 4\n0 alloc 0\n0 close\nnode 1 blocks 4\n0 alloc 0\n0 pin 1\nend\n";
     for size in 1..100 {
         let found = found_by_parts(LongCheck::of_input(rt.alloc()), text.as_slice(), size);
-        assert!(rt; matches!(found, Some(Ok(Some(Illegal { line: 7, .. })))), "{size}");
+        assert!(rt;
+            matches!(found, Some(Ok(Some(Illegal { line: 7, .. })))),
+            "{size}"
+        );
     }
 }
 
