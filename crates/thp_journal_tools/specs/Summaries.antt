@@ -5,8 +5,7 @@ use Rattle.thp_history.specs.Prelude.{History}
 use Rattle.thp_journal_writer.specs.Prelude.{totals_of}
 use Rattle.thp_journal_writer.specs.declared.totals.Totals.{Totals}
 use Rattle.thp_journal_reader.specs.declared.journals.NodeJournal.{NodeJournal}
-use Rattle.thp_journal_tools.specs.declared.summed.Summed.{Summed}
-use Rattle.thp_journal_reader.specs.Prelude.{IsLegalFront, ReportsFirst}
+use Rattle.thp_journal_reader.specs.Prelude.{IsLegalFront}
 
 -- the totals of the node's legal events
 pub record IsSummary (node : NodeJournal) (totals : Totals) : Type 0 where
@@ -17,8 +16,3 @@ pub record IsSummary (node : NodeJournal) (totals : Totals) : Type 0 where
 -- the same for each node, in order
 abbrev pub AreSummaries : List NodeJournal → List Totals → Type 0
 AreSummaries = AllZip IsSummary
-
--- the first illegal event of all nodes, and the totals of each
-pub record AreSummed (nodes : List NodeJournal) (summed : Summed) : Type 0 where
-  pub first : ReportsFirst nodes summed.illegal
-  pub totals : AreSummaries nodes summed.totals.items

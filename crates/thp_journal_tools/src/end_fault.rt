@@ -1,7 +1,7 @@
 //! The reasons for which the program ends without doing what was requested.
 ghost use Rattle.std.specs.Prelude.{◌≡◌};
 ghost use Rattle.thp_cli.specs.declared.long_fault.LongRunFault.TheVariants.{OutOfMemory};
-ghost use Rattle.thp_journal_tools.specs.declared.end_fault.EndFault.TheVariants.{Journal, Words};
+ghost use Rattle.thp_journal_tools.specs.declared.end_fault.EndFault.TheVariants.{Journal};
 
 use std::alloc::AllocError;
 use thp_cli::{LongRunFault, ProgramFault};
@@ -20,14 +20,6 @@ impl From<LongRunFault> for EndFault {
 
     fn from(fault: LongRunFault) -> EndFault {
         EndFault::Journal(fault)
-    }
-}
-
-impl From<ProgramFault> for EndFault {
-    ghost from_gives = { λ fault end. end ≡ Words fault };
-
-    fn from(fault: ProgramFault) -> EndFault {
-        EndFault::Words(fault)
     }
 }
 
