@@ -34,14 +34,11 @@ text_at kind x y words =
     codes "<text class=\"" ++ kind ++ codes "\" x=\"" ++ decimal x ++ codes "\" y=\"" ++ decimal y ++ codes "\">"
     ++ escaped words ++ codes "</text>\n"
 
--- a square of this class in a panel's title
-unfoldable pub square_at : List ℕ → ℕ → List ℕ
-square_at kind x =
-    codes "<rect class=\"" ++ kind ++ codes "\" x=\"" ++ decimal x ++ codes "\" y=\"72\" width=\"80\" height=\"80\"/>\n"
-
--- the square, and words after it
+-- a square of this class in a panel's title, and words after it
 unfoldable pub item_at : List ℕ → ℕ → List ℕ → List ℕ
-item_at kind x words = square_at kind x ++ text_at (codes "ink") (plus x 130) 150 words
+item_at kind x words =
+    codes "<rect class=\"" ++ kind ++ codes "\" x=\"" ++ decimal x ++ codes "\" y=\"72\" width=\"80\" height=\"80\"/>\n"
+    ++ text_at (codes "ink") (plus x 130) 150 words
 
 -- the elements up to the end of the group have this position as their origin
 unfoldable pub group_start : ℕ → ℕ → List ℕ

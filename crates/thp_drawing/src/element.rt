@@ -1,6 +1,6 @@
 //! Texts made of pieces, and the elements of a picture.
 ghost use Rattle.std.specs.Prelude.{◌≡◌, ◌++◌, OnOk};
-ghost use Rattle.thp_drawing.specs.Elements.{group_start, item_at, piece_text, pieces_text, square_at, text_at};
+ghost use Rattle.thp_drawing.specs.Elements.{group_start, item_at, piece_text, pieces_text, text_at};
 
 use crate::escaping::put_escaped;
 use crate::grouped::{put_decimal, put_grouped, put_many};
@@ -109,18 +109,11 @@ pub(crate) fn put_words(
 pub(crate) fn put_item(text: &mut Vec<u8>, kind: &[u8], x: u128, pieces: &[Piece<'_>]) -> PutResult
     ensures { OnOk result (text.new.items ≡ text.old.items ++ item_at kind.now x (pieces_text pieces.now)) }
 {
-    put_square(text, kind, x)?;
-    put_words(text, b"ink", plus(x, 130), 150, pieces)
-}
-
-#[tactic(auto, unfolding(crate::specs::Elements::square_at))]
-fn put_square(text: &mut Vec<u8>, kind: &[u8], x: u128) -> PutResult
-    ensures { OnOk result (text.new.items ≡ text.old.items ++ square_at kind.now x) }
-{
     draw!(text;
         Bytes(b"<rect class=\"") Bytes(kind) Bytes(b"\" x=\"") Decimal(x)
         Bytes(b"\" y=\"72\" width=\"80\" height=\"80\"/>\n")
-    )
+    )?;
+    put_words(text, b"ink", plus(x, 130), 150, pieces)
 }
 
 /// Begins a group whose origin is this position.

@@ -10,7 +10,7 @@ ghost use Rattle.thp_metrics.specs.Stuck.{AreStuck};
 ghost use Rattle.thp_metrics.specs.Waits.{longest_wait};
 
 use crate::arrivals::Arrivals;
-use crate::finds::PinCounts;
+use crate::finds::{NO_PINS, PinCount, count_find};
 use crate::stuck_page::StuckPage;
 use std::alloc::{AllocError, Global};
 use std::marker::Model;
@@ -25,7 +25,8 @@ pub struct Waiting {
     // the number of events
     events: u64,
     arrivals: Arrivals,
-    finds: PinCounts,
+    // by block
+    finds: Vec<PinCount>,
     // has no bytes
     past: Trace<Event>,
 }
@@ -39,7 +40,7 @@ impl Model for Waiting {
 
     ghost view = { λ w. record { shape = w.shape; history = w.past } };
 
-    ghost invariant = { λ w. KeepsWaits w.shape w.past w.events w.arrivals × KeepsFinds w.shape w.past w.finds };
+    ghost invariant = { λ w. KeepsWaits w.shape w.past w.events w.arrivals × KeepsFinds w.shape w.past w.finds.items };
 }
 
 impl Waiting {
@@ -52,7 +53,7 @@ impl Waiting {
             shape,
             events: 0,
             arrivals: Arrivals::new(alloc, shape.blocks)?,
-            finds: PinCounts::new(alloc, shape.blocks)?,
+            finds: vec![in alloc; NO_PINS; shape.blocks as usize]?,
             past: Trace::new(),
         })
     }
@@ -66,7 +67,7 @@ impl Waiting {
         ensures { self.new ≡ with_event self.old event.now }
     {
         self.events += 1;
-        self.finds.note(&event.what, after);
+        count_find(&mut self.finds, &event.what, after);
         match (before, after) {
             (None, Some(block)) => self.arrivals.come(block, self.events),
             (Some(block), None) => self.arrivals.go(block),
@@ -97,7 +98,7 @@ impl Waiting {
 
 // The pages of these blocks that were found pinned, in the same order.
 fn stuck_among(
-    finds: &PinCounts,
+    finds: &[PinCount],
     arrivals: &Arrivals,
     alloc: Global,
     blocks: &[u32],
@@ -107,7 +108,7 @@ fn stuck_among(
 {
     let mut pages = Vec::new(alloc);
     for block in blocks {
-        let found = finds.at(*block);
+        let found = finds[*block as usize];
         if found.finds > 0 {
             pages.push(StuckPage {
                 page: found.page,
