@@ -103,12 +103,16 @@ panel_content Lanes d = all_lanes d.columns.items
 panel_content Rows d = rows_drawn (allocated_pages d) d
 panel_content Stages d = stages_drawn d
 
+-- the beginning of a panel, from this height on: what its numbers count
+unfoldable pub panel_start : ℕ → List ℕ → List ℕ
+panel_start y unit =
+    group_start 900 y ++ codes "<text class=\"soft e\" x=\"-60\" y=\"150\">" ++ unit ++ codes "</text>\n"
+
 -- a panel from this height on, whose content is this high
 unfoldable pub panel_at : Panel → ℕ → ℕ → DrawnNode → List ℕ
 panel_at p y high d =
     if nat_eq high 0 then []
-    else group_start 900 y ++ (codes "<text class=\"soft e\" x=\"-60\" y=\"150\">" ++ unit_of p ++ codes "</text>\n")
-    ++ panel_title p d ++ group_start 0 260 ++ event_rules high d ++ panel_content p d ++ codes "</g>\n</g>\n"
+    else panel_start y (unit_of p) ++ panel_title p d ++ group_start 0 260 ++ event_rules high d ++ panel_content p d ++ codes "</g>\n</g>\n"
 
 -- the lower end of a panel that begins at this height
 abbrev pub below : ℕ → ℕ → ℕ

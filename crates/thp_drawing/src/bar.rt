@@ -21,9 +21,7 @@ impl Bar {
         ensures { result ≡ covers self column.now }
     {
         match self {
-            Bar::PageIn(stage, page) => {
-                stage_in(page, &column.stages) == Some(stage)
-            }
+            Bar::PageIn(stage, page) => { stage_in(page, &column.stages) == Some(stage) }
             Bar::BatchOf(caller) => is_among(caller, column.callers),
         }
     }

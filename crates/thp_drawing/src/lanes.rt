@@ -73,7 +73,6 @@ pub(crate) fn put_lanes(text: &mut Vec<u8>, columns: &[Column]) -> PutResult
 }
 
 // The lane of a caller, at this height: the caller's number, and its bar.
-#[tactic(auto, using(crate::proofs::Pieces::four), unfolding(crate::specs::Lanes::lane_drawn))]
 fn put_lane_drawn(text: &mut Vec<u8>, columns: &[Column], y: u128, caller: u32) -> PutResult
     ensures { OnOk result (text.new.items ≡ text.old.items ++ lane_drawn columns.now y caller) }
 {

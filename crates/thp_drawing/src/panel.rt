@@ -1,7 +1,6 @@
 //! The panels of a node.
 ghost use Rattle.std.specs.Prelude.{◌≡◌, ◌++◌, [], codes, OnOk};
-ghost use Rattle.thp_drawing.specs.Panels.{below, content_height, height_of, panel_at, panel_content, panel_title, panels_drawn, panels_foot, panels_of};
-ghost use Rattle.thp_drawing.specs.Panels.{half_most, quantity_half, quantity_halves, quantity_item, unit_of};
+ghost use Rattle.thp_drawing.specs.Panels.{below, content_height, height_of, panel_at, panel_content, panel_start, panel_title, panels_drawn, panels_foot, panels_of, half_most, quantity_half, quantity_halves, quantity_item, unit_of};
 
 use crate::area::put_quantity_areas;
 use crate::axis::{BASE_LINE, put_event_rules, put_ticks};
@@ -120,23 +119,30 @@ pub(crate) fn put_panels(text: &mut Vec<u8>, top: u128, node: &DrawnNode) -> Put
 }
 
 // A panel from this height on, whose content is this high.
-#[tactic(auto, using(crate::proofs::Pieces::seven), unfolding(crate::specs::Panels::panel_at))]
+#[tactic(auto, using(crate::proofs::Pieces::six), unfolding(crate::specs::Panels::panel_at))]
 fn put_panel(text: &mut Vec<u8>, panel: Panel, y: u128, high: u128, node: &DrawnNode) -> PutResult
     ensures { OnOk result (text.new.items ≡ text.old.items ++ panel_at panel y high node.now) }
 {
     if high == 0 {
         return Ok(());
     }
-    put_group(text, 900, y)?;
-    draw!(text;
-        Bytes(b"<text class=\"soft e\" x=\"-60\" y=\"150\">") Bytes(panel.unit())
-        Bytes(b"</text>\n")
-    )?;
+    put_panel_start(text, y, panel.unit())?;
     put_panel_title(text, panel, node)?;
     put_group(text, 0, 260)?;
     put_event_rules(text, high, node)?;
     put_panel_content(text, panel, node)?;
     put(text, b"</g>\n</g>\n")
+}
+
+// The beginning of a panel whose numbers count these.
+#[tactic(auto, using(crate::proofs::Pieces::two), unfolding(crate::specs::Panels::panel_start))]
+fn put_panel_start(text: &mut Vec<u8>, y: u128, unit: &[u8]) -> PutResult
+    ensures { OnOk result (text.new.items ≡ text.old.items ++ panel_start y unit.now) }
+{
+    put_group(text, 900, y)?;
+    draw!(text;
+        Bytes(b"<text class=\"soft e\" x=\"-60\" y=\"150\">") Bytes(unit) Bytes(b"</text>\n")
+    )
 }
 
 // The colours and words above a panel's content.

@@ -1,6 +1,6 @@
 //! The rows of a node's pages: whether there are any, their positions, and their bars.
 ghost use Rattle.std.specs.Prelude.{◌≡◌, ◌≤◌, ◌*◌, ◌++◌, length, OnOk};
-ghost use Rattle.thp_drawing.specs.Rows.{allocated_pages, has_rows, page_turns, row_class, row_height, row_middle, row_turns, rows_drawn, rows_height, stage_bars};
+ghost use Rattle.thp_drawing.specs.Rows.{allocated_pages, has_rows, page_turns, row_class, row_height, row_middle, row_turns, rows_drawn, rows_height, stage_bars, stage_rows};
 
 use crate::axis::put_tick;
 use crate::bar::{Bar, put_bar};
@@ -121,10 +121,22 @@ fn put_stage_bars(text: &mut Vec<u8>, stage: Stage, count: u128, node: &DrawnNod
     draw!(text;
         Bytes(b"<path class=\"") Bytes(row_class(count)) Bytes(stage_words(stage).1) Bytes(b"\" d=\"")
     )?;
-    let high = row_height(count);
+    put_stage_rows(text, stage, row_height(count), columns, count)?;
+    put(text, b"\"/>\n")
+}
+
+fn put_stage_rows(
+    text: &mut Vec<u8>,
+    stage: Stage,
+    high: u128,
+    columns: &[Column],
+    count: u128,
+) -> PutResult
+    ensures { OnOk result (text.new.items ≡ text.old.items ++ stage_rows stage high columns.now count) }
+{
     for page in 0..count {
         let y = row_middle(high, page);
         put_bar(text, Bar::PageIn(stage, page), y, columns)?;
     }
-    put(text, b"\"/>\n")
+    Ok(())
 }

@@ -1,16 +1,18 @@
 //! The title of a node above its panels.
 ghost use Rattle.std.specs.Prelude.{◌≡◌, ◌++◌, OnOk};
-ghost use Rattle.thp_drawing.specs.Titles.{illegal_line, illegal_text, node_words, threshold_words};
+ghost use Rattle.thp_journal_writer.specs.Prelude.{event_line};
+ghost use Rattle.thp_drawing.specs.Elements.{shortened};
+ghost use Rattle.thp_drawing.specs.Titles.{illegal_text, node_words, threshold_words};
 
 use crate::element::{PutResult, draw, pieces, put_words};
 use crate::node::{DrawnNode, IllegalEvent};
+use thp_history::Event;
 use thp_journal_writer::{put, put_event_line};
 
 // The greatest number of letters in the line of an event that is shown.
 const MAX_LETTERS: usize = 70;
 
 /// Appends the words of a node's title: its size, its threshold for underused pages, and the number of events drawn.
-#[tactic(auto, using(crate::proofs::Pieces::three), unfolding(crate::specs::Titles::node_words))]
 pub(crate) fn put_node_words(text: &mut Vec<u8>, number: usize, node: &DrawnNode) -> PutResult
     ensures { OnOk result (text.new.items ≡ text.old.items ++ node_words number node.now) }
 {
@@ -37,27 +39,35 @@ fn put_threshold_words(text: &mut Vec<u8>, threshold: Option<u32>) -> PutResult
 pub(crate) fn put_illegal_text(text: &mut Vec<u8>, illegal: &Option<IllegalEvent>) -> PutResult
     ensures { OnOk result (text.new.items ≡ text.old.items ++ illegal_text illegal.now) }
 {
-    let Some(illegal) = illegal else {
-        return Ok(());
-    };
-    let mut line = Vec::new(*text.allocator());
-    put_event_line(&mut line, &illegal.event)?;
-    line.pop();
-    put_illegal_line(text, u128::from(illegal.line), line.as_slice())
+    match illegal {
+        None => Ok(()),
+        Some(illegal) => {
+            let words = pieces!(
+                Bytes(b"illegal line ") Decimal(u128::from(illegal.line)) Bytes(b": ")
+                EventLine(&illegal.event)
+            );
+            put_words(text, b"bad", 900, 420, &words)
+        }
+    }
 }
 
-// The line of an illegal event, or the beginning of a long one, after its number in the journal's text.
-#[tactic(auto, unfolding(crate::specs::Titles::shortened))]
-fn put_illegal_line(text: &mut Vec<u8>, number: u128, line: &[u8]) -> PutResult
-    ensures { OnOk result (text.new.items ≡ text.old.items ++ illegal_line number line.now) }
+/// Appends the line of an event, or the beginning of a long one.
+pub(crate) fn put_event_words(text: &mut Vec<u8>, event: &Event) -> PutResult
+    ensures { OnOk result (text.new.items ≡ text.old.items ++ shortened (event_line event.now)) }
 {
-    let (shown, more): (&[u8], &[u8]) = if line.len() <= MAX_LETTERS {
-        (line, b"")
-    } else {
-        (line.split_at(67).0, b" ..")
-    };
-    let words = pieces!(
-        Bytes(b"illegal line ") Decimal(number) Bytes(b": ") Bytes(shown) Bytes(more)
-    );
-    put_words(text, b"bad", 900, 420, &words)
+    let mut line = Vec::new(*text.allocator());
+    put_event_line(&mut line, event)?;
+    line.pop();
+    put_shortened(text, line.as_slice())
+}
+
+#[tactic(auto, using(crate::proofs::Pieces::two), unfolding(crate::specs::Elements::shortened))]
+fn put_shortened(text: &mut Vec<u8>, line: &[u8]) -> PutResult
+    ensures { OnOk result (text.new.items ≡ text.old.items ++ shortened line.now) }
+{
+    if line.len() <= MAX_LETTERS {
+        return put(text, line);
+    }
+    put(text, line.split_at(67).0)?;
+    put(text, b" ..")
 }

@@ -1,8 +1,6 @@
 //! Columns that are merged in pairs when there are too many.
 ghost use Rattle.std.specs.Prelude.{◌≡◌, ◌+◌, ◌*◌, ◌<◌, ◌^◌, List, [], ◌∷◌, ◌++◌, length, vec_capacity};
-ghost use Rattle.thp_metrics.specs.Columns.{column_of};
-ghost use Rattle.thp_metrics.specs.Joining.{in_pairs, AreLow, AreWithin};
-ghost use Rattle.thp_metrics.specs.Folding.{Folds, HasRoomForOne};
+ghost use Rattle.thp_metrics.specs.Prelude.{AreLow, AreWithin, Folds, HasRoomForOne, column_of, in_pairs};
 ghost use Rattle.thp_metrics.specs.declared.numbers.Numbers.{Numbers};
 
 use crate::column::Column;

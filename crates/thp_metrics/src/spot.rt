@@ -2,8 +2,7 @@
 ghost use Rattle.std.specs.Prelude.{◌≡◌, Some};
 ghost use Rattle.std.specs.Option.{option_and_then};
 ghost use Rattle.thp_journal_writer.specs.Prelude.{event_page};
-ghost use Rattle.thp_metrics.specs.Spots.{batch_of, home};
-ghost use Rattle.thp_metrics.specs.Stages.{stage_of};
+ghost use Rattle.thp_metrics.specs.Prelude.{batch_of, home, stage_of};
 
 use crate::stage::{Stage, stage_by};
 use thp_check::{Replay, Standing};

@@ -4,10 +4,7 @@ ghost use Rattle.std.specs.Option.{option_and_then};
 ghost use Rattle.thp_history.specs.Prelude.{Fits};
 ghost use Rattle.thp_journal_writer.specs.Prelude.{event_page};
 ghost use Rattle.thp_check.specs.Prelude.{with_event};
-ghost use Rattle.thp_metrics.specs.Finding.{stuck_among};
-ghost use Rattle.thp_metrics.specs.Spots.{home};
-ghost use Rattle.thp_metrics.specs.Stuck.{AreStuck};
-ghost use Rattle.thp_metrics.specs.Waits.{longest_wait};
+ghost use Rattle.thp_metrics.specs.Prelude.{AreStuck, home, longest_wait, stuck_among};
 
 use crate::arrivals::Arrivals;
 use crate::finds::{NO_PINS, PinCount, count_find};
@@ -33,8 +30,7 @@ pub struct Waiting {
 
 impl Model for Waiting {
     ghost use Rattle.thp_check.specs.Prelude.{Replayed};
-    ghost use Rattle.thp_metrics.specs.Arrivals.{KeepsWaits};
-    ghost use Rattle.thp_metrics.specs.Finding.{KeepsFinds};
+    ghost use Rattle.thp_metrics.specs.Prelude.{KeepsFinds, KeepsWaits};
 
     ghost Value = { Replayed };
 
