@@ -10,7 +10,7 @@ use crate::node::{DrawnNode, IllegalEvent};
 use itoa::Buffer;
 use std::alloc::AllocError;
 use thp_journal_writer::{put, put_event_line};
-use thp_metrics::{Column, Numbers, SHOWN_CALLERS, Stage, StuckPage};
+use thp_metrics::{Column, Numbers, SHOWN_CALLERS, Stage};
 
 // The names of the fields of nodes, of columns, and of stuck pages.
 const HEADS: &[u8] =
@@ -47,15 +47,13 @@ fn put_node(text: &mut Vec<u8>, number: usize, node: &DrawnNode) -> PutResult
     ensures { OnOk result (text.new.items ≡ text.old.items ++ node_lines number node.now) }
 {
     put_node_line(text, number, node)?;
-    put_columns(text, number, node)?;
-    put_stuck_lines(text, number, node.stuck.as_slice())
-}
-
-// The number of times each page was found pinned, and the event since which it waits.
-fn put_stuck_lines(text: &mut Vec<u8>, number: usize, pages: &[StuckPage]) -> PutResult
-    ensures { OnOk result (text.new.items ≡ text.old.items ++ stuck_lines number pages.now) }
-{
-    for page in pages {
+    let width = u128::from(node.width);
+    for (place, column) in node.columns.iter().enumerate() {
+        let first = width * place as u128;
+        let last = (first + width).min(node.prefixes).saturating_sub(1);
+        put_column(text, number, first, last, column)?;
+    }
+    for page in node.stuck.iter() {
         draw!(text;
             Bytes(b"stuck") Field(number as u128) Field(u128::from(page.page.0))
             Field(u128::from(page.finds)) Field(u128::from(page.since)) Bytes(b"\n")
@@ -109,18 +107,6 @@ fn put_threshold(text: &mut Vec<u8>, threshold: Option<u32>) -> PutResult
         None => put(text, b"\toff"),
         Some(threshold) => put_field(text, u128::from(threshold)),
     }
-}
-
-fn put_columns(text: &mut Vec<u8>, number: usize, node: &DrawnNode) -> PutResult
-    ensures { OnOk result (text.new.items ≡ text.old.items ++ column_lines number node.now.width node.now.prefixes 0 node.now.columns.items) }
-{
-    let width = u128::from(node.width);
-    for (place, column) in node.columns.iter().enumerate() {
-        let first = width * place as u128;
-        let last = (first + width).min(node.prefixes).saturating_sub(1);
-        put_column(text, number, first, last, column)?;
-    }
-    Ok(())
 }
 
 #[tactic(auto, using(crate::proofs::Pieces::seven), unfolding(crate::specs::Tables::column_line, crate::specs::Tables::column_numbers))]
