@@ -10,7 +10,7 @@ use crate::node::{DrawnNode, IllegalEvent};
 use itoa::Buffer;
 use std::alloc::AllocError;
 use thp_journal_writer::{put, put_event_line};
-use thp_metrics::{Column, Numbers, SHOWN_CALLERS, Stage};
+use thp_metrics::{Column, SHOWN_CALLERS, Stage};
 
 // The names of the fields of nodes, of columns, and of stuck pages.
 const HEADS: &[u8] =
