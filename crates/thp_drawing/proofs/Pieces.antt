@@ -29,6 +29,9 @@ eight t a b c d e f g h = simp append_assoc
 pub two_after : (t a b : List ℕ) {u : List ℕ} → u ≡ t ++ a → u ++ b ≡ t ++ (a ++ b)
 two_after t a b p = ap (λ x. x ++ b) p ∙ two t a b
 
+pub three_after : (t a b c : List ℕ) {u v : List ℕ} → u ≡ t ++ a → v ≡ u ++ b → v ++ c ≡ t ++ (a ++ b ++ c)
+three_after t a b c p q = ap (λ x. x ++ c) (q ∙ ap (λ x. x ++ b) p) ∙ three t a b c
+
 pub four_after : (t a b c d : List ℕ) {u v w : List ℕ} → u ≡ t ++ a → v ≡ u ++ b → w ≡ v ++ c → w ++ d ≡ t ++ (a ++ b ++ c ++ d)
 four_after t a b c d p q r = ap (λ x. x ++ d) (r ∙ ap (λ x. x ++ c) (q ∙ ap (λ x. x ++ b) p)) ∙ four t a b c d
 

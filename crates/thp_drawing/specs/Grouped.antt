@@ -1,19 +1,18 @@
 -- Numbers whose digits are in groups of three, separated by commas.
-use Rattle.std.specs.Prelude.{ℕ, ◌/◌, ◌%◌, max, List, [], ◌++◌, codes, if◌then◌else◌, nat_eq, nat_lt, decimal, flat_map}
-use Rattle.thp_drawing.specs.declared.grouped.TheConstants.{THOUSANDS}
+use Rattle.std.specs.Prelude.{ℕ, ◌+◌, ◌-◌, ◌%◌, ◌&&◌, List, [], ◌∷◌, ◌++◌, length, codes, if◌then◌else◌, nat_eq, nat_lt, decimal}
 
--- the last three digits of a number, after a comma if there are others before them
-unfoldable pub group_of : ℕ → List ℕ
-group_of n =
-    if nat_lt n 1000 then decimal n else codes "," ++ decimal (n / 100 % 10) ++ decimal (n / 10 % 10) ++ decimal (n % 10)
+-- a comma, if the digit at this place of `count` digits is not the first, and begins a group of three
+abbrev pub separator : ℕ → ℕ → List ℕ
+separator count place = if nat_lt 0 place && nat_eq ((count - place) % 3) 0 then codes "," else []
 
--- the group of n's digits that counts this power of 1,000, if n has one
-abbrev pub group_at : ℕ → ℕ → List ℕ
-group_at n power = if nat_lt n power then [] else group_of (n / max power 1)
+-- the digits of a number from this place on, of `count` in all, with the commas before them
+abbrev pub in_groups : ℕ → ℕ → List ℕ → List ℕ
+in_groups count place [] = []
+in_groups count place (digit ∷ more) = separator count place ++ (digit ∷ []) ++ in_groups count (place + 1) more
 
 -- the number
 unfoldable pub grouped : ℕ → List ℕ
-grouped n = flat_map (group_at n) THOUSANDS ++ group_of n
+grouped n = in_groups (length (decimal n)) 0 (decimal n)
 
 -- a number and a word, with an `s` unless the number is 1
 unfoldable pub many : ℕ → List ℕ → List ℕ

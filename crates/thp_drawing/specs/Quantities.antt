@@ -11,17 +11,17 @@ use Rattle.thp_drawing.specs.declared.node.DrawnNode.{DrawnNode}
 use Rattle.thp_drawing.specs.declared.quantity.Quantity.{Quantity}
 use Rattle.thp_drawing.specs.declared.quantity.Quantity.TheVariants.{Queue, InBatches, Held, Given, Splits, PinnedTries, UnderusedSplits, Wait, Nothing}
 
--- the name of a quantity, and its class; some have the colours of stages
-abbrev pub quantity_row : Quantity → List ℕ × List ℕ
-quantity_row Queue = (codes "queue", codes "s2")
-quantity_row InBatches = (codes "in batches", codes "s3")
-quantity_row Held = (codes "held", codes "held")
-quantity_row Given = (codes "given back", codes "given")
-quantity_row Splits = (codes "split", codes "s4")
-quantity_row PinnedTries = (codes "found pinned", codes "pin")
-quantity_row UnderusedSplits = (codes "split as underused", codes "s1")
-quantity_row Wait = (codes "the oldest page has waited", codes "wait")
-quantity_row Nothing = ([], [])
+-- the name of a quantity, its class, and what its numbers count; some have the colours of stages
+abbrev pub quantity_row : Quantity → List ℕ × List ℕ × List ℕ
+quantity_row Queue = (codes "queue", codes "s2", codes "pages")
+quantity_row InBatches = (codes "in batches", codes "s3", codes "pages")
+quantity_row Held = (codes "held", codes "held", codes "frames")
+quantity_row Given = (codes "given back", codes "given", codes "frames")
+quantity_row Splits = (codes "split", codes "s4", codes "tries")
+quantity_row PinnedTries = (codes "found pinned", codes "pin", codes "tries")
+quantity_row UnderusedSplits = (codes "split as underused", codes "s1", codes "tries")
+quantity_row Wait = (codes "the oldest page has waited", codes "wait", codes "events")
+quantity_row Nothing = ([], [], codes "pages")
 
 abbrev pub quantity_name : Quantity → List ℕ
 quantity_name q = (quantity_row q).0
@@ -29,15 +29,8 @@ quantity_name q = (quantity_row q).0
 abbrev pub quantity_class : Quantity → List ℕ
 quantity_class q = (quantity_row q).1
 
--- what its numbers count
 abbrev pub quantity_unit : Quantity → List ℕ
-quantity_unit Held = codes "frames"
-quantity_unit Given = codes "frames"
-quantity_unit Splits = codes "tries"
-quantity_unit PinnedTries = codes "tries"
-quantity_unit UnderusedSplits = codes "tries"
-quantity_unit Wait = codes "events"
-quantity_unit _ = codes "pages"
+quantity_unit q = (quantity_row q).2
 
 -- the step of its numbers up to n
 abbrev pub quantity_step : Quantity → ℕ → ℕ

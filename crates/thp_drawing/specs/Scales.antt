@@ -1,6 +1,5 @@
 -- Numbers and their positions. All are whole, and none exceeds 128 bits.
-use Rattle.std.specs.Prelude.{ℕ, ◌+◌, ◌*◌, ◌-◌, ◌/◌, ◌^◌, min, max, List, [], ◌∷◌, if◌then◌else◌, nat_le}
-use Rattle.thp_drawing.specs.declared.scale.TheConstants.{EIGHTS, TENS}
+use Rattle.std.specs.Prelude.{ℕ, zero, suc, ◌+◌, ◌*◌, ◌-◌, ◌/◌, ◌^◌, min, max, if◌then◌else◌, nat_le}
 
 -- the sum, saturating at the greatest 128-bit number
 unfoldable pub plus : ℕ → ℕ → ℕ
@@ -18,19 +17,20 @@ scaled high n most = times high n / max most 1
 unfoldable pub steps_in : ℕ → ℕ → ℕ
 steps_in step n = n / max step 1
 
--- the first step that fits into n at most six times, or n itself; steps are units, twice these, and `more` times these
-abbrev pub step_among : ℕ → List ℕ → ℕ → ℕ
-step_among more [] n = n
-step_among more (unit ∷ units) n =
+-- the first step that fits into n at most six times, or n itself; steps are k units from this one on, twice these, and `more`
+-- times these; each unit is twice `more` times the one before
+abbrev pub step_among : ℕ → ℕ → ℕ → ℕ → ℕ
+step_among more zero unit n = n
+step_among more (suc k) unit n =
     if nat_le n (times 6 unit) then unit
     else if nat_le n (times 6 (times 2 unit)) then times 2 unit
     else if nat_le n (times 6 (times more unit)) then times more unit
-    else step_among more units n
+    else step_among more k (times (times 2 more) unit) n
 
 -- the step of decimal numbers up to n: 1, 2, 5, 10, 20, 50 ..
 unfoldable pub round_step : ℕ → ℕ
-round_step n = step_among 5 TENS n
+round_step n = step_among 5 11 1 n
 
 -- the step of numbers of frames, of which a page has a power of two: 1, 2, 4, 8 ..
 unfoldable pub doubled_step : ℕ → ℕ
-doubled_step n = step_among 4 EIGHTS n
+doubled_step n = step_among 4 12 1 n

@@ -46,7 +46,7 @@ pub(crate) fn put_quantity_areas(
 ) -> PutResult
     ensures { OnOk result (text.new.items ≡ text.old.items ++ quantity_areas sign.now quantity most node.now) }
 {
-    let (_, kind) = quantity.words();
+    let (_, kind, _) = quantity.words();
     let columns = node.columns.as_slice();
     if node.width != 1 {
         let greatest = Height::Greatest(quantity, most);

@@ -1,6 +1,6 @@
 //! Bars over a node's columns.
 ghost use Rattle.std.specs.Prelude.{◌≡◌, ◌≤◌, ◌++◌, false, length, OnOk};
-ghost use Rattle.thp_drawing.specs.Bars.{bar_at, bar_turns, covers, is_among, line_turn, stage_in, stage_number, turn_count};
+ghost use Rattle.thp_drawing.specs.Bars.{bar_at, bar_turns, covers, is_among, line_turn, stage_in};
 
 use crate::element::{PutResult, draw};
 use crate::scale::scaled;
@@ -21,9 +21,7 @@ impl Bar {
         ensures { result ≡ covers self column.now }
     {
         match self {
-            Bar::PageIn(stage, page) => {
-                stage_number(stage_in(page, &column.stages)) == stage_number(Some(stage))
-            }
+            Bar::PageIn(stage, page) => { stage_in(page, &column.stages) == Some(stage) }
             Bar::BatchOf(caller) => is_among(caller, column.callers),
         }
     }
@@ -37,19 +35,13 @@ impl Bar {
         let mut before = false;
         for column in columns {
             let now = self.covers(column);
-            count += turn_count(before, now);
+            if before != now {
+                count += 1;
+            }
             before = now;
         }
         count
     }
-}
-
-// The number of starts and ends of a bar between a column and the next.
-fn turn_count(before: bool, now: bool) -> u128
-    ensures count { result ≡ turn_count before now }
-    ensures most { result ≤ 1 }
-{
-    if before == now { 0 } else { 1 }
 }
 
 /// Returns whether a caller is in a set of callers given as bits.
@@ -67,20 +59,6 @@ fn stage_in(page: u128, stages: &[Option<Stage>]) -> Option<Stage>
         stages[page as usize]
     } else {
         None
-    }
-}
-
-// The number of a stage; that of no stage is 0.
-fn stage_number(stage: Option<Stage>) -> u8
-    ensures { result ≡ stage_number stage }
-{
-    match stage {
-        None => 0,
-        Some(Stage::Allocated) => 1,
-        Some(Stage::PartlyMapped) => 2,
-        Some(Stage::Queued) => 3,
-        Some(Stage::InBatch) => 4,
-        Some(Stage::Split) => 5,
     }
 }
 

@@ -1,12 +1,14 @@
 //! Texts made of pieces, and the elements of a picture.
 ghost use Rattle.std.specs.Prelude.{◌≡◌, ◌++◌, OnOk};
-ghost use Rattle.thp_drawing.specs.Elements.{group_start, item_at, piece_text, pieces_text, square_at, text_at};
+ghost use Rattle.thp_drawing.specs.Elements.{group_start, item_at, piece_text, pieces_text, text_at};
 
 use crate::escaping::put_escaped;
 use crate::grouped::{put_decimal, put_grouped, put_many};
 use crate::scale::plus;
 use crate::table::put_field;
+use crate::title::put_event_words;
 use std::alloc::AllocError;
+use thp_history::Event;
 use thp_journal_writer::put;
 
 /// The result of appending to a text, which fails if memory can't be allocated.
@@ -22,6 +24,8 @@ pub(crate) enum Piece<'a> {
     Bytes(&'a [u8]),
     /// Words, escaped.
     Escaped(&'a [u8]),
+    /// The line of an event, or the beginning of a long one.
+    EventLine(&'a Event),
     /// A number in decimal.
     Decimal(u128),
     /// A tab, and a number in decimal.
@@ -65,6 +69,7 @@ fn put_piece(text: &mut Vec<u8>, piece: &Piece<'_>) -> PutResult
     match piece {
         Piece::Bytes(bytes) => put(text, *bytes),
         Piece::Escaped(words) => put_escaped(text, *words),
+        Piece::EventLine(event) => put_event_words(text, *event),
         Piece::Decimal(number) => put_decimal(text, *number),
         Piece::Field(number) => put_field(text, *number),
         Piece::Grouped(number) => put_grouped(text, *number),
@@ -105,22 +110,14 @@ pub(crate) fn put_words(
 }
 
 /// Appends words in a panel's title, after a square of this class.
-#[tactic(auto, using(crate::proofs::Pieces::two), unfolding(crate::specs::Elements::item_at))]
 pub(crate) fn put_item(text: &mut Vec<u8>, kind: &[u8], x: u128, pieces: &[Piece<'_>]) -> PutResult
     ensures { OnOk result (text.new.items ≡ text.old.items ++ item_at kind.now x (pieces_text pieces.now)) }
-{
-    put_square(text, kind, x)?;
-    put_words(text, b"ink", plus(x, 130), 150, pieces)
-}
-
-#[tactic(auto, unfolding(crate::specs::Elements::square_at))]
-fn put_square(text: &mut Vec<u8>, kind: &[u8], x: u128) -> PutResult
-    ensures { OnOk result (text.new.items ≡ text.old.items ++ square_at kind.now x) }
 {
     draw!(text;
         Bytes(b"<rect class=\"") Bytes(kind) Bytes(b"\" x=\"") Decimal(x)
         Bytes(b"\" y=\"72\" width=\"80\" height=\"80\"/>\n")
-    )
+    )?;
+    put_words(text, b"ink", plus(x, 130), 150, pieces)
 }
 
 /// Begins a group whose origin is this position.

@@ -1,28 +1,11 @@
 //! Numbers in decimal, and with their digits in groups of three.
-ghost use Rattle.std.specs.Prelude.{◌≡◌, ◌++◌, OnOk};
+ghost use Rattle.std.specs.Prelude.{◌≡◌, ◌<◌, ◌++◌, OnOk};
 ghost use Rattle.std.specs.Fmt.{decimal};
-ghost use Rattle.std.specs.List.{flat_map};
-ghost use Rattle.thp_drawing.specs.Grouped.{group_at, group_of, grouped, many};
+ghost use Rattle.thp_drawing.specs.Grouped.{grouped, many, separator};
 
 use crate::element::PutResult;
 use itoa::Buffer;
 use thp_journal_writer::put;
-
-/// The powers of 1,000 up to the greatest 128-bit number, the greatest first.
-pub(crate) const THOUSANDS: [u128; 12] = [
-    1000000000000000000000000000000000000,
-    1000000000000000000000000000000000,
-    1000000000000000000000000000000,
-    1000000000000000000000000000,
-    1000000000000000000000000,
-    1000000000000000000000,
-    1000000000000000000,
-    1000000000000000,
-    1000000000000,
-    1000000000,
-    1000000,
-    1000,
-];
 
 /// Appends a number to a text.
 pub(crate) fn put_decimal(text: &mut Vec<u8>, number: u128) -> PutResult
@@ -32,37 +15,29 @@ pub(crate) fn put_decimal(text: &mut Vec<u8>, number: u128) -> PutResult
 }
 
 /// Appends a number to a text, with commas between groups of three digits.
-#[tactic(auto, using(crate::proofs::Pieces::two), unfolding(crate::specs::Grouped::grouped))]
+#[tactic(auto, using(crate::proofs::Pieces::three), unfolding(crate::specs::Grouped::grouped))]
 pub(crate) fn put_grouped(text: &mut Vec<u8>, number: u128) -> PutResult
     ensures { OnOk result (text.new.items ≡ text.old.items ++ grouped number) }
 {
-    put_groups(text, number, &THOUSANDS)?;
-    put_group(text, number)
-}
-
-fn put_groups(text: &mut Vec<u8>, number: u128, powers: &[u128]) -> PutResult
-    ensures { OnOk result (text.new.items ≡ text.old.items ++ flat_map (group_at number) powers.now) }
-{
-    for power in powers {
-        if number >= *power {
-            put_group(text, number / (*power).max(1))?;
-        }
+    let mut buffer = Buffer::new();
+    let digits = buffer.format(number).as_bytes();
+    for (place, digit) in digits.iter().enumerate() {
+        put(text, separator(digits.len(), place))?;
+        put(text, &[*digit])?;
     }
     Ok(())
 }
 
-// The last three digits of a number, after a comma if there are others before them.
-#[tactic(auto, using(crate::proofs::Pieces::four), unfolding(crate::specs::Grouped::group_of))]
-fn put_group(text: &mut Vec<u8>, number: u128) -> PutResult
-    ensures { OnOk result (text.new.items ≡ text.old.items ++ group_of number) }
+// A comma before each group of three digits but the first, given the number of digits.
+fn separator(count: usize, place: usize) -> &'static [u8]
+    requires { place < count }
+    ensures { result.now ≡ separator count place }
 {
-    if number < 1000 {
-        return put_decimal(text, number);
+    if 0 < place && (count - place) % 3 == 0 {
+        b","
+    } else {
+        b""
     }
-    put(text, b",")?;
-    put_decimal(text, number / 100 % 10)?;
-    put_decimal(text, number / 10 % 10)?;
-    put_decimal(text, number % 10)
 }
 
 /// Appends a number and a word, with an `s` unless the number is 1.

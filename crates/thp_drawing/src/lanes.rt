@@ -1,6 +1,5 @@
 //! The lanes of callers' batches.
-ghost use Rattle.std.specs.Prelude.{◌≡◌, ◌++◌, [], length, OnOk};
-ghost use Rattle.thp_drawing.specs.Axes.{tick};
+ghost use Rattle.std.specs.Prelude.{◌≡◌, ◌++◌, length, OnOk};
 ghost use Rattle.thp_drawing.specs.Lanes.{all_lanes, all_turns, has_lane, lane_count, lane_drawn, lanes_height};
 
 use crate::axis::put_tick;
@@ -73,18 +72,12 @@ pub(crate) fn put_lanes(text: &mut Vec<u8>, columns: &[Column]) -> PutResult
     Ok(())
 }
 
-// The lane of a caller, at this height.
+// The lane of a caller, at this height: the caller's number, and its bar.
 fn put_lane_drawn(text: &mut Vec<u8>, columns: &[Column], y: u128, caller: u32) -> PutResult
     ensures { OnOk result (text.new.items ≡ text.old.items ++ lane_drawn columns.now y caller) }
 {
-    put_lane_number(text, y, caller)?;
+    put_tick(text, b"", u128::from(caller), y)?;
     put(text, b"<path class=\"lane s3\" d=\"")?;
     put_bar(text, Bar::BatchOf(caller), y, columns)?;
     put(text, b"\"/>\n")
-}
-
-fn put_lane_number(text: &mut Vec<u8>, y: u128, caller: u32) -> PutResult
-    ensures { OnOk result (text.new.items ≡ text.old.items ++ tick [] caller y) }
-{
-    put_tick(text, b"", u128::from(caller), y)
 }

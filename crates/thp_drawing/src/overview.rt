@@ -1,9 +1,9 @@
 //! The overview of all nodes.
 ghost use Rattle.std.specs.Prelude.{◌≡◌, ◌++◌, OnOk};
-ghost use Rattle.thp_drawing.specs.Overviews.{illegal_mark, live_pages, number_cell, overview, overview_foot, overview_heads, overview_line};
+ghost use Rattle.thp_drawing.specs.Overviews.{live_pages, number_cell, overview, overview_foot, overview_heads, overview_line};
 
 use crate::element::{GROUP_END, PutResult, pieces, put_group, put_text, put_words};
-use crate::node::{DrawnNode, IllegalEvent};
+use crate::node::DrawnNode;
 use crate::quantity::Quantity;
 use crate::scale::{plus, times};
 use thp_journal_writer::put;
@@ -55,23 +55,18 @@ fn put_overview_line(text: &mut Vec<u8>, y: u128, number: usize, node: &DrawnNod
     ensures { OnOk result (text.new.items ≡ text.old.items ++ overview_line y number node.now) }
 {
     put_group(text, 0, y)?;
-    let words = pieces!(Decimal(number as u128) Bytes(illegal_mark(&node.illegal)));
+    let mark: &[u8] = if node.illegal.is_none() {
+        b""
+    } else {
+        b" (illegal)"
+    };
+    let words = pieces!(Decimal(number as u128) Bytes(mark));
     put_words(text, b"ink", 150, 0, &words)?;
     put_number(text, 2400, live_pages(&node.last.pages))?;
     put_number(text, 3900, Quantity::Queue.most(node.columns.as_slice()))?;
     put_number(text, 5400, node.last.held)?;
     put_number(text, 6900, node.last.given)?;
     put(text, GROUP_END)
-}
-
-// Whether an event of a node is illegal.
-fn illegal_mark(illegal: &Option<IllegalEvent>) -> &'static [u8]
-    ensures { result.now ≡ illegal_mark illegal.now }
-{
-    match illegal {
-        None => b"",
-        Some(_) => b" (illegal)",
-    }
 }
 
 // A right-aligned number that ends at this position.

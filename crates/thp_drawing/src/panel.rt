@@ -1,7 +1,6 @@
 //! The panels of a node.
 ghost use Rattle.std.specs.Prelude.{◌≡◌, ◌++◌, [], codes, OnOk};
-ghost use Rattle.thp_drawing.specs.Panels.{below, content_height, height_of, panel_at, panel_content, panel_start, panel_title, panels_drawn, panels_foot, panels_of};
-ghost use Rattle.thp_drawing.specs.Panels.{half_most, quantity_half, quantity_halves, quantity_item, unit_of};
+ghost use Rattle.thp_drawing.specs.Panels.{below, content_height, height_of, panel_at, panel_content, panel_start, panel_title, panels_drawn, panels_foot, panels_of, half_most, quantity_half, quantity_halves, quantity_item, unit_of};
 
 use crate::area::put_quantity_areas;
 use crate::axis::{BASE_LINE, put_event_rules, put_ticks};
@@ -33,7 +32,7 @@ impl Panel {
         ensures { result.now ≡ unit_of self }
     {
         match self {
-            Panel::Quantities(up, _) => up.unit(),
+            Panel::Quantities(up, _) => up.words().2,
             Panel::Lanes => b"caller",
             Panel::Rows => b"page",
             Panel::Stages => b"pages",
@@ -183,7 +182,7 @@ fn put_quantity_item(text: &mut Vec<u8>, quantity: Quantity, x: u128, node: &Dra
     if most == 0 {
         return Ok(());
     }
-    let (name, class) = quantity.words();
+    let (name, class, _) = quantity.words();
     let last = quantity.last(&node.last);
     let words = pieces!(
         Bytes(name) Bytes(b": most ") Grouped(most) Bytes(b", last ") Grouped(last)

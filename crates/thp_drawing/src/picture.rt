@@ -36,7 +36,11 @@ pub fn put_picture(text: &mut Vec<u8>, nodes: &[DrawnNode]) -> Result<(), AllocE
     let top = overview_foot(nodes);
     put_head(text, foot_of(top, nodes))?;
     put_overview(text, nodes)?;
-    put_nodes(text, top, nodes)?;
+    let mut y = top;
+    for (number, node) in nodes.iter().enumerate() {
+        put_node(text, y, number, node)?;
+        y = plus(y, node_height(node));
+    }
     put(text, b"</svg>\n")
 }
 
@@ -79,17 +83,6 @@ fn foot_of(top: u128, nodes: &[DrawnNode]) -> u128
         y = plus(y, node_height(node));
     }
     y
-}
-
-fn put_nodes(text: &mut Vec<u8>, top: u128, nodes: &[DrawnNode]) -> PutResult
-    ensures { OnOk result (text.new.items ≡ text.old.items ++ nodes_drawn top 0 nodes.now) }
-{
-    let mut y = top;
-    for (number, node) in nodes.iter().enumerate() {
-        put_node(text, y, number, node)?;
-        y = plus(y, node_height(node));
-    }
-    Ok(())
 }
 
 #[tactic(auto, using(crate::proofs::Pieces::seven), unfolding(crate::specs::Pictures::node_drawn))]

@@ -29,33 +29,22 @@ pub(crate) enum Quantity {
 }
 
 impl Quantity {
-    /// Returns the name, and the class with the quantity's colour.
-    pub(crate) fn words(self) -> (&'static [u8], &'static [u8])
+    /// Returns the name, the class with the quantity's colour, and what the quantity's numbers count.
+    pub(crate) fn words(self) -> (&'static [u8], &'static [u8], &'static [u8])
         ensures name { result.0.now ≡ quantity_name self }
         ensures class { result.1.now ≡ quantity_class self }
+        ensures unit { result.2.now ≡ quantity_unit self }
     {
         match self {
-            Quantity::Queue => (b"queue", b"s2"),
-            Quantity::InBatches => (b"in batches", b"s3"),
-            Quantity::Held => (b"held", b"held"),
-            Quantity::Given => (b"given back", b"given"),
-            Quantity::Splits => (b"split", b"s4"),
-            Quantity::PinnedTries => (b"found pinned", b"pin"),
-            Quantity::UnderusedSplits => (b"split as underused", b"s1"),
-            Quantity::Wait => (b"the oldest page has waited", b"wait"),
-            Quantity::Nothing => (b"", b""),
-        }
-    }
-
-    /// Returns what the quantity's numbers count.
-    pub(crate) fn unit(self) -> &'static [u8]
-        ensures { result.now ≡ quantity_unit self }
-    {
-        match self {
-            Quantity::Held | Quantity::Given => b"frames",
-            Quantity::Splits | Quantity::PinnedTries | Quantity::UnderusedSplits => b"tries",
-            Quantity::Wait => b"events",
-            Quantity::Queue | Quantity::InBatches | Quantity::Nothing => b"pages",
+            Quantity::Queue => (b"queue", b"s2", b"pages"),
+            Quantity::InBatches => (b"in batches", b"s3", b"pages"),
+            Quantity::Held => (b"held", b"held", b"frames"),
+            Quantity::Given => (b"given back", b"given", b"frames"),
+            Quantity::Splits => (b"split", b"s4", b"tries"),
+            Quantity::PinnedTries => (b"found pinned", b"pin", b"tries"),
+            Quantity::UnderusedSplits => (b"split as underused", b"s1", b"tries"),
+            Quantity::Wait => (b"the oldest page has waited", b"wait", b"events"),
+            Quantity::Nothing => (b"", b"", b"pages"),
         }
     }
 

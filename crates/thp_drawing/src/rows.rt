@@ -1,6 +1,6 @@
 //! The rows of a node's pages: whether there are any, their positions, and their bars.
 ghost use Rattle.std.specs.Prelude.{◌≡◌, ◌≤◌, ◌*◌, ◌++◌, length, OnOk};
-ghost use Rattle.thp_drawing.specs.Rows.{allocated_pages, has_rows, number_step, numbers_of, page_turns, row_class, row_height, row_middle, row_turns, rows_drawn, rows_height, stage_bars, stage_rows};
+ghost use Rattle.thp_drawing.specs.Rows.{allocated_pages, has_rows, page_turns, row_class, row_height, row_middle, row_turns, rows_drawn, rows_height, stage_bars, stage_rows};
 
 use crate::axis::put_tick;
 use crate::bar::{Bar, put_bar};
@@ -79,21 +79,6 @@ pub(crate) fn rows_height(count: u128) -> u128
     times(row_height(count), count)
 }
 
-// The distance between the numbers of this many rows.
-fn number_step(count: u128) -> u128
-    ensures { result ≡ number_step count }
-{
-    if count <= FEW_ROWS { 1 } else { 2 }
-}
-
-// The number of numbers of this many rows.
-fn numbers_of(count: u128) -> u128
-    ensures { result ≡ numbers_of count }
-{
-    let step = number_step(count);
-    steps_in(step, plus(count, step - 1))
-}
-
 // The class of bars in this many rows.
 fn row_class(count: u128) -> &'static [u8]
     ensures { result.now ≡ row_class count }
@@ -112,8 +97,8 @@ pub(crate) fn put_rows(text: &mut Vec<u8>, node: &DrawnNode) -> PutResult
 {
     let count = allocated_pages(node);
     let high = row_height(count);
-    let step = number_step(count);
-    for before in 0..numbers_of(count) {
+    let step = if count <= FEW_ROWS { 1 } else { 2 };
+    for before in 0..steps_in(step, plus(count, step - 1)) {
         let page = times(step, before);
         put_tick(text, b"", page, row_middle(high, page))?;
     }

@@ -2,26 +2,6 @@
 ghost use Rattle.std.specs.Prelude.{◌≡◌};
 ghost use Rattle.thp_drawing.specs.Scales.{doubled_step, plus, round_step, scaled, step_among, steps_in, times};
 
-/// Powers of 10.
-pub(crate) const TENS: [u128; 11] = [
-    1,
-    10,
-    100,
-    1000,
-    10000,
-    100000,
-    1000000,
-    10000000,
-    100000000,
-    1000000000,
-    10000000000,
-];
-
-/// Powers of 8.
-pub(crate) const EIGHTS: [u128; 12] = [
-    1, 8, 64, 512, 4096, 32768, 262144, 2097152, 16777216, 134217728, 1073741824, 8589934592,
-];
-
 /// Returns the sum, saturating at the greatest number.
 #[tactic(auto, unfolding(crate::specs::Scales::plus))]
 pub(crate) fn plus(a: u128, b: u128) -> u128
@@ -59,7 +39,7 @@ pub(crate) fn steps_in(step: u128, number: u128) -> u128
 pub(crate) fn round_step(number: u128) -> u128
     ensures { result ≡ round_step number }
 {
-    step_among(5, &TENS, number)
+    step_among(5, 11, number)
 }
 
 /// Returns the step of numbers of frames, a power of two, up to this number.
@@ -67,22 +47,26 @@ pub(crate) fn round_step(number: u128) -> u128
 pub(crate) fn doubled_step(number: u128) -> u128
     ensures { result ≡ doubled_step number }
 {
-    step_among(4, &EIGHTS, number)
+    step_among(4, 12, number)
 }
 
-fn step_among(more: u128, units: &[u128], number: u128) -> u128
-    ensures { result ≡ step_among more units.now number }
+// The step up to this number, among those of this many units; each unit is twice `more` times the one before.
+#[tactic(auto, using(crate::proofs::Counted::one_unit))]
+fn step_among(more: u128, units: u32, number: u128) -> u128
+    ensures { result ≡ step_among more units 1 number }
 {
-    for unit in units {
-        if number <= times(6, *unit) {
-            return *unit;
+    let mut unit = 1;
+    for _place in 0..units {
+        if number <= times(6, unit) {
+            return unit;
         }
-        if number <= times(6, times(2, *unit)) {
-            return times(2, *unit);
+        if number <= times(6, times(2, unit)) {
+            return times(2, unit);
         }
-        if number <= times(6, times(more, *unit)) {
-            return times(more, *unit);
+        if number <= times(6, times(more, unit)) {
+            return times(more, unit);
         }
+        unit = times(times(2, more), unit);
     }
     number
 }

@@ -1,8 +1,7 @@
 //! The numbers of pages in each stage, and their panel.
 ghost use Rattle.std.specs.Prelude.{◌≡◌, ◌++◌, OnOk};
 ghost use Rattle.thp_drawing.specs.Panels.{stage_item, stage_items, stages_drawn};
-ghost use Rattle.thp_drawing.specs.Quantities.{most_in, pages_most, prefixes_of};
-ghost use Rattle.thp_drawing.specs.Quantities.{stage_class, stage_name, sum_in, sum_up_to};
+ghost use Rattle.thp_drawing.specs.Quantities.{most_in, pages_most, prefixes_of, stage_class, stage_name, sum_in, sum_up_to};
 
 use crate::area::put_stage_area;
 use crate::axis::{BASE_LINE, put_ticks};

@@ -18,17 +18,10 @@ pub(crate) fn put_stuck_text(text: &mut Vec<u8>, y: u128, node: &DrawnNode) -> P
 {
     let pages = node.stuck.as_slice();
     let (front, _) = pages.split_at(pages.len().min(TOLD_STUCK));
-    put_stuck_lines(text, y, front)?;
-    put_more_line(text, y, pages.len() as u128)
-}
-
-fn put_stuck_lines(text: &mut Vec<u8>, y: u128, pages: &[StuckPage]) -> PutResult
-    ensures { OnOk result (text.new.items ≡ text.old.items ++ stuck_lines y 0 pages.now) }
-{
-    for (place, page) in pages.iter().enumerate() {
+    for (place, page) in front.iter().enumerate() {
         put_stuck_line(text, plus(y, times(165, place as u128)), page)?;
     }
-    Ok(())
+    put_more_line(text, y, pages.len() as u128)
 }
 
 // The text about a page.

@@ -1,7 +1,7 @@
 //! The numbers of nodes as a table.
 ghost use Rattle.std.specs.Prelude.{◌≡◌, ◌≤◌, ◌++◌, ◌+◌, ◌*◌, ◌-◌, List, [], ◌∷◌, length, min, OnOk, codes};
 ghost use Rattle.thp_drawing.specs.Elements.{field};
-ghost use Rattle.thp_drawing.specs.Tables.{caller_item, caller_words, callers_joined, column_line, column_lines, column_numbers, heads, illegal_fields, lines_from, node_line, node_lines, node_numbers, node_table, stage_letter, stage_letters, stuck_line, stuck_lines, table_text, threshold_field};
+ghost use Rattle.thp_drawing.specs.Tables.{caller_item, caller_words, column_line, column_lines, illegal_fields, node_line, node_lines, node_table, stage_letters, stuck_line, stuck_lines, table_text, threshold_field};
 
 use crate::bar::is_among;
 use crate::element::{PutResult, draw};
@@ -10,7 +10,7 @@ use crate::node::{DrawnNode, IllegalEvent};
 use itoa::Buffer;
 use std::alloc::AllocError;
 use thp_journal_writer::{put, put_event_line};
-use thp_metrics::{Column, Numbers, SHOWN_CALLERS, Stage, StuckPage};
+use thp_metrics::{Column, SHOWN_CALLERS, Stage};
 
 // The names of the fields of nodes, of columns, and of stuck pages.
 const HEADS: &[u8] =
@@ -21,36 +21,25 @@ const HEADS: &[u8] =
 
 /// Appends the table of nodes, which are numbered from 0, to a text. If memory can't be allocated, the text can contain a prefix
 /// of it.
+#[tactic(auto, using(crate::proofs::Pieces::two), unfolding(crate::specs::Tables::heads))]
 pub fn put_table(text: &mut Vec<u8>, nodes: &[DrawnNode]) -> Result<(), AllocError>
     ensures { OnOk result (text.new.items ≡ text.old.items ++ table_text nodes.now) }
 {
-    put_heads(text)?;
-    put_nodes(text, nodes)
-}
-
-/// Appends the table of one node alone, with its number, to a text. If memory can't be allocated, the text can contain a prefix of
-/// it.
-pub fn put_node_table(text: &mut Vec<u8>, number: usize, node: &DrawnNode) -> Result<(), AllocError>
-    ensures { OnOk result (text.new.items ≡ text.old.items ++ node_table number node.now) }
-{
-    put_heads(text)?;
-    put_node(text, number, node)
-}
-
-#[tactic(auto, unfolding(crate::specs::Tables::heads))]
-fn put_heads(text: &mut Vec<u8>) -> PutResult
-    ensures { OnOk result (text.new.items ≡ text.old.items ++ heads) }
-{
-    put(text, HEADS)
-}
-
-fn put_nodes(text: &mut Vec<u8>, nodes: &[DrawnNode]) -> PutResult
-    ensures { OnOk result (text.new.items ≡ text.old.items ++ lines_from 0 nodes.now) }
-{
+    put(text, HEADS)?;
     for (number, node) in nodes.iter().enumerate() {
         put_node(text, number, node)?;
     }
     Ok(())
+}
+
+/// Appends the table of one node alone, with its number, to a text. If memory can't be allocated, the text can contain a prefix of
+/// it.
+#[tactic(auto, using(crate::proofs::Pieces::two), unfolding(crate::specs::Tables::heads))]
+pub fn put_node_table(text: &mut Vec<u8>, number: usize, node: &DrawnNode) -> Result<(), AllocError>
+    ensures { OnOk result (text.new.items ≡ text.old.items ++ node_table number node.now) }
+{
+    put(text, HEADS)?;
+    put_node(text, number, node)
 }
 
 #[tactic(auto, using(crate::proofs::Pieces::three), unfolding(crate::specs::Tables::node_lines))]
@@ -58,15 +47,13 @@ fn put_node(text: &mut Vec<u8>, number: usize, node: &DrawnNode) -> PutResult
     ensures { OnOk result (text.new.items ≡ text.old.items ++ node_lines number node.now) }
 {
     put_node_line(text, number, node)?;
-    put_columns(text, number, node)?;
-    put_stuck_lines(text, number, node.stuck.as_slice())
-}
-
-// The number of times each page was found pinned, and the event since which it waits.
-fn put_stuck_lines(text: &mut Vec<u8>, number: usize, pages: &[StuckPage]) -> PutResult
-    ensures { OnOk result (text.new.items ≡ text.old.items ++ stuck_lines number pages.now) }
-{
-    for page in pages {
+    let width = u128::from(node.width);
+    for (place, column) in node.columns.iter().enumerate() {
+        let first = width * place as u128;
+        let last = (first + width).min(node.prefixes).saturating_sub(1);
+        put_column(text, number, first, last, column)?;
+    }
+    for page in node.stuck.iter() {
         draw!(text;
             Bytes(b"stuck") Field(number as u128) Field(u128::from(page.page.0))
             Field(u128::from(page.finds)) Field(u128::from(page.since)) Bytes(b"\n")
@@ -75,7 +62,7 @@ fn put_stuck_lines(text: &mut Vec<u8>, number: usize, pages: &[StuckPage]) -> Pu
     Ok(())
 }
 
-#[tactic(auto, using(crate::proofs::Pieces::four), unfolding(crate::specs::Tables::node_line))]
+#[tactic(auto, using(crate::proofs::Pieces::four), unfolding(crate::specs::Tables::node_line, crate::specs::Tables::node_numbers))]
 fn put_node_line(text: &mut Vec<u8>, number: usize, node: &DrawnNode) -> PutResult
     ensures { OnOk result (text.new.items ≡ text.old.items ++ node_line number node.now) }
 {
@@ -85,7 +72,16 @@ fn put_node_line(text: &mut Vec<u8>, number: usize, node: &DrawnNode) -> PutResu
         Field(u128::from(shape.order))
     )?;
     put_threshold(text, shape.underused)?;
-    put_node_numbers(text, node)?;
+    let last = &node.last;
+    draw!(text;
+        Field(node.prefixes.saturating_sub(1)) Field(u128::from(node.width))
+        Field(u128::from(last.queue)) Field(u128::from(last.in_batches)) Field(last.held)
+        Field(last.given) Field(u128::from(last.splits)) Field(u128::from(last.underused_splits))
+        Field(u128::from(last.pinned_tries)) Field(u128::from(last.wait))
+        Field(u128::from(last.pages.allocated)) Field(u128::from(last.pages.partly_mapped))
+        Field(u128::from(last.pages.queued)) Field(u128::from(last.pages.in_batch))
+        Field(u128::from(last.pages.split))
+    )?;
     put_illegal(text, &node.illegal)
 }
 
@@ -104,22 +100,6 @@ fn put_illegal(text: &mut Vec<u8>, illegal: &Option<IllegalEvent>) -> PutResult
     }
 }
 
-#[tactic(auto, unfolding(crate::specs::Tables::node_numbers))]
-fn put_node_numbers(text: &mut Vec<u8>, node: &DrawnNode) -> PutResult
-    ensures { OnOk result (text.new.items ≡ text.old.items ++ node_numbers node.now) }
-{
-    let last = &node.last;
-    draw!(text;
-        Field(node.prefixes.saturating_sub(1)) Field(u128::from(node.width))
-        Field(u128::from(last.queue)) Field(u128::from(last.in_batches)) Field(last.held)
-        Field(last.given) Field(u128::from(last.splits)) Field(u128::from(last.underused_splits))
-        Field(u128::from(last.pinned_tries)) Field(u128::from(last.wait))
-        Field(u128::from(last.pages.allocated)) Field(u128::from(last.pages.partly_mapped))
-        Field(u128::from(last.pages.queued)) Field(u128::from(last.pages.in_batch))
-        Field(u128::from(last.pages.split))
-    )
-}
-
 fn put_threshold(text: &mut Vec<u8>, threshold: Option<u32>) -> PutResult
     ensures { OnOk result (text.new.items ≡ text.old.items ++ threshold_field threshold) }
 {
@@ -129,19 +109,7 @@ fn put_threshold(text: &mut Vec<u8>, threshold: Option<u32>) -> PutResult
     }
 }
 
-fn put_columns(text: &mut Vec<u8>, number: usize, node: &DrawnNode) -> PutResult
-    ensures { OnOk result (text.new.items ≡ text.old.items ++ column_lines number node.now.width node.now.prefixes 0 node.now.columns.items) }
-{
-    let width = u128::from(node.width);
-    for (place, column) in node.columns.iter().enumerate() {
-        let first = width * place as u128;
-        let last = (first + width).min(node.prefixes).saturating_sub(1);
-        put_column(text, number, first, last, column)?;
-    }
-    Ok(())
-}
-
-#[tactic(auto, using(crate::proofs::Pieces::seven), unfolding(crate::specs::Tables::column_line))]
+#[tactic(auto, using(crate::proofs::Pieces::seven), unfolding(crate::specs::Tables::column_line, crate::specs::Tables::column_numbers))]
 fn put_column(
     text: &mut Vec<u8>,
     number: usize,
@@ -152,7 +120,16 @@ fn put_column(
     ensures { OnOk result (text.new.items ≡ text.old.items ++ column_line number first last column.now) }
 {
     draw!(text; Bytes(b"column") Field(number as u128) Field(first) Field(last))?;
-    put_column_numbers(text, column)?;
+    draw!(text;
+        Field(column.queue.least) Field(column.queue.greatest) Field(column.in_batches.least)
+        Field(column.in_batches.greatest) Field(column.held.least) Field(column.held.greatest)
+        Field(column.given.least) Field(column.given.greatest) Field(column.splits.least)
+        Field(column.splits.greatest) Field(column.underused_splits.least)
+        Field(column.underused_splits.greatest) Field(column.pinned_tries.least)
+        Field(column.pinned_tries.greatest) Field(column.wait.least) Field(column.wait.greatest)
+        Field(column.pages.allocated) Field(column.pages.partly_mapped) Field(column.pages.queued)
+        Field(column.pages.in_batch) Field(column.pages.split)
+    )?;
     put(text, b"\t")?;
     put_stages(text, &column.stages)?;
     put(text, b"\t")?;
@@ -165,15 +142,8 @@ fn put_callers(text: &mut Vec<u8>, callers: u64) -> PutResult
     ensures { OnOk result (text.new.items ≡ text.old.items ++ caller_words callers) }
 {
     if callers == 0 {
-        put(text, b"-")
-    } else {
-        put_caller_items(text, callers)
+        return put(text, b"-");
     }
-}
-
-fn put_caller_items(text: &mut Vec<u8>, callers: u64) -> PutResult
-    ensures { OnOk result (text.new.items ≡ text.old.items ++ callers_joined callers) }
-{
     for caller in 0..SHOWN_CALLERS {
         put_caller_item(text, callers, caller)?;
     }
@@ -198,38 +168,17 @@ fn put_stages(text: &mut Vec<u8>, stages: &[Option<Stage>]) -> PutResult
     ensures { OnOk result (text.new.items ≡ text.old.items ++ stage_letters stages.now) }
 {
     for stage in stages {
-        put(text, letter_of(*stage))?;
+        let letter = match stage {
+            None => b"-",
+            Some(Stage::Allocated) => b"a",
+            Some(Stage::PartlyMapped) => b"m",
+            Some(Stage::Queued) => b"q",
+            Some(Stage::InBatch) => b"b",
+            Some(Stage::Split) => b"s",
+        };
+        put(text, letter)?;
     }
     Ok(())
-}
-
-fn letter_of(stage: Option<Stage>) -> &'static [u8]
-    ensures { result.now ≡ stage_letter stage }
-{
-    match stage {
-        None => b"-",
-        Some(Stage::Allocated) => b"a",
-        Some(Stage::PartlyMapped) => b"m",
-        Some(Stage::Queued) => b"q",
-        Some(Stage::InBatch) => b"b",
-        Some(Stage::Split) => b"s",
-    }
-}
-
-#[tactic(auto, unfolding(crate::specs::Tables::column_numbers))]
-fn put_column_numbers(text: &mut Vec<u8>, column: &Column) -> PutResult
-    ensures { OnOk result (text.new.items ≡ text.old.items ++ column_numbers column.now) }
-{
-    draw!(text;
-        Field(column.queue.least) Field(column.queue.greatest) Field(column.in_batches.least)
-        Field(column.in_batches.greatest) Field(column.held.least) Field(column.held.greatest)
-        Field(column.given.least) Field(column.given.greatest) Field(column.splits.least)
-        Field(column.splits.greatest) Field(column.underused_splits.least)
-        Field(column.underused_splits.greatest) Field(column.pinned_tries.least)
-        Field(column.pinned_tries.greatest) Field(column.wait.least) Field(column.wait.greatest)
-        Field(column.pages.allocated) Field(column.pages.partly_mapped) Field(column.pages.queued)
-        Field(column.pages.in_batch) Field(column.pages.split)
-    )
 }
 
 /// Appends a tab and a number.

@@ -1,7 +1,6 @@
 //! The data of a column's prefixes.
 ghost use Rattle.std.specs.Prelude.{◌≡◌, ◌^◌, [], ◌∷◌};
-ghost use Rattle.thp_metrics.specs.Columns.{column_of};
-ghost use Rattle.thp_metrics.specs.Joining.{both, AreWithin, FitTogether};
+ghost use Rattle.thp_metrics.specs.Prelude.{AreWithin, FitTogether, both, column_of};
 
 use crate::numbers::{Numbers, SHOWN_PAGES};
 use crate::pages::PageSums;

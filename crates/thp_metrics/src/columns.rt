@@ -43,7 +43,12 @@ impl Columns {
         let mut past = Trace::new();
         past.push(first);
         Ok(Columns {
-            folded: Folded::new(alloc, first)?,
+            folded: Folded {
+                full: Vec::with_capacity(alloc, MAX_COLUMNS)?,
+                last: Column::of(first),
+                room: 0,
+                width: 1,
+            },
             prefixes: 1,
             past,
         })

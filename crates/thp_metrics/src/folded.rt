@@ -1,14 +1,11 @@
 //! Columns that are merged in pairs when there are too many.
-ghost use Rattle.std.specs.Prelude.{◌≡◌, ◌+◌, ◌*◌, ◌<◌, ◌^◌, List, [], ◌∷◌, ◌++◌, length, vec_capacity, IfOk};
-ghost use Rattle.thp_metrics.specs.Columns.{column_of};
-ghost use Rattle.thp_metrics.specs.Joining.{in_pairs, AreLow, AreWithin};
-ghost use Rattle.thp_metrics.specs.Folding.{Folds, HasRoomForOne};
+ghost use Rattle.std.specs.Prelude.{◌≡◌, ◌+◌, ◌*◌, ◌<◌, ◌^◌, List, [], ◌∷◌, ◌++◌, length, vec_capacity};
+ghost use Rattle.thp_metrics.specs.Prelude.{AreLow, AreWithin, Folds, HasRoomForOne, column_of, in_pairs};
 ghost use Rattle.thp_metrics.specs.declared.numbers.Numbers.{Numbers};
 
 use crate::column::Column;
 use crate::columns::MAX_COLUMNS;
 use crate::numbers::Numbers;
-use std::alloc::{AllocError, Global};
 
 // Columns of one width. `Folds` defines their content.
 #[derive(Drop)]
@@ -24,18 +21,6 @@ pub(crate) struct Folded {
 }
 
 impl Folded {
-    // The columns of one prefix.
-    pub(crate) fn new(alloc: Global, first: &Numbers) -> Result<Folded, AllocError>
-        ensures { IfOk result (Folds (first.now ∷ [])) }
-    {
-        Ok(Folded {
-            full: Vec::with_capacity(alloc, MAX_COLUMNS)?,
-            last: Column::of(first),
-            room: 0,
-            width: 1,
-        })
-    }
-
     // Adds a prefix.
     pub(crate) fn push(&mut self, next: &Numbers)
         requires { HasRoomForOne self.old }

@@ -2,10 +2,7 @@
 ghost use Rattle.std.specs.Prelude.{◌≡◌, ◌≤◌, ◌<◌, ◌+◌, ◌^◌, [], length, IfOk, IfErr};
 ghost use Rattle.thp_history.specs.Prelude.{least_free, Fits, IsLegal, max_order, min_order};
 ghost use Rattle.thp_check.specs.Prelude.{Explains, with_event};
-ghost use Rattle.thp_metrics.specs.Following.{staged, CountsBatches};
-ghost use Rattle.thp_metrics.specs.Series.{numbers_at, series};
-ghost use Rattle.thp_metrics.specs.Stages.{pages_at, stages_at};
-ghost use Rattle.thp_metrics.specs.Stuck.{AreStuck};
+ghost use Rattle.thp_metrics.specs.Prelude.{AreStuck, CountsBatches, numbers_at, pages_at, series, staged, stages_at};
 
 use crate::batch_counts::BatchCounts;
 use crate::columns::Columns;

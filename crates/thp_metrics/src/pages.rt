@@ -1,8 +1,6 @@
 //! The numbers of pages in each stage.
 ghost use Rattle.std.specs.Prelude.{◌≡◌, [], ◌∷◌, ◌^◌};
-ghost use Rattle.thp_metrics.specs.Columns.{sums_of};
-ghost use Rattle.thp_metrics.specs.Following.{entered, left, MayEnter, MayLeave};
-ghost use Rattle.thp_metrics.specs.Joining.{added, AreWithin, FitTogether};
+ghost use Rattle.thp_metrics.specs.Prelude.{AreWithin, FitTogether, MayEnter, MayLeave, added, entered, left, sums_of};
 
 use crate::numbers::Numbers;
 use crate::stage::Stage;

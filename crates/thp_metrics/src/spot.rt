@@ -2,8 +2,7 @@
 ghost use Rattle.std.specs.Prelude.{◌≡◌, Some};
 ghost use Rattle.std.specs.Option.{option_and_then};
 ghost use Rattle.thp_journal_writer.specs.Prelude.{event_page};
-ghost use Rattle.thp_metrics.specs.Spots.{batch_by, batch_of, home, home_by};
-ghost use Rattle.thp_metrics.specs.Stages.{stage_by, stage_of};
+ghost use Rattle.thp_metrics.specs.Prelude.{batch_of, home, stage_of};
 
 use crate::stage::{Stage, stage_by};
 use thp_check::{Replay, Standing};
@@ -41,25 +40,10 @@ pub(crate) fn spot_in(replay: &Replay, what: &What) -> PagePlace
     let stage = stage_by(live.split, live.standing, live.partly_mapped);
     PagePlace {
         stage: Some(stage),
-        home: home_by(stage, live.block),
-        batch: batch_by(live.standing),
-    }
-}
-
-fn home_by(stage: Stage, block: u32) -> Option<u32>
-    ensures { result ≡ home_by (Some stage) (Some block) }
-{
-    match stage {
-        Stage::Queued | Stage::InBatch => Some(block),
-        _ => None,
-    }
-}
-
-fn batch_by(standing: Standing) -> Option<u32>
-    ensures { result ≡ batch_by standing }
-{
-    match standing {
-        Standing::Batch(caller) => Some(caller),
-        _ => None,
+        home: matches!(stage, Stage::Queued | Stage::InBatch).then_some(live.block),
+        batch: match live.standing {
+            Standing::Batch(caller) => Some(caller),
+            _ => None,
+        },
     }
 }

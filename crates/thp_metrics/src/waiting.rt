@@ -4,13 +4,10 @@ ghost use Rattle.std.specs.Option.{option_and_then};
 ghost use Rattle.thp_history.specs.Prelude.{Fits};
 ghost use Rattle.thp_journal_writer.specs.Prelude.{event_page};
 ghost use Rattle.thp_check.specs.Prelude.{with_event};
-ghost use Rattle.thp_metrics.specs.Finding.{stuck_among};
-ghost use Rattle.thp_metrics.specs.Spots.{home};
-ghost use Rattle.thp_metrics.specs.Stuck.{AreStuck};
-ghost use Rattle.thp_metrics.specs.Waits.{longest_wait};
+ghost use Rattle.thp_metrics.specs.Prelude.{AreStuck, home, longest_wait, stuck_among};
 
 use crate::arrivals::Arrivals;
-use crate::finds::PinCounts;
+use crate::finds::{NO_PINS, PinCount, count_find};
 use crate::stuck_page::StuckPage;
 use std::alloc::{AllocError, Global};
 use std::marker::Model;
@@ -25,21 +22,21 @@ pub struct Waiting {
     // the number of events
     events: u64,
     arrivals: Arrivals,
-    finds: PinCounts,
+    // by block
+    finds: Vec<PinCount>,
     // has no bytes
     past: Trace<Event>,
 }
 
 impl Model for Waiting {
     ghost use Rattle.thp_check.specs.Prelude.{Replayed};
-    ghost use Rattle.thp_metrics.specs.Arrivals.{KeepsWaits};
-    ghost use Rattle.thp_metrics.specs.Finding.{KeepsFinds};
+    ghost use Rattle.thp_metrics.specs.Prelude.{KeepsFinds, KeepsWaits};
 
     ghost Value = { Replayed };
 
     ghost view = { λ w. record { shape = w.shape; history = w.past } };
 
-    ghost invariant = { λ w. KeepsWaits w.shape w.past w.events w.arrivals × KeepsFinds w.shape w.past w.finds };
+    ghost invariant = { λ w. KeepsWaits w.shape w.past w.events w.arrivals × KeepsFinds w.shape w.past w.finds.items };
 }
 
 impl Waiting {
@@ -52,7 +49,7 @@ impl Waiting {
             shape,
             events: 0,
             arrivals: Arrivals::new(alloc, shape.blocks)?,
-            finds: PinCounts::new(alloc, shape.blocks)?,
+            finds: vec![in alloc; NO_PINS; shape.blocks as usize]?,
             past: Trace::new(),
         })
     }
@@ -66,7 +63,7 @@ impl Waiting {
         ensures { self.new ≡ with_event self.old event.now }
     {
         self.events += 1;
-        self.finds.note(&event.what, after);
+        count_find(&mut self.finds, &event.what, after);
         match (before, after) {
             (None, Some(block)) => self.arrivals.come(block, self.events),
             (Some(block), None) => self.arrivals.go(block),
@@ -97,7 +94,7 @@ impl Waiting {
 
 // The pages of these blocks that were found pinned, in the same order.
 fn stuck_among(
-    finds: &PinCounts,
+    finds: &[PinCount],
     arrivals: &Arrivals,
     alloc: Global,
     blocks: &[u32],
@@ -107,7 +104,7 @@ fn stuck_among(
 {
     let mut pages = Vec::new(alloc);
     for block in blocks {
-        let found = finds.at(*block);
+        let found = finds[*block as usize];
         if found.finds > 0 {
             pages.push(StuckPage {
                 page: found.page,

@@ -9,7 +9,7 @@ use Rattle.std.proofs.lemmas.List.Folds.{list_all-append}
 use Rattle.std.proofs.lemmas.Option.{cond_some}
 use Rattle.std.proofs.Math.Seq.{take-length}
 use Rattle.thp_history.specs.Prelude.{max_batch}
-use Rattle.thp_script.specs.Prelude.{Command, Op, CommandWord, OfNode, OfPage, OfRange, OfBatch, Settings, Call, FastCommand, FastLine, FastOperands, FastNumber, batch_command, command_of, node_command, page_command, range_command, Reading, reading_of, ◌>>=◌, by_words, says_nothing, section_or_call, Text, is_numeral, lines_of, number_of, pieces_at, words_of}
+use Rattle.thp_script.specs.Prelude.{Command, Op, CommandWord, OfNode, OfPage, OfRange, OfBatch, Settings, Call, FastCommand, FastLine, IsName, FastOperands, FastNumber, batch_command, command_of, node_command, page_command, range_command, Reading, reading_of, by_words, section_or_call, Text, is_numeral, lines_of, number_of, pieces_at, words_of}
 use Rattle.thp_script.specs.declared.script.Op.TheVariants.{Alloc, Close, Count, SplitNext, PutBack}
 use Rattle.thp_script.specs.declared.script.BatchCall.TheVariants as batch
 use Rattle.thp_script.specs.declared.script.RangeCall.TheVariants as range
@@ -147,13 +147,6 @@ parse_range_fast s op text t1 t2 t3 rest node page first count a b d f = record 
 -- what holds of each value holds of the one that there is
 pub of_some : {A : Type 0} (o : Option A) (P Q : A → Type 0) → ((x : A) → P x → Q x) → IfSome o P → IfSome o Q
 of_some x y z f h = grind arith
-
--- a name of a command whose operands are read so: no byte of it ends a word or a line, and no comment begins with it
-pub record IsName (s : Settings) (name : Text) (reading : Reading) : Type 0 where
-  pub one_word : pieces_at 32 name ≡ name ∷ []
-  pub one_line : pieces_at 10 name ≡ name ∷ []
-  pub says : (line : Text) → says_nothing (name ++ 32 ∷ line) ≡ false
-  pub reads : (words : List Text) → by_words s (name ∷ words) ≡ (reading s words >>= λ command. Ok (Call command))
 
 begins_with_line : (text line rest : Text) → lines_of line ≡ line ∷ [] → text ≡ line ++ 10 ∷ rest → lines_of text ≡ line ∷ lines_of rest
 begins_with_line text line rest one e = rw e (whole_front 10 line rest one)

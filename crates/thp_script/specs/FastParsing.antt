@@ -1,17 +1,18 @@
 -- Fast parsing of commands at the beginning of a text, in one pass over its bytes. No public clause cites this module.
-use Rattle.std.specs.Prelude.{◌≡◌, ◌<◌, ◌+◌, ℕ, All, IfSome, List, ◌∷◌, [], ◌++◌, length, Option, Result, Ok}
+use Rattle.std.specs.Prelude.{◌≡◌, ◌<◌, ◌+◌, ℕ, false, All, IfSome, List, ◌∷◌, [], ◌++◌, length, Option, Result, Ok}
 use Rattle.thp_script.specs.declared.fault.TextKind.{TextKind}
 use Rattle.thp_script.specs.declared.script.Command.{Command}
 use Rattle.thp_script.specs.declared.script.Script.{Script}
 use Rattle.thp_script.specs.declared.settings.Settings.{Settings}
 use Rattle.thp_script.specs.declared.statement.Statement.TheVariants.{Call}
-use Rattle.thp_script.specs.Commands.{IsCommandFor}
+use Rattle.thp_script.specs.Commands.{IsCommandFor, Reading}
 use Rattle.thp_script.specs.Limits.{max_input}
 use Rattle.thp_script.specs.Parts.{lines_spell}
+use Rattle.thp_script.specs.Readings.{◌>>=◌}
 use Rattle.thp_script.specs.Scripts.{Fault}
-use Rattle.thp_script.specs.Statements.{statement_of, IsSectionFor}
+use Rattle.thp_script.specs.Statements.{by_words, says_nothing, statement_of, IsSectionFor}
 use Rattle.thp_script.specs.TextInParts.{told_after, IsCounted, TextSoFar}
-use Rattle.thp_script.specs.Words.{Text, lines_of, words_of}
+use Rattle.thp_script.specs.Words.{Text, lines_of, pieces_at, words_of}
 
 -- the text begins with a line of these words, and continues with `rest`
 pub record FastLine (words : List Text) (text rest : Text) : Type 0 where
@@ -32,6 +33,13 @@ pub record FastCommand (s : Settings) (text : Text) (command : Command) (rest : 
   pub lines : lines_of text ≡ line ∷ lines_of rest
   pub shorter : length rest < length text
   pub says : Ok (Call command) ≡ statement_of s line
+
+-- a name of a command whose operands are read so: no byte of it ends a word or a line, and no comment begins with it
+pub record IsName (s : Settings) (name : Text) (reading : Reading) : Type 0 where
+  pub one_word : pieces_at 32 name ≡ name ∷ []
+  pub one_line : pieces_at 10 name ≡ name ∷ []
+  pub says : (line : Text) → says_nothing (name ++ 32 ∷ line) ≡ false
+  pub reads : (words : List Text) → by_words s (name ∷ words) ≡ (reading s words >>= λ command. Ok (Call command))
 
 -- the result for the text read, the rest of a part and the text to follow
 abbrev pub spelled_after : Settings → List (List Command) → Option ℕ → TextSoFar → Text → Text → Result Script Fault

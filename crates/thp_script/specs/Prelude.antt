@@ -1,7 +1,7 @@
 -- Re-exports the definitions and types of this library: other files import those that they cite from here, in one line.
 pub use Rattle.thp_script.specs.Commands.{FitsBatch, IsCommandFor, Reading, command_in, commands, node_number, number_up_to, one_word, two_words}
 unfoldable pub use Rattle.thp_script.specs.Commands.{batch_command, command_of, node_command, page_command, range_command}
-pub use Rattle.thp_script.specs.FastParsing.{FastCommand, FastLine, FastOperands, IsPartRead, spelled_after}
+pub use Rattle.thp_script.specs.FastParsing.{FastCommand, FastLine, FastOperands, IsName, IsPartRead, spelled_after}
 pub use Rattle.thp_script.specs.FastWords.{FastNumber}
 pub use Rattle.thp_script.specs.Limits.{max_counted, max_input, max_nodes, max_workers}
 pub use Rattle.thp_script.specs.Lines.{fault_of_line, is_empty, is_printable}

@@ -1,13 +1,10 @@
 //! Scripts as values, and the words of their commands.
 ghost use Rattle.std.specs.Prelude.{◌≡◌, IfSome};
-ghost use Rattle.thp_script.specs.FastParsing.{FastCommand};
-ghost use Rattle.thp_script.specs.Operands.{batch_op, range_op, Names};
+ghost use Rattle.thp_script.specs.FastParsing.{FastCommand, IsName};
+ghost use Rattle.thp_script.specs.Operands.{batch_op, range_op, reading_of, Names};
 ghost use Rattle.thp_script.specs.PageCommands.{operand, page_call_of, page_op};
 
-use crate::fast_parsing::{
-    parse_batch_command_fast, parse_node_command_fast, parse_page_command_fast,
-    parse_range_command_fast,
-};
+use crate::fast_parsing::parse_operands_fast;
 use crate::fast_words::after_name;
 use crate::fault::TextKind;
 use crate::sequence::Sequence;
@@ -209,68 +206,33 @@ pub(crate) fn command_word(name: &[u8]) -> Result<CommandWord, TextKind>
     }
 }
 
+/// Parses the line that a text begins with, if its command has this name.
 #[inline(always)]
-fn parse_map_fast<'t>(settings: &Settings, text: &'t [u8]) -> Option<(Command, &'t [u8])>
-    ensures { IfSome result (λ read. FastCommand settings.now text.now read.0 read.1.now) }
-{
-    if let Some(operands) = after_name(b"map", text) {
-        return parse_range_command_fast(settings, RangeCall::Map, operands);
-    }
-    let operands = after_name(b"mapwhole", text)?;
-    parse_page_command_fast(settings, PageCall::Gain(Gain::MapWhole), operands)
-}
-
-#[inline(always)]
-fn parse_unmap_fast<'t>(settings: &Settings, text: &'t [u8]) -> Option<(Command, &'t [u8])>
-    ensures { IfSome result (λ read. FastCommand settings.now text.now read.0 read.1.now) }
-{
-    if let Some(operands) = after_name(b"unmap", text) {
-        return parse_range_command_fast(settings, RangeCall::Unmap, operands);
-    }
-    if let Some(operands) = after_name(b"unpin", text) {
-        return parse_page_command_fast(settings, PageCall::Loss(Loss::Unpin), operands);
-    }
-    let operands = after_name(b"unmapwhole", text)?;
-    parse_page_command_fast(settings, PageCall::Loss(Loss::UnmapWhole), operands)
-}
-
-#[inline(always)]
-fn parse_split_or_scan_fast<'t>(settings: &Settings, text: &'t [u8]) -> Option<(Command, &'t [u8])>
-    ensures { IfSome result (λ read. FastCommand settings.now text.now read.0 read.1.now) }
-{
-    if let Some(operands) = after_name(b"splitpmd", text) {
-        return parse_page_command_fast(settings, PageCall::Gain(Gain::SplitPmd), operands);
-    }
-    if let Some(operands) = after_name(b"scan", text) {
-        return parse_batch_command_fast(settings, BatchCall::Scan, operands);
-    }
-    let operands = after_name(b"splitnext", text)?;
-    parse_node_command_fast(settings, Op::SplitNext, operands)
-}
-
-#[inline(always)]
-fn parse_pin_or_put_back_fast<'t>(
+fn parse_named_fast<'t>(
     settings: &Settings,
+    name: &[u8],
+    word: CommandWord,
     text: &'t [u8],
 ) -> Option<(Command, &'t [u8])>
+    requires { IsName settings.now name.now (reading_of word) }
     ensures { IfSome result (λ read. FastCommand settings.now text.now read.0 read.1.now) }
 {
-    if let Some(operands) = after_name(b"pin", text) {
-        return parse_page_command_fast(settings, PageCall::Gain(Gain::Pin), operands);
-    }
-    let operands = after_name(b"putback", text)?;
-    parse_node_command_fast(settings, Op::PutBack, operands)
+    let operands = after_name(name, text)?;
+    parse_operands_fast(settings, word, operands)
 }
 
-#[inline(always)]
-fn parse_count_or_close_fast<'t>(settings: &Settings, text: &'t [u8]) -> Option<(Command, &'t [u8])>
-    ensures { IfSome result (λ read. FastCommand settings.now text.now read.0 read.1.now) }
-{
-    if let Some(operands) = after_name(b"count", text) {
-        return parse_node_command_fast(settings, Op::Count, operands);
-    }
-    let operands = after_name(b"close", text)?;
-    parse_node_command_fast(settings, Op::Close, operands)
+/// Parses the line that a text begins with, if its command is one of these, each given by its name and its operands.
+macro_rules! first_named {
+    ($settings:expr, $text:expr; $($name:literal $kind:ident $call:expr),+) => {{
+        $(
+            if let Some(read) =
+                parse_named_fast($settings, $name, CommandWord::$kind($call), $text)
+            {
+                return Some(read);
+            }
+        )+
+        None
+    }};
 }
 
 /// Parses the command of the line that a text begins with, and returns it with the text after the line. `None` implies nothing
@@ -284,15 +246,27 @@ pub(crate) fn parse_command_fast<'t>(
     ensures { IfSome result (λ read. FastCommand settings.now text.now read.0 read.1.now) }
 {
     match *text.first()? {
-        b'a' => parse_node_command_fast(settings, Op::Alloc, after_name(b"alloc", text)?),
-        b'm' => parse_map_fast(settings, text),
-        b'u' => parse_unmap_fast(settings, text),
-        b's' => parse_split_or_scan_fast(settings, text),
-        b'p' => parse_pin_or_put_back_fast(settings, text),
-        b'c' => parse_count_or_close_fast(settings, text),
-        b't' => parse_batch_command_fast(settings, BatchCall::Take, after_name(b"take", text)?),
-        b'w' => parse_range_command_fast(settings, RangeCall::Write, after_name(b"write", text)?),
-        b'z' => parse_range_command_fast(settings, RangeCall::Zero, after_name(b"zero", text)?),
+        b'a' => first_named!(settings, text; b"alloc" OfNode Op::Alloc),
+        b'm' => first_named!(settings, text;
+            b"map" OfRange RangeCall::Map,
+            b"mapwhole" OfPage PageCall::Gain(Gain::MapWhole)),
+        b'u' => first_named!(settings, text;
+            b"unmap" OfRange RangeCall::Unmap,
+            b"unpin" OfPage PageCall::Loss(Loss::Unpin),
+            b"unmapwhole" OfPage PageCall::Loss(Loss::UnmapWhole)),
+        b's' => first_named!(settings, text;
+            b"splitpmd" OfPage PageCall::Gain(Gain::SplitPmd),
+            b"scan" OfBatch BatchCall::Scan,
+            b"splitnext" OfNode Op::SplitNext),
+        b'p' => first_named!(settings, text;
+            b"pin" OfPage PageCall::Gain(Gain::Pin),
+            b"putback" OfNode Op::PutBack),
+        b'c' => first_named!(settings, text;
+            b"count" OfNode Op::Count,
+            b"close" OfNode Op::Close),
+        b't' => first_named!(settings, text; b"take" OfBatch BatchCall::Take),
+        b'w' => first_named!(settings, text; b"write" OfRange RangeCall::Write),
+        b'z' => first_named!(settings, text; b"zero" OfRange RangeCall::Zero),
         _ => None,
     }
 }

@@ -1,19 +1,50 @@
-use Rattle.std.proofs.Common.{codes}
-use Rattle.thp_script.specs.declared.script.BatchCall.TheVariants as batch
-use Rattle.thp_script.specs.Prelude.{OfNode, OfRange, OfBatch}
-use Rattle.thp_script.specs.declared.script.Op.TheVariants.{Alloc}
-use Rattle.thp_script.specs.declared.script.RangeCall.TheVariants as range
-use Rattle.thp_script.proofs.FastParsingLaws.{alloc_is, take_is, write_is, zero_is, named}
+use Rattle.thp_script.proofs.FastParsingLaws.{alloc_is, close_is, count_is, map_is, mapwhole_is, pin_is, putback_is, scan_is, splitnext_is, splitpmd_is, take_is, unmap_is, unmapwhole_is, unpin_is, write_is, zero_is}
 use Rattle.thp_script.proofs.script.parse_command_fast.Goals as goal
 
-pub returns-in_ok-after_name-in-97 : goal.returns-in_ok-after_name-in-97
-returns-in_ok-after_name-in-97 c = named c.args.settings.now (codes "alloc") (OfNode Alloc) c.args.text.now c.in_ok-after_name-in-97.field-0.now c.parse_node_command_fast.result _ _ (alloc_is c.args.settings.now) c.in_ok-after_name-in-97.ensures c.parse_node_command_fast.ensures
+pub parse_named_fast-requires : goal.parse_named_fast-requires
+parse_named_fast-requires c = alloc_is c.args.settings.now
 
-pub returns-in_ok-after_name-in-116 : goal.returns-in_ok-after_name-in-116
-returns-in_ok-after_name-in-116 c = named c.args.settings.now (codes "take") (OfBatch batch.Take) c.args.text.now c.in_ok-after_name-in-116.field-0.now c.parse_batch_command_fast.result _ _ (take_is c.args.settings.now) c.in_ok-after_name-in-116.ensures c.parse_batch_command_fast.ensures
+pub parse_named_fast-requires-in-109 : goal.parse_named_fast-requires-in-109
+parse_named_fast-requires-in-109 c = map_is c.args.settings.now
 
-pub returns-in_ok-after_name-in-119 : goal.returns-in_ok-after_name-in-119
-returns-in_ok-after_name-in-119 c = named c.args.settings.now (codes "write") (OfRange range.Write) c.args.text.now c.in_ok-after_name-in-119.field-0.now c.parse_range_command_fast.result _ _ (write_is c.args.settings.now) c.in_ok-after_name-in-119.ensures c.parse_range_command_fast.ensures
+pub parse_named_fast-requires-in-109-2 : goal.parse_named_fast-requires-in-109-2
+parse_named_fast-requires-in-109-2 c = mapwhole_is c.args.settings.now
 
-pub returns-in_ok-after_name-in-122 : goal.returns-in_ok-after_name-in-122
-returns-in_ok-after_name-in-122 c = named c.args.settings.now (codes "zero") (OfRange range.Zero) c.args.text.now c.in_ok-after_name-in-122.field-0.now c.parse_range_command_fast-in-122.result _ _ (zero_is c.args.settings.now) c.in_ok-after_name-in-122.ensures c.parse_range_command_fast-in-122.ensures
+pub parse_named_fast-requires-in-117 : goal.parse_named_fast-requires-in-117
+parse_named_fast-requires-in-117 c = unmap_is c.args.settings.now
+
+pub parse_named_fast-requires-in-117-2 : goal.parse_named_fast-requires-in-117-2
+parse_named_fast-requires-in-117-2 c = unpin_is c.args.settings.now
+
+pub parse_named_fast-requires-in-117-3 : goal.parse_named_fast-requires-in-117-3
+parse_named_fast-requires-in-117-3 c = unmapwhole_is c.args.settings.now
+
+pub parse_named_fast-requires-in-115 : goal.parse_named_fast-requires-in-115
+parse_named_fast-requires-in-115 c = splitpmd_is c.args.settings.now
+
+pub parse_named_fast-requires-in-115-2 : goal.parse_named_fast-requires-in-115-2
+parse_named_fast-requires-in-115-2 c = scan_is c.args.settings.now
+
+pub parse_named_fast-requires-in-115-3 : goal.parse_named_fast-requires-in-115-3
+parse_named_fast-requires-in-115-3 c = splitnext_is c.args.settings.now
+
+pub parse_named_fast-requires-in-112 : goal.parse_named_fast-requires-in-112
+parse_named_fast-requires-in-112 c = pin_is c.args.settings.now
+
+pub parse_named_fast-requires-in-112-2 : goal.parse_named_fast-requires-in-112-2
+parse_named_fast-requires-in-112-2 c = putback_is c.args.settings.now
+
+pub parse_named_fast-requires-in-99 : goal.parse_named_fast-requires-in-99
+parse_named_fast-requires-in-99 c = count_is c.args.settings.now
+
+pub parse_named_fast-requires-in-99-2 : goal.parse_named_fast-requires-in-99-2
+parse_named_fast-requires-in-99-2 c = close_is c.args.settings.now
+
+pub parse_named_fast-requires-in-116 : goal.parse_named_fast-requires-in-116
+parse_named_fast-requires-in-116 c = take_is c.args.settings.now
+
+pub parse_named_fast-requires-in-119 : goal.parse_named_fast-requires-in-119
+parse_named_fast-requires-in-119 c = write_is c.args.settings.now
+
+pub parse_named_fast-requires-in-122 : goal.parse_named_fast-requires-in-122
+parse_named_fast-requires-in-122 c = zero_is c.args.settings.now
