@@ -166,13 +166,7 @@ impl NodeState {
     fn may_take(&self, caller: u32) -> bool
         ensures { result ≡ (no_pages (blocks_in self.now.flights caller) || is_taker self.now.taker caller) }
     {
-        if let None = self.flights.first_of(caller) {
-            return true;
-        }
-        match self.taker {
-            Some(taker) => taker == caller,
-            None => false,
-        }
+        self.flights.first_of(caller).is_none() || self.taker == Some(caller)
     }
 
     // A try that splits a page of the caller's flight, with the frames in the event.

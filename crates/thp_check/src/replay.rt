@@ -79,9 +79,7 @@ impl Replay {
         } = self;
         let freed = freed_block(&state, &event.what);
         let unsaid = context_of(&state, &event.what);
-        if let Err(misfit) = state.admit(event) {
-            return Err(misfit);
-        }
+        state.admit(event)?;
         mark(&mut free, taken_block(&event.what), freed);
         tally.count(&event.what, unsaid);
         past.push(event);
