@@ -5,8 +5,7 @@ ghost use Rattle.thp_page.specs.Prelude.{slot_at};
 ghost use Rattle.thp_live_pages.specs.Prelude.{IsFlyingAt, AtSlot};
 ghost use Rattle.thp_history.specs.declared.events.Outcome.{Outcome};
 ghost use Rattle.thp_history.specs.declared.shape.Shape.{Shape};
-ghost use Rattle.thp_check.specs.Flights.{blocks_in};
-ghost use Rattle.thp_check.specs.Meanings.{is_taker};
+ghost use Rattle.thp_check.specs.Prelude.{blocks_in, is_taker};
 
 use crate::flights::Flights;
 use crate::misfit::Misfit;

@@ -1,7 +1,6 @@
 //! A queue of indices: first in, first out, with removal from any position.
 ghost use Rattle.std.specs.Prelude.{◌≡◌, ℕ, ◌+◌, ◌<◌, ◌≤◌, List, [], ◌∷◌, ◌++◌, length, drop, slice_get, Option, Some, None, IfSome, IfNone, Contains};
-ghost use Rattle.thp_links.specs.Indices.{without};
-ghost use Rattle.thp_links.specs.Standing.{SameOutside, Stands};
+ghost use Rattle.thp_links.specs.Prelude.{SameOutside, Stands, without};
 
 use crate::index_list::{Edit, IndexList};
 use crate::link::{Link, NIL};

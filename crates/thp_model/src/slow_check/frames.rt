@@ -1,8 +1,6 @@
 //! Which frames a page holds, which an event gives back, and the outcome of an unmap or an unpin.
 ghost use Rattle.std.specs.Prelude.{◌≡◌, ◌≤◌, ◌&&◌, not};
-ghost use Rattle.thp_history.specs.Limits.{max_order};
-ghost use Rattle.thp_history.specs.Places.{standing};
-ghost use Rattle.thp_history.specs.Frames.{keeps_frame, is_held, released, outcome, places_live, block_in_use};
+ghost use Rattle.thp_history.specs.Prelude.{block_in_use, is_held, keeps_frame, max_order, outcome, places_live, released, standing};
 
 use super::pages::{is_closed, is_live, is_mapped, is_split, is_used, loses_use, pins};
 use super::passing::any_event;

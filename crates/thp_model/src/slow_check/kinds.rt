@@ -1,15 +1,9 @@
 //! Kind by kind: what an event does to a page, why a call is refused, and whether an event fits a history.
 ghost use Rattle.std.specs.Prelude.{◌≡◌, ◌<◌, ◌≤◌, ◌↔◌, ◌&&◌, not, IsTrue, true, false, None, Some, IfOk, slice_get};
-ghost use Rattle.thp_history.specs.Limits.{max_order};
+ghost use Rattle.thp_history.specs.Prelude.{FitsAlloc, FitsBy, Gives, allocates, closes, covers, frees, has_page, is_alloc, is_closed, is_dropped, is_freed, is_held, is_partly_mapped, is_split, is_worth_split, maps, maps_whole, max_order, pins, pins_page, splits, standing, unmaps, unmaps_some, unmaps_whole, unpins_page, writes, zero_after, zeroes};
 ghost use Rattle.thp_history.specs.declared.shape.Shape.{Shape};
-ghost use Rattle.thp_history.specs.Counts.{maps, unmaps, maps_whole, unmaps_whole, pins, pins_page, unpins_page, allocates, is_alloc, is_closed, is_freed, is_split, frees, splits, closes};
-ghost use Rattle.thp_history.specs.Sets.{covers};
-ghost use Rattle.thp_history.specs.Places.{has_page, standing};
-ghost use Rattle.thp_history.specs.Frames.{is_held};
 ghost use Rattle.thp_history.specs.Refusals as call;
 ghost use Rattle.thp_history.specs.Refusals.{refusal, first_of, no_page, bad_range, split_page, some_of};
-ghost use Rattle.thp_history.specs.Underused.{writes, zeroes, zero_after, unmaps_some, is_partly_mapped, is_worth_split};
-ghost use Rattle.thp_history.specs.Legal.{FitsBy, FitsAlloc, Gives, is_dropped};
 ghost use Rattle.thp_model.specs.Lists.{AreLists};
 
 use super::frames;

@@ -1,7 +1,6 @@
 //! The state of one page after a history: its map counts, its pins and its states.
 ghost use Rattle.std.specs.Prelude.{◌≡◌, ◌≤◌};
-ghost use Rattle.thp_history.specs.Limits.{max_order};
-ghost use Rattle.thp_history.specs.Counts.{allocations, total, is_split, whole, own, pins, is_mapped, loses_use, is_live, is_closed, is_used};
+ghost use Rattle.thp_history.specs.Prelude.{allocations, is_closed, is_live, is_mapped, is_split, is_used, loses_use, max_order, own, pins, total, whole};
 
 use super::kinds::{
     allocates, closes, frees, is_alloc, maps, maps_whole, pins_page, splits, unmaps, unmaps_whole,

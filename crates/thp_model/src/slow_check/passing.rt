@@ -1,9 +1,7 @@
 //! Counts and tests over events, and over the numbers below a bound.
 ghost use Rattle.std.specs.Prelude.{◌≡◌, ℕ, Bool};
 ghost use Rattle.thp_history.specs.declared.events.What.{What};
-ghost use Rattle.thp_history.specs.Asking.{AsksBelow, AsksEvents};
-ghost use Rattle.thp_history.specs.History.{count_of, some_event};
-ghost use Rattle.thp_history.specs.Sets.{some_below};
+ghost use Rattle.thp_history.specs.Prelude.{AsksBelow, AsksEvents, count_of, some_below, some_event};
 
 use thp_history::{Event, What};
 

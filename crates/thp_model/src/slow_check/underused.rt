@@ -1,7 +1,6 @@
 //! Which subpages of a page are zero-filled, and whether the page is worth a split.
 ghost use Rattle.std.specs.Prelude.{◌≡◌, ◌≤◌, ◌&&◌};
-ghost use Rattle.thp_history.specs.Limits.{max_order};
-ghost use Rattle.thp_history.specs.Counts.{is_mapped, loses_use};
+ghost use Rattle.thp_history.specs.Prelude.{is_mapped, loses_use, max_order};
 ghost use Rattle.thp_history.specs.Underused.{is_zero_filled, is_partly_mapped, zero_filled, is_underused, is_worth_split, unmaps_some};
 
 use super::kinds::{unmaps_some, zero_after};
