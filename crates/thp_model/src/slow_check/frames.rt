@@ -1,6 +1,6 @@
 //! Which frames a page holds, which an event gives back, and the outcome of an unmap or an unpin.
 ghost use Rattle.std.specs.Prelude.{◌≡◌, ◌≤◌, ◌&&◌, not};
-ghost use Rattle.thp_history.specs.Prelude.{block_in_use, is_held, keeps_frame, max_order, outcome, places_live, released, standing};
+ghost use Rattle.thp_history.specs.Prelude.{block_in_use, is_held, keeps_frame, max_order, outcome, released, standing};
 
 use super::pages::{is_closed, is_live, is_mapped, is_split, is_used, loses_use, pins};
 use super::passing::any_event;
@@ -74,16 +74,12 @@ pub(super) fn outcome(
     Outcome::Stays
 }
 
-// Whether the event allocates a page in the block that is live.
-fn places_live(events: &[Event], block: u32, what: &What) -> bool
-    ensures { result ≡ places_live events.now block what.now }
-{
-    matches!(*what, What::Alloc { page, block: other } if block == other && is_live(events, page))
-}
-
 // Whether the block is that of a live page.
 pub(super) fn block_in_use(events: &[Event], block: u32) -> bool
     ensures { result ≡ block_in_use events.now block }
 {
-    any_event(events, |what| places_live(events, block, what))
+    any_event(events, |what| match *what {
+        What::Alloc { page, block: other } => block == other && is_live(events, page),
+        _ => false,
+    })
 }

@@ -1,6 +1,6 @@
 //! Kind by kind: what an event does to a page, why a call is refused, and whether an event fits a history.
 ghost use Rattle.std.specs.Prelude.{◌≡◌, ◌<◌, ◌≤◌, ◌↔◌, ◌&&◌, not, IsTrue, true, false, None, Some, IfOk, slice_get};
-ghost use Rattle.thp_history.specs.Prelude.{FitsAlloc, FitsBy, Gives, allocates, closes, covers, frees, has_page, is_alloc, is_closed, is_dropped, is_freed, is_held, is_partly_mapped, is_split, is_worth_split, maps, maps_whole, max_order, pins, pins_page, splits, standing, unmaps, unmaps_some, unmaps_whole, unpins_page, writes, zero_after, zeroes};
+ghost use Rattle.thp_history.specs.Prelude.{FitsAlloc, FitsBy, Gives, covers, has_page, is_closed, is_dropped, is_held, is_partly_mapped, is_split, is_worth_split, max_order, pins, standing, unmaps_some, writes, zero_after, zeroes};
 ghost use Rattle.thp_history.specs.declared.shape.Shape.{Shape};
 ghost use Rattle.thp_history.specs.Refusals as call;
 ghost use Rattle.thp_history.specs.Refusals.{refusal, first_of, no_page, bad_range, split_page, some_of};
@@ -14,115 +14,13 @@ use super::places::{Lists, flight, has_page, is_first, is_taking, queue, standin
 use super::underused::{is_partly_mapped, is_worth_split};
 use std::alloc::{AllocError, Global};
 use std::collections::VecDeque;
-use thp_history::{Done, Event, Outcome, PageId, Refusal, Shape, What};
+use thp_history::{Done, Event, PageId, Refusal, Shape, What};
 
 // Whether a range covers subpage i.
 pub(super) fn covers(first: u32, count: u32, i: u32) -> bool
     ensures { result ≡ covers first count i }
 {
     first <= i && u64::from(i) < u64::from(first) + u64::from(count)
-}
-
-// Whether the event adds a mapping of subpage i of the page.
-pub(super) fn maps(what: &What, p: PageId, i: u32) -> bool
-    ensures { result ≡ maps p i what.now }
-{
-    match *what {
-        What::Alloc { page, .. } | What::MapWhole { page } => p == page,
-        What::MapSub { page, first, count } => p == page && covers(first, count, i),
-        _ => false,
-    }
-}
-
-// Whether the event takes a mapping of subpage i of the page away.
-pub(super) fn unmaps(what: &What, p: PageId, i: u32) -> bool
-    ensures { result ≡ unmaps p i what.now }
-{
-    match *what {
-        What::UnmapWhole { page, .. } => p == page,
-        What::UnmapSub {
-            page,
-            first,
-            count,
-            ..
-        } => p == page && covers(first, count, i),
-        _ => false,
-    }
-}
-
-// Whether the event adds a mapping of the whole page.
-pub(super) fn maps_whole(what: &What, p: PageId) -> bool
-    ensures { result ≡ maps_whole p what.now }
-{
-    matches!(*what, What::Alloc { page, .. } | What::MapWhole { page } if page == p)
-}
-
-// Whether the event takes a mapping of the whole page away, or makes it one of each subpage.
-pub(super) fn unmaps_whole(what: &What, p: PageId) -> bool
-    ensures { result ≡ unmaps_whole p what.now }
-{
-    matches!(*what, What::UnmapWhole { page, .. } | What::SplitPmd { page } if page == p)
-}
-
-// Whether the event pins the page.
-pub(super) fn pins_page(what: &What, p: PageId) -> bool
-    ensures { result ≡ pins_page p what.now }
-{
-    matches!(*what, What::Pin { page } if page == p)
-}
-
-// Whether the event takes a pin of the page away.
-pub(super) fn unpins_page(what: &What, p: PageId) -> bool
-    ensures { result ≡ unpins_page p what.now }
-{
-    matches!(*what, What::Unpin { page, .. } if page == p)
-}
-
-// Whether the event allocates the page.
-pub(super) fn allocates(what: &What, p: PageId) -> bool
-    ensures { result ≡ allocates p what.now }
-{
-    matches!(*what, What::Alloc { page, .. } if page == p)
-}
-
-// Whether the event allocates a page.
-pub(super) fn is_alloc(what: &What) -> bool
-    ensures { result ≡ is_alloc what.now }
-{
-    matches!(*what, What::Alloc { .. })
-}
-
-// Whether the outcome is that the page is freed.
-fn is_freed(outcome: Outcome) -> bool
-    ensures { result ≡ is_freed outcome }
-{
-    matches!(outcome, Outcome::Freed)
-}
-
-// Whether the event frees the page.
-pub(super) fn frees(what: &What, p: PageId) -> bool
-    ensures { result ≡ frees p what.now }
-{
-    match *what {
-        What::UnmapWhole { page, outcome, .. }
-        | What::UnmapSub { page, outcome, .. }
-        | What::Unpin { page, outcome, .. } => p == page && is_freed(outcome),
-        _ => false,
-    }
-}
-
-// Whether the event splits the page.
-pub(super) fn splits(what: &What, p: PageId) -> bool
-    ensures { result ≡ splits p what.now }
-{
-    matches!(*what, What::Split { page, .. } if page == p)
-}
-
-// Whether the event closes the node.
-pub(super) fn closes(what: &What) -> bool
-    ensures { result ≡ closes what.now }
-{
-    matches!(*what, What::Close)
 }
 
 // Whether the event fills subpage i of the page with data.
