@@ -7,6 +7,14 @@ use Rattle.thp_check.specs.Prelude.{page_is, caller_is, in_flight_of}
 pub two : (t a b : List ℕ) → t ++ a ++ b ≡ t ++ (a ++ b)
 two t a b = append_assoc t a b
 
+-- three pieces behind a text, the first two of them together
+pub three : (t a b c : List ℕ) → t ++ a ++ (b ++ c) ≡ t ++ (a ++ b ++ c)
+three t a b c = simp append_assoc
+
+-- the line that expects nothing
+pub nothing_line : (t : List ℕ) → t ++ codes "expected: " ++ ended (codes "nothing") ≡ t ++ codes "expected: nothing\n"
+nothing_line t = append_assoc t (codes "expected: ") (ended (codes "nothing"))
+
 -- words behind a page, and behind a caller
 pub page_line : (t words : List ℕ) (p : ℕ) → t ++ codes "page " ++ decimal p ++ 32 ∷ [] ++ ended words ≡ t ++ ended (page_is p words)
 page_line t words p = simp append_assoc

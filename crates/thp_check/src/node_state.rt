@@ -5,8 +5,7 @@ ghost use Rattle.thp_page.specs.Prelude.{slot_at};
 ghost use Rattle.thp_live_pages.specs.Prelude.{IsFlyingAt, AtSlot};
 ghost use Rattle.thp_history.specs.declared.events.Outcome.{Outcome};
 ghost use Rattle.thp_history.specs.declared.shape.Shape.{Shape};
-ghost use Rattle.thp_check.specs.Flights.{blocks_in};
-ghost use Rattle.thp_check.specs.Meanings.{is_taker};
+ghost use Rattle.thp_check.specs.Prelude.{blocks_in, is_taker};
 
 use crate::flights::Flights;
 use crate::misfit::Misfit;
@@ -166,13 +165,7 @@ impl NodeState {
     fn may_take(&self, caller: u32) -> bool
         ensures { result ≡ (no_pages (blocks_in self.now.flights caller) || is_taker self.now.taker caller) }
     {
-        if let None = self.flights.first_of(caller) {
-            return true;
-        }
-        match self.taker {
-            Some(taker) => taker == caller,
-            None => false,
-        }
+        self.flights.first_of(caller).is_none() || self.taker == Some(caller)
     }
 
     // A try that splits a page of the caller's flight, with the frames in the event.

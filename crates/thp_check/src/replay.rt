@@ -2,10 +2,7 @@
 ghost use Rattle.std.specs.Prelude.{◌≡◌, ◌≤◌, ◌<◌, ◌+◌, ◌*◌, ◌^◌, ℕ, [], ◌∷◌, ◌++◌, length, slice_get, IfOk, IfErr, IfSome};
 ghost use Rattle.thp_history.specs.Prelude.{least_free, allocations, is_closed, History, by, Fits, IsLegal, max_order, min_order, queue, in_words, IsContext};
 ghost use Rattle.thp_history.specs.declared.shape.Shape.{Shape};
-ghost use Rattle.thp_check.specs.Freeing.{free_after, taken_block, IsFreed};
-ghost use Rattle.thp_check.specs.Meanings.{Means};
-ghost use Rattle.thp_check.specs.Reasons.{Explains};
-ghost use Rattle.thp_check.specs.Replays.{with_event};
+ghost use Rattle.thp_check.specs.Prelude.{Explains, IsFreed, Means, free_after, taken_block, with_event};
 
 mod reading;
 
@@ -31,9 +28,7 @@ pub struct Replay {
 }
 
 impl Model for Replay {
-    ghost use Rattle.thp_check.specs.Freeing.{MarksFree};
-    ghost use Rattle.thp_check.specs.Meanings.{Means};
-    ghost use Rattle.thp_check.specs.Replays.{Replayed};
+    ghost use Rattle.thp_check.specs.Prelude.{MarksFree, Means, Replayed};
     ghost use Rattle.thp_history.specs.Prelude.{AddsUp};
 
     ghost Value = { Replayed };
@@ -79,9 +74,7 @@ impl Replay {
         } = self;
         let freed = freed_block(&state, &event.what);
         let unsaid = context_of(&state, &event.what);
-        if let Err(misfit) = state.admit(event) {
-            return Err(misfit);
-        }
+        state.admit(event)?;
         mark(&mut free, taken_block(&event.what), freed);
         tally.count(&event.what, unsaid);
         past.push(event);

@@ -35,11 +35,10 @@ impl Shape {
         if self.order < Shape::MIN_ORDER || Shape::MAX_ORDER < self.order {
             return false;
         }
-        let has_low_threshold = match self.underused {
-            None => true,
-            Some(threshold) => threshold < self.subpages(),
-        };
-        has_low_threshold && 1 <= self.blocks && self.blocks <= Shape::MAX_BLOCKS
+        self.underused
+            .is_none_or(|threshold| threshold < self.subpages())
+            && 1 <= self.blocks
+            && self.blocks <= Shape::MAX_BLOCKS
     }
 
     /// Returns whether the shrinker looks for underused pages, that is, whether the switch is on.

@@ -7,6 +7,25 @@ ghost use Rattle.thp_history.specs.Sets.{has, set_of, set_size, covers, one_alon
 use crate::limits::MAX_SUBPAGES;
 use std::marker::Model;
 
+// The set whose words are those of two sets, combined by an operator.
+macro_rules! word_by_word {
+    ($a:expr, $b:expr, $($operator:tt)+) => {{
+        let (a, b) = ($a.words, $b.words);
+        SubSet {
+            words: [
+                a[0] $($operator)+ b[0],
+                a[1] $($operator)+ b[1],
+                a[2] $($operator)+ b[2],
+                a[3] $($operator)+ b[3],
+                a[4] $($operator)+ b[4],
+                a[5] $($operator)+ b[5],
+                a[6] $($operator)+ b[6],
+                a[7] $($operator)+ b[7],
+            ],
+        }
+    }};
+}
+
 /// A set of subpages: numbers below 512. Contracts see it as a list of 512 truth values.
 #[derive(Clone, Copy, Debug)]
 pub struct SubSet {
@@ -123,76 +142,28 @@ impl SubSet {
     pub fn union(self, other: SubSet) -> SubSet
         ensures { result ≡ set_of (λ i. has self i || has other i) }
     {
-        let (a, b) = (self.words, other.words);
-        SubSet {
-            words: [
-                a[0] | b[0],
-                a[1] | b[1],
-                a[2] | b[2],
-                a[3] | b[3],
-                a[4] | b[4],
-                a[5] | b[5],
-                a[6] | b[6],
-                a[7] | b[7],
-            ],
-        }
+        word_by_word!(self, other, |)
     }
 
     /// Returns the subpages of this set that are not in the other.
     pub fn difference(self, other: SubSet) -> SubSet
         ensures { result ≡ set_of (λ i. has self i && not (has other i)) }
     {
-        let (a, b) = (self.words, other.words);
-        SubSet {
-            words: [
-                a[0] & !b[0],
-                a[1] & !b[1],
-                a[2] & !b[2],
-                a[3] & !b[3],
-                a[4] & !b[4],
-                a[5] & !b[5],
-                a[6] & !b[6],
-                a[7] & !b[7],
-            ],
-        }
+        word_by_word!(self, other, & !)
     }
 
     /// Returns the subpages that are in both sets.
     pub fn intersection(self, other: SubSet) -> SubSet
         ensures { result ≡ set_of (λ i. has self i && has other i) }
     {
-        let (a, b) = (self.words, other.words);
-        SubSet {
-            words: [
-                a[0] & b[0],
-                a[1] & b[1],
-                a[2] & b[2],
-                a[3] & b[3],
-                a[4] & b[4],
-                a[5] & b[5],
-                a[6] & b[6],
-                a[7] & b[7],
-            ],
-        }
+        word_by_word!(self, other, &)
     }
 
     /// Returns the subpages that are in exactly one of the sets.
     pub fn symmetric_difference(self, other: SubSet) -> SubSet
         ensures { result ≡ set_of (λ i. one_alone (has self i) (has other i)) }
     {
-        let (a, b) = (self.words, other.words);
-        SubSet {
-            words: [
-                a[0] ^ b[0],
-                a[1] ^ b[1],
-                a[2] ^ b[2],
-                a[3] ^ b[3],
-                a[4] ^ b[4],
-                a[5] ^ b[5],
-                a[6] ^ b[6],
-                a[7] ^ b[7],
-            ],
-        }
+        word_by_word!(self, other, ^)
     }
 
     /// Returns which of the 64 subpages from `64 * at` on are in the set: bit k is set if subpage `64 * at + k` is.

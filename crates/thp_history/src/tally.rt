@@ -1,7 +1,6 @@
 //! The sums of the events of a history: the frames given back, and the node's statistics.
 ghost use Rattle.std.specs.Prelude.{◌≡◌, ◌+◌, ◌<◌, ◌^◌, false};
 ghost use Rattle.std.specs.Int.{from_bool};
-ghost use Rattle.thp_history.specs.Counts.{is_queued};
 ghost use Rattle.thp_history.specs.Sets.{set_size};
 ghost use Rattle.thp_history.specs.Totals.{Adds, HasRoom, with_loss};
 
@@ -108,7 +107,7 @@ impl Tally {
         ensures { self.new ≡ with_loss outcome released.now self.old }
     {
         self.frames_given += u128::from(released.count());
-        self.counters.deferred_split_page += u64::from(is_queued(outcome));
+        self.counters.deferred_split_page += u64::from(outcome == Outcome::Queued);
     }
 
     // Counts the split of a page.
@@ -122,11 +121,4 @@ impl Tally {
         self.counters.underused_split_page += u64::from(context.underused);
         self.counters.split_pmd += u128::from(context.mappings);
     }
-}
-
-#[inline(always)]
-fn is_queued(outcome: Outcome) -> bool
-    ensures { result ≡ is_queued outcome }
-{
-    matches!(outcome, Outcome::Queued)
 }

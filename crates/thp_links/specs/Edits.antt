@@ -1,13 +1,19 @@
 -- The view that contracts have of an `IndexList`.
 use Rattle.std.specs.Prelude.{ℕ, List, [], ◌∷◌, ◌++◌, drop}
 use Rattle.thp_links.specs.Indices.{without}
+use Rattle.thp_links.specs.declared.index_list.Edit.{Edit}
+use Rattle.thp_links.specs.declared.index_list.Edit.TheVariants.{Append, Prepend, Remove, RemoveFirst}
 use Rattle.thp_links.specs.declared.index_list.Edits.{Edits}
-use Rattle.thp_links.specs.declared.index_list.Edits.TheVariants.{Empty, Back', Front', Without', Rest'}
+use Rattle.thp_links.specs.declared.index_list.Edits.TheVariants.{Empty, Then'}
+
+-- the list after one edit
+abbrev pub edited_by : Edit → List ℕ → List ℕ
+edited_by (Append i) xs = xs ++ i ∷ []
+edited_by (Prepend i) xs = i ∷ xs
+edited_by (Remove i) xs = without i xs
+edited_by RemoveFirst xs = drop 1 xs
 
 -- the list after the edits
 abbrev pub edited : Edits → List ℕ
 edited Empty = []
-edited (Back' i shape before) = edited before ++ i ∷ []
-edited (Front' i shape before) = i ∷ edited before
-edited (Without' i shape before) = without i (edited before)
-edited (Rest' shape before) = drop 1 (edited before)
+edited (Then' edit shape before) = edited_by edit (edited before)

@@ -2,7 +2,7 @@
 ghost use Rattle.std.specs.Prelude.{◌≡◌, ℕ, ◌+◌, ◌<◌, ◌≤◌, List, [], ◌∷◌, length, drop, slice_get, Option, Some, None, IfSome, IfNone, Contains};
 ghost use Rattle.thp_links.specs.Standing.{SameOutside, ChainStands};
 
-use crate::index_list::IndexList;
+use crate::index_list::{Edit, IndexList};
 use crate::link::{Link, NIL};
 use crate::table::LinkTable;
 use std::marker::Model;
@@ -58,15 +58,10 @@ impl FreeChain {
     {
         // Shows the proof that every index is below `NIL`.
         let _count = table.len();
-        table.set_link(
-            i,
-            Link {
-                prev: NIL,
-                next: self.head,
-            },
-        );
+        let next = self.head;
+        table.set_link(i, Link { prev: NIL, next });
         self.head = i;
-        self.list.push_front(i);
+        self.list.apply(Edit::Prepend(i));
     }
 
     /// Removes the first index and returns it, or `None` if the chain is empty.
@@ -85,7 +80,7 @@ impl FreeChain {
     {
         let i = self.first()?;
         self.head = table.link(i).next;
-        self.list.pop_front();
+        self.list.apply(Edit::RemoveFirst);
         Some(i)
     }
 
@@ -93,10 +88,6 @@ impl FreeChain {
     pub fn first(&self) -> Option<u32>
         ensures { result ≡ slice_get self.now 0 }
     {
-        if self.head == NIL {
-            None
-        } else {
-            Some(self.head)
-        }
+        (self.head != NIL).then_some(self.head)
     }
 }

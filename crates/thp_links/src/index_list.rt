@@ -2,14 +2,20 @@
 use std::marker::Model;
 use std::snapshot::Snapshot;
 
-// A list, represented by its edits.
+// One change of a list.
+#[derive(Clone, Copy)]
+pub(crate) enum Edit {
+    Append(u32),
+    Prepend(u32),
+    Remove(u32),
+    RemoveFirst,
+}
+
+// A list, represented by its edits, the newest outside.
 #[derive(Drop)]
 enum Edits {
     Empty,
-    Back(u32, Snapshot<Edits>),
-    Front(u32, Snapshot<Edits>),
-    Without(u32, Snapshot<Edits>),
-    Rest(Snapshot<Edits>),
+    Then(Edit, Snapshot<Edits>),
 }
 
 // A list that is visible to contracts only: it has no bytes, and its calls do nothing at run time.
@@ -29,8 +35,8 @@ impl Model for IndexList {
 }
 
 impl IndexList {
-    ghost use Rattle.std.specs.Prelude.{◌≡◌, [], ◌∷◌, ◌++◌, drop};
-    ghost use Rattle.thp_links.specs.Indices.{without};
+    ghost use Rattle.std.specs.Prelude.{◌≡◌, []};
+    ghost use Rattle.thp_links.specs.Edits.{edited_by};
 
     pub(crate) fn new() -> IndexList
         ensures { result ≡ [] }
@@ -40,35 +46,11 @@ impl IndexList {
         }
     }
 
-    pub(crate) fn push_back(&mut self, i: u32)
-        ensures { self.new ≡ self.old ++ i ∷ [] }
+    pub(crate) fn apply(&mut self, edit: Edit)
+        ensures { self.new ≡ edited_by edit self.old }
     {
         let empty = Snapshot::of(&Edits::Empty);
         let edits = std::mem::replace(&mut self.edits, empty);
-        self.edits = Snapshot::of(&Edits::Back(i, edits));
-    }
-
-    pub(crate) fn push_front(&mut self, i: u32)
-        ensures { self.new ≡ i ∷ self.old }
-    {
-        let empty = Snapshot::of(&Edits::Empty);
-        let edits = std::mem::replace(&mut self.edits, empty);
-        self.edits = Snapshot::of(&Edits::Front(i, edits));
-    }
-
-    pub(crate) fn remove(&mut self, i: u32)
-        ensures { self.new ≡ without i self.old }
-    {
-        let empty = Snapshot::of(&Edits::Empty);
-        let edits = std::mem::replace(&mut self.edits, empty);
-        self.edits = Snapshot::of(&Edits::Without(i, edits));
-    }
-
-    pub(crate) fn pop_front(&mut self)
-        ensures { self.new ≡ drop 1 self.old }
-    {
-        let empty = Snapshot::of(&Edits::Empty);
-        let edits = std::mem::replace(&mut self.edits, empty);
-        self.edits = Snapshot::of(&Edits::Rest(edits));
+        self.edits = Snapshot::of(&Edits::Then(edit, edits));
     }
 }

@@ -1,9 +1,8 @@
 //! A queue of indices: first in, first out, with removal from any position.
 ghost use Rattle.std.specs.Prelude.{◌≡◌, ℕ, ◌+◌, ◌<◌, ◌≤◌, List, [], ◌∷◌, ◌++◌, length, drop, slice_get, Option, Some, None, IfSome, IfNone, Contains};
-ghost use Rattle.thp_links.specs.Indices.{without};
-ghost use Rattle.thp_links.specs.Standing.{SameOutside, Stands};
+ghost use Rattle.thp_links.specs.Prelude.{SameOutside, Stands, without};
 
-use crate::index_list::IndexList;
+use crate::index_list::{Edit, IndexList};
 use crate::link::{Link, NIL};
 use crate::table::{LinkTable, set_next, set_prev};
 use std::marker::Model;
@@ -66,19 +65,14 @@ impl Queue {
     {
         // Shows the proof that every index is below `NIL`, as in the calls below.
         let _count = table.len();
-        set_next(table, self.tail, i);
-        table.set_link(
-            i,
-            Link {
-                prev: self.tail,
-                next: NIL,
-            },
-        );
+        let prev = self.tail;
+        set_next(table, prev, i);
+        table.set_link(i, Link { prev, next: NIL });
         let head = if self.len == 0 { i } else { self.head };
         self.head = head;
         self.tail = i;
         self.len += 1;
-        self.list.push_back(i);
+        self.list.apply(Edit::Append(i));
     }
 
     /// Removes index `i` from any position. The other indices keep their order.
@@ -110,7 +104,7 @@ impl Queue {
         self.head = head;
         self.tail = tail;
         self.len -= 1;
-        self.list.remove(i);
+        self.list.apply(Edit::Remove(i));
     }
 
     /// Removes the oldest index and returns it, or `None` if the queue is empty.
@@ -135,7 +129,7 @@ impl Queue {
         self.head = next;
         self.tail = tail;
         self.len -= 1;
-        self.list.pop_front();
+        self.list.apply(Edit::RemoveFirst);
         Some(i)
     }
 

@@ -51,14 +51,8 @@ pub(crate) fn set_next<T: LinkTable>(table: &mut T, at: u32, next: u32)
     ensures rest { T.same_rest table.old table.new }
 {
     if at != NIL {
-        let pair = table.link(at);
-        table.set_link(
-            at,
-            Link {
-                prev: pair.prev,
-                next,
-            },
-        );
+        let prev = table.link(at).prev;
+        table.set_link(at, Link { prev, next });
     }
 }
 
@@ -71,13 +65,7 @@ pub(crate) fn set_prev<T: LinkTable>(table: &mut T, at: u32, prev: u32)
     ensures rest { T.same_rest table.old table.new }
 {
     if at != NIL {
-        let pair = table.link(at);
-        table.set_link(
-            at,
-            Link {
-                prev,
-                next: pair.next,
-            },
-        );
+        let next = table.link(at).next;
+        table.set_link(at, Link { prev, next });
     }
 }

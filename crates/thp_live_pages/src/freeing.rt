@@ -12,10 +12,7 @@ pub fn freed_page(what: &What) -> Option<PageId>
     match *what {
         What::UnmapWhole { outcome, page, .. }
         | What::UnmapSub { outcome, page, .. }
-        | What::Unpin { outcome, page, .. } => match outcome {
-            Outcome::Freed => Some(page),
-            _ => None,
-        },
+        | What::Unpin { outcome, page, .. } => (outcome == Outcome::Freed).then_some(page),
         _ => None,
     }
 }

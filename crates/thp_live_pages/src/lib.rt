@@ -5,7 +5,6 @@
 //!   or unpin (`Outcomes`).
 //! - `Homes` and `Holding` define which block, standing and state a history gives each page, `Flying` whose flight it is in.
 //! - For what replays journals: `free_blocks`, `freeing`.
-//! - `walk`: the blocks of the queue in order.
 //!
 //! For callers' proofs: `Homing`, `Standings` (block and standing of a page in a legal history), `Keeping`, `Admitting`,
 //! `Closing` (refusals), `PageEvents`, `ListEvents`, `Starting` (the store after each event), `Worth` (split candidates),
@@ -16,7 +15,6 @@ mod free_blocks;
 mod freeing;
 mod page_call;
 mod page_store;
-mod walk;
 
 pub use free_blocks::FreeBlocks;
 pub use freeing::freed_page;

@@ -4,18 +4,17 @@ ghost use Rattle.std.specs.Bool.{OnTrue, OnFalse};
 ghost use Rattle.std.specs.Result.{result_err};
 ghost use Rattle.thp_links.specs.Prelude.{without, Stands};
 ghost use Rattle.thp_history.specs.Prelude.{max_order, min_order, gives_frames, is_split_candidate, page_refusal, PageSplit, PageState, gain_call, loss_call, page_call, Gains};
-ghost use Rattle.thp_page.specs.Prelude.{slot_at, HoldsPage, Slot};
+ghost use Rattle.thp_page.specs.Prelude.{slot_at, HoldsPage, SameSlots, Slot};
 ghost use Rattle.thp_live_pages.specs.Flying.{IsFlyingAt};
 ghost use Rattle.thp_live_pages.specs.FreeChains.{IsFreeChain, Relinks};
 ghost use Rattle.thp_live_pages.specs.PageStoreState.{AtSlot, Edits, batch_of, IsElsewhere, LeavesQueue, Lost, Placed, TakesFirst};
 
 use crate::page_call::{give_back, outcome_of};
-use crate::walk::blocks_of;
 use std::alloc::{AllocError, Global};
 use std::marker::Model;
 use thp_history::{Done, Gain, Loss, Outcome, PageCall, PageId, Refusal, Shape, SubSet};
 use thp_links::{FreeChain, LinkTable, Queue};
-use thp_page::{Change, PageTable, Standing};
+use thp_page::{Change, Page, PageTable, Standing};
 
 /// The live pages of a node by block, and the queue of those that wait to be split.
 ///
@@ -116,10 +115,7 @@ impl PageStore {
         requires { IsSome (slot_at self.now.table block) }
         ensures { AtSlot self.now.table block (λ x. (p : ℕ) → result ≡ page_refusal x.page (page_call call p)) }
     {
-        match self.table.page(block) {
-            Some((_, page)) => page.refusal(call),
-            None => unreachable!(),
-        }
+        self.page(block).refusal(call)
     }
 
     /// Adds mappings or a pin, or fills subpages of the page of a block, unless the page refuses that.
@@ -203,11 +199,7 @@ impl PageStore {
         ensures there { IfSome result (IsFlyingAt self.now.table caller page) }
     {
         let block = self.find(page)?;
-        if self.is_in_batch(block, caller) {
-            Some(block)
-        } else {
-            None
-        }
+        self.is_in_batch(block, caller).then_some(block)
     }
 
     /// Returns the number of the page of a block.
@@ -226,10 +218,7 @@ impl PageStore {
         requires { IsSome (slot_at self.now.table block) }
         ensures { AtSlot self.now.table block (λ x. result ≡ x.page.pins) }
     {
-        match self.table.page(block) {
-            Some((_, page)) => page.pins(),
-            None => unreachable!(),
-        }
+        self.page(block).pins()
     }
 
     /// Returns the whole map count of the page of a block.
@@ -237,10 +226,7 @@ impl PageStore {
         requires { IsSome (slot_at self.now.table block) }
         ensures { AtSlot self.now.table block (λ x. result ≡ x.page.whole) }
     {
-        match self.table.page(block) {
-            Some((_, page)) => page.whole(),
-            None => unreachable!(),
-        }
+        self.page(block).whole()
     }
 
     /// Returns whether the page of a block is partly mapped: an unmap removed a subpage's last mapping and left another subpage
@@ -249,10 +235,7 @@ impl PageStore {
         requires { IsSome (slot_at self.now.table block) }
         ensures { AtSlot self.now.table block (λ x. result ≡ x.page.partly) }
     {
-        match self.table.page(block) {
-            Some((_, page)) => page.is_partly(),
-            None => unreachable!(),
-        }
+        self.page(block).is_partly()
     }
 
     /// Returns whether the page of a block is worth a split: it is partly mapped, or a threshold is given and more of its
@@ -261,10 +244,7 @@ impl PageStore {
         requires { IsSome (slot_at self.now.table block) }
         ensures { AtSlot self.now.table block (λ x. result ≡ is_split_candidate threshold x.page) }
     {
-        match self.table.page(block) {
-            Some((_, page)) => page.is_split_candidate(threshold),
-            None => unreachable!(),
-        }
+        self.page(block).is_split_candidate(threshold)
     }
 
     /// Splits the page of a block, which is in a batch, and removes it from the batch. Returns the frames given back: those of
@@ -324,6 +304,18 @@ impl PageStore {
         chain.pop(&mut self.table)
     }
 
+    // The page of a block.
+    #[inline(always)]
+    fn page(&self, block: u32) -> &Page
+        requires { IsSome (slot_at self.now.table block) }
+        ensures { AtSlot self.now.table block (λ x. result.now ≡ x.page) }
+    {
+        match self.table.page(block) {
+            Some((_, page)) => page,
+            None => unreachable!(),
+        }
+    }
+
     // Removes the page of a block from the queue, if it is there.
     fn leave_queue(&mut self, block: u32)
         requires { IsSome (slot_at self.old.table block) }
@@ -354,4 +346,23 @@ fn batch_of(standing: Standing) -> Option<u32>
         Standing::Batch(caller) => Some(caller),
         _ => None,
     }
+}
+
+// The blocks of a queue in the table's links, oldest first. Each link pair is read once.
+fn blocks_of(table: &mut PageTable, queue: &Queue, alloc: Global) -> Result<Vec<u32>, AllocError>
+    requires { Stands queue.now table.old.links }
+    ensures blocks { IfOk result (λ blocks. blocks.items ≡ queue.now) }
+    ensures links { table.new.links ≡ table.old.links }
+    ensures rest { SameSlots table.old table.new }
+    ensures work { table.new.accesses ≤ table.old.accesses + length queue.now }
+{
+    let mut blocks = Vec::with_capacity(alloc, queue.len() as usize)?;
+    let Some(mut block) = queue.front() else {
+        return Ok(blocks);
+    };
+    for _place in 0..queue.len() {
+        blocks.push(block)?;
+        block = table.link(block).next;
+    }
+    Ok(blocks)
 }

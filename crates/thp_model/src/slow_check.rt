@@ -3,9 +3,7 @@
 //! It recomputes everything about a page, the queue, flights and frames for each event, by passes over the events before it. It
 //! keeps nothing between events: it has none of the descriptors, links or tables of a node.
 ghost use Rattle.std.specs.Prelude.{◌≤◌, OnOk, IfErr};
-ghost use Rattle.thp_history.specs.Limits.{max_order, min_order};
-ghost use Rattle.thp_history.specs.Checks.{IsCheckResult};
-ghost use Rattle.thp_history.specs.Legal.{IsLegal};
+ghost use Rattle.thp_history.specs.Prelude.{IsCheckResult, IsLegal, max_order, min_order};
 
 mod frames;
 mod kinds;

@@ -201,11 +201,7 @@ impl Page {
     pub fn is_split_candidate(&self, threshold: Option<u32>) -> bool
         ensures { result ≡ is_split_candidate threshold self.now }
     {
-        self.partly
-            || match threshold {
-                Some(threshold) => self.zero_count() > threshold,
-                None => false,
-            }
+        self.partly || threshold.is_some_and(|threshold| self.zero_count() > threshold)
     }
 
     /// Returns the number of PMD entries that map the whole page.

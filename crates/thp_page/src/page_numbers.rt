@@ -91,23 +91,12 @@ impl PageNumbers {
     {
         let mut block = self.firsts[bucket_of(id)];
         while block != NIL {
-            if is_number(self.numbers[block as usize], id) {
+            if self.numbers[block as usize] == Some(id) {
                 return Some(block);
             }
             block = self.nexts[block as usize];
         }
         None
-    }
-}
-
-// Whether this is the number of a block.
-fn is_number(number: Option<PageId>, id: PageId) -> bool
-    ensures yes { OnTrue result (number ≡ Some id) }
-    ensures no { OnFalse result (number ≢ Some id) }
-{
-    match number {
-        Some(number) => number == id,
-        None => false,
     }
 }
 

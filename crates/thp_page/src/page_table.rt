@@ -160,8 +160,7 @@ impl PageTable {
         requires occupied { IsSome (slot_at self.old block) }
         ensures { self.new ≡ with_slot self.old block (stood (slot_at self.old block) standing) }
     {
-        let descriptor = &mut self.descriptors[block as usize];
-        descriptor.standing = standing;
+        self.descriptors[block as usize].standing = standing;
     }
 }
 

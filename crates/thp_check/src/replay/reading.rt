@@ -60,13 +60,9 @@ impl Replay {
             None => return None,
         };
         let standing = table.standing(block);
+        let threshold = self.state.shape.underused;
         match table.page(block) {
-            Some((_, state)) => Some(LivePage::of(
-                state,
-                block,
-                standing,
-                self.state.shape.underused,
-            )),
+            Some((_, state)) => Some(LivePage::of(state, block, standing, threshold)),
             None => unreachable!(),
         }
     }

@@ -1,13 +1,12 @@
 //! Which frames a page holds, which an event gives back, and the outcome of an unmap or an unpin.
-ghost use Rattle.std.specs.Prelude.{◌≡◌, ◌≤◌, ◌&&◌, not, IfOk};
-ghost use Rattle.thp_history.specs.Limits.{max_order};
-ghost use Rattle.thp_history.specs.Frames.{keeps_frame, is_held, released, outcome, places_live, block_in_use};
+ghost use Rattle.std.specs.Prelude.{◌≡◌, ◌≤◌, ◌&&◌, not};
+ghost use Rattle.thp_history.specs.Prelude.{block_in_use, is_held, keeps_frame, max_order, outcome, released, standing};
 
 use super::pages::{is_closed, is_live, is_mapped, is_split, is_used, loses_use, pins};
 use super::passing::any_event;
-use super::places::stands;
+use super::places::has_page;
 use super::underused::is_zero_filled;
-use std::alloc::{AllocError, Global};
+use std::collections::VecDeque;
 use thp_history::{Event, MAX_SUBPAGES, Outcome, PageId, Shape, SubSet, What};
 
 // Whether a split of the page leaves subpage i its frame.
@@ -49,45 +48,38 @@ pub(super) fn released(shape: Shape, before: &[Event], after: &[Event], page: Pa
     set
 }
 
-// The outcome for the page of an unmap or an unpin.
+// The outcome for the page of an unmap or an unpin; `listed` are the pages on a list before it.
 pub(super) fn outcome(
-    alloc: Global,
     shape: Shape,
     before: &[Event],
     after: &[Event],
     page: PageId,
-) -> Result<Outcome, AllocError>
-    requires { shape.order ≤ max_order }
-    ensures { IfOk result (λ o. o ≡ outcome shape before.now after.now page) }
+    listed: &VecDeque<PageId>,
+) -> Outcome
+    requires order { shape.order ≤ max_order }
+    requires listed { listed.now.items ≡ standing shape before.now }
+    ensures { result ≡ outcome shape before.now after.now page }
 {
-    let stood = stands(alloc, shape, before, page)?;
     if !is_mapped(shape, after, page) && pins(after, page) == 0 {
-        return Ok(Outcome::Freed);
+        return Outcome::Freed;
     }
     if !is_split(before, page)
         && loses_use(shape, before, after, page)
         && is_mapped(shape, after, page)
         && !is_closed(before)
-        && !stood
+        && !has_page(page, listed)
     {
-        return Ok(Outcome::Queued);
+        return Outcome::Queued;
     }
-    Ok(Outcome::Stays)
-}
-
-// Whether the event allocates a page in the block that is live.
-fn places_live(events: &[Event], block: u32, what: &What) -> bool
-    ensures { result ≡ places_live events.now block what.now }
-{
-    match *what {
-        What::Alloc { page, block: other } => block == other && is_live(events, page),
-        _ => false,
-    }
+    Outcome::Stays
 }
 
 // Whether the block is that of a live page.
 pub(super) fn block_in_use(events: &[Event], block: u32) -> bool
     ensures { result ≡ block_in_use events.now block }
 {
-    any_event(events, |what| places_live(events, block, what))
+    any_event(events, |what| match *what {
+        What::Alloc { page, block: other } => block == other && is_live(events, page),
+        _ => false,
+    })
 }

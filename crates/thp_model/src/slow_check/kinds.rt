@@ -1,23 +1,20 @@
 //! Kind by kind: what an event does to a page, why a call is refused, and whether an event fits a history.
 ghost use Rattle.std.specs.Prelude.{◌≡◌, ◌<◌, ◌≤◌, ◌↔◌, ◌&&◌, not, IsTrue, true, false, None, Some, IfOk, slice_get};
-ghost use Rattle.thp_history.specs.Limits.{max_order};
+ghost use Rattle.thp_history.specs.Prelude.{FitsAlloc, FitsBy, Gives, covers, has_page, is_closed, is_dropped, is_held, is_partly_mapped, is_split, is_worth_split, max_order, pins, standing, unmaps_some, writes, zero_after, zeroes};
 ghost use Rattle.thp_history.specs.declared.shape.Shape.{Shape};
-ghost use Rattle.thp_history.specs.Counts.{maps, unmaps, maps_whole, unmaps_whole, pins, pins_page, unpins_page, allocates, is_alloc, is_closed, is_freed, is_split, frees, splits, closes};
-ghost use Rattle.thp_history.specs.Sets.{covers};
-ghost use Rattle.thp_history.specs.Places.{flight, has_page};
-ghost use Rattle.thp_history.specs.Frames.{is_held, released};
 ghost use Rattle.thp_history.specs.Refusals as call;
 ghost use Rattle.thp_history.specs.Refusals.{refusal, first_of, no_page, bad_range, split_page, some_of};
-ghost use Rattle.thp_history.specs.Underused.{writes, zeroes, zero_after, unmaps_some, is_partly_mapped, is_worth_split};
-ghost use Rattle.thp_history.specs.Legal.{FitsBy, FitsAlloc, FitsTaken, FitsSplit, Gives, is_dropped};
+ghost use Rattle.thp_model.specs.Lists.{AreLists};
 
-use super::frames::{block_in_use, is_held, outcome, released};
+use super::frames;
+use super::frames::{block_in_use, is_held, outcome};
 use super::pages::{allocations, is_closed, is_live, is_split, own, pins, total, whole};
 use super::passing::any_below;
-use super::places::{flight, has_page, is_first, is_taking, queue};
+use super::places::{Lists, flight, has_page, is_first, is_taking, queue, standing};
 use super::underused::{is_partly_mapped, is_worth_split};
 use std::alloc::{AllocError, Global};
-use thp_history::{Done, Event, Outcome, PageId, Refusal, Shape, SubSet, What};
+use std::collections::VecDeque;
+use thp_history::{Done, Event, PageId, Refusal, Shape, What};
 
 // Whether a range covers subpage i.
 pub(super) fn covers(first: u32, count: u32, i: u32) -> bool
@@ -26,134 +23,11 @@ pub(super) fn covers(first: u32, count: u32, i: u32) -> bool
     first <= i && u64::from(i) < u64::from(first) + u64::from(count)
 }
 
-// Whether the event adds a mapping of subpage i of the page.
-pub(super) fn maps(what: &What, p: PageId, i: u32) -> bool
-    ensures { result ≡ maps p i what.now }
-{
-    match *what {
-        What::Alloc { page, .. } | What::MapWhole { page } => p == page,
-        What::MapSub { page, first, count } => p == page && covers(first, count, i),
-        _ => false,
-    }
-}
-
-// Whether the event takes a mapping of subpage i of the page away.
-pub(super) fn unmaps(what: &What, p: PageId, i: u32) -> bool
-    ensures { result ≡ unmaps p i what.now }
-{
-    match *what {
-        What::UnmapWhole { page, .. } => p == page,
-        What::UnmapSub {
-            page,
-            first,
-            count,
-            ..
-        } => p == page && covers(first, count, i),
-        _ => false,
-    }
-}
-
-// Whether the event adds a mapping of the whole page.
-pub(super) fn maps_whole(what: &What, p: PageId) -> bool
-    ensures { result ≡ maps_whole p what.now }
-{
-    match *what {
-        What::Alloc { page, .. } | What::MapWhole { page } => p == page,
-        _ => false,
-    }
-}
-
-// Whether the event takes a mapping of the whole page away, or makes it one of each subpage.
-pub(super) fn unmaps_whole(what: &What, p: PageId) -> bool
-    ensures { result ≡ unmaps_whole p what.now }
-{
-    match *what {
-        What::UnmapWhole { page, .. } | What::SplitPmd { page } => p == page,
-        _ => false,
-    }
-}
-
-// Whether the event pins the page.
-pub(super) fn pins_page(what: &What, p: PageId) -> bool
-    ensures { result ≡ pins_page p what.now }
-{
-    match *what {
-        What::Pin { page } => p == page,
-        _ => false,
-    }
-}
-
-// Whether the event takes a pin of the page away.
-pub(super) fn unpins_page(what: &What, p: PageId) -> bool
-    ensures { result ≡ unpins_page p what.now }
-{
-    match *what {
-        What::Unpin { page, .. } => p == page,
-        _ => false,
-    }
-}
-
-// Whether the event allocates the page.
-pub(super) fn allocates(what: &What, p: PageId) -> bool
-    ensures { result ≡ allocates p what.now }
-{
-    match *what {
-        What::Alloc { page, .. } => p == page,
-        _ => false,
-    }
-}
-
-// Whether the event allocates a page.
-pub(super) fn is_alloc(what: &What) -> bool
-    ensures { result ≡ is_alloc what.now }
-{
-    matches!(*what, What::Alloc { .. })
-}
-
-// Whether the outcome is that the page is freed.
-fn is_freed(outcome: Outcome) -> bool
-    ensures { result ≡ is_freed outcome }
-{
-    matches!(outcome, Outcome::Freed)
-}
-
-// Whether the event frees the page.
-pub(super) fn frees(what: &What, p: PageId) -> bool
-    ensures { result ≡ frees p what.now }
-{
-    match *what {
-        What::UnmapWhole { page, outcome, .. }
-        | What::UnmapSub { page, outcome, .. }
-        | What::Unpin { page, outcome, .. } => p == page && is_freed(outcome),
-        _ => false,
-    }
-}
-
-// Whether the event splits the page.
-pub(super) fn splits(what: &What, p: PageId) -> bool
-    ensures { result ≡ splits p what.now }
-{
-    match *what {
-        What::Split { page, .. } => p == page,
-        _ => false,
-    }
-}
-
-// Whether the event closes the node.
-pub(super) fn closes(what: &What) -> bool
-    ensures { result ≡ closes what.now }
-{
-    matches!(*what, What::Close)
-}
-
 // Whether the event fills subpage i of the page with data.
 fn writes(what: &What, p: PageId, i: u32) -> bool
     ensures { result ≡ writes p i what.now }
 {
-    match *what {
-        What::Write { page, first, count } => p == page && covers(first, count, i),
-        _ => false,
-    }
+    matches!(*what, What::Write { page, first, count } if page == p && covers(first, count, i))
 }
 
 // Whether the event fills subpage i of the page with zeros.
@@ -178,10 +52,7 @@ pub(super) fn zero_after(before: bool, what: &What, p: PageId, i: u32) -> bool
 pub(super) fn unmaps_some(what: &What, p: PageId) -> bool
     ensures { result ≡ unmaps_some p what.now }
 {
-    match *what {
-        What::UnmapWhole { page, .. } | What::UnmapSub { page, .. } => p == page,
-        _ => false,
-    }
+    matches!(*what, What::UnmapWhole { page, .. } | What::UnmapSub { page, .. } if page == p)
 }
 
 // The greatest map count of a subpage, and the greatest number of pins.
@@ -360,21 +231,35 @@ pub(super) fn fits(
     requires { shape.order ≤ max_order }
     ensures { IfOk result (λ fits. IsTrue fits ↔ FitsBy shape before.now after.now event.now.caller event.now.what) }
 {
-    let caller = event.caller;
+    let lists = Lists {
+        queue: queue(alloc, shape, before)?,
+        flight: flight(alloc, before, event.caller)?,
+        standing: standing(alloc, shape, before)?,
+    };
+    Ok(fits_lists(shape, before, after, event, &lists))
+}
+
+// The same, by the lists that pages are on after the events before it.
+fn fits_lists(shape: Shape, before: &[Event], after: &[Event], event: &Event, lists: &Lists) -> bool
+    requires order { shape.order ≤ max_order }
+    requires lists { AreLists shape before.now event.now.caller lists.now }
+    ensures { IsTrue result ↔ FitsBy shape before.now after.now event.now.caller event.now.what }
+{
+    let (flight, caller) = (&lists.flight, event.caller);
     match event.what {
-        What::Alloc { page, block } => Ok(fits_alloc(shape, before, page, block)),
-        What::MapWhole { page } => Ok(of_map_whole(shape, before, page).is_none()),
+        What::Alloc { page, block } => fits_alloc(shape, before, page, block),
+        What::MapWhole { page } => of_map_whole(shape, before, page).is_none(),
         What::UnmapWhole {
             outcome,
             page,
             released,
         } => {
-            let refusal = of_taking_whole(before, page);
             let told = Done { outcome, released };
-            fits_loss(alloc, shape, before, after, page, &told, refusal)
+            let refusal = of_taking_whole(before, page);
+            refusal.is_none() && gives(shape, before, after, page, &told, lists)
         }
         What::MapSub { page, first, count } => {
-            Ok(of_map_sub(shape, before, page, first, count).is_none())
+            of_map_sub(shape, before, page, first, count).is_none()
         }
         What::UnmapSub {
             outcome,
@@ -383,33 +268,37 @@ pub(super) fn fits(
             count,
             released,
         } => {
-            let refusal = of_unmap_sub(shape, before, page, first, count);
             let told = Done { outcome, released };
-            fits_loss(alloc, shape, before, after, page, &told, refusal)
+            let refusal = of_unmap_sub(shape, before, page, first, count);
+            refusal.is_none() && gives(shape, before, after, page, &told, lists)
         }
-        What::SplitPmd { page } => Ok(of_taking_whole(before, page).is_none()),
-        What::Pin { page } => Ok(of_pin(before, page).is_none()),
+        What::SplitPmd { page } => of_taking_whole(before, page).is_none(),
+        What::Pin { page } => of_pin(before, page).is_none(),
         What::Unpin {
             outcome,
             page,
             released,
         } => {
-            let refusal = of_unpin(before, page);
             let told = Done { outcome, released };
-            fits_loss(alloc, shape, before, after, page, &told, refusal)
+            let refusal = of_unpin(before, page);
+            refusal.is_none() && gives(shape, before, after, page, &told, lists)
         }
         What::Write { page, first, count } | What::Zero { page, first, count } => {
-            Ok(of_write(shape, before, page, first, count).is_none())
+            of_write(shape, before, page, first, count).is_none()
         }
-        What::Taken { page } => fits_taken(alloc, shape, before, caller, page),
+        What::Taken { page } => {
+            is_first(page, &lists.queue) && (flight.is_empty() || is_taking(before, caller))
+        }
         What::Split { page, released } => {
-            fits_split(alloc, shape, before, after, caller, page, released)
+            can_try(shape, before, page, flight)
+                && pins(before, page) == 0
+                && released == frames::released(shape, before, after, page)
         }
-        What::Pinned { page } => fits_pinned(alloc, shape, before, caller, page),
-        What::Used { page } => fits_used(alloc, shape, before, caller, page),
-        What::Back { page } => fits_back(alloc, shape, before, caller, page),
-        What::Dropped { page } => fits_dropped(alloc, shape, before, caller, page),
-        What::Close => Ok(of_close(before).is_none()),
+        What::Pinned { page } => can_try(shape, before, page, flight) && 0 < pins(before, page),
+        What::Used { page } => has_page(page, flight) && !is_worth_split(shape, before, page),
+        What::Back { page } => is_first(page, flight) && !is_dropped(shape, before, page),
+        What::Dropped { page } => is_first(page, flight) && is_dropped(shape, before, page),
+        What::Close => of_close(before).is_none(),
     }
 }
 
@@ -423,151 +312,29 @@ fn fits_alloc(shape: Shape, before: &[Event], page: PageId, block: u32) -> bool
         && !block_in_use(before, block)
 }
 
-// An unmap or an unpin that is not refused records its outcome and the frames that it gives back.
-fn fits_loss(
-    alloc: Global,
+// Whether an unmap or an unpin records the outcome and the frames that the model computes.
+fn gives(
     shape: Shape,
     before: &[Event],
     after: &[Event],
     page: PageId,
     told: &Done,
-    refusal: Option<Refusal>,
-) -> Result<bool, AllocError>
+    lists: &Lists,
+) -> bool
+    requires order { shape.order ≤ max_order }
+    requires lists { lists.now.standing.items ≡ standing shape before.now }
+    ensures { IsTrue result ↔ Gives shape before.now after.now page told.now.outcome told.now.released }
+{
+    told.outcome == outcome(shape, before, after, page, &lists.standing)
+        && told.released == frames::released(shape, before, after, page)
+}
+
+// Whether a page is in a flight and worth a split.
+fn can_try(shape: Shape, before: &[Event], page: PageId, flight: &VecDeque<PageId>) -> bool
     requires { shape.order ≤ max_order }
-    ensures { IfOk result (λ fits. IsTrue fits ↔ ((refusal ≡ None) × Gives shape before.now after.now page told.now.outcome told.now.released)) }
+    ensures { result ≡ (has_page page flight.now.items && is_worth_split shape before.now page) }
 {
-    let outcome = outcome(alloc, shape, before, after, page)?;
-    let gives = is_told(told, outcome, released(shape, before, after, page));
-    Ok(refusal.is_none() && gives)
-}
-
-// Whether an event records the outcome and the frames that the model computes.
-fn is_told(told: &Done, outcome: Outcome, released: SubSet) -> bool
-    ensures { IsTrue result ↔ ((told.now.outcome ≡ outcome) × (told.now.released ≡ released)) }
-{
-    told.outcome == outcome && told.released == released
-}
-
-// A take is of the oldest page, by a caller that has no page in flight or continues its take.
-fn fits_taken(
-    alloc: Global,
-    shape: Shape,
-    before: &[Event],
-    caller: u32,
-    page: PageId,
-) -> Result<bool, AllocError>
-    ensures { IfOk result (λ fits. IsTrue fits ↔ FitsTaken shape before.now caller page) }
-{
-    let queue = queue(alloc, shape, before)?;
-    let flight = flight(alloc, before, caller)?;
-    let may_take = flight.is_empty() || is_taking(before, caller);
-    Ok(is_first(page, &queue) && may_take)
-}
-
-// A split is of a page in the caller's flight that is worth a split and has no pins.
-fn fits_split(
-    alloc: Global,
-    shape: Shape,
-    before: &[Event],
-    after: &[Event],
-    caller: u32,
-    page: PageId,
-    told: SubSet,
-) -> Result<bool, AllocError>
-    requires { shape.order ≤ max_order }
-    ensures { IfOk result (λ fits. IsTrue fits ↔ FitsSplit shape before.now after.now caller page told) }
-{
-    let in_flight = is_in_flight(alloc, before, caller, page)?;
-    Ok(in_flight && can_split(shape, before, page) && gives_set(shape, before, after, page, told))
-}
-
-// Whether a page is in the caller's flight.
-fn is_in_flight(
-    alloc: Global,
-    before: &[Event],
-    caller: u32,
-    page: PageId,
-) -> Result<bool, AllocError>
-    ensures { IfOk result (λ b. b ≡ has_page page (flight before.now caller)) }
-{
-    let flight = flight(alloc, before, caller)?;
-    Ok(has_page(page, &flight))
-}
-
-// Whether a page is worth a split and has no pins.
-fn can_split(shape: Shape, before: &[Event], page: PageId) -> bool
-    requires { shape.order ≤ max_order }
-    ensures { IsTrue result ↔ ((is_worth_split shape before.now page ≡ true) × (pins before.now page ≡ 0)) }
-{
-    is_worth_split(shape, before, page) && pins(before, page) == 0
-}
-
-// Whether these are the frames of a page that are held before and not after.
-fn gives_set(shape: Shape, before: &[Event], after: &[Event], page: PageId, told: SubSet) -> bool
-    requires { shape.order ≤ max_order }
-    ensures { IsTrue result ↔ (told ≡ released shape before.now after.now page) }
-{
-    told == released(shape, before, after, page)
-}
-
-// A page of the caller's flight that is worth a split is found pinned.
-fn fits_pinned(
-    alloc: Global,
-    shape: Shape,
-    before: &[Event],
-    caller: u32,
-    page: PageId,
-) -> Result<bool, AllocError>
-    requires { shape.order ≤ max_order }
-    ensures { IfOk result (λ fits. IsTrue fits ↔ ((has_page page (flight before.now caller) ≡ true) × (0 < pins before.now page) × (is_worth_split shape before.now page ≡ true))) }
-{
-    let in_flight = is_in_flight(alloc, before, caller, page)?;
-    Ok(in_flight && 0 < pins(before, page) && is_worth_split(shape, before, page))
-}
-
-// A page of the caller's flight isn't worth a split.
-fn fits_used(
-    alloc: Global,
-    shape: Shape,
-    before: &[Event],
-    caller: u32,
-    page: PageId,
-) -> Result<bool, AllocError>
-    requires { shape.order ≤ max_order }
-    ensures { IfOk result (λ fits. IsTrue fits ↔ ((has_page page (flight before.now caller) ≡ true) × (is_worth_split shape before.now page ≡ false))) }
-{
-    let in_flight = is_in_flight(alloc, before, caller, page)?;
-    Ok(in_flight && !is_worth_split(shape, before, page))
-}
-
-// The first page of the caller's flight goes back to the queue: it is partly mapped, and the node is open.
-fn fits_back(
-    alloc: Global,
-    shape: Shape,
-    before: &[Event],
-    caller: u32,
-    page: PageId,
-) -> Result<bool, AllocError>
-    requires { shape.order ≤ max_order }
-    ensures { IfOk result (λ fits. IsTrue fits ↔ ((slice_get (flight before.now caller) 0 ≡ Some page) × (is_closed before.now ≡ false) × (is_partly_mapped shape before.now page ≡ true))) }
-{
-    let flight = flight(alloc, before, caller)?;
-    Ok(is_first(page, &flight) && !is_dropped(shape, before, page))
-}
-
-// The first page of the caller's flight is dropped.
-fn fits_dropped(
-    alloc: Global,
-    shape: Shape,
-    before: &[Event],
-    caller: u32,
-    page: PageId,
-) -> Result<bool, AllocError>
-    requires { shape.order ≤ max_order }
-    ensures { IfOk result (λ fits. IsTrue fits ↔ ((slice_get (flight before.now caller) 0 ≡ Some page) × (is_dropped shape before.now page ≡ true))) }
-{
-    let flight = flight(alloc, before, caller)?;
-    Ok(is_first(page, &flight) && is_dropped(shape, before, page))
+    has_page(page, flight) && is_worth_split(shape, before, page)
 }
 
 // Whether a page that leaves its batch is dropped rather than put back.

@@ -1,28 +1,41 @@
 //! The state of one page after a history: its map counts, its pins and its states.
 ghost use Rattle.std.specs.Prelude.{◌≡◌, ◌≤◌};
-ghost use Rattle.thp_history.specs.Limits.{max_order};
-ghost use Rattle.thp_history.specs.Counts.{allocations, total, is_split, whole, own, pins, is_mapped, loses_use, is_live, is_closed, is_used};
+ghost use Rattle.thp_history.specs.Prelude.{allocations, is_closed, is_live, is_mapped, is_split, is_used, loses_use, max_order, own, pins, total, whole};
 
-use super::kinds::{
-    allocates, closes, frees, is_alloc, maps, maps_whole, pins_page, splits, unmaps, unmaps_whole,
-    unpins_page,
-};
+use super::kinds::covers;
 use super::passing::{any_below, any_event, count_events};
-use thp_history::{Event, PageId, Shape};
+use thp_history::{Event, Outcome, PageId, Shape, What};
 
 // How many pages were allocated.
 pub(super) fn allocations(events: &[Event]) -> usize
     ensures { result ≡ allocations events.now }
 {
-    count_events(events, |what| is_alloc(what))
+    count_events(events, |what| matches!(*what, What::Alloc { .. }))
 }
 
 // How often subpage i of the page is mapped.
 pub(super) fn total(events: &[Event], page: PageId, i: u32) -> usize
     ensures { result ≡ total events.now page i }
 {
-    let mapped = count_events(events, |what| maps(what, page, i));
-    let unmapped = count_events(events, |what| unmaps(what, page, i));
+    let mapped = count_events(events, |what| match *what {
+        What::Alloc { page: other, .. } | What::MapWhole { page: other } => other == page,
+        What::MapSub {
+            page: other,
+            first,
+            count,
+        } => other == page && covers(first, count, i),
+        _ => false,
+    });
+    let unmapped = count_events(events, |what| match *what {
+        What::UnmapWhole { page: other, .. } => other == page,
+        What::UnmapSub {
+            page: other,
+            first,
+            count,
+            ..
+        } => other == page && covers(first, count, i),
+        _ => false,
+    });
     mapped.saturating_sub(unmapped)
 }
 
@@ -30,7 +43,9 @@ pub(super) fn total(events: &[Event], page: PageId, i: u32) -> usize
 pub(super) fn is_split(events: &[Event], page: PageId) -> bool
     ensures { result ≡ is_split events.now page }
 {
-    any_event(events, |what| splits(what, page))
+    any_event(events, |what| {
+        matches!(*what, What::Split { page: other, .. } if other == page)
+    })
 }
 
 // How often the page is mapped whole.
@@ -40,8 +55,14 @@ pub(super) fn whole(events: &[Event], page: PageId) -> usize
     if is_split(events, page) {
         return 0;
     }
-    let mapped = count_events(events, |what| maps_whole(what, page));
-    let unmapped = count_events(events, |what| unmaps_whole(what, page));
+    let mapped = count_events(events, |what| match *what {
+        What::Alloc { page: other, .. } | What::MapWhole { page: other } => other == page,
+        _ => false,
+    });
+    let unmapped = count_events(events, |what| match *what {
+        What::UnmapWhole { page: other, .. } | What::SplitPmd { page: other } => other == page,
+        _ => false,
+    });
     mapped.saturating_sub(unmapped)
 }
 
@@ -56,8 +77,12 @@ pub(super) fn own(events: &[Event], page: PageId, i: u32) -> usize
 pub(super) fn pins(events: &[Event], page: PageId) -> usize
     ensures { result ≡ pins events.now page }
 {
-    let pinned = count_events(events, |what| pins_page(what, page));
-    let unpinned = count_events(events, |what| unpins_page(what, page));
+    let pinned = count_events(events, |what| {
+        matches!(*what, What::Pin { page: other } if other == page)
+    });
+    let unpinned = count_events(events, |what| {
+        matches!(*what, What::Unpin { page: other, .. } if other == page)
+    });
     pinned.saturating_sub(unpinned)
 }
 
@@ -83,8 +108,27 @@ pub(super) fn loses_use(shape: Shape, before: &[Event], after: &[Event], page: P
 pub(super) fn is_live(events: &[Event], page: PageId) -> bool
     ensures { result ≡ is_live events.now page }
 {
-    let allocated = any_event(events, |what| allocates(what, page));
-    let freed = any_event(events, |what| frees(what, page));
+    let allocated = any_event(events, |what| {
+        matches!(*what, What::Alloc { page: other, .. } if other == page)
+    });
+    let freed = any_event(events, |what| match *what {
+        What::UnmapWhole {
+            page: other,
+            outcome,
+            ..
+        }
+        | What::UnmapSub {
+            page: other,
+            outcome,
+            ..
+        }
+        | What::Unpin {
+            page: other,
+            outcome,
+            ..
+        } => other == page && outcome == Outcome::Freed,
+        _ => false,
+    });
     allocated && !freed
 }
 
@@ -92,7 +136,7 @@ pub(super) fn is_live(events: &[Event], page: PageId) -> bool
 pub(super) fn is_closed(events: &[Event]) -> bool
     ensures { result ≡ is_closed events.now }
 {
-    any_event(events, |what| closes(what))
+    any_event(events, |what| matches!(*what, What::Close))
 }
 
 // Whether subpage i of the page is in use.

@@ -1,9 +1,7 @@
 //! Counts and tests over events, and over the numbers below a bound.
 ghost use Rattle.std.specs.Prelude.{◌≡◌, ℕ, Bool};
 ghost use Rattle.thp_history.specs.declared.events.What.{What};
-ghost use Rattle.thp_history.specs.Asking.{AsksBelow, AsksEvents};
-ghost use Rattle.thp_history.specs.History.{count_of, some_event};
-ghost use Rattle.thp_history.specs.Sets.{count_below, some_below};
+ghost use Rattle.thp_history.specs.Prelude.{AsksBelow, AsksEvents, count_of, some_below, some_event};
 
 use thp_history::{Event, What};
 
@@ -45,18 +43,4 @@ pub(super) fn any_below<F: Fn(u32) -> bool>(n: u32, test: F) -> bool
         }
     }
     false
-}
-
-// How many numbers below n pass a test.
-pub(super) fn how_many_below<F: Fn(u32) -> bool>(n: u32, test: F) -> u32
-    requires { F.IsAlwaysCallable test }
-    ensures { (t : ℕ → Bool) → AsksBelow F.Fn test n t → result ≡ count_below n t }
-{
-    let mut count = 0;
-    for i in 0..n {
-        if test(i) {
-            count += 1;
-        }
-    }
-    count
 }

@@ -1,10 +1,20 @@
 //! The list that each page is on: the queue, or the flight of the caller that took it.
 ghost use Rattle.std.specs.Prelude.{◌≡◌, ◌↔◌, IsTrue, IfOk, OnOk, Some, slice_get};
-ghost use Rattle.thp_history.specs.Places.{queue, queue_by, queue_after, flights, flights_by, flights_after, flight, leaves, standing, stands, has_page, takes_by, is_taking};
+ghost use Rattle.thp_history.specs.Places.{queue, queue_by, queue_after, flights, flights_by, flights_after, flight, leaves, standing, has_page, takes_by, is_taking};
 
 use std::alloc::{AllocError, Global};
 use std::collections::VecDeque;
 use thp_history::{Event, Outcome, PageId, Shape, What};
+
+// The lists that pages are on after some events.
+#[derive(Drop)]
+pub(super) struct Lists {
+    pub(super) queue: VecDeque<PageId>,
+    // The pages in the flight of one caller.
+    pub(super) flight: VecDeque<PageId>,
+    // The pages of the queue and of all flights.
+    pub(super) standing: VecDeque<PageId>,
+}
 
 // The queue after an outcome of the page.
 fn queue_outcome(
@@ -126,7 +136,11 @@ pub(super) fn flight(
 }
 
 // The pages of the queue and of all flights.
-fn standing(alloc: Global, shape: Shape, events: &[Event]) -> Result<VecDeque<PageId>, AllocError>
+pub(super) fn standing(
+    alloc: Global,
+    shape: Shape,
+    events: &[Event],
+) -> Result<VecDeque<PageId>, AllocError>
     ensures { IfOk result (λ pages. pages.items ≡ standing shape events.now) }
 {
     let mut pages = queue(alloc, shape, events)?;
@@ -148,33 +162,14 @@ pub(super) fn has_page(page: PageId, pages: &VecDeque<PageId>) -> bool
 pub(super) fn is_first(page: PageId, pages: &VecDeque<PageId>) -> bool
     ensures { IsTrue result ↔ (slice_get pages.now.items 0 ≡ Some page) }
 {
-    match pages.front() {
-        Some(first) => *first == page,
-        None => false,
-    }
-}
-
-// Whether the page is in the queue or in a flight.
-pub(super) fn stands(
-    alloc: Global,
-    shape: Shape,
-    events: &[Event],
-    page: PageId,
-) -> Result<bool, AllocError>
-    ensures { IfOk result (λ b. b ≡ stands shape events.now page) }
-{
-    let pages = standing(alloc, shape, events)?;
-    Ok(has_page(page, &pages))
+    pages.front() == Some(&page)
 }
 
 // Whether an event is a take by the caller.
 fn takes_by(caller: u32, event: &Event) -> bool
     ensures { result ≡ takes_by caller event.now.caller event.now.what }
 {
-    match event.what {
-        What::Taken { .. } => event.caller == caller,
-        _ => false,
-    }
+    matches!(event.what, What::Taken { .. } if event.caller == caller)
 }
 
 // Whether the last event is a take by the caller.

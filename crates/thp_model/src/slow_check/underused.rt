@@ -1,12 +1,10 @@
 //! Which subpages of a page are zero-filled, and whether the page is worth a split.
 ghost use Rattle.std.specs.Prelude.{◌≡◌, ◌≤◌, ◌&&◌};
-ghost use Rattle.thp_history.specs.Limits.{max_order};
-ghost use Rattle.thp_history.specs.Counts.{is_mapped, loses_use};
-ghost use Rattle.thp_history.specs.Underused.{is_zero_filled, is_partly_mapped, is_above, zero_filled, is_underused, is_worth_split, unmaps_some};
+ghost use Rattle.thp_history.specs.Prelude.{is_mapped, loses_use, max_order};
+ghost use Rattle.thp_history.specs.Underused.{is_zero_filled, is_partly_mapped, zero_filled, is_underused, is_worth_split, unmaps_some};
 
 use super::kinds::{unmaps_some, zero_after};
 use super::pages::{is_mapped, loses_use};
-use super::passing::how_many_below;
 use thp_history::{Event, PageId, Shape, What};
 
 // Whether subpage i of the page is zero-filled.
@@ -49,25 +47,24 @@ fn zero_filled(shape: Shape, events: &[Event], page: PageId) -> u32
     requires { shape.order ≤ max_order }
     ensures { result ≡ zero_filled shape events.now page }
 {
-    how_many_below(shape.subpages(), |i| is_zero_filled(events, page, i))
-}
-
-// Whether a number is above the threshold.
-fn is_above(threshold: Option<u32>, n: u32) -> bool
-    ensures { result ≡ is_above threshold n }
-{
-    match threshold {
-        None => false,
-        Some(threshold) => threshold < n,
+    let mut count = 0;
+    for i in 0..shape.subpages() {
+        if is_zero_filled(events, page, i) {
+            count += 1;
+        }
     }
+    count
 }
 
-// Whether the page is underused.
+// Whether the page is underused: more of its subpages are zero-filled than the threshold.
 fn is_underused(shape: Shape, events: &[Event], page: PageId) -> bool
     requires { shape.order ≤ max_order }
     ensures { result ≡ is_underused shape events.now page }
 {
-    is_above(shape.underused, zero_filled(shape, events, page))
+    match shape.underused {
+        None => false,
+        Some(threshold) => threshold < zero_filled(shape, events, page),
+    }
 }
 
 // Whether the page is worth a split.

@@ -1,5 +1,5 @@
 //! The calls of a page, as a value and by name, with the tests that refuse them.
-ghost use Rattle.std.specs.Prelude.{◌≡◌, ℕ, ◌+◌, ◌≤◌, OnOk, OnErr, IfOk, None};
+ghost use Rattle.std.specs.Prelude.{◌≡◌, ℕ, ◌+◌, ◌≤◌, OnOk, OnErr, IfOk, Some, None, cond};
 ghost use Rattle.std.specs.Result.{result_err};
 ghost use Rattle.thp_history.specs.Prelude.{max_subpages, page_refusal, WholeMapped, WholeUnmapped, RangeMapped, RangeUnmapped, PmdSplit, RangeWritten, RangeZeroed, gain_call, Gains, loss_call, Loses, page_call};
 ghost use Rattle.thp_history.specs.Pages.{Pinned};
@@ -16,19 +16,7 @@ impl Page {
     pub fn refusal(&self, call: PageCall) -> Option<Refusal>
         ensures { (p : ℕ) → result ≡ page_refusal self.now (page_call call p) }
     {
-        match call {
-            PageCall::Gain(Gain::MapWhole) => self.check_map_whole().err(),
-            PageCall::Gain(Gain::MapSub { first, count }) => self.check_map_sub(first, count).err(),
-            PageCall::Gain(Gain::SplitPmd) => self.check_unmap_whole().err(),
-            PageCall::Gain(Gain::Pin) => self.check_pin().err(),
-            PageCall::Gain(Gain::Write { first, count }) => self.check_write(first, count).err(),
-            PageCall::Gain(Gain::Zero { first, count }) => self.check_write(first, count).err(),
-            PageCall::Loss(Loss::UnmapWhole) => self.check_unmap_whole().err(),
-            PageCall::Loss(Loss::UnmapSub { first, count }) => self
-                .check_unmap_sub(first, count)
-                .err(),
-            PageCall::Loss(Loss::Unpin) => self.check_unpin().err(),
-        }
+        self.check(call).err()
     }
 
     /// Adds mappings or a pin, or fills subpages. Fails with the reason that `refusal` returns for the call, and then changes
@@ -41,7 +29,7 @@ impl Page {
     {
         match gain {
             Gain::MapWhole => {
-                self.check_map_whole()?;
+                self.check(PageCall::Gain(Gain::MapWhole))?;
                 self.whole += 1;
                 Ok(())
             }
@@ -51,14 +39,14 @@ impl Page {
                 Ok(())
             }
             Gain::SplitPmd => {
-                self.check_unmap_whole()?;
+                self.check(PageCall::Gain(Gain::SplitPmd))?;
                 let subpages = self.subpages();
                 self.whole -= 1;
                 self.own.map(0, subpages);
                 Ok(())
             }
             Gain::Pin => {
-                self.check_pin()?;
+                self.check(PageCall::Gain(Gain::Pin))?;
                 self.pins += 1;
                 Ok(())
             }
@@ -86,7 +74,7 @@ impl Page {
     {
         match loss {
             Loss::UnmapWhole => {
-                self.check_unmap_whole()?;
+                self.check(PageCall::Loss(Loss::UnmapWhole))?;
                 change.unused = self.whole == 1 && self.own.has_unmapped(0, self.subpages());
                 change.released = SubSet::empty();
                 self.whole -= 1;
@@ -103,7 +91,7 @@ impl Page {
                 };
             }
             Loss::Unpin => {
-                self.check_unpin()?;
+                self.check(PageCall::Loss(Loss::Unpin))?;
                 change.unused = false;
                 change.released = SubSet::empty();
                 self.pins -= 1;
@@ -206,50 +194,48 @@ impl Page {
 
     // Takes a range, which may be written, from the zero-filled subpages.
     fn remove_zeros(&mut self, first: u32, count: u32)
-        requires inside { first + count ≤ max_subpages }
-        requires allowed { page_refusal self.old (call.write 0 first count) ≡ None }
+        requires { page_refusal self.old (call.write 0 first count) ≡ None }
         ensures { RangeWritten first count self.old self.new }
     {
-        let range = SubSet::range(first, count);
-        self.zero = self.zero.difference(range);
+        self.zero = self.zero.difference(SubSet::range(first, count));
     }
 
     // Adds a range, which may be written, to the zero-filled subpages.
     fn add_zeros(&mut self, first: u32, count: u32)
-        requires inside { first + count ≤ max_subpages }
-        requires allowed { page_refusal self.old (call.write 0 first count) ≡ None }
+        requires { page_refusal self.old (call.write 0 first count) ≡ None }
         ensures { RangeZeroed first count self.old self.new }
     {
-        let range = SubSet::range(first, count);
-        self.zero = self.zero.union(range);
+        self.zero = self.zero.union(SubSet::range(first, count));
     }
 
-    // Fails with the reason why `map_whole` would be refused.
+    // Fails with the reason why the call would be refused.
     #[tactic(auto, using(crate::proofs::PageSizes::whole_range), unfolding(thp_history::specs::Pages::page_refusal))]
-    fn check_map_whole(&self) -> Result<(), Refusal>
-        ensures { (p : ℕ) → result_err result ≡ page_refusal self.now (call.map_whole p) }
+    #[inline(always)]
+    fn check(&self, call: PageCall) -> Result<(), Refusal>
+        ensures { (p : ℕ) → result_err result ≡ page_refusal self.now (page_call call p) }
     {
-        if self.split {
-            Err(Refusal::IsSplit)
-        } else if self.has_total_at_limit(0, self.subpages()) {
-            Err(Refusal::TooMany)
-        } else {
-            Ok(())
-        }
-    }
-
-    // Fails with the reason why `unmap_whole` and `split_pmd` would be refused.
-    #[tactic(auto, unfolding(thp_history::specs::Pages::page_refusal))]
-    fn check_unmap_whole(&self) -> Result<(), Refusal>
-        ensures unmap { (p : ℕ) → result_err result ≡ page_refusal self.now (call.unmap_whole p) }
-        ensures split { (p : ℕ) → result_err result ≡ page_refusal self.now (call.split_pmd p) }
-    {
-        if self.split {
-            Err(Refusal::IsSplit)
-        } else if self.whole == 0 {
-            Err(Refusal::NotMapped)
-        } else {
-            Ok(())
+        match call {
+            PageCall::Gain(Gain::MapWhole) => {
+                refuse_if(self.split, Refusal::IsSplit)?;
+                let is_full = self.has_total_at_limit(0, self.subpages());
+                refuse_if(is_full, Refusal::TooMany)
+            }
+            PageCall::Gain(Gain::MapSub { first, count }) => self.check_map_sub(first, count),
+            PageCall::Gain(Gain::SplitPmd) | PageCall::Loss(Loss::UnmapWhole) => {
+                refuse_if(self.split, Refusal::IsSplit)?;
+                refuse_if(self.whole == 0, Refusal::NotMapped)
+            }
+            PageCall::Gain(Gain::Pin) => {
+                refuse_if(self.split, Refusal::IsSplit)?;
+                refuse_if(self.pins == u16::MAX, Refusal::TooMany)
+            }
+            PageCall::Gain(Gain::Write { first, count }) => self.check_write(first, count),
+            PageCall::Gain(Gain::Zero { first, count }) => self.check_write(first, count),
+            PageCall::Loss(Loss::UnmapSub { first, count }) => self.check_unmap_sub(first, count),
+            PageCall::Loss(Loss::Unpin) => {
+                refuse_if(self.split, Refusal::IsSplit)?;
+                refuse_if(self.pins == 0, Refusal::NotPinned)
+            }
         }
     }
 
@@ -259,17 +245,12 @@ impl Page {
     fn check_map_sub(&self, first: u32, count: u32) -> Result<(), Refusal>
         ensures { (p : ℕ) → result_err result ≡ page_refusal self.now (call.map_sub p first count) }
     {
-        if self.is_bad_range(first, count) {
-            return Err(Refusal::BadRange);
-        }
+        refuse_if(self.is_bad_range(first, count), Refusal::BadRange)?;
         let (first, count) = (first as usize, count as usize);
         if self.split && self.has_gone_frame(first, count) {
-            Err(Refusal::Gone)
-        } else if self.has_total_at_limit(first, count) {
-            Err(Refusal::TooMany)
-        } else {
-            Ok(())
+            return Err(Refusal::Gone);
         }
+        refuse_if(self.has_total_at_limit(first, count), Refusal::TooMany)
     }
 
     // Fails with the reason why `unmap_sub` would be refused.
@@ -278,43 +259,9 @@ impl Page {
     fn check_unmap_sub(&self, first: u32, count: u32) -> Result<(), Refusal>
         ensures { (p : ℕ) → result_err result ≡ page_refusal self.now (call.unmap_sub p first count) }
     {
-        if self.is_bad_range(first, count) {
-            Err(Refusal::BadRange)
-        } else if self.has_unmapped(first as usize, count as usize) {
-            Err(Refusal::NotMapped)
-        } else {
-            Ok(())
-        }
-    }
-
-    // Fails with the reason why `pin` would be refused.
-    #[tactic(auto, unfolding(thp_history::specs::Pages::page_refusal))]
-    #[inline(always)]
-    fn check_pin(&self) -> Result<(), Refusal>
-        ensures { (p : ℕ) → result_err result ≡ page_refusal self.now (call.pin p) }
-    {
-        if self.split {
-            Err(Refusal::IsSplit)
-        } else if self.pins == u16::MAX {
-            Err(Refusal::TooMany)
-        } else {
-            Ok(())
-        }
-    }
-
-    // Fails with the reason why `unpin` would be refused.
-    #[tactic(auto, unfolding(thp_history::specs::Pages::page_refusal))]
-    #[inline(always)]
-    fn check_unpin(&self) -> Result<(), Refusal>
-        ensures { (p : ℕ) → result_err result ≡ page_refusal self.now (call.unpin p) }
-    {
-        if self.split {
-            Err(Refusal::IsSplit)
-        } else if self.pins == 0 {
-            Err(Refusal::NotPinned)
-        } else {
-            Ok(())
-        }
+        refuse_if(self.is_bad_range(first, count), Refusal::BadRange)?;
+        let is_unmapped = self.has_unmapped(first as usize, count as usize);
+        refuse_if(is_unmapped, Refusal::NotMapped)
     }
 
     // Fails with the reason why `write` and `zero` would be refused.
@@ -322,16 +269,18 @@ impl Page {
     fn check_write(&self, first: u32, count: u32) -> Result<(), Refusal>
         ensures data { (p : ℕ) → result_err result ≡ page_refusal self.now (call.write p first count) }
         ensures zeros { (p : ℕ) → result_err result ≡ page_refusal self.now (call.zero_fill p first count) }
-        ensures inside { OnOk result (first + count ≤ max_subpages) }
     {
-        if self.is_bad_range(first, count) {
-            Err(Refusal::BadRange)
-        } else if self.split {
-            Err(Refusal::IsSplit)
-        } else if self.has_unused(first as usize, count as usize) {
-            Err(Refusal::NotMapped)
-        } else {
-            Ok(())
-        }
+        refuse_if(self.is_bad_range(first, count), Refusal::BadRange)?;
+        refuse_if(self.split, Refusal::IsSplit)?;
+        let is_unused = self.has_unused(first as usize, count as usize);
+        refuse_if(is_unused, Refusal::NotMapped)
     }
+}
+
+// Fails with this reason if it holds.
+#[inline(always)]
+fn refuse_if(holds: bool, reason: Refusal) -> Result<(), Refusal>
+    ensures { result_err result ≡ cond holds (Some reason) None }
+{
+    if holds { Err(reason) } else { Ok(()) }
 }

@@ -31,7 +31,7 @@ invariant_of-result c =
     let e : Event = c.args.event.now in
     let M : NodeState → Type 0 = λ r. Means s i.past r in
     let freed = c.freed_block-freed.ensures s i.past (subst M (sym c.deref.ensures) c.self.invariant.0) in
-    let went = c.in_default.ensures s i.past (subst M (sym c.deref_mut.ensures.value) c.self.invariant.0) in
+    let went = c.in_ok-admit.ensures s i.past (subst M (sym c.deref_mut.ensures.value) c.self.invariant.0) in
     let marks : MarksFree s (i.past ++ e ∷ []) c.mark.new.free =
     marks_push s i.past e c.self.invariant.0.kept.node.legal went.0 i.free c.mark.new.free c.freed_block-freed.result c.self.invariant.1 freed c.mark.ensures.size
     (λ b. c.mark.ensures.marked b ∙ ap (λ t. free_after t c.freed_block-freed.result b (in_words i.free b)) c.taken_block.ensures) in

@@ -24,14 +24,14 @@ of-requires c = λ split.
     let i = c.self.inside in
     let same = c.table-table.ensures ∙ ap (λ (r : NodeState). r.places.table) c.deref.ensures in
     let k = seen i.state.value.shape i.past i.state.value c.self.invariant.0 c.table-table.result.now same c.args.page c.in-Some.block c.in-Some.ensures.found c.in-Some-page.state.now c.in-Some-page.ensures.page in
-    k.1.freed_zero_frames split ∙ shrinks_is i.state.value.shape ∙ ap (λ (r : NodeState). is_some r.shape.underused) (sym c.deref-in-Some-page.ensures)
+    k.1.freed_zero_frames split ∙ shrinks_is i.state.value.shape ∙ ap (λ (r : NodeState). is_some r.shape.underused) (sym c.deref-2.ensures)
 
 pub returns-clause-worth : goal.returns-clause-worth
 returns-clause-worth c =
     let i = c.self.inside in
     let same = c.table-table.ensures ∙ ap (λ (r : NodeState). r.places.table) c.deref.ensures in
     let k = seen i.state.value.shape i.past i.state.value c.self.invariant.0 c.table-table.result.now same c.args.page c.in-Some.block c.in-Some.ensures.found c.in-Some-page.state.now c.in-Some-page.ensures.page in
-    c.of.ensures.worth ∙ ap (λ (r : NodeState). is_split_candidate r.shape.underused c.in-Some-page.state.now) c.deref-in-Some-page.ensures ∙ worth_is i.state.value.shape i.past c.args.page c.in-Some-page.state.now k.1
+    c.of.ensures.worth ∙ ap (λ (r : NodeState). is_split_candidate r.shape.underused c.in-Some-page.state.now) c.deref-2.ensures ∙ worth_is i.state.value.shape i.past c.args.page c.in-Some-page.state.now k.1
     ∙ ap (λ (r : Replayed). is_worth_split r.shape r.history c.args.page) c.self.view_is
 
 pub returns-clause-pins : goal.returns-clause-pins

@@ -15,7 +15,7 @@ pub invariant_of-self : goal.invariant_of-self
 invariant_of-self g c =
     let first : slice_get c.args.self.now 0 ≡ Some c.in_ok-i.i = sym c.first.ensures ∙ c.in_ok-i.was in
     let head = subst (λ (xs : List ℕ). HasHead c.self.inside.head xs) c.self.view_is c.self.invariant in
-    rw (c.pop_front.ensures, c.self.view_is) (head_popped c.args.self.now _ c.in_ok-i.i c.self.inside.head c.link.result c.requires.stands first c.link.ensures.value head)
+    rw (c.apply.ensures, c.self.view_is) (head_popped c.args.self.now _ c.in_ok-i.i c.self.inside.head c.link.result c.requires.stands first c.link.ensures.value head)
 
 pub returns-clause-inside : goal.returns-clause-inside
 returns-clause-inside g c =
@@ -23,4 +23,4 @@ returns-clause-inside g c =
     omega (arith, ChainStands-inside c.in_ok-i.i c.requires.stands (Contains-from_first c.args.self.now c.in_ok-i.i first), ap length c.link.ensures.links)
 
 pub returns-clause-stands : goal.returns-clause-stands
-returns-clause-stands g c = rw (c.pop_front.ensures, c.self.view_is, c.link.ensures.links) (chain_popped c.args.self.now _ c.requires.stands)
+returns-clause-stands g c = rw (c.apply.ensures, c.self.view_is, c.link.ensures.links) (chain_popped c.args.self.now _ c.requires.stands)

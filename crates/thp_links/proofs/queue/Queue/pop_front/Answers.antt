@@ -28,7 +28,7 @@ invariant_of-self g c =
       | then-next w ↦ inl (w.if-next.true, w.tail-is)
       | else-next w ↦ inr (w.if-next.false, w.tail-is)
     ] in
-    rw (c.pop_front.ensures, c.self.view_is) (ends_popped c.args.self.now _ c.in_ok-i.i pair q.head q.tail q.len c.if-next.tail (omega arith) c.requires.stands first c.link-next.ensures.value ends tail)
+    rw (c.apply.ensures, c.self.view_is) (ends_popped c.args.self.now _ c.in_ok-i.i pair q.head q.tail q.len c.if-next.tail (omega arith) c.requires.stands first c.link-next.ensures.value ends tail)
 
 pub returns-clause-inside : goal.returns-clause-inside
 returns-clause-inside g c =
@@ -39,7 +39,7 @@ pub returns-clause-stands : goal.returns-clause-stands
 returns-clause-stands g c =
     let first : slice_get c.args.self.now 0 ≡ Some c.in_ok-i.i = sym c.front.ensures ∙ c.in_ok-i.was in
     let links = c.set_prev.ensures.links ∙ ap (λ (ks : List Link). with_prev ks c.link-next.result.next NIL) c.link-next.ensures.links in
-    rw (c.pop_front.ensures, c.self.view_is) (stands_popped c.args.self.now _ _ c.in_ok-i.i c.link-next.result (omega arith) c.requires.stands first c.link-next.ensures.value links).0
+    rw (c.apply.ensures, c.self.view_is) (stands_popped c.args.self.now _ _ c.in_ok-i.i c.link-next.result (omega arith) c.requires.stands first c.link-next.ensures.value links).0
 
 pub returns-clause-outside : goal.returns-clause-outside
 returns-clause-outside g c =

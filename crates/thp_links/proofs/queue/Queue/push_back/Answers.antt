@@ -27,7 +27,7 @@ invariant_of-self g c =
       | then-self-eq0 w ↦ inl (w.if-self-eq0.true, w.head-is)
       | else-self-eq0 w ↦ inr (w.if-self-eq0.false, w.head-is)
     ] in
-    rw c.push_back.ensures (ends_pushed q.head q.tail q.len c.if-self-eq0.head c.args.i q.list c.self.invariant head)
+    rw c.apply.ensures (ends_pushed q.head q.tail q.len c.if-self-eq0.head c.args.i q.list c.self.invariant head)
 
 pub returns-clause-stands : goal.returns-clause-stands
 unfolding pushed
@@ -35,7 +35,7 @@ returns-clause-stands g c =
     let pair : Link = between c.self.inside.tail NIL in
     let last = c.self.invariant.last ∙ ap (λ (xs : List ℕ). last_or NIL xs) c.self.view_is in
     let links = c.set_link.ensures.links ∙ ap (λ (ks : List Link). set ks c.args.i pair) c.set_next.ensures.links in
-    rw (c.push_back.ensures, c.self.view_is) (stands_pushed c.args.i c.self.inside.tail c.args.self.now _ _ (omega arith) c.requires.stands c.requires.inside c.requires.absent last links).0
+    rw (c.apply.ensures, c.self.view_is) (stands_pushed c.args.i c.self.inside.tail c.args.self.now _ _ (omega arith) c.requires.stands c.requires.inside c.requires.absent last links).0
 
 pub returns-clause-outside : goal.returns-clause-outside
 unfolding pushed
@@ -43,4 +43,4 @@ returns-clause-outside g c =
     let pair : Link = between c.self.inside.tail NIL in
     let last = c.self.invariant.last ∙ ap (λ (xs : List ℕ). last_or NIL xs) c.self.view_is in
     let links = c.set_link.ensures.links ∙ ap (λ (ks : List Link). set ks c.args.i pair) c.set_next.ensures.links in
-    rw (c.push_back.ensures, c.self.view_is) (stands_pushed c.args.i c.self.inside.tail c.args.self.now _ _ (omega arith) c.requires.stands c.requires.inside c.requires.absent last links).1
+    rw (c.apply.ensures, c.self.view_is) (stands_pushed c.args.i c.self.inside.tail c.args.self.now _ _ (omega arith) c.requires.stands c.requires.inside c.requires.absent last links).1

@@ -35,14 +35,14 @@ invariant_of-self g c =
       | then-pair-2 w ↦ inl (w.if-pair-2.true, w.tail-is)
       | else-pair-2 w ↦ inr (w.if-pair-2.false, w.tail-is)
     ] in
-    rw (c.remove.ensures, c.self.view_is) (ends_removed c.args.i c.args.self.now _ (omega arith) c.requires.stands c.requires.present pair c.link-pair.ensures.value q.head q.tail q.len c.if-pair.head c.if-pair-2.tail ends head tail)
+    rw (c.apply.ensures, c.self.view_is) (ends_removed c.args.i c.args.self.now _ (omega arith) c.requires.stands c.requires.present pair c.link-pair.ensures.value q.head q.tail q.len c.if-pair.head c.if-pair-2.tail ends head tail)
 
 pub returns-clause-stands : goal.returns-clause-stands
 unfolding unlinked
 returns-clause-stands g c =
     let pair = c.link-pair.result in
     let links = c.set_prev.ensures.links ∙ ap (λ (ks : List Link). with_prev ks pair.next pair.prev) (c.set_next.ensures.links ∙ ap (λ (ks : List Link). with_next ks pair.prev pair.next) c.link-pair.ensures.links) in
-    rw (c.remove.ensures, c.self.view_is) (stands_removed c.args.i c.args.self.now _ (omega arith) c.requires.stands c.requires.present pair c.link-pair.ensures.value _ links).0
+    rw (c.apply.ensures, c.self.view_is) (stands_removed c.args.i c.args.self.now _ (omega arith) c.requires.stands c.requires.present pair c.link-pair.ensures.value _ links).0
 
 pub returns-clause-outside : goal.returns-clause-outside
 unfolding unlinked

@@ -13,12 +13,12 @@ use Rattle.thp_page.proofs.page.Page.gain.Goals as goal
 pub overflow_add-self : goal.overflow_add-self
 overflow_add-self c =
     let s : PageState = state_of c.self.inside in
-    omega (arith, (map_whole_allowed s 0 c.self.invariant.page (allowed_as s _ (call.map_whole 0) c.self.view_is (sym (c.in_ok-check_map_whole-in-MapWhole.ensures 0)))).1 0 (omega (arith, size_least s c.self.invariant.page.least_order)))
+    omega (arith, (map_whole_allowed s 0 c.self.invariant.page (allowed_as s _ (call.map_whole 0) c.self.view_is (sym (c.in_ok-check-in-MapWhole.ensures 0)))).1 0 (omega (arith, size_least s c.self.invariant.page.least_order)))
 
 pub invariant_of-self : goal.invariant_of-self
 invariant_of-self c =
     let s : PageState = state_of c.self.inside in
-    let allowed = allowed_as s _ (call.map_whole 0) c.self.view_is (sym (c.in_ok-check_map_whole-in-MapWhole.ensures 0)) in
+    let allowed = allowed_as s _ (call.map_whole 0) c.self.view_is (sym (c.in_ok-check-in-MapWhole.ensures 0)) in
     kept_else c.self.inside (record c.self.inside { whole = s.whole + 1 }) c.self.invariant
     (IsPage-map_whole s (record s { whole = s.whole + 1 }) 0 c.self.invariant.page allowed (record { order = refl; whole = refl; own = λ i below. refl; pins = refl; split = refl; partly = refl; kept = record { zero = refl; freed_zero_frames = refl } }))
     refl refl refl
@@ -27,12 +27,12 @@ invariant_of-self c =
 pub overflow_add-self-in-Pin : goal.overflow_add-self-in-Pin
 overflow_add-self-in-Pin c =
     let s : PageState = state_of c.self-in-Pin.inside in
-    omega (arith, (pin_allowed s 0 c.self-in-Pin.invariant.page (allowed_as s _ (call.pin 0) c.self-in-Pin.view_is (sym (c.in_ok-check_pin-in-Pin.ensures 0)))).1)
+    omega (arith, (pin_allowed s 0 c.self-in-Pin.invariant.page (allowed_as s _ (call.pin 0) c.self-in-Pin.view_is (sym (c.in_ok-check-in-Pin.ensures 0)))).1)
 
 pub invariant_of-self-in-Pin : goal.invariant_of-self-in-Pin
 invariant_of-self-in-Pin c =
     let s : PageState = state_of c.self-in-Pin.inside in
-    let allowed = allowed_as s _ (call.pin 0) c.self-in-Pin.view_is (sym (c.in_ok-check_pin-in-Pin.ensures 0)) in
+    let allowed = allowed_as s _ (call.pin 0) c.self-in-Pin.view_is (sym (c.in_ok-check-in-Pin.ensures 0)) in
     kept_else c.self-in-Pin.inside (record c.self-in-Pin.inside { pins = s.pins + 1 }) c.self-in-Pin.invariant
     (IsPage-pin s (record s { pins = s.pins + 1 }) 0 c.self-in-Pin.invariant.page allowed (record { order = refl; whole = refl; own = λ i below. refl; pins = refl; split = refl; partly = refl; kept = record { zero = refl; freed_zero_frames = refl } }))
     refl refl refl
@@ -89,12 +89,12 @@ replaced s own n most mapped long added = record {
 pub overflow_sub-self : goal.overflow_sub-self
 overflow_sub-self c =
     let s : PageState = state_of c.self-in-SplitPmd.inside in
-    (split_pmd_allowed s 0 (allowed_as s _ (call.split_pmd 0) c.self-in-SplitPmd.view_is (sym (c.in_ok-check_unmap_whole-in-SplitPmd.ensures.split 0)))).1
+    (split_pmd_allowed s 0 (allowed_as s _ (call.split_pmd 0) c.self-in-SplitPmd.view_is (sym (c.in_ok-check-in-SplitPmd.ensures 0)))).1
 
 pub map-requires-in-SplitPmd-clause-small : goal.map-requires-in-SplitPmd-clause-small
 map-requires-in-SplitPmd-clause-small c =
     let s : PageState = state_of c.self-in-SplitPmd.inside in
-    let facts = split_pmd_allowed s 0 (allowed_as s _ (call.split_pmd 0) c.self-in-SplitPmd.view_is (sym (c.in_ok-check_unmap_whole-in-SplitPmd.ensures.split 0))) in
+    let facts = split_pmd_allowed s 0 (allowed_as s _ (call.split_pmd 0) c.self-in-SplitPmd.view_is (sym (c.in_ok-check-in-SplitPmd.ensures 0))) in
     λ i covered. let at = covers_true 0 c.subpages-subpages.result i covered in
     omega (arith, facts.1, c.self-in-SplitPmd.invariant.page.bounded i (omega (arith, at.1, c.subpages-subpages.ensures.size, ap size c.self-in-SplitPmd.view_is)))
 
@@ -103,7 +103,7 @@ unfolding divided
 invariant_of-self-in-SplitPmd c =
     let s : PageState = state_of c.self-in-SplitPmd.inside in
     let t : PageState = divided s c.map-in-SplitPmd.new.self in
-    let allowed = allowed_as s _ (call.split_pmd 0) c.self-in-SplitPmd.view_is (sym (c.in_ok-check_unmap_whole-in-SplitPmd.ensures.split 0)) in
+    let allowed = allowed_as s _ (call.split_pmd 0) c.self-in-SplitPmd.view_is (sym (c.in_ok-check-in-SplitPmd.ensures 0)) in
     let long = c.subpages-subpages.ensures.size ∙ ap size (sym c.self-in-SplitPmd.view_is) in
     record {
       page = IsPage-split_pmd s t 0 c.self-in-SplitPmd.invariant.page allowed (replaced s c.map-in-SplitPmd.new.self _ c.self-in-SplitPmd.invariant.page.most_order (split_pmd_allowed s 0 allowed).1 long c.map-in-SplitPmd.ensures);
@@ -111,10 +111,10 @@ invariant_of-self-in-SplitPmd c =
       zero_inside = zero_inside-same s t refl refl c.self-in-SplitPmd.invariant.zero_inside;
     }
 
-pub returns-in_ok-check_unmap_whole-in-SplitPmd-clause-counts : goal.returns-in_ok-check_unmap_whole-in-SplitPmd-clause-counts
+pub returns-in_ok-check-in-SplitPmd-clause-counts : goal.returns-in_ok-check-in-SplitPmd-clause-counts
 unfolding divided
-returns-in_ok-check_unmap_whole-in-SplitPmd-clause-counts c =
+returns-in_ok-check-in-SplitPmd-clause-counts c =
     let s : PageState = state_of c.self-in-SplitPmd.inside in
-    let allowed = allowed_as s _ (call.split_pmd 0) c.self-in-SplitPmd.view_is (sym (c.in_ok-check_unmap_whole-in-SplitPmd.ensures.split 0)) in
+    let allowed = allowed_as s _ (call.split_pmd 0) c.self-in-SplitPmd.view_is (sym (c.in_ok-check-in-SplitPmd.ensures 0)) in
     rw c.in-SplitPmd.is (subst (λ (t : PageState). PmdSplit t (divided s c.map-in-SplitPmd.new.self)) c.self-in-SplitPmd.view_is
     (replaced s c.map-in-SplitPmd.new.self _ c.self-in-SplitPmd.invariant.page.most_order (split_pmd_allowed s 0 allowed).1 (c.subpages-subpages.ensures.size ∙ ap size (sym c.self-in-SplitPmd.view_is)) c.map-in-SplitPmd.ensures))

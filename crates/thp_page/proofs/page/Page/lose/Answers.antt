@@ -13,7 +13,7 @@ use Rattle.thp_page.proofs.PageRefusals.{allowed_as, unmap_whole_allowed, unmap_
 use Rattle.thp_page.proofs.Trailing.{behind-unmap}
 use Rattle.thp_page.proofs.PageChanges.{kept_else, IsPage-unmap_whole, IsPage-unmap_sub, IsPage-unpin, IsPage-partly, has_use-partly, partly_after-partly, kept_partly, zero_inside-same}
 use Rattle.thp_page.proofs.PageUse.{drops_use-last, drops_use-range, drops_use-mapped, gives_frames-range, gives_frames-unsplit, unpin_change}
-use Rattle.thp_page.proofs.page.Page.lose.Goals.{Joined-loss, Joined-change, in-UnmapWhole+in_ok-check_unmap_whole-in-UnmapWhole, then-self-eq1, else-self-eq1, in-UnmapSub+in_ok-check_unmap_sub-in-UnmapSub, then-self-eq0, else-self-eq0, then-self, else-self, in-Unpin+in_ok-check_unpin-in-Unpin, then-change, else-change}
+use Rattle.thp_page.proofs.page.Page.lose.Goals.{Joined-loss, Joined-change, in-UnmapWhole+in_ok-check-in-UnmapWhole, then-self-eq1, else-self-eq1, in-UnmapSub+in_ok-check_unmap_sub-in-UnmapSub, then-self-eq0, else-self-eq0, then-self, else-self, in-Unpin+in_ok-check-in-Unpin, then-change, else-change}
 use Rattle.thp_page.proofs.page.Page.lose.Goals as goal
 
 -- the effect of a loss on the fields, before it is known whether the page is partly mapped then
@@ -111,12 +111,12 @@ pin p change k allowed unused none =
 pub overflow_sub-self : goal.overflow_sub-self
 overflow_sub-self c =
     let s : PageState = state_of c.self.inside in
-    (unmap_whole_allowed s 0 (allowed_as s _ (call.unmap_whole 0) c.self.view_is (sym (c.in_ok-check_unmap_whole-in-UnmapWhole.ensures.unmap 0)))).1
+    (unmap_whole_allowed s 0 (allowed_as s _ (call.unmap_whole 0) c.self.view_is (sym (c.in_ok-check-in-UnmapWhole.ensures 0)))).1
 
 pub overflow_sub-self-in-Unpin : goal.overflow_sub-self-in-Unpin
 overflow_sub-self-in-Unpin c =
     let s : PageState = state_of c.self.inside in
-    (unpin_allowed s 0 (allowed_as s _ (call.unpin 0) c.self.view_is (sym (c.in_ok-check_unpin-in-Unpin.ensures 0)))).1
+    (unpin_allowed s 0 (allowed_as s _ (call.unpin 0) c.self.view_is (sym (c.in_ok-check-in-Unpin.ensures 0)))).1
 
 pub unmap-unmapped-requires : goal.unmap-unmapped-requires
 unmap-unmapped-requires c =
@@ -132,8 +132,8 @@ lessened c =
     let s : PageState = state_of c.self.inside in
     let most = c.self.invariant.page.most_order in
     elim c.match-loss.branch [
-      | in-UnmapWhole+in_ok-check_unmap_whole-in-UnmapWhole w ↦
-          let allowed = allowed_as s _ (call.unmap_whole 0) c.self.view_is (sym (w.in_ok-check_unmap_whole-in-UnmapWhole.ensures.unmap 0)) in
+      | in-UnmapWhole+in_ok-check-in-UnmapWhole w ↦
+          let allowed = allowed_as s _ (call.unmap_whole 0) c.self.view_is (sym (w.in_ok-check-in-UnmapWhole.ensures 0)) in
           let facts = unmap_whole_allowed s 0 allowed in
           let u : PageState = record s { whole = s.whole - 1 } in
           let unused : w.if-self-eq1.change ≡ drops_use s u =
@@ -174,9 +174,9 @@ lessened c =
             unused = unused;
             done = λ b e. (range_done s own first count b most taken e, released b e);
           })
-      | in-Unpin+in_ok-check_unpin-in-Unpin w ↦
+      | in-Unpin+in_ok-check-in-Unpin w ↦
           rw (w.in-Unpin.is, w.self-inside-is, w.change-is)
-          (pin c.self.inside _ c.self.invariant (allowed_as s _ (call.unpin 0) c.self.view_is (sym (w.in_ok-check_unpin-in-Unpin.ensures 0))) refl w.empty-change-in-Unpin.ensures)
+          (pin c.self.inside _ c.self.invariant (allowed_as s _ (call.unpin 0) c.self.view_is (sym (w.in_ok-check-in-Unpin.ensures 0))) refl w.empty-change-in-Unpin.ensures)
     ] where
       more : (n : ℕ) → 1 ≤ n → n ≢ 1 → 0 < n - 1
       more n h f = omega arith

@@ -1,4 +1,4 @@
-use Rattle.std.proofs.Common.{◌<◌, ◌∙◌, ℕ, List, Option, length, get_or, None, ap, sym, subst, arith}
+use Rattle.std.proofs.Common.{◌<◌, ◌∙◌, ℕ, List, Option, length, get_or, None, ap, sym, subst, arith, rules}
 use Rattle.std.proofs.lemmas.List.{get_or_read}
 use Rattle.thp_page.proofs.Chains.{chain_inside, left_falls, left_from}
 use Rattle.thp_page.proofs.Buckets.{IsSearchedTo, search_begun, search_on, search_ended}
@@ -14,15 +14,15 @@ loop-block-init c =
 pub index-requires : goal.index-requires
 index-requires c = omega (arith, c.self.invariant.each_next, chain_inside c.self.inside.nexts.items c.loop-block.block c.loop-block.invariant.rest c.loop-block.invariant.chain c.loop-block-test.true)
 
-pub returns-then-is_number-clause-found : goal.returns-then-is_number-clause-found
-returns-then-is_number-clause-found c =
+pub returns-then-eq-clause-found : goal.returns-then-eq-clause-found
+returns-then-eq-clause-found c =
     let at = c.loop-block.block in
     let numbers = c.self.inside.numbers.items in
     let inside : at < length numbers = omega (arith, c.self.invariant.each_next, chain_inside c.self.inside.nexts.items at c.loop-block.invariant.rest c.loop-block.invariant.chain c.loop-block-test.true) in
-    ap (λ (os : List (Option ℕ)). get_or os at None) (sym c.self.view_is) ∙ sym (get_or_read numbers at c.index.result.now inside c.index.ensures None) ∙ c.if-is_number.ensures.yes
+    ap (λ (os : List (Option ℕ)). get_or os at None) (sym c.self.view_is) ∙ sym (get_or_read numbers at c.index.result.now inside c.index.ensures None) ∙ search rules
 
-pub returns-then-is_number-clause-inside : goal.returns-then-is_number-clause-inside
-returns-then-is_number-clause-inside c =
+pub returns-then-eq-clause-inside : goal.returns-then-eq-clause-inside
+returns-then-eq-clause-inside c =
     omega (arith, c.self.invariant.each_next, ap (λ (os : List (Option ℕ)). length os) c.self.view_is, chain_inside c.self.inside.nexts.items c.loop-block.block c.loop-block.invariant.rest c.loop-block.invariant.chain c.loop-block-test.true)
 
 pub index-block-requires-in-loop-block : goal.index-block-requires-in-loop-block
@@ -45,7 +45,7 @@ loop-block-preserved c =
     let inside : at < length nexts = chain_inside nexts at w.rest w.chain c.loop-block-test.true in
     let number = get_or_read numbers at c.index.result.now (omega (arith, inside, c.self.invariant.each_next)) c.index.ensures None in
     subst (λ (x : ℕ). IsSearchedTo numbers nexts c.args.id x) (sym (get_or_read nexts at c.index-block-in-loop-block.result.now inside c.index-block-in-loop-block.ensures 0))
-    (search_on numbers nexts c.args.id at w c.loop-block-test.true (λ e. c.if-is_number.ensures.no (number ∙ e)))
+    (search_on numbers nexts c.args.id at w c.loop-block-test.true (λ e. absurd (grind arith)))
 
 pub returns-clause-absent : goal.returns-clause-absent
 returns-clause-absent c b e =

@@ -1,7 +1,7 @@
 use Rattle.std.proofs.Common.{◌≡◌, ◌+◌, ◌≤◌, take, get_or}
 use Rattle.thp_links.specs.declared.link.TheConstants.{NIL}
 use Rattle.thp_page.specs.Prelude.{SameSlots}
-use Rattle.thp_live_pages.proofs.walk.blocks_of.Given as goal
+use Rattle.thp_live_pages.proofs.page_store.blocks_of.Given as goal
 
 -- the blocks passed, and that of the next place; of the table nothing changed but the count
 abbrev pub invariant-loop-place : goal.invariant-loop-place

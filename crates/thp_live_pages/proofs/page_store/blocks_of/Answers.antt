@@ -1,7 +1,7 @@
 use Rattle.std.proofs.Common.{◌≡◌, ◌<◌, List, Option, Some, length, ap, sym, ◌∙◌, arith, subst, refl, slice_get, IfSome}
 use Rattle.thp_links.specs.declared.link.Link.{Link}
 use Rattle.thp_live_pages.proofs.Walking.{inside, behind, joins}
-use Rattle.thp_live_pages.proofs.walk.blocks_of.Goals as goal
+use Rattle.thp_live_pages.proofs.page_store.blocks_of.Goals as goal
 
 pub link-block-requires : goal.link-block-requires
 link-block-requires c =
