@@ -51,11 +51,12 @@ impl<R: Recorder> Model for Engine<R> {
 }
 
 impl<R: Recorder> Engine<R> {
-    ghost use Rattle.std.specs.Prelude.{[], ◌∷◌, ◌⊎◌};
+    ghost use Rattle.std.specs.Prelude.{[], ◌∷◌, ◌⊎◌, ◌↔◌, Err};
     ghost use Rattle.thp_history.specs.Prelude.{IsShape};
 
     /// Creates an engine of a node with no page.
     pub fn new(alloc: Global, shape: Shape) -> Result<Engine<R>, Fault>
+        ensures bad_size { (result ≡ Err Fault.BadSize) ↔ ¬ IsShape shape }
         ensures size { IfOk result (λ e. IsShape shape) }
         ensures why { IfErr result (λ f. ((f ≡ Fault.BadSize) × ¬ IsShape shape) ⊎ (f ≡ Fault.Refused Refusal.OutOfMemory)) }
         ensures shape { IfOk result (λ e. e.node.shape ≡ shape) }
