@@ -1,8 +1,7 @@
 //! What the handles of nodes and of passes hold: a node's events are stored, or only counted.
 ghost use Rattle.std.specs.Prelude.{◌≡◌, ◌⊎◌, ◌↔◌, [], Err, IfErr, IfOk};
 ghost use Rattle.thp_history.specs.Prelude.{IsShape};
-ghost use Rattle.thp_capi.specs.Engines.{NoneOpen};
-ghost use Rattle.thp_capi.specs.Held.{held_value, is_counting};
+ghost use Rattle.thp_capi.specs.Prelude.{NoneOpen, held_value, is_counting};
 
 use crate::codes::Fault;
 use crate::engine::Engine;
