@@ -1,10 +1,6 @@
 //! The check of journals, exported: of a whole text, and of a text that arrives in parts.
 ghost use Rattle.std.specs.Prelude.{◌≡◌};
-ghost use Rattle.thp_capi.specs.Checks.{CheckAnswer, ReportsText, numbers_of};
-ghost use Rattle.thp_capi.specs.Codes.{answer_of, IsCode};
-ghost use Rattle.thp_capi.specs.Held.{Emptied};
-ghost use Rattle.thp_capi.specs.Rooms.{value_of};
-ghost use Rattle.thp_capi.specs.LongChecks.{CheckMade, CheckReads, CheckEnds, CheckTells};
+ghost use Rattle.thp_capi.specs.Prelude.{CheckAnswer, CheckEnds, CheckMade, CheckReads, CheckTells, Emptied, IsCode, ReportsText, answer_of, numbers_of, value_of};
 
 use std::alloc::Global;
 use thp_capi::{
@@ -45,10 +41,7 @@ pub extern "C" fn thp_c_check_destroy(handle: &mut ThpCheck, alloc: Global) -> u
     ensures does { Emptied (value_of handle.old.held) (value_of handle.new.held) (answer_of result) }
     ensures known { IsCode result }
 {
-    match handle.take(alloc) {
-        Some(_taken) => code(Ok(())),
-        None => code(Err(Fault::Empty)),
-    }
+    code(handle.take(alloc).map(drop).ok_or(Fault::Empty))
 }
 
 /// Reads the next part of the text. If memory for that can't be allocated, the check is lost and the handle is empty.

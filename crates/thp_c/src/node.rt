@@ -2,16 +2,12 @@
 ghost use Rattle.std.specs.Prelude.{◌≡◌, ◌∷◌, [], Ok, Err, OnErr, length};
 ghost use Rattle.thp_history.specs.Prelude.{queue};
 ghost use Rattle.thp_history.specs.Refusals as call;
-ghost use Rattle.thp_capi.specs.Calls.{OneCall, AllocCall, ScanCall, TakeCall, NextCall, BackCall, AbandonCall, ReserveCall, Written};
-ghost use Rattle.thp_capi.specs.Codes.{answer_of, answer_with, IsCode};
-ghost use Rattle.thp_capi.specs.Engines.{shape_of};
-ghost use Rattle.thp_capi.specs.Held.{Does, DoesIfKept, Made, Emptied};
-ghost use Rattle.thp_capi.specs.Replies.{stats_of};
+ghost use Rattle.thp_capi.specs.Prelude.{AbandonCall, AllocCall, BackCall, Does, DoesIfKept, Emptied, IsCode, Made, NextCall, OneCall, ReserveCall, ScanCall, TakeCall, Written, answer_of, answer_with, shape_of, stats_of};
 ghost use Rattle.thp_journal_writer.specs.Prelude.{journal_text};
 
 use std::alloc::Global;
 use thp_capi::{
-    Fault, Held, HeldEngine, ThpBack, ThpNode, ThpScan, ThpStats, ThpTried, code, on_node,
+    BackReply, Fault, Held, HeldEngine, ScanReply, ThpNode, ThpStats, ThpTried, code, on_node,
     put_text, shape,
 };
 use thp_history::What;
@@ -49,10 +45,7 @@ pub extern "C" fn thp_c_node_destroy(handle: &mut ThpNode, alloc: Global) -> u32
     ensures does { Emptied handle.old.held handle.new.held (answer_of result) }
     ensures known { IsCode result }
 {
-    match handle.take(alloc) {
-        Some(_engine) => code(Ok(())),
-        None => code(Err(Fault::Empty)),
-    }
+    code(handle.take(alloc).map(drop).ok_or(Fault::Empty))
 }
 
 /// Allocates a page, mapped whole once. Its number is the number of allocations before it.
@@ -86,7 +79,7 @@ pub extern "C" fn thp_c_node_scan(
     alloc: Global,
     caller: u32,
     n: u32,
-    scan: &mut ThpScan,
+    scan: &mut ScanReply,
 ) -> u32
     ensures does { Does handle.old.held handle.new.held (answer_of result) (λ old new answer. ScanCall caller n old new (answer_with answer scan.new)) }
     ensures known { IsCode result }
@@ -133,7 +126,7 @@ pub extern "C" fn thp_c_node_put_back(
     handle: &mut ThpNode,
     alloc: Global,
     caller: u32,
-    back: &mut ThpBack,
+    back: &mut BackReply,
 ) -> u32
     ensures does { Does handle.old.held handle.new.held (answer_of result) (λ old new answer. BackCall caller old new (answer_with answer back.new)) }
     ensures known { IsCode result }

@@ -1,8 +1,6 @@
 //! The calls that read a node's pages and queue.
 ghost use Rattle.std.specs.Prelude.{◌≡◌, Err, OnErr};
-ghost use Rattle.thp_capi.specs.Codes.{answer_of, answer_with, IsCode};
-ghost use Rattle.thp_capi.specs.Held.{Does, DoesIfKept};
-ghost use Rattle.thp_capi.specs.Reading.{MapcountCall, PageCall, QueueCall};
+ghost use Rattle.thp_capi.specs.Prelude.{Does, DoesIfKept, IsCode, MapcountCall, PageCall, QueueCall, answer_of, answer_with};
 
 use std::alloc::Global;
 use thp_capi::{Fault, Held, ThpNode, ThpPageState, code, on_node, report};

@@ -1,15 +1,11 @@
 //! The calls about one page, exported: of a node, and of a pass of a shared node.
 ghost use Rattle.std.specs.Prelude.{◌≡◌, OnErr};
 ghost use Rattle.thp_history.specs.Refusals as call;
-ghost use Rattle.thp_capi.specs.Calls.{LoseCall, OneCall};
-ghost use Rattle.thp_capi.specs.Codes.{answer_of, answer_with, IsCode};
-ghost use Rattle.thp_capi.specs.Held.{Does};
-ghost use Rattle.thp_capi.specs.Rooms.{value_of};
-ghost use Rattle.thp_capi.specs.Passes.{PassOne, PassLost};
+ghost use Rattle.thp_capi.specs.Prelude.{Does, IsCode, LoseCall, OneCall, PassLost, PassOne, answer_of, answer_with, value_of};
 
 use std::alloc::Global;
-use thp_capi::{ThpDone, ThpNode, ThpPass};
-use thp_history::{Gain, Loss, What};
+use thp_capi::{ThpDone, ThpNode, ThpPass, code, on_node, on_pass};
+use thp_history::{Gain, Loss, PageId, What};
 
 /// Maps the whole page once more, by a PMD entry.
 #[unsafe(no_mangle)]
@@ -22,7 +18,7 @@ pub extern "C" fn thp_c_node_map_whole(
     ensures does { Does handle.old.held handle.new.held (answer_of result) (OneCall caller (call.map_whole page) (What.MapWhole page)) }
     ensures known { IsCode result }
 {
-    thp_capi::node_gain(handle, alloc, caller, page, Gain::MapWhole)
+    code(on_node!(handle, alloc, engine => engine.gain(caller, PageId(page), Gain::MapWhole)))
 }
 
 /// Maps each of the `count` subpages from `first` on once more, by PTE entries.
@@ -39,7 +35,7 @@ pub extern "C" fn thp_c_node_map_sub(
     ensures known { IsCode result }
 {
     let gain = Gain::MapSub { first, count };
-    thp_capi::node_gain(handle, alloc, caller, page, gain)
+    code(on_node!(handle, alloc, engine => engine.gain(caller, PageId(page), gain)))
 }
 
 /// Replaces one PMD mapping of the page by a PTE mapping of each subpage.
@@ -53,7 +49,7 @@ pub extern "C" fn thp_c_node_split_pmd(
     ensures does { Does handle.old.held handle.new.held (answer_of result) (OneCall caller (call.split_pmd page) (What.SplitPmd page)) }
     ensures known { IsCode result }
 {
-    thp_capi::node_gain(handle, alloc, caller, page, Gain::SplitPmd)
+    code(on_node!(handle, alloc, engine => engine.gain(caller, PageId(page), Gain::SplitPmd)))
 }
 
 /// Adds a pin to the page.
@@ -62,7 +58,7 @@ pub extern "C" fn thp_c_node_pin(handle: &mut ThpNode, alloc: Global, caller: u3
     ensures does { Does handle.old.held handle.new.held (answer_of result) (OneCall caller (call.pin page) (What.Pin page)) }
     ensures known { IsCode result }
 {
-    thp_capi::node_gain(handle, alloc, caller, page, Gain::Pin)
+    code(on_node!(handle, alloc, engine => engine.gain(caller, PageId(page), Gain::Pin)))
 }
 
 /// Records that data is written to each of the `count` subpages from `first` on.
@@ -79,7 +75,7 @@ pub extern "C" fn thp_c_node_write(
     ensures known { IsCode result }
 {
     let gain = Gain::Write { first, count };
-    thp_capi::node_gain(handle, alloc, caller, page, gain)
+    code(on_node!(handle, alloc, engine => engine.gain(caller, PageId(page), gain)))
 }
 
 /// Records that zeros are written to each of the `count` subpages from `first` on.
@@ -96,7 +92,7 @@ pub extern "C" fn thp_c_node_zero(
     ensures known { IsCode result }
 {
     let gain = Gain::Zero { first, count };
-    thp_capi::node_gain(handle, alloc, caller, page, gain)
+    code(on_node!(handle, alloc, engine => engine.gain(caller, PageId(page), gain)))
 }
 
 /// Removes one mapping of the whole page.
@@ -112,7 +108,7 @@ pub extern "C" fn thp_c_node_unmap_whole(
     ensures known { IsCode result }
     ensures kept { OnErr (answer_of result) (done.new ≡ done.old) }
 {
-    thp_capi::node_lose(handle, alloc, caller, page, Loss::UnmapWhole, done)
+    on_node!(handle, alloc, engine => engine.lose(caller, PageId(page), Loss::UnmapWhole), done)
 }
 
 /// Removes one mapping of each of the `count` subpages from `first` on.
@@ -131,7 +127,7 @@ pub extern "C" fn thp_c_node_unmap_sub(
     ensures kept { OnErr (answer_of result) (done.new ≡ done.old) }
 {
     let loss = Loss::UnmapSub { first, count };
-    thp_capi::node_lose(handle, alloc, caller, page, loss, done)
+    on_node!(handle, alloc, engine => engine.lose(caller, PageId(page), loss), done)
 }
 
 /// Removes a pin of the page.
@@ -147,7 +143,7 @@ pub extern "C" fn thp_c_node_unpin(
     ensures known { IsCode result }
     ensures kept { OnErr (answer_of result) (done.new ≡ done.old) }
 {
-    thp_capi::node_lose(handle, alloc, caller, page, Loss::Unpin, done)
+    on_node!(handle, alloc, engine => engine.lose(caller, PageId(page), Loss::Unpin), done)
 }
 
 /// Maps the whole page once more, by a PMD entry.
@@ -161,7 +157,7 @@ pub extern "C" fn thp_c_pass_map_whole(
     ensures does { Does (value_of handle.old.held) (value_of handle.new.held) (answer_of result) (PassOne caller (call.map_whole page) (What.MapWhole page)) }
     ensures known { IsCode result }
 {
-    thp_capi::pass_gain(handle, alloc, caller, page, Gain::MapWhole)
+    code(on_pass!(handle, alloc, pass => pass.gain(caller, PageId(page), Gain::MapWhole)))
 }
 
 /// Maps each of the `count` subpages from `first` on once more, by PTE entries.
@@ -178,7 +174,7 @@ pub extern "C" fn thp_c_pass_map_sub(
     ensures known { IsCode result }
 {
     let gain = Gain::MapSub { first, count };
-    thp_capi::pass_gain(handle, alloc, caller, page, gain)
+    code(on_pass!(handle, alloc, pass => pass.gain(caller, PageId(page), gain)))
 }
 
 /// Replaces one PMD mapping of the page by a PTE mapping of each subpage.
@@ -192,7 +188,7 @@ pub extern "C" fn thp_c_pass_split_pmd(
     ensures does { Does (value_of handle.old.held) (value_of handle.new.held) (answer_of result) (PassOne caller (call.split_pmd page) (What.SplitPmd page)) }
     ensures known { IsCode result }
 {
-    thp_capi::pass_gain(handle, alloc, caller, page, Gain::SplitPmd)
+    code(on_pass!(handle, alloc, pass => pass.gain(caller, PageId(page), Gain::SplitPmd)))
 }
 
 /// Adds a pin to the page.
@@ -201,7 +197,7 @@ pub extern "C" fn thp_c_pass_pin(handle: &mut ThpPass, alloc: Global, caller: u3
     ensures does { Does (value_of handle.old.held) (value_of handle.new.held) (answer_of result) (PassOne caller (call.pin page) (What.Pin page)) }
     ensures known { IsCode result }
 {
-    thp_capi::pass_gain(handle, alloc, caller, page, Gain::Pin)
+    code(on_pass!(handle, alloc, pass => pass.gain(caller, PageId(page), Gain::Pin)))
 }
 
 /// Records that data is written to each of the `count` subpages from `first` on.
@@ -218,7 +214,7 @@ pub extern "C" fn thp_c_pass_write(
     ensures known { IsCode result }
 {
     let gain = Gain::Write { first, count };
-    thp_capi::pass_gain(handle, alloc, caller, page, gain)
+    code(on_pass!(handle, alloc, pass => pass.gain(caller, PageId(page), gain)))
 }
 
 /// Records that zeros are written to each of the `count` subpages from `first` on.
@@ -235,7 +231,7 @@ pub extern "C" fn thp_c_pass_zero(
     ensures known { IsCode result }
 {
     let gain = Gain::Zero { first, count };
-    thp_capi::pass_gain(handle, alloc, caller, page, gain)
+    code(on_pass!(handle, alloc, pass => pass.gain(caller, PageId(page), gain)))
 }
 
 /// Removes one mapping of the whole page.
@@ -251,7 +247,7 @@ pub extern "C" fn thp_c_pass_unmap_whole(
     ensures known { IsCode result }
     ensures kept { OnErr (answer_of result) (done.new ≡ done.old) }
 {
-    thp_capi::pass_lose(handle, alloc, caller, page, Loss::UnmapWhole, done)
+    on_pass!(handle, alloc, pass => pass.lose(caller, PageId(page), Loss::UnmapWhole), done)
 }
 
 /// Removes one mapping of each of the `count` subpages from `first` on.
@@ -270,7 +266,7 @@ pub extern "C" fn thp_c_pass_unmap_sub(
     ensures kept { OnErr (answer_of result) (done.new ≡ done.old) }
 {
     let loss = Loss::UnmapSub { first, count };
-    thp_capi::pass_lose(handle, alloc, caller, page, loss, done)
+    on_pass!(handle, alloc, pass => pass.lose(caller, PageId(page), loss), done)
 }
 
 /// Removes a pin of the page.
@@ -286,5 +282,5 @@ pub extern "C" fn thp_c_pass_unpin(
     ensures known { IsCode result }
     ensures kept { OnErr (answer_of result) (done.new ≡ done.old) }
 {
-    thp_capi::pass_lose(handle, alloc, caller, page, Loss::Unpin, done)
+    on_pass!(handle, alloc, pass => pass.lose(caller, PageId(page), Loss::Unpin), done)
 }

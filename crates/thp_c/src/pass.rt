@@ -1,15 +1,11 @@
 //! The calls of a shared node: of its cell, and of passes of the cell.
 ghost use Rattle.std.specs.Prelude.{◌≡◌, None, OnOk, OnErr, IfErr, Ok};
 ghost use Rattle.thp_history.specs.Refusals as call;
-ghost use Rattle.thp_capi.specs.Codes.{answer_of, answer_with, IsCode};
-ghost use Rattle.thp_capi.specs.Engines.{shape_of};
-ghost use Rattle.thp_capi.specs.Held.{Does, Emptied};
-ghost use Rattle.thp_capi.specs.Rooms.{value_of};
-ghost use Rattle.thp_capi.specs.Passes.{PassOne, PassAlloc, PassScan, PassCount, CellMade, Divided, WhyUndivided, Joined, WhyApart, OneCellHeld, Finished, WhyUnfinished};
+ghost use Rattle.thp_capi.specs.Prelude.{CellMade, Divided, Does, Emptied, Finished, IsCode, Joined, OneCellHeld, PassAlloc, PassCount, PassOne, PassScan, WhyApart, WhyUndivided, WhyUnfinished, answer_of, answer_with, shape_of, value_of};
 
 use std::alloc::Global;
 use thp_capi::{
-    Fault, HeldPass, Room, ThpNode, ThpPass, ThpScan, code, on_pass, shape, spare_engine,
+    Fault, HeldPass, Room, ScanReply, ThpNode, ThpPass, code, on_pass, shape, spare_engine,
 };
 use thp_history::{Refusal, What};
 
@@ -52,10 +48,7 @@ pub extern "C" fn thp_c_pass_destroy(handle: &mut ThpPass, alloc: Global) -> u32
     ensures does { Emptied (value_of handle.old.held) (value_of handle.new.held) (answer_of result) }
     ensures known { IsCode result }
 {
-    match handle.take(alloc) {
-        Some(_taken) => code(Ok(())),
-        None => code(Err(Fault::Empty)),
-    }
+    code(handle.take(alloc).map(drop).ok_or(Fault::Empty))
 }
 
 /// Divides the callers of a pass: those below `at` stay, and the other handle is filled with a pass of those from `at` on.
@@ -193,7 +186,7 @@ pub extern "C" fn thp_c_pass_scan(
     alloc: Global,
     caller: u32,
     n: u32,
-    scan: &mut ThpScan,
+    scan: &mut ScanReply,
 ) -> u32
     ensures does { Does (value_of handle.old.held) (value_of handle.new.held) (answer_of result) (λ old new answer. PassScan caller n old new (answer_with answer scan.new)) }
     ensures known { IsCode result }

@@ -1,12 +1,9 @@
 //! The calls about a caller's open batch on a shared node.
 ghost use Rattle.std.specs.Prelude.{◌≡◌, OnErr};
-ghost use Rattle.thp_capi.specs.PassBatches.{PassTake, PassNext, PassBack, PassAbandon};
-ghost use Rattle.thp_capi.specs.Codes.{answer_of, answer_with, IsCode};
-ghost use Rattle.thp_capi.specs.Held.{Does};
-ghost use Rattle.thp_capi.specs.Rooms.{value_of};
+ghost use Rattle.thp_capi.specs.Prelude.{Does, IsCode, PassAbandon, PassBack, PassNext, PassTake, answer_of, answer_with, value_of};
 
 use std::alloc::Global;
-use thp_capi::{ThpBack, ThpPass, ThpTried, code, on_pass};
+use thp_capi::{BackReply, ThpPass, ThpTried, code, on_pass};
 
 /// Takes up to `n` of the oldest queued pages, in order, into the caller's batch, which is open afterwards. `count` is the number
 /// of pages taken.
@@ -46,7 +43,7 @@ pub extern "C" fn thp_c_pass_put_back(
     handle: &mut ThpPass,
     alloc: Global,
     caller: u32,
-    back: &mut ThpBack,
+    back: &mut BackReply,
 ) -> u32
     ensures does { Does (value_of handle.old.held) (value_of handle.new.held) (answer_of result) (λ old new answer. PassBack caller old new (answer_with answer back.new)) }
     ensures known { IsCode result }

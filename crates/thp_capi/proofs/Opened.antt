@@ -9,9 +9,9 @@ use Rattle.thp_cell.specs.Prelude.{at_front, BatchesStay, OtherBatchesStay, Call
 use Rattle.thp_cell.specs.declared.fault.CellFault.{CellFault}
 use Rattle.thp_capi.specs.Codes.{fault_in}
 use Rattle.thp_capi.specs.PassBatches.{PassNext, PassBack, PassFailsOnBatch}
-use Rattle.thp_capi.specs.Replies.{back_of, tried_of}
+use Rattle.thp_capi.specs.Replies.{tried_of}
 use Rattle.thp_capi.specs.Sharing.{IsShared, OnlyOf, batch_of}
-use Rattle.thp_capi.specs.declared.replies.ThpBack.{ThpBack}
+use Rattle.thp_node.specs.declared.answers.BackReply.{BackReply}
 use Rattle.thp_capi.specs.declared.replies.ThpTried.{ThpTried}
 use Rattle.thp_capi.proofs.Places.{Batches, IsFor, each_set, for_none, for_some, same_again}
 
@@ -91,9 +91,9 @@ module _ (mark : ℕ) (p q : PassState) (bs new : Batches) (c place : ℕ) (same
       → PassNext c (record { mark = mark; pass = p; batches = bs }) (record { mark = mark; pass = q; batches = new }) (Err (fault_in f))
   next_failed b b' f is own now stays fails = grind (arith, same_again, only_of, failed)
 
-  pub back_done : (b : BatchState) (r : ThpBack) → get_or bs place None ≡ Some b → b.caller ≡ c → new ≡ set bs place None → Called p q b.caller (DidPutBack p.shape b (back_of r))
+  pub back_done : (b : BatchState) (r : BackReply) → get_or bs place None ≡ Some b → b.caller ≡ c → new ≡ set bs place None → Called p q b.caller (DidPutBack p.shape b r)
       → PassBack c (record { mark = mark; pass = p; batches = bs }) (record { mark = mark; pass = q; batches = new }) (Ok r)
-  back_done b r is own now did = (only_of None now, rw (held b is) refl, here None now, rw (held b is) (subst (λ d. Called p q d (DidPutBack p.shape b (back_of r))) own did), tt)
+  back_done b r is own now did = (only_of None now, rw (held b is) refl, here None now, rw (held b is) (subst (λ d. Called p q d (DidPutBack p.shape b r)) own did), tt)
 
   pub back_failed : (b b' : BatchState) (f : CellFault) → get_or bs place None ≡ Some b → b.caller ≡ c → new ≡ set bs place (Some b') → b' ≡ b → Failed p q None (length (put_back_events q.shape q.front b.caller b.pages)) f
       → PassBack c (record { mark = mark; pass = p; batches = bs }) (record { mark = mark; pass = q; batches = new }) (Err (fault_in f))

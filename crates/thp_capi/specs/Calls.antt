@@ -8,12 +8,12 @@ use Rattle.thp_history.specs.Prelude.{allocations, outcome, released, by, max_ba
 use Rattle.thp_node.specs.Prelude.{BatchState, rest, tried, back_reply, scan_reply, Did, DidAlloc, Refused, NodeState}
 use Rattle.thp_capi.specs.Codes.{Answer}
 use Rattle.thp_capi.specs.Engines.{EngineState, OthersOpen, open_of}
-use Rattle.thp_capi.specs.Replies.{IsTried, MasksSet, back_of, outcome_number, scan_of}
+use Rattle.thp_capi.specs.Replies.{IsTried, MasksSet, outcome_number}
 use Rattle.thp_capi.specs.declared.codes.Fault.{Fault}
 use Rattle.thp_capi.specs.declared.codes.Fault.TheVariants.{Refused as RefusedWith, BadCaller, BadCount, BatchOpen, NoBatch, TooSmall}
-use Rattle.thp_capi.specs.declared.replies.ThpBack.{ThpBack}
+use Rattle.thp_node.specs.declared.answers.BackReply.{BackReply}
 use Rattle.thp_capi.specs.declared.replies.ThpDone.{ThpDone}
-use Rattle.thp_capi.specs.declared.replies.ThpScan.{ThpScan}
+use Rattle.thp_node.specs.declared.answers.ScanReply.{ScanReply}
 use Rattle.thp_capi.specs.declared.replies.ThpTried.{ThpTried}
 
 -- ---- why calls fail, and that they change nothing then
@@ -72,12 +72,12 @@ LoseCall caller call p what old new answer =
 
 -- ---- the shrinker
 
-abbrev pub ScanCall : ℕ → ℕ → EngineState → EngineState → Result ThpScan Fault → Type 0
+abbrev pub ScanCall : ℕ → ℕ → EngineState → EngineState → Result ScanReply Fault → Type 0
 ScanCall caller n old new answer =
     let s = old.node.shape in let h = old.node.journal in
     (new.batches ≡ old.batches)
     × OnOk answer ((refusal s h (scan caller) ≡ None) × Did old.node new.node caller (scan_events s h caller n))
-    × IfOk answer (λ r. scan_of r ≡ scan_reply (scan_events s h caller n))
+    × IfOk answer (λ r. r ≡ scan_reply (scan_events s h caller n))
     × IfErr answer (FailsAsking n caller (refusal s h (scan caller)) (3 * length (take_events s h caller n)) old new)
 
 -- a take, which returns the number of pages in the caller's batch, which is open afterwards
@@ -108,8 +108,8 @@ NextCall caller old new answer =
     × OthersOpen caller old new
     × IfErr answer (FailsOnBatch caller (λ b. length (split_next_events s h caller (rest b))) old new)
 
-abbrev pub BackReplies : ℕ → EngineState → ThpBack → Type 0
-BackReplies caller old r = IfSome (open_of old caller) (λ b. back_of r ≡ back_reply old.node.shape old.node.journal (still_flying old.node.journal caller b.pages))
+abbrev pub BackReplies : ℕ → EngineState → BackReply → Type 0
+BackReplies caller old r = IfSome (open_of old caller) (λ b. r ≡ back_reply old.node.shape old.node.journal (still_flying old.node.journal caller b.pages))
 
 abbrev pub BackRecords : ℕ → EngineState → EngineState → Type 0
 BackRecords caller old new = IfSome (open_of old caller) (λ b. Did old.node new.node caller (put_back_events old.node.shape old.node.journal caller b.pages))
@@ -118,7 +118,7 @@ abbrev pub BackFails : ℕ → EngineState → EngineState → Fault → Type 0
 BackFails caller old new f = FailsOnBatch caller (λ b. length (put_back_events old.node.shape old.node.journal caller b.pages)) old new f
 
 -- the return of the pages of the caller's open batch, which is closed afterwards
-abbrev pub BackCall : ℕ → EngineState → EngineState → Result ThpBack Fault → Type 0
+abbrev pub BackCall : ℕ → EngineState → EngineState → Result BackReply Fault → Type 0
 BackCall caller old new answer =
     OnOk answer (IsSome (open_of old caller))
     × OnOk answer (open_of new caller ≡ None)

@@ -14,3 +14,4 @@ pub mod Sharing
 pub mod Passes
 pub mod PassBatches
 pub mod LongChecks
+pub mod Prelude

@@ -6,11 +6,11 @@ use Rattle.thp_cell.specs.Prelude.{Called, DidTake, DidTry, DidPutBack, HasCalle
 use Rattle.thp_capi.specs.Calls.{Batched}
 use Rattle.thp_capi.specs.Codes.{Answer}
 use Rattle.thp_capi.specs.Passes.{PassFails, PassFailsAsking}
-use Rattle.thp_capi.specs.Replies.{back_of, tried_of}
+use Rattle.thp_capi.specs.Replies.{tried_of}
 use Rattle.thp_capi.specs.Sharing.{SharedState, OnlyFront, OnlyOf, batch_of}
 use Rattle.thp_capi.specs.declared.codes.Fault.{Fault}
 use Rattle.thp_capi.specs.declared.codes.Fault.TheVariants.{BadCaller, BatchOpen, NoBatch}
-use Rattle.thp_capi.specs.declared.replies.ThpBack.{ThpBack}
+use Rattle.thp_node.specs.declared.answers.BackReply.{BackReply}
 use Rattle.thp_capi.specs.declared.replies.ThpTried.{ThpTried}
 
 -- ---- why calls fail: nothing was recorded, and the open batches are unchanged
@@ -58,12 +58,12 @@ PassNext caller old new answer =
     × IfErr answer (PassFailsOnBatch caller (λ b. length (split_next_events new.pass.shape new.pass.front caller (rest b))) old new)
 
 -- the return of the pages of the caller's open batch, which is closed afterwards
-abbrev pub PassBack : ℕ → SharedState → SharedState → Result ThpBack Fault → Type 0
+abbrev pub PassBack : ℕ → SharedState → SharedState → Result BackReply Fault → Type 0
 PassBack caller old new answer =
     OnlyOf caller old new
     × OnOk answer (IsSome (batch_of old caller))
     × OnOk answer (batch_of new caller ≡ None)
-    × IfOk answer (λ r. IfSome (batch_of old caller) (λ b. Called old.pass new.pass caller (DidPutBack old.pass.shape b (back_of r))))
+    × IfOk answer (λ r. IfSome (batch_of old caller) (λ b. Called old.pass new.pass caller (DidPutBack old.pass.shape b r)))
     × IfErr answer (PassFailsOnBatch caller (λ b. length (put_back_events new.pass.shape new.pass.front caller b.pages)) old new)
 
 -- why a caller's batch was not closed

@@ -11,13 +11,13 @@ use Rattle.thp_cell.specs.Prelude.{Called, Follows, IsBusy, IsRefused, IsJoined,
 use Rattle.thp_capi.specs.Codes.{Answer}
 use Rattle.thp_capi.specs.Engines.{EngineState, NoneOpen}
 use Rattle.thp_capi.specs.Held.{Filled, HeldEngine, HeldPass, held_value, is_counting}
-use Rattle.thp_capi.specs.Replies.{MasksSet, outcome_number, scan_of}
+use Rattle.thp_capi.specs.Replies.{MasksSet, outcome_number}
 use Rattle.thp_capi.specs.Sharing.{SharedState, OnlyFront, IsPart, IsShut, HasOpen, OpenStay}
 use Rattle.thp_capi.specs.declared.held.Held.TheVariants.{Kept, Counted}
 use Rattle.thp_capi.specs.declared.codes.Fault.{Fault}
 use Rattle.thp_capi.specs.declared.codes.Fault.TheVariants.{Refused as RefusedWith, BadCaller, BadCount, BadPass, BatchOpen, Busy, Empty, InUse}
 use Rattle.thp_capi.specs.declared.replies.ThpDone.{ThpDone}
-use Rattle.thp_capi.specs.declared.replies.ThpScan.{ThpScan}
+use Rattle.thp_node.specs.declared.answers.ScanReply.{ScanReply}
 
 -- ---- calls of a caller
 
@@ -56,10 +56,10 @@ PassLost caller call p what old new answer =
     × IfErr answer (PassFails caller (refusal new.pass.shape new.pass.front call) 1 old.pass new.pass)
 
 -- a scan of up to n pages
-abbrev pub PassScan : ℕ → ℕ → SharedState → SharedState → Result ThpScan Fault → Type 0
+abbrev pub PassScan : ℕ → ℕ → SharedState → SharedState → Result ScanReply Fault → Type 0
 PassScan caller n old new answer =
     OnlyFront old new
-    × IfOk answer (λ r. Called old.pass new.pass caller (DidScan old.pass.shape caller n (scan_of r)))
+    × IfOk answer (λ r. Called old.pass new.pass caller (DidScan old.pass.shape caller n r))
     × IfErr answer (PassFailsAsking n caller (refusal new.pass.shape new.pass.front (scan caller)) (3 * length (take_events new.pass.shape new.pass.front caller n)) old.pass new.pass)
 
 -- a query of the number of queued pages

@@ -3,13 +3,9 @@ use Rattle.std.specs.Prelude.{◌≡◌, ℕ, ◌<◌, ◌≤◌, ◌-◌, ◌^�
 use Rattle.thp_history.specs.declared.events.Outcome.{Outcome}
 use Rattle.thp_history.specs.declared.events.Outcome.TheVariants.{Stays, Queued, Freed}
 use Rattle.thp_history.specs.Prelude.{allocations, frames_given, frames_held, max_subpages, queue, has, in_words, counters_of}
-use Rattle.thp_node.specs.declared.answers.BackReply.{BackReply}
-use Rattle.thp_node.specs.declared.answers.ScanReply.{ScanReply}
 use Rattle.thp_node.specs.declared.answers.Tried.{Tried}
 use Rattle.thp_node.specs.declared.answers.Tried.TheVariants as try
 use Rattle.thp_node.specs.Prelude.{NodeState}
-use Rattle.thp_capi.specs.declared.replies.ThpBack.{ThpBack}
-use Rattle.thp_capi.specs.declared.replies.ThpScan.{ThpScan}
 use Rattle.thp_capi.specs.declared.replies.ThpTried.{ThpTried}
 use Rattle.thp_capi.specs.declared.stats.ThpStats.{ThpStats}
 
@@ -22,18 +18,12 @@ outcome_number Freed = 2
 abbrev pub MasksSet : List ℕ → List Bool → Type 0
 MasksSet words set = (i : ℕ) → i < max_subpages → in_words words i ≡ has set i
 
-abbrev pub scan_of : ThpScan → ScanReply
-scan_of r = record { taken = r.taken; split = r.split; pinned = r.pinned; back = r.back; dropped = r.dropped; used = r.used }
-
 abbrev pub tried_of : ThpTried → Tried
 tried_of t =
     if nat_eq t.kind 0 then try.Done
     else if nat_eq t.kind 1 then try.Split t.page
     else if nat_eq t.kind 2 then try.Pinned t.page
     else try.Used t.page
-
-abbrev pub back_of : ThpBack → BackReply
-back_of r = record { back = r.back; dropped = r.dropped }
 
 -- the numbers are those of this result of a try
 abbrev pub IsTried : ThpTried → Tried → Type 0

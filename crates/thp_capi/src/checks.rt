@@ -9,16 +9,7 @@ use thp_script::{ReadFault, TextKind};
 pub(crate) fn code_of_kind(kind: TextKind) -> u32
     ensures { result ≡ text_code kind }
 {
-    match kind {
-        TextKind::TooLong => 22,
-        TextKind::BadByte => 23,
-        TextKind::Cut => 24,
-        TextKind::BadWord => 25,
-        TextKind::BadCount => 26,
-        TextKind::BadNumber => 27,
-        TextKind::BadSet => 28,
-        TextKind::BadOrder => 29,
-    }
+    22 + kind as u32
 }
 
 // The code of a result, and its line.

@@ -1,23 +1,22 @@
 //! The engine that a node's handle owns: a node, and the open batches of its callers.
-ghost use Rattle.std.specs.Prelude.{◌≡◌, ◌<◌, ◌≤◌, None, IsSome, IfOk, IfErr, OnOk, length};
-ghost use Rattle.thp_history.specs.Prelude.{gain_call, gain_what, loss_call, loss_what, max_callers, queue};
+ghost use Rattle.std.specs.Prelude.{◌≡◌, ◌<◌, ◌≤◌, None, IsSome, IfOk, IfErr, OnOk, length, [], ◌∷◌, ◌⊎◌, ◌↔◌, Err};
+ghost use Rattle.thp_history.specs.Prelude.{gain_call, gain_what, loss_call, loss_what, max_callers, queue, IsShape};
 ghost use Rattle.thp_history.specs.Refusals as call;
-ghost use Rattle.thp_capi.specs.Calls.{OneCall, AllocCall, LoseCall, ScanCall, TakeCall, NextCall, BackReplies, BackRecords, BackFails, ReserveCall, AbandonCall};
-ghost use Rattle.thp_capi.specs.Engines.{NoneOpen, OthersOpen, open_of};
-ghost use Rattle.thp_capi.specs.Replies.{stats_of};
+ghost use Rattle.thp_capi.specs.Prelude.{AbandonCall, AllocCall, BackFails, BackRecords, BackReplies, EngineState, IsEngine, LoseCall, NextCall, NoneOpen, OneCall, OthersOpen, ReserveCall, ScanCall, TakeCall, open_of, stats_of};
+ghost use Rattle.thp_journal_writer.specs.Prelude.{journal_text as text_of};
 
 mod queue_reader;
 mod readers;
 
 use crate::codes::Fault;
 use crate::open_batches::{is_open, none_open, put_at, take_at};
-use crate::replies::{ThpBack, ThpDone, ThpScan, ThpTried};
+use crate::replies::{ThpDone, ThpTried};
 use crate::stats::{ThpStats, narrow};
 use std::alloc::Global;
 use std::marker::Model;
 use thp_history::{Gain, Loss, MAX_BATCH, MAX_CALLERS, PageId, Refusal, Shape, What};
 use thp_journal_writer::{NodeHistory, journal_text};
-use thp_node::{Batch, FullLog, Node, Recorder};
+use thp_node::{BackReply, Batch, FullLog, Node, Recorder, ScanReply};
 
 // Fails if the number is not a caller's.
 #[inline(always)]
@@ -25,11 +24,7 @@ fn check_caller(caller: u32) -> Result<(), Fault>
     ensures ok { OnOk result (caller < max_callers) }
     ensures err { IfErr result (λ fault. (fault ≡ Fault.BadCaller) × (max_callers ≤ caller)) }
 {
-    if caller < MAX_CALLERS {
-        Ok(())
-    } else {
-        Err(Fault::BadCaller)
-    }
+    (caller < MAX_CALLERS).then_some(()).ok_or(Fault::BadCaller)
 }
 
 /// A node and the open batches of its callers. The remaining pages of each batch are a prefix of its caller's flight.
@@ -41,8 +36,6 @@ pub struct Engine<R: Recorder> {
 }
 
 impl<R: Recorder> Model for Engine<R> {
-    ghost use Rattle.thp_capi.specs.Engines.{EngineState, IsEngine};
-
     ghost Value = { EngineState };
 
     ghost view = { λ e. record { node = e.node; batches = e.batches.items } };
@@ -51,11 +44,9 @@ impl<R: Recorder> Model for Engine<R> {
 }
 
 impl<R: Recorder> Engine<R> {
-    ghost use Rattle.std.specs.Prelude.{[], ◌∷◌, ◌⊎◌};
-    ghost use Rattle.thp_history.specs.Prelude.{IsShape};
-
     /// Creates an engine of a node with no page.
     pub fn new(alloc: Global, shape: Shape) -> Result<Engine<R>, Fault>
+        ensures bad_size { (result ≡ Err Fault.BadSize) ↔ ¬ IsShape shape }
         ensures size { IfOk result (λ e. IsShape shape) }
         ensures why { IfErr result (λ f. ((f ≡ Fault.BadSize) × ¬ IsShape shape) ⊎ (f ≡ Fault.Refused Refusal.OutOfMemory)) }
         ensures shape { IfOk result (λ e. e.node.shape ≡ shape) }
@@ -111,14 +102,14 @@ impl<R: Recorder> Engine<R> {
     }
 
     /// Takes up to `n` of the oldest queued pages, in order, tries each, and returns the pinned ones.
-    pub fn scan(&mut self, caller: u32, n: u32) -> Result<ThpScan, Fault>
+    pub fn scan(&mut self, caller: u32, n: u32) -> Result<ScanReply, Fault>
         ensures { ScanCall caller n self.old self.new result }
     {
         check_caller(caller)?;
         if n as usize > MAX_BATCH {
             return Err(Fault::BadCount);
         }
-        Ok(ThpScan::of(&self.node.scan(caller, n)?))
+        Ok(self.node.scan(caller, n)?)
     }
 
     /// Takes up to `n` of the oldest queued pages, in order, into the caller's batch, which is open afterwards. Returns the
@@ -146,11 +137,9 @@ impl<R: Recorder> Engine<R> {
         ensures none { IfErr result (λ fault. (fault ≡ Fault.NoBatch) × (open_of self.now caller ≡ None)) }
     {
         let place = caller as usize;
-        if place < self.batches.len() {
-            Ok(place)
-        } else {
-            Err(Fault::NoBatch)
-        }
+        (place < self.batches.len())
+            .then_some(place)
+            .ok_or(Fault::NoBatch)
     }
 
     /// Tries the next page of the caller's open batch.
@@ -168,7 +157,7 @@ impl<R: Recorder> Engine<R> {
     }
 
     /// Returns the remaining pages of the caller's open batch, and closes the batch.
-    pub fn put_back(&mut self, caller: u32) -> Result<ThpBack, Fault>
+    pub fn put_back(&mut self, caller: u32) -> Result<BackReply, Fault>
         ensures open { OnOk result (IsSome (open_of self.old caller)) }
         ensures shut { OnOk result (open_of self.new caller ≡ None) }
         ensures others { OthersOpen caller self.old self.new }
@@ -181,7 +170,7 @@ impl<R: Recorder> Engine<R> {
             return Err(Fault::NoBatch);
         };
         match self.node.put_back(batch) {
-            Ok(reply) => Ok(ThpBack::of(&reply)),
+            Ok(reply) => Ok(reply),
             Err((batch, refusal)) => {
                 put_at(&mut self.batches, place, batch);
                 Err(Fault::Refused(refusal))
@@ -236,9 +225,6 @@ impl<R: Recorder> Engine<R> {
 }
 
 impl Engine<FullLog> {
-    ghost use Rattle.std.specs.Prelude.{[], ◌∷◌};
-    ghost use Rattle.thp_journal_writer.specs.Prelude.{journal_text as text_of};
-
     /// Returns the node's journal as text.
     pub fn text(&self, alloc: Global) -> Result<Vec<u8>, Fault>
         ensures text { IfOk result (λ text. text.items ≡ text_of ((self.now.node.shape, self.now.node.journal) ∷ [])) }

@@ -1,8 +1,7 @@
 //! What the handles of nodes and of passes hold: a node's events are stored, or only counted.
-ghost use Rattle.std.specs.Prelude.{◌≡◌, ◌⊎◌, [], IfErr, IfOk};
+ghost use Rattle.std.specs.Prelude.{◌≡◌, ◌⊎◌, ◌↔◌, [], Err, IfErr, IfOk};
 ghost use Rattle.thp_history.specs.Prelude.{IsShape};
-ghost use Rattle.thp_capi.specs.Engines.{NoneOpen};
-ghost use Rattle.thp_capi.specs.Held.{held_value, is_counting};
+ghost use Rattle.thp_capi.specs.Prelude.{NoneOpen, held_value, is_counting};
 
 use crate::codes::Fault;
 use crate::engine::Engine;
@@ -29,6 +28,7 @@ pub type HeldPass = Held<SharedPass<FullLog>, SharedPass<CountOnly>>;
 impl Held<Engine<FullLog>, Engine<CountOnly>> {
     /// Creates the engine of a node with no page, on the heap.
     pub fn new(alloc: Global, shape: Shape, counting: bool) -> Result<Box<HeldEngine>, Fault>
+        ensures bad_size { (result ≡ Err Fault.BadSize) ↔ ¬ IsShape shape }
         ensures counting { IfOk result (λ held. is_counting held.value ≡ counting) }
         ensures shape { IfOk result (λ held. (held_value held.value).node.shape ≡ shape) }
         ensures journal { IfOk result (λ held. (held_value held.value).node.journal ≡ []) }

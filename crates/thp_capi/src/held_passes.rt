@@ -1,9 +1,6 @@
 //! Creating, dividing and joining what the handles of passes hold, and the end of a cell.
 ghost use Rattle.std.specs.Prelude.{◌≡◌, ◌⊎◌, IfErr, IfOk, OnOk, Some};
-ghost use Rattle.thp_capi.specs.Engines.{NoneOpen};
-ghost use Rattle.thp_capi.specs.Held.{held_value, is_counting};
-ghost use Rattle.thp_capi.specs.Passes.{AdjoinHeld, Dismantled, Divided, Divides, Finished, IsCellSize, IsNewPass, Joined, OneCell};
-ghost use Rattle.thp_capi.specs.Sharing.{HasOpen, IsShut};
+ghost use Rattle.thp_capi.specs.Prelude.{AdjoinHeld, Dismantled, Divided, Divides, Finished, HasOpen, IsCellSize, IsNewPass, IsShut, Joined, NoneOpen, OneCell, held_value, is_counting};
 
 use crate::codes::Fault;
 use crate::engine::Engine;

@@ -1,9 +1,9 @@
 //! The results of calls other than their codes, for C.
 ghost use Rattle.std.specs.Prelude.{◌≡◌, ◌≤◌};
-ghost use Rattle.thp_capi.specs.Replies.{outcome_number, MasksSet, scan_of, tried_of, back_of};
+ghost use Rattle.thp_capi.specs.Replies.{outcome_number, MasksSet, tried_of};
 
 use thp_history::{Done, Outcome, SubSet};
-use thp_node::{BackReply, ScanReply, Tried};
+use thp_node::Tried;
 
 /// The effect of an unmap or an unpin on its page and frames.
 #[repr(C)]
@@ -43,40 +43,6 @@ fn mask(set: &SubSet) -> [u64; 8]
     words
 }
 
-/// The result of a scan, as page counts.
-#[repr(C)]
-#[derive(Clone, Copy, PartialEq, Eq, Debug)]
-pub struct ThpScan {
-    /// The number of pages taken from the queue.
-    pub taken: u32,
-    /// The number of pages split.
-    pub split: u32,
-    /// The number of pages found pinned.
-    pub pinned: u32,
-    /// The number of pinned pages returned to the tail of the queue.
-    pub back: u32,
-    /// The number of pinned pages dropped.
-    pub dropped: u32,
-    /// The number of pages found in use, that is, not worth a split.
-    pub used: u32,
-}
-
-impl ThpScan {
-    /// Converts a node's result.
-    pub fn of(reply: &ScanReply) -> ThpScan
-        ensures { scan_of result ≡ reply.now }
-    {
-        ThpScan {
-            taken: reply.taken,
-            split: reply.split,
-            pinned: reply.pinned,
-            back: reply.back,
-            dropped: reply.dropped,
-            used: reply.used,
-        }
-    }
-}
-
 /// The result of a try.
 #[repr(C)]
 #[derive(Clone, Copy, PartialEq, Eq, Debug)]
@@ -100,27 +66,5 @@ impl ThpTried {
             Tried::Used(page) => (3, page.0),
         };
         ThpTried { kind, page }
-    }
-}
-
-/// The result of a put back, as page counts.
-#[repr(C)]
-#[derive(Clone, Copy, PartialEq, Eq, Debug)]
-pub struct ThpBack {
-    /// The number of pages returned to the tail of the queue.
-    pub back: u32,
-    /// The number of pages dropped.
-    pub dropped: u32,
-}
-
-impl ThpBack {
-    /// Converts a node's result.
-    pub fn of(reply: &BackReply) -> ThpBack
-        ensures { back_of result ≡ reply.now }
-    {
-        ThpBack {
-            back: reply.back,
-            dropped: reply.dropped,
-        }
     }
 }

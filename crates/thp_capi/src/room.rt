@@ -46,10 +46,6 @@ impl<T: Drop> Room<T> {
         ensures full { IfSome result (λ room. IsSome room.value.value) }
     {
         let room = handle.into_box(alloc)?;
-        if room.value.is_some() {
-            Some(room)
-        } else {
-            None
-        }
+        room.value.is_some().then_some(room)
     }
 }

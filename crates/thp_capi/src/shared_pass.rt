@@ -1,22 +1,22 @@
 //! A pass with a share of its cell.
-ghost use Rattle.std.specs.Prelude.{◌≡◌, ◌≤◌, true, false, IfOk, IfErr, ◌⊎◌};
+ghost use Rattle.std.specs.Prelude.{◌≡◌, ◌≤◌, true, false, IfOk, IfErr, ◌⊎◌, vec_capacity};
 ghost use Rattle.thp_history.specs.Prelude.{gain_call, gain_what, loss_call, loss_what};
 ghost use Rattle.thp_history.specs.Refusals as call;
 ghost use Rattle.thp_cell.specs.Prelude.{below, from, IsJoined, HasCaller, HasAll};
-ghost use Rattle.thp_capi.specs.Passes.{PassOne, PassAlloc, PassLost, PassScan, PassCount, IsNewPass, IsCellSize, Divides, Adjoin};
-ghost use Rattle.thp_capi.specs.Sharing.{OnlyFront, IsPart, IsShut, HasOpen, OpenStay};
+ghost use Rattle.thp_capi.specs.Prelude.{Adjoin, Divides, HasOpen, IsCellSize, IsNewPass, IsPart, IsShared, IsShut, OnlyFront, OpenStay, PassAlloc, PassCount, PassLost, PassOne, PassScan, SharedState};
+ghost use Rattle.std.specs.Arc.{arc_value};
 
 mod batch_calls;
 
 use crate::codes::Fault;
 use crate::open_batches::{cut, joined, none_open, some_open};
-use crate::replies::{ThpDone, ThpScan};
+use crate::replies::ThpDone;
 use std::alloc::Global;
 use std::marker::Model;
 use std::sync::Arc;
 use thp_cell::{NodeCell, Pass};
 use thp_history::{Gain, Loss, MAX_BATCH, PageId, Refusal, Shape, What};
-use thp_node::{Batch, Node, Recorder};
+use thp_node::{Batch, Node, Recorder, ScanReply};
 
 /// A pass, its share of the cell, and the mark that distinguishes it from passes of other cells.
 #[derive(Drop)]
@@ -31,10 +31,6 @@ pub struct SharedPass<R: Recorder> {
 }
 
 impl<R: Recorder> Model for SharedPass<R> {
-    ghost use Rattle.std.specs.Prelude.{vec_capacity};
-    ghost use Rattle.std.specs.Arc.{arc_value};
-    ghost use Rattle.thp_capi.specs.Sharing.{SharedState, IsShared};
-
     ghost Value = { SharedState };
 
     ghost view = { λ s. record { mark = s.mark; pass = s.pass; batches = s.batches.items } };
@@ -100,15 +96,14 @@ impl<R: Recorder> SharedPass<R> {
     }
 
     /// Takes up to `n` of the oldest queued pages, in order, tries each, and returns the pinned ones.
-    pub fn scan(&mut self, caller: u32, n: u32) -> Result<ThpScan, Fault>
+    pub fn scan(&mut self, caller: u32, n: u32) -> Result<ScanReply, Fault>
         ensures { PassScan caller n self.old self.new result }
     {
         self.place(caller)?;
         if n as usize > MAX_BATCH {
             return Err(Fault::BadCount);
         }
-        let reply = self.cell.scan(&mut self.pass, caller, n)?;
-        Ok(ThpScan::of(&reply))
+        Ok(self.cell.scan(&mut self.pass, caller, n)?)
     }
 
     /// Returns the number of queued pages, even while another pass has the node.

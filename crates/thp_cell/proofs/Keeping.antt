@@ -4,7 +4,7 @@ use Rattle.atomic_table.specs.Table.{rest}
 use Rattle.atomic_table.specs.Lent.{seat_with}
 use Rattle.thp_history.specs.Prelude.{IsLegal}
 use Rattle.thp_node.specs.Prelude.{NodeState}
-use Rattle.thp_cell.specs.Prelude.{Adds, AllBelow, at_front, keeping, Follows, PassState, Place, front_in, pass_state, known_state, IsFree, IsIn, IsKept, IsNumbered, HasTaken}
+use Rattle.thp_cell.specs.Prelude.{Adds, AllBelow, at_front, keeping, Follows, PassState, Place, returning_node, front_in, pass_state, known_state, IsFree, IsIn, IsKept, IsNumbered, HasTaken}
 use Rattle.thp_cell.proofs.Fronts.{since_same}
 use Rattle.thp_cell.proofs.Passes.{follows}
 
@@ -17,6 +17,13 @@ in_kept keeps s is held = subst (λ b. IsIn b s) is held
 -- a seat without the slot knows its front
 pub free_state : (keeps : Bool) (s : Place) → s.me.1 ≡ [] → known_state keeps s ≡ pass_state keeps s
 free_state keeps s none = ap (λ l. at_front (pass_state keeps s) (front_in l s.me.0.front)) none
+
+-- the seat of a pass that was p and keeps no node
+pub returned : (keeps : Bool) (s : Place) (p : PassState) → known_state keeps s ≡ returning_node p → IsIn keeps s → IsFree s × (pass_state false s ≡ returning_node p)
+returned keeps s p is held =
+    let k : keeps ≡ false = ap (λ (x : PassState). x.keeps) is in
+    let free = in_free keeps s k held in
+    (free, sym (free_state false s free.no_slot) ∙ (ap (λ b. known_state b s) (sym k) ∙ is))
 
 -- and one with the slot the node's journal
 kept_front : (s : Place) (node : NodeState) → s.me.1 ≡ (0, node) ∷ [] → front_in s.me.1 s.me.0.front ≡ node.journal

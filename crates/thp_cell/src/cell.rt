@@ -1,9 +1,14 @@
 //! A node that threads share: creating it, locking it, dividing its passes among threads, and dismantling it.
 ghost use Rattle.std.specs.Prelude.{◌≡◌, ℕ, ◌<◌, ◌≤◌, ◌⊎◌, ◌↔◌, [], ◌∷◌, length, true, false, Err, All, IfOk, IfErr, OnOk, OnErr};
 ghost use Rattle.thp_history.specs.Prelude.{max_callers, events_of, IsLegal, queue};
-ghost use Rattle.thp_node.specs.Prelude.{StandsOnce, StandsWhole, TakesOldest, LeavesFreedAlone, NothingEnters, HasFramesOnce, KeepsFrames};
+ghost use Rattle.thp_node.specs.Prelude.{StandsOnce, StandsWhole, TakesOldest, LeavesFreedAlone, NothingEnters, HasFramesOnce, KeepsFrames, NodeState};
 ghost use Rattle.thp_cell.specs.Views.{HasCaller, HasAll, part};
 ghost use Rattle.thp_cell.specs.Calls.{Follows, PartsStay, BatchesStay, IsBusy, IsJoined, below, from, keeping, returning_node};
+ghost use Rattle.atomic_table.specs.Seated.{TableId};
+ghost use Rattle.std.specs.Borrow.{sem};
+ghost use Rattle.thp_cell.specs.Steps.{seat_with_front, left_of, right_of, Took, WasBusy};
+ghost use Rattle.thp_cell.specs.Seats.{front_in, known_state, IsFree, IsIn, IsKept, IsLent, HasSlot, HasTaken, FoundBusy};
+ghost use Rattle.thp_cell.specs.Lending.{lends_node};
 
 mod batch_calls;
 mod list_calls;
@@ -12,12 +17,29 @@ mod page_calls;
 use crate::fault::Busy;
 use crate::pass::{Hold, Pass};
 use crate::rule::{Both, CellRule, Count, Cut, Key, Lock, Look, SeatKnowledge, SplitAt, Store};
-use atomic_table::{Refused, Seat, Table};
+use atomic_table::{Seat, Table};
 use std::alloc::Global;
 use std::marker::{Brand, Model};
 use std::snapshot::Snapshot;
 use thp_history::MAX_CALLERS;
 use thp_node::{FullLog, NewFault, Node, Recorder};
+
+// Makes a call of the node for a pass, which takes the node first unless it keeps it.
+macro_rules! call_node {
+    ($cell:expr, $pass:expr, $call:ident($($argument:expr),*)) => {{
+        if !$cell.begin_call(&mut $pass.seat, $pass.keeps) {
+            return Err(CellFault::Busy);
+        }
+        let answer = Self::node(&mut $pass.seat, $cell).$call($($argument),*);
+        $cell.end_call(&mut $pass.seat, $pass.keeps);
+        match answer {
+            Ok(value) => Ok(value),
+            Err(refusal) => Err(CellFault::Refused(refusal)),
+        }
+    }};
+}
+
+pub(crate) use call_node;
 
 /// A node that threads share through one atomic word and one slot.
 ///
@@ -33,9 +55,6 @@ pub struct NodeCell<R: Recorder = FullLog> {
 }
 
 impl<R: Recorder> Model for NodeCell<R> {
-    ghost use Rattle.std.specs.Prelude.{◌≡◌};
-    ghost use Rattle.atomic_table.specs.Seated.{TableId};
-
     ghost Value = { TableId };
 
     ghost view = { λ c. c.table.shared.table_id };
@@ -44,12 +63,6 @@ impl<R: Recorder> Model for NodeCell<R> {
 }
 
 impl<R: Recorder> NodeCell<R> {
-    ghost use Rattle.std.specs.Borrow.{sem};
-    ghost use Rattle.thp_node.specs.Prelude.{NodeState};
-    ghost use Rattle.thp_cell.specs.Steps.{seat_with_front, left_of, right_of, Took, WasBusy};
-    ghost use Rattle.thp_cell.specs.Seats.{front_in, known_state, IsFree, IsIn, IsKept, IsLent, HasSlot, HasTaken, FoundBusy};
-    ghost use Rattle.thp_cell.specs.Lending.{lends_node};
-
     /// Creates a cell that owns the node, and the pass that has all callers: the numbers below `callers`, which is 1 to 64.
     ///
     /// Fails with `BadSize` for any other number of callers, which is tested first, and with `OutOfMemory` if the cell can't be
@@ -86,18 +99,16 @@ impl<R: Recorder> NodeCell<R> {
             return Err(NewFault::OutOfMemory);
         };
         slots.push_reserved(node);
-        match Table::new(alloc, &[word], slots, &key) {
-            Ok((table, seat)) => Ok((
-                NodeCell { table },
-                Pass {
-                    first: 0,
-                    end: callers,
-                    keeps: false,
-                    seat,
-                },
-            )),
-            Err(Refused { slots: _ }) => Err(NewFault::OutOfMemory),
-        }
+        let Ok((table, seat)) = Table::new(alloc, &[word], slots, &key) else {
+            return Err(NewFault::OutOfMemory);
+        };
+        let pass = Pass {
+            first: 0,
+            end: callers,
+            keeps: false,
+            seat,
+        };
+        Ok((NodeCell { table }, pass))
     }
 
     /// Divides the callers of a pass into those below `at` and those from `at` on. Releases the node first if the pass keeps it.
@@ -110,28 +121,16 @@ impl<R: Recorder> NodeCell<R> {
         ensures inside { pass.end ≤ pass.callers }
         ensures legal { IsLegal pass.shape pass.front }
     {
-        let Pass {
-            first,
-            end,
-            keeps,
-            mut seat,
-        } = pass;
-        self.release_kept(&mut seat, keeps);
-        let right = self.split_seat::<Brand>(&mut seat, at);
-        (
-            Pass {
-                first,
-                end: at,
-                keeps: false,
-                seat,
-            },
-            Pass {
-                first: at,
-                end,
-                keeps: false,
-                seat: right,
-            },
-        )
+        let mut left = pass;
+        self.return_node(&mut left);
+        let right = Pass {
+            first: at,
+            end: left.end,
+            keeps: false,
+            seat: self.split_seat::<Brand>(&mut left.seat, at),
+        };
+        left.end = at;
+        (left, right)
     }
 
     // Divides the callers of a seat.
@@ -169,28 +168,16 @@ impl<R: Recorder> NodeCell<R> {
         ensures left_batches { BatchesStay left result }
         ensures right_batches { BatchesStay right result }
     {
-        let Pass {
-            first,
-            end: _,
-            keeps,
-            mut seat,
-        } = left;
-        let Pass {
-            first: _,
-            end,
-            keeps: right_keeps,
-            seat: mut other,
-        } = right;
-        self.release_kept(&mut seat, keeps);
-        self.release_kept(&mut other, right_keeps);
-        self.table.shared.join_seat::<Both>(&mut seat, other);
-        self.table.shared.load::<Look>(&mut seat, 0);
-        Pass {
-            first,
-            end,
-            keeps: false,
-            seat,
-        }
+        let mut joined = left;
+        let mut other = right;
+        self.return_node(&mut joined);
+        self.return_node(&mut other);
+        joined.end = other.end;
+        self.table
+            .shared
+            .join_seat::<Both>(&mut joined.seat, other.seat);
+        self.table.shared.load::<Look>(&mut joined.seat, 0);
+        joined
     }
 
     /// Locks the node without recording an event: no other pass can call it before the release. Releases the node first if the
@@ -202,22 +189,15 @@ impl<R: Recorder> NodeCell<R> {
         ensures follows { IfOk result (λ h. Follows (returning_node pass) h) }
         ensures busy { IfErr result (λ e. IsBusy (returning_node pass) e.0) }
     {
-        let Pass {
-            first,
-            end,
-            keeps,
-            mut seat,
-        } = pass;
-        self.release_kept(&mut seat, keeps);
-        if self.lock(&mut seat) {
-            Ok(Hold { first, end, seat })
+        let mut pass = pass;
+        self.return_node(&mut pass);
+        if self.lock(&mut pass.seat) {
+            Ok(Hold {
+                first: pass.first,
+                end: pass.end,
+                seat: pass.seat,
+            })
         } else {
-            let pass = Pass {
-                first,
-                end,
-                keeps: false,
-                seat,
-            };
             Err((pass, Busy))
         }
     }
@@ -262,8 +242,10 @@ impl<R: Recorder> NodeCell<R> {
         requires { pass.old.cell ≡ self.now }
         ensures { pass.new ≡ returning_node pass.old }
     {
-        self.release_kept(&mut pass.seat, pass.keeps);
-        pass.keeps = false;
+        if pass.keeps {
+            self.unlock(&mut pass.seat);
+            pass.keeps = false;
+        }
     }
 
     /// Returns the number of queued pages, by a single load without the lock, even while another pass has the node.
@@ -273,7 +255,7 @@ impl<R: Recorder> NodeCell<R> {
         ensures count { result ≡ length (queue pass.new.shape pass.new.front) }
     {
         if pass.keeps {
-            return self.queued(&mut pass.seat);
+            return Self::node(&mut pass.seat, self).queue_len();
         }
         let found = self.table.shared.load::<Count>(&mut pass.seat, 0);
         (found / 2) as u32
@@ -300,15 +282,9 @@ impl<R: Recorder> NodeCell<R> {
         ensures frames { HasFramesOnce result.shape result.journal }
         ensures sum { KeepsFrames result.shape result.journal }
     {
-        let Pass {
-            first: _,
-            end: _,
-            keeps,
-            mut seat,
-        } = pass;
-        self.release_kept(&mut seat, keeps);
-        let NodeCell { table } = self;
-        let mut closed = table.close_with(seat);
+        let mut pass = pass;
+        self.return_node(&mut pass);
+        let mut closed = self.table.close_with(pass.seat);
         let node = closed.take(0);
         closed.free();
         // shows the proof the laws at the journal
@@ -343,29 +319,6 @@ impl<R: Recorder> NodeCell<R> {
         if !keeps {
             self.unlock(seat);
         }
-    }
-
-    // Releases a node that is kept.
-    fn release_kept(&self, seat: &mut Seat<Node<R>, SeatKnowledge>, keeps: bool)
-        requires cell { seat.old.table_id ≡ self.now }
-        requires is { IsIn keeps seat.old }
-        ensures same_cell { seat.new.table_id ≡ seat.old.table_id }
-        ensures free { IsFree seat.new }
-        ensures same { known_state false seat.new ≡ known_state false seat.old }
-    {
-        if keeps {
-            self.unlock(seat);
-        }
-    }
-
-    // The number of queued pages of a node that is kept.
-    fn queued(&self, seat: &mut Seat<Node<R>, SeatKnowledge>) -> u32
-        requires cell { seat.old.table_id ≡ self.now }
-        requires kept { IsKept seat.old }
-        ensures same { seat.new ≡ seat.old }
-        ensures count { result ≡ length (queue seat.old.me.0.shape (front_in seat.old.me.1 seat.old.me.0.front)) }
-    {
-        Self::node(seat, self).queue_len()
     }
 
     // The lock step: unless another pass has the node, the seat has the slot and the node in it until `unlock`.

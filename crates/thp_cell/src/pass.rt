@@ -1,6 +1,8 @@
 //! The passes with which threads call a node.
-ghost use Rattle.std.specs.Prelude.{◌≡◌, ◌<◌, ◌≤◌};
+ghost use Rattle.std.specs.Prelude.{◌≡◌, ◌<◌, ◌≤◌, false};
 ghost use Rattle.thp_history.specs.Prelude.{max_order, IsLegal};
+ghost use Rattle.thp_cell.specs.Views.{PassState};
+ghost use Rattle.thp_cell.specs.Seats.{known_state, IsNumbered, IsIn, pass_state, HoldsNode};
 
 use crate::rule::SeatKnowledge;
 use atomic_table::Seat;
@@ -22,9 +24,6 @@ pub struct Pass<R: Recorder = FullLog> {
 }
 
 impl<R: Recorder> Model for Pass<R> {
-    ghost use Rattle.thp_cell.specs.Views.{PassState};
-    ghost use Rattle.thp_cell.specs.Seats.{known_state, IsNumbered, IsIn};
-
     ghost Value = { PassState };
 
     ghost view = { λ p. known_state p.keeps p.seat };
@@ -57,10 +56,6 @@ pub struct Hold<R: Recorder = FullLog> {
 }
 
 impl<R: Recorder> Model for Hold<R> {
-    ghost use Rattle.std.specs.Prelude.{false};
-    ghost use Rattle.thp_cell.specs.Views.{PassState};
-    ghost use Rattle.thp_cell.specs.Seats.{pass_state, IsNumbered, HoldsNode};
-
     ghost Value = { PassState };
 
     ghost view = { λ h. pass_state false h.seat };

@@ -1,6 +1,8 @@
 //! The instance of the lock-free table that a cell uses: what its seats know, the rule that holds between any two steps, and what
 //! each kind of step adds to a seat. The definitions are in `specs/Rule.antt` and `specs/Steps.antt`.
 ghost use Rattle.std.specs.Prelude.{ℕ};
+ghost use Rattle.thp_cell.specs.Rule.{RuleHolds, root};
+ghost use Rattle.thp_cell.specs.Steps.{Locked, Stored, Counted, Looked, left_of, right_of, joined, spent};
 
 use atomic_table::{Join, Play, Split, TableRule};
 use std::collections::LinkedList;
@@ -50,8 +52,6 @@ pub struct Key<R: Recorder> {
 pub struct CellRule;
 
 impl<R: Recorder> TableRule<Node<R>, SeatKnowledge, Key<R>> for CellRule {
-    ghost use Rattle.thp_cell.specs.Rule.{RuleHolds, root};
-
     ghost holds = { λ key. RuleHolds key.callers key.node.value.shape };
 
     ghost first = { λ key. root key.callers key.node.value };
@@ -61,8 +61,6 @@ impl<R: Recorder> TableRule<Node<R>, SeatKnowledge, Key<R>> for CellRule {
 pub struct Lock;
 
 impl<R: Recorder> Play<Node<R>, SeatKnowledge> for Lock {
-    ghost use Rattle.thp_cell.specs.Steps.{Locked};
-
     ghost then = { Locked };
 }
 
@@ -70,8 +68,6 @@ impl<R: Recorder> Play<Node<R>, SeatKnowledge> for Lock {
 pub struct Store;
 
 impl<R: Recorder> Play<Node<R>, SeatKnowledge> for Store {
-    ghost use Rattle.thp_cell.specs.Steps.{Stored};
-
     ghost then = { Stored };
 }
 
@@ -79,8 +75,6 @@ impl<R: Recorder> Play<Node<R>, SeatKnowledge> for Store {
 pub struct Count;
 
 impl<R: Recorder> Play<Node<R>, SeatKnowledge> for Count {
-    ghost use Rattle.thp_cell.specs.Steps.{Counted};
-
     ghost then = { Counted };
 }
 
@@ -88,8 +82,6 @@ impl<R: Recorder> Play<Node<R>, SeatKnowledge> for Count {
 pub struct Look;
 
 impl<R: Recorder> Play<Node<R>, SeatKnowledge> for Look {
-    ghost use Rattle.thp_cell.specs.Steps.{Looked};
-
     ghost then = { Looked };
 }
 
@@ -108,8 +100,6 @@ pub struct SplitAt<C: Cut> {
 }
 
 impl<C: Cut> Split<SeatKnowledge> for SplitAt<C> {
-    ghost use Rattle.thp_cell.specs.Steps.{left_of, right_of};
-
     ghost left = { left_of C.at };
 
     ghost right = { right_of C.at };
@@ -119,8 +109,6 @@ impl<C: Cut> Split<SeatKnowledge> for SplitAt<C> {
 pub struct Both;
 
 impl Join<SeatKnowledge> for Both {
-    ghost use Rattle.thp_cell.specs.Steps.{joined, spent};
-
     ghost both = { joined };
 
     ghost spent = { spent };

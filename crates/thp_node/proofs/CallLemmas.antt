@@ -1,5 +1,5 @@
 -- What a call did, put together from what its parts did.
-use Rattle.std.proofs.Common.{◌≡◌, Option, Some, None, ℕ, zero, suc, ◌+◌, ◌<◌, ◌≤◌, List, [], ◌∷◌, ◌++◌, length, ap, ◌∙◌, arith, get_or, length-append, append_assoc, All}
+use Rattle.std.proofs.Common.{Result, Ok, Err, IfErr, IsErrAnd, subst, sym, ◌≡◌, Option, Some, None, ℕ, zero, suc, ◌+◌, ◌<◌, ◌≤◌, List, [], ◌∷◌, ◌++◌, length, ap, ◌∙◌, arith, get_or, length-append, append_assoc, All}
 use Rattle.std.proofs.lemmas.Bool.{cases_lt}
 use Rattle.thp_history.specs.declared.refusal.Refusal.{Refusal}
 use Rattle.thp_history.specs.declared.events.Event.{Event}
@@ -12,6 +12,11 @@ use Rattle.thp_node.specs.Prelude.{Did, Refused, JournalState, NodeState}
 -- what contracts see of a node that has this journal and these blocks
 abbrev pub node_of : JournalState → PageStoreState → NodeState
 node_of j b = record { shape = j.shape; journal = j.events; room = j.room; table = b.table; queue = b.queue }
+
+-- what `?` returns of a refusal
+pub fails_as : {A : Type 0} (r : Result A Refusal) (e : Refusal) (P : Refusal → Type 0) → IsErrAnd r (λ f. f ≡ e) → P e → IfErr r P
+fails_as (Ok a) e P is p = absurd is
+fails_as (Err f) e P is p = subst P (sym is) p
 
 -- each event of a list is by caller c
 pub own_none : (c : ℕ) → All (λ (e : Event). e.caller ≡ c) []

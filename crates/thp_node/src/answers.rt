@@ -26,6 +26,7 @@ pub enum Tried {
 
 /// The result of a put back: the numbers of pages returned to the queue's tail, and of pages dropped because the node is closed
 /// or they are not partly mapped.
+#[repr(C)]
 #[derive(Clone, Copy, PartialEq, Eq, Debug)]
 pub struct BackReply {
     /// The number of pages returned to the tail of the queue.
@@ -35,6 +36,7 @@ pub struct BackReply {
 }
 
 /// The result of a scan: the numbers of pages taken, split, found pinned, put back, dropped, and found in use.
+#[repr(C)]
 #[derive(Clone, Copy, PartialEq, Eq, Debug)]
 pub struct ScanReply {
     /// The number of pages taken from the queue.

@@ -97,13 +97,4 @@ impl Batch {
     {
         self.place += count;
     }
-
-    // Skips all of them.
-    pub(crate) fn finish(&mut self)
-        ensures rest { rest self.new ≡ [] }
-        ensures caller { self.new.caller ≡ self.old.caller }
-        ensures pages { self.new.pages ≡ self.old.pages }
-    {
-        self.place = self.pages.len();
-    }
 }

@@ -86,10 +86,7 @@ impl Blocks {
         ensures lost { IfOk result (λ left. AtSlot self.old.table block (λ x. LostChained loss closed x self.old self.new block done.new left)) }
         ensures kept { OnErr result (self.new ≡ self.old) }
     {
-        let left = match self.places.lose(block, loss, closed, done) {
-            Ok(left) => left,
-            Err(refusal) => return Err(refusal),
-        };
+        let left = self.places.lose(block, loss, closed, done)?;
         if let Outcome::Freed = done.outcome {
             self.places.push_free(&mut self.free, block);
         }
@@ -151,12 +148,10 @@ impl Blocks {
         ensures free { slot_at self.old.table result ≡ None }
         ensures placed { StoresFresh self.old self.new result page queued }
     {
-        match self.places.pop_free(&mut self.free) {
-            Some(block) => {
-                self.places.place(block, page, queued);
-                block
-            }
-            None => unreachable!(),
-        }
+        let Some(block) = self.places.pop_free(&mut self.free) else {
+            unreachable!()
+        };
+        self.places.place(block, page, queued);
+        block
     }
 }

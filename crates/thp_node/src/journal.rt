@@ -1,14 +1,14 @@
 //! The journal of a node, and the numbers that are maintained with it.
-ghost use Rattle.std.specs.Prelude.{◌≡◌, ℕ, ◌+◌, ◌<◌, ◌≤◌, [], ◌∷◌, ◌++◌, ◌^◌, length, OnOk, OnErr, IfSome, IsTrue, ◌↔◌, None, Some, not};
+ghost use Rattle.std.specs.Prelude.{◌≡◌, ℕ, ◌+◌, ◌<◌, ◌≤◌, [], ◌∷◌, ◌++◌, ◌^◌, length, OnOk, OnErr, IfErr, IfSome, IsTrue, ◌↔◌, None, Some, not};
 ghost use Rattle.thp_history.specs.Prelude.{max_callers, by, IsShape, allocations, is_closed, counters_of, frames_given, frames_held, flight, IsLegal, Fits, loss_what, with_loss};
 ghost use Rattle.thp_node.specs.Journals.{HasFlightRoom, context_of, leaves_by, joins_of, HasCountRoom, CanJoin, CanLeave, Moves, Counts, freed_from, of_split};
 
 use crate::recorder::{FullLog, Recorder};
-use std::alloc::{AllocError, Global};
+use std::alloc::Global;
 use std::marker::Model;
 use thp_history::{
-    Counters, Done, Event, Loss, MAX_CALLERS, Outcome, PageId, Shape, SplitContext, SubSet, Tally,
-    What,
+    Counters, Done, Event, Loss, MAX_CALLERS, Outcome, PageId, Refusal, Shape, SplitContext,
+    SubSet, Tally, What,
 };
 
 // The facts about an event that the event itself does not contain.
@@ -74,15 +74,16 @@ impl<R: Recorder> Journal<R> {
     }
 
     // Reserves room for `count` events.
-    pub(crate) fn reserve(&mut self, count: usize) -> Result<(), AllocError>
+    pub(crate) fn reserve(&mut self, count: usize) -> Result<(), Refusal>
         ensures shape { self.new.shape ≡ self.old.shape }
         ensures events { self.new.events ≡ self.old.events }
         ensures room { self.old.room ≤ self.new.room }
         ensures ok { OnOk result (count ≤ self.new.room) }
         ensures full { OnErr result (self.old.room < count) }
         ensures err { OnErr result (self.new ≡ self.old) }
+        ensures memory { IfErr result (λ r. r ≡ Refusal.OutOfMemory) }
     {
-        self.events.reserve(count)
+        self.events.reserve(count).or(Err(Refusal::OutOfMemory))
     }
 
     // Whether an event can be recorded without an allocation.
@@ -222,7 +223,7 @@ impl NodeTally {
             What::UnmapWhole { .. } | What::UnmapSub { .. } | What::Unpin { .. } => {
                 leave(&mut self.flying, unsaid.freed_from());
             }
-            What::Taken { .. } => join(&mut self.flying, caller),
+            What::Taken { .. } => self.flying[caller as usize] += 1,
             What::Split { .. } | What::Used { .. } | What::Back { .. } | What::Dropped { .. } => {
                 leave(&mut self.flying, Some(caller));
             }
@@ -265,14 +266,6 @@ impl EventContext {
             _ => SplitContext::none(),
         }
     }
-}
-
-// Counts a page that joins a caller's flight.
-fn join(flying: &mut [u8; SEATS], caller: u32)
-    requires { CanJoin flying.old caller }
-    ensures { Moves flying.old flying.new (Some caller) None }
-{
-    flying[caller as usize] += 1;
 }
 
 // Counts a page that leaves the flight of a caller, if there is one.

@@ -54,13 +54,13 @@ impl<R: Recorder> Node<R> {
         if !shape.is_valid() {
             return Err(NewFault::BadSize);
         }
-        match Blocks::new(alloc, shape) {
-            Ok(blocks) => Ok(Node {
-                journal: Journal::new(alloc, shape),
-                blocks,
-            }),
-            Err(_) => Err(NewFault::OutOfMemory),
-        }
+        let Ok(blocks) = Blocks::new(alloc, shape) else {
+            return Err(NewFault::OutOfMemory);
+        };
+        Ok(Node {
+            journal: Journal::new(alloc, shape),
+            blocks,
+        })
     }
 
     /// Reserves room for `k` events. For this purpose a scan needs three events for each page that it takes. Fails with
@@ -73,10 +73,7 @@ impl<R: Recorder> Node<R> {
         ensures full { OnErr result (self.old.room < k) }
         ensures refused { OnErr result (self.new ≡ self.old) }
     {
-        match self.journal.reserve(k as usize) {
-            Ok(()) => Ok(()),
-            Err(_) => Err(Refusal::OutOfMemory),
-        }
+        self.journal.reserve(k as usize)
     }
 
     /// Returns the node's shape.

@@ -1,6 +1,7 @@
 //! What a node does with its events: it stores them, or it only counts them.
-ghost use Rattle.std.specs.Prelude.{◌≡◌, ℕ, ◌+◌, ◌<◌, ◌≤◌, ◌↔◌, [], ◌∷◌, ◌++◌, length, IsTrue, OnOk, OnErr};
+ghost use Rattle.std.specs.Prelude.{◌≡◌, ℕ, ◌+◌, ◌<◌, ◌≤◌, ◌↔◌, [], ◌∷◌, ◌++◌, length, IsTrue, OnOk, OnErr, ◌-◌, vec_len, vec_capacity, ◌^◌};
 ghost use Rattle.thp_history.specs.Prelude.{History, by};
+ghost use Rattle.thp_node.specs.Recorders.{Recorded};
 
 use std::alloc::{AllocError, Global};
 use std::marker::Model;
@@ -48,9 +49,6 @@ pub struct FullLog {
 }
 
 impl Model for FullLog {
-    ghost use Rattle.std.specs.Prelude.{◌-◌, vec_len, vec_capacity};
-    ghost use Rattle.thp_node.specs.Recorders.{Recorded};
-
     ghost Value = { Recorded };
 
     ghost view = { λ k. record { history = k.events.items; room = vec_capacity k.events - vec_len k.events } };
@@ -104,9 +102,6 @@ pub struct CountOnly {
 }
 
 impl Model for CountOnly {
-    ghost use Rattle.std.specs.Prelude.{◌≡◌, ◌-◌, ◌^◌, length};
-    ghost use Rattle.thp_node.specs.Recorders.{Recorded};
-
     ghost Value = { Recorded };
 
     ghost view = { λ u. record { history = u.past; room = 2 ^ 64 - 1 - u.count } };
@@ -127,11 +122,9 @@ impl Recorder for CountOnly {
     }
 
     fn reserve(&mut self, count: usize) -> Result<(), AllocError> {
-        if count as u64 <= u64::MAX - self.count {
-            Ok(())
-        } else {
-            Err(AllocError)
-        }
+        (count as u64 <= u64::MAX - self.count)
+            .then_some(())
+            .ok_or(AllocError)
     }
 
     #[inline(always)]

@@ -5,8 +5,7 @@
 ghost use Rattle.std.specs.Prelude.{◌≡◌, ◌<◌, false, true, IfNone, IfSome, Some, length};
 ghost use Rattle.thp_history.specs.Prelude.{has_page, queue};
 ghost use Rattle.thp_live_pages.specs.Prelude.{block_of};
-ghost use Rattle.thp_capi.specs.Joining.{joins};
-ghost use Rattle.thp_capi.specs.Reading.{filled_with};
+ghost use Rattle.thp_capi.specs.Prelude.{filled_with, joins};
 
 use crate::engine::Engine;
 use thp_history::{Outcome, PageId, Shape, What};

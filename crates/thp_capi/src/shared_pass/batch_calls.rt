@@ -5,10 +5,10 @@ ghost use Rattle.thp_capi.specs.PassBatches.{PassTake, PassNext, PassBack, PassA
 
 use crate::codes::Fault;
 use crate::open_batches::{is_open, put_at, take_at};
-use crate::replies::{ThpBack, ThpTried};
+use crate::replies::ThpTried;
 use crate::shared_pass::SharedPass;
 use thp_history::MAX_BATCH;
-use thp_node::Recorder;
+use thp_node::{BackReply, Recorder};
 
 impl<R: Recorder> SharedPass<R> {
     // The caller's index, if it is one of the pass's.
@@ -58,7 +58,7 @@ impl<R: Recorder> SharedPass<R> {
     }
 
     /// Returns the remaining pages of the caller's open batch, and closes the batch.
-    pub fn put_back(&mut self, caller: u32) -> Result<ThpBack, Fault>
+    pub fn put_back(&mut self, caller: u32) -> Result<BackReply, Fault>
         ensures { PassBack caller self.old self.new result }
     {
         let place = self.place(caller)?;
@@ -66,7 +66,7 @@ impl<R: Recorder> SharedPass<R> {
             return Err(Fault::NoBatch);
         };
         match self.cell.put_back(&mut self.pass, batch) {
-            Ok(back) => Ok(ThpBack::of(&back)),
+            Ok(reply) => Ok(reply),
             Err((batch, fault)) => {
                 put_at(&mut self.batches, place, batch);
                 Err(Fault::from(fault))

@@ -1,23 +1,20 @@
 //! The shrinker's calls: a take, tries, a put back, and the scan that combines them.
 ghost use Rattle.std.specs.Prelude.{◌≡◌, ℕ, ◌+◌, ◌*◌, ◌<◌, ◌≤◌, Bool, true, false, ◌||◌, [], ◌∷◌, length, drop, take, slice_get, min, Option, None, Some, IsSome, IfOk, IfErr, IfSome, IfNone, OnOk, OnErr};
-ghost use Rattle.thp_history.specs.Prelude.{max_batch, max_callers, by, is_closed, IsLegal, queue, flight, no_pages, is_taking, has_page, refusal, take_events, split_next_events, put_back_events, scan_events, next_page, rest_after, still_flying, try_event, return_event};
+ghost use Rattle.thp_history.specs.Prelude.{max_batch, max_callers, by, is_closed, IsLegal, queue, flight, no_pages, is_taking, has_page, refusal, take_events, split_next_events, put_back_events, scan_events, next_page, rest_after, still_flying, try_event, return_event, is_split_candidate, is_worth_split};
 ghost use Rattle.thp_history.specs.Refusals as call;
 ghost use Rattle.thp_node.specs.Batches.{rest, tried, IsInFront, FrontsStay, OtherFrontsStay, OlderAreInFront};
 ghost use Rattle.thp_node.specs.Calls.{Did, Refused};
-ghost use Rattle.thp_live_pages.specs.Prelude.{block_of};
+ghost use Rattle.thp_live_pages.specs.Prelude.{block_of, IsFlyingAt, IsUnpinnedAt, AtSlot};
+ghost use Rattle.thp_page.specs.Prelude.{slot_at};
 
 use crate::answers::{BackReply, ScanReply, Tried};
 use crate::batch::Batch;
-use crate::journal::EventContext;
+use crate::journal::EventContext::{Nothing, OfSplit};
 use crate::node::Node;
 use crate::recorder::Recorder;
 use thp_history::{PageId, Refusal, SplitContext, What};
 
 impl<R: Recorder> Node<R> {
-    ghost use Rattle.thp_history.specs.Prelude.{is_split_candidate, is_worth_split};
-    ghost use Rattle.thp_page.specs.Prelude.{slot_at};
-    ghost use Rattle.thp_live_pages.specs.Prelude.{IsFlyingAt, IsUnpinnedAt, AtSlot};
-
     /// Takes up to `n` of the oldest queued pages (at most 128), in order, into a batch of the caller. Fails with `HasBatch` if
     /// the caller has pages in flight, and with `OutOfMemory`.
     pub fn take(&mut self, caller: u32, n: u32) -> Result<Batch, Refusal>
@@ -33,10 +30,8 @@ impl<R: Recorder> Node<R> {
         ensures older { IfOk result (λ b. OlderAreInFront caller b.pages self.new.journal) }
     {
         let mut batch = Batch::none();
-        match self.take_into(caller, n, &mut batch) {
-            Ok(()) => Ok(batch),
-            Err(refusal) => Err(refusal),
-        }
+        self.take_into(caller, n, &mut batch)?;
+        Ok(batch)
     }
 
     /// Takes as `take` does, into a batch that the caller provides. On success the batch's former content is discarded; on error
@@ -77,9 +72,7 @@ impl<R: Recorder> Node<R> {
             return Err(Refusal::HasBatch);
         }
         let count = n.min(self.blocks.store().queue().len());
-        if let Err(_) = self.journal.reserve((each * count) as usize) {
-            return Err(Refusal::OutOfMemory);
-        }
+        self.journal.reserve((each * count) as usize)?;
         Ok(count)
     }
 
@@ -112,8 +105,7 @@ impl<R: Recorder> Node<R> {
         ensures did { Did self.old self.new caller (by caller (What.Taken result) ∷ []) }
     {
         let page = self.blocks.take_first(caller);
-        self.journal
-            .record(caller, What::Taken { page }, EventContext::Nothing);
+        self.journal.record(caller, What::Taken { page }, Nothing);
         page
     }
 
@@ -141,13 +133,11 @@ impl<R: Recorder> Node<R> {
         let caller = batch.caller();
         match self.next_flying(caller, batch.rest()) {
             None => {
-                batch.finish();
+                batch.advance(batch.rest().len());
                 Ok(Tried::Done)
             }
             Some((passed, block, page)) => {
-                if let Err(_) = self.journal.reserve(1) {
-                    return Err(Refusal::OutOfMemory);
-                }
+                self.journal.reserve(1)?;
                 batch.advance(passed + 1);
                 Ok(self.try_page(caller, block, page))
             }
@@ -178,15 +168,11 @@ impl<R: Recorder> Node<R> {
         ensures block { IfSome result (IsFlyingAt self.now.table caller page) }
         ensures home { IfSome result (λ b. block_of self.now.journal page ≡ Some b) }
     {
-        match self.blocks.store().find(page) {
-            Some(block) => {
-                if self.blocks.store().is_in_batch(block, caller) {
-                    Some(block)
-                } else {
-                    None
-                }
-            }
-            None => None,
+        let block = self.blocks.store().find(page)?;
+        if self.blocks.store().is_in_batch(block, caller) {
+            Some(block)
+        } else {
+            None
         }
     }
 
@@ -216,8 +202,7 @@ impl<R: Recorder> Node<R> {
             self.split_page(caller, block, page);
             Tried::Split(page)
         } else {
-            self.journal
-                .record(caller, What::Pinned { page }, EventContext::Nothing);
+            self.journal.record(caller, What::Pinned { page }, Nothing);
             Tried::Pinned(page)
         }
     }
@@ -231,8 +216,7 @@ impl<R: Recorder> Node<R> {
         ensures did { Did self.old self.new caller (try_event self.old.shape self.old.journal caller page ∷ []) }
     {
         self.blocks.drop_out(block);
-        self.journal
-            .record(caller, What::Used { page }, EventContext::Nothing);
+        self.journal.record(caller, What::Used { page }, Nothing);
     }
 
     // Splits the page of a block, which is in the caller's flight, is worth a split and has no pins.
@@ -244,7 +228,7 @@ impl<R: Recorder> Node<R> {
         requires unpinned { IsUnpinnedAt self.old.table block }
         ensures did { Did self.old self.new caller (try_event self.old.shape self.old.journal caller page ∷ []) }
     {
-        let unsaid = EventContext::OfSplit(SplitContext {
+        let unsaid = OfSplit(SplitContext {
             mappings: self.blocks.store().whole(block),
             underused: !self.blocks.store().is_partly(block),
         });

@@ -5,7 +5,7 @@ ghost use Rattle.thp_history.specs.Refusals as call;
 ghost use Rattle.thp_node.specs.Batches.{FrontsStay};
 ghost use Rattle.thp_node.specs.Calls.{Did, DidAlloc, Refused};
 
-use crate::journal::EventContext;
+use crate::journal::EventContext::Nothing;
 use crate::node::Node;
 use crate::recorder::Recorder;
 use thp_history::{PageId, Refusal, What};
@@ -27,14 +27,12 @@ impl<R: Recorder> Node<R> {
         if !self.blocks.has_free() {
             return Err(Refusal::NoBlock);
         }
-        if let Err(_) = self.journal.reserve(1) {
-            return Err(Refusal::OutOfMemory);
-        }
+        self.journal.reserve(1)?;
         let page = PageId(self.journal.next());
         let queued = self.journal.shape().shrinks_underused();
         let block = self.blocks.place(page, queued);
         self.journal
-            .record(caller, What::Alloc { page, block }, EventContext::Nothing);
+            .record(caller, What::Alloc { page, block }, Nothing);
         Ok(page)
     }
 
@@ -49,11 +47,8 @@ impl<R: Recorder> Node<R> {
         if self.journal.is_closed() {
             return Err(Refusal::Closed);
         }
-        if let Err(_) = self.journal.reserve(1) {
-            return Err(Refusal::OutOfMemory);
-        }
-        self.journal
-            .record(caller, What::Close, EventContext::Nothing);
+        self.journal.reserve(1)?;
+        self.journal.record(caller, What::Close, Nothing);
         Ok(())
     }
 }

@@ -7,7 +7,7 @@ ghost use Rattle.thp_node.specs.Calls.{Did, Refused};
 ghost use Rattle.thp_page.specs.Prelude.{slot_at, HoldsPage};
 ghost use Rattle.thp_live_pages.specs.Prelude.{block_of};
 
-use crate::journal::EventContext;
+use crate::journal::EventContext::Nothing;
 use crate::node::Node;
 use crate::recorder::Recorder;
 use thp_history::{Done, Gain, Loss, PageCall, PageId, Refusal, What};
@@ -155,12 +155,8 @@ impl<R: Recorder> Node<R> {
         ensures fronts { FrontsStay self.old.journal self.new.journal }
     {
         let block = self.admit(page, PageCall::Gain(gain))?;
-        match self.blocks.gain(block, gain) {
-            Ok(()) => {}
-            Err(refusal) => return Err(refusal),
-        }
-        self.journal
-            .record(caller, gain.what(page), EventContext::Nothing);
+        self.blocks.gain(block, gain)?;
+        self.journal.record(caller, gain.what(page), Nothing);
         Ok(())
     }
 
@@ -179,10 +175,7 @@ impl<R: Recorder> Node<R> {
         let block = self.admit(page, PageCall::Loss(loss))?;
         let closed = self.journal.is_closed();
         let mut done = Done::none();
-        let left = match self.blocks.lose(block, loss, closed, &mut done) {
-            Ok(left) => left,
-            Err(refusal) => return Err(refusal),
-        };
+        let left = self.blocks.lose(block, loss, closed, &mut done)?;
         self.journal.record_loss(caller, page, loss, &done, left);
         Ok(done)
     }
@@ -199,9 +192,8 @@ impl<R: Recorder> Node<R> {
         ensures same { self.new ≡ record self.old { room = self.new.room } }
         ensures refused { IfErr result (Refused self.old self.new (refusal self.old.shape self.old.journal (page_call call page)) 1) }
     {
-        let block = match self.blocks.store().find(page) {
-            Some(block) => block,
-            None => return Err(Refusal::NoPage),
+        let Some(block) = self.blocks.store().find(page) else {
+            return Err(Refusal::NoPage);
         };
         if !self.journal.has_room() {
             self.make_room(page, block, call)?;
@@ -223,9 +215,7 @@ impl<R: Recorder> Node<R> {
         if let Some(refusal) = self.blocks.store().refusal(block, call) {
             return Err(refusal);
         }
-        match self.journal.reserve(1) {
-            Ok(()) => Ok(()),
-            Err(_) => Err(Refusal::OutOfMemory),
-        }
+        self.journal.reserve(1)?;
+        Ok(())
     }
 }

@@ -4,22 +4,19 @@ ghost use Rattle.thp_history.specs.Prelude.{max_batch, max_callers, IsLegal, fli
 ghost use Rattle.thp_history.specs.Refusals as call;
 ghost use Rattle.thp_node.specs.Batches.{back_reply, scan_reply, IsInFront, FrontsStay};
 ghost use Rattle.thp_node.specs.Calls.{Did, Refused};
-ghost use Rattle.thp_live_pages.specs.Prelude.{block_of};
-ghost use Rattle.thp_node.specs.Scanning.{used_count};
+ghost use Rattle.thp_live_pages.specs.Prelude.{block_of, IsFlyingAt};
+ghost use Rattle.thp_node.specs.Scanning.{used_count, events_after, is_used};
+ghost use Rattle.thp_node.specs.Returning.{BeginsIn, return_first, OneBack};
 
 use crate::answers::{BackReply, ScanReply, Tried};
 use crate::batch::Batch;
-use crate::journal::EventContext;
+use crate::journal::EventContext::Nothing;
 use crate::node::Node;
 use crate::recorder::Recorder;
 use arrayvec::ArrayVec;
 use thp_history::{MAX_BATCH, PageId, Refusal, What};
 
 impl<R: Recorder> Node<R> {
-    ghost use Rattle.thp_live_pages.specs.Prelude.{IsFlyingAt};
-    ghost use Rattle.thp_node.specs.Returning.{BeginsIn, return_first, OneBack};
-    ghost use Rattle.thp_node.specs.Scanning.{events_after, is_used};
-
     /// Returns the pages of a batch that are still in the flight of the batch's caller to the node, in the batch's order.
     ///
     /// Partly mapped pages go to the tail of the queue; other pages are dropped, and on a closed node all are. Fails with
@@ -34,10 +31,8 @@ impl<R: Recorder> Node<R> {
         ensures handed_back { IfErr result (λ e. e.0 ≡ batch) }
         ensures fronts { FrontsStay self.old.journal self.new.journal }
     {
-        match self.put_back_all(&batch) {
-            Ok(reply) => Ok(reply),
-            Err(refusal) => Err((batch, refusal)),
-        }
+        self.put_back_all(&batch)
+            .map_err(|refusal| (batch, refusal))
     }
 
     /// Puts back as `put_back` does, without consuming the batch. Afterwards none of the batch's pages is in the flight.
@@ -49,9 +44,7 @@ impl<R: Recorder> Node<R> {
         ensures fronts { FrontsStay self.old.journal self.new.journal }
     {
         let blocks = self.flying_blocks(batch.caller(), batch.pages());
-        if let Err(_) = self.journal.reserve(blocks.len()) {
-            return Err(Refusal::OutOfMemory);
-        }
+        self.journal.reserve(blocks.len())?;
         let count = blocks.len() as u32;
         let back = self.return_all(batch.caller(), &blocks);
         Ok(BackReply {
@@ -120,12 +113,10 @@ impl<R: Recorder> Node<R> {
         let is_back = joins_queue(closed, partly);
         if is_back {
             self.blocks.enqueue(block);
-            self.journal
-                .record(caller, What::Back { page }, EventContext::Nothing);
+            self.journal.record(caller, What::Back { page }, Nothing);
         } else {
             self.blocks.drop_out(block);
-            self.journal
-                .record(caller, What::Dropped { page }, EventContext::Nothing);
+            self.journal.record(caller, What::Dropped { page }, Nothing);
         }
         is_back
     }
@@ -212,8 +203,5 @@ fn joins_queue(closed: bool, partly: bool) -> bool
 fn found_used(tried: Tried) -> u32
     ensures { result ≡ used_count tried }
 {
-    match tried {
-        Tried::Used(_) => 1,
-        _ => 0,
-    }
+    u32::from(matches!(tried, Tried::Used(_)))
 }

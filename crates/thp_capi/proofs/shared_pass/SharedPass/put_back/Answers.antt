@@ -1,6 +1,6 @@
 -- The other open batches stay in front of their flights; what the cell's call did is told.
 use Rattle.std.proofs.Common.{◌≡◌, ◌∙◌, ◌+◌, ◌<◌, Some, None, Ok, Err, ap, arith, get_or, length, set, sym, subst, set-set}
-use Rattle.thp_cell.specs.Prelude.{Called, DidPutBack, HasCaller}
+use Rattle.thp_cell.specs.Prelude.{HasCaller}
 use Rattle.thp_capi.specs.Codes.{fault_in}
 use Rattle.thp_capi.specs.PassBatches.{PassBack}
 use Rattle.thp_capi.proofs.Opened.{shared_closed, shared_again, back_done, back_failed, own_at}
@@ -34,9 +34,9 @@ returns-in-Ok g c =
     let b = c.in-Some.batch in
     let is : get_or c.self.inside.batches.items c.in_ok-place.place None ≡ Some b = sym c.take_at.ensures.was ∙ c.in-Some.is in
     let own : b.caller ≡ c.args.caller = omega (arith, (c.self.invariant.each c.in_ok-place.place b lt is).0, at) in
-    subst (λ x. PassBack c.args.caller x (record { mark = c.self.inside.mark; pass = c.put_back.new.pass; batches = c.take_at.new.places.items }) (Ok c.of.result)) c.self.view_is
-    (back_done c.self.inside.mark p c.put_back.new.pass _ _ c.args.caller c.in_ok-place.place c.put_back.ensures.same at lt b c.of.result is own c.take_at.ensures.now
-    (subst (λ r. Called p c.put_back.new.pass b.caller (DidPutBack p.shape b r)) (sym c.of.ensures) c.in-Ok.ensures.recorded))
+    subst (λ x. PassBack c.args.caller x (record { mark = c.self.inside.mark; pass = c.put_back.new.pass; batches = c.take_at.new.places.items }) (Ok c.in-Ok.reply)) c.self.view_is
+    (back_done c.self.inside.mark p c.put_back.new.pass _ _ c.args.caller c.in_ok-place.place c.put_back.ensures.same at lt b c.in-Ok.reply is own c.take_at.ensures.now
+    c.in-Ok.ensures.recorded)
 
 pub returns-in-Err : goal.returns-in-Err
 returns-in-Err g c =

@@ -6,7 +6,7 @@ use Rattle.thp_history.specs.Prelude.{events_of}
 use Rattle.thp_node.specs.Prelude.{NodeState}
 use Rattle.thp_cell.specs.Prelude.{IsOwn, returning_node, IsWhole, PassState, HasAll, Place, pass_state}
 use Rattle.thp_cell.proofs.Ending.{EndsWith, ends}
-use Rattle.thp_cell.proofs.Keeping.{free_state}
+use Rattle.thp_cell.proofs.Keeping.{returned}
 use Rattle.thp_cell.proofs.cell.NodeCell.finish.Goals as goal
 
 -- the node at the end, by the pass
@@ -28,9 +28,10 @@ is_whole p s is all = let whole = subst HasAll (sym is) all in record { from = w
 
 pub returns : goal.returns
 returns g c =
-    let free = c.release_kept.ensures.free in
-    let s = c.release_kept.new.seat in
-    let is = sym (free_state false s free.no_slot) ∙ (c.release_kept.ensures.same ∙ ap returning_node c.pass.view_is) in
+    let s = c.pass.inside.seat in
+    let seat = returned c.pass.inside.keeps s c.args.pass (c.pass.view_is ∙ c.return_node.ensures) c.pass.invariant.1 in
+    let free = seat.0 in
+    let is = seat.1 in
     let all : HasAll (returning_node c.args.pass) = record { from = c.requires.all.from; to = c.requires.all.to } in
     let t = ends _ _ _ s.me.0 _ _ _ free.no_node free.callers (is_whole _ s is all) c.close_with-closed.ensures.values.2 c.take-node.ensures.value in
     let e = ends_pass (returning_node c.args.pass) s c.take-node.result is all t in record {

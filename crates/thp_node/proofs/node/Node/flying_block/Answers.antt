@@ -9,22 +9,23 @@ pub returns-then-is_in_batch-clause-flies : goal.returns-then-is_in_batch-clause
 returns-then-is_in_batch-clause-flies g c =
     let j = c.self.inside.journal in
     let b = c.self.inside.blocks in
-    let w : Found j.shape j.events b.table c.args.page c.in-Some.block = found j.shape j.events b.table b.queue c.args.page c.in-Some.block c.self.invariant (rw c.store.ensures at c.in-Some.ensures) in
+    let w : Found j.shape j.events b.table c.args.page c.in_ok-block.block = found j.shape j.events b.table b.queue c.args.page c.in_ok-block.block c.self.invariant (rw c.store.ensures at c.in_ok-block.ensures) in
     ap (λ (n : NodeState). has_page c.args.page (flight n.journal c.args.caller)) (sym c.self.view_is)
-    ∙ flies_there j.shape j.events b.table b.queue c.args.caller c.args.page c.in-Some.block c.self.invariant w (((rw c.store-in-Some.ensures at c.is_in_batch.ensures) w.slot w.at).0 c.if-is_in_batch.true)
+    ∙ flies_there j.shape j.events b.table b.queue c.args.caller c.args.page c.in_ok-block.block c.self.invariant w (((rw c.store-2.ensures at c.is_in_batch.ensures) w.slot w.at).0 c.if-is_in_batch.true)
 
 pub returns-else-is_in_batch-clause-none : goal.returns-else-is_in_batch-clause-none
 returns-else-is_in_batch-clause-none g c =
     let j = c.self.inside.journal in
     let b = c.self.inside.blocks in
-    let w : Found j.shape j.events b.table c.args.page c.in-Some.block = found j.shape j.events b.table b.queue c.args.page c.in-Some.block c.self.invariant (rw c.store.ensures at c.in-Some.ensures) in
+    let w : Found j.shape j.events b.table c.args.page c.in_ok-block.block = found j.shape j.events b.table b.queue c.args.page c.in_ok-block.block c.self.invariant (rw c.store.ensures at c.in_ok-block.ensures) in
     ap (λ (n : NodeState). has_page c.args.page (flight n.journal c.args.caller)) (sym c.self.view_is)
-    ∙ flies_not_there j.shape j.events b.table b.queue c.args.caller c.args.page c.in-Some.block c.self.invariant w
-    (λ e. let yes = ((rw c.store-in-Some.ensures at c.is_in_batch.ensures) w.slot w.at).1 e in let no = c.if-is_in_batch.false in cc)
+    ∙ flies_not_there j.shape j.events b.table b.queue c.args.caller c.args.page c.in_ok-block.block c.self.invariant w
+    (λ e. let yes = ((rw c.store-2.ensures at c.is_in_batch.ensures) w.slot w.at).1 e in let no = c.if-is_in_batch.false in cc)
 
-pub returns-in-None-clause-none : goal.returns-in-None-clause-none
-returns-in-None-clause-none g c =
+pub returns-in_err-block-clause-none : goal.returns-in_err-block-clause-none
+returns-in_err-block-clause-none g c =
     let j = c.self.inside.journal in
     let b = c.self.inside.blocks in
-    ap (λ (n : NodeState). has_page c.args.page (flight n.journal c.args.caller)) (sym c.self.view_is)
-    ∙ flies_nowhere j.shape j.events b.table b.queue c.args.caller c.args.page c.self.invariant (rw c.store.ensures at c.in-None.ensures)
+    rw c.from_residual.ensures
+    (ap (λ (n : NodeState). has_page c.args.page (flight n.journal c.args.caller)) (sym c.self.view_is)
+    ∙ flies_nowhere j.shape j.events b.table b.queue c.args.caller c.args.page c.self.invariant (rw c.store.ensures at c.in_err-block.ensures))

@@ -7,7 +7,7 @@ use Rattle.thp_live_pages.specs.Prelude.{IsNode, block_of, PageStoreState, AtSlo
 use Rattle.thp_history.specs.declared.page_call.Loss.{Loss}
 use Rattle.thp_node.specs.Prelude.{NodeState}
 use Rattle.thp_live_pages.proofs.Admitting.{Found, at_home, refused_by_page}
-use Rattle.thp_node.proofs.CallLemmas.{did_one, refused_by, node_of}
+use Rattle.thp_node.proofs.CallLemmas.{did_one, refused_by, node_of, fails_as}
 use Rattle.thp_node.proofs.Losing.{Losing, losing}
 use Rattle.thp_node.proofs.Fronts.{fronts_same, fronts_grown, loss_takes_none}
 use Rattle.thp_node.proofs.node.Node.lose.Given.{Over}
@@ -20,38 +20,38 @@ allowed s h n p b l m home told =
     refused_by_page s h n.table p b (either.Loss l) w ∙ sym (told w.slot w.at p)
 
 -- what the page lost
-after : (g : Over) (c : goal.After-record_loss g) → Losing c.self.inside.journal.shape c.self.inside.journal.events c.args.caller c.args.page c.args.loss c.self.inside.blocks c.lose.new.self c.lose.new.done c.in-Ok.left
+after : (g : Over) (c : goal.After-record_loss g) → Losing c.self.inside.journal.shape c.self.inside.journal.events c.args.caller c.args.page c.args.loss c.self.inside.blocks c.lose.new.self c.lose.new.done c.in_ok-left.left
 after g c =
     let j = c.self.inside.journal in
     let b = c.self.inside.blocks in
     let is = c.self.view_is ∙ c.in_ok-block.ensures.same in
-    losing j.shape j.events c.args.caller c.args.page c.in_ok-block.block c.args.loss c.is_closed-closed.result b c.lose.new.self c.lose.new.done c.in-Ok.left c.self.invariant
+    losing j.shape j.events c.args.caller c.args.page c.in_ok-block.block c.args.loss c.is_closed-closed.result b c.lose.new.self c.lose.new.done c.in_ok-left.left c.self.invariant
     (ap (λ (n : NodeState). block_of n.journal c.args.page) is ∙ c.in_ok-block.ensures.block)
     c.is_closed-closed.ensures
-    (allowed j.shape j.events b c.args.page c.in_ok-block.block c.args.loss c.self.invariant (ap (λ (n : NodeState). block_of n.journal c.args.page) is ∙ c.in_ok-block.ensures.block) c.in-Ok.ensures.refusal)
-    c.in-Ok.ensures.lost
+    (allowed j.shape j.events b c.args.page c.in_ok-block.block c.args.loss c.self.invariant (ap (λ (n : NodeState). block_of n.journal c.args.page) is ∙ c.in_ok-block.ensures.block) c.in_ok-left.ensures.refusal)
+    c.in_ok-left.ensures.lost
 
 pub record_loss-requires-clause-fits : goal.record_loss-requires-clause-fits
 record_loss-requires-clause-fits g c =
     let j = c.self.inside.journal in
     let b = c.self.inside.blocks in
     let is = c.self.view_is ∙ c.in_ok-block.ensures.same in
-    (losing j.shape j.events c.args.caller c.args.page c.in_ok-block.block c.args.loss c.is_closed-closed.result b c.lose.new.self c.lose.new.done c.in-Ok.left c.self.invariant
+    (losing j.shape j.events c.args.caller c.args.page c.in_ok-block.block c.args.loss c.is_closed-closed.result b c.lose.new.self c.lose.new.done c.in_ok-left.left c.self.invariant
     (ap (λ (n : NodeState). block_of n.journal c.args.page) is ∙ c.in_ok-block.ensures.block)
     c.is_closed-closed.ensures
-    (allowed j.shape j.events b c.args.page c.in_ok-block.block c.args.loss c.self.invariant (ap (λ (n : NodeState). block_of n.journal c.args.page) is ∙ c.in_ok-block.ensures.block) c.in-Ok.ensures.refusal)
-    c.in-Ok.ensures.lost).fits
+    (allowed j.shape j.events b c.args.page c.in_ok-block.block c.args.loss c.self.invariant (ap (λ (n : NodeState). block_of n.journal c.args.page) is ∙ c.in_ok-block.ensures.block) c.in_ok-left.ensures.refusal)
+    c.in_ok-left.ensures.lost).fits
 
 pub record_loss-requires-clause-unsaid : goal.record_loss-requires-clause-unsaid
 record_loss-requires-clause-unsaid g c =
     let j = c.self.inside.journal in
     let b = c.self.inside.blocks in
     let is = c.self.view_is ∙ c.in_ok-block.ensures.same in
-    (losing j.shape j.events c.args.caller c.args.page c.in_ok-block.block c.args.loss c.is_closed-closed.result b c.lose.new.self c.lose.new.done c.in-Ok.left c.self.invariant
+    (losing j.shape j.events c.args.caller c.args.page c.in_ok-block.block c.args.loss c.is_closed-closed.result b c.lose.new.self c.lose.new.done c.in_ok-left.left c.self.invariant
     (ap (λ (n : NodeState). block_of n.journal c.args.page) is ∙ c.in_ok-block.ensures.block)
     c.is_closed-closed.ensures
-    (allowed j.shape j.events b c.args.page c.in_ok-block.block c.args.loss c.self.invariant (ap (λ (n : NodeState). block_of n.journal c.args.page) is ∙ c.in_ok-block.ensures.block) c.in-Ok.ensures.refusal)
-    c.in-Ok.ensures.lost).unsaid_is
+    (allowed j.shape j.events b c.args.page c.in_ok-block.block c.args.loss c.self.invariant (ap (λ (n : NodeState). block_of n.journal c.args.page) is ∙ c.in_ok-block.ensures.block) c.in_ok-left.ensures.refusal)
+    c.in_ok-left.ensures.lost).unsaid_is
 
 events : (g : Over) (c : goal.After-record_loss g) → c.record_loss.new.self.events ≡ c.self.inside.journal.events ++ by c.args.caller (loss_what c.args.loss c.args.page c.lose.new.done.outcome c.lose.new.done.released) ∷ []
 events g c = c.record_loss.ensures.events
@@ -104,16 +104,17 @@ returns-clause-allowed g c =
     let j = c.self.inside.journal in
     let is = c.self.view_is ∙ c.in_ok-block.ensures.same in
     ap (λ (n : NodeState). refusal n.shape n.journal (loss_call c.args.loss c.args.page)) (sym is)
-    ∙ allowed j.shape j.events c.self.inside.blocks c.args.page c.in_ok-block.block c.args.loss c.self.invariant (ap (λ (n : NodeState). block_of n.journal c.args.page) is ∙ c.in_ok-block.ensures.block) c.in-Ok.ensures.refusal
+    ∙ allowed j.shape j.events c.self.inside.blocks c.args.page c.in_ok-block.block c.args.loss c.self.invariant (ap (λ (n : NodeState). block_of n.journal c.args.page) is ∙ c.in_ok-block.ensures.block) c.in_ok-left.ensures.refusal
 
-pub returns-in-Err-clause-refused : goal.returns-in-Err-clause-refused
-returns-in-Err-clause-refused g c =
+pub returns-in_err-left-clause-refused : goal.returns-in_err-left-clause-refused
+returns-in_err-left-clause-refused g c =
     let j = c.self.inside.journal in
     let b = c.self.inside.blocks in
     let is = c.self.view_is ∙ c.in_ok-block.ensures.same in
     let w : Found j.shape j.events b.table c.args.page c.in_ok-block.block =
     at_home j.shape j.events b.table b.queue c.args.page c.in_ok-block.block c.self.invariant (ap (λ (n : NodeState). block_of n.journal c.args.page) is ∙ c.in_ok-block.ensures.block) in
-    refused_by c.args.self.now _ _ _ _ (ap (λ (b : PageStoreState). node_of c.self.inside.journal b) c.in-Err.ensures.kept ∙ c.self.view_is)
+    fails_as c.from_residual-in_err-left.result c.in_err-left.field-0.0 _ c.from_residual-in_err-left.ensures.1
+    (refused_by c.args.self.now _ _ _ _ (ap (λ (b : PageStoreState). node_of c.self.inside.journal b) c.in_err-left.ensures.kept ∙ c.self.view_is)
     (ap (λ (n : NodeState). refusal n.shape n.journal (loss_call c.args.loss c.args.page)) (sym is)
-    ∙ refused_by_page j.shape j.events b.table c.args.page c.in_ok-block.block (either.Loss c.args.loss) w ∙ sym (c.in-Err.ensures.refusal w.slot w.at c.args.page))
-    c.in_ok-block.ensures.kept c.in_ok-block.ensures.allowed
+    ∙ refused_by_page j.shape j.events b.table c.args.page c.in_ok-block.block (either.Loss c.args.loss) w ∙ sym (c.in_err-left.ensures.refusal w.slot w.at c.args.page))
+    c.in_ok-block.ensures.kept c.in_ok-block.ensures.allowed)

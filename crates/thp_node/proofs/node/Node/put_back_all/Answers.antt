@@ -9,7 +9,7 @@ use Rattle.thp_node.proofs.node.Node.put_back_all.Goals as goal
 pub return_all-back-requires-clause-front : goal.return_all-back-requires-clause-front
 return_all-back-requires-clause-front g c =
     let h : History = c.args.self.now.journal in
-    let same = c.in_default.ensures.events ∙ ap (λ (n : NodeState). n.journal) c.self.view_is in
+    let same = c.in_ok-reserve.ensures.events ∙ ap (λ (n : NodeState). n.journal) c.self.view_is in
     let caller = c.args.batch.now.caller in
     let begins : BeginsIn h caller c.deref.result.now =
     batch_begins h caller (still_flying h caller c.args.batch.now.pages) c.requires.front.others c.deref.result.now c.requires.front.front
@@ -21,9 +21,9 @@ pub returns-clause-recorded : goal.returns-clause-recorded
 returns-clause-recorded g c =
     let h : History = c.args.self.now.journal in
     batch_did c.args.self.now _ c.return_all-back.new.self c.caller-2.result (length c.deref.result.now) c.args.batch.now
-    (c.in_default.ensures.shape ∙ ap (λ (n : NodeState). n.shape) c.self.view_is)
-    (c.in_default.ensures.events ∙ ap (λ (n : NodeState). n.journal) c.self.view_is)
-    (omega (arith, c.in_default.ensures.room, ap (λ (n : NodeState). n.room) c.self.view_is))
+    (c.in_ok-reserve.ensures.shape ∙ ap (λ (n : NodeState). n.shape) c.self.view_is)
+    (c.in_ok-reserve.ensures.events ∙ ap (λ (n : NodeState). n.journal) c.self.view_is)
+    (omega (arith, c.in_ok-reserve.ensures.room, ap (λ (n : NodeState). n.room) c.self.view_is))
     (ap (λ (n : NodeState). n.table.accesses) c.self.view_is)
     c.caller-2.ensures.value c.requires.front
     (ap length c.deref.ensures.0 ∙ c.flying_blocks-blocks.ensures.count ∙ ap₂ (λ x ps. length (still_flying h x ps)) c.caller.ensures.value c.pages.ensures.value)
@@ -35,8 +35,8 @@ overflow_sub-result g c =
     omega (
       arith,
       (batch_reply c.args.self.now.shape c.reserve.new.self.shape h c.reserve.new.self.events c.caller-2.result (length c.deref.result.now) c.return_all-back.result c.args.batch.now
-          (c.in_default.ensures.shape ∙ ap (λ (n : NodeState). n.shape) c.self.view_is)
-          (c.in_default.ensures.events ∙ ap (λ (n : NodeState). n.journal) c.self.view_is)
+          (c.in_ok-reserve.ensures.shape ∙ ap (λ (n : NodeState). n.shape) c.self.view_is)
+          (c.in_ok-reserve.ensures.events ∙ ap (λ (n : NodeState). n.journal) c.self.view_is)
           c.caller-2.ensures.value c.requires.front
           (ap length c.deref.ensures.0 ∙ c.flying_blocks-blocks.ensures.count ∙ ap₂ (λ x ps. length (still_flying h x ps)) c.caller.ensures.value c.pages.ensures.value)
           c.return_all-back.ensures.back).0,
@@ -49,8 +49,8 @@ returns-clause-reply g c =
     let h : History = c.args.self.now.journal in
     ap (λ n. the_reply c.return_all-back.result (n - c.return_all-back.result)) (c.len-count.ensures.value ∙ sym (ap length c.deref.ensures.0))
     ∙ (batch_reply c.args.self.now.shape c.reserve.new.self.shape h c.reserve.new.self.events c.caller-2.result (length c.deref.result.now) c.return_all-back.result c.args.batch.now
-    (c.in_default.ensures.shape ∙ ap (λ (n : NodeState). n.shape) c.self.view_is)
-    (c.in_default.ensures.events ∙ ap (λ (n : NodeState). n.journal) c.self.view_is)
+    (c.in_ok-reserve.ensures.shape ∙ ap (λ (n : NodeState). n.shape) c.self.view_is)
+    (c.in_ok-reserve.ensures.events ∙ ap (λ (n : NodeState). n.journal) c.self.view_is)
     c.caller-2.ensures.value c.requires.front
     (ap length c.deref.ensures.0 ∙ c.flying_blocks-blocks.ensures.count ∙ ap₂ (λ x ps. length (still_flying h x ps)) c.caller.ensures.value c.pages.ensures.value)
     c.return_all-back.ensures.back).1
