@@ -88,14 +88,6 @@ fn add_fast<'p>(
     Ok(rest)
 }
 
-/// Removes the commands of `setup`, which is the first section.
-fn clear_setup(sections: &mut Vec<Sequence<Command>>)
-    requires { 0 < vec_len sections.old }
-    ensures { sections.new.items ≡ slice_set sections.old.items 0 [] }
-{
-    sections[0].clear();
-}
-
 /// Assembles the script of its sections.
 fn script_of_sections(mut sections: Vec<Sequence<Command>>) -> Script
     requires { 0 < vec_len sections }
@@ -197,7 +189,7 @@ impl<'a> ScriptReader<'a> {
         ensures gone { setup_of self.new.sections ≡ [] }
         ensures settings { self.new.settings ≡ self.old.settings }
     {
-        clear_setup(&mut self.sections);
+        self.sections[0].clear();
     }
 
     /// Returns the script that the whole text represents, or its first error. Allocates no memory.
