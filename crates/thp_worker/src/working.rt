@@ -15,7 +15,6 @@ use crate::reply::{Reply, Rest, SectionOutcome};
 use crate::scanning::{CommandProgress, no_progress};
 use crate::steps::{Steps, told};
 use std::alloc::{AllocError, Global};
-use thp_cell::CellFault;
 use thp_script::{Command, Op};
 
 /// Executes the commands of a section, in order, as steps of one caller, and puts back the batches left open.
@@ -150,7 +149,12 @@ pub(crate) fn close<S: Steps>(
     let nodes = steps.nodes();
     for node in 0..nodes {
         if opened[node as usize] {
-            let called = put_back(worker, node, steps, &mut reply);
+            let command = Command {
+                node,
+                op: Op::PutBack,
+            };
+            let mut begun = no_progress();
+            let called = do_command(command, worker, &mut begun, steps, &mut reply);
             let Some(_) = told(called)? else {
                 let rest = Rest {
                     command: count,
@@ -172,25 +176,4 @@ pub(crate) fn close<S: Steps>(
         rest: None,
         opened,
     })
-}
-
-/// Puts back the open batch of a caller on a node, unless the node stays busy.
-fn put_back<S: Steps>(
-    caller: u32,
-    node: u32,
-    steps: &mut S,
-    reply: &mut Reply,
-) -> Result<(), CellFault>
-    requires caller { HoldsCaller (S.fronts steps.old) caller }
-    requires node { node < (S.fronts steps.old).nodes }
-    ensures goes { Goes caller (S.fronts steps.old) (S.fronts steps.new) }
-    ensures back { Comes no_progress (answer_of result reply.new) (PutsBack caller node (S.fronts steps.old) (S.fronts steps.new)) }
-    ensures shared { Comes no_progress (answer_of result reply.new) (IsShared (S.fronts steps.old)) }
-{
-    let command = Command {
-        node,
-        op: Op::PutBack,
-    };
-    let mut begun = no_progress();
-    do_command(command, caller, &mut begun, steps, reply)
 }
