@@ -7,7 +7,7 @@ pub use Rattle.thp_cli.specs.Options.{HasValue}
 pub use Rattle.thp_cli.specs.Outcomes.{Device, IsShort, IsUnread, IsUntouched, Source, Takes, WasAnsweredBy, WritesMessage, device_of, end_status, given_words, name_front, source_of}
 pub use Rattle.thp_cli.specs.OwnCommand.{IsOwnCommand}
 pub use Rattle.thp_cli.specs.Passages.{Ends, WritesAnswer}
-pub use Rattle.thp_cli.specs.RunFaults.{IsReadingFault, fault_of_long_read, run_fault, seen_fault}
+pub use Rattle.thp_cli.specs.RunFaults.{IsReadingFault, fault_of_long_read, run_fault}
 pub use Rattle.thp_cli.specs.Watch.{Watch}
 pub use Rattle.thp_cli.specs.declared.calls.DeviceCall.{DeviceCall}
 pub use Rattle.thp_cli.specs.declared.fault.RunFault.{RunFault}
