@@ -12,7 +12,6 @@ pub mod Choices
 pub mod Checks
 pub mod Outcomes
 pub mod Listed
-pub mod Comparing
 pub mod ScriptInProgress
 pub mod ScriptInProgressLaws
 pub mod Written

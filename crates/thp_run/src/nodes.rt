@@ -45,11 +45,6 @@ fn new_cell<N: Recorder>(
         order: settings.orders[index as usize],
         underused: settings.underused[index as usize],
     };
-    let Ok(node) = Node::with_recorder(alloc, shape) else {
-        return Err(AllocError);
-    };
-    match NodeCell::new(alloc, node, settings.workers + 1) {
-        Ok(both) => Ok(both),
-        Err(_) => Err(AllocError),
-    }
+    let node = Node::with_recorder(alloc, shape).map_err(|_| AllocError)?;
+    NodeCell::new(alloc, node, settings.workers + 1).map_err(|_| AllocError)
 }
