@@ -2,9 +2,7 @@
 ghost use Rattle.std.specs.Prelude.{◌≡◌, ◌≢◌, ◌≤◌, ◌<◌, ◌^◌, ℕ, IfOk, IfSome, IfNone, Some, map, codes, pos};
 ghost use Rattle.clap.specs.Words.{first_value, found_of, one_text};
 ghost use Rattle.clap.specs.declared.builder.value_parser.ValueParser.TheVariants.{Names, Signed};
-ghost use Rattle.thp_cli.specs.CommandLine.{report_name, report_names, FailsAsWords, HoldsWords, IsLineWithinLimits};
-ghost use Rattle.thp_cli.specs.Flags.{WritesNumber};
-ghost use Rattle.thp_cli.specs.Options.{HasValue};
+ghost use Rattle.thp_cli.specs.Prelude.{FailsAsWords, HasValue, HoldsWords, IsLineWithinLimits, WritesNumber, report_name, report_names};
 ghost use Rattle.thp_script.specs.declared.settings.Report.{Report};
 
 use crate::options::command;

@@ -2,8 +2,7 @@
 ghost use Rattle.std.specs.Prelude.{◌≡◌, ◌≤◌, ◌++◌, Err, false, length};
 ghost use Rattle.arrayvec.specs.ArrayString.{array_string_len};
 ghost use Rattle.thp_script.specs.Prelude.{kind_word};
-ghost use Rattle.thp_cli.specs.Outcomes.{device_of, end_status, fault_line, name_front, no_node_line, status_of, Takes, WritesMessage};
-ghost use Rattle.thp_cli.specs.RunFaults.{fault_text};
+ghost use Rattle.thp_cli.specs.Prelude.{Takes, WritesMessage, device_of, end_status, fault_line, fault_text, name_front, no_node_line, status_of};
 
 use crate::device::write_text;
 use crate::ending::{Ending, Program, ProgramFault};

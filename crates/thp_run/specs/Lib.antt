@@ -1,4 +1,5 @@
 pub mod Reports
+pub mod Prelude
 pub mod Answers
 pub mod Parts
 pub mod Laws

@@ -3,8 +3,7 @@ ghost use Rattle.std.specs.Prelude.{◌≡◌, ◌+◌, ◌++◌, ◌≤◌, ◌
 ghost use Rattle.std.specs.Fmt.{decimal};
 ghost use Rattle.thp_journal_writer.specs.Prelude.{line_of, ended, number_room, outcome_room, Takes};
 ghost use Rattle.thp_run.specs.Answers.{refusal_word, tried_words, back_words, scan_words, used_words, reply_words, looks, answer_line, section_text, with_stored, answers_text as text_of};
-ghost use Rattle.thp_run.specs.Parts.{line_room};
-ghost use Rattle.thp_run.specs.Reports.{shape_of};
+ghost use Rattle.thp_run.specs.Prelude.{line_room, shape_of};
 
 use std::alloc::{AllocError, Global};
 use thp_history::Refusal;

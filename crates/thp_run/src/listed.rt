@@ -1,8 +1,7 @@
 //! Sections whose answers are stored in vectors: the calls of `thp_worker` and of `report`, whose logs store answers in less memory
 //! or only count them, for callers that need all answers as values.
 ghost use Rattle.std.specs.Prelude.{◌≡◌, ◌+◌, ◌<◌, ◌≤◌, ◌^◌, ◌++◌, ◌∷◌, [], All, IfOk, OnOk, Some, length, map, slice_get};
-ghost use Rattle.thp_run.specs.Reports.{report_of, told_of};
-ghost use Rattle.thp_run.specs.Listed.{section_of, sections_of, IsWhole, WorksOn};
+ghost use Rattle.thp_run.specs.Prelude.{IsWhole, WorksOn, report_of, section_of, sections_of, told_of};
 ghost use Rattle.thp_worker.specs.Prelude.{Fronts, Goes, HoldsAllCallers, HoldsCaller, HasNoBatch, IsCommandFor, stored};
 ghost use Rattle.thp_worker.specs.declared.answer_log.Answers.TheVariants.{Kept};
 ghost use Rattle.thp_worker.specs.declared.reply.Answer.{Answer as StoredAnswer};

@@ -1,8 +1,7 @@
 //! The nodes of a run, in cells.
 ghost use Rattle.std.specs.Prelude.{◌≡◌, ◌<◌, ◌+◌, IfOk};
-ghost use Rattle.thp_run.specs.InParts.{AreNew};
+ghost use Rattle.thp_run.specs.Prelude.{AreNew, IsFresh};
 ghost use Rattle.thp_run.specs.NewNodes.{shape_of};
-ghost use Rattle.thp_run.specs.Sharing.{IsFresh};
 
 use std::alloc::{AllocError, Global};
 use thp_cell::{NodeCell, Pass};

@@ -2,9 +2,7 @@
 ghost use Rattle.std.specs.Prelude.{◌≡◌, ℕ, List, IfOk, IfSome, IfNone, map, false, true};
 ghost use Rattle.std.specs.Io.KnownBytes.{Appends};
 ghost use Rattle.thp_cli.specs.Prelude.{WritesOn, WritesFront, WritesAnswer};
-ghost use Rattle.thp_run.specs.Answers.{answers_text, with_stored};
-ghost use Rattle.thp_run.specs.Reports.{shape_of};
-ghost use Rattle.thp_run.specs.Written.{Wrote};
+ghost use Rattle.thp_run.specs.Prelude.{Wrote, answers_text, shape_of, with_stored};
 
 use crate::answer_parts::AnswerParts;
 use crate::run_result::RunResult;

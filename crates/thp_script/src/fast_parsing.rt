@@ -1,10 +1,7 @@
 //! Fast parsing of commands' operands at the beginning of a text, in one pass over its bytes. Lines that it does not parse, such
 //! as section lines, comments and errors, are left to `statement`.
 ghost use Rattle.std.specs.Prelude.{IfSome};
-ghost use Rattle.thp_script.specs.FastParsing.{FastOperands};
-ghost use Rattle.thp_script.specs.Commands.{batch_command, node_command, page_command, range_command};
-ghost use Rattle.thp_script.specs.Operands.{batch_op, range_op};
-ghost use Rattle.thp_script.specs.PageCommands.{page_op};
+ghost use Rattle.thp_script.specs.Prelude.{FastOperands, batch_command, batch_op, node_command, page_command, page_op, range_command, range_op};
 
 use crate::fast_words::parse_number_fast;
 use crate::script::{BatchCall, Command, Op, RangeCall};

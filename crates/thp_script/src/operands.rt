@@ -1,8 +1,6 @@
 //! Parses commands from the words of a line.
 ghost use Rattle.std.specs.Prelude.{◌≡◌, ◌≤◌, ◌<◌, IfOk};
-ghost use Rattle.thp_script.specs.Commands.{batch_command, command_of, node_command, node_number, number_up_to, page_command, range_command};
-ghost use Rattle.thp_script.specs.Operands.{batch_op, range_op};
-ghost use Rattle.thp_script.specs.PageCommands.{page_op};
+ghost use Rattle.thp_script.specs.Prelude.{batch_command, batch_op, command_of, node_command, node_number, number_up_to, page_command, page_op, range_command, range_op};
 
 use crate::fault::TextKind;
 use crate::script::{BatchCall, Command, CommandWord, Op, RangeCall, command_word};

@@ -1,8 +1,6 @@
 //! Scripts as values, and the words of their commands.
 ghost use Rattle.std.specs.Prelude.{◌≡◌, IfSome};
-ghost use Rattle.thp_script.specs.FastParsing.{FastCommand};
-ghost use Rattle.thp_script.specs.Operands.{batch_op, range_op, Names};
-ghost use Rattle.thp_script.specs.PageCommands.{operand, page_call_of, page_op};
+ghost use Rattle.thp_script.specs.Prelude.{FastCommand, Names, batch_op, operand, page_call_of, page_op, range_op};
 
 use crate::fast_parsing::{
     parse_batch_command_fast, parse_node_command_fast, parse_page_command_fast,

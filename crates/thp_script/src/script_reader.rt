@@ -1,10 +1,6 @@
 //! Reads scripts from bytes.
 ghost use Rattle.std.specs.Prelude.{◌≡◌, ◌≢◌, ◌≤◌, ◌<◌, ◌+◌, ◌++◌, ◌∷◌, [], ℕ, List, All, IfOk, IfErr, IfSome, OnOk, length, replicate, slice_set, vec_len};
-ghost use Rattle.thp_script.specs.Commands.{IsCommandFor};
-ghost use Rattle.thp_script.specs.FastParsing.{spelled_after, IsPartRead};
-ghost use Rattle.thp_script.specs.Parts.{read_after, script_in, setup_of, spelled_with, with_commands};
-ghost use Rattle.thp_script.specs.Scripts.{placed, script_of, IsScriptFor, ReportsFault};
-ghost use Rattle.thp_script.specs.Words.{Text};
+ghost use Rattle.thp_script.specs.Prelude.{IsCommandFor, IsPartRead, IsScriptFor, ReportsFault, Text, placed, read_after, script_in, script_of, setup_of, spelled_after, spelled_with, with_commands};
 ghost use Rattle.thp_script.specs.declared.fault.ReadFault.TheVariants.{OutOfMemory};
 
 use crate::fault::ReadFault;

@@ -1,9 +1,6 @@
 //! The steps of one command.
 ghost use Rattle.std.specs.Prelude.{◌≡◌, true, false};
-ghost use Rattle.thp_worker.specs.Does.{answer_of};
-ghost use Rattle.thp_worker.specs.Fronts.{Fronts, Goes, HoldsCaller};
-ghost use Rattle.thp_worker.specs.Sections.{IsCommandFor, Proceeds};
-ghost use Rattle.thp_worker.specs.Turns.{no_progress, is_scan, Comes, IsReady, IsShared, WholeComes};
+ghost use Rattle.thp_worker.specs.Prelude.{Comes, Fronts, Goes, HoldsCaller, IsCommandFor, IsReady, IsShared, Proceeds, WholeComes, answer_of, is_scan, no_progress};
 
 use crate::reply::Reply;
 use crate::scanning::{CommandProgress, count_reply, is_scan, next_step, no_progress, scan_step};

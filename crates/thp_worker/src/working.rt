@@ -1,11 +1,7 @@
 //! The commands of a section, one after another, and the put backs at its end.
 ghost use Rattle.std.specs.Prelude.{◌≡◌, ◌^◌, ◌≤◌, ◌<◌, All, IfOk, List, length};
 ghost use Rattle.thp_script.specs.declared.script.Command.{Command};
-ghost use Rattle.thp_worker.specs.Does.{answer_of};
-ghost use Rattle.thp_worker.specs.Fronts.{Fronts, Goes, HoldsAllCallers, HoldsCaller};
-ghost use Rattle.thp_worker.specs.OpenBatches.{HasNoBatch};
-ghost use Rattle.thp_worker.specs.Turns.{Comes, no_progress, IsShared};
-ghost use Rattle.thp_worker.specs.Sections.{Begins, Ends, IsCommandFor, IsDoneFor, AnswersAre, PutsBack, Works};
+ghost use Rattle.thp_worker.specs.Prelude.{AnswersAre, Begins, Comes, Ends, Fronts, Goes, HasNoBatch, HoldsAllCallers, HoldsCaller, IsCommandFor, IsDoneFor, IsShared, PutsBack, Works, answer_of, no_progress};
 
 use crate::answer_log::{AnswerLog, Answers};
 use crate::command::do_command;
