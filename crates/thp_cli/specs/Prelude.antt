@@ -1,13 +1,13 @@
 -- Re-exports the definitions and types of this library: other files import those that they cite from here, in one line.
 pub use Rattle.thp_cli.specs.Calls.{EndsReading, Follow, IsTaken, ReadsOn, WritesAll, WritesOn, is_answered, read_giving, read_room, writes_of}
-pub use Rattle.thp_cli.specs.CommandLine.{FailsAsWords, HoldsWords, IsLineWithinLimits, bare, blocks_rule, nodes_rule, own_rules, report_name, report_names, report_rule, with_rules, workers_rule}
+pub use Rattle.thp_cli.specs.CommandLine.{FailsAsWords, HoldsWords, IsLineWithinLimits, bare, blocks_rule, check_rule, nodes_rule, orders_rule, own_rules, report_name, report_names, report_rule, underused_rule, with_rules, workers_rule}
 pub use Rattle.thp_cli.specs.Devices.{WritesFront}
 pub use Rattle.thp_cli.specs.Flags.{IsOption, ReportsFlag, ReportsNumber, WritesNumber, bare_app, flag_rule, valued_rule}
 pub use Rattle.thp_cli.specs.Options.{HasValue}
-pub use Rattle.thp_cli.specs.Outcomes.{Device, IsShort, IsUnread, IsUntouched, Source, Takes, WasAnsweredBy, WritesMessage, device_of, end_status, given_words, name_front, source_of}
+pub use Rattle.thp_cli.specs.Outcomes.{Device, IsShort, IsUnread, IsUntouched, Source, Takes, WasAnsweredBy, WritesMessage, device_of, end_status, fault_line, given_words, name_front, no_node_line, source_of, status_of}
 pub use Rattle.thp_cli.specs.OwnCommand.{IsOwnCommand}
 pub use Rattle.thp_cli.specs.Passages.{Ends, WritesAnswer}
-pub use Rattle.thp_cli.specs.RunFaults.{IsReadingFault, fault_of_long_read, run_fault, seen_fault}
+pub use Rattle.thp_cli.specs.RunFaults.{IsReadingFault, fault_of_long_read, fault_text, run_fault}
 pub use Rattle.thp_cli.specs.Watch.{Watch}
 pub use Rattle.thp_cli.specs.declared.calls.DeviceCall.{DeviceCall}
 pub use Rattle.thp_cli.specs.declared.fault.RunFault.{RunFault}

@@ -5,8 +5,6 @@ use Rattle.thp_script.specs.declared.fault.ReadFault.{ReadFault}
 use Rattle.thp_script.specs.declared.fault.ReadFault.TheVariants as reading
 use Rattle.thp_script.specs.declared.fault.LongReadFault.{LongReadFault}
 use Rattle.thp_script.specs.declared.fault.LongReadFault.TheVariants as summary
-use Rattle.thp_cli.specs.declared.long_fault.LongRunFault.{LongRunFault}
-use Rattle.thp_cli.specs.declared.long_fault.LongRunFault.TheVariants as long
 use Rattle.thp_cli.specs.declared.fault.RunFault.{RunFault}
 use Rattle.thp_cli.specs.declared.fault.RunFault.TheVariants.{Text, OutOfMemory, Read, Write}
 
@@ -17,17 +15,10 @@ fault_text OutOfMemory = codes "out of memory"
 fault_text Read = codes "read failed"
 fault_text Write = codes "write failed"
 
--- a fault of a check of any length, as a fault of a run: contracts see numbers of any size
-abbrev pub seen_fault : LongRunFault → RunFault
-seen_fault (long.Text line kind) = Text line kind
-seen_fault long.OutOfMemory = OutOfMemory
-seen_fault long.Read = Read
-seen_fault long.Write = Write
-
--- why there is no summary, as a fault of a check of any length
-abbrev pub fault_of_long_read : LongReadFault → LongRunFault
-fault_of_long_read (summary.Text fault) = long.Text fault.line fault.kind
-fault_of_long_read summary.OutOfMemory = long.OutOfMemory
+-- why there is no summary, as a fault of a check
+abbrev pub fault_of_long_read : LongReadFault → RunFault
+fault_of_long_read (summary.Text fault) = Text fault.line fault.kind
+fault_of_long_read summary.OutOfMemory = OutOfMemory
 
 -- a failed read sets the reader's flag, and lack of memory does not
 abbrev pub IsReadingFault : Bool → RunFault → Type 0

@@ -1,8 +1,8 @@
 //! The result of a command line that selects no run: a requested text, or an error in the words.
-ghost use Rattle.std.specs.Prelude.{◌≡◌, IfOk, false, string_bytes};
+ghost use Rattle.std.specs.Prelude.{◌≡◌, false};
 ghost use Rattle.clap.specs.Words.{kind_of};
 ghost use Rattle.clap.specs.declared.error.kind.ErrorKind.{ErrorKind as Kind};
-ghost use Rattle.thp_cli.specs.Outcomes.{device_of, is_request, Answers, IsShown, IsTextOf};
+ghost use Rattle.thp_cli.specs.Outcomes.{device_of, Answers};
 
 use crate::device::write_text;
 use crate::ending::ProgramFault;
@@ -10,7 +10,7 @@ use crate::fault::RunFault;
 use crate::watched::Watched;
 use clap::Error;
 use clap::error::ErrorKind;
-use std::alloc::{AllocError, Global};
+use std::alloc::Global;
 use std::fmt::Display;
 use std::io::Write;
 
@@ -35,20 +35,6 @@ impl WordsAnswer for Error {
     }
 }
 
-/// Returns whether help or the version was requested.
-fn is_request(kind: ErrorKind) -> bool
-    ensures { result ≡ is_request kind }
-{
-    matches!(kind, ErrorKind::DisplayHelp | ErrorKind::DisplayVersion)
-}
-
-/// Returns the text that a result displays.
-fn text_of<A: WordsAnswer>(alloc: Global, answer: &A) -> Result<String, AllocError>
-    ensures { IfOk result (λ text. IsTextOf (A.output answer.now) (string_bytes text)) }
-{
-    Ok(format!(in alloc; "{answer}")?)
-}
-
 /// Writes the requested text, or returns the error in the words.
 pub fn answer<A: WordsAnswer, W: Write>(
     alloc: Global,
@@ -59,13 +45,13 @@ pub fn answer<A: WordsAnswer, W: Write>(
     ensures { Answers (A.output answer.now) (A.kind_in answer.now) (device_of W.contents output.old output.new) result }
 {
     let kind = answer.kind();
-    if is_request(kind) {
-        let text = text_of(alloc, answer)?;
-        write_text(output, text.as_bytes()).ok_or(RunFault::Write)?;
-        return Ok(());
-    }
     if kind == ErrorKind::OutOfMemory {
         return Err(ProgramFault::Run(RunFault::OutOfMemory));
     }
-    Err(ProgramFault::Usage(text_of(alloc, answer)?))
+    let text: String = format!(in alloc; "{answer}")?;
+    if !matches!(kind, ErrorKind::DisplayHelp | ErrorKind::DisplayVersion) {
+        return Err(ProgramFault::Usage(text));
+    }
+    write_text(output, text.as_bytes()).ok_or(RunFault::Write)?;
+    Ok(())
 }

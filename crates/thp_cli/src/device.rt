@@ -1,9 +1,7 @@
 //! Reads all bytes of a reader in parts, and writes texts to a writer.
 ghost use Rattle.std.specs.Prelude.{◌≡◌, ℕ, List, length, true, false, IfSome, IfNone, IfErr, IfOk};
 ghost use Rattle.std.specs.Io.KnownBytes.{Appends};
-ghost use Rattle.thp_cli.specs.Calls.{ReadsOn, WritesAll, WritesOn};
-ghost use Rattle.thp_cli.specs.Devices.{WritesFront};
-ghost use Rattle.thp_cli.specs.RunFaults.{IsReadingFault};
+ghost use Rattle.thp_cli.specs.Prelude.{IsReadingFault, ReadsOn, WritesAll, WritesFront, WritesOn};
 ghost use Rattle.thp_script.specs.Prelude.{IsFrontOf};
 
 use crate::fault::RunFault;

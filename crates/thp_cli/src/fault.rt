@@ -1,22 +1,22 @@
-//! The errors of a run.
+//! The errors of a run or a check.
 ghost use Rattle.std.specs.Prelude.{◌≡◌, Some};
-ghost use Rattle.thp_cli.specs.declared.fault.RunFault.TheVariants.{OutOfMemory};
-ghost use Rattle.thp_cli.specs.RunFaults.{fault_text};
+ghost use Rattle.thp_cli.specs.declared.fault.RunFault.TheVariants.{OutOfMemory, Text};
+ghost use Rattle.thp_cli.specs.RunFaults.{fault_of_long_read, fault_text, run_fault};
 
 use std::alloc::AllocError;
 use std::{error, fmt};
-use thp_script::{ReadFault, TextKind};
+use thp_script::{LongReadFault, ReadFault, TextFault, TextKind};
 
-/// Why a run ended without its complete report. The text of each error is the program's message on standard error.
+/// Why a run or a check ended without its complete output. The text of each error is the program's message on standard error.
 #[derive(Debug, Drop)]
 pub enum RunFault {
-    /// The first error in the script. Nothing was written.
-    Text { line: u32, kind: TextKind },
+    /// The first error in the script or the journal. Nothing was written.
+    Text { line: u64, kind: TextKind },
     /// Memory could not be allocated. Nothing was written.
     OutOfMemory,
     /// The reader failed. Nothing was written.
     Read,
-    /// The writer failed, after part of the report.
+    /// The writer failed, after part of the report or the verdict.
     Write,
 }
 
@@ -45,14 +45,37 @@ impl From<AllocError> for RunFault {
 }
 
 impl From<ReadFault> for RunFault {
-    ghost use Rattle.thp_cli.specs.RunFaults.{run_fault};
-
     ghost from_gives = { λ reading fault. fault ≡ run_fault reading };
 
     fn from(fault: ReadFault) -> RunFault {
         match fault {
-            ReadFault::Text { line, kind } => RunFault::Text { line, kind },
+            ReadFault::Text { line, kind } => RunFault::Text {
+                line: u64::from(line),
+                kind,
+            },
             ReadFault::OutOfMemory => RunFault::OutOfMemory,
+        }
+    }
+}
+
+impl From<TextFault> for RunFault {
+    ghost from_gives = { λ text fault. fault ≡ Text text.line text.kind };
+
+    fn from(fault: TextFault) -> RunFault {
+        RunFault::Text {
+            line: fault.line,
+            kind: fault.kind,
+        }
+    }
+}
+
+impl From<LongReadFault> for RunFault {
+    ghost from_gives = { λ summary fault. fault ≡ fault_of_long_read summary };
+
+    fn from(fault: LongReadFault) -> RunFault {
+        match fault {
+            LongReadFault::Text(fault) => RunFault::from(fault),
+            LongReadFault::OutOfMemory => RunFault::OutOfMemory,
         }
     }
 }

@@ -9,7 +9,7 @@
 //! - `device` (`Devices`), `watched`, `calls` (`Watch`, `Calls`): reads in parts, whole writes, and the calls that contracts
 //!   see.
 //! - `Passages`: all is read, then one answer is written, or nothing.
-//! - `ending`, `fault`, `long_fault`, `telling` (`RunFaults`, `Outcomes`): errors, their lines on standard error, exit statuses.
+//! - `ending`, `fault`, `telling` (`RunFaults`, `Outcomes`): errors, their lines on standard error, exit statuses.
 #![tactic(auto)]
 
 mod answering;
@@ -20,7 +20,6 @@ mod fault;
 mod flags;
 mod help;
 mod line;
-mod long_fault;
 mod options;
 mod telling;
 mod version;
@@ -33,7 +32,6 @@ pub use ending::{Ending, Program, ProgramFault, WordsFault};
 pub use fault::RunFault;
 pub use flags::flag;
 pub use line::{Line, read_line};
-pub use long_fault::LongRunFault;
 pub use telling::{name_front, status_of_ending, tell, tell_run, tell_text};
 pub use version::VERSION;
 pub use watched::Watched;

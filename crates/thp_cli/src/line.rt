@@ -2,9 +2,7 @@
 ghost use Rattle.std.specs.Prelude.{◌≡◌, ◌≢◌, ◌≤◌, ◌<◌, ◌^◌, ℕ, IfOk, IfSome, IfNone, Some, map, codes, pos};
 ghost use Rattle.clap.specs.Words.{first_value, found_of, one_text};
 ghost use Rattle.clap.specs.declared.builder.value_parser.ValueParser.TheVariants.{Names, Signed};
-ghost use Rattle.thp_cli.specs.CommandLine.{report_name, report_names, FailsAsWords, HoldsWords, IsLineWithinLimits};
-ghost use Rattle.thp_cli.specs.Flags.{WritesNumber};
-ghost use Rattle.thp_cli.specs.Options.{HasValue};
+ghost use Rattle.thp_cli.specs.Prelude.{FailsAsWords, HasValue, HoldsWords, IsLineWithinLimits, WritesNumber, report_name, report_names};
 ghost use Rattle.thp_script.specs.declared.settings.Report.{Report};
 
 use crate::options::command;
@@ -31,19 +29,6 @@ pub struct Line<'a> {
     pub check: bool,
 }
 
-/// Returns the report of this name, if any.
-fn report_named(name: &str) -> Option<Report>
-    ensures named { IfSome result (λ report. name.now ≡ report_name report) }
-    ensures unknown { IfNone result ((report : Report) → name.now ≢ report_name report) }
-{
-    match name {
-        "totals" => Some(Report::Totals),
-        "journal" => Some(Report::Journal),
-        "answers" => Some(Report::Answers),
-        _ => None,
-    }
-}
-
 /// Returns the number that is the value of this option.
 fn number_of(matches: &ArgMatches, id: &str) -> u32
     requires { (high : ℕ) × (high < 2 ^ 32) × HasValue (found_of matches.now) id.now (Signed (pos 1) (pos high)) }
@@ -58,7 +43,11 @@ fn report_of(matches: &ArgMatches) -> Report
     requires { (names : _) × (map (λ name. name.now) names.now ≡ report_names) × HasValue (found_of matches.now) (codes "report") (Names names) }
     ensures { first_value (found_of matches.now) (codes "report") ≡ Some (report_name result) }
 {
-    report_named(matches.get_str("report").unwrap()).unwrap()
+    match matches.get_str("report").unwrap() {
+        "totals" => Report::Totals,
+        "journal" => Report::Journal,
+        _ => Report::Answers,
+    }
 }
 
 /// Reads the words of a command line. The first word names the program.

@@ -1,8 +1,6 @@
 //! The options of the command line.
 ghost use Rattle.std.specs.Prelude.{◌≡◌, ◌∷◌, [], IfOk, map, codes};
-ghost use Rattle.thp_cli.specs.CommandLine.{blocks_rule, check_rule, nodes_rule, orders_rule, report_names, report_rule, underused_rule, workers_rule};
-ghost use Rattle.thp_cli.specs.OwnCommand.{IsOwnCommand};
-ghost use Rattle.thp_cli.specs.Flags.{IsOption};
+ghost use Rattle.thp_cli.specs.Prelude.{IsOption, IsOwnCommand, blocks_rule, check_rule, nodes_rule, orders_rule, report_names, report_rule, underused_rule, workers_rule};
 
 use crate::flags::flag;
 use crate::help::AFTER_HELP;

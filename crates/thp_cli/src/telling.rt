@@ -2,12 +2,11 @@
 ghost use Rattle.std.specs.Prelude.{◌≡◌, ◌≤◌, ◌++◌, Err, false, length};
 ghost use Rattle.arrayvec.specs.ArrayString.{array_string_len};
 ghost use Rattle.thp_script.specs.Prelude.{kind_word};
-ghost use Rattle.thp_cli.specs.Outcomes.{device_of, end_status, fault_line, name_front, no_node_line, status_of, Takes, WritesMessage};
-ghost use Rattle.thp_cli.specs.RunFaults.{fault_text, seen_fault};
+ghost use Rattle.thp_cli.specs.Prelude.{Takes, WritesMessage, device_of, end_status, fault_line, fault_text, name_front, no_node_line, status_of};
 
 use crate::device::write_text;
 use crate::ending::{Ending, Program, ProgramFault};
-use crate::long_fault::LongRunFault;
+use crate::fault::RunFault;
 use crate::watched::Watched;
 use arrayvec::ArrayString;
 use itoa::Buffer;
@@ -48,30 +47,22 @@ pub fn name_front(program: Program) -> &'static str
     }
 }
 
-/// Returns the word for the kind of a text's error.
-fn word_of(kind: TextKind) -> &'static str
-    ensures word { result.now ≡ kind_word kind }
-    ensures short { length result.now ≤ 10 }
-{
-    kind.word()
-}
-
 /// Appends what an error displays to a line that has only a name.
-fn put_fault(text: &mut ArrayString<LINE>, fault: &LongRunFault)
+fn put_fault(text: &mut ArrayString<LINE>, fault: &RunFault)
     requires room { array_string_len text.old ≤ 10 }
-    ensures bytes { text.new.bytes ≡ text.old.bytes ++ fault_text (seen_fault fault.now) }
+    ensures bytes { text.new.bytes ≡ text.old.bytes ++ fault_text fault.now }
     ensures few { array_string_len text.new ≤ 80 }
 {
     match fault {
-        LongRunFault::Text { line, kind } => {
+        RunFault::Text { line, kind } => {
             text.push_str("line ");
             text.push_str(Buffer::new().format(*line));
             text.push_str(": ");
-            text.push_str(word_of(*kind));
+            text.push_str(kind.word());
         }
-        LongRunFault::OutOfMemory => text.push_str("out of memory"),
-        LongRunFault::Read => text.push_str("read failed"),
-        LongRunFault::Write => text.push_str("write failed"),
+        RunFault::OutOfMemory => text.push_str("out of memory"),
+        RunFault::Read => text.push_str("read failed"),
+        RunFault::Write => text.push_str("write failed"),
     }
 }
 
@@ -87,8 +78,8 @@ fn named_line(program: Program) -> ArrayString<LINE>
 
 /// Returns the line that states an error of a run, with the program's name. It needs no memory, so it states every error as it is.
 #[tactic(auto, unfolding(crate::specs::Outcomes::fault_line))]
-fn fault_line(program: Program, fault: &LongRunFault) -> ArrayString<LINE>
-    ensures { result.bytes ≡ fault_line program (seen_fault fault.now) }
+fn fault_line(program: Program, fault: &RunFault) -> ArrayString<LINE>
+    ensures { result.bytes ≡ fault_line program fault.now }
 {
     let mut text = named_line(program);
     put_fault(&mut text, fault);
@@ -117,15 +108,15 @@ pub fn tell_text<E: Write>(errors: &mut Watched<E>, text: &[u8])
 }
 
 /// Reports the error of a run or a check, and returns the exit status. It allocates nothing.
-pub fn tell_run<E: Write>(program: Program, fault: LongRunFault, errors: &mut Watched<E>) -> u8
+pub fn tell_run<E: Write>(program: Program, fault: RunFault, errors: &mut Watched<E>) -> u8
     requires { errors.old.failed ≡ false }
-    ensures told { Takes (device_of E.contents errors.old errors.new) (fault_line program (seen_fault fault)) }
-    ensures status { result ≡ status_of (seen_fault fault) }
+    ensures told { Takes (device_of E.contents errors.old errors.new) (fault_line program fault) }
+    ensures status { result ≡ status_of fault }
 {
     let text = fault_line(program, &fault);
     tell_text(errors, text.as_str().as_bytes());
     match fault {
-        LongRunFault::Text { .. } => FAULTY,
+        RunFault::Text { .. } => FAULTY,
         _ => FAILED,
     }
 }
@@ -136,7 +127,7 @@ pub fn tell<E: Write>(program: Program, fault: ProgramFault, errors: &mut Watche
     ensures { WritesMessage program (device_of E.contents errors.old errors.new) result (Err fault) }
 {
     match fault {
-        ProgramFault::Run(fault) => return tell_run(program, LongRunFault::from(fault), errors),
+        ProgramFault::Run(fault) => return tell_run(program, fault, errors),
         ProgramFault::Usage(text) => tell_text(errors, text.as_bytes()),
         ProgramFault::Orders => tell_text(errors, b"thpsplit: bad orders\n"),
         ProgramFault::Underused => tell_text(errors, b"thpsplit: bad underused\n"),

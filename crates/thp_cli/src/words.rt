@@ -8,17 +8,13 @@ use std::io;
 
 /// Returns the words of the command line. The first word names the program.
 pub fn words_of<R: Env + AllocGlobal>(rt: &R) -> Result<Vec<String>, WordsFault> {
-    let words = match env::args(rt) {
-        Ok(words) => words,
-        Err(error) if error.kind() == io::ErrorKind::OutOfMemory => {
-            return Err(WordsFault::OutOfMemory);
-        }
-        Err(_) => return Err(WordsFault::NotText),
-    };
-    match words.collect(rt.alloc()) {
-        Ok(words) => Ok(words),
-        Err(_) => Err(WordsFault::OutOfMemory),
-    }
+    let words = env::args(rt).map_err(|error| match error.kind() {
+        io::ErrorKind::OutOfMemory => WordsFault::OutOfMemory,
+        _ => WordsFault::NotText,
+    })?;
+    words
+        .collect(rt.alloc())
+        .map_err(|_| WordsFault::OutOfMemory)
 }
 
 /// Returns the words as string slices.

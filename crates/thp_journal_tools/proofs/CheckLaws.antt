@@ -16,9 +16,7 @@ use Rattle.thp_journal_reader.proofs.VerdictLaws.{fault_of_journal, same_journal
 use Rattle.thp_cli.specs.declared.calls.DeviceCall.{DeviceCall}
 use Rattle.thp_cli.specs.declared.fault.RunFault.{RunFault}
 use Rattle.thp_cli.specs.declared.fault.RunFault.TheVariants.{Text, OutOfMemory, Read, Write}
-use Rattle.thp_cli.specs.declared.long_fault.LongRunFault.{LongRunFault}
-use Rattle.thp_cli.specs.declared.long_fault.LongRunFault.TheVariants as long
-use Rattle.thp_cli.specs.Prelude.{WritesFront, WritesAnswer, fault_of_long_read, seen_fault, IsReadingFault}
+use Rattle.thp_cli.specs.Prelude.{WritesFront, WritesAnswer, fault_of_long_read, IsReadingFault}
 use Rattle.thp_cli.proofs.PassageLaws.{ends_cut, ends_early, ends_written, keeps_same}
 use Rattle.thp_journal_tools.specs.Checks.{line_of, IsCheckOf, IsFindFault, IsFound, LongEnds}
 use Rattle.thp_journal_tools.specs.declared.options.CheckOptions.{CheckOptions}
@@ -32,7 +30,7 @@ at_reading known failed OutOfMemory reading = reading
 at_reading known failed Write reading = absurd reading
 at_reading known failed (Text line kind) reading = absurd reading
 
-pub err_at_reading : {A : Type 0} (known : Option (List ℕ)) (failed : Bool) (fault : RunFault) (r : Result A LongRunFault) → IsErrAnd r (λ e. seen_fault e ≡ fault) → IsReadingFault failed fault → IfErr r (λ e. IsFindFault known failed (seen_fault e))
+pub err_at_reading : {A : Type 0} (known : Option (List ℕ)) (failed : Bool) (fault : RunFault) (r : Result A RunFault) → IsErrAnd r (λ e. e ≡ fault) → IsReadingFault failed fault → IfErr r (λ e. IsFindFault known failed e)
 err_at_reading known failed fault (Ok found) is reading = absurd is
 err_at_reading known failed fault (Err e) is reading =
     let P : RunFault → Type 0 = λ f. IsFindFault known failed f in
@@ -40,18 +38,18 @@ err_at_reading known failed fault (Err e) is reading =
 
 module _ (known : Option (List ℕ)) (bytes : List ℕ) (read : IfSome known (IsFrontOf max_counted bytes)) (failed : Bool) (same : failed ≡ false) where
   -- the text is at fault
-  pub err_at_text : {A : Type 0} (line : ℕ) (kind : TextKind) (r : Result A LongRunFault) → IsErrAnd r (λ e. e ≡ long.Text line kind) → journals_within max_counted bytes ≡ Err (line, kind) → IfErr r (λ e. IsFindFault known failed (seen_fault e))
+  pub err_at_text : {A : Type 0} (line : ℕ) (kind : TextKind) (r : Result A RunFault) → IsErrAnd r (λ e. e ≡ Text line kind) → journals_within max_counted bytes ≡ Err (line, kind) → IfErr r (λ e. IsFindFault known failed e)
   err_at_text line kind (Ok found) is told = absurd is
   err_at_text line kind (Err e) is told =
-      let P : LongRunFault → Type 0 = λ f. IsFindFault known failed (seen_fault f) in
+      let P : RunFault → Type 0 = λ f. IsFindFault known failed f in
       subst P (sym is) (bytes, read, told, same)
 
   -- or memory for the last totals was refused
-  pub err_at_summary : {A : Type 0} (fault : LongReadFault) (r : Result A LongRunFault) → IsErrAnd r (λ e. e ≡ fault_of_long_read fault) → ReportsLongReadFault (journals_within max_counted bytes) fault → IfErr r (λ e. IsFindFault known failed (seen_fault e))
+  pub err_at_summary : {A : Type 0} (fault : LongReadFault) (r : Result A RunFault) → IsErrAnd r (λ e. e ≡ fault_of_long_read fault) → ReportsLongReadFault (journals_within max_counted bytes) fault → IfErr r (λ e. IsFindFault known failed e)
   err_at_summary (summary.Text fault) r is told = err_at_text fault.line fault.kind r is told
   err_at_summary summary.OutOfMemory (Ok found) is told = absurd is
   err_at_summary summary.OutOfMemory (Err e) is told =
-      let P : LongRunFault → Type 0 = λ f. IsFindFault known failed (seen_fault f) in
+      let P : RunFault → Type 0 = λ f. IsFindFault known failed f in
       subst P (sym is) same
 
 -- ---- the verdict
@@ -118,7 +116,7 @@ module _ {A : Type 0} (IsAnswer : List ℕ → A → List ℕ → Type 0) (of_in
         ends_cut max_counted IsAnswer HasFault of_input (fault_of_journal max_counted) known bytes read old new rf wf x text r answer (rw none at cut) e (rw none at failed) is
 
     -- the text was written
-    pub ends_told : (old new : Option (List ℕ)) (reader_failed writer_failed : Bool) (x : A) (text : List ℕ) (o : Option (Unit {0})) (u : Unit {0}) → IsAnswer bytes x text → ok_or o long.Write ≡ Ok u
+    pub ends_told : (old new : Option (List ℕ)) (reader_failed writer_failed : Bool) (x : A) (text : List ℕ) (o : Option (Unit {0})) (u : Unit {0}) → IsAnswer bytes x text → ok_or o Write ≡ Ok u
         → IfSome o (λ _. Appends old new text) → IfSome o (λ _. writer_failed ≡ false) → reader_failed ≡ false → LongEnds IsAnswer known old new reader_failed writer_failed (Ok x)
     ends_told old new rf wf x text (Some v) u answer some done flag e =
         ends_written max_counted IsAnswer HasFault of_input (fault_of_journal max_counted) known bytes read old new rf wf x text (Ok x) answer done e flag refl
@@ -132,6 +130,6 @@ none_at_find known r rf wf Read calls why is = rw is refl
 none_at_find known r rf wf Write calls why is = absurd why
 
 -- a writer that failed is told as that
-pub cut_from : (o : Option (Unit {0})) (fault : LongRunFault) → ok_or o long.Write ≡ Err fault → (o ≡ None) × (long.Write ≡ fault)
+pub cut_from : (o : Option (Unit {0})) (fault : RunFault) → ok_or o Write ≡ Err fault → (o ≡ None) × (Write ≡ fault)
 cut_from (Some u) fault e = absurd cc
 cut_from None fault e = (refl, cc)

@@ -9,7 +9,6 @@ use Rattle.thp_cli.specs.declared.ending.Ending.{Ending}
 use Rattle.thp_cli.specs.declared.ending.ProgramFault.TheVariants.{Run, Usage, NoNode, NoText, Orders, Underused}
 use Rattle.thp_cli.specs.declared.fault.RunFault.{RunFault}
 use Rattle.thp_cli.specs.declared.fault.RunFault.TheVariants as run
-use Rattle.thp_cli.specs.declared.long_fault.LongRunFault.TheVariants as long
 use Rattle.thp_cli.specs.Prelude.{ReadsOn, WritesOn, WritesFront, Device, Source}
 use Rattle.thp_journal_reader.specs.declared.journals.NodeJournal.{NodeJournal}
 use Rattle.thp_script.specs.Prelude.{max_counted, IsFrontOf}
@@ -84,7 +83,7 @@ module _ (options : DrawOptions) (input : Source) (output : Device) (reads : Rea
       writes = writes;
     }
 
-    pub drawn : (u : Unit {0}) → ok_or o long.Write ≡ Ok u → IfSome o (λ _. Appends output.before output.after text) → IfSome o (λ _. output.failed ≡ false) → Draws options input output (Ok ending)
+    pub drawn : (u : Unit {0}) → ok_or o run.Write ≡ Ok u → IfSome o (λ _. Appends output.before output.after text) → IfSome o (λ _. output.failed ≡ false) → Draws options input output (Ok ending)
     drawn u some appends flag = record {
       ends = ends_told (IsDrawingOf options) (drawing_of_input options) input.bytes bytes read output.before output.after input.failed output.failed ending text o u (drawing_of options bytes text nodes ending found shown) some appends flag done;
       reads = reads;

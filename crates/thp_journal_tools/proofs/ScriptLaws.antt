@@ -3,10 +3,8 @@ use Rattle.std.proofs.Common.{◌≡◌, ◌∙◌, ◌++◌, ℕ, Bool, true, f
 use Rattle.std.specs.Io.KnownBytes.{Appends, Keeps}
 use Rattle.thp_cli.specs.declared.fault.RunFault.{RunFault}
 use Rattle.thp_cli.specs.declared.fault.RunFault.TheVariants.{Text, OutOfMemory, Read, Write}
-use Rattle.thp_cli.specs.declared.long_fault.LongRunFault.{LongRunFault}
-use Rattle.thp_cli.specs.declared.long_fault.LongRunFault.TheVariants as long
-use Rattle.thp_cli.specs.Prelude.{WritesFront, fault_of_long_read, seen_fault}
-use Rattle.thp_journal_tools.specs.Scripting.{script_end, Grows, IsDeviceFault, IsScriptEnd}
+use Rattle.thp_cli.specs.Prelude.{WritesFront, fault_of_long_read}
+use Rattle.thp_journal_tools.specs.Scripting.{Grows, IsDeviceFault, IsScriptEnd}
 use Rattle.thp_journal_scripts.specs.declared.scripted.Scripted.{Scripted}
 use Rattle.thp_script.specs.Prelude.{max_counted, IsFrontOf}
 use Rattle.thp_script.specs.declared.fault.LongReadFault.{LongReadFault}
@@ -62,19 +60,19 @@ grows_by a b text None done cut = grows_cut a b text cut
 
 -- ---- faults
 
-pub err_is : {A : Type 0} (r : Result A LongRunFault) (rf wf : Bool) (fault : LongRunFault) → IsErrAnd r (λ e. e ≡ fault) → IsDeviceFault rf wf (seen_fault fault) → IfErr r (λ e. IsDeviceFault rf wf (seen_fault e))
+pub err_is : {A : Type 0} (r : Result A RunFault) (rf wf : Bool) (fault : RunFault) → IsErrAnd r (λ e. e ≡ fault) → IsDeviceFault rf wf fault → IfErr r (λ e. IsDeviceFault rf wf e)
 err_is (Ok x) rf wf fault is why = absurd is
-err_is (Err e) rf wf fault is why = subst (λ f. IsDeviceFault rf wf (seen_fault f)) (sym is) why
+err_is (Err e) rf wf fault is why = subst (λ f. IsDeviceFault rf wf f) (sym is) why
 
 -- a writer that took the text has not failed
-pub told_from : (o : Option (Unit {0})) (u : Unit {0}) (P : Type 0) → ok_or o long.Write ≡ Ok u → IfSome o (λ _. P) → P
+pub told_from : (o : Option (Unit {0})) (u : Unit {0}) (P : Type 0) → ok_or o Write ≡ Ok u → IfSome o (λ _. P) → P
 told_from (Some v) u P e some = some
 told_from None u P e some = absurd cc
 
 -- a writer that did not is reported as that
-pub cut_end : {A : Type 0} (o : Option (Unit {0})) (fault : LongRunFault) (r : Result A LongRunFault) (wf : Bool) → ok_or o long.Write ≡ Err fault → IfNone o (wf ≡ true) → IsErrAnd r (λ e. e ≡ fault) → IfErr r (λ e. IsDeviceFault false wf (seen_fault e))
+pub cut_end : {A : Type 0} (o : Option (Unit {0})) (fault : RunFault) (r : Result A RunFault) (wf : Bool) → ok_or o Write ≡ Err fault → IfNone o (wf ≡ true) → IsErrAnd r (λ e. e ≡ fault) → IfErr r (λ e. IsDeviceFault false wf e)
 cut_end (Some v) fault r wf e failed is = absurd cc
-cut_end None fault r wf e failed is = err_is r false wf fault is (subst (λ (x : Result (Unit {0}) LongRunFault). IfErr x (λ f. IsDeviceFault false wf (seen_fault f))) e (refl, failed))
+cut_end None fault r wf e failed is = err_is r false wf fault is (subst (λ (x : Result (Unit {0}) RunFault). IfErr x (λ f. IsDeviceFault false wf f)) e (refl, failed))
 
 -- ---- the end
 
@@ -85,19 +83,19 @@ device_end known old new rf wf Read why = why
 device_end known old new rf wf Write why = why
 
 -- a device failed, or memory could not be allocated
-pub end_at_fault : (known old new : Option (List ℕ)) (rf wf : Bool) (r : Result Scripted LongRunFault) → IfErr r (λ e. IsDeviceFault rf wf (seen_fault e)) → IsErrAnd r (λ e. Unit {0}) → IsScriptEnd known old new rf wf (script_end r)
+pub end_at_fault : (known old new : Option (List ℕ)) (rf wf : Bool) (r : Result Scripted RunFault) → IfErr r (λ e. IsDeviceFault rf wf e) → IsErrAnd r (λ e. Unit {0}) → IsScriptEnd known old new rf wf r
 end_at_fault known old new rf wf (Ok found) why is = absurd is
-end_at_fault known old new rf wf (Err e) why is = device_end known old new rf wf (seen_fault e) why
+end_at_fault known old new rf wf (Err e) why is = device_end known old new rf wf e why
 
-pub is_err : {A : Type 0} (r : Result A LongRunFault) (P : LongRunFault → Type 0) → IsErrAnd r P → IsErrAnd r (λ e. Unit {0})
+pub is_err : {A : Type 0} (r : Result A RunFault) (P : RunFault → Type 0) → IsErrAnd r P → IsErrAnd r (λ e. Unit {0})
 is_err (Ok x) P is = absurd is
 is_err (Err e) P is = tt
 
 -- the journal has an error, or memory could not be allocated
-pub end_at_finish : (known old new : Option (List ℕ)) (bytes : List ℕ) → IfSome known (IsFrontOf max_counted bytes) → (rf wf : Bool) → rf ≡ false → wf ≡ false → (fault : LongReadFault) (r : Result Scripted LongRunFault)
-    → IsErrAnd r (λ e. e ≡ fault_of_long_read fault) → ReportsLongReadFault (journals_within max_counted bytes) fault → IsScriptEnd known old new rf wf (script_end r)
+pub end_at_finish : (known old new : Option (List ℕ)) (bytes : List ℕ) → IfSome known (IsFrontOf max_counted bytes) → (rf wf : Bool) → rf ≡ false → wf ≡ false → (fault : LongReadFault) (r : Result Scripted RunFault)
+    → IsErrAnd r (λ e. e ≡ fault_of_long_read fault) → ReportsLongReadFault (journals_within max_counted bytes) fault → IsScriptEnd known old new rf wf r
 end_at_finish known old new bytes read rf wf no_read no_write fault (Ok found) is told = absurd is
 end_at_finish known old new bytes read rf wf no_read no_write (summary.Text fault) (Err e) is told =
-    subst (λ (f : LongRunFault). IsScriptEnd known old new rf wf (Err (seen_fault f))) (sym is) ((bytes, read, told), no_read, no_write)
+    subst (λ (f : RunFault). IsScriptEnd known old new rf wf (Err f)) (sym is) ((bytes, read, told), no_read, no_write)
 end_at_finish known old new bytes read rf wf no_read no_write summary.OutOfMemory (Err e) is told =
-    subst (λ (f : LongRunFault). IsScriptEnd known old new rf wf (Err (seen_fault f))) (sym is) (no_read, no_write)
+    subst (λ (f : RunFault). IsScriptEnd known old new rf wf (Err f)) (sym is) (no_read, no_write)

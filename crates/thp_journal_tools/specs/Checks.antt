@@ -12,8 +12,7 @@ use Rattle.thp_journal_writer.specs.Totals.{lines_from}
 use Rattle.thp_journal_writer.specs.declared.totals.Totals.{Totals}
 use Rattle.thp_cli.specs.declared.fault.RunFault.{RunFault}
 use Rattle.thp_cli.specs.declared.fault.RunFault.TheVariants.{Text, OutOfMemory, Read, Write}
-use Rattle.thp_cli.specs.declared.long_fault.LongRunFault.{LongRunFault}
-use Rattle.thp_cli.specs.Prelude.{ReadsOn, Device, Source, Ends, WritesAnswer, seen_fault}
+use Rattle.thp_cli.specs.Prelude.{ReadsOn, Device, Source, Ends, WritesAnswer}
 use Rattle.thp_journal_tools.specs.declared.checking.CheckFinding.{CheckFinding}
 use Rattle.thp_journal_tools.specs.declared.options.CheckOptions.{CheckOptions}
 
@@ -55,9 +54,9 @@ IsFindFault known failed Read = failed ≡ true
 IsFindFault known failed Write = ⊥
 
 -- the view that contracts have of the result: line numbers of any size
-abbrev pub found_in : Result CheckFinding LongRunFault → Result (Option Illegal) RunFault
+abbrev pub found_in : Result CheckFinding RunFault → Result (Option Illegal) RunFault
 found_in (Ok checked) = Ok checked.illegal
-found_in (Err fault) = Err (seen_fault fault)
+found_in (Err fault) = Err fault
 
 -- how the reading of a journal of any length ends: with a result, or with the first error of the journal
 abbrev pub LongEnds : {A : Type 0} → (List ℕ → A → List ℕ → Type 0) → Option (List ℕ) → Option (List ℕ) → Option (List ℕ) → Bool → Bool → Result A RunFault → Type 0

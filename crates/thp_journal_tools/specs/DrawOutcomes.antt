@@ -8,7 +8,7 @@ use Rattle.thp_journal_tools.specs.declared.end_fault.EndFault.TheVariants as en
 use Rattle.thp_cli.specs.declared.ending.Ending.{Ending}
 use Rattle.thp_cli.specs.declared.ending.ProgramFault.{ProgramFault}
 use Rattle.thp_cli.specs.declared.ending.ProgramFault.TheVariants.{Run, NoNode}
-use Rattle.thp_cli.specs.declared.long_fault.LongRunFault.TheVariants.{OutOfMemory}
+use Rattle.thp_cli.specs.declared.fault.RunFault.TheVariants.{OutOfMemory}
 use Rattle.thp_cli.specs.Prelude.{Device, Source}
 use Rattle.thp_journal_tools.specs.declared.draw_options.DrawOptions.{DrawOptions}
 use Rattle.thp_journal_tools.specs.Drawings.{Draws, FindsNoNode}

@@ -8,7 +8,7 @@ use Rattle.thp_cli.specs.declared.ending.ProgramFault.{ProgramFault}
 use Rattle.thp_cli.specs.declared.ending.ProgramFault.TheVariants.{Run, NoText}
 use Rattle.thp_cli.specs.declared.ending.WordsFault.{WordsFault}
 use Rattle.thp_cli.specs.declared.ending.WordsFault.TheVariants as words
-use Rattle.thp_cli.specs.Prelude.{Device, IsShort, IsUnread, IsUntouched, Source, Takes, WritesMessage, WasAnsweredBy, end_status, seen_fault}
+use Rattle.thp_cli.specs.Prelude.{Device, IsShort, IsUnread, IsUntouched, Source, Takes, WritesMessage, WasAnsweredBy, end_status}
 use Rattle.thp_journal_tools.specs.declared.end_fault.EndFault.{EndFault}
 use Rattle.thp_journal_tools.specs.declared.end_fault.EndFault.TheVariants as ended
 use Rattle.thp_journal_tools.specs.declared.request.ProgramEnd.{ProgramEnd}
@@ -16,7 +16,7 @@ use Rattle.thp_journal_tools.specs.Progress.{ShowsProgress}
 
 -- why the program did not do what was requested, in the terms of all programs
 abbrev pub fault_at_end : EndFault → ProgramFault
-fault_at_end (ended.Journal fault) = Run (seen_fault fault)
+fault_at_end (ended.Journal fault) = Run fault
 fault_at_end (ended.Words fault) = fault
 
 -- how the program ended, and the text for standard error

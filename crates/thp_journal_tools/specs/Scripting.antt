@@ -10,8 +10,7 @@ use Rattle.thp_journal_reader.specs.Prelude.{ReportsFirst, journals_within, verd
 use Rattle.thp_journal_scripts.specs.Prelude.{IsScriptOf}
 use Rattle.thp_cli.specs.declared.fault.RunFault.{RunFault}
 use Rattle.thp_cli.specs.declared.fault.RunFault.TheVariants.{Text, OutOfMemory, Read, Write}
-use Rattle.thp_cli.specs.declared.long_fault.LongRunFault.{LongRunFault}
-use Rattle.thp_cli.specs.Prelude.{ReadsOn, Device, Source, seen_fault}
+use Rattle.thp_cli.specs.Prelude.{ReadsOn, Device, Source}
 use Rattle.thp_journal_tools.specs.declared.options.CheckOptions.{CheckOptions}
 use Rattle.thp_journal_scripts.specs.declared.scripted.Scripted.{Scripted}
 
@@ -35,11 +34,6 @@ IsDeviceFault reader_failed writer_failed (Text line kind) = ⊥
 IsDeviceFault reader_failed writer_failed OutOfMemory = (reader_failed ≡ false) × (writer_failed ≡ false)
 IsDeviceFault reader_failed writer_failed Read = (reader_failed ≡ true) × (writer_failed ≡ false)
 IsDeviceFault reader_failed writer_failed Write = (reader_failed ≡ false) × (writer_failed ≡ true)
-
--- the view that contracts have of the result: line numbers of any size
-abbrev pub script_end : Result Scripted LongRunFault → Result Scripted RunFault
-script_end (Ok found) = Ok found
-script_end (Err fault) = Err (seen_fault fault)
 
 -- the result for the bytes that could be read, and what the writer took
 abbrev pub IsScriptEnd : Option (List ℕ) → Option (List ℕ) → Option (List ℕ) → Bool → Bool → Result Scripted RunFault → Type 0

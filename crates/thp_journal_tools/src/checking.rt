@@ -16,7 +16,7 @@ use std::alloc::{AllocError, Global};
 use std::io::{Read, Write};
 use std::time::Clock;
 use thp_check::put_explanation;
-use thp_cli::{LongRunFault, Watched, write_text};
+use thp_cli::{RunFault, Watched, write_text};
 use thp_journal_reader::{Illegal, verdict};
 use thp_journal_writer::{put, put_totals_of_each};
 
@@ -82,7 +82,7 @@ pub fn check_long<R: Read, W: Write, S: Write, C: Clock>(
     reader: &mut Watched<R>,
     writer: &mut Watched<W>,
     screen: &mut Screen<S, C>,
-) -> Result<CheckFinding, LongRunFault>
+) -> Result<CheckFinding, RunFault>
     requires reader { reader.old.failed ≡ false }
     requires writer { writer.old.failed ≡ false }
     requires screen { screen.old.writer.failed ≡ false }
@@ -95,7 +95,7 @@ pub fn check_long<R: Read, W: Write, S: Write, C: Clock>(
     let found = find(alloc, options, reader, screen)?;
     let explanation = explanation_of(alloc, options, &found.illegal)?;
     let text = text_of(alloc, &found)?;
-    write_text(writer, text.as_slice()).ok_or(LongRunFault::Write)?;
+    write_text(writer, text.as_slice()).ok_or(RunFault::Write)?;
     Ok(CheckFinding {
         illegal: found.illegal,
         explanation,

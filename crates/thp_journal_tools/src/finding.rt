@@ -1,7 +1,7 @@
 //! Reads a journal for its first illegal event and the totals of its nodes.
 ghost use Rattle.std.specs.Prelude.{◌≡◌, ℕ, List, IfOk, IfErr, IfSome, false};
 ghost use Rattle.thp_script.specs.Prelude.{max_counted, IsFrontOf};
-ghost use Rattle.thp_cli.specs.Prelude.{ReadsOn, device_of, seen_fault};
+ghost use Rattle.thp_cli.specs.Prelude.{ReadsOn, device_of};
 ghost use Rattle.thp_cli.specs.declared.ending.Program.TheVariants.{Thpcheck};
 ghost use Rattle.thp_journal_tools.specs.Checks.{IsFindFault, IsFound};
 ghost use Rattle.thp_journal_tools.specs.Progress.{may_show, ShowsProgress};
@@ -16,7 +16,7 @@ use std::alloc::Global;
 use std::io::{Read, Write};
 use std::time::Clock;
 use thp_check::Misfit;
-use thp_cli::{LongRunFault, Program, Watched};
+use thp_cli::{Program, RunFault, Watched};
 use thp_history::{Outcome, Refusal, What};
 use thp_journal_reader::LongCheck;
 use thp_journal_writer::Totals;
@@ -28,12 +28,12 @@ pub(crate) fn find<R: Read, S: Write, C: Clock>(
     options: CheckOptions,
     reader: &mut Watched<R>,
     screen: &mut Screen<S, C>,
-) -> Result<Summed, LongRunFault>
+) -> Result<Summed, RunFault>
     requires reader { reader.old.failed ≡ false }
     requires screen { screen.old.writer.failed ≡ false }
     ensures found { IfOk result (λ found. (bytes : List ℕ) × IfSome (R.remaining reader.old.device) (IsFrontOf max_counted bytes) × IsFound options.summary bytes found) }
     ensures flag { IfOk result (λ _. reader.new.failed ≡ false) }
-    ensures fault { IfErr result (λ fault. IsFindFault (R.remaining reader.old.device) reader.new.failed (seen_fault fault)) }
+    ensures fault { IfErr result (λ fault. IsFindFault (R.remaining reader.old.device) reader.new.failed fault) }
     ensures calls { ReadsOn max_counted reader.new.failed reader.old.calls reader.new.calls }
     ensures screen { ShowsProgress Thpcheck (may_show options.progress screen.old.is_terminal) (R.remaining reader.old.device) (device_of S.contents screen.old.writer screen.new.writer) }
 {

@@ -49,5 +49,5 @@ pub use scripting::write_script;
 pub use series_node::SeriesNode;
 pub use summed::Summed;
 pub use summed_node::SummedNode;
-pub use thp_cli::{LongRunFault, Watched, WordsFault, words_of};
+pub use thp_cli::{RunFault, Watched, WordsFault, words_of};
 pub use writing::draw;

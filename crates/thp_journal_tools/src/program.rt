@@ -17,7 +17,7 @@ use clap::Error;
 use std::alloc::Global;
 use std::io::{Read, Write};
 use std::time::Clock;
-use thp_cli::{Ending, LongRunFault, Program, Watched, WordsFault};
+use thp_cli::{Ending, Program, RunFault, Watched, WordsFault};
 use thp_journal_reader::Illegal;
 
 /// Returns how the program ends after the check of a journal.
@@ -50,7 +50,7 @@ fn script<R: Read, W: Write>(
             ending: ending_of(&found.illegal),
             notes,
         }),
-        Err(_) => Err(EndFault::Journal(LongRunFault::OutOfMemory)),
+        Err(_) => Err(EndFault::Journal(RunFault::OutOfMemory)),
     }
 }
 

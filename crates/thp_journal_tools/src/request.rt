@@ -15,8 +15,8 @@ use std::alloc::Global;
 use std::io::{Read, Write};
 use std::time::Clock;
 use thp_cli::{
-    Ending, LongRunFault, Program, ProgramFault, Watched, WordsFault, answer, status_of_ending,
-    tell, tell_run, tell_text, texts_of,
+    Ending, Program, ProgramFault, RunFault, Watched, WordsFault, answer, status_of_ending, tell,
+    tell_run, tell_text, texts_of,
 };
 
 /// How a program ended after doing what was requested.
@@ -82,7 +82,7 @@ fn serve<Q: Request, R: Read, W: Write, S: Write, C: Clock>(
     let words = match words {
         Ok(words) => words,
         Err(WordsFault::NotText) => return Err(EndFault::Words(ProgramFault::NoText)),
-        Err(WordsFault::OutOfMemory) => return Err(EndFault::Journal(LongRunFault::OutOfMemory)),
+        Err(WordsFault::OutOfMemory) => return Err(EndFault::Journal(RunFault::OutOfMemory)),
     };
     let texts = texts_of(alloc, words.as_slice())?;
     match Q::read(alloc, texts.as_slice()) {

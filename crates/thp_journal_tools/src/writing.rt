@@ -12,7 +12,7 @@ use crate::{EndFault, Screen};
 use std::alloc::{AllocError, Global};
 use std::io::{Read, Write};
 use std::time::Clock;
-use thp_cli::{Ending, LongRunFault, ProgramFault, Watched, write_text};
+use thp_cli::{Ending, ProgramFault, RunFault, Watched, write_text};
 use thp_drawing::{DrawnNode, put_node_picture, put_node_table, put_picture, put_table};
 
 /// The output for a journal, and how the program ends after it was written.
@@ -113,6 +113,6 @@ pub fn draw<R: Read, W: Write, S: Write, C: Clock>(
 {
     let nodes = find_nodes(alloc, options.progress, reader, screen)?;
     let output = output_of(alloc, options, nodes.as_slice())?;
-    write_text(writer, output.text.as_slice()).ok_or(LongRunFault::Write)?;
+    write_text(writer, output.text.as_slice()).ok_or(RunFault::Write)?;
     Ok(output.ending)
 }

@@ -1,5 +1,5 @@
 -- Runs whose `setup` comes in parts.
-use Rattle.std.proofs.Common.{◌≡◌, ◌∙◌, ◌+◌, ◌++◌, ◌≤◌, ap, ℕ, List, length, map, sym, subst, arith, All}
+use Rattle.std.proofs.Common.{◌≡◌, ◌∙◌, ◌+◌, ◌++◌, ◌≤◌, ap, ℕ, List, length, map, sym, subst, arith}
 use Rattle.atomic_table.specs.Seated.{TableId}
 use Rattle.thp_cell.specs.Prelude.{PassState}
 use Rattle.thp_script.specs.declared.script.Command.{Command}

@@ -9,7 +9,6 @@ use Rattle.thp_node.specs.Prelude.{NodeState}
 use Rattle.thp_cell.specs.Prelude.{AllBelow, PassState}
 use Rattle.thp_script.specs.declared.script.Command.{Command}
 use Rattle.thp_script.specs.declared.script.Op.{Op}
-use Rattle.thp_script.specs.declared.script.Op.TheVariants as op
 use Rattle.thp_script.specs.declared.script.Script.{Script}
 use Rattle.thp_script.specs.declared.settings.Settings.{Settings}
 use Rattle.thp_script.specs.Prelude.{FitsBatch, max_nodes, max_workers, IsScriptFor}

@@ -1,4 +1,5 @@
 pub mod Reports
+pub mod Prelude
 pub mod Answers
 pub mod Parts
 pub mod Laws
@@ -12,7 +13,6 @@ pub mod Choices
 pub mod Checks
 pub mod Outcomes
 pub mod Listed
-pub mod Comparing
 pub mod ScriptInProgress
 pub mod ScriptInProgressLaws
 pub mod Written

@@ -1,9 +1,7 @@
 //! The text of answers, produced in parts in one buffer.
 ghost use Rattle.std.specs.Prelude.{◌≡◌, ◌<◌, ◌≤◌, ◌+◌, ◌++◌, [], IfOk, IfSome, MatchOption, drop, length, map, vec_capacity, vec_len};
 ghost use Rattle.std.specs.List.{flat_map};
-ghost use Rattle.thp_run.specs.Answers.{answer_line, answers_text, with_stored};
-ghost use Rattle.thp_run.specs.Parts.{full_part, line_room};
-ghost use Rattle.thp_run.specs.Reports.{shape_of};
+ghost use Rattle.thp_run.specs.Prelude.{answer_line, answers_text, full_part, line_room, shape_of, with_stored};
 ghost use Rattle.thp_worker.specs.Prelude.{stored};
 
 use crate::answers::put_answer;
@@ -33,9 +31,7 @@ pub struct AnswerParts<'a, R: Recorder> {
 
 impl<'a, R: Recorder> Model for AnswerParts<'a, R> {
     ghost use Rattle.std.specs.Prelude.{◌≤◌, ◌+◌, drop, map, vec_capacity};
-    ghost use Rattle.thp_run.specs.Answers.{with_stored};
-    ghost use Rattle.thp_run.specs.Parts.{full_part, line_room, text_from, AnswersLeft};
-    ghost use Rattle.thp_run.specs.Reports.{shape_of};
+    ghost use Rattle.thp_run.specs.Prelude.{AnswersLeft, full_part, line_room, shape_of, text_from, with_stored};
 
     ghost Value = { AnswersLeft };
 

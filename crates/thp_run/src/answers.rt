@@ -3,8 +3,7 @@ ghost use Rattle.std.specs.Prelude.{◌≡◌, ◌+◌, ◌++◌, ◌≤◌, ◌
 ghost use Rattle.std.specs.Fmt.{decimal};
 ghost use Rattle.thp_journal_writer.specs.Prelude.{line_of, ended, number_room, outcome_room, Takes};
 ghost use Rattle.thp_run.specs.Answers.{refusal_word, tried_words, back_words, scan_words, used_words, reply_words, looks, answer_line, section_text, with_stored, answers_text as text_of};
-ghost use Rattle.thp_run.specs.Parts.{line_room};
-ghost use Rattle.thp_run.specs.Reports.{shape_of};
+ghost use Rattle.thp_run.specs.Prelude.{line_room, shape_of};
 
 use std::alloc::{AllocError, Global};
 use thp_history::Refusal;
@@ -13,7 +12,7 @@ use thp_node::{Node, Recorder, ScanReply, Tried};
 use thp_worker::{Answer, Reply, SectionLog};
 
 /// Returns the answers of the sections that are stored, in order, one line each. The nodes need not store their events.
-#[tactic(auto, unfolding(crate::specs::Answers::answers_text))]
+#[tactic(auto, unfolding(crate::specs::Answers::answers_text, crate::specs::Answers::section_text))]
 pub fn answers_text<R: Recorder>(
     alloc: Global,
     nodes: &[Node<R>],
@@ -23,27 +22,14 @@ pub fn answers_text<R: Recorder>(
 {
     let mut text = Vec::new(alloc);
     for section in sections {
-        put_section(&mut text, nodes, section)?;
+        for place in 0..section.answers.stored_len() {
+            let Some(answer) = section.answers.get(place) else {
+                unreachable!();
+            };
+            put_answer(&mut text, nodes, section.worker, &answer)?;
+        }
     }
     Ok(text)
-}
-
-// the answers of a worker's section that are stored
-#[tactic(auto, unfolding(crate::specs::Answers::section_text))]
-fn put_section<R: Recorder>(
-    text: &mut Vec<u8>,
-    nodes: &[Node<R>],
-    section: &SectionLog,
-) -> Result<(), AllocError>
-    ensures { OnOk result (text.new.items ≡ text.old.items ++ section_text (map shape_of nodes.now) (with_stored section.now)) }
-{
-    for place in 0..section.answers.stored_len() {
-        let Some(answer) = section.answers.get(place) else {
-            unreachable!();
-        };
-        put_answer(text, nodes, section.worker, &answer)?;
-    }
-    Ok(())
 }
 
 /// Appends an answer, after its section and its index there.

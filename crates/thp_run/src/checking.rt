@@ -1,8 +1,7 @@
 //! From the bytes of a journal to its verdict.
-ghost use Rattle.std.specs.Prelude.{◌≡◌, [], ℕ, List, IfErr, IfOk, IfSome, false};
-ghost use Rattle.thp_script.specs.Prelude.{IsInputOf, max_input};
-ghost use Rattle.thp_journal_reader.specs.Prelude.{journals_of, told_with};
-ghost use Rattle.thp_cli.specs.Prelude.{IsReadingFault, ReadsOn, WritesAnswer};
+ghost use Rattle.std.specs.Prelude.{◌≡◌, false};
+ghost use Rattle.thp_script.specs.Prelude.{max_input};
+ghost use Rattle.thp_cli.specs.Prelude.{ReadsOn, WritesAnswer};
 ghost use Rattle.thp_run.specs.Checks.{CheckEnds};
 
 use std::alloc::Global;
@@ -10,20 +9,6 @@ use std::io::{Read, Write};
 use thp_cli::{RunFault, Watched, read_parts, write_text};
 use thp_journal_reader::{LongCheck, verdict};
 use thp_script::MAX_INPUT;
-
-/// Checks the journals in a reader's text, part by part: all of its bytes, or more of them than an input may have.
-fn read_check_parts<R: Read>(
-    alloc: Global,
-    reader: &mut Watched<R>,
-) -> Result<LongCheck, RunFault>
-    requires { reader.old.failed ≡ false }
-    ensures parts { IfOk result (λ check. (bytes : List ℕ) × IfSome (R.remaining reader.old.device) (IsInputOf bytes) × (told_with check [] ≡ journals_of bytes) × (check.text.most ≡ max_input)) }
-    ensures flag { IfOk result (λ _. reader.new.failed ≡ false) }
-    ensures fault { IfErr result (IsReadingFault reader.new.failed) }
-    ensures calls { ReadsOn max_input reader.new.failed reader.old.calls reader.new.calls }
-{
-    read_parts(LongCheck::of_input(alloc), MAX_INPUT, reader)
-}
 
 /// Converts a line number to 64 bits.
 fn widened(line: Option<u32>) -> Option<u64>
@@ -47,7 +32,7 @@ pub fn check_run<R: Read, W: Write>(
     ensures reads { ReadsOn max_input reader.new.failed reader.old.calls reader.new.calls }
     ensures writes { WritesAnswer result writer.new.failed writer.old.calls writer.new.calls }
 {
-    let check = read_check_parts(alloc, reader)?;
+    let check = read_parts(LongCheck::of_input(alloc), MAX_INPUT, reader)?;
     let illegal = check.finish_input()?;
     let text = verdict(widened(illegal));
     write_text(writer, text.as_str().as_bytes()).ok_or(RunFault::Write)?;

@@ -7,11 +7,7 @@ ghost use Rattle.thp_script.specs.Prelude.{after_setup, IsScriptFor};
 ghost use Rattle.thp_script.specs.declared.script.Command.{Command};
 ghost use Rattle.atomic_table.specs.Seated.{TableId};
 ghost use Rattle.thp_script.specs.declared.script.Script.{Script};
-ghost use Rattle.thp_run.specs.InParts.{AreNew, HasBegun};
-ghost use Rattle.thp_run.specs.NewNodes.{histories_of, shapes_of, AreNodesFor};
-ghost use Rattle.thp_run.specs.Runs.{IsRun};
-ghost use Rattle.thp_run.specs.Sections.{SectionAnswersAre};
-ghost use Rattle.thp_run.specs.Sharing.{AreFew, RunsOn};
+ghost use Rattle.thp_run.specs.Prelude.{AreFew, AreNew, AreNodesFor, HasBegun, IsRun, RunsOn, SectionAnswersAre, histories_of, shapes_of};
 
 use crate::run_result::RunResult;
 use crate::sections::run_workers_after;

@@ -1,15 +1,13 @@
 //! Sections whose answers are stored in vectors: the calls of `thp_worker` and of `report`, whose logs store answers in less memory
 //! or only count them, for callers that need all answers as values.
 ghost use Rattle.std.specs.Prelude.{◌≡◌, ◌+◌, ◌<◌, ◌≤◌, ◌^◌, ◌++◌, ◌∷◌, [], All, IfOk, OnOk, Some, length, map, slice_get};
-ghost use Rattle.thp_run.specs.Reports.{report_of, told_of};
-ghost use Rattle.thp_run.specs.Listed.{section_of, sections_of, IsWhole, WorksOn};
+ghost use Rattle.thp_run.specs.Prelude.{IsWhole, WorksOn, report_of, section_of, sections_of, told_of};
 ghost use Rattle.thp_worker.specs.Prelude.{Fronts, Goes, HoldsAllCallers, HoldsCaller, HasNoBatch, IsCommandFor, stored};
 ghost use Rattle.thp_worker.specs.declared.answer_log.Answers.TheVariants.{Kept};
 ghost use Rattle.thp_worker.specs.declared.reply.Answer.{Answer as StoredAnswer};
 
 use crate::report::report_of_logs;
 use std::alloc::{AllocError, Global};
-use std::marker::Model;
 use thp_history::Refusal;
 use thp_node::{Node, Tried};
 use thp_script::{Command, Settings};
@@ -18,7 +16,7 @@ use thp_worker::{
 };
 
 /// The result of a section: the answers to its commands, in order, and the place where it stopped, if it did.
-#[derive(Debug, Drop)]
+#[derive(Debug, Drop, PartialEq, Eq)]
 pub struct Worked {
     /// The answers, in the order of the commands.
     pub answers: Vec<Answer>,
@@ -28,65 +26,13 @@ pub struct Worked {
     pub opened: Vec<bool>,
 }
 
-impl Model for Worked {
-    ghost use Rattle.thp_run.specs.Listed.{WorkedList};
-
-    ghost Value = { WorkedList };
-
-    ghost view = { λ w. record { answers = w.answers.items; rest = w.rest; opened = w.opened.items } };
-}
-
-impl PartialEq for Worked {
-    ghost use Rattle.thp_run.specs.Comparing.{same_worked, same_worked-partial_equiv};
-
-    ghost eq = { same_worked };
-
-    ghost laws = { same_worked-partial_equiv };
-
-    fn eq(&self, other: &Worked) -> bool {
-        self.answers == other.answers && self.rest == other.rest && self.opened == other.opened
-    }
-}
-
-impl Eq for Worked {
-    ghost use Rattle.thp_run.specs.Comparing.{same_worked-equiv};
-
-    ghost laws = { same_worked-equiv };
-}
-
 /// The answers to the commands of one worker, in order. Worker 0 is setup.
-#[derive(Debug, Drop)]
+#[derive(Debug, Drop, PartialEq, Eq)]
 pub struct Section {
     /// The number of the worker; 0 is setup.
     pub worker: u32,
     /// The answers, in the order of the commands.
     pub answers: Vec<Answer>,
-}
-
-impl Model for Section {
-    ghost use Rattle.thp_run.specs.Listed.{SectionList};
-
-    ghost Value = { SectionList };
-
-    ghost view = { λ s. record { worker = s.worker; answers = s.answers.items } };
-}
-
-impl PartialEq for Section {
-    ghost use Rattle.thp_run.specs.Comparing.{same_section, same_section-partial_equiv};
-
-    ghost eq = { same_section };
-
-    ghost laws = { same_section-partial_equiv };
-
-    fn eq(&self, other: &Section) -> bool {
-        self.worker == other.worker && self.answers == other.answers
-    }
-}
-
-impl Eq for Section {
-    ghost use Rattle.thp_run.specs.Comparing.{same_section-equiv};
-
-    ghost laws = { same_section-equiv };
 }
 
 /// Executes the commands of a section, in order, as steps of one caller, and puts back the batches left open.
@@ -109,7 +55,7 @@ pub fn work<S: Steps, G: Gate>(
 {
     let room = Vec::with_capacity(alloc, commands.len())?;
     let worked = thp_worker::work(alloc, commands, worker, Answers::Kept, steps, gate)?;
-    from_log(room, worked)
+    list_answers(room, worked)
 }
 
 /// Executes the rest of a section that stopped, with the passes of all callers, which are never busy. Memory for all answers is
@@ -129,21 +75,15 @@ pub fn work_rest<S: Steps>(
     ensures works { (old : Fronts) → WorksOn worker old (S.fronts steps.old) commands.now worked → IfOk result (WorksOn worker old (S.fronts steps.new) commands.now) }
     ensures done { HoldsAllCallers (S.fronts steps.old) → IfOk result IsWhole }
 {
-    let Worked {
-        answers,
-        rest,
-        opened,
-    } = worked;
-    let room = commands.len().max(answers.len());
+    let room = commands.len().max(worked.answers.len());
     let list = Vec::with_capacity(alloc, room)?;
-    let log = to_log(alloc, room, answers.as_slice())?;
     let begun = SectionOutcome {
-        answers: log,
-        rest,
-        opened,
+        answers: to_log(alloc, room, worked.answers.as_slice())?,
+        rest: worked.rest,
+        opened: worked.opened,
     };
     let worked = thp_worker::work_rest(commands, worker, begun, steps)?;
-    from_log(list, worked)
+    list_answers(list, worked)
 }
 
 /// Returns the report that the settings select, for nodes numbered from 0 and the answers to the sections' commands.
@@ -158,81 +98,36 @@ pub fn report_text(
 {
     let mut kept = Vec::with_capacity(alloc, sections.len())?;
     for section in sections {
-        kept.push(log_of(alloc, section)?)?;
+        let answers = section.answers.as_slice();
+        kept.push(SectionLog {
+            worker: section.worker,
+            answers: to_log(alloc, answers.len(), answers)?,
+        })?;
     }
     report_of_logs(alloc, settings, nodes, kept.as_slice())
 }
 
-/// Copies the content of a log to a vector that has none yet. Allocates nothing if that vector has room.
-fn from_log(list: Vec<Answer>, worked: SectionOutcome) -> Result<Worked, AllocError>
+/// Copies the answers of a section's log to a vector that has none yet. Allocates nothing if that vector has room.
+#[tactic(auto, using(crate::proofs::ListedLaws::one_more))]
+fn list_answers(mut list: Vec<Answer>, worked: SectionOutcome) -> Result<Worked, AllocError>
     requires none { list.items ≡ [] }
     requires kept { worked.answers.are ≡ Kept }
-    ensures answers { IfOk result (λ list. list.answers ≡ worked.answers.items) }
+    ensures answers { IfOk result (λ list. list.answers.items ≡ worked.answers.items) }
     ensures rest { IfOk result (λ list. list.rest ≡ worked.rest) }
-    ensures opened { IfOk result (λ list. list.opened ≡ worked.opened.items) }
+    ensures opened { IfOk result (λ list. list.opened.items ≡ worked.opened.items) }
 {
-    let SectionOutcome {
-        answers: log,
-        rest,
-        opened,
-    } = worked;
-    let begun = Worked {
+    // the toolchain finds these types, which answers contain, only in functions that name them
+    let _in_answers = (Reply::Tried(Tried::Done), Refusal::NoPage);
+    for place in 0..worked.answers.stored_len() {
+        let Some(answer) = worked.answers.get(place) else {
+            unreachable!();
+        };
+        list.push(answer)?;
+    }
+    Ok(Worked {
         answers: list,
-        rest,
-        opened,
-    };
-    filled(begun, &log)
-}
-
-/// Returns the result of a section with the answers that a log stores; `begun` has none yet.
-#[tactic(auto, using(crate::proofs::ListedLaws::one_more))]
-fn filled(begun: Worked, log: &AnswerLog) -> Result<Worked, AllocError>
-    requires { begun.answers ≡ [] }
-    ensures answers { IfOk result (λ list. list.answers ≡ stored log.now) }
-    ensures rest { IfOk result (λ list. list.rest ≡ begun.rest) }
-    ensures opened { IfOk result (λ list. list.opened ≡ begun.opened) }
-{
-    let mut list = begun;
-    for place in 0..log.stored_len() {
-        list.push_at(log, place)?;
-    }
-    Ok(list)
-}
-
-impl Worked {
-    /// Appends the answer at a place.
-    fn push_at(&mut self, log: &AnswerLog, place: usize) -> Result<(), AllocError>
-        requires { place < length (stored log.now) }
-        ensures answers { OnOk result ((answer : StoredAnswer) × (slice_get (stored log.now) place ≡ Some answer) × (self.new.answers ≡ self.old.answers ++ answer ∷ [])) }
-        ensures rest { OnOk result (self.new.rest ≡ self.old.rest) }
-        ensures opened { OnOk result (self.new.opened ≡ self.old.opened) }
-    {
-        // the toolchain finds these types, which answers contain, only in functions that name them
-        let _in_answers = (Reply::Tried(Tried::Done), Refusal::NoPage);
-        self.answers.push(answer_at(log, place))?;
-        Ok(())
-    }
-}
-
-/// Returns the answer at a place.
-fn answer_at(log: &AnswerLog, place: usize) -> Answer
-    requires { place < length (stored log.now) }
-    ensures { slice_get (stored log.now) place ≡ Some result }
-{
-    match log.get(place) {
-        Some(answer) => answer,
-        None => unreachable!(),
-    }
-}
-
-/// Converts a section to its compact form.
-fn log_of(alloc: Global, section: &Section) -> Result<SectionLog, AllocError>
-    ensures { IfOk result (λ kept. kept ≡ section_of section.now) }
-{
-    let answers = section.answers.as_slice();
-    Ok(SectionLog {
-        worker: section.worker,
-        answers: to_log(alloc, answers.len(), answers)?,
+        rest: worked.rest,
+        opened: worked.opened,
     })
 }
 
@@ -245,21 +140,10 @@ fn to_log(alloc: Global, room: usize, answers: &[Answer]) -> Result<AnswerLog, A
 {
     let mut log = AnswerLog::new(alloc, room, Answers::Kept)?;
     for answer in answers {
-        put(&mut log, answer);
+        match answer.reply {
+            Ok(reply) => log.push(answer.command, answer.node, Ok(()), &reply),
+            Err(refusal) => log.push(answer.command, answer.node, Err(refusal), &Reply::Unit),
+        }
     }
     Ok(log)
-}
-
-/// Appends an answer to a log that has room for it.
-fn put(log: &mut AnswerLog, answer: &Answer)
-    requires { length log.old.items < log.old.room }
-    ensures items { log.new.items ≡ log.old.items ++ answer.now ∷ [] }
-    ensures count { length log.new.items ≡ length log.old.items + 1 }
-    ensures are { log.new.are ≡ log.old.are }
-    ensures room { log.new.room ≡ log.old.room }
-{
-    match answer.reply {
-        Ok(reply) => log.push(answer.command, answer.node, Ok(()), &reply),
-        Err(refusal) => log.push(answer.command, answer.node, Err(refusal), &Reply::Unit),
-    }
 }

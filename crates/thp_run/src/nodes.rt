@@ -1,8 +1,7 @@
 //! The nodes of a run, in cells.
 ghost use Rattle.std.specs.Prelude.{◌≡◌, ◌<◌, ◌+◌, IfOk};
-ghost use Rattle.thp_run.specs.InParts.{AreNew};
+ghost use Rattle.thp_run.specs.Prelude.{AreNew, IsFresh};
 ghost use Rattle.thp_run.specs.NewNodes.{shape_of};
-ghost use Rattle.thp_run.specs.Sharing.{IsFresh};
 
 use std::alloc::{AllocError, Global};
 use thp_cell::{NodeCell, Pass};
@@ -45,11 +44,6 @@ fn new_cell<N: Recorder>(
         order: settings.orders[index as usize],
         underused: settings.underused[index as usize],
     };
-    let Ok(node) = Node::with_recorder(alloc, shape) else {
-        return Err(AllocError);
-    };
-    match NodeCell::new(alloc, node, settings.workers + 1) {
-        Ok(both) => Ok(both),
-        Err(_) => Err(AllocError),
-    }
+    let node = Node::with_recorder(alloc, shape).map_err(|_| AllocError)?;
+    NodeCell::new(alloc, node, settings.workers + 1).map_err(|_| AllocError)
 }

@@ -1,8 +1,7 @@
 //! The report of a run.
 ghost use Rattle.std.specs.Prelude.{◌≡◌, IfOk, map};
 ghost use Rattle.thp_journal_writer.specs.Prelude.{journal_text as journals_told};
-ghost use Rattle.thp_run.specs.Answers.{with_stored};
-ghost use Rattle.thp_run.specs.Reports.{told_of, report_of};
+ghost use Rattle.thp_run.specs.Prelude.{report_of, told_of, with_stored};
 
 use crate::answers::answers_text;
 use crate::totals::totals_text;

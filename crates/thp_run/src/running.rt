@@ -4,9 +4,11 @@ ghost use Rattle.thp_script.specs.Prelude.{max_input};
 ghost use Rattle.thp_cli.specs.Prelude.{ReadsOn, WritesAnswer};
 ghost use Rattle.thp_run.specs.Programs.{RunEnds};
 
+use crate::report::journals_text;
 use crate::run_result::RunResult;
 use crate::script_in_progress::run_as_read;
-use crate::writing::{write_answers, write_journals, write_totals};
+use crate::totals::totals_text;
+use crate::writing::{write_answers, write_whole};
 use std::alloc::Global;
 use std::io::{Read, Write};
 use std::thread::Threads;
@@ -38,7 +40,7 @@ pub fn run<T: Threads + Sync, R: Read, W: Write, G: Gate + Sync>(
     match settings.report {
         Report::Totals => {
             let ran: RunResult<CountOnly> = run_as_read(rt, alloc, settings, reader, gate)?;
-            write_totals(alloc, &ran, writer)
+            write_whole(totals_text(alloc, ran.nodes.as_slice()), writer)
         }
         Report::Answers => {
             let ran: RunResult<CountOnly> = run_as_read(rt, alloc, settings, reader, gate)?;
@@ -46,7 +48,7 @@ pub fn run<T: Threads + Sync, R: Read, W: Write, G: Gate + Sync>(
         }
         Report::Journal => {
             let ran: RunResult = run_as_read(rt, alloc, settings, reader, gate)?;
-            write_journals(alloc, &ran, writer)
+            write_whole(journals_text(alloc, ran.nodes.as_slice()), writer)
         }
     }
 }

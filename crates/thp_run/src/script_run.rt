@@ -1,9 +1,7 @@
 //! Runs of whole scripts in memory.
 ghost use Rattle.std.specs.Prelude.{◌≡◌, All, IfOk};
 ghost use Rattle.thp_script.specs.Prelude.{IsScriptFor};
-ghost use Rattle.thp_run.specs.NewNodes.{histories_of, shapes_of, AreNodesFor};
-ghost use Rattle.thp_run.specs.Runs.{IsRun};
-ghost use Rattle.thp_run.specs.Sections.{SectionAnswersAre};
+ghost use Rattle.thp_run.specs.Prelude.{AreNodesFor, IsRun, SectionAnswersAre, histories_of, shapes_of};
 
 use crate::in_parts::{begin_run, end_run, take_apart};
 use crate::nodes::new_cells;

@@ -1,48 +1,15 @@
 //! Writes reports to a writer, as one text or in parts.
-ghost use Rattle.std.specs.Prelude.{◌≡◌, IfSome, IfNone, IfErr, map, false, true};
+ghost use Rattle.std.specs.Prelude.{◌≡◌, ℕ, List, IfOk, IfSome, IfNone, map, false, true};
 ghost use Rattle.std.specs.Io.KnownBytes.{Appends};
 ghost use Rattle.thp_cli.specs.Prelude.{WritesOn, WritesFront, WritesAnswer};
-ghost use Rattle.thp_run.specs.Answers.{answers_text, with_stored};
-ghost use Rattle.thp_run.specs.Reports.{shape_of, told_of};
-ghost use Rattle.thp_journal_writer.specs.Prelude.{journal_text as journals_told, totals_text as totals_told};
-ghost use Rattle.thp_run.specs.Written.{Wrote};
+ghost use Rattle.thp_run.specs.Prelude.{Wrote, answers_text, shape_of, with_stored};
 
 use crate::answer_parts::AnswerParts;
-use crate::report::journals_text;
 use crate::run_result::RunResult;
-use crate::totals::totals_text;
-use std::alloc::Global;
+use std::alloc::{AllocError, Global};
 use std::io::Write;
 use thp_cli::{RunFault, Watched, write_all, write_text};
 use thp_node::Recorder;
-
-/// Writes the totals of a run's nodes and flushes once.
-pub(crate) fn write_totals<R: Recorder, W: Write>(
-    alloc: Global,
-    ran: &RunResult<R>,
-    writer: &mut Watched<W>,
-) -> Result<(), RunFault>
-    requires { writer.old.failed ≡ false }
-    ensures wrote { Wrote (totals_told (map told_of ran.now.nodes.items)) (W.contents writer.old.device) (W.contents writer.new.device) writer.new.failed result }
-    ensures calls { WritesAnswer result writer.new.failed writer.old.calls writer.new.calls }
-{
-    let text = totals_text(alloc, ran.nodes.as_slice())?;
-    write_whole(writer, text.as_slice())
-}
-
-/// Writes the journals of a run's nodes and flushes once.
-pub(crate) fn write_journals<W: Write>(
-    alloc: Global,
-    ran: &RunResult,
-    writer: &mut Watched<W>,
-) -> Result<(), RunFault>
-    requires { writer.old.failed ≡ false }
-    ensures wrote { Wrote (journals_told (map told_of ran.now.nodes.items)) (W.contents writer.old.device) (W.contents writer.new.device) writer.new.failed result }
-    ensures calls { WritesAnswer result writer.new.failed writer.old.calls writer.new.calls }
-{
-    let text = journals_text(alloc, ran.nodes.as_slice())?;
-    write_whole(writer, text.as_slice())
-}
 
 /// Writes the answers that a run's sections store, and flushes once. The whole text is never in memory: it is written in parts
 /// from one buffer, which is allocated before the first write.
@@ -59,14 +26,17 @@ pub(crate) fn write_answers<R: Recorder, W: Write>(
     write_parts(&mut parts, writer).ok_or(RunFault::Write)
 }
 
-// Writes a report and flushes once.
-fn write_whole<W: Write>(writer: &mut Watched<W>, text: &[u8]) -> Result<(), RunFault>
+/// Writes a report whole and flushes once, unless there was no memory for it.
+pub(crate) fn write_whole<W: Write>(
+    report: Result<Vec<u8>, AllocError>,
+    writer: &mut Watched<W>,
+) -> Result<(), RunFault>
     requires { writer.old.failed ≡ false }
-    ensures wrote { Wrote text.now (W.contents writer.old.device) (W.contents writer.new.device) writer.new.failed result }
+    ensures wrote { (text : List ℕ) → IfOk report (λ r. r.items ≡ text) → Wrote text (W.contents writer.old.device) (W.contents writer.new.device) writer.new.failed result }
     ensures calls { WritesAnswer result writer.new.failed writer.old.calls writer.new.calls }
-    ensures fault { IfErr result (λ fault. fault ≡ RunFault.Write) }
 {
-    write_text(writer, text).ok_or(RunFault::Write)
+    let text = report?;
+    write_text(writer, text.as_slice()).ok_or(RunFault::Write)
 }
 
 // Writes the rest of the text in parts, and flushes once. `None` if the writer failed, after a prefix of the text.

@@ -8,9 +8,9 @@ pub use Rattle.thp_script.specs.Lines.{fault_of_line, is_empty, is_printable}
 unfoldable pub use Rattle.thp_script.specs.Lines.{fault_after}
 pub use Rattle.thp_script.specs.NumberLists.{IsListText, IsWritable, all_read, in_front, items_of, order_of, orders_in, threshold_of, threshold_text, thresholds_in}
 unfoldable pub use Rattle.thp_script.specs.NumberLists.{list_in}
-pub use Rattle.thp_script.specs.Operands.{batch_op, range_op, reading_of}
+pub use Rattle.thp_script.specs.Operands.{Names, batch_op, range_op, reading_of}
 pub use Rattle.thp_script.specs.PageCommands.{operand, page_call_of, page_op}
-pub use Rattle.thp_script.specs.Parts.{ReadSoFar, after_setup, read_after, script_in, spelled_with, with_commands}
+pub use Rattle.thp_script.specs.Parts.{ReadSoFar, after_setup, read_after, script_in, setup_of, spelled_with, with_commands}
 unfoldable pub use Rattle.thp_script.specs.Parts.{lines_spell}
 pub use Rattle.thp_script.specs.Readings.{◌>>=◌}
 pub use Rattle.thp_script.specs.ReadsParts.{IsFrontOf, IsInputOf}

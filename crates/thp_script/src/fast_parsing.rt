@@ -1,8 +1,7 @@
 //! Fast parsing of commands' operands at the beginning of a text, in one pass over its bytes. Lines that it does not parse, such
 //! as section lines, comments and errors, are left to `statement`.
 ghost use Rattle.std.specs.Prelude.{IfSome};
-ghost use Rattle.thp_script.specs.FastParsing.{FastOperands};
-ghost use Rattle.thp_script.specs.Operands.{reading_of};
+ghost use Rattle.thp_script.specs.Prelude.{FastOperands, reading_of};
 
 use crate::fast_words::parse_number_fast;
 use crate::script::{Command, CommandWord, Op};

@@ -6,8 +6,9 @@ ghost use Rattle.thp_script.specs.FastWords.{FastNumber};
 /// The greatest number that can be followed by any digit: the result fits.
 const MAX_BEGUN: u64 = (u64::MAX - 9) / 10;
 
+/// Returns the value of a byte that is a digit.
 #[inline(always)]
-fn digit(byte: u8) -> Option<u64>
+pub(crate) fn digit(byte: u8) -> Option<u64>
     ensures value { SomeIff result (is_ascii_digit byte ≡ true) (digit_value byte) }
     ensures small { IfSome result (λ digit. digit ≤ 9) }
 {

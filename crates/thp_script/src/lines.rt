@@ -1,8 +1,7 @@
 //! Tests of each line of a text that do not depend on its format.
 ghost use Rattle.std.specs.Prelude.{◌≡◌};
 ghost use Rattle.std.specs.List.{list_all, list_any};
-ghost use Rattle.thp_script.specs.Words.{words_of};
-ghost use Rattle.thp_script.specs.Lines.{fault_after, fault_of_line, is_empty, is_printable};
+ghost use Rattle.thp_script.specs.Prelude.{fault_after, fault_of_line, is_empty, is_printable, words_of};
 
 use crate::fault::TextKind;
 

@@ -1,8 +1,6 @@
 //! Parses commands from the words of a line.
-ghost use Rattle.std.specs.Prelude.{◌≡◌, ◌≤◌, ◌<◌, Err, IfErr, IfOk, Ok};
-ghost use Rattle.thp_script.specs.Commands.{batch_command, command_of, four_words, node_command, node_number, number_up_to, page_command, range_command};
-ghost use Rattle.thp_script.specs.Operands.{batch_op, range_op};
-ghost use Rattle.thp_script.specs.PageCommands.{page_op};
+ghost use Rattle.std.specs.Prelude.{◌≡◌, ◌≤◌, ◌<◌, IfOk};
+ghost use Rattle.thp_script.specs.Prelude.{batch_command, batch_op, command_of, node_command, node_number, number_up_to, page_command, page_op, range_command, range_op};
 
 use crate::fault::TextKind;
 use crate::script::{BatchCall, Command, CommandWord, Op, RangeCall, command_word};
@@ -67,31 +65,25 @@ fn page_command(settings: &Settings, call: PageCall, mut words: Words) -> Result
     })
 }
 
-/// Returns the four words, if there are exactly four.
-#[inline(always)]
-fn four_words<'w>(
-    mut words: Words<'w>,
-) -> Result<(&'w [u8], &'w [u8], &'w [u8], &'w [u8]), TextKind>
-    ensures words { IfOk result (λ word. four_words words.entry ≡ Ok (word.0.now, word.1.now, word.2.now, word.3.now)) }
-    ensures fault { IfErr result (λ fault. four_words words.entry ≡ Err fault) }
-{
-    let first = words.next().ok_or(TextKind::BadCount)?;
-    let second = words.next().ok_or(TextKind::BadCount)?;
-    let third = words.next().ok_or(TextKind::BadCount)?;
-    let fourth = words.next().ok_or(TextKind::BadCount)?;
-    match words.next() {
-        None => Ok((first, second, third, fourth)),
-        Some(_) => Err(TextKind::BadCount),
-    }
-}
-
 /// Parses a command on a range of a page's subpages: `NODE PAGE FIRST COUNT`
 #[tactic(auto, unfolding(crate::specs::Commands::range_command))]
 #[inline(always)]
-fn range_command(settings: &Settings, call: RangeCall, words: Words) -> Result<Command, TextKind>
+fn range_command(
+    settings: &Settings,
+    call: RangeCall,
+    mut words: Words,
+) -> Result<Command, TextKind>
     ensures { result ≡ range_command (range_op call) settings.now words.entry }
 {
-    let (node, page, first, count) = four_words(words)?;
+    let (Some(node), Some(page), Some(first), Some(count), None) = (
+        words.next(),
+        words.next(),
+        words.next(),
+        words.next(),
+        words.next(),
+    ) else {
+        return Err(TextKind::BadCount);
+    };
     let node = node_number(settings, node)?;
     let page = number_up_to(u64::MAX, page)?;
     let first = small_number_up_to(u16::MAX, first)?;

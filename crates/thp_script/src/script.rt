@@ -1,8 +1,6 @@
 //! Scripts as values, and the words of their commands.
 ghost use Rattle.std.specs.Prelude.{◌≡◌, IfSome};
-ghost use Rattle.thp_script.specs.FastParsing.{FastCommand, IsName};
-ghost use Rattle.thp_script.specs.Operands.{batch_op, range_op, reading_of, Names};
-ghost use Rattle.thp_script.specs.PageCommands.{operand, page_call_of, page_op};
+ghost use Rattle.thp_script.specs.Prelude.{FastCommand, IsName, Names, batch_op, operand, page_call_of, page_op, range_op, reading_of};
 
 use crate::fast_parsing::parse_operands_fast;
 use crate::fast_words::after_name;

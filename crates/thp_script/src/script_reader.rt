@@ -1,10 +1,6 @@
 //! Reads scripts from bytes.
 ghost use Rattle.std.specs.Prelude.{◌≡◌, ◌≢◌, ◌≤◌, ◌<◌, ◌+◌, ◌++◌, ◌∷◌, [], ℕ, List, All, IfOk, IfErr, IfSome, OnOk, length, replicate, slice_set, vec_len};
-ghost use Rattle.thp_script.specs.Commands.{IsCommandFor};
-ghost use Rattle.thp_script.specs.FastParsing.{spelled_after, IsPartRead};
-ghost use Rattle.thp_script.specs.Parts.{read_after, script_in, setup_of, spelled_with, with_commands};
-ghost use Rattle.thp_script.specs.Scripts.{placed, script_of, IsScriptFor, ReportsFault};
-ghost use Rattle.thp_script.specs.Words.{Text};
+ghost use Rattle.thp_script.specs.Prelude.{IsCommandFor, IsPartRead, IsScriptFor, ReportsFault, Text, placed, read_after, script_in, script_of, setup_of, spelled_after, spelled_with, with_commands};
 ghost use Rattle.thp_script.specs.declared.fault.ReadFault.TheVariants.{OutOfMemory};
 
 use crate::fault::ReadFault;
@@ -86,14 +82,6 @@ fn add_fast<'p>(
         rest = after;
     }
     Ok(rest)
-}
-
-/// Removes the commands of `setup`, which is the first section.
-fn clear_setup(sections: &mut Vec<Sequence<Command>>)
-    requires { 0 < vec_len sections.old }
-    ensures { sections.new.items ≡ slice_set sections.old.items 0 [] }
-{
-    sections[0].clear();
 }
 
 /// Assembles the script of its sections.
@@ -197,7 +185,7 @@ impl<'a> ScriptReader<'a> {
         ensures gone { setup_of self.new.sections ≡ [] }
         ensures settings { self.new.settings ≡ self.old.settings }
     {
-        clear_setup(&mut self.sections);
+        self.sections[0].clear();
     }
 
     /// Returns the script that the whole text represents, or its first error. Allocates no memory.

@@ -83,22 +83,17 @@ impl Settings {
         ensures workers { IfSome result (λ settings. settings.workers ≡ self.workers) }
         ensures report { IfSome result (λ settings. settings.report ≡ self.report) }
     {
-        if orders.len() != self.nodes as usize || !are_orders(orders) {
+        if orders.len() != self.nodes as usize
+            || !are_orders(orders)
+            || !are_low(orders, &self.underused)
+        {
             return None;
         }
-        if !are_low(orders, &self.underused) {
-            return None;
-        }
-        let mut all = self.orders;
+        let mut settings = self;
+        let mut all = settings.orders;
         all[..orders.len()].copy_from_slice(orders);
-        Some(Settings {
-            nodes: self.nodes,
-            blocks: self.blocks,
-            workers: self.workers,
-            report: self.report,
-            orders: all,
-            underused: self.underused,
-        })
+        settings.orders = all;
+        Some(settings)
     }
 
     /// Returns these settings with a threshold for each node that splits underused pages, and `None` for each other node. `None`
@@ -116,16 +111,11 @@ impl Settings {
         if thresholds.len() != self.nodes as usize || !are_low(&self.orders, thresholds) {
             return None;
         }
-        let mut all = self.underused;
+        let mut settings = self;
+        let mut all = settings.underused;
         all[..thresholds.len()].copy_from_slice(thresholds);
-        Some(Settings {
-            nodes: self.nodes,
-            blocks: self.blocks,
-            workers: self.workers,
-            report: self.report,
-            orders: self.orders,
-            underused: all,
-        })
+        settings.underused = all;
+        Some(settings)
     }
 }
 

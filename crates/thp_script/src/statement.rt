@@ -1,6 +1,6 @@
 //! The meaning of a line of a script.
 ghost use Rattle.std.specs.Prelude.{◌≡◌};
-ghost use Rattle.thp_script.specs.Statements.{by_words, call_of, may_stand, says_nothing, section_after, section_or_call, setup_of, statement_in, statement_of, worker_of, worker_or_call};
+ghost use Rattle.thp_script.specs.Statements.{by_words, may_stand, says_nothing, section_after, statement_in, statement_of, worker_of};
 
 use crate::fault::TextKind;
 use crate::lines::{fault_of_line, is_printable};
@@ -20,15 +20,6 @@ pub(crate) enum Statement {
     Call(Command),
 }
 
-fn setup_of(mut words: Words) -> Result<Statement, TextKind>
-    ensures { result ≡ setup_of words.entry }
-{
-    match words.next() {
-        None => Ok(Statement::Section(0)),
-        Some(_) => Err(TextKind::BadCount),
-    }
-}
-
 /// Parses the section line of a worker: `worker K`, with K from 1 to the number of workers.
 #[tactic(auto, unfolding(crate::specs::Statements::worker_of))]
 fn worker_of(settings: &Settings, mut words: Words) -> Result<Statement, TextKind>
@@ -43,48 +34,25 @@ fn worker_of(settings: &Settings, mut words: Words) -> Result<Statement, TextKin
     }
 }
 
-fn call_of(settings: &Settings, name: &[u8], words: Words) -> Result<Statement, TextKind>
-    ensures { result ≡ call_of settings.now name.now words.entry }
-{
-    let command = command_of(settings, name, words)?;
-    Ok(Statement::Call(command))
-}
-
-fn worker_or_call(settings: &Settings, name: &[u8], words: Words) -> Result<Statement, TextKind>
-    ensures { result ≡ worker_or_call settings.now name.now words.entry }
-{
-    if name == b"worker".as_slice() {
-        return worker_of(settings, words);
-    }
-    call_of(settings, name, words)
-}
-
+/// Parses a section line or a command.
 #[tactic(auto, unfolding(crate::specs::Statements::section_or_call))]
-fn section_or_call(settings: &Settings, name: &[u8], words: Words) -> Result<Statement, TextKind>
-    ensures { result ≡ section_or_call settings.now name.now words.entry }
-{
-    if name == b"setup".as_slice() {
-        return setup_of(words);
-    }
-    worker_or_call(settings, name, words)
-}
-
 fn by_words(settings: &Settings, mut words: Words) -> Result<Statement, TextKind>
     ensures { result ≡ by_words settings.now words.entry }
 {
-    match words.next() {
-        Some(name) => section_or_call(settings, name, words),
-        None => Err(TextKind::BadWord),
+    match words.next().ok_or(TextKind::BadWord)? {
+        b"setup" => match words.next() {
+            None => Ok(Statement::Section(0)),
+            Some(_) => Err(TextKind::BadCount),
+        },
+        b"worker" => worker_of(settings, words),
+        name => Ok(Statement::Call(command_of(settings, name, words)?)),
     }
 }
 
 fn says_nothing(line: &[u8]) -> bool
     ensures { result ≡ says_nothing line.now }
 {
-    match line {
-        [] => true,
-        [first, ..] => *first == b'#',
-    }
+    matches!(line, [] | [b'#', ..])
 }
 
 /// Parses a whole line. A line that parses as a statement has no bad bytes and no empty words, so its bytes are tested again only
@@ -109,11 +77,9 @@ fn may_stand(section: Option<u32>, statement: Statement) -> bool
     ensures { result ≡ may_stand section statement }
 {
     match (section, statement) {
-        (_, Statement::Nothing) => true,
-        (None, Statement::Section(_)) => true,
         (Some(last), Statement::Section(next)) => last < next,
         (None, Statement::Call(_)) => false,
-        (Some(_), Statement::Call(_)) => true,
+        _ => true,
     }
 }
 

@@ -1,9 +1,7 @@
 //! Texts that arrive in parts.
 ghost use Rattle.std.specs.Prelude.{◌≡◌, ◌↔◌, ◌≤◌, ◌<◌, ◌+◌, ◌-◌, ◌++◌, ◌∷◌, [], IfOk, IfSome, IfNone, IsTrue, OnOk, OnErr, length};
 ghost use Rattle.std.specs.Cow.{cow_slice_items};
-ghost use Rattle.thp_script.specs.Limits.{max_counted, max_input};
-ghost use Rattle.thp_script.specs.TextInParts.{after_line, fault_with, nothing_of, read_unless, with_begun, with_fault, with_part, IsCounted};
-ghost use Rattle.thp_script.specs.Words.{Text, lines_of};
+ghost use Rattle.thp_script.specs.Prelude.{IsCounted, Text, after_line, fault_with, lines_of, max_counted, max_input, nothing_of, read_unless, with_begun, with_fault, with_part};
 
 use crate::fault::TextKind;
 use crate::limits::{MAX_COUNTED, MAX_INPUT};

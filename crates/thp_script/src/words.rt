@@ -7,6 +7,7 @@ ghost use Rattle.std.specs.Char.{digit_value, is_ascii_digit};
 ghost use Rattle.std.specs.Str.Parse.{digits_value};
 ghost use Rattle.thp_script.specs.Words.{has_numeral_front, number_of, pieces_at, pieces_left, words_of};
 
+use crate::fast_words::digit;
 use memchr::memchr;
 use std::marker::Model;
 
@@ -84,10 +85,8 @@ fn has_numeral_front(word: &[u8]) -> bool
 fn with_digit(before: u64, byte: u8) -> Option<u64>
     ensures { SomeIff result ((is_ascii_digit byte ≡ true) × (before * 10 + digit_value byte < 2 ^ 64)) (before * 10 + digit_value byte) }
 {
-    if !byte.is_ascii_digit() {
-        return None;
-    }
-    before.checked_mul(10)?.checked_add(u64::from(byte - b'0'))
+    let digit = digit(byte)?;
+    before.checked_mul(10)?.checked_add(digit)
 }
 
 /// Returns the value of a word of digits only, if it fits.

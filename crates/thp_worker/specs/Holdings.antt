@@ -93,10 +93,6 @@ abbrev pub loss_reply : Result Done CellFault → Result Reply CellFault
 loss_reply (Ok done) = Ok (reply.Done done)
 loss_reply (Err fault) = Err fault
 
--- there is an open batch
-abbrev pub IsSomeBatch : Option (Option BatchState) → Type 0
-IsSomeBatch b = (batch : BatchState) × (b ≡ Some (Some batch))
-
 -- the open batches of the callers don't change
 abbrev pub OpenStay : Held → Held → Type 0
 OpenStay old new = (c : ℕ) → HasCaller old.pass c → batch_of new c ≡ batch_of old c

@@ -106,7 +106,11 @@ impl AnswerLog {
         ensures room { self.new.room ≡ self.old.room }
     {
         // for contracts only: no code at run time
-        self.told.push(&answer_to(command, node, called, reply));
+        self.told.push(&Answer {
+            command,
+            node,
+            reply: called.and(Ok(*reply)),
+        });
         match self.are {
             Answers::Kept => {
                 let reply = match called {
@@ -172,21 +176,6 @@ impl AnswerLog {
             node: short.node,
             reply: lengthened(short.reply, &self.long),
         })
-    }
-}
-
-// The answer to a command: its reply, or why it was refused.
-#[inline(always)]
-fn answer_to(command: u32, node: u32, called: Result<(), Refusal>, reply: &Reply) -> Answer
-    ensures { result ≡ record { command = command; node = node; reply = answer_of called reply.now } }
-{
-    Answer {
-        command,
-        node,
-        reply: match called {
-            Ok(()) => Ok(*reply),
-            Err(refusal) => Err(refusal),
-        },
     }
 }
 

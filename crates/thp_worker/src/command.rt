@@ -1,9 +1,6 @@
 //! The steps of one command.
 ghost use Rattle.std.specs.Prelude.{◌≡◌, true, false};
-ghost use Rattle.thp_worker.specs.Does.{answer_of};
-ghost use Rattle.thp_worker.specs.Fronts.{Fronts, Goes, HoldsCaller};
-ghost use Rattle.thp_worker.specs.Sections.{IsCommandFor, Proceeds};
-ghost use Rattle.thp_worker.specs.Turns.{no_progress, is_scan, Comes, IsReady, IsShared, WholeComes};
+ghost use Rattle.thp_worker.specs.Prelude.{Comes, Fronts, Goes, HoldsCaller, IsCommandFor, IsReady, IsShared, Proceeds, WholeComes, answer_of, is_scan, no_progress};
 
 use crate::reply::Reply;
 use crate::scanning::{CommandProgress, count_reply, is_scan, next_step, no_progress, scan_step};
@@ -52,33 +49,17 @@ pub(crate) fn do_whole_command<S: Steps>(
     ensures shared { WholeComes (answer_of result reply.new) (IsShared (S.fronts steps.old)) }
 {
     if is_scan(command.op) {
-        do_whole_scan(command, caller, steps, reply)
+        let mut begun = no_progress();
+        do_scan(*command, caller, &mut begun, steps, reply)
     } else {
         let step = next_step(command.op, no_progress());
         try_step(steps, caller, command.node, step, reply)
     }
 }
 
-// The same for a scan. A separate function, so that other commands clear no memory for what a scan counts.
+/// Makes the steps of a scan: a take, tries until no page is left, and a put back. A separate function, so that other commands
+/// clear no memory for what a scan counts.
 #[inline(never)]
-fn do_whole_scan<S: Steps>(
-    command: &Command,
-    caller: u32,
-    steps: &mut S,
-    reply: &mut Reply,
-) -> Result<(), CellFault>
-    requires scan { is_scan command.now.op ≡ true }
-    requires caller { HoldsCaller (S.fronts steps.old) caller }
-    requires command { IsCommandFor (S.fronts steps.old).nodes command.now }
-    ensures goes { Goes caller (S.fronts steps.old) (S.fronts steps.new) }
-    ensures proceeds { WholeComes (answer_of result reply.new) (Proceeds caller command.now no_progress (S.fronts steps.old) (S.fronts steps.new)) }
-    ensures shared { WholeComes (answer_of result reply.new) (IsShared (S.fronts steps.old)) }
-{
-    let mut begun = no_progress();
-    do_scan(*command, caller, &mut begun, steps, reply)
-}
-
-/// Makes the steps of a scan: a take, tries until no page is left, and a put back.
 fn do_scan<S: Steps>(
     command: Command,
     caller: u32,

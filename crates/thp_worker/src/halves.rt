@@ -1,9 +1,7 @@
 //! Runs workers concurrently, by dividing them into halves.
 ghost use Rattle.std.specs.Prelude.{◌≡◌, ◌<◌, All, IfOk, IsOkAnd, List, [], ◌∷◌, ◌++◌};
 ghost use Rattle.std.specs.Thread.{IsSync};
-ghost use Rattle.thp_worker.specs.Fronts.{Fronts, HoldsAllCallers};
-ghost use Rattle.thp_worker.specs.Halves.{CanJoin, CanRun, IsJoined, IsSplit, RangeDone};
-ghost use Rattle.thp_worker.specs.Sections.{AnswersAre};
+ghost use Rattle.thp_worker.specs.Prelude.{AnswersAre, CanJoin, CanRun, Fronts, HoldsAllCallers, IsJoined, IsSplit, RangeDone};
 ghost use Rattle.thp_worker.specs.declared.reply.SectionOutcome.{SectionOutcome};
 
 use crate::answer_log::Answers;

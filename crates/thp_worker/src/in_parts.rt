@@ -1,9 +1,6 @@
 //! A section whose commands arrive in parts.
 ghost use Rattle.std.specs.Prelude.{◌≡◌, ◌++◌, [], All, IfOk, List, length};
-ghost use Rattle.thp_worker.specs.Fronts.{Fronts, Goes, HoldsAllCallers, HoldsCaller};
-ghost use Rattle.thp_worker.specs.InParts.{DidFirst};
-ghost use Rattle.thp_worker.specs.OpenBatches.{HasNoBatch};
-ghost use Rattle.thp_worker.specs.Sections.{AnswersAre, IsCommandFor, IsDoneFor, Works};
+ghost use Rattle.thp_worker.specs.Prelude.{AnswersAre, DidFirst, Fronts, Goes, HasNoBatch, HoldsAllCallers, HoldsCaller, IsCommandFor, IsDoneFor, Works};
 ghost use Rattle.thp_script.specs.declared.script.Command.{Command};
 
 use crate::answer_log::{AnswerLog, Answers};

@@ -4,8 +4,7 @@ ghost use Rattle.thp_history.specs.Prelude.{IsLegal};
 ghost use Rattle.thp_node.specs.Prelude.{no_batch};
 ghost use Rattle.thp_cell.specs.Prelude.{IsJoined, PartsStay, HasAll, HasCaller};
 ghost use Rattle.thp_script.specs.declared.script.Op.{Op};
-ghost use Rattle.thp_worker.specs.Does.{answer_of, node_call_of, IsStep};
-ghost use Rattle.thp_worker.specs.Holdings.{batch_of, lower_part, page_reply, unit_reply, upper_part, HeldDone, IsShut, IsSomeBatch, OpenStay, keeping_node};
+ghost use Rattle.thp_worker.specs.Prelude.{HeldDone, IsShut, IsStep, OpenStay, answer_of, batch_of, keeping_node, lower_part, node_call_of, page_reply, unit_reply, upper_part};
 
 use crate::reply::Reply;
 use crate::steps::{NodeCall, Step, node_call};
@@ -185,10 +184,10 @@ impl<'a, R: Recorder> NodePass<'a, R> {
     {
         let (first, _) = self.pass.callers();
         let place = (caller - first) as usize;
-        if is_open(&self.batches, place) {
+        if self.batches[place].is_some() {
             return Err(CellFault::Refused(Refusal::HasBatch));
         }
-        open_at(&mut self.batches, place);
+        self.batches[place] = Some(Batch::none());
         let Some(batch) = &mut self.batches[place] else {
             unreachable!();
         };
@@ -198,7 +197,7 @@ impl<'a, R: Recorder> NodePass<'a, R> {
                 Ok(())
             }
             Err(fault) => {
-                shut_at(&mut self.batches, place);
+                self.batches[place] = None;
                 Err(fault)
             }
         }
@@ -237,7 +236,7 @@ impl<'a, R: Recorder> NodePass<'a, R> {
         };
         match self.cell.put_back_all(&mut self.pass, batch) {
             Ok(back) => {
-                shut_at(&mut self.batches, place);
+                self.batches[place] = None;
                 *reply = Reply::Back(back);
                 Ok(())
             }
@@ -259,14 +258,6 @@ fn apart(called: Result<(), CellFault>) -> Result<(), CellFault>
     }
 }
 
-/// Returns whether a batch is open at this index.
-fn is_open(batches: &Vec<Option<Batch>>, place: usize) -> bool
-    requires { place < length batches.now.items }
-    ensures { MatchBool result (IsSomeBatch (slice_get batches.now.items place)) (slice_get batches.now.items place ≡ Some None) }
-{
-    batches[place].is_some()
-}
-
 /// Returns the open batch at this index.
 fn batch_at(batches: &Vec<Option<Batch>>, place: usize) -> Option<&Batch>
     requires { place < length batches.now.items }
@@ -276,22 +267,6 @@ fn batch_at(batches: &Vec<Option<Batch>>, place: usize) -> Option<&Batch>
         Some(batch) => Some(batch),
         None => None,
     }
-}
-
-/// Opens an empty batch at this index.
-fn open_at(batches: &mut Vec<Option<Batch>>, place: usize)
-    requires { place < length batches.old.items }
-    ensures { batches.new.items ≡ slice_set batches.old.items place (Some no_batch) }
-{
-    batches[place] = Some(Batch::none());
-}
-
-/// Discards the open batch at this index.
-fn shut_at(batches: &mut Vec<Option<Batch>>, place: usize)
-    requires { place < length batches.old.items }
-    ensures { batches.new.items ≡ slice_set batches.old.items place None }
-{
-    batches[place] = None;
 }
 
 // The replies of calls, each kind in its own function, so that no step reserves stack space for another's.

@@ -1,8 +1,6 @@
 //! Passes of all nodes, with the open batches of their callers.
 ghost use Rattle.std.specs.Prelude.{◌≡◌, ◌<◌, All, IfOk, map};
-ghost use Rattle.thp_worker.specs.Fronts.{HoldsAllCallers};
-ghost use Rattle.thp_worker.specs.Holdings.{keeping_node};
-ghost use Rattle.thp_worker.specs.Passes.{fronts_in, high_part, low_part, Agree, EachAdjoins, EachJoint, IsCut, IsOfAll};
+ghost use Rattle.thp_worker.specs.Prelude.{Agree, EachAdjoins, EachJoint, HoldsAllCallers, IsCut, IsOfAll, fronts_in, high_part, keeping_node, low_part};
 
 use crate::halves::Passes;
 use crate::node_pass::NodePass;

@@ -56,21 +56,14 @@ pub(crate) fn scan_step(count: u16, begun: CommandProgress) -> Step
     requires { tries_of begun.so_far ≤ max_batch }
     ensures { result ≡ next_step (Scan count) begun }
 {
+    let tries = begun.so_far.split + begun.so_far.pinned + begun.so_far.used;
     if begun.steps == 0 {
         Step::Take(u32::from(count))
-    } else if begun.steps == 1 + tries(&begun.so_far) {
+    } else if begun.steps == 1 + tries {
         Step::SplitNext
     } else {
         Step::PutBack
     }
-}
-
-/// Returns the number of pages that a scan has tried.
-fn tries(so_far: &ScanReply) -> u32
-    requires { tries_of so_far.now ≤ max_batch }
-    ensures { result ≡ tries_of so_far.now }
-{
-    so_far.split + so_far.pinned + so_far.used
 }
 
 /// Returns whether a command has several steps.

@@ -1,11 +1,7 @@
 //! The commands of a section, one after another, and the put backs at its end.
 ghost use Rattle.std.specs.Prelude.{◌≡◌, ◌^◌, ◌≤◌, ◌<◌, All, IfOk, List, length};
 ghost use Rattle.thp_script.specs.declared.script.Command.{Command};
-ghost use Rattle.thp_worker.specs.Does.{answer_of};
-ghost use Rattle.thp_worker.specs.Fronts.{Fronts, Goes, HoldsAllCallers, HoldsCaller};
-ghost use Rattle.thp_worker.specs.OpenBatches.{HasNoBatch};
-ghost use Rattle.thp_worker.specs.Turns.{Comes, no_progress, IsShared};
-ghost use Rattle.thp_worker.specs.Sections.{Begins, Ends, IsCommandFor, IsDoneFor, AnswersAre, PutsBack, Works};
+ghost use Rattle.thp_worker.specs.Prelude.{AnswersAre, Begins, Comes, Ends, Fronts, Goes, HasNoBatch, HoldsAllCallers, HoldsCaller, IsCommandFor, IsDoneFor, IsShared, PutsBack, Works, answer_of, no_progress};
 
 use crate::answer_log::{AnswerLog, Answers};
 use crate::command::do_command;
@@ -15,7 +11,6 @@ use crate::reply::{Reply, Rest, SectionOutcome};
 use crate::scanning::{CommandProgress, no_progress};
 use crate::steps::{Steps, told};
 use std::alloc::{AllocError, Global};
-use thp_cell::CellFault;
 use thp_script::{Command, Op};
 
 /// Executes the commands of a section, in order, as steps of one caller, and puts back the batches left open.
@@ -150,7 +145,12 @@ pub(crate) fn close<S: Steps>(
     let nodes = steps.nodes();
     for node in 0..nodes {
         if opened[node as usize] {
-            let called = put_back(worker, node, steps, &mut reply);
+            let command = Command {
+                node,
+                op: Op::PutBack,
+            };
+            let mut begun = no_progress();
+            let called = do_command(command, worker, &mut begun, steps, &mut reply);
             let Some(_) = told(called)? else {
                 let rest = Rest {
                     command: count,
@@ -172,25 +172,4 @@ pub(crate) fn close<S: Steps>(
         rest: None,
         opened,
     })
-}
-
-/// Puts back the open batch of a caller on a node, unless the node stays busy.
-fn put_back<S: Steps>(
-    caller: u32,
-    node: u32,
-    steps: &mut S,
-    reply: &mut Reply,
-) -> Result<(), CellFault>
-    requires caller { HoldsCaller (S.fronts steps.old) caller }
-    requires node { node < (S.fronts steps.old).nodes }
-    ensures goes { Goes caller (S.fronts steps.old) (S.fronts steps.new) }
-    ensures back { Comes no_progress (answer_of result reply.new) (PutsBack caller node (S.fronts steps.old) (S.fronts steps.new)) }
-    ensures shared { Comes no_progress (answer_of result reply.new) (IsShared (S.fronts steps.old)) }
-{
-    let command = Command {
-        node,
-        op: Op::PutBack,
-    };
-    let mut begun = no_progress();
-    do_command(command, caller, &mut begun, steps, reply)
 }

@@ -1,5 +1,4 @@
 use Rattle.std.proofs.Common.{Err, None, Ok}
-use Rattle.thp_cli.specs.Prelude.{seen_fault}
 use Rattle.thp_cli.specs.declared.ending.ProgramFault.TheVariants.{Run}
 use Rattle.thp_journal_tools.specs.Requests.{notes_by}
 use Rattle.thp_journal_tools.proofs.request.run_request.Goals as goal
@@ -14,7 +13,7 @@ returns-in-Ok-clause-finishes g c = record {
 
 pub returns-in-Err-Journal-clause-finishes : goal.returns-in-Err-Journal-clause-finishes
 returns-in-Err-Journal-clause-finishes g c = record {
-  end = Err (Run (seen_fault c.in-Err-Journal.fault));
+  end = Err (Run c.in-Err-Journal.fault);
   notes = None;
   served = rw c.in-Err-Journal.field-0-is at c.in-Err-Journal.ensures.served;
   told = rw (← c.program.ensures) (c.tell_run.ensures.told, c.tell_run.ensures.status);

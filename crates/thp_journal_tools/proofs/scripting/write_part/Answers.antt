@@ -1,6 +1,6 @@
 use Rattle.std.proofs.Common.{◌≡◌, ◌∙◌, ◌++◌, ap, ap₂, refl, sym, false}
 use Rattle.std.specs.Io.KnownBytes.{Appends}
-use Rattle.thp_cli.specs.declared.long_fault.LongRunFault.TheVariants.{OutOfMemory}
+use Rattle.thp_cli.specs.declared.fault.RunFault.TheVariants.{OutOfMemory}
 use Rattle.thp_journal_scripts.specs.Prelude.{ScriptSoFar}
 use Rattle.thp_journal_reader.specs.Prelude.{told_with}
 use Rattle.thp_journal_tools.proofs.ScriptLaws.{cut_end, err_is, grows_by, grows_none, told_from}

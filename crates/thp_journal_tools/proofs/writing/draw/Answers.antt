@@ -1,6 +1,6 @@
 use Rattle.std.proofs.Common.{◌∙◌, Err, List, subst, sym, ℕ}
-use Rattle.thp_cli.specs.declared.long_fault.LongRunFault.{LongRunFault}
-use Rattle.thp_cli.specs.Prelude.{device_of, source_of, seen_fault}
+use Rattle.thp_cli.specs.declared.fault.RunFault.{RunFault}
+use Rattle.thp_cli.specs.Prelude.{device_of, source_of}
 use Rattle.thp_journal_tools.specs.declared.end_fault.EndFault.TheVariants.{Journal}
 use Rattle.thp_journal_tools.specs.Drawings.{Shows}
 use Rattle.thp_journal_tools.specs.DrawOutcomes.{Does}
@@ -15,7 +15,7 @@ returns-in_err-nodes-clause-does g c =
     let writer = c.args.writer.now in
     let fault = c.in_err-nodes.field-0.0 in
     does_err c.args.options input (device_of g.W.Write.contents writer writer) (Journal fault) c.from_residual.result c.from_residual.ensures.1
-    (none_found c.args.options input c.find_nodes.ensures.calls (g.W.Write.contents writer.device) writer.failed c.requires.writer writer.calls (seen_fault fault) c.in_err-nodes.ensures.fault)
+    (none_found c.args.options input c.find_nodes.ensures.calls (g.W.Write.contents writer.device) writer.failed c.requires.writer writer.calls fault c.in_err-nodes.ensures.fault)
 
 pub returns-in_err-output-clause-does : goal.returns-in_err-output-clause-does
 returns-in_err-output-clause-does g c =
@@ -38,7 +38,7 @@ returns-in_err-ok_or-clause-does g c =
     subst (λ (t : List ℕ). Shows options.table options.node c.in_ok-nodes.nodes.items c.in_ok-output.output.ending t) (sym c.as_slice-2.ensures.value) (rw c.as_slice.ensures.value at c.in_ok-output.ensures.output) in
     let why = cut_from c.write_text.result c.in_err-ok_or.field-0.0 (sym c.ok_or.ensures.value ∙ c.in_err-ok_or.was) in
     does_err options input output (Journal c.in_err-ok_or.field-0.0) c.from_residual-in_err-ok_or.result c.from_residual-in_err-ok_or.ensures.1
-    (subst (λ (f : LongRunFault). Does options input output (Err (fault_at_end (Journal f)))) why.1
+    (subst (λ (f : RunFault). Does options input output (Err (fault_at_end (Journal f)))) why.1
     (cut options input output c.find_nodes.ensures.calls c.in_ok-nodes.ensures.flag found.0 text c.in_ok-nodes.nodes.items c.in_ok-output.output.ending found.1 found.2 shown c.write_text.ensures.calls c.write_text.result
     why.0 c.write_text.ensures.cut c.write_text.ensures.failed))
 

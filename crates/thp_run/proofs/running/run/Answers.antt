@@ -31,8 +31,8 @@ returns-in_ok-ran-in-Totals-clause-ends g c =
     let ran = c.in_ok-ran-in-Totals in
     let text = totals_text (map told_of ran.ran.nodes.items) in
     let told : text ≡ report_of s.report (map told_of ran.ran.nodes.items) ran.ran.sections.items = rw c.in-Totals.is refl in
-    run_wrote s (g.R.Read.remaining c.args.reader.now.device) ran.ran.nodes.items ran.ran.sections.items text (g.W.Write.contents c.args.writer.now.device) (g.W.Write.contents c.write_totals.new.writer.device)
-    c.run_as_read.new.reader.failed c.write_totals.new.writer.failed c.write_totals.result ran.ensures.ran told c.write_totals.ensures.wrote ran.ensures.flag
+    run_wrote s (g.R.Read.remaining c.args.reader.now.device) ran.ran.nodes.items ran.ran.sections.items text (g.W.Write.contents c.args.writer.now.device) (g.W.Write.contents c.write_whole.new.writer.device)
+    c.run_as_read.new.reader.failed c.write_whole.new.writer.failed c.write_whole.result ran.ensures.ran told (c.write_whole.ensures.wrote text (rw c.as_slice.ensures.value at c.totals_text.ensures)) ran.ensures.flag
 
 pub returns-in_ok-ran-in-Journal-clause-ends : goal.returns-in_ok-ran-in-Journal-clause-ends
 returns-in_ok-ran-in-Journal-clause-ends g c =
@@ -40,8 +40,8 @@ returns-in_ok-ran-in-Journal-clause-ends g c =
     let ran = c.in_ok-ran-in-Journal in
     let text = journal_text (map told_of ran.ran.nodes.items) in
     let told : text ≡ report_of s.report (map told_of ran.ran.nodes.items) ran.ran.sections.items = rw c.in-Journal.is refl in
-    run_wrote s (g.R.Read.remaining c.args.reader.now.device) ran.ran.nodes.items ran.ran.sections.items text (g.W.Write.contents c.args.writer.now.device) (g.W.Write.contents c.write_journals.new.writer.device)
-    c.run_as_read-in-Journal.new.reader.failed c.write_journals.new.writer.failed c.write_journals.result ran.ensures.ran told c.write_journals.ensures.wrote ran.ensures.flag
+    run_wrote s (g.R.Read.remaining c.args.reader.now.device) ran.ran.nodes.items ran.ran.sections.items text (g.W.Write.contents c.args.writer.now.device) (g.W.Write.contents c.write_whole-in-Journal.new.writer.device)
+    c.run_as_read-in-Journal.new.reader.failed c.write_whole-in-Journal.new.writer.failed c.write_whole-in-Journal.result ran.ensures.ran told (c.write_whole-in-Journal.ensures.wrote text (rw c.as_slice-in-Journal.ensures.value at c.journals_text.ensures)) ran.ensures.flag
 
 pub returns-in_ok-ran-in-Answers-clause-ends : goal.returns-in_ok-ran-in-Answers-clause-ends
 returns-in_ok-ran-in-Answers-clause-ends g c =

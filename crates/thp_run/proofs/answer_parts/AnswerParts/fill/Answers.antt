@@ -1,4 +1,4 @@
-use Rattle.std.proofs.Common.{◌∙◌, drop, map}
+use Rattle.std.proofs.Common.{drop, map}
 use Rattle.thp_run.specs.Answers.{with_stored}
 use Rattle.thp_run.specs.Parts.{text_from}
 use Rattle.thp_run.specs.Reports.{shape_of}

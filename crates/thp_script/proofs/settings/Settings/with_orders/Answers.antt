@@ -6,8 +6,8 @@ use Rattle.thp_script.specs.Prelude.{is_order, AreLow}
 use Rattle.thp_script.proofs.ThresholdLaws.{new_orders_low, orders_left}
 use Rattle.thp_script.proofs.settings.Settings.with_orders.Goals as goal
 
-pub invariant_of-result : goal.invariant_of-result
-invariant_of-result c =
+pub invariant_of-settings : goal.invariant_of-settings
+invariant_of-settings c =
     let given : list_all is_order c.args.orders.now ≡ true = search rules in
     let low : AreLow c.args.orders.now c.args.self.underused = search rules in
     let few : length c.args.orders.now ≤ length c.args.self.orders = omega arith in

@@ -1,4 +1,4 @@
-use Rattle.std.proofs.Common.{None, sym, subst, Err}
+use Rattle.std.proofs.Common.{None, refl, sym, subst, Err}
 use Rattle.thp_worker.specs.Prelude.{PutBack, HeldDone}
 use Rattle.thp_worker.proofs.HoldingLaws.{place_at, mine, set_same, no_back_held, held_gone, held_stays, back_held, back_failed}
 use Rattle.thp_worker.proofs.node_pass.NodePass.put_back.Goals as goal
@@ -21,13 +21,13 @@ put_back_all-requires-clause-front g c =
 pub invariant_of-self : goal.invariant_of-self
 invariant_of-self g c =
     let at = place_at c.self.invariant (sym c.self.view_is) c.requires.caller c.callers-first.ensures.first in
-    held_gone _ _ _ _ _ _ _ c.self.invariant c.put_back_all.ensures.same c.put_back_all.ensures.batches at.0 at.1 c.shut_at.ensures
+    held_gone _ _ _ _ _ _ _ c.self.invariant c.put_back_all.ensures.same c.put_back_all.ensures.batches at.0 at.1 refl
 
 pub returns-in-Ok : goal.returns-in-Ok
 returns-in-Ok g c =
     let at = place_at c.self.invariant (sym c.self.view_is) c.requires.caller c.callers-first.ensures.first in
     let own = mine _ c.self.invariant at.0 at.2 c.in-Some.ensures in
-    rw (← c.self.view_is) (back_held _ _ _ _ _ _ c.put_back_all.ensures.same at.0 at.1 _ _ own.0 c.in-Some.ensures c.shut_at.ensures c.in-Ok.ensures.recorded)
+    rw (← c.self.view_is) (back_held _ _ _ _ _ _ c.put_back_all.ensures.same at.0 at.1 _ _ own.0 c.in-Some.ensures refl c.in-Ok.ensures.recorded)
 
 pub invariant_of-self-in-Err : goal.invariant_of-self-in-Err
 invariant_of-self-in-Err g c = held_stays _ _ _ _ c.self.invariant c.put_back_all.ensures.same c.put_back_all.ensures.batches

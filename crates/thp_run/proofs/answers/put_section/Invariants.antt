@@ -1,9 +1,0 @@
-use Rattle.std.proofs.Common.{◌≡◌, ◌++◌, drop, map, flat_map}
-use Rattle.thp_run.specs.Answers.{answer_line, section_text, with_stored}
-use Rattle.thp_run.specs.Reports.{shape_of}
-use Rattle.thp_worker.specs.Prelude.{stored}
-use Rattle.thp_run.proofs.answers.put_section.Given as goal
-
-abbrev pub invariant-loop-place : goal.invariant-loop-place
-invariant-loop-place g l =
-    l.text.items ++ flat_map (answer_line (map shape_of l.nodes) l.section.worker) (drop l.place (stored l.section.answers)) ≡ l.fn.text.items ++ section_text (map shape_of l.nodes) (with_stored l.section)
