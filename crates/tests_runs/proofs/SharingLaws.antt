@@ -8,8 +8,7 @@ use Rattle.thp_script.specs.declared.script.Command.{Command}
 use Rattle.thp_worker.specs.declared.reply.Answer.{Answer}
 use Rattle.thp_worker.specs.declared.reply.Reply.{Reply}
 use Rattle.thp_worker.specs.declared.reply.Rest.{Rest}
-use Rattle.thp_run.specs.Listed.{WorksOn}
-use Rattle.thp_run.specs.declared.listed.Worked.{Worked}
+use Rattle.thp_run.specs.Listed.{WorkedList, WorksOn}
 use Rattle.thp_worker.specs.declared.scanning.CommandProgress.{CommandProgress}
 use Rattle.thp_worker.specs.declared.steps.Step.{Step}
 use Rattle.thp_worker.specs.Prelude.{Open, Reaction, Fronts, SameHolding, Moves, Answered, OutOf, IsStepBusy, StepDone, Goes, Grows, Made, Steps, Begins, Ends, WorksTo}
@@ -104,5 +103,5 @@ module _ (old new : Fronts) (c : ℕ) where
   to_inside commands answers opened (Some r) t =
       (t.0, elim t.1 [ inl b ↦ inl (b.0, begins_inside commands answers opened _ b.1) | inr e ↦ inr (e.0, ends_inside commands answers opened r.steps e.1) ])
 
-  pub works_inside : (commands : List Command) (w : Worked) → WorksOn c old (shared new) commands w → WasWorked c new commands w
-  works_inside commands w k = (before, to_inside commands w.answers.items w.opened.items w.rest k)
+  pub works_inside : (commands : List Command) (w : WorkedList) → WorksOn c old (shared new) commands w → WasWorked c new commands w
+  works_inside commands w k = (before, to_inside commands w.answers w.opened w.rest k)

@@ -2,8 +2,7 @@
 use Rattle.std.specs.Prelude.{◌≡◌, ℕ, ◌+◌, List}
 use Rattle.thp_script.specs.declared.script.Command.{Command}
 use Rattle.thp_worker.specs.Prelude.{Fronts}
-use Rattle.thp_run.specs.Listed.{WorksOn}
-use Rattle.thp_run.specs.declared.listed.Worked.{Worked}
+use Rattle.thp_run.specs.Listed.{WorkedList, WorksOn}
 
 -- more callers than the holder has, so that it never has all
 abbrev pub shared : Fronts → Fronts
@@ -17,5 +16,5 @@ pub record OfTwo (f : Fronts) : Type 0 where
   pub end : f.end ≡ 2
 
 -- the section of a caller was begun and executed up to here
-abbrev pub WasWorked : ℕ → Fronts → List Command → Worked → Type 0
+abbrev pub WasWorked : ℕ → Fronts → List Command → WorkedList → Type 0
 WasWorked c f commands w = (old : Fronts) × WorksOn c old f commands w

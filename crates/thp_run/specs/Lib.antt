@@ -6,6 +6,7 @@ pub mod Laws
 pub mod NewNodes
 pub mod Runs
 pub mod Sections
+pub mod Comparing
 pub mod Sharing
 pub mod InParts
 pub mod Programs

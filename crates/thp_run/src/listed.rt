@@ -8,6 +8,7 @@ ghost use Rattle.thp_worker.specs.declared.reply.Answer.{Answer as StoredAnswer}
 
 use crate::report::report_of_logs;
 use std::alloc::{AllocError, Global};
+use std::marker::Model;
 use thp_history::Refusal;
 use thp_node::{Node, Tried};
 use thp_script::{Command, Settings};
@@ -16,7 +17,7 @@ use thp_worker::{
 };
 
 /// The result of a section: the answers to its commands, in order, and the place where it stopped, if it did.
-#[derive(Debug, Drop, PartialEq, Eq)]
+#[derive(Debug, Drop)]
 pub struct Worked {
     /// The answers, in the order of the commands.
     pub answers: Vec<Answer>,
@@ -26,13 +27,65 @@ pub struct Worked {
     pub opened: Vec<bool>,
 }
 
+impl Model for Worked {
+    ghost use Rattle.thp_run.specs.Listed.{WorkedList};
+
+    ghost Value = { WorkedList };
+
+    ghost view = { λ w. record { answers = w.answers.items; rest = w.rest; opened = w.opened.items } };
+}
+
+impl PartialEq for Worked {
+    ghost use Rattle.thp_run.specs.Comparing.{same_worked, same_worked-partial_equiv};
+
+    ghost eq = { same_worked };
+
+    ghost laws = { same_worked-partial_equiv };
+
+    fn eq(&self, other: &Worked) -> bool {
+        self.answers == other.answers && self.rest == other.rest && self.opened == other.opened
+    }
+}
+
+impl Eq for Worked {
+    ghost use Rattle.thp_run.specs.Comparing.{same_worked-equiv};
+
+    ghost laws = { same_worked-equiv };
+}
+
 /// The answers to the commands of one worker, in order. Worker 0 is setup.
-#[derive(Debug, Drop, PartialEq, Eq)]
+#[derive(Debug, Drop)]
 pub struct Section {
     /// The number of the worker; 0 is setup.
     pub worker: u32,
     /// The answers, in the order of the commands.
     pub answers: Vec<Answer>,
+}
+
+impl Model for Section {
+    ghost use Rattle.thp_run.specs.Listed.{SectionList};
+
+    ghost Value = { SectionList };
+
+    ghost view = { λ s. record { worker = s.worker; answers = s.answers.items } };
+}
+
+impl PartialEq for Section {
+    ghost use Rattle.thp_run.specs.Comparing.{same_section, same_section-partial_equiv};
+
+    ghost eq = { same_section };
+
+    ghost laws = { same_section-partial_equiv };
+
+    fn eq(&self, other: &Section) -> bool {
+        self.worker == other.worker && self.answers == other.answers
+    }
+}
+
+impl Eq for Section {
+    ghost use Rattle.thp_run.specs.Comparing.{same_section-equiv};
+
+    ghost laws = { same_section-equiv };
 }
 
 /// Executes the commands of a section, in order, as steps of one caller, and puts back the batches left open.
@@ -75,12 +128,18 @@ pub fn work_rest<S: Steps>(
     ensures works { (old : Fronts) → WorksOn worker old (S.fronts steps.old) commands.now worked → IfOk result (WorksOn worker old (S.fronts steps.new) commands.now) }
     ensures done { HoldsAllCallers (S.fronts steps.old) → IfOk result IsWhole }
 {
-    let room = commands.len().max(worked.answers.len());
+    let Worked {
+        answers,
+        rest,
+        opened,
+    } = worked;
+    let room = commands.len().max(answers.len());
     let list = Vec::with_capacity(alloc, room)?;
+    let log = to_log(alloc, room, answers.as_slice())?;
     let begun = SectionOutcome {
-        answers: to_log(alloc, room, worked.answers.as_slice())?,
-        rest: worked.rest,
-        opened: worked.opened,
+        answers: log,
+        rest,
+        opened,
     };
     let worked = thp_worker::work_rest(commands, worker, begun, steps)?;
     list_answers(list, worked)
@@ -112,9 +171,9 @@ pub fn report_text(
 fn list_answers(mut list: Vec<Answer>, worked: SectionOutcome) -> Result<Worked, AllocError>
     requires none { list.items ≡ [] }
     requires kept { worked.answers.are ≡ Kept }
-    ensures answers { IfOk result (λ list. list.answers.items ≡ worked.answers.items) }
+    ensures answers { IfOk result (λ list. list.answers ≡ worked.answers.items) }
     ensures rest { IfOk result (λ list. list.rest ≡ worked.rest) }
-    ensures opened { IfOk result (λ list. list.opened.items ≡ worked.opened.items) }
+    ensures opened { IfOk result (λ list. list.opened ≡ worked.opened.items) }
 {
     // the toolchain finds these types, which answers contain, only in functions that name them
     let _in_answers = (Reply::Tried(Tried::Done), Refusal::NoPage);
