@@ -49,7 +49,7 @@ TYPES = {
     "thp_pass *": "pass", "&mut ThpPass": "pass", "*mut thp_pass": "pass", "&mut ThpNode": "handle",
     "thp_check *": "check", "&mut ThpCheck": "check", "*mut thp_check": "check", "*const thp_allocator": "allocator",
     "&mut u32": "u32*", "&mut u64": "u64*", "&mut usize": "usize*", "&mut ThpDone": "done",
-    "&mut ThpScan": "scan", "&mut ThpTried": "tried", "&mut ThpBack": "back", "&mut ThpStats": "stats", "u32": "u32", "u64": "u64",
+    "&mut ScanReply": "scan", "&mut ThpTried": "tried", "&mut BackReply": "back", "&mut ThpStats": "stats", "u32": "u32", "u64": "u64",
     "usize": "usize", "*mut thp_node": "handle", "*mut u32": "u32*", "*mut u64": "u64*", "*mut usize": "usize*",
     "*mut thp_done": "done", "*mut thp_scan": "scan", "*mut thp_tried": "tried", "*mut thp_back": "back", "*mut thp_stats": "stats",
     "*const c_void": "u8*", "*mut c_void": "u8*", "const thp_node *": "const handle", "*const thp_node": "const handle",

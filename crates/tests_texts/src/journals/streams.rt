@@ -5,8 +5,9 @@ use crate::journals::histories::{
     ZERO, by, expect_texts, large, queued, small, split, split_pmd, taken,
 };
 use std::alloc::{AllocError, Global};
+use thp_check::Misfit;
 use thp_history::{Event, PageId, Shape, SubSet, What};
-use thp_journal_reader::{LongCheck, read_journal};
+use thp_journal_reader::{Illegal, LongCheck, read_journal};
 use thp_journal_writer::{
     NodeHistory, PutFault, Version, put_end, put_event, put_node, put_version,
 };
@@ -176,6 +177,15 @@ fn lines_are_checked_as_they_are_put(rt: HostRuntime) {
     }
     put_end(&mut text).expect(&rt, "memory");
     check = check.read_part(text.as_slice()).expect(&rt, "memory");
-    let illegal = check.finish().expect(&rt, "a journal");
-    assert!(rt; illegal.is_some_and(|illegal| illegal.line == 4));
+    let found = check.finish();
+    assert!(rt;
+        matches!(
+            found,
+            Ok(Some(Illegal {
+                line: 4,
+                misfit: Misfit::BlockTaken,
+                ..
+            }))
+        )
+    );
 }
