@@ -40,17 +40,12 @@ fn script<R: Read, W: Write>(
     requires output { output.old.failed ≡ false }
     ensures does { DoesScript options (source_of R.remaining reader.old reader.new) (device_of W.contents output.old output.new) (end_of result) (notes_by result) }
 {
-    let found = match write_script(alloc, reader, output) {
-        Ok(found) => found,
-        Err(fault) => return Err(ProgramFault::Run(fault)),
-    };
-    match notes_of(alloc, options, &found) {
-        Ok(notes) => Ok(ProgramEnd {
-            ending: ending_of(&found.illegal),
-            notes,
-        }),
-        Err(_) => Err(ProgramFault::Run(RunFault::OutOfMemory)),
-    }
+    let found = write_script(alloc, reader, output)?;
+    let notes = notes_of(alloc, options, &found)?;
+    Ok(ProgramEnd {
+        ending: ending_of(&found.illegal),
+        notes,
+    })
 }
 
 impl Request for CheckOptions {

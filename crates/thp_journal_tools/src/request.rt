@@ -86,13 +86,13 @@ fn serve<Q: Request, R: Read, W: Write, S: Write, C: Clock>(
     let texts = texts_of(alloc, words.as_slice())?;
     match Q::read(alloc, texts.as_slice()) {
         Ok(request) => request.perform(alloc, reader, output, screen),
-        Err(error) => match answer(alloc, &error, output) {
-            Ok(()) => Ok(ProgramEnd {
+        Err(error) => {
+            answer(alloc, &error, output)?;
+            Ok(ProgramEnd {
                 ending: Ending::Written,
                 notes: None,
-            }),
-            Err(fault) => Err(fault),
-        },
+            })
+        }
     }
 }
 
