@@ -6,6 +6,7 @@ use Rattle.thp_drawing.specs.declared.node.DrawnNode.{DrawnNode}
 use Rattle.thp_cli.proofs.PassageLaws.{keeps_same}
 use Rattle.thp_cli.specs.declared.calls.DeviceCall.{DeviceCall}
 use Rattle.thp_cli.specs.declared.ending.Ending.{Ending}
+use Rattle.thp_cli.specs.declared.ending.ProgramFault.{ProgramFault}
 use Rattle.thp_cli.specs.declared.ending.ProgramFault.TheVariants.{Run, Usage, NoNode, NoText, Orders, Underused}
 use Rattle.thp_cli.specs.declared.fault.RunFault.{RunFault}
 use Rattle.thp_cli.specs.declared.fault.RunFault.TheVariants as run
@@ -14,13 +15,10 @@ use Rattle.thp_journal_reader.specs.declared.journals.NodeJournal.{NodeJournal}
 use Rattle.thp_script.specs.Prelude.{max_counted, IsFrontOf}
 use Rattle.thp_journal_reader.proofs.VerdictLaws.{same_journals}
 use Rattle.thp_journal_tools.specs.declared.draw_options.DrawOptions.{DrawOptions}
-use Rattle.thp_journal_tools.specs.declared.end_fault.EndFault.{EndFault}
-use Rattle.thp_journal_tools.specs.declared.end_fault.EndFault.TheVariants.{Journal, Words}
 use Rattle.thp_journal_tools.specs.Checks.{IsFindFault}
 use Rattle.thp_journal_tools.specs.Drawings.{Draws, IsDrawingOf, IsFound, LacksNode, Shows}
-use Rattle.thp_journal_tools.specs.DrawOutcomes.{end_of, Does, IsOutputFault}
+use Rattle.thp_journal_tools.specs.DrawOutcomes.{Does, IsOutputFault}
 use Rattle.thp_journal_tools.specs.Nodes.{IsDrawnOf}
-use Rattle.thp_journal_tools.specs.Requests.{fault_at_end}
 use Rattle.thp_journal_tools.proofs.CheckLaws.{ends_at_find, ends_at_write, ends_told, none_at_find}
 
 -- the text of what was found
@@ -62,15 +60,14 @@ module _ (options : DrawOptions) (input : Source) (reads : ReadsOn max_counted i
   }
 
   pub no_output : (bytes : List ℕ) (nodes : List DrawnNode) → IfSome input.bytes (IsFrontOf max_counted bytes) → IsFound bytes nodes → input.failed ≡ false
-      → (fault : EndFault) → IsOutputFault options.node nodes fault → Does options input (same_device content failed calls) (Err (fault_at_end fault))
-  no_output bytes nodes read found done (Journal fault) why = rw why (none_found run.OutOfMemory done)
-  no_output bytes nodes read found done (Words (NoNode number)) why =
+      → (fault : ProgramFault) → IsOutputFault options.node nodes fault → Does options input (same_device content failed calls) (Err fault)
+  no_output bytes nodes read found done (Run fault) why = rw why (none_found run.OutOfMemory done)
+  no_output bytes nodes read found done (NoNode number) why =
       record { asked = why.0; lacks = lacks_in input.bytes bytes nodes number read found why.1; flag = done; reads = reads; untouched = (keeps_same content, flag, refl) }
-  no_output bytes nodes read found done (Words (Run fault)) why = absurd why
-  no_output bytes nodes read found done (Words (Usage text)) why = absurd why
-  no_output bytes nodes read found done (Words NoText) why = absurd why
-  no_output bytes nodes read found done (Words Orders) why = absurd why
-  no_output bytes nodes read found done (Words Underused) why = absurd why
+  no_output bytes nodes read found done (Usage text) why = absurd why
+  no_output bytes nodes read found done NoText why = absurd why
+  no_output bytes nodes read found done Orders why = absurd why
+  no_output bytes nodes read found done Underused why = absurd why
 
 -- ---- the text was written, or a prefix of it
 
@@ -93,6 +90,6 @@ module _ (options : DrawOptions) (input : Source) (output : Device) (reads : Rea
 -- ---- the end
 
 -- an error ends it
-pub does_err : (options : DrawOptions) (input : Source) (output : Device) (fault : EndFault) (r : Result Ending EndFault) → IsErrAnd r (λ e. e ≡ fault) → Does options input output (Err (fault_at_end fault)) → Does options input output (end_of r)
+pub does_err : (options : DrawOptions) (input : Source) (output : Device) (fault : ProgramFault) (r : Result Ending ProgramFault) → IsErrAnd r (λ e. e ≡ fault) → Does options input output (Err fault) → Does options input output r
 does_err options input output fault (Ok ending) is does = absurd is
-does_err options input output fault (Err e) is does = subst (λ (f : EndFault). Does options input output (Err (fault_at_end f))) (sym is) does
+does_err options input output fault (Err e) is does = subst (λ (f : ProgramFault). Does options input output (Err f)) (sym is) does

@@ -1,10 +1,7 @@
 -- What `thpdraw` does with a journal, as its options request (this project's profile).
 use Rattle.std.specs.Prelude.{◌≡◌, ◌≤◌, ℕ, Bool, length, List, Option, Some, None, Result, Ok, Err}
 use Rattle.thp_journal_tools.specs.Progress.{may_show}
-use Rattle.thp_journal_tools.specs.Requests.{fault_at_end}
 use Rattle.thp_drawing.specs.declared.node.DrawnNode.{DrawnNode}
-use Rattle.thp_journal_tools.specs.declared.end_fault.EndFault.{EndFault}
-use Rattle.thp_journal_tools.specs.declared.end_fault.EndFault.TheVariants as ended
 use Rattle.thp_cli.specs.declared.ending.Ending.{Ending}
 use Rattle.thp_cli.specs.declared.ending.ProgramFault.{ProgramFault}
 use Rattle.thp_cli.specs.declared.ending.ProgramFault.TheVariants.{Run, NoNode}
@@ -13,16 +10,11 @@ use Rattle.thp_cli.specs.Prelude.{Device, Source}
 use Rattle.thp_journal_tools.specs.declared.draw_options.DrawOptions.{DrawOptions}
 use Rattle.thp_journal_tools.specs.Drawings.{Draws, FindsNoNode}
 
--- how the program ended
-abbrev pub end_of : Result Ending EndFault → Result Ending ProgramFault
-end_of (Ok ending) = Ok ending
-end_of (Err fault) = Err (fault_at_end fault)
-
 -- why there is no output for nodes: memory could not be allocated, or the requested one is not among them
-abbrev pub IsOutputFault : Option ℕ → List DrawnNode → EndFault → Type 0
-IsOutputFault asked nodes (ended.Journal fault) = fault ≡ OutOfMemory
-IsOutputFault asked nodes (ended.Words (NoNode number)) = (asked ≡ Some number) × (length nodes ≤ number)
-IsOutputFault asked nodes (ended.Words _) = ⊥
+abbrev pub IsOutputFault : Option ℕ → List DrawnNode → ProgramFault → Type 0
+IsOutputFault asked nodes (Run fault) = fault ≡ OutOfMemory
+IsOutputFault asked nodes (NoNode number) = (asked ≡ Some number) × (length nodes ≤ number)
+IsOutputFault asked nodes _ = ⊥
 
 -- what was done with the journal, by how it ended
 abbrev pub Does : DrawOptions → Source → Device → Result Ending ProgramFault → Type 0

@@ -1,5 +1,5 @@
 -- The output for a journal of any length.
-use Rattle.std.specs.Prelude.{◌≡◌, ◌≤◌, ℕ, Bool, false, is_some, length, List, [], ◌∷◌, Option, None, Some, IfSome, Result, Ok, if◌then◌else◌, slice_get}
+use Rattle.std.specs.Prelude.{◌≡◌, ◌≤◌, ℕ, Bool, false, is_some, length, List, Option, None, Some, IfSome, Result, Ok, if◌then◌else◌, slice_get}
 use Rattle.std.specs.List.{list_any}
 use Rattle.thp_journal_tools.specs.Checks.{LongEnds}
 use Rattle.thp_drawing.specs.Pictures.{node_picture, picture_text}

@@ -5,26 +5,19 @@ use Rattle.clap.specs.declared.error.Error.{Error}
 use Rattle.thp_cli.specs.declared.ending.Ending.{Ending}
 use Rattle.thp_cli.specs.declared.ending.Program.{Program}
 use Rattle.thp_cli.specs.declared.ending.ProgramFault.{ProgramFault}
-use Rattle.thp_cli.specs.declared.ending.ProgramFault.TheVariants.{Run, NoText}
+use Rattle.thp_cli.specs.declared.ending.ProgramFault.TheVariants.{NoText}
 use Rattle.thp_cli.specs.declared.ending.WordsFault.{WordsFault}
 use Rattle.thp_cli.specs.declared.ending.WordsFault.TheVariants as words
 use Rattle.thp_cli.specs.Prelude.{Device, IsShort, IsUnread, IsUntouched, Source, Takes, WritesMessage, WasAnsweredBy, end_status}
-use Rattle.thp_journal_tools.specs.declared.end_fault.EndFault.{EndFault}
-use Rattle.thp_journal_tools.specs.declared.end_fault.EndFault.TheVariants as ended
 use Rattle.thp_journal_tools.specs.declared.request.ProgramEnd.{ProgramEnd}
 use Rattle.thp_journal_tools.specs.Progress.{ShowsProgress}
 
--- why the program did not do what was requested, in the terms of all programs
-abbrev pub fault_at_end : EndFault → ProgramFault
-fault_at_end (ended.Journal fault) = Run fault
-fault_at_end (ended.Words fault) = fault
-
 -- how the program ended, and the text for standard error
-abbrev pub end_of : Result ProgramEnd EndFault → Result Ending ProgramFault
+abbrev pub end_of : Result ProgramEnd ProgramFault → Result Ending ProgramFault
 end_of (Ok done) = Ok done.ending
-end_of (Err fault) = Err (fault_at_end fault)
+end_of (Err fault) = Err fault
 
-abbrev pub notes_by : Result ProgramEnd EndFault → Option (List ℕ)
+abbrev pub notes_by : Result ProgramEnd ProgramFault → Option (List ℕ)
 notes_by (Ok done) = option_map (λ t. t.items) done.notes
 notes_by (Err fault) = None
 

@@ -7,7 +7,6 @@ ghost use Rattle.thp_journal_tools.specs.DrawOutcomes.{shows_progress, DoesReque
 ghost use Rattle.thp_journal_tools.specs.Requests.{Finishes, ShowsAsAsked};
 
 use crate::draw_options::{DrawOptions, command};
-use crate::end_fault::EndFault;
 use crate::request::{ProgramEnd, Request, run_request};
 use crate::screen::Screen;
 use crate::writing::draw;
@@ -15,7 +14,7 @@ use clap::Error;
 use std::alloc::Global;
 use std::io::{Read, Write};
 use std::time::Clock;
-use thp_cli::{Program, Watched, WordsFault};
+use thp_cli::{Program, ProgramFault, Watched, WordsFault};
 
 impl Request for DrawOptions {
     ghost program = { Thpdraw };
@@ -45,7 +44,7 @@ impl Request for DrawOptions {
         reader: &mut Watched<R>,
         output: &mut Watched<W>,
         screen: &mut Screen<S, C>,
-    ) -> Result<ProgramEnd, EndFault> {
+    ) -> Result<ProgramEnd, ProgramFault> {
         Ok(ProgramEnd {
             ending: draw(alloc, self, reader, output, screen)?,
             notes: None,

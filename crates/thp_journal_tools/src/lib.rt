@@ -2,7 +2,7 @@
 //!
 //! What they share with `thpsplit` is in `thp_cli`.
 //!
-//! - Both: `request` (from words to a status, for any kind of request; `Requests`), `end_fault` (how a program ends early),
+//! - Both: `request` (from words to a status, for any kind of request; `Requests`),
 //!   `keeping_check` (a check that keeps data of each node): totals (`summed_node`, `summed`; `Keeping`, `Summaries`) or what is
 //!   drawn (`series_node`; `Keeping`, `Nodes`).
 //! - `thpcheck`: `program`, `options`, `help`, `finding` (what is read), `checking` (what is written); `Checks`, `Outcomes`,
@@ -19,7 +19,6 @@ mod draw_finding;
 mod draw_help;
 mod draw_options;
 mod draw_program;
-mod end_fault;
 mod finding;
 mod help;
 mod keeping_check;
@@ -39,7 +38,6 @@ mod writing;
 pub use checking::{CheckFinding, check_long};
 pub use draw_options::DrawOptions;
 pub use draw_program::run_draw_program;
-pub use end_fault::EndFault;
 pub use keeping_check::KeepingCheck;
 pub use options::CheckOptions;
 pub use program::run_check_program;

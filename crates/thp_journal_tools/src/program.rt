@@ -7,7 +7,6 @@ ghost use Rattle.thp_journal_tools.specs.Outcomes.{ending_of, shows_progress, Do
 ghost use Rattle.thp_journal_tools.specs.Requests.{end_of, notes_by, Finishes, ShowsAsAsked};
 
 use crate::checking::check_long;
-use crate::end_fault::EndFault;
 use crate::notes::notes_of;
 use crate::options::{CheckOptions, command};
 use crate::request::{ProgramEnd, Request, run_request};
@@ -17,7 +16,7 @@ use clap::Error;
 use std::alloc::Global;
 use std::io::{Read, Write};
 use std::time::Clock;
-use thp_cli::{Ending, Program, RunFault, Watched, WordsFault};
+use thp_cli::{Ending, Program, ProgramFault, RunFault, Watched, WordsFault};
 use thp_journal_reader::Illegal;
 
 /// Returns how the program ends after the check of a journal.
@@ -36,22 +35,17 @@ fn script<R: Read, W: Write>(
     options: CheckOptions,
     reader: &mut Watched<R>,
     output: &mut Watched<W>,
-) -> Result<ProgramEnd, EndFault>
+) -> Result<ProgramEnd, ProgramFault>
     requires reader { reader.old.failed ≡ false }
     requires output { output.old.failed ≡ false }
     ensures does { DoesScript options (source_of R.remaining reader.old reader.new) (device_of W.contents output.old output.new) (end_of result) (notes_by result) }
 {
-    let found = match write_script(alloc, reader, output) {
-        Ok(found) => found,
-        Err(fault) => return Err(EndFault::Journal(fault)),
-    };
-    match notes_of(alloc, options, &found) {
-        Ok(notes) => Ok(ProgramEnd {
-            ending: ending_of(&found.illegal),
-            notes,
-        }),
-        Err(_) => Err(EndFault::Journal(RunFault::OutOfMemory)),
-    }
+    let found = write_script(alloc, reader, output)?;
+    let notes = notes_of(alloc, options, &found)?;
+    Ok(ProgramEnd {
+        ending: ending_of(&found.illegal),
+        notes,
+    })
 }
 
 impl Request for CheckOptions {
@@ -83,7 +77,7 @@ impl Request for CheckOptions {
         reader: &mut Watched<R>,
         output: &mut Watched<W>,
         screen: &mut Screen<S, C>,
-    ) -> Result<ProgramEnd, EndFault> {
+    ) -> Result<ProgramEnd, ProgramFault> {
         if self.script {
             return script(alloc, self, reader, output);
         }
@@ -92,7 +86,7 @@ impl Request for CheckOptions {
                 ending: ending_of(&checked.illegal),
                 notes: checked.explanation,
             }),
-            Err(fault) => Err(EndFault::Journal(fault)),
+            Err(fault) => Err(ProgramFault::Run(fault)),
         }
     }
 }

@@ -8,7 +8,6 @@ ghost use Rattle.thp_cli.specs.Prelude.{device_of, given_words, source_of, Devic
 ghost use Rattle.thp_journal_tools.specs.Progress.{ShowsProgress};
 ghost use Rattle.thp_journal_tools.specs.Requests.{end_of, notes_by, Finishes, Served, ShowsAsAsked, TakesNotes};
 
-use crate::end_fault::EndFault;
 use crate::screen::Screen;
 use clap::Error;
 use std::alloc::Global;
@@ -16,7 +15,7 @@ use std::io::{Read, Write};
 use std::time::Clock;
 use thp_cli::{
     Ending, Program, ProgramFault, RunFault, Watched, WordsFault, answer, status_of_ending, tell,
-    tell_run, tell_text, texts_of,
+    tell_text, texts_of,
 };
 
 /// How a program ended after doing what was requested.
@@ -57,7 +56,7 @@ pub(crate) trait Request: Sized {
         reader: &mut Watched<R>,
         output: &mut Watched<W>,
         screen: &mut Screen<S, C>,
-    ) -> Result<ProgramEnd, EndFault>
+    ) -> Result<ProgramEnd, ProgramFault>
         requires reader { reader.old.failed ≡ false }
         requires output { output.old.failed ≡ false }
         requires screen { screen.old.writer.failed ≡ false }
@@ -72,7 +71,7 @@ fn serve<Q: Request, R: Read, W: Write, S: Write, C: Clock>(
     reader: &mut Watched<R>,
     output: &mut Watched<W>,
     screen: &mut Screen<S, C>,
-) -> Result<ProgramEnd, EndFault>
+) -> Result<ProgramEnd, ProgramFault>
     requires reader { reader.old.failed ≡ false }
     requires output { output.old.failed ≡ false }
     requires screen { screen.old.writer.failed ≡ false }
@@ -81,19 +80,19 @@ fn serve<Q: Request, R: Read, W: Write, S: Write, C: Clock>(
 {
     let words = match words {
         Ok(words) => words,
-        Err(WordsFault::NotText) => return Err(EndFault::Words(ProgramFault::NoText)),
-        Err(WordsFault::OutOfMemory) => return Err(EndFault::Journal(RunFault::OutOfMemory)),
+        Err(WordsFault::NotText) => return Err(ProgramFault::NoText),
+        Err(WordsFault::OutOfMemory) => return Err(ProgramFault::Run(RunFault::OutOfMemory)),
     };
     let texts = texts_of(alloc, words.as_slice())?;
     match Q::read(alloc, texts.as_slice()) {
         Ok(request) => request.perform(alloc, reader, output, screen),
-        Err(error) => match answer(alloc, &error, output) {
-            Ok(()) => Ok(ProgramEnd {
+        Err(error) => {
+            answer(alloc, &error, output)?;
+            Ok(ProgramEnd {
                 ending: Ending::Written,
                 notes: None,
-            }),
-            Err(fault) => Err(EndFault::Words(fault)),
-        },
+            })
+        }
     }
 }
 
@@ -129,7 +128,6 @@ pub(crate) fn run_request<Q: Request, R: Read, W: Write, E: Write, S: Write, C: 
             note(done.notes, errors);
             status_of_ending(done.ending)
         }
-        Err(EndFault::Journal(fault)) => tell_run(Q::program(), fault, errors),
-        Err(EndFault::Words(fault)) => tell(Q::program(), fault, errors),
+        Err(fault) => tell(Q::program(), fault, errors),
     }
 }

@@ -4,11 +4,11 @@ ghost use Rattle.thp_journal_tools.specs.Progress.{may_show, ShowsProgress};
 ghost use Rattle.thp_cli.specs.declared.ending.Program.TheVariants.{Thpdraw};
 ghost use Rattle.thp_cli.specs.Prelude.{device_of, source_of};
 ghost use Rattle.thp_journal_tools.specs.Drawings.{drawing_text, ending_if, node_text, some_illegal, Shows};
-ghost use Rattle.thp_journal_tools.specs.DrawOutcomes.{end_of, Does, IsOutputFault};
+ghost use Rattle.thp_journal_tools.specs.DrawOutcomes.{Does, IsOutputFault};
 
 use crate::draw_finding::find_nodes;
 use crate::draw_options::DrawOptions;
-use crate::{EndFault, Screen};
+use crate::screen::Screen;
 use std::alloc::{AllocError, Global};
 use std::io::{Read, Write};
 use std::time::Clock;
@@ -72,7 +72,11 @@ fn node_text(
 }
 
 /// Returns the output for these nodes, or for the requested one alone.
-fn output_of(alloc: Global, options: DrawOptions, nodes: &[DrawnNode]) -> Result<Output, EndFault>
+fn output_of(
+    alloc: Global,
+    options: DrawOptions,
+    nodes: &[DrawnNode],
+) -> Result<Output, ProgramFault>
     ensures output { IfOk result (λ output. Shows options.table options.node nodes.now output.ending output.text.items) }
     ensures fault { IfErr result (IsOutputFault options.node nodes.now) }
 {
@@ -83,7 +87,7 @@ fn output_of(alloc: Global, options: DrawOptions, nodes: &[DrawnNode]) -> Result
         });
     };
     let Some(node) = nodes.get(number as usize) else {
-        return Err(EndFault::Words(ProgramFault::NoNode(number)));
+        return Err(ProgramFault::NoNode(number));
     };
     Ok(Output {
         text: node_text(alloc, options.table, number as usize, node)?,
@@ -104,11 +108,11 @@ pub fn draw<R: Read, W: Write, S: Write, C: Clock>(
     reader: &mut Watched<R>,
     writer: &mut Watched<W>,
     screen: &mut Screen<S, C>,
-) -> Result<Ending, EndFault>
+) -> Result<Ending, ProgramFault>
     requires reader { reader.old.failed ≡ false }
     requires writer { writer.old.failed ≡ false }
     requires screen { screen.old.writer.failed ≡ false }
-    ensures does { Does options (source_of R.remaining reader.old reader.new) (device_of W.contents writer.old writer.new) (end_of result) }
+    ensures does { Does options (source_of R.remaining reader.old reader.new) (device_of W.contents writer.old writer.new) result }
     ensures screen { ShowsProgress Thpdraw (may_show options.progress screen.old.is_terminal) (R.remaining reader.old.device) (device_of S.contents screen.old.writer screen.new.writer) }
 {
     let nodes = find_nodes(alloc, options.progress, reader, screen)?;

@@ -1,6 +1,6 @@
 use Rattle.std.proofs.Common.{Bool, Err, Ok, refl, subst, sym}
 use Rattle.thp_cli.specs.Prelude.{device_of, source_of}
-use Rattle.thp_journal_tools.specs.declared.end_fault.EndFault.TheVariants.{Journal}
+use Rattle.thp_cli.specs.declared.ending.ProgramFault.TheVariants.{Run}
 use Rattle.thp_journal_tools.specs.Outcomes.{DoesAsked}
 use Rattle.thp_journal_tools.specs.Requests.{end_of, notes_by}
 use Rattle.thp_journal_tools.proofs.program.CheckOptionsRequest.perform.Goals as goal
@@ -21,5 +21,5 @@ pub returns-in-Err-clause-does : goal.returns-in-Err-clause-does
 returns-in-Err-clause-does g c =
     let input = source_of g.R.Read.remaining c.args.reader.now c.check_long.new.reader in
     let output = device_of g.W.Write.contents c.args.output.now c.check_long.new.writer in
-    let failed = Err (Journal c.in-Err.fault) in
+    let failed = Err (Run c.in-Err.fault) in
     subst (λ (script : Bool). DoesAsked script c.args.self input output (end_of failed) (notes_by failed)) (sym c.if-self.false) (record { ends = c.in-Err.ensures.ends; reads = c.in-Err.ensures.reads; writes = c.in-Err.ensures.writes }, refl)
