@@ -67,6 +67,9 @@ FIELD_TYPES = {
 STRUCTS = ("done", "scan", "tried", "back", "stats", "page_state", "node", "pass", "check")
 """Each struct of the header without its prefix, except that of functions."""
 
+REPLIES = {"scan": "ScanReply", "back": "BackReply"}
+"""The structs that are replies of `thp_node`, by their names there."""
+
 SYS = ROOT / "rust/leversorrel-sys/src/lib.rs"
 """The declarations in Rust."""
 
@@ -204,13 +207,15 @@ def structs_agree() -> str | None:
     """Each struct has the same fields, of the same types and in the same order, in the header, the manual page, leversorrel-sys and the
     proved crate."""
     in_c, in_rust = r"^    (?P<type>\w+ ?\*?) ?\b(?P<name>\w+)(?P<length>\[8\])?;", r"^    (?:pub )?(?P<name>\w+): (?P<type>[^,]+),"
-    proved = "".join(path.read_text() for path in sorted((ROOT / "crates/thp_capi/src").glob("*.rt")))
+    replies = ROOT / "crates/thp_node/src/answers.rt"
+    proved = "".join(path.read_text() for path in [*sorted((ROOT / "crates/thp_capi/src").glob("*.rt")), replies])
     page, sys = (ROOT / "docs/libthp.3").read_text(), SYS.read_text()
     wrong = []
     for name in STRUCTS:
         wanted = named_fields((C / "thp.h").read_text(), f"struct thp_{name} {{", in_c)
+        proved_name = "Thp" + name.title().replace("_", "")
         places = {"leversorrel-sys": named_fields(sys, f"pub struct thp_{name} {{", in_rust),
-                  "thp_capi": named_fields(proved, f"pub struct Thp{name.title().replace('_', '')} {{", in_rust)}
+                  "the crates": named_fields(proved, f"pub struct {REPLIES.get(name, proved_name)} {{", in_rust)}
         if name not in ("node", "pass", "check"):
             places["docs/libthp.3"] = named_fields(page, f"struct thp_{name} {{", in_c)
         wrong += [f"thp_{name}: {place}" for place, fields in places.items() if not wanted or fields != wanted]
