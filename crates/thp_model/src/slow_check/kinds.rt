@@ -1,6 +1,6 @@
 //! Kind by kind: what an event does to a page, why a call is refused, and whether an event fits a history.
 ghost use Rattle.std.specs.Prelude.{◌≡◌, ◌<◌, ◌≤◌, ◌↔◌, ◌&&◌, not, IsTrue, true, false, None, Some, IfOk, slice_get};
-ghost use Rattle.thp_history.specs.Prelude.{FitsAlloc, FitsBy, Gives, covers, has_page, is_closed, is_dropped, is_held, is_partly_mapped, is_split, is_worth_split, max_order, pins, standing, unmaps_some, writes, zero_after, zeroes};
+ghost use Rattle.thp_history.specs.Prelude.{FitsAlloc, FitsBy, Gives, covers, has_page, is_closed, is_dropped, is_held, is_partly_mapped, is_split, is_worth_split, maps, maps_whole, max_order, pins, standing, unmaps_some, writes, zero_after, zeroes};
 ghost use Rattle.thp_history.specs.declared.shape.Shape.{Shape};
 ghost use Rattle.thp_history.specs.Refusals as call;
 ghost use Rattle.thp_history.specs.Refusals.{refusal, first_of, no_page, bad_range, split_page, some_of};
@@ -15,6 +15,24 @@ use super::underused::{is_partly_mapped, is_worth_split};
 use std::alloc::{AllocError, Global};
 use std::collections::VecDeque;
 use thp_history::{Done, Event, PageId, Refusal, Shape, What};
+
+// Whether the event adds a mapping of subpage i of the page.
+pub(super) fn maps(what: &What, p: PageId, i: u32) -> bool
+    ensures { result ≡ maps p i what.now }
+{
+    match *what {
+        What::Alloc { page, .. } | What::MapWhole { page } => p == page,
+        What::MapSub { page, first, count } => p == page && covers(first, count, i),
+        _ => false,
+    }
+}
+
+// Whether the event adds a mapping of the whole page.
+pub(super) fn maps_whole(what: &What, p: PageId) -> bool
+    ensures { result ≡ maps_whole p what.now }
+{
+    matches!(*what, What::Alloc { page, .. } | What::MapWhole { page } if page == p)
+}
 
 // Whether a range covers subpage i.
 pub(super) fn covers(first: u32, count: u32, i: u32) -> bool

@@ -2,7 +2,7 @@
 ghost use Rattle.std.specs.Prelude.{◌≡◌, ◌≤◌};
 ghost use Rattle.thp_history.specs.Prelude.{allocations, is_closed, is_live, is_mapped, is_split, is_used, loses_use, max_order, own, pins, total, whole};
 
-use super::kinds::covers;
+use super::kinds::{covers, maps, maps_whole};
 use super::passing::{any_below, any_event, count_events};
 use thp_history::{Event, Outcome, PageId, Shape, What};
 
@@ -17,15 +17,7 @@ pub(super) fn allocations(events: &[Event]) -> usize
 pub(super) fn total(events: &[Event], page: PageId, i: u32) -> usize
     ensures { result ≡ total events.now page i }
 {
-    let mapped = count_events(events, |what| match *what {
-        What::Alloc { page: other, .. } | What::MapWhole { page: other } => other == page,
-        What::MapSub {
-            page: other,
-            first,
-            count,
-        } => other == page && covers(first, count, i),
-        _ => false,
-    });
+    let mapped = count_events(events, |what| maps(what, page, i));
     let unmapped = count_events(events, |what| match *what {
         What::UnmapWhole { page: other, .. } => other == page,
         What::UnmapSub {
@@ -55,10 +47,7 @@ pub(super) fn whole(events: &[Event], page: PageId) -> usize
     if is_split(events, page) {
         return 0;
     }
-    let mapped = count_events(events, |what| match *what {
-        What::Alloc { page: other, .. } | What::MapWhole { page: other } => other == page,
-        _ => false,
-    });
+    let mapped = count_events(events, |what| maps_whole(what, page));
     let unmapped = count_events(events, |what| match *what {
         What::UnmapWhole { page: other, .. } | What::SplitPmd { page: other } => other == page,
         _ => false,
