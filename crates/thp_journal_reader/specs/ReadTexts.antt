@@ -2,7 +2,7 @@
 use Rattle.std.proofs.Common.{◌≡◌, ◌∙◌, ◌++◌, [], ℕ, List, ap, append_assoc, refl, sym}
 use Rattle.thp_journal_reader.specs.Parts.{ReadSoFar, told_with}
 
--- the second state follows from the first by reading these bytes, of as many as before
+-- the second state follows from the first by reading these bytes; the greatest number allowed is the same
 pub record HasReadText (old : ReadSoFar) (bytes : List ℕ) (new : ReadSoFar) : Type 0 where
   pub text : (more : List ℕ) → told_with new more ≡ told_with old (bytes ++ more)
   pub most : new.text.most ≡ old.text.most
