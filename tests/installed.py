@@ -235,7 +235,7 @@ def main() -> None:
     tally.run(f"tables of docs/FORMATS.md in {PAGES[1]}", has_tables_of_formats)
     for path in [PAGES[0], *COMPLETIONS.values()]:
         tally.run(f"options in {path}", partial(options_are_told, path))
-    for page, files, name in (PAGES[2], CHECKER_COMPLETIONS, "options"), (PAGES[3], DRAWER_COMPLETIONS, "draw_options"):
+    for page, files, name in (PAGES[2], CHECKER_COMPLETIONS, "program"), (PAGES[3], DRAWER_COMPLETIONS, "draw_program"):
         for path in [page, *files.values()]:
             own = f"crates/thp_journal_tools/src/{name}.rt"
             tally.run(f"options in {path}", partial(options_are_told, path, own))

@@ -188,7 +188,7 @@ def codes_agree() -> str | None:
     replies = (ROOT / "crates/thp_capi/src/replies.rt").read_text()
     effects = re.findall(r"Outcome::(\w+) => (\d),", replies)
     effects += [(f"Try{name}", kind) for name, kind in re.findall(r"Tried::(\w+)[^=]* => \((\d)", replies)]
-    lists = re.findall(r"Standing::(\w+)[^=]* => \((\d)", (ROOT / "crates/thp_capi/src/page_state.rt").read_text())
+    lists = re.findall(r"Standing::(\w+)[^=]* => \((\d)", replies)
     effects += [({"Nowhere": "ListNone", "Queued": "ListQueue", "Batch": "ListFlight"}[name], number) for name, number in lists]
     wrong = [name for name, number in [*in_proved, *effects] if in_c.get(name.lower()) != int(number)]
     wrong += [name for name, code in in_rust if name.lower() != code.replace("_", "").lower()]

@@ -9,7 +9,7 @@ use Rattle.thp_worker.specs.declared.reply.Answer.{Answer}
 use Rattle.thp_worker.specs.declared.reply.Reply.{Reply}
 use Rattle.thp_worker.specs.declared.reply.Rest.{Rest}
 use Rattle.thp_run.specs.Listed.{WorkedList, WorksOn}
-use Rattle.thp_worker.specs.declared.scanning.CommandProgress.{CommandProgress}
+use Rattle.thp_worker.specs.declared.command.CommandProgress.{CommandProgress}
 use Rattle.thp_worker.specs.declared.steps.Step.{Step}
 use Rattle.thp_worker.specs.Prelude.{Open, Reaction, Fronts, SameHolding, Moves, Answered, OutOf, IsStepBusy, StepDone, Goes, Grows, Made, Steps, Begins, Ends, WorksTo}
 use Rattle.tests_runs.specs.Sharing.{shared, WasWorked}

@@ -1,13 +1,12 @@
 //! The check of journals, exported: of a whole text, and of a text that arrives in parts.
 ghost use Rattle.std.specs.Prelude.{◌≡◌};
-ghost use Rattle.thp_capi.specs.Prelude.{CheckAnswer, CheckEnds, CheckMade, CheckReads, CheckTells, Emptied, IsCode, ReportsText, answer_of, numbers_of, value_of};
+ghost use Rattle.thp_capi.specs.Prelude.{CheckAnswer, CheckEnds, CheckMade, CheckReads, CheckTells, Emptied, Reports, ReportsText, numbers_of, value_of};
 
 use std::alloc::Global;
 use thp_capi::{
-    CheckStage, Fault, Room, ThpCheck, begin_check, code, judge, put_text, read_on, reason_text,
-    verdict_code,
+    CheckStage, Fault, Room, ThpCheck, attempt, begin_check, code, judge, put_text, read_on,
+    reason_text, verdict_code,
 };
-use thp_history::Refusal;
 
 /// Checks whether the journals in a text are legal. Returns 0 if they are, 21 for an illegal event, 22 to 29 for an error of that
 /// kind in the text, and 11 if memory can't be allocated. `line` is the line of the first illegal event or error, otherwise 0.
@@ -21,16 +20,13 @@ pub extern "C" fn thp_c_check_text(alloc: Global, text: &[u8], line: &mut u32) -
 /// Creates a check that has read nothing, and fills the handle with it.
 #[unsafe(no_mangle)]
 pub extern "C" fn thp_c_check_create(handle: &mut ThpCheck, alloc: Global) -> u32
-    ensures does { CheckMade (value_of handle.old.held) (value_of handle.new.held) (answer_of result) }
-    ensures known { IsCode result }
+    ensures { Reports result (CheckMade (value_of handle.old.held) (value_of handle.new.held)) }
 {
-    if let Some((room, stage)) = handle.take(alloc) {
+    if let Ok((room, stage)) = handle.take(alloc) {
         handle.put(room, stage);
         return code(Err(Fault::InUse));
     }
-    let Some(room) = Room::new(alloc) else {
-        return code(Err(Fault::Refused(Refusal::OutOfMemory)));
-    };
+    let room = attempt!(Room::new(alloc));
     handle.put(room, CheckStage::Reading(begin_check(alloc)));
     code(Ok(()))
 }
@@ -38,33 +34,27 @@ pub extern "C" fn thp_c_check_create(handle: &mut ThpCheck, alloc: Global) -> u3
 /// Frees the check that the handle refers to, and empties the handle.
 #[unsafe(no_mangle)]
 pub extern "C" fn thp_c_check_destroy(handle: &mut ThpCheck, alloc: Global) -> u32
-    ensures does { Emptied (value_of handle.old.held) (value_of handle.new.held) (answer_of result) }
-    ensures known { IsCode result }
+    ensures { Reports result (Emptied (value_of handle.old.held) (value_of handle.new.held)) }
 {
-    code(handle.take(alloc).map(drop).ok_or(Fault::Empty))
+    code(handle.take(alloc).map(drop))
 }
 
 /// Reads the next part of the text. If memory for that can't be allocated, the check is lost and the handle is empty.
 #[unsafe(no_mangle)]
 pub extern "C" fn thp_c_check_read(handle: &mut ThpCheck, alloc: Global, part: &[u8]) -> u32
-    ensures does { CheckReads part.now (value_of handle.old.held) (value_of handle.new.held) (answer_of result) }
-    ensures known { IsCode result }
+    ensures { Reports result (CheckReads part.now (value_of handle.old.held) (value_of handle.new.held)) }
 {
-    let Some((room, stage)) = handle.take(alloc) else {
-        return code(Err(Fault::Empty));
-    };
+    let (room, stage) = attempt!(handle.take(alloc));
     match stage {
         CheckStage::Judged(verdict) => {
             handle.put(room, CheckStage::Judged(verdict));
             code(Err(Fault::Finished))
         }
-        CheckStage::Reading(check) => match read_on(check, part) {
-            Ok(check) => {
-                handle.put(room, CheckStage::Reading(check));
-                code(Ok(()))
-            }
-            Err(_) => code(Err(Fault::Refused(Refusal::OutOfMemory))),
-        },
+        CheckStage::Reading(check) => {
+            let check = attempt!(read_on(check, part));
+            handle.put(room, CheckStage::Reading(check));
+            code(Ok(()))
+        }
     }
 }
 
@@ -74,7 +64,7 @@ pub extern "C" fn thp_c_check_read(handle: &mut ThpCheck, alloc: Global, part: &
 pub extern "C" fn thp_c_check_finish(handle: &mut ThpCheck, alloc: Global, line: &mut u64) -> u32
     ensures { CheckEnds (value_of handle.old.held) (value_of handle.new.held) result line.old line.new }
 {
-    let Some((room, stage)) = handle.take(alloc) else {
+    let Ok((room, stage)) = handle.take(alloc) else {
         return 12;
     };
     let verdict = judge(stage);
@@ -93,19 +83,10 @@ pub extern "C" fn thp_c_check_reason(
     buffer: &mut [u8],
     size: &mut usize,
 ) -> u32
-    ensures does { CheckTells (value_of handle.old.held) (value_of handle.new.held) buffer.old buffer.new size.old size.new (answer_of result) }
-    ensures known { IsCode result }
+    ensures { Reports result (CheckTells (value_of handle.old.held) (value_of handle.new.held) buffer.old buffer.new size.old size.new) }
 {
-    let Some((room, stage)) = handle.take(alloc) else {
-        return code(Err(Fault::Empty));
-    };
+    let (room, stage) = attempt!(handle.take(alloc));
     let text = reason_text(alloc, &stage);
     handle.put(room, stage);
-    match text {
-        Ok(text) => {
-            *size = text.len();
-            code(put_text(buffer, &text))
-        }
-        Err(fault) => code(Err(fault)),
-    }
+    code(put_text(text, buffer, size))
 }

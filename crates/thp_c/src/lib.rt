@@ -1,6 +1,6 @@
 //! The static library for C: its calls, on the handles of `thp_capi`.
 //!
-//! - `node`, `node_readers`, `page_calls` (about one page, of nodes and of passes), `pass`, `pass_batches`, `check`.
+//! - `node`, `page_calls` (about one page, of nodes and of passes), `pass`, `check`.
 //!
 //! `c/thp.h` declares the library, `c/thp.c` wraps the exports; docs/C.md states, call by call, what is proved and what a C
 //! program must ensure.
@@ -8,7 +8,5 @@
 
 mod check;
 mod node;
-mod node_readers;
 mod page_calls;
 mod pass;
-mod pass_batches;

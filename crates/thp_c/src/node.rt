@@ -2,15 +2,15 @@
 ghost use Rattle.std.specs.Prelude.{◌≡◌, ◌∷◌, [], Ok, Err, OnErr, length};
 ghost use Rattle.thp_history.specs.Prelude.{queue};
 ghost use Rattle.thp_history.specs.Refusals as call;
-ghost use Rattle.thp_capi.specs.Prelude.{AbandonCall, AllocCall, BackCall, Does, DoesIfKept, Emptied, IsCode, Made, NextCall, OneCall, ReserveCall, ScanCall, TakeCall, Written, answer_of, answer_with, shape_of, stats_of};
+ghost use Rattle.thp_capi.specs.Prelude.{AbandonCall, AllocCall, BackCall, Does, DoesIfKept, Emptied, Made, MapcountCall, NextCall, OneCall, PageCall, QueueCall, Reports, ReserveCall, Returns, ScanCall, TakeCall, Written, answer_of, shape_of, stats_of};
 ghost use Rattle.thp_journal_writer.specs.Prelude.{journal_text};
 
 use std::alloc::Global;
 use thp_capi::{
-    BackReply, Fault, Held, HeldEngine, ScanReply, ThpNode, ThpStats, ThpTried, code, on_node,
-    put_text, shape,
+    BackReply, Fault, Held, HeldEngine, ScanReply, ThpNode, ThpPageState, ThpStats, ThpTried,
+    attempt, code, on_node, put_text, report, shape,
 };
-use thp_history::What;
+use thp_history::{PageId, What};
 
 /// Creates a node and fills the handle with it. A node that is counting only counts its events, and does not keep them. The
 /// greatest number as the threshold turns the search for underused pages off.
@@ -23,29 +23,24 @@ pub extern "C" fn thp_c_node_create(
     underused: u32,
     counting: bool,
 ) -> u32
-    ensures does { Made handle.old.held handle.new.held (shape_of blocks order underused) counting (answer_of result) }
-    ensures known { IsCode result }
+    ensures { Reports result (Made handle.old.held handle.new.held (shape_of blocks order underused) counting) }
 {
-    if let Some(engine) = handle.take(alloc) {
+    if let Ok(engine) = handle.take(alloc) {
         handle.store(engine);
         return code(Err(Fault::InUse));
     }
-    match HeldEngine::new(alloc, shape(blocks, order, underused), counting) {
-        Ok(engine) => {
-            handle.store(engine);
-            code(Ok(()))
-        }
-        Err(fault) => code(Err(fault)),
-    }
+    let shape = shape(blocks, order, underused);
+    let engine = attempt!(HeldEngine::new(alloc, shape, counting));
+    handle.store(engine);
+    code(Ok(()))
 }
 
 /// Frees the node that the handle refers to, and empties the handle.
 #[unsafe(no_mangle)]
 pub extern "C" fn thp_c_node_destroy(handle: &mut ThpNode, alloc: Global) -> u32
-    ensures does { Emptied handle.old.held handle.new.held (answer_of result) }
-    ensures known { IsCode result }
+    ensures { Reports result (Emptied handle.old.held handle.new.held) }
 {
-    code(handle.take(alloc).map(drop).ok_or(Fault::Empty))
+    code(handle.take(alloc).map(drop))
 }
 
 /// Allocates a page, mapped whole once. Its number is the number of allocations before it.
@@ -56,9 +51,7 @@ pub extern "C" fn thp_c_node_alloc(
     caller: u32,
     page: &mut u64,
 ) -> u32
-    ensures does { Does handle.old.held handle.new.held (answer_of result) (λ old new answer. AllocCall caller old new (answer_with answer page.new)) }
-    ensures known { IsCode result }
-    ensures kept { OnErr (answer_of result) (page.new ≡ page.old) }
+    ensures { Reports result (Returns handle.old.held handle.new.held page.old page.new (AllocCall caller)) }
 {
     on_node!(handle, alloc, engine => engine.alloc_page(caller), page)
 }
@@ -66,8 +59,7 @@ pub extern "C" fn thp_c_node_alloc(
 /// Closes the node: no page is queued or allocated afterwards.
 #[unsafe(no_mangle)]
 pub extern "C" fn thp_c_node_close(handle: &mut ThpNode, alloc: Global, caller: u32) -> u32
-    ensures does { Does handle.old.held handle.new.held (answer_of result) (OneCall caller call.close What.Close) }
-    ensures known { IsCode result }
+    ensures { Reports result (Does handle.old.held handle.new.held (OneCall caller call.close What.Close)) }
 {
     code(on_node!(handle, alloc, engine => engine.close(caller)))
 }
@@ -81,9 +73,7 @@ pub extern "C" fn thp_c_node_scan(
     n: u32,
     scan: &mut ScanReply,
 ) -> u32
-    ensures does { Does handle.old.held handle.new.held (answer_of result) (λ old new answer. ScanCall caller n old new (answer_with answer scan.new)) }
-    ensures known { IsCode result }
-    ensures kept { OnErr (answer_of result) (scan.new ≡ scan.old) }
+    ensures { Reports result (Returns handle.old.held handle.new.held scan.old scan.new (ScanCall caller n)) }
 {
     on_node!(handle, alloc, engine => engine.scan(caller, n), scan)
 }
@@ -98,9 +88,7 @@ pub extern "C" fn thp_c_node_take(
     n: u32,
     count: &mut u32,
 ) -> u32
-    ensures does { Does handle.old.held handle.new.held (answer_of result) (λ old new answer. TakeCall caller n old new (answer_with answer count.new)) }
-    ensures known { IsCode result }
-    ensures kept { OnErr (answer_of result) (count.new ≡ count.old) }
+    ensures { Reports result (Returns handle.old.held handle.new.held count.old count.new (TakeCall caller n)) }
 {
     on_node!(handle, alloc, engine => engine.take(caller, n), count)
 }
@@ -113,9 +101,7 @@ pub extern "C" fn thp_c_node_split_next(
     caller: u32,
     tried: &mut ThpTried,
 ) -> u32
-    ensures does { Does handle.old.held handle.new.held (answer_of result) (λ old new answer. NextCall caller old new (answer_with answer tried.new)) }
-    ensures known { IsCode result }
-    ensures kept { OnErr (answer_of result) (tried.new ≡ tried.old) }
+    ensures { Reports result (Returns handle.old.held handle.new.held tried.old tried.new (NextCall caller)) }
 {
     on_node!(handle, alloc, engine => engine.split_next(caller), tried)
 }
@@ -128,9 +114,7 @@ pub extern "C" fn thp_c_node_put_back(
     caller: u32,
     back: &mut BackReply,
 ) -> u32
-    ensures does { Does handle.old.held handle.new.held (answer_of result) (λ old new answer. BackCall caller old new (answer_with answer back.new)) }
-    ensures known { IsCode result }
-    ensures kept { OnErr (answer_of result) (back.new ≡ back.old) }
+    ensures { Reports result (Returns handle.old.held handle.new.held back.old back.new (BackCall caller)) }
 {
     on_node!(handle, alloc, engine => engine.put_back(caller), back)
 }
@@ -138,8 +122,7 @@ pub extern "C" fn thp_c_node_put_back(
 /// Discards the caller's open batch: its pages stay in the caller's flight, out of the queue.
 #[unsafe(no_mangle)]
 pub extern "C" fn thp_c_node_abandon(handle: &mut ThpNode, alloc: Global, caller: u32) -> u32
-    ensures does { Does handle.old.held handle.new.held (answer_of result) (AbandonCall caller) }
-    ensures known { IsCode result }
+    ensures { Reports result (Does handle.old.held handle.new.held (AbandonCall caller)) }
 {
     code(on_node!(handle, alloc, engine => engine.abandon(caller)))
 }
@@ -148,8 +131,7 @@ pub extern "C" fn thp_c_node_abandon(handle: &mut ThpNode, alloc: Global, caller
 /// needs three events for each page that it takes.
 #[unsafe(no_mangle)]
 pub extern "C" fn thp_c_node_reserve(handle: &mut ThpNode, alloc: Global, events: u32) -> u32
-    ensures does { Does handle.old.held handle.new.held (answer_of result) (ReserveCall events) }
-    ensures known { IsCode result }
+    ensures { Reports result (Does handle.old.held handle.new.held (ReserveCall events)) }
 {
     code(on_node!(handle, alloc, engine => engine.reserve(events)))
 }
@@ -161,23 +143,17 @@ pub extern "C" fn thp_c_node_queue_length(
     alloc: Global,
     pages: &mut u32,
 ) -> u32
-    ensures does { Does handle.old.held handle.new.held (answer_of result) (λ old new answer. (new ≡ old) × (answer ≡ Ok tt) × (pages.new ≡ length (queue old.node.shape old.node.journal))) }
-    ensures known { IsCode result }
-    ensures kept { OnErr (answer_of result) (pages.new ≡ pages.old) }
+    ensures { Reports result (Returns handle.old.held handle.new.held pages.old pages.new (λ old new answer. (new ≡ old) × (answer ≡ Ok (length (queue old.node.shape old.node.journal))))) }
 {
-    *pages = on_node!(handle, alloc, engine => engine.queue_length());
-    code(Ok(()))
+    on_node!(handle, alloc, engine => Ok(engine.queue_length()), pages)
 }
 
 /// Stores the node's statistics in `stats`.
 #[unsafe(no_mangle)]
 pub extern "C" fn thp_c_node_stats(handle: &mut ThpNode, alloc: Global, stats: &mut ThpStats) -> u32
-    ensures does { Does handle.old.held handle.new.held (answer_of result) (λ old new answer. (new ≡ old) × (answer ≡ Ok tt) × (stats.new ≡ stats_of old.node)) }
-    ensures known { IsCode result }
-    ensures kept { OnErr (answer_of result) (stats.new ≡ stats.old) }
+    ensures { Reports result (Returns handle.old.held handle.new.held stats.old stats.new (λ old new answer. (new ≡ old) × (answer ≡ Ok (stats_of old.node)))) }
 {
-    *stats = on_node!(handle, alloc, engine => engine.stats());
-    code(Ok(()))
+    on_node!(handle, alloc, engine => Ok(engine.stats()), stats)
 }
 
 /// Writes the journal as text to the start of the buffer if the text fits there. `size` is its length in bytes.
@@ -188,22 +164,61 @@ pub extern "C" fn thp_c_node_journal(
     buffer: &mut [u8],
     size: &mut usize,
 ) -> u32
-    ensures does { DoesIfKept handle.old.held handle.new.held (answer_of result) (λ old new answer. (new ≡ old) × Written (journal_text ((old.node.shape, old.node.journal) ∷ [])) buffer.old buffer.new size.old size.new answer) (λ old new answer. (new ≡ old) × (answer ≡ Err Fault.NoJournal) × (buffer.new ≡ buffer.old) × (size.new ≡ size.old)) }
-    ensures known { IsCode result }
+    ensures { Reports result (DoesIfKept handle.old.held handle.new.held (λ old new answer. (new ≡ old) × Written (journal_text ((old.node.shape, old.node.journal) ∷ [])) buffer.old buffer.new size.old size.new answer) (λ old new answer. (new ≡ old) × (answer ≡ Err Fault.NoJournal) × (buffer.new ≡ buffer.old) × (size.new ≡ size.old))) }
 {
-    let Some(engine) = handle.take(alloc) else {
-        return code(Err(Fault::Empty));
-    };
+    let engine = attempt!(handle.take(alloc));
     let text = match &*engine {
         Held::Kept(engine) => engine.text(alloc),
         Held::Counted(_) => Err(Fault::NoJournal),
     };
     handle.store(engine);
-    match text {
-        Ok(text) => {
-            *size = text.len();
-            code(put_text(buffer, &text))
-        }
-        Err(fault) => code(Err(fault)),
-    }
+    code(put_text(text, buffer, size))
+}
+
+/// Stores the state of a live page in `state`.
+#[unsafe(no_mangle)]
+pub extern "C" fn thp_c_node_page(
+    handle: &mut ThpNode,
+    alloc: Global,
+    page: u64,
+    state: &mut ThpPageState,
+) -> u32
+    ensures { Reports result (Returns handle.old.held handle.new.held state.old state.new (PageCall page)) }
+{
+    on_node!(handle, alloc, engine => engine.page(PageId(page)), state)
+}
+
+/// Stores the own map count of a subpage of a live page in `own`: the number of PTE entries that map it.
+#[unsafe(no_mangle)]
+pub extern "C" fn thp_c_node_mapcount(
+    handle: &mut ThpNode,
+    alloc: Global,
+    page: u64,
+    subpage: u32,
+    own: &mut u32,
+) -> u32
+    ensures { Reports result (Returns handle.old.held handle.new.held own.old own.new (MapcountCall page subpage)) }
+{
+    on_node!(handle, alloc, engine => engine.mapcount(PageId(page), subpage), own)
+}
+
+/// Stores in `pages` the queued pages, oldest first, as many as there is room for, and in `count` the number of queued pages.
+#[unsafe(no_mangle)]
+pub extern "C" fn thp_c_node_queue(
+    handle: &mut ThpNode,
+    alloc: Global,
+    pages: &mut [u64],
+    count: &mut u32,
+) -> u32
+    ensures does { Reports result (DoesIfKept handle.old.held handle.new.held (QueueCall pages.old pages.new count.new) (λ old new answer. (new ≡ old) × (answer ≡ Err Fault.NoJournal))) }
+    ensures kept_pages { OnErr (answer_of result) (pages.new ≡ pages.old) }
+    ensures kept_count { OnErr (answer_of result) (count.new ≡ count.old) }
+{
+    let engine = attempt!(handle.take(alloc));
+    let length = match &*engine {
+        Held::Kept(engine) => Ok(engine.queue(pages)),
+        Held::Counted(_) => Err(Fault::NoJournal),
+    };
+    handle.store(engine);
+    report(length, count)
 }

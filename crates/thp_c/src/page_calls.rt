@@ -1,7 +1,6 @@
 //! The calls about one page, exported: of a node, and of a pass of a shared node.
-ghost use Rattle.std.specs.Prelude.{◌≡◌, OnErr};
 ghost use Rattle.thp_history.specs.Refusals as call;
-ghost use Rattle.thp_capi.specs.Prelude.{Does, IsCode, LoseCall, OneCall, PassLost, PassOne, answer_of, answer_with, value_of};
+ghost use Rattle.thp_capi.specs.Prelude.{Does, LoseCall, OneCall, PassLost, PassOne, Reports, Returns, value_of};
 
 use std::alloc::Global;
 use thp_capi::{ThpDone, ThpNode, ThpPass, code, on_node, on_pass};
@@ -15,8 +14,7 @@ pub extern "C" fn thp_c_node_map_whole(
     caller: u32,
     page: u64,
 ) -> u32
-    ensures does { Does handle.old.held handle.new.held (answer_of result) (OneCall caller (call.map_whole page) (What.MapWhole page)) }
-    ensures known { IsCode result }
+    ensures { Reports result (Does handle.old.held handle.new.held (OneCall caller (call.map_whole page) (What.MapWhole page))) }
 {
     code(on_node!(handle, alloc, engine => engine.gain(caller, PageId(page), Gain::MapWhole)))
 }
@@ -31,8 +29,7 @@ pub extern "C" fn thp_c_node_map_sub(
     first: u32,
     count: u32,
 ) -> u32
-    ensures does { Does handle.old.held handle.new.held (answer_of result) (OneCall caller (call.map_sub page first count) (What.MapSub page first count)) }
-    ensures known { IsCode result }
+    ensures { Reports result (Does handle.old.held handle.new.held (OneCall caller (call.map_sub page first count) (What.MapSub page first count))) }
 {
     let gain = Gain::MapSub { first, count };
     code(on_node!(handle, alloc, engine => engine.gain(caller, PageId(page), gain)))
@@ -46,8 +43,7 @@ pub extern "C" fn thp_c_node_split_pmd(
     caller: u32,
     page: u64,
 ) -> u32
-    ensures does { Does handle.old.held handle.new.held (answer_of result) (OneCall caller (call.split_pmd page) (What.SplitPmd page)) }
-    ensures known { IsCode result }
+    ensures { Reports result (Does handle.old.held handle.new.held (OneCall caller (call.split_pmd page) (What.SplitPmd page))) }
 {
     code(on_node!(handle, alloc, engine => engine.gain(caller, PageId(page), Gain::SplitPmd)))
 }
@@ -55,8 +51,7 @@ pub extern "C" fn thp_c_node_split_pmd(
 /// Adds a pin to the page.
 #[unsafe(no_mangle)]
 pub extern "C" fn thp_c_node_pin(handle: &mut ThpNode, alloc: Global, caller: u32, page: u64) -> u32
-    ensures does { Does handle.old.held handle.new.held (answer_of result) (OneCall caller (call.pin page) (What.Pin page)) }
-    ensures known { IsCode result }
+    ensures { Reports result (Does handle.old.held handle.new.held (OneCall caller (call.pin page) (What.Pin page))) }
 {
     code(on_node!(handle, alloc, engine => engine.gain(caller, PageId(page), Gain::Pin)))
 }
@@ -71,8 +66,7 @@ pub extern "C" fn thp_c_node_write(
     first: u32,
     count: u32,
 ) -> u32
-    ensures does { Does handle.old.held handle.new.held (answer_of result) (OneCall caller (call.write page first count) (What.Write page first count)) }
-    ensures known { IsCode result }
+    ensures { Reports result (Does handle.old.held handle.new.held (OneCall caller (call.write page first count) (What.Write page first count))) }
 {
     let gain = Gain::Write { first, count };
     code(on_node!(handle, alloc, engine => engine.gain(caller, PageId(page), gain)))
@@ -88,8 +82,7 @@ pub extern "C" fn thp_c_node_zero(
     first: u32,
     count: u32,
 ) -> u32
-    ensures does { Does handle.old.held handle.new.held (answer_of result) (OneCall caller (call.zero_fill page first count) (What.Zero page first count)) }
-    ensures known { IsCode result }
+    ensures { Reports result (Does handle.old.held handle.new.held (OneCall caller (call.zero_fill page first count) (What.Zero page first count))) }
 {
     let gain = Gain::Zero { first, count };
     code(on_node!(handle, alloc, engine => engine.gain(caller, PageId(page), gain)))
@@ -104,9 +97,7 @@ pub extern "C" fn thp_c_node_unmap_whole(
     page: u64,
     done: &mut ThpDone,
 ) -> u32
-    ensures does { Does handle.old.held handle.new.held (answer_of result) (λ old new answer. LoseCall caller (call.unmap_whole page) page (λ o released. What.UnmapWhole o page released) old new (answer_with answer done.new)) }
-    ensures known { IsCode result }
-    ensures kept { OnErr (answer_of result) (done.new ≡ done.old) }
+    ensures { Reports result (Returns handle.old.held handle.new.held done.old done.new (LoseCall caller (call.unmap_whole page) page (λ o released. What.UnmapWhole o page released))) }
 {
     on_node!(handle, alloc, engine => engine.lose(caller, PageId(page), Loss::UnmapWhole), done)
 }
@@ -122,9 +113,7 @@ pub extern "C" fn thp_c_node_unmap_sub(
     count: u32,
     done: &mut ThpDone,
 ) -> u32
-    ensures does { Does handle.old.held handle.new.held (answer_of result) (λ old new answer. LoseCall caller (call.unmap_sub page first count) page (λ o released. What.UnmapSub o page first count released) old new (answer_with answer done.new)) }
-    ensures known { IsCode result }
-    ensures kept { OnErr (answer_of result) (done.new ≡ done.old) }
+    ensures { Reports result (Returns handle.old.held handle.new.held done.old done.new (LoseCall caller (call.unmap_sub page first count) page (λ o released. What.UnmapSub o page first count released))) }
 {
     let loss = Loss::UnmapSub { first, count };
     on_node!(handle, alloc, engine => engine.lose(caller, PageId(page), loss), done)
@@ -139,9 +128,7 @@ pub extern "C" fn thp_c_node_unpin(
     page: u64,
     done: &mut ThpDone,
 ) -> u32
-    ensures does { Does handle.old.held handle.new.held (answer_of result) (λ old new answer. LoseCall caller (call.unpin page) page (λ o released. What.Unpin o page released) old new (answer_with answer done.new)) }
-    ensures known { IsCode result }
-    ensures kept { OnErr (answer_of result) (done.new ≡ done.old) }
+    ensures { Reports result (Returns handle.old.held handle.new.held done.old done.new (LoseCall caller (call.unpin page) page (λ o released. What.Unpin o page released))) }
 {
     on_node!(handle, alloc, engine => engine.lose(caller, PageId(page), Loss::Unpin), done)
 }
@@ -154,8 +141,7 @@ pub extern "C" fn thp_c_pass_map_whole(
     caller: u32,
     page: u64,
 ) -> u32
-    ensures does { Does (value_of handle.old.held) (value_of handle.new.held) (answer_of result) (PassOne caller (call.map_whole page) (What.MapWhole page)) }
-    ensures known { IsCode result }
+    ensures { Reports result (Does (value_of handle.old.held) (value_of handle.new.held) (PassOne caller (call.map_whole page) (What.MapWhole page))) }
 {
     code(on_pass!(handle, alloc, pass => pass.gain(caller, PageId(page), Gain::MapWhole)))
 }
@@ -170,8 +156,7 @@ pub extern "C" fn thp_c_pass_map_sub(
     first: u32,
     count: u32,
 ) -> u32
-    ensures does { Does (value_of handle.old.held) (value_of handle.new.held) (answer_of result) (PassOne caller (call.map_sub page first count) (What.MapSub page first count)) }
-    ensures known { IsCode result }
+    ensures { Reports result (Does (value_of handle.old.held) (value_of handle.new.held) (PassOne caller (call.map_sub page first count) (What.MapSub page first count))) }
 {
     let gain = Gain::MapSub { first, count };
     code(on_pass!(handle, alloc, pass => pass.gain(caller, PageId(page), gain)))
@@ -185,8 +170,7 @@ pub extern "C" fn thp_c_pass_split_pmd(
     caller: u32,
     page: u64,
 ) -> u32
-    ensures does { Does (value_of handle.old.held) (value_of handle.new.held) (answer_of result) (PassOne caller (call.split_pmd page) (What.SplitPmd page)) }
-    ensures known { IsCode result }
+    ensures { Reports result (Does (value_of handle.old.held) (value_of handle.new.held) (PassOne caller (call.split_pmd page) (What.SplitPmd page))) }
 {
     code(on_pass!(handle, alloc, pass => pass.gain(caller, PageId(page), Gain::SplitPmd)))
 }
@@ -194,8 +178,7 @@ pub extern "C" fn thp_c_pass_split_pmd(
 /// Adds a pin to the page.
 #[unsafe(no_mangle)]
 pub extern "C" fn thp_c_pass_pin(handle: &mut ThpPass, alloc: Global, caller: u32, page: u64) -> u32
-    ensures does { Does (value_of handle.old.held) (value_of handle.new.held) (answer_of result) (PassOne caller (call.pin page) (What.Pin page)) }
-    ensures known { IsCode result }
+    ensures { Reports result (Does (value_of handle.old.held) (value_of handle.new.held) (PassOne caller (call.pin page) (What.Pin page))) }
 {
     code(on_pass!(handle, alloc, pass => pass.gain(caller, PageId(page), Gain::Pin)))
 }
@@ -210,8 +193,7 @@ pub extern "C" fn thp_c_pass_write(
     first: u32,
     count: u32,
 ) -> u32
-    ensures does { Does (value_of handle.old.held) (value_of handle.new.held) (answer_of result) (PassOne caller (call.write page first count) (What.Write page first count)) }
-    ensures known { IsCode result }
+    ensures { Reports result (Does (value_of handle.old.held) (value_of handle.new.held) (PassOne caller (call.write page first count) (What.Write page first count))) }
 {
     let gain = Gain::Write { first, count };
     code(on_pass!(handle, alloc, pass => pass.gain(caller, PageId(page), gain)))
@@ -227,8 +209,7 @@ pub extern "C" fn thp_c_pass_zero(
     first: u32,
     count: u32,
 ) -> u32
-    ensures does { Does (value_of handle.old.held) (value_of handle.new.held) (answer_of result) (PassOne caller (call.zero_fill page first count) (What.Zero page first count)) }
-    ensures known { IsCode result }
+    ensures { Reports result (Does (value_of handle.old.held) (value_of handle.new.held) (PassOne caller (call.zero_fill page first count) (What.Zero page first count))) }
 {
     let gain = Gain::Zero { first, count };
     code(on_pass!(handle, alloc, pass => pass.gain(caller, PageId(page), gain)))
@@ -243,9 +224,7 @@ pub extern "C" fn thp_c_pass_unmap_whole(
     page: u64,
     done: &mut ThpDone,
 ) -> u32
-    ensures does { Does (value_of handle.old.held) (value_of handle.new.held) (answer_of result) (λ old new answer. PassLost caller (call.unmap_whole page) page (λ o released. What.UnmapWhole o page released) old new (answer_with answer done.new)) }
-    ensures known { IsCode result }
-    ensures kept { OnErr (answer_of result) (done.new ≡ done.old) }
+    ensures { Reports result (Returns (value_of handle.old.held) (value_of handle.new.held) done.old done.new (PassLost caller (call.unmap_whole page) page (λ o released. What.UnmapWhole o page released))) }
 {
     on_pass!(handle, alloc, pass => pass.lose(caller, PageId(page), Loss::UnmapWhole), done)
 }
@@ -261,9 +240,7 @@ pub extern "C" fn thp_c_pass_unmap_sub(
     count: u32,
     done: &mut ThpDone,
 ) -> u32
-    ensures does { Does (value_of handle.old.held) (value_of handle.new.held) (answer_of result) (λ old new answer. PassLost caller (call.unmap_sub page first count) page (λ o released. What.UnmapSub o page first count released) old new (answer_with answer done.new)) }
-    ensures known { IsCode result }
-    ensures kept { OnErr (answer_of result) (done.new ≡ done.old) }
+    ensures { Reports result (Returns (value_of handle.old.held) (value_of handle.new.held) done.old done.new (PassLost caller (call.unmap_sub page first count) page (λ o released. What.UnmapSub o page first count released))) }
 {
     let loss = Loss::UnmapSub { first, count };
     on_pass!(handle, alloc, pass => pass.lose(caller, PageId(page), loss), done)
@@ -278,9 +255,7 @@ pub extern "C" fn thp_c_pass_unpin(
     page: u64,
     done: &mut ThpDone,
 ) -> u32
-    ensures does { Does (value_of handle.old.held) (value_of handle.new.held) (answer_of result) (λ old new answer. PassLost caller (call.unpin page) page (λ o released. What.Unpin o page released) old new (answer_with answer done.new)) }
-    ensures known { IsCode result }
-    ensures kept { OnErr (answer_of result) (done.new ≡ done.old) }
+    ensures { Reports result (Returns (value_of handle.old.held) (value_of handle.new.held) done.old done.new (PassLost caller (call.unpin page) page (λ o released. What.Unpin o page released))) }
 {
     on_pass!(handle, alloc, pass => pass.lose(caller, PageId(page), Loss::Unpin), done)
 }

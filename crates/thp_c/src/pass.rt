@@ -1,11 +1,12 @@
 //! The calls of a shared node: of its cell, and of passes of the cell.
 ghost use Rattle.std.specs.Prelude.{◌≡◌, None, OnOk, OnErr, IfErr, Ok};
 ghost use Rattle.thp_history.specs.Refusals as call;
-ghost use Rattle.thp_capi.specs.Prelude.{CellMade, Divided, Does, Emptied, Finished, IsCode, Joined, OneCellHeld, PassAlloc, PassCount, PassOne, PassScan, WhyApart, WhyUndivided, WhyUnfinished, answer_of, answer_with, shape_of, value_of};
+ghost use Rattle.thp_capi.specs.Prelude.{CellMade, Divided, Does, Emptied, Finished, IsCode, Joined, OneCellHeld, PassAbandon, PassAlloc, PassBack, PassCount, PassNext, PassOne, PassScan, PassTake, Reports, Returns, WhyApart, WhyUndivided, WhyUnfinished, answer_of, shape_of, value_of};
 
 use std::alloc::Global;
 use thp_capi::{
-    Fault, HeldPass, Room, ScanReply, ThpNode, ThpPass, code, on_pass, shape, spare_engine,
+    BackReply, Fault, HeldEngine, HeldPass, Room, ScanReply, ThpNode, ThpPass, ThpTried, attempt,
+    code, on_pass, shape,
 };
 use thp_history::{Refusal, What};
 
@@ -22,33 +23,25 @@ pub extern "C" fn thp_c_cell_create(
     mark: u64,
     counting: bool,
 ) -> u32
-    ensures does { CellMade (value_of handle.old.held) (value_of handle.new.held) (shape_of blocks order underused) callers mark counting (answer_of result) }
-    ensures known { IsCode result }
+    ensures { Reports result (CellMade (value_of handle.old.held) (value_of handle.new.held) (shape_of blocks order underused) callers mark counting) }
 {
-    if let Some((room, pass)) = handle.take(alloc) {
+    if let Ok((room, pass)) = handle.take(alloc) {
         handle.put(room, pass);
         return code(Err(Fault::InUse));
     }
-    let Some(room) = Room::new(alloc) else {
-        return code(Err(Fault::Refused(Refusal::OutOfMemory)));
-    };
+    let room = attempt!(Room::new(alloc));
     let shape = shape(blocks, order, underused);
-    match HeldPass::new(alloc, shape, callers, mark, counting) {
-        Ok(pass) => {
-            handle.put(room, pass);
-            code(Ok(()))
-        }
-        Err(fault) => code(Err(fault)),
-    }
+    let pass = attempt!(HeldPass::new(alloc, shape, callers, mark, counting));
+    handle.put(room, pass);
+    code(Ok(()))
 }
 
 /// Frees the pass that the handle refers to, and empties the handle. The last pass frees the cell too.
 #[unsafe(no_mangle)]
 pub extern "C" fn thp_c_pass_destroy(handle: &mut ThpPass, alloc: Global) -> u32
-    ensures does { Emptied (value_of handle.old.held) (value_of handle.new.held) (answer_of result) }
-    ensures known { IsCode result }
+    ensures { Reports result (Emptied (value_of handle.old.held) (value_of handle.new.held)) }
 {
-    code(handle.take(alloc).map(drop).ok_or(Fault::Empty))
+    code(handle.take(alloc).map(drop))
 }
 
 /// Divides the callers of a pass: those below `at` stay, and the other handle is filled with a pass of those from `at` on.
@@ -65,14 +58,12 @@ pub extern "C" fn thp_c_pass_split(
     ensures why { IfErr (answer_of result) (WhyUndivided at (value_of handle.old.held) (value_of other.old.held)) }
     ensures known { IsCode result }
 {
-    if let Some((room, pass)) = other.take(alloc) {
+    if let Ok((room, pass)) = other.take(alloc) {
         other.put(room, pass);
         return code(Err(Fault::InUse));
     }
-    let Some((room, pass)) = handle.take(alloc) else {
-        return code(Err(Fault::Empty));
-    };
-    let Some(other_room) = Room::new(alloc) else {
+    let (room, pass) = attempt!(handle.take(alloc));
+    let Ok(other_room) = Room::new(alloc) else {
         handle.put(room, pass);
         return code(Err(Fault::Refused(Refusal::OutOfMemory)));
     };
@@ -101,10 +92,8 @@ pub extern "C" fn thp_c_pass_join(handle: &mut ThpPass, alloc: Global, other: &m
     ensures why { IfErr (answer_of result) (WhyApart (value_of handle.old.held) (value_of other.old.held)) }
     ensures known { IsCode result }
 {
-    let Some((room, left)) = handle.take(alloc) else {
-        return code(Err(Fault::Empty));
-    };
-    let Some((other_room, right)) = other.take(alloc) else {
+    let (room, left) = attempt!(handle.take(alloc));
+    let Ok((other_room, right)) = other.take(alloc) else {
         handle.put(room, left);
         return code(Err(Fault::Empty));
     };
@@ -132,14 +121,14 @@ pub extern "C" fn thp_c_cell_finish(handle: &mut ThpPass, alloc: Global, node: &
     ensures why { IfErr (answer_of result) (WhyUnfinished (value_of handle.old.held) node.old.held) }
     ensures known { IsCode result }
 {
-    if let Some(engine) = node.take(alloc) {
+    if let Ok(engine) = node.take(alloc) {
         node.store(engine);
         return code(Err(Fault::InUse));
     }
-    let Some((room, pass)) = handle.take(alloc) else {
-        return code(Err(Fault::Empty));
-    };
-    let Some(mut engine) = spare_engine(alloc, pass.is_counting()) else {
+    let (room, pass) = attempt!(handle.take(alloc));
+    // allocated before the cell ends, so that nothing is lost without memory
+    let spare = HeldEngine::new(alloc, shape(1, 2, u32::MAX), pass.is_counting());
+    let Ok(mut engine) = spare else {
         handle.put(room, pass);
         return code(Err(Fault::Refused(Refusal::OutOfMemory)));
     };
@@ -163,9 +152,7 @@ pub extern "C" fn thp_c_pass_alloc(
     caller: u32,
     page: &mut u64,
 ) -> u32
-    ensures does { Does (value_of handle.old.held) (value_of handle.new.held) (answer_of result) (λ old new answer. PassAlloc caller old new (answer_with answer page.new)) }
-    ensures known { IsCode result }
-    ensures kept { OnErr (answer_of result) (page.new ≡ page.old) }
+    ensures { Reports result (Returns (value_of handle.old.held) (value_of handle.new.held) page.old page.new (PassAlloc caller)) }
 {
     on_pass!(handle, alloc, pass => pass.alloc_page(caller), page)
 }
@@ -173,8 +160,7 @@ pub extern "C" fn thp_c_pass_alloc(
 /// Closes the node: no page is queued or allocated afterwards.
 #[unsafe(no_mangle)]
 pub extern "C" fn thp_c_pass_close(handle: &mut ThpPass, alloc: Global, caller: u32) -> u32
-    ensures does { Does (value_of handle.old.held) (value_of handle.new.held) (answer_of result) (PassOne caller call.close What.Close) }
-    ensures known { IsCode result }
+    ensures { Reports result (Does (value_of handle.old.held) (value_of handle.new.held) (PassOne caller call.close What.Close)) }
 {
     code(on_pass!(handle, alloc, pass => pass.close(caller)))
 }
@@ -188,9 +174,7 @@ pub extern "C" fn thp_c_pass_scan(
     n: u32,
     scan: &mut ScanReply,
 ) -> u32
-    ensures does { Does (value_of handle.old.held) (value_of handle.new.held) (answer_of result) (λ old new answer. PassScan caller n old new (answer_with answer scan.new)) }
-    ensures known { IsCode result }
-    ensures kept { OnErr (answer_of result) (scan.new ≡ scan.old) }
+    ensures { Reports result (Returns (value_of handle.old.held) (value_of handle.new.held) scan.old scan.new (PassScan caller n)) }
 {
     on_pass!(handle, alloc, pass => pass.scan(caller, n), scan)
 }
@@ -198,8 +182,7 @@ pub extern "C" fn thp_c_pass_scan(
 /// Stores in `pages` the number of queued pages, even while another pass has the node.
 #[unsafe(no_mangle)]
 pub extern "C" fn thp_c_pass_count(handle: &mut ThpPass, alloc: Global, pages: &mut u32) -> u32
-    ensures does { Does (value_of handle.old.held) (value_of handle.new.held) (answer_of result) (λ old new answer. (answer ≡ Ok tt) × PassCount pages.new old new) }
-    ensures known { IsCode result }
+    ensures does { Reports result (Does (value_of handle.old.held) (value_of handle.new.held) (λ old new answer. (answer ≡ Ok tt) × PassCount pages.new old new)) }
     ensures kept { OnErr (answer_of result) (pages.new ≡ pages.old) }
 {
     *pages = on_pass!(handle, alloc, pass => pass.count());
@@ -214,8 +197,7 @@ pub extern "C" fn thp_c_pass_callers(
     first: &mut u32,
     end: &mut u32,
 ) -> u32
-    ensures does { Does (value_of handle.old.held) (value_of handle.new.held) (answer_of result) (λ old new answer. (new ≡ old) × (answer ≡ Ok tt) × (first.new ≡ old.pass.first) × (end.new ≡ old.pass.end)) }
-    ensures known { IsCode result }
+    ensures does { Reports result (Does (value_of handle.old.held) (value_of handle.new.held) (λ old new answer. (new ≡ old) × (answer ≡ Ok tt) × (first.new ≡ old.pass.first) × (end.new ≡ old.pass.end))) }
     ensures kept_first { OnErr (answer_of result) (first.new ≡ first.old) }
     ensures kept_end { OnErr (answer_of result) (end.new ≡ end.old) }
 {
@@ -223,4 +205,53 @@ pub extern "C" fn thp_c_pass_callers(
     *first = from;
     *end = to;
     code(Ok(()))
+}
+
+/// Takes up to `n` of the oldest queued pages, in order, into the caller's batch, which is open afterwards. `count` is the number
+/// of pages taken.
+#[unsafe(no_mangle)]
+pub extern "C" fn thp_c_pass_take(
+    handle: &mut ThpPass,
+    alloc: Global,
+    caller: u32,
+    n: u32,
+    count: &mut u32,
+) -> u32
+    ensures { Reports result (Returns (value_of handle.old.held) (value_of handle.new.held) count.old count.new (PassTake caller n)) }
+{
+    on_pass!(handle, alloc, pass => pass.take(caller, n), count)
+}
+
+/// Tries the next page of the caller's open batch.
+#[unsafe(no_mangle)]
+pub extern "C" fn thp_c_pass_split_next(
+    handle: &mut ThpPass,
+    alloc: Global,
+    caller: u32,
+    tried: &mut ThpTried,
+) -> u32
+    ensures { Reports result (Returns (value_of handle.old.held) (value_of handle.new.held) tried.old tried.new (PassNext caller)) }
+{
+    on_pass!(handle, alloc, pass => pass.split_next(caller), tried)
+}
+
+/// Returns the remaining pages of the caller's open batch, and closes the batch.
+#[unsafe(no_mangle)]
+pub extern "C" fn thp_c_pass_put_back(
+    handle: &mut ThpPass,
+    alloc: Global,
+    caller: u32,
+    back: &mut BackReply,
+) -> u32
+    ensures { Reports result (Returns (value_of handle.old.held) (value_of handle.new.held) back.old back.new (PassBack caller)) }
+{
+    on_pass!(handle, alloc, pass => pass.put_back(caller), back)
+}
+
+/// Discards the caller's open batch: its pages stay in the caller's flight, out of the queue.
+#[unsafe(no_mangle)]
+pub extern "C" fn thp_c_pass_abandon(handle: &mut ThpPass, alloc: Global, caller: u32) -> u32
+    ensures { Reports result (Does (value_of handle.old.held) (value_of handle.new.held) (PassAbandon caller)) }
+{
+    code(on_pass!(handle, alloc, pass => pass.abandon(caller)))
 }

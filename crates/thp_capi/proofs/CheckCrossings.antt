@@ -25,9 +25,9 @@ use Rattle.thp_check.specs.contracts.replay.Replay.TheInside as in_replay
 use Rattle.thp_journal_reader.specs.contracts.line.Line as Line
 use Rattle.thp_journal_reader.specs.contracts.follower.Follower as Follower
 use Rattle.thp_journal_reader.specs.contracts.follower.FollowedNodes as FollowedNodes
-use Rattle.thp_journal_reader.proofs.illegal.Illegal.TheSendSync as illegal
+use Rattle.thp_journal_reader.proofs.long_check.Illegal.TheSendSync as illegal
 use Rattle.thp_script.proofs.fault.TextFault.TheSendSync as fault
-use Rattle.thp_journal_reader.proofs.place.Place.TheSendSync as place
+use Rattle.thp_journal_reader.proofs.line.Place.TheSendSync as place
 use Rattle.thp_journal_reader.specs.contracts.text_reader.TextReader as TextReader
 use Rattle.thp_journal_reader.specs.contracts.long_check.LongCheck as LongCheck
 use Rattle.thp_journal_reader.specs.contracts.long_check.LongCheck.TheInside as in_check
@@ -35,7 +35,7 @@ use Rattle.thp_script.specs.contracts.text_in_parts.TextInParts as TextInParts
 use Rattle.thp_script.specs.contracts.text_in_parts.TextInParts.TheInside as in_text
 use Rattle.thp_capi.specs.Rows.{check_row}
 use Rattle.thp_capi.specs.contracts.check_handle.ThpCheck.{the_row, the_type}
-use Rattle.thp_capi.specs.contracts.check_stage.CheckStage as CheckStage
+use Rattle.thp_capi.specs.contracts.checks.CheckStage as CheckStage
 use Rattle.thp_cell.proofs.Crossings.{places_send}
 use Rattle.thp_capi.proofs.Crossings.{boxed_send, trace_send, room_send, words_send}
 

@@ -6,6 +6,7 @@ use Rattle.atomic_table.specs.Seated.{TableId}
 use Rattle.thp_node.specs.Prelude.{BatchState, IsInFront, rest}
 use Rattle.thp_history.specs.Prelude.{put_back_events, split_next_events}
 use Rattle.thp_cell.specs.Prelude.{at_front, BatchesStay, OtherBatchesStay, Called, Failed, IsJoined, below, from, DidPutBack, DidTry, PassState, HasCaller}
+use Rattle.thp_history.specs.declared.refusal.Refusal.{Refusal}
 use Rattle.thp_cell.specs.declared.fault.CellFault.{CellFault}
 use Rattle.thp_capi.specs.Codes.{fault_in}
 use Rattle.thp_capi.specs.PassBatches.{PassNext, PassBack, PassFailsOnBatch}
@@ -23,6 +24,10 @@ own_at t n m p bs shared k b within is = record { from = omega (arith, is); belo
 
 pub shared_stays : (t : TableId) (n m : ℕ) (p q : PassState) (bs : Batches) → IsShared t n m p bs → q ≡ at_front p q.front → BatchesStay p q → IsShared t n m q bs
 shared_stays t n m p q bs shared same stay = grind (arith, own_at)
+
+-- nor does a call that failed move one
+pub shared_failed : (t : TableId) (n m : ℕ) (p q : PassState) (bs : Batches) (why : Option Refusal) (k : ℕ) (f : CellFault) → IsShared t n m p bs → Failed p q why k f → IsShared t n m q bs
+shared_failed t n m p q bs why k x shared fails = grind (arith, shared_stays)
 
 -- batches that stay in front do so whoever's they are
 pub others_stay : (p q : PassState) (c : ℕ) → BatchesStay p q → OtherBatchesStay c p q
@@ -50,10 +55,6 @@ module _ (t : TableId) (n m room : ℕ) (p q : PassState) (bs new : Batches) (c 
   -- after the batch was closed
   pub shared_closed : BatchesStay p q → new ≡ set bs place None → IsShared t n room q new
   shared_closed stay now = rw (now, kept) (shared_set t n m p q bs c place None shared same (others_stay p q c stay) at lt (for_none q.front c))
-
-  -- after it was taken out and one was put there
-  pub shared_again : (mid : Batches) (b : BatchState) → BatchesStay p q → b.caller ≡ c → IsInFront q.front b → mid ≡ set bs place None → new ≡ set mid place (Some b) → IsShared t n room q new
-  shared_again mid b stay own front out now = shared_took b (others_stay p q c stay) own front (now ∙ ap (λ xs. set xs place (Some b)) out ∙ set-set bs place None (Some b))
 
 -- where the caller's batch is found
 pub found_at : (mark c place : ℕ) (p : PassState) (bs : Batches) → place + p.first ≡ c → batch_of (record { mark = mark; pass = p; batches = bs }) c ≡ get_or bs place None
@@ -87,17 +88,9 @@ module _ (mark : ℕ) (p q : PassState) (bs new : Batches) (c place : ℕ) (same
       → PassNext c (record { mark = mark; pass = p; batches = bs }) (record { mark = mark; pass = q; batches = new }) (Ok t)
   next_done b b' t kind is own now caller pages did = (only_of (Some b') now, rw (held b is, here (Some b') now) (record { caller_is = caller; pages = pages; kind = kind; did = subst (λ d. Called p q d (DidTry p.shape b b' (tried_of t))) own did }), tt)
 
-  pub next_failed : (b b' : BatchState) (f : CellFault) → get_or bs place None ≡ Some b → b.caller ≡ c → new ≡ set bs place (Some b') → b' ≡ b → Failed p q None (length (split_next_events q.shape q.front b.caller (rest b))) f
-      → PassNext c (record { mark = mark; pass = p; batches = bs }) (record { mark = mark; pass = q; batches = new }) (Err (fault_in f))
-  next_failed b b' f is own now stays fails = grind (arith, same_again, only_of, failed)
-
   pub back_done : (b : BatchState) (r : BackReply) → get_or bs place None ≡ Some b → b.caller ≡ c → new ≡ set bs place None → Called p q b.caller (DidPutBack p.shape b r)
       → PassBack c (record { mark = mark; pass = p; batches = bs }) (record { mark = mark; pass = q; batches = new }) (Ok r)
   back_done b r is own now did = (only_of None now, rw (held b is) refl, here None now, rw (held b is) (subst (λ d. Called p q d (DidPutBack p.shape b r)) own did), tt)
-
-  pub back_failed : (b b' : BatchState) (f : CellFault) → get_or bs place None ≡ Some b → b.caller ≡ c → new ≡ set bs place (Some b') → b' ≡ b → Failed p q None (length (put_back_events q.shape q.front b.caller b.pages)) f
-      → PassBack c (record { mark = mark; pass = p; batches = bs }) (record { mark = mark; pass = q; batches = new }) (Err (fault_in f))
-  back_failed b b' f is own now stays fails = grind (arith, same_again, only_of, failed)
 
 -- ---- parts, and passes of both
 

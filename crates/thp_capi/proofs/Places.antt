@@ -72,8 +72,3 @@ module _ (n m : NodeState) (bs : Batches) (engine : IsEngine (record { node = n;
   -- the open batch of caller c is its own, and in front of its flight
   pub own_front : (c : ℕ) (b : BatchState) → c < length bs → get_or bs c None ≡ Some b → (b.caller ≡ c) × IsInFront n.journal b
   own_front c b lt is = let was = engine.each c b lt is in (omega (arith, was.0), was.1)
-
--- a put-back that was refused left all as it was
-pub back_refused : (n m : NodeState) (bs new : Batches) (c : ℕ) (b b' : BatchState) (r : Refusal) → get_or bs c None ≡ Some b → b.caller ≡ c → new ≡ set bs c (Some b') → b' ≡ b → Refused n m None (length (put_back_events n.shape n.journal b.caller b.pages)) r
-    → BackFails c (record { node = n; batches = bs }) (record { node = m; batches = new }) (RefusedWith r)
-back_refused n m bs new c b b' r is own now stays refused = grind (arith, same_again)

@@ -11,7 +11,7 @@ use Rattle.thp_live_pages.specs.Prelude.{Fills, HasBlock, block_of, standing_of,
 use Rattle.thp_live_pages.proofs.Standings.{standing_queued}
 use Rattle.thp_node.specs.Prelude.{StandsWhole, NodeState}
 use Rattle.thp_capi.specs.Reading.{flight_caller, list_number, page_state_of}
-use Rattle.thp_capi.specs.declared.page_state.ThpPageState.{ThpPageState}
+use Rattle.thp_capi.specs.declared.replies.ThpPageState.{ThpPageState}
 use Rattle.thp_capi.proofs.QueueOrder.{has-append}
 
 -- page p is live, and what the table has of it in block b is what the journal determines

@@ -23,7 +23,7 @@ use Rattle.std.proofs.alloc.Calls.{Al, handle_tells}
 use Rattle.std.proofs.cell.Inside.{Good}
 use Rattle.std_alloc.specs.Box.Ownership.{box_owns}
 use Rattle.std_alloc.proofs.ResultValues.{and_tt}
-use Rattle.thp_capi.specs.contracts.raw_box.RawBox as loose
+use Rattle.thp_capi.specs.contracts.handle.RawBox as loose
 
 abbrev pub both : Val → Val → Val
 both v w = vstruct (vcons v (vcons w vnil))

@@ -54,7 +54,7 @@ nth [] n = Err Empty
 nth (a ∷ more) zero = a
 nth (a ∷ more) (suc n) = nth more n
 
--- the result of this number. Each call also guarantees that its number is that of a result.
+-- the result of this number
 abbrev pub answer_of : ℕ → Answer
 answer_of code = if nat_le 30 code then nth later_answers (code - 30) else nth answers code
 
@@ -66,3 +66,7 @@ IsCode code = (code < length answers) ⊎ ((30 ≤ code) × (code < 30 + length 
 abbrev pub answer_with : {A : Type 0} → Answer → A → Result A Fault
 answer_with (Ok u) a = Ok a
 answer_with (Err f) a = Err f
+
+-- the number is that of a result, and P holds of the result
+abbrev pub Reports : ℕ → (Answer → Type 0) → Type 0
+Reports code P = IsCode code × P (answer_of code)

@@ -1,11 +1,12 @@
 -- What the handle of a node or of a pass holds, and the effect of the calls on it.
-use Rattle.std.specs.Prelude.{◌≡◌, ◌⊎◌, Bool, true, false, [], Option, None, Some, Ok, Err}
+use Rattle.std.specs.Prelude.{◌≡◌, ◌⊎◌, Bool, true, false, [], Option, None, Some, Result, Ok, Err, OnErr}
 use Rattle.thp_history.specs.declared.refusal.Refusal.TheVariants.{OutOfMemory}
 use Rattle.thp_history.specs.declared.shape.Shape.{Shape}
 use Rattle.thp_history.specs.Prelude.{IsShape}
-use Rattle.thp_capi.specs.Codes.{Answer}
+use Rattle.thp_capi.specs.Codes.{Answer, answer_with}
 use Rattle.thp_capi.specs.Engines.{EngineState, NoneOpen}
 use Rattle.thp_capi.specs.Sharing.{SharedState}
+use Rattle.thp_capi.specs.declared.codes.Fault.{Fault}
 use Rattle.thp_capi.specs.declared.codes.Fault.TheVariants.{Refused, BadSize, Empty, InUse}
 use Rattle.thp_capi.specs.declared.held.Held.{Held}
 use Rattle.thp_capi.specs.declared.held.Held.TheVariants.{Kept, Counted}
@@ -28,16 +29,20 @@ is_counting (Kept x) = false
 is_counting (Counted x) = true
 
 -- a query that only a node answers which stores its events: P is what it does there, and Q what it does elsewhere
-abbrev pub DoesIfKept : {X : Type 0} → Option (Held X X) → Option (Held X X) → Answer → (X → X → Answer → Type 0) → (X → X → Answer → Type 0) → Type 0
-DoesIfKept None None answer P Q = answer ≡ Err Empty
-DoesIfKept (Some (Kept old)) (Some (Kept new)) answer P Q = P old new answer
-DoesIfKept (Some (Counted old)) (Some (Counted new)) answer P Q = Q old new answer
-DoesIfKept _ _ answer P Q = ⊥
+abbrev pub DoesIfKept : {X : Type 0} → Option (Held X X) → Option (Held X X) → (X → X → Answer → Type 0) → (X → X → Answer → Type 0) → Answer → Type 0
+DoesIfKept None None P Q answer = answer ≡ Err Empty
+DoesIfKept (Some (Kept old)) (Some (Kept new)) P Q answer = P old new answer
+DoesIfKept (Some (Counted old)) (Some (Counted new)) P Q answer = Q old new answer
+DoesIfKept _ _ P Q answer = ⊥
 
 -- a call on a handle that is not empty has the effect P, and what becomes of the node's events stays; on an empty handle it reports
 -- that
-abbrev pub Does : {X : Type 0} → Option (Held X X) → Option (Held X X) → Answer → (X → X → Answer → Type 0) → Type 0
-Does old new answer P = DoesIfKept old new answer P P
+abbrev pub Does : {X : Type 0} → Option (Held X X) → Option (Held X X) → (X → X → Answer → Type 0) → Answer → Type 0
+Does old new P answer = DoesIfKept old new P P answer
+
+-- the same for a call that returns a value, which is stored in place of `before`; an error stores nothing
+abbrev pub Returns : {X A : Type 0} → Option (Held X X) → Option (Held X X) → A → A → (X → X → Result A Fault → Type 0) → Answer → Type 0
+Returns old new before after P answer = Does old new (λ old new answer. P old new (answer_with answer after)) answer × OnErr answer (after ≡ before)
 
 -- a handle was filled with a value of which P holds; or the reason why it stays empty; or it was not empty
 abbrev pub Filled : {X : Type 0} → Option X → Option X → (X → Type 0) → Type 0 → Answer → Type 0

@@ -1,7 +1,7 @@
 -- The view that contracts have of the check of a handle: the text read so far, or the verdict on it.
 use Rattle.std.specs.Prelude.{◌≡◌, ◌++◌, ℕ, List, [], Option, Some, None, Result, Ok, Err, ⊤}
 use Rattle.thp_check.specs.Prelude.{explanation}
-use Rattle.thp_journal_reader.specs.declared.illegal.Illegal.{Illegal}
+use Rattle.thp_journal_reader.specs.declared.long_check.Illegal.{Illegal}
 use Rattle.thp_script.specs.declared.fault.TextFault.{TextFault}
 use Rattle.thp_journal_reader.specs.declared.journals.Journals.{Journals}
 use Rattle.thp_journal_reader.specs.Prelude.{ReportsFirst, journals_within, ReadSoFar, told_with}
@@ -10,8 +10,8 @@ use Rattle.thp_script.specs.Prelude.{max_counted, Text}
 use Rattle.thp_capi.specs.Calls.{Written}
 use Rattle.thp_capi.specs.Checks.{text_code}
 use Rattle.thp_capi.specs.Codes.{Answer}
-use Rattle.thp_capi.specs.declared.check_stage.CheckStage.{CheckStage}
-use Rattle.thp_capi.specs.declared.check_stage.CheckStage.TheVariants.{Reading, Judged}
+use Rattle.thp_capi.specs.declared.checks.CheckStage.{CheckStage}
+use Rattle.thp_capi.specs.declared.checks.CheckStage.TheVariants.{Reading, Judged}
 use Rattle.thp_capi.specs.declared.codes.Fault.{Fault}
 use Rattle.thp_capi.specs.declared.codes.Fault.TheVariants.{Refused, Empty, InUse, Finished, NoReason}
 

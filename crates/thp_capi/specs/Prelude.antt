@@ -1,9 +1,9 @@
 -- Re-exports the definitions of this library: other files import those that they cite from here, in one line.
 pub use Rattle.thp_capi.specs.Calls.{AbandonCall, AllocCall, BackCall, BackFails, BackRecords, BackReplies, LoseCall, NextCall, OneCall, ReserveCall, ScanCall, TakeCall, Written}
 pub use Rattle.thp_capi.specs.Checks.{CheckAnswer, ReportsText, numbers_of}
-pub use Rattle.thp_capi.specs.Codes.{IsCode, answer_of, answer_with}
+pub use Rattle.thp_capi.specs.Codes.{IsCode, Reports, answer_of, answer_with}
 pub use Rattle.thp_capi.specs.Engines.{EngineState, IsEngine, NoneOpen, OthersOpen, open_of, shape_of}
-pub use Rattle.thp_capi.specs.Held.{Does, DoesIfKept, Emptied, Made, held_value, is_counting}
+pub use Rattle.thp_capi.specs.Held.{Does, DoesIfKept, Emptied, Made, Returns, held_value, is_counting}
 pub use Rattle.thp_capi.specs.Joining.{joins}
 pub use Rattle.thp_capi.specs.LongChecks.{CheckEnds, CheckMade, CheckReads, CheckTells}
 pub use Rattle.thp_capi.specs.PassBatches.{PassAbandon, PassBack, PassNext, PassTake}

@@ -11,7 +11,7 @@ use Rattle.thp_capi.specs.Codes.{Answer}
 use Rattle.thp_capi.specs.Engines.{EngineState}
 use Rattle.thp_capi.specs.declared.codes.Fault.{Fault}
 use Rattle.thp_capi.specs.declared.codes.Fault.TheVariants.{Refused as RefusedWith}
-use Rattle.thp_capi.specs.declared.page_state.ThpPageState.{ThpPageState}
+use Rattle.thp_capi.specs.declared.replies.ThpPageState.{ThpPageState}
 
 -- the number of the list that a page is on
 abbrev pub list_number : Standing → ℕ

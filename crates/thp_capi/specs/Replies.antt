@@ -7,7 +7,7 @@ use Rattle.thp_node.specs.declared.answers.Tried.{Tried}
 use Rattle.thp_node.specs.declared.answers.Tried.TheVariants as try
 use Rattle.thp_node.specs.Prelude.{NodeState}
 use Rattle.thp_capi.specs.declared.replies.ThpTried.{ThpTried}
-use Rattle.thp_capi.specs.declared.stats.ThpStats.{ThpStats}
+use Rattle.thp_capi.specs.declared.replies.ThpStats.{ThpStats}
 
 abbrev pub outcome_number : Outcome → ℕ
 outcome_number Stays = 0

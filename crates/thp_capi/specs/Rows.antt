@@ -4,7 +4,7 @@ use Rattle.thp_node.specs.contracts.recorder.FullLog as kept
 use Rattle.thp_node.specs.contracts.recorder.FullLogRecorder.TheImpl as keeps
 use Rattle.thp_node.specs.contracts.recorder.CountOnly as counted
 use Rattle.thp_node.specs.contracts.recorder.CountOnlyRecorder.TheImpl as counts
-use Rattle.thp_capi.specs.contracts.check_stage.CheckStage as stage
+use Rattle.thp_capi.specs.contracts.checks.CheckStage as stage
 use Rattle.thp_capi.specs.contracts.engine.Engine as engine
 use Rattle.thp_capi.specs.contracts.held.Held as held
 use Rattle.thp_capi.specs.contracts.room.Room as room

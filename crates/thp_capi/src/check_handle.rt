@@ -1,10 +1,11 @@
 //! The handle of a check, as a C program holds it.
-ghost use Rattle.std.specs.Prelude.{◌≡◌, Option, None, Some, IfSome, IfNone};
+ghost use Rattle.std.specs.Prelude.{◌≡◌, Option, None, Some, IfErr, IfOk};
 ghost use Rattle.thp_capi.specs.Rooms.{value_of};
-ghost use Rattle.thp_capi.specs.declared.check_stage.CheckStage.{CheckStage};
+ghost use Rattle.thp_capi.specs.declared.checks.CheckStage.{CheckStage};
 ghost use Rattle.thp_capi.specs.declared.room.Room.{Room};
 
-use crate::check_stage::CheckStage;
+use crate::checks::CheckStage;
+use crate::codes::Fault;
 use crate::handle::Handle;
 use crate::room::Room;
 use std::alloc::Global;
@@ -44,9 +45,9 @@ impl ThpCheck {
     }
 
     /// Removes the check and its room from the handle, if it has one.
-    pub fn take(&mut self, alloc: Global) -> Option<(Box<Room<CheckStage>>, CheckStage)>
-        ensures none { IfNone result (value_of self.old.held ≡ None) }
-        ensures some { IfSome result (λ taken. value_of self.old.held ≡ Some taken.1) }
+    pub fn take(&mut self, alloc: Global) -> Result<(Box<Room<CheckStage>>, CheckStage), Fault>
+        ensures none { IfErr result (λ fault. (fault ≡ Fault.Empty) × (value_of self.old.held ≡ None)) }
+        ensures some { IfOk result (λ taken. value_of self.old.held ≡ Some taken.1) }
         ensures empty { value_of self.new.held ≡ None }
     {
         Room::take(self.exchange(Handle::empty()), alloc)

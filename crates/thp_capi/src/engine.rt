@@ -1,22 +1,35 @@
 //! The engine that a node's handle owns: a node, and the open batches of its callers.
-ghost use Rattle.std.specs.Prelude.{◌≡◌, ◌<◌, ◌≤◌, None, IsSome, IfOk, IfErr, OnOk, length, [], ◌∷◌, ◌⊎◌, ◌↔◌, Err};
-ghost use Rattle.thp_history.specs.Prelude.{gain_call, gain_what, loss_call, loss_what, max_callers, queue, IsShape};
+ghost use Rattle.std.specs.Prelude.{◌≡◌, ◌<◌, ◌≤◌, None, IsSome, IfOk, IfErr, OnOk, length, true, false, [], ◌∷◌, ◌⊎◌, ◌↔◌, Err};
+ghost use Rattle.thp_history.specs.Prelude.{gain_call, gain_what, is_live, loss_call, loss_what, max_callers, own, queue, subpages, IsShape};
 ghost use Rattle.thp_history.specs.Refusals as call;
-ghost use Rattle.thp_capi.specs.Prelude.{AbandonCall, AllocCall, BackFails, BackRecords, BackReplies, EngineState, IsEngine, LoseCall, NextCall, NoneOpen, OneCall, OthersOpen, ReserveCall, ScanCall, TakeCall, open_of, stats_of};
+ghost use Rattle.thp_capi.specs.Prelude.{AbandonCall, AllocCall, BackFails, BackRecords, BackReplies, EngineState, IsEngine, LoseCall, NextCall, NoneOpen, OneCall, OthersOpen, ReserveCall, ScanCall, TakeCall, open_of, shape_of, stats_of};
+ghost use Rattle.thp_capi.specs.Reading.{WhyUncounted, page_state_of};
 ghost use Rattle.thp_journal_writer.specs.Prelude.{journal_text as text_of};
 
 mod queue_reader;
-mod readers;
 
 use crate::codes::Fault;
-use crate::open_batches::{is_open, none_open, put_at, take_at};
-use crate::replies::{ThpDone, ThpTried};
-use crate::stats::{ThpStats, narrow};
+use crate::open_batches::none_open;
+use crate::replies::{ThpDone, ThpPageState, ThpStats, ThpTried, narrow};
 use std::alloc::Global;
 use std::marker::Model;
 use thp_history::{Gain, Loss, MAX_BATCH, MAX_CALLERS, PageId, Refusal, Shape, What};
 use thp_journal_writer::{NodeHistory, journal_text};
 use thp_node::{BackReply, Batch, FullLog, Node, Recorder, ScanReply};
+
+// The number that means no threshold, the header's `THP_UNDERUSED_OFF`.
+const UNDERUSED_OFF: u32 = u32::MAX;
+
+/// Assembles the shape of a node.
+pub fn shape(blocks: u32, order: u32, underused: u32) -> Shape
+    ensures { result ≡ shape_of blocks order underused }
+{
+    Shape {
+        blocks,
+        order,
+        underused: (underused != UNDERUSED_OFF).then_some(underused),
+    }
+}
 
 // Fails if the number is not a caller's.
 #[inline(always)]
@@ -121,12 +134,13 @@ impl<R: Recorder> Engine<R> {
         if n as usize > MAX_BATCH {
             return Err(Fault::BadCount);
         }
-        if is_open(&self.batches, caller as usize) {
+        let place = caller as usize;
+        if self.batches[place].is_some() {
             return Err(Fault::BatchOpen);
         }
         let batch = self.node.take(caller, n)?;
         let count = batch.pages().len() as u32;
-        put_at(&mut self.batches, caller as usize, batch);
+        self.batches[place] = Some(batch);
         Ok(count)
     }
 
@@ -150,10 +164,7 @@ impl<R: Recorder> Engine<R> {
         let Some(batch) = &mut self.batches[place] else {
             return Err(Fault::NoBatch);
         };
-        match self.node.split_next(batch) {
-            Ok(tried) => Ok(ThpTried::of(&tried)),
-            Err(refusal) => Err(Fault::Refused(refusal)),
-        }
+        Ok(ThpTried::of(&self.node.split_next(batch)?))
     }
 
     /// Returns the remaining pages of the caller's open batch, and closes the batch.
@@ -166,16 +177,12 @@ impl<R: Recorder> Engine<R> {
         ensures failed { IfErr result (BackFails caller self.old self.new) }
     {
         let place = self.place(caller)?;
-        let Some(batch) = take_at(&mut self.batches, place) else {
+        let Some(batch) = &self.batches[place] else {
             return Err(Fault::NoBatch);
         };
-        match self.node.put_back(batch) {
-            Ok(reply) => Ok(reply),
-            Err((batch, refusal)) => {
-                put_at(&mut self.batches, place, batch);
-                Err(Fault::Refused(refusal))
-            }
-        }
+        let reply = self.node.put_back_all(batch)?;
+        self.batches[place] = None;
+        Ok(reply)
     }
 
     /// Discards the caller's open batch: its pages stay in the caller's flight, out of the queue.
@@ -183,9 +190,7 @@ impl<R: Recorder> Engine<R> {
         ensures { AbandonCall caller self.old self.new result }
     {
         let place = self.place(caller)?;
-        let Some(batch) = take_at(&mut self.batches, place) else {
-            return Err(Fault::NoBatch);
-        };
+        let batch = self.batches[place].take().ok_or(Fault::NoBatch)?;
         batch.abandon();
         Ok(())
     }
@@ -220,6 +225,44 @@ impl<R: Recorder> Engine<R> {
             deferred_split_page: counters.deferred_split_page,
             underused_split_page: counters.underused_split_page,
             split_pmd: narrow(counters.split_pmd),
+        }
+    }
+
+    /// Returns the state of a live page.
+    pub fn page(&self, page: PageId) -> Result<ThpPageState, Fault>
+        ensures live { OnOk result (is_live self.now.node.journal page ≡ true) }
+        ensures state { IfOk result (λ t. t ≡ page_state_of self.now.node page) }
+        ensures fault { IfErr result (λ f. f ≡ Fault.Refused Refusal.NoPage) }
+        ensures gone { IfErr result (λ f. is_live self.now.node.journal page ≡ false) }
+    {
+        let table = self.node.table();
+        let Some(block) = table.block_of(page) else {
+            return Err(Fault::Refused(Refusal::NoPage));
+        };
+        let standing = table.standing(block);
+        match table.page(block) {
+            Some((_, state)) => Ok(ThpPageState::of(state, standing)),
+            None => unreachable!(),
+        }
+    }
+
+    /// Returns the own map count of a subpage of a live page: the number of PTE entries that map it.
+    pub fn mapcount(&self, page: PageId, subpage: u32) -> Result<u32, Fault>
+        ensures live { OnOk result (is_live self.now.node.journal page ≡ true) }
+        ensures inside { OnOk result (subpage < subpages self.now.node.shape) }
+        ensures own { IfOk result (λ n. n ≡ own self.now.node.journal page subpage) }
+        ensures failed { IfErr result (WhyUncounted page subpage self.now.node) }
+    {
+        let table = self.node.table();
+        let Some(block) = table.block_of(page) else {
+            return Err(Fault::Refused(Refusal::NoPage));
+        };
+        if subpage >= self.node.shape().subpages() {
+            return Err(Fault::Refused(Refusal::BadRange));
+        }
+        match table.page(block) {
+            Some((_, state)) => Ok(state.own(subpage)),
+            None => unreachable!(),
         }
     }
 }

@@ -1,8 +1,8 @@
 //! A handle of any kind of value.
 ghost use Rattle.std.specs.Prelude.{◌≡◌, Option, None, Some, IfSome, IfNone, IsSome, is_some};
+ghost use Rattle.std_alloc.specs.Box.Ownership.{box_owns};
 
-use crate::raw_box::RawBox;
-use std::alloc::Global;
+use std::alloc::{Allocator, Global};
 use std::marker::Model;
 
 /// A handle: it owns a value in memory, or is empty. C sees it as a `ThpNode`, a `ThpCheck` or a `ThpPass`, since a struct that
@@ -73,5 +73,35 @@ impl<T: Drop> Handle<T> {
         } else {
             None
         }
+    }
+}
+
+/// A box as a raw pointer and its allocator, which a C handle can store.
+pub struct RawBox<T, A: Allocator> {
+    pub(crate) at: *mut T,
+    pub(crate) alloc: A,
+    // The value in the box, for contracts.
+    pub ghost value: { T },
+}
+
+impl<T, A: Allocator> Model for RawBox<T, A> {
+    ghost also_owns = { λ l. box_owns (A.dealloc_token l.alloc) T.row l.at l.value };
+}
+
+impl<T: Drop, A: Allocator> RawBox<T, A> {
+    /// Converts a box to its pointer.
+    pub fn of(value: Box<T, A>) -> RawBox<T, A>
+        ensures { result.value ≡ value.value }
+    {
+        let (at, alloc) = Box::into_raw_with_allocator(value);
+        RawBox { at, alloc }
+    }
+
+    /// Converts the pointer back to its box.
+    pub fn into_box(self) -> Box<T, A>
+        ensures { result.value ≡ self.value }
+    {
+        let RawBox { at, alloc } = self;
+        unsafe { Box::from_raw(alloc, at) }
     }
 }

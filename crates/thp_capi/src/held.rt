@@ -44,6 +44,17 @@ impl Held<Engine<FullLog>, Engine<CountOnly>> {
     }
 }
 
+/// The value of a result; where it is an error, the function returns its code.
+#[macro_export]
+macro_rules! attempt {
+    ($answer:expr) => {
+        match $answer {
+            Ok(value) => value,
+            Err(fault) => return $crate::code(Err($crate::Fault::from(fault))),
+        }
+    };
+}
+
 /// Does a call on the engine of a node's handle, which is written once for both kinds. Returns what the call returns; where the
 /// handle is empty, the function returns that. With a place, the value is stored there, and the code is what is returned.
 #[macro_export]
@@ -52,9 +63,7 @@ macro_rules! on_node {
         $crate::report($crate::on_node!($handle, $alloc, $engine => $call), $place)
     };
     ($handle:expr, $alloc:expr, $engine:ident => $call:expr) => {{
-        let Some(mut held) = $handle.take($alloc) else {
-            return $crate::code(Err($crate::Fault::Empty));
-        };
+        let mut held = $crate::attempt!($handle.take($alloc));
         let answer = match &mut *held {
             $crate::Held::Kept($engine) => $call,
             $crate::Held::Counted($engine) => $call,
@@ -71,9 +80,7 @@ macro_rules! on_pass {
         $crate::report($crate::on_pass!($handle, $alloc, $pass => $call), $place)
     };
     ($handle:expr, $alloc:expr, $pass:ident => $call:expr) => {{
-        let Some(mut room) = $handle.lend($alloc) else {
-            return $crate::code(Err($crate::Fault::Empty));
-        };
+        let mut room = $crate::attempt!($handle.lend($alloc));
         let answer = match &mut room.value {
             Some($crate::Held::Kept($pass)) => $call,
             Some($crate::Held::Counted($pass)) => $call,

@@ -1,7 +1,8 @@
 //! The handle of a node, as a C program holds it.
-ghost use Rattle.std.specs.Prelude.{◌≡◌, Option, None, Some, IfSome, IfNone};
+ghost use Rattle.std.specs.Prelude.{◌≡◌, Option, None, Some, IfErr, IfOk};
 ghost use Rattle.thp_capi.specs.Held.{HeldEngine};
 
+use crate::codes::Fault;
 use crate::handle::Handle;
 use crate::held::HeldEngine;
 use std::alloc::Global;
@@ -48,11 +49,13 @@ impl ThpNode {
     }
 
     /// Removes the engine from the handle, if it has one.
-    pub fn take(&mut self, alloc: Global) -> Option<Box<HeldEngine>>
-        ensures none { IfNone result (self.old.held ≡ None) }
-        ensures some { IfSome result (λ engine. self.old.held ≡ Some engine.value) }
+    pub fn take(&mut self, alloc: Global) -> Result<Box<HeldEngine>, Fault>
+        ensures none { IfErr result (λ fault. (fault ≡ Fault.Empty) × (self.old.held ≡ None)) }
+        ensures some { IfOk result (λ engine. self.old.held ≡ Some engine.value) }
         ensures empty { self.new.held ≡ None }
     {
-        self.exchange(Handle::empty()).into_box(alloc)
+        self.exchange(Handle::empty())
+            .into_box(alloc)
+            .ok_or(Fault::Empty)
     }
 }

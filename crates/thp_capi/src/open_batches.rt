@@ -1,5 +1,5 @@
 //! The open batches of a pass's callers, each at its caller's index.
-ghost use Rattle.std.specs.Prelude.{◌≡◌, ◌+◌, ◌<◌, ◌≤◌, ◌++◌, ℕ, IfOk, IsSome, None, OnErr, OnOk, Some, drop, false, get_or, is_some, length, slice_set, take, true, vec_capacity};
+ghost use Rattle.std.specs.Prelude.{◌≡◌, ◌+◌, ◌<◌, ◌≤◌, ◌++◌, ℕ, IfOk, IsSome, None, OnErr, OnOk, drop, false, get_or, length, take, true, vec_capacity};
 
 use std::alloc::{AllocError, Global};
 use thp_node::Batch;
@@ -15,33 +15,6 @@ pub fn none_open(alloc: Global, callers: u32) -> Result<Vec<Option<Batch>>, Allo
         places.push_reserved(None);
     }
     Ok(places)
-}
-
-/// Returns whether a batch is open at this place.
-pub fn is_open(places: &Vec<Option<Batch>>, place: usize) -> bool
-    requires { place < length places.now.items }
-    ensures { result ≡ is_some (get_or places.now.items place None) }
-{
-    places[place].is_some()
-}
-
-/// Removes and returns the batch at this place.
-pub fn take_at(places: &mut Vec<Option<Batch>>, place: usize) -> Option<Batch>
-    requires { place < length places.old.items }
-    ensures was { result ≡ get_or places.old.items place None }
-    ensures now { places.new.items ≡ slice_set places.old.items place None }
-    ensures room { vec_capacity places.new ≡ vec_capacity places.old }
-{
-    places[place].take()
-}
-
-/// Puts a batch at this place.
-pub fn put_at(places: &mut Vec<Option<Batch>>, place: usize, batch: Batch)
-    requires { place < length places.old.items }
-    ensures now { places.new.items ≡ slice_set places.old.items place (Some batch) }
-    ensures room { vec_capacity places.new ≡ vec_capacity places.old }
-{
-    places[place] = Some(batch);
 }
 
 /// Moves the places from `at` on to a new vector that has capacity for `room` of them.

@@ -1,9 +1,10 @@
 //! The handle of a pass, as a C program holds it.
-ghost use Rattle.std.specs.Prelude.{◌≡◌, Option, None, Some, IfSome, IfNone, IsSome};
+ghost use Rattle.std.specs.Prelude.{◌≡◌, Option, None, Some, IfErr, IfOk, IsSome};
 ghost use Rattle.thp_capi.specs.Rooms.{value_of};
 ghost use Rattle.thp_capi.specs.Held.{HeldPass};
 ghost use Rattle.thp_capi.specs.declared.room.Room.{Room};
 
+use crate::codes::Fault;
 use crate::handle::Handle;
 use crate::held::HeldPass;
 use crate::room::Room;
@@ -44,9 +45,9 @@ impl ThpPass {
     }
 
     /// Removes the pass and its room from the handle, if it has one.
-    pub fn take(&mut self, alloc: Global) -> Option<(Box<Room<HeldPass>>, HeldPass)>
-        ensures none { IfNone result (value_of self.old.held ≡ None) }
-        ensures some { IfSome result (λ taken. value_of self.old.held ≡ Some taken.1) }
+    pub fn take(&mut self, alloc: Global) -> Result<(Box<Room<HeldPass>>, HeldPass), Fault>
+        ensures none { IfErr result (λ fault. (fault ≡ Fault.Empty) × (value_of self.old.held ≡ None)) }
+        ensures some { IfOk result (λ taken. value_of self.old.held ≡ Some taken.1) }
         ensures empty { value_of self.new.held ≡ None }
     {
         Room::take(self.exchange(Handle::empty()), alloc)
@@ -60,10 +61,10 @@ impl ThpPass {
     }
 
     /// Removes the room with the pass from the handle, if it has one.
-    pub fn lend(&mut self, alloc: Global) -> Option<Box<Room<HeldPass>>>
-        ensures none { IfNone result (value_of self.old.held ≡ None) }
-        ensures some { IfSome result (λ room. room.value.value ≡ value_of self.old.held) }
-        ensures full { IfSome result (λ room. IsSome room.value.value) }
+    pub fn lend(&mut self, alloc: Global) -> Result<Box<Room<HeldPass>>, Fault>
+        ensures none { IfErr result (λ fault. (fault ≡ Fault.Empty) × (value_of self.old.held ≡ None)) }
+        ensures some { IfOk result (λ room. room.value.value ≡ value_of self.old.held) }
+        ensures full { IfOk result (λ room. IsSome room.value.value) }
         ensures empty { value_of self.new.held ≡ None }
     {
         Room::lend(self.exchange(Handle::empty()), alloc)

@@ -1,9 +1,14 @@
 //! The results of calls other than their codes, for C.
-ghost use Rattle.std.specs.Prelude.{◌≡◌, ◌≤◌};
+ghost use Rattle.std.specs.Prelude.{◌≡◌, ◌-◌, ◌≤◌, ◌^◌, Err, IfErr, IfOk, min};
+ghost use Rattle.std.specs.Int.{from_bool};
+ghost use Rattle.thp_capi.specs.Calls.{Written};
+ghost use Rattle.thp_capi.specs.Reading.{flight_caller, list_number};
 ghost use Rattle.thp_capi.specs.Replies.{outcome_number, MasksSet, tried_of};
 
+use crate::codes::Fault;
 use thp_history::{Done, Outcome, SubSet};
 use thp_node::Tried;
+use thp_page::{Page, Standing};
 
 /// The effect of an unmap or an unpin on its page and frames.
 #[repr(C)]
@@ -67,4 +72,99 @@ impl ThpTried {
         };
         ThpTried { kind, page }
     }
+}
+
+/// The state of a live page.
+#[repr(C)]
+#[derive(Clone, Copy, PartialEq, Eq, Debug)]
+pub struct ThpPageState {
+    /// The whole map count: the number of PMD entries that map the page.
+    pub whole_mapcount: u32,
+    /// The number of pins.
+    pub pins: u32,
+    /// 1 if the page is partly mapped, otherwise 0.
+    pub partly_mapped: u32,
+    /// 1 if the page was split into base pages, otherwise 0.
+    pub split: u32,
+    /// The list that the page is on: 0 for none, 1 for the deferred split queue, 2 for a caller's flight.
+    pub list: u32,
+    /// The caller in whose flight the page is, otherwise 0.
+    pub caller: u32,
+}
+
+impl ThpPageState {
+    /// Converts the state of a page on this list.
+    pub fn of(page: &Page, standing: Standing) -> ThpPageState
+        ensures whole { result.whole_mapcount ≡ page.now.whole }
+        ensures pins { result.pins ≡ page.now.pins }
+        ensures partly { result.partly_mapped ≡ from_bool page.now.partly }
+        ensures split { result.split ≡ from_bool page.now.split }
+        ensures list { result.list ≡ list_number standing }
+        ensures caller { result.caller ≡ flight_caller standing }
+    {
+        let (list, caller) = match standing {
+            Standing::Nowhere => (0, 0),
+            Standing::Queued => (1, 0),
+            Standing::Batch(caller) => (2, caller),
+        };
+        ThpPageState {
+            whole_mapcount: page.whole(),
+            pins: page.pins(),
+            partly_mapped: u32::from(page.is_partly()),
+            split: u32::from(page.is_split()),
+            list,
+            caller,
+        }
+    }
+}
+
+/// A node's statistics. Each number is at most 2^64 - 1; greater values are stored as that.
+#[repr(C)]
+#[derive(Clone, Copy, PartialEq, Eq, Debug)]
+pub struct ThpStats {
+    /// The number of events in the journal.
+    pub events: u64,
+    /// The number of pages ever allocated, including those that were freed.
+    pub allocations: u64,
+    /// The number of pages in the deferred split queue.
+    pub queued: u64,
+    /// The number of frames given back.
+    pub frames_given: u64,
+    /// The number of frames that the live pages hold.
+    pub frames_held: u64,
+    /// The number of pages split.
+    pub split_page: u64,
+    /// The number of tries that found a page pinned.
+    pub split_page_failed: u64,
+    /// The number of times that an unmap or an unpin queued a page. A put back or an allocation doesn't count.
+    pub deferred_split_page: u64,
+    /// The number of pages split that were underused and not partly mapped.
+    pub underused_split_page: u64,
+    /// The number of PMD mappings split.
+    pub split_pmd: u64,
+}
+
+/// Converts the number to 64 bits; greater ones become 2^64 - 1.
+pub fn narrow(n: u128) -> u64
+    ensures { result ≡ min n (2 ^ 64 - 1) }
+{
+    n.min(u128::from(u64::MAX)) as u64
+}
+
+/// Writes the text to the start of the buffer if it fits there. `size` is its length in bytes.
+pub fn put_text(
+    text: Result<Vec<u8>, Fault>,
+    buffer: &mut [u8],
+    size: &mut usize,
+) -> Result<(), Fault>
+    ensures text { IfOk text (λ text. Written text.items buffer.old buffer.new size.old size.new result) }
+    ensures fault { IfErr text (λ fault. (result ≡ Err fault) × (buffer.new ≡ buffer.old) × (size.new ≡ size.old)) }
+{
+    let text = text?;
+    *size = text.len();
+    if buffer.len() < text.len() {
+        return Err(Fault::TooSmall);
+    }
+    buffer[..text.len()].copy_from_slice(&text);
+    Ok(())
 }

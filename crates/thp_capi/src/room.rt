@@ -1,9 +1,11 @@
 //! The heap room of the value of a handle, so that a call which moves the value allocates nothing.
-ghost use Rattle.std.specs.Prelude.{◌≡◌, None, Some, IfSome, IfNone, IsSome};
+ghost use Rattle.std.specs.Prelude.{◌≡◌, None, Some, IfErr, IfOk, IsSome};
 ghost use Rattle.thp_capi.specs.Rooms.{value_of};
 
+use crate::codes::Fault;
 use crate::handle::Handle;
 use std::alloc::Global;
+use thp_history::Refusal;
 
 /// A value on the heap. The room is empty only while a call uses the value.
 #[derive(Drop)]
@@ -13,11 +15,12 @@ pub struct Room<T> {
 }
 
 impl<T: Drop> Room<T> {
-    /// Allocates an empty room, or returns `None` if that is not possible.
-    pub fn new(alloc: Global) -> Option<Box<Room<T>>>
-        ensures { IfSome result (λ room. room.value.value ≡ None) }
+    /// Allocates an empty room.
+    pub fn new(alloc: Global) -> Result<Box<Room<T>>, Fault>
+        ensures empty { IfOk result (λ room. room.value.value ≡ None) }
+        ensures fault { IfErr result (λ fault. fault ≡ Fault.Refused Refusal.OutOfMemory) }
     {
-        Box::new(alloc, Room { value: None }).ok()
+        Ok(Box::new(alloc, Room { value: None })?)
     }
 
     /// Puts a value in its room, and returns the handle of both.
@@ -30,22 +33,22 @@ impl<T: Drop> Room<T> {
     }
 
     /// Returns the value of a handle and its room, if the handle has one.
-    pub fn take(handle: Handle<Room<T>>, alloc: Global) -> Option<(Box<Room<T>>, T)>
-        ensures none { IfNone result (value_of handle.held ≡ None) }
-        ensures some { IfSome result (λ taken. value_of handle.held ≡ Some taken.1) }
+    pub fn take(handle: Handle<Room<T>>, alloc: Global) -> Result<(Box<Room<T>>, T), Fault>
+        ensures none { IfErr result (λ fault. (fault ≡ Fault.Empty) × (value_of handle.held ≡ None)) }
+        ensures some { IfOk result (λ taken. value_of handle.held ≡ Some taken.1) }
     {
-        let mut room = handle.into_box(alloc)?;
-        let value = room.value.take()?;
-        Some((room, value))
+        let mut room = handle.into_box(alloc).ok_or(Fault::Empty)?;
+        let value = room.value.take().ok_or(Fault::Empty)?;
+        Ok((room, value))
     }
 
     /// Returns the room of a handle with the value in it, if the handle has one.
-    pub fn lend(handle: Handle<Room<T>>, alloc: Global) -> Option<Box<Room<T>>>
-        ensures none { IfNone result (value_of handle.held ≡ None) }
-        ensures some { IfSome result (λ room. room.value.value ≡ value_of handle.held) }
-        ensures full { IfSome result (λ room. IsSome room.value.value) }
+    pub fn lend(handle: Handle<Room<T>>, alloc: Global) -> Result<Box<Room<T>>, Fault>
+        ensures none { IfErr result (λ fault. (fault ≡ Fault.Empty) × (value_of handle.held ≡ None)) }
+        ensures some { IfOk result (λ room. room.value.value ≡ value_of handle.held) }
+        ensures full { IfOk result (λ room. IsSome room.value.value) }
     {
-        let room = handle.into_box(alloc)?;
-        room.value.is_some().then_some(room)
+        let room = handle.into_box(alloc).ok_or(Fault::Empty)?;
+        room.value.is_some().then_some(room).ok_or(Fault::Empty)
     }
 }

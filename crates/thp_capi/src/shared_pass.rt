@@ -1,22 +1,20 @@
 //! A pass with a share of its cell.
-ghost use Rattle.std.specs.Prelude.{◌≡◌, ◌≤◌, true, false, IfOk, IfErr, ◌⊎◌, vec_capacity};
+ghost use Rattle.std.specs.Prelude.{◌≡◌, ◌+◌, ◌<◌, ◌≤◌, true, false, IfOk, IfErr, ◌⊎◌, length, vec_capacity};
 ghost use Rattle.thp_history.specs.Prelude.{gain_call, gain_what, loss_call, loss_what};
 ghost use Rattle.thp_history.specs.Refusals as call;
-ghost use Rattle.thp_cell.specs.Prelude.{below, from, IsJoined, HasCaller, HasAll};
-ghost use Rattle.thp_capi.specs.Prelude.{Adjoin, Divides, HasOpen, IsCellSize, IsNewPass, IsPart, IsShared, IsShut, OnlyFront, OpenStay, PassAlloc, PassCount, PassLost, PassOne, PassScan, SharedState};
+ghost use Rattle.thp_cell.specs.Prelude.{below, from, IsJoined, HasAll, HasCaller};
+ghost use Rattle.thp_capi.specs.Prelude.{Adjoin, Divides, HasOpen, IsCellSize, IsNewPass, IsPart, IsShared, IsShut, OnlyFront, OpenStay, PassAbandon, PassAlloc, PassBack, PassCount, PassLost, PassNext, PassOne, PassScan, PassTake, SharedState};
 ghost use Rattle.std.specs.Arc.{arc_value};
-
-mod batch_calls;
 
 use crate::codes::Fault;
 use crate::open_batches::{cut, joined, none_open, some_open};
-use crate::replies::ThpDone;
+use crate::replies::{ThpDone, ThpTried};
 use std::alloc::Global;
 use std::marker::Model;
 use std::sync::Arc;
 use thp_cell::{NodeCell, Pass};
 use thp_history::{Gain, Loss, MAX_BATCH, PageId, Refusal, Shape, What};
-use thp_node::{Batch, Node, Recorder, ScanReply};
+use thp_node::{BackReply, Batch, Node, Recorder, ScanReply};
 
 /// A pass, its share of the cell, and the mark that distinguishes it from passes of other cells.
 #[derive(Drop)]
@@ -58,6 +56,20 @@ impl<R: Recorder> SharedPass<R> {
             callers,
             mark,
         })
+    }
+
+    // The caller's index, if it is one of the pass's.
+    fn place(&self, caller: u32) -> Result<usize, Fault>
+        ensures own { IfOk result (λ place. HasCaller self.now.pass caller) }
+        ensures at { IfOk result (λ place. place + self.now.pass.first ≡ caller) }
+        ensures inside { IfOk result (λ place. place < length self.now.batches) }
+        ensures none { IfErr result (λ fault. (fault ≡ Fault.BadCaller) × (HasCaller self.now.pass caller → ⊥)) }
+    {
+        let (first, end) = self.pass.callers();
+        if caller < first || end <= caller {
+            return Err(Fault::BadCaller);
+        }
+        Ok((caller - first) as usize)
     }
 
     /// Allocates a page, mapped whole once, and returns its number.
@@ -106,6 +118,58 @@ impl<R: Recorder> SharedPass<R> {
         Ok(self.cell.scan(&mut self.pass, caller, n)?)
     }
 
+    /// Takes up to `n` of the oldest queued pages, in order, into the caller's batch, which is open afterwards. Returns the
+    /// number of pages taken.
+    pub fn take(&mut self, caller: u32, n: u32) -> Result<u32, Fault>
+        ensures { PassTake caller n self.old self.new result }
+    {
+        let place = self.place(caller)?;
+        if n as usize > MAX_BATCH {
+            return Err(Fault::BadCount);
+        }
+        if self.batches[place].is_some() {
+            return Err(Fault::BatchOpen);
+        }
+        let batch = self.cell.take(&mut self.pass, caller, n)?;
+        let count = batch.pages().len() as u32;
+        self.batches[place] = Some(batch);
+        Ok(count)
+    }
+
+    /// Tries the next page of the caller's open batch.
+    pub fn split_next(&mut self, caller: u32) -> Result<ThpTried, Fault>
+        ensures { PassNext caller self.old self.new result }
+    {
+        let place = self.place(caller)?;
+        let Some(batch) = &mut self.batches[place] else {
+            return Err(Fault::NoBatch);
+        };
+        let tried = self.cell.split_next(&mut self.pass, batch)?;
+        Ok(ThpTried::of(&tried))
+    }
+
+    /// Returns the remaining pages of the caller's open batch, and closes the batch.
+    pub fn put_back(&mut self, caller: u32) -> Result<BackReply, Fault>
+        ensures { PassBack caller self.old self.new result }
+    {
+        let place = self.place(caller)?;
+        let Some(batch) = &self.batches[place] else {
+            return Err(Fault::NoBatch);
+        };
+        let reply = self.cell.put_back_all(&mut self.pass, batch)?;
+        self.batches[place] = None;
+        Ok(reply)
+    }
+
+    /// Discards the caller's open batch: its pages stay in the caller's flight, out of the queue.
+    pub fn abandon(&mut self, caller: u32) -> Result<(), Fault>
+        ensures { PassAbandon caller self.old self.new result }
+    {
+        let place = self.place(caller)?;
+        let batch = self.batches[place].take().ok_or(Fault::NoBatch)?;
+        batch.abandon();
+        Ok(())
+    }
     /// Returns the number of queued pages, even while another pass has the node.
     pub fn count(&mut self) -> u32
         ensures { PassCount result self.old self.new }

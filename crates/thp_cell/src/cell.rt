@@ -301,10 +301,7 @@ impl<R: Recorder> NodeCell<R> {
         ensures took { result ≡ true → HasTaken (known_state keeps seat.old) seat.new }
         ensures busy { result ≡ false → FoundBusy keeps seat.old seat.new }
     {
-        if keeps {
-            return true;
-        }
-        self.lock(seat)
+        keeps || self.lock(seat)
     }
 
     // Ends a call: releases the node, unless the pass keeps it.

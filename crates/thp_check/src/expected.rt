@@ -23,25 +23,18 @@ pub(crate) fn put_expected(
 {
     let page = page_of(what);
     put(text, b"expected: ")?;
-    match misfit {
-        Misfit::Number(page) => put_event(
-            text,
-            caller,
-            What::Alloc {
-                page: *page,
-                block: 0,
-            },
-        ),
+    match *misfit {
+        Misfit::Number(page) => put_event(text, caller, What::Alloc { page, block: 0 }),
         Misfit::Outcome { outcome, released } => {
-            put_event(text, caller, with_outcome(what, *outcome, released))
+            put_event(text, caller, with_outcome(what, outcome, released))
         }
-        Misfit::Oldest(Some(page)) => put_event(text, caller, What::Taken { page: *page }),
+        Misfit::Oldest(Some(page)) => put_event(text, caller, What::Taken { page }),
         Misfit::InUse => put_event(text, caller, What::Used { page }),
         Misfit::WorthSplit => put_event_or_split(text, caller, What::Pinned { page }, page),
         Misfit::HasPins => put_event(text, caller, What::Pinned { page }),
         Misfit::NoPins => put_event_or_split(text, caller, What::Used { page }, page),
         Misfit::Released(released) => put_event(text, caller, with_frames(what, released)),
-        Misfit::First(Some(first)) => put_return(text, caller, *first),
+        Misfit::First(Some(first)) => put_return(text, caller, first),
         Misfit::MustDrop => put_event(text, caller, What::Dropped { page }),
         Misfit::MustRequeue => put_event(text, caller, What::Back { page }),
         Misfit::Refused(_)
@@ -92,12 +85,11 @@ pub(crate) fn page_of(what: &What) -> PageId
 }
 
 // The same unmap or unpin with this outcome and these frames.
-fn with_outcome(what: &What, outcome: Outcome, released: &SubSet) -> What
-    ensures { result ≡ with_outcome outcome released.now what.now }
+fn with_outcome(what: &What, outcome: Outcome, released: SubSet) -> What
+    ensures { result ≡ with_outcome outcome released what.now }
 {
     if let Some((page, call)) = what.page_call() {
         if let PageCall::Loss(loss) = call {
-            let released = *released;
             return loss.what(page, &Done { outcome, released });
         }
     }
@@ -105,10 +97,9 @@ fn with_outcome(what: &What, outcome: Outcome, released: &SubSet) -> What
 }
 
 // The same split with these frames.
-fn with_frames(what: &What, released: &SubSet) -> What
-    ensures { result ≡ with_frames released.now what.now }
+fn with_frames(what: &What, released: SubSet) -> What
+    ensures { result ≡ with_frames released what.now }
 {
-    let released = *released;
     match *what {
         What::Split { page, .. } => What::Split { page, released },
         other => other,

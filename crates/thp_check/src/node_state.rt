@@ -1,6 +1,6 @@
 //! The state of a node after the events of a history so far.
-ghost use Rattle.std.specs.Prelude.{◌≡◌, ◌<◌, ◌≤◌, ◌+◌, ◌^◌, ℕ, Bool, List, [], ◌||◌, not, slice_get, Some, ◌≢◌, IfErr, IfOk, IsSome, Err, IsTrue, ◌↔◌};
-ghost use Rattle.thp_history.specs.Prelude.{History, max_order, min_order, is_split_candidate, no_pages, takes_by, gain_what, loss_what, recorded_call};
+ghost use Rattle.std.specs.Prelude.{◌≡◌, ◌<◌, ◌≤◌, ◌+◌, ◌^◌, ℕ, Bool, List, [], ◌||◌, not, slice_get, Option, Some, ◌≢◌, IfErr, IfOk, IsSome, Err, IsTrue, ◌↔◌};
+ghost use Rattle.thp_history.specs.Prelude.{History, max_order, min_order, no_pages, takes_by, gain_what, loss_what, recorded_call};
 ghost use Rattle.thp_page.specs.Prelude.{slot_at};
 ghost use Rattle.thp_live_pages.specs.Prelude.{IsFlyingAt, AtSlot};
 ghost use Rattle.thp_history.specs.declared.events.Outcome.{Outcome};
@@ -178,7 +178,7 @@ impl NodeState {
             Some(block) => block,
             None => return Err(Misfit::NotInFlight),
         };
-        if !self.is_split_candidate(block) {
+        if !self.places.is_split_candidate(block, self.shape.underused) {
             return Err(Misfit::InUse);
         }
         if self.places.pins(block) != 0 {
@@ -202,12 +202,12 @@ impl NodeState {
             None => return Err(Misfit::NotInFlight),
         };
         if self.places.pins(block) == 0 {
-            return Err(Misfit::NoPins);
+            Err(Misfit::NoPins)
+        } else if self.places.is_split_candidate(block, self.shape.underused) {
+            Ok(())
+        } else {
+            Err(Misfit::InUse)
         }
-        if !self.is_split_candidate(block) {
-            return Err(Misfit::InUse);
-        }
-        Ok(())
     }
 
     // A try that finds a page of the caller's flight in use: the page leaves the flight and is on no list.
@@ -220,20 +220,12 @@ impl NodeState {
             Some(block) => block,
             None => return Err(Misfit::NotInFlight),
         };
-        if self.is_split_candidate(block) {
+        if self.places.is_split_candidate(block, self.shape.underused) {
             return Err(Misfit::WorthSplit);
         }
         self.places.drop_out(block);
         self.flights.leave(Some(caller), block);
         Ok(())
-    }
-
-    // Whether the page of a block is worth a split.
-    fn is_split_candidate(&self, block: u32) -> bool
-        requires { IsSome (slot_at self.now.places.table block) }
-        ensures { AtSlot self.now.places.table block (λ x. result ≡ is_split_candidate self.now.shape.underused x.page) }
-    {
-        self.places.is_split_candidate(block, self.shape.underused)
     }
 
     // A put back of the first page of the caller's flight.
@@ -242,10 +234,7 @@ impl NodeState {
         requires { IsKnown self.old }
         ensures { Follows self.old self.new caller (What.Back page) result }
     {
-        let block = match self.find_first(caller, page) {
-            Ok(block) => block,
-            Err(first) => return Err(Misfit::First(first)),
-        };
+        let block = self.find_first(caller, page)?;
         if self.is_dropped(block) {
             return Err(Misfit::MustDrop);
         }
@@ -260,10 +249,7 @@ impl NodeState {
         requires { IsKnown self.old }
         ensures { Follows self.old self.new caller (What.Dropped page) result }
     {
-        let block = match self.find_first(caller, page) {
-            Ok(block) => block,
-            Err(first) => return Err(Misfit::First(first)),
-        };
+        let block = self.find_first(caller, page)?;
         if !self.is_dropped(block) {
             return Err(Misfit::MustRequeue);
         }
@@ -281,20 +267,19 @@ impl NodeState {
     }
 
     // The block of a page that is the first of a caller's flight; otherwise the first page, if any.
-    fn find_first(&self, caller: u32, page: PageId) -> Result<u32, Option<PageId>>
+    fn find_first(&self, caller: u32, page: PageId) -> Result<u32, Misfit>
         requires { IsKnown self.now }
         ensures there { IfOk result (IsFlyingAt self.now.places.table caller page) }
         ensures first { IfOk result (λ b. slice_get (blocks_in self.now.flights caller) 0 ≡ Some b) }
-        ensures is_first { IfErr result (IsFirstOf self.now caller) }
-        ensures other { IfErr result (λ o. o ≢ Some page) }
+        ensures other { IfErr result (λ m. (o : Option ℕ) × (m ≡ Misfit.First o) × IsFirstOf self.now caller o × (o ≢ Some page)) }
     {
         let block = match self.flights.first_of(caller) {
             Some(block) => block,
-            None => return Err(None),
+            None => return Err(Misfit::First(None)),
         };
         let first = self.places.number(block);
         if first != page {
-            return Err(Some(first));
+            return Err(Misfit::First(Some(first)));
         }
         Ok(block)
     }

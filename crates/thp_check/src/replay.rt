@@ -58,7 +58,7 @@ impl Replay {
     }
 
     /// Adds an event, if it fits the events so far; otherwise returns why it does not, and discards the replay.
-    pub fn admit(self, event: &Event) -> Result<Replay, Misfit>
+    pub fn admit(mut self, event: &Event) -> Result<Replay, Misfit>
         requires room { length self.history + 1 < 2 ^ 64 }
         ensures admitted { IfOk result (λ r. r ≡ with_event self event.now) }
         ensures fits { IfOk result (λ r. Fits self.shape self.history event.now) }
@@ -66,24 +66,13 @@ impl Replay {
         ensures misfit { IfErr result (λ m. Fits self.shape self.history event.now → ⊥) }
         ensures why { IfErr result (λ m. Explains self.shape self.history event.now m) }
     {
-        let Replay {
-            mut state,
-            mut free,
-            mut tally,
-            mut past,
-        } = self;
-        let freed = freed_block(&state, &event.what);
-        let unsaid = context_of(&state, &event.what);
-        state.admit(event)?;
-        mark(&mut free, taken_block(&event.what), freed);
-        tally.count(&event.what, unsaid);
-        past.push(event);
-        Ok(Replay {
-            state,
-            free,
-            tally,
-            past,
-        })
+        let freed = freed_block(&self.state, &event.what);
+        let unsaid = context_of(&self.state, &event.what);
+        self.state.admit(event)?;
+        mark(&mut self.free, &event.what, freed);
+        self.tally.count(&event.what, unsaid);
+        self.past.push(event);
+        Ok(self)
     }
 
     /// Returns the number of pages allocated, which is the number of the next page.
@@ -111,10 +100,8 @@ impl Replay {
     pub fn oldest(&self) -> Option<PageId>
         ensures { result ≡ slice_get (queue self.now.shape self.now.history) 0 }
     {
-        match self.state.places.queue().front() {
-            Some(block) => Some(self.state.places.number(block)),
-            None => None,
-        }
+        let block = self.state.places.queue().front()?;
+        Some(self.state.places.number(block))
     }
 
     /// Returns the least block without a live page, or 0 if there is none.
@@ -152,26 +139,16 @@ fn context_of(state: &NodeState, what: &What) -> SplitContext
     }
 }
 
-// The block of an allocation.
-fn taken_block(what: &What) -> Option<u32>
-    ensures { result ≡ taken_block what.now }
-{
-    match *what {
-        What::Alloc { block, .. } => Some(block),
-        _ => None,
-    }
-}
-
-// Records that a block was taken, or became free.
-fn mark(free: &mut FreeBlocks, taken: Option<u32>, freed: Option<u32>)
-    requires taken { IfSome taken (λ b. b < 64 * length free.old) }
+// Records that an event took a block, or that one became free.
+fn mark(free: &mut FreeBlocks, what: &What, freed: Option<u32>)
+    requires taken { IfSome (taken_block what.now) (λ b. b < 64 * length free.old) }
     requires freed { IfSome freed (λ b. b < 64 * length free.old) }
-    ensures marked { (b : ℕ) → in_words free.new b ≡ free_after taken freed b (in_words free.old b) }
+    ensures marked { (b : ℕ) → in_words free.new b ≡ free_after (taken_block what.now) freed b (in_words free.old b) }
     ensures size { length free.new ≡ length free.old }
 {
-    match (taken, freed) {
-        (Some(block), _) => free.remove(block),
-        (None, Some(block)) => free.insert(block),
-        (None, None) => {}
+    if let What::Alloc { block, .. } = *what {
+        free.remove(block);
+    } else if let Some(block) = freed {
+        free.insert(block);
     }
 }

@@ -1,17 +1,13 @@
 -- The overview of all nodes: a line of numbers for each.
 use Rattle.std.specs.Prelude.{ℕ, ◌+◌, List, [], ◌∷◌, ◌++◌, length, codes, if◌then◌else◌, nat_le, Option, Some, None, decimal}
-use Rattle.thp_metrics.specs.declared.pages.Pages.{Pages}
+use Rattle.thp_metrics.specs.declared.stage.Stage.TheVariants.{Split}
 use Rattle.thp_drawing.specs.Elements.{group_end, group_start, text_at}
 use Rattle.thp_drawing.specs.Grouped.{grouped}
-use Rattle.thp_drawing.specs.Quantities.{most_of}
+use Rattle.thp_drawing.specs.Quantities.{most_of, sum_up_to}
 use Rattle.thp_drawing.specs.Scales.{plus, times}
 use Rattle.thp_drawing.specs.declared.node.IllegalEvent.{IllegalEvent}
 use Rattle.thp_drawing.specs.declared.node.DrawnNode.{DrawnNode}
 use Rattle.thp_drawing.specs.declared.quantity.Quantity.TheVariants.{Queue}
-
--- the live pages in all stages
-abbrev pub live_pages : Pages → ℕ
-live_pages p = plus (plus (plus (plus p.allocated p.partly_mapped) p.queued) p.in_batch) p.split
 
 -- whether an event of a node is illegal
 abbrev pub illegal_mark : Option IllegalEvent → List ℕ
@@ -26,7 +22,7 @@ number_cell x n = text_at (codes "ink e") x 0 (grouped n)
 unfoldable pub overview_line : ℕ → ℕ → DrawnNode → List ℕ
 overview_line y n d =
     group_start 0 y ++ text_at (codes "ink") 150 0 (decimal n ++ illegal_mark d.illegal)
-    ++ number_cell 2400 (live_pages d.last.pages) ++ number_cell 3900 (most_of Queue d.columns.items)
+    ++ number_cell 2400 (sum_up_to Split d.last.pages) ++ number_cell 3900 (most_of Queue d.columns.items)
     ++ number_cell 5400 d.last.held ++ number_cell 6900 d.last.given ++ group_end
 
 -- the lines of nodes from node n on, from this height on

@@ -1,12 +1,12 @@
 -- The quantities that are drawn over a node's events: their names, appearance, and numbers.
-use Rattle.std.specs.Prelude.{ℕ, ◌+◌, ◌-◌, ◌/◌, min, max, List, [], ◌∷◌, codes}
+use Rattle.std.specs.Prelude.{ℕ, ◌+◌, ◌-◌, ◌/◌, min, max, List, [], ◌∷◌, codes, take}
 use Rattle.thp_metrics.specs.declared.column.Column.{Column}
 use Rattle.thp_metrics.specs.declared.numbers.Numbers.{Numbers}
-use Rattle.thp_metrics.specs.declared.pages.PageSums.{PageSums}
-use Rattle.thp_metrics.specs.declared.span.Span.{Span}
+use Rattle.thp_metrics.specs.declared.column.Span.{Span}
 use Rattle.thp_metrics.specs.declared.stage.Stage.{Stage}
 use Rattle.thp_metrics.specs.declared.stage.Stage.TheVariants.{Allocated, PartlyMapped, Queued, InBatch, Split}
-use Rattle.thp_drawing.specs.Scales.{doubled_step, plus, round_step, times}
+use Rattle.thp_metrics.specs.Prelude.{column_of, count_in, rank}
+use Rattle.thp_drawing.specs.Scales.{doubled_step, plus, plus_all, round_step, times}
 use Rattle.thp_drawing.specs.declared.node.DrawnNode.{DrawnNode}
 use Rattle.thp_drawing.specs.declared.quantity.Quantity.{Quantity}
 use Rattle.thp_drawing.specs.declared.quantity.Quantity.TheVariants.{Queue, InBatches, Held, Given, Splits, PinnedTries, UnderusedSplits, Wait, Nothing}
@@ -50,17 +50,9 @@ span_in UnderusedSplits c = c.underused_splits
 span_in Wait c = c.wait
 span_in Nothing c = record { least = 0; greatest = 0 }
 
--- its number after the last event
+-- its number after these events: the one in the column of this prefix alone
 abbrev pub last_of : Quantity → Numbers → ℕ
-last_of Queue n = n.queue
-last_of InBatches n = n.in_batches
-last_of Held n = n.held
-last_of Given n = n.given
-last_of Splits n = n.splits
-last_of PinnedTries n = n.pinned_tries
-last_of UnderusedSplits n = n.underused_splits
-last_of Wait n = n.wait
-last_of Nothing n = 0
+last_of q n = (span_in q (column_of (n ∷ []))).least
 
 -- its greatest number in any column
 abbrev pub most_of : Quantity → List Column → ℕ
@@ -81,26 +73,14 @@ stage_name x = (stage_row x).0
 abbrev pub stage_class : Stage → List ℕ
 stage_class x = (stage_row x).1
 
--- the number of pages in a stage, summed over a column's prefixes
-abbrev pub sum_in : Stage → PageSums → ℕ
-sum_in Allocated s = s.allocated
-sum_in PartlyMapped s = s.partly_mapped
-sum_in Queued s = s.queued
-sum_in InBatch s = s.in_batch
-sum_in Split s = s.split
+-- the number of pages in a stage or in an earlier one, given that of each
+abbrev pub sum_up_to : Stage → List ℕ → ℕ
+sum_up_to x counts = plus_all (take (rank x + 1) counts)
 
--- the number of pages in it or in an earlier one
-abbrev pub sum_up_to : Stage → PageSums → ℕ
-sum_up_to Allocated s = s.allocated
-sum_up_to PartlyMapped s = plus s.allocated s.partly_mapped
-sum_up_to Queued s = plus (plus s.allocated s.partly_mapped) s.queued
-sum_up_to InBatch s = plus (plus (plus s.allocated s.partly_mapped) s.queued) s.in_batch
-sum_up_to Split s = plus (plus (plus (plus s.allocated s.partly_mapped) s.queued) s.in_batch) s.split
-
--- the greatest such sum of any column: 0 if the stage does not occur
+-- the greatest number of pages in it, summed over a column's prefixes: 0 if the stage does not occur
 abbrev pub most_in : Stage → List Column → ℕ
 most_in x [] = 0
-most_in x (c ∷ more) = max (sum_in x c.pages) (most_in x more)
+most_in x (c ∷ more) = max (count_in c.pages x) (most_in x more)
 
 -- the number of prefixes in column j, given w per column and this many in all
 abbrev pub prefixes_of : ℕ → ℕ → ℕ → ℕ

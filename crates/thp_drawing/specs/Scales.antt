@@ -1,9 +1,14 @@
 -- Numbers and their positions. All are whole, and none exceeds 128 bits.
-use Rattle.std.specs.Prelude.{ℕ, zero, suc, ◌+◌, ◌*◌, ◌-◌, ◌/◌, ◌^◌, min, max, if◌then◌else◌, nat_le}
+use Rattle.std.specs.Prelude.{ℕ, zero, suc, ◌+◌, ◌*◌, ◌-◌, ◌/◌, ◌^◌, min, max, List, [], ◌∷◌, if◌then◌else◌, nat_le}
 
 -- the sum, saturating at the greatest 128-bit number
 unfoldable pub plus : ℕ → ℕ → ℕ
 plus a b = min (a + b) (2 ^ 128 - 1)
+
+-- the sum of all, in the same way
+abbrev pub plus_all : List ℕ → ℕ
+plus_all [] = 0
+plus_all (n ∷ ns) = plus n (plus_all ns)
 
 -- the product, in the same way
 unfoldable pub times : ℕ → ℕ → ℕ

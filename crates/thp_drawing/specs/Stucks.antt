@@ -1,6 +1,6 @@
 -- The pages whose split is prevented by pins, above a node's panels.
 use Rattle.std.specs.Prelude.{ℕ, ◌+◌, ◌-◌, min, List, [], ◌∷◌, ◌++◌, length, take, codes, if◌then◌else◌, nat_le, decimal}
-use Rattle.thp_metrics.specs.declared.stuck_page.StuckPage.{StuckPage}
+use Rattle.thp_metrics.specs.declared.waiting.StuckPage.{StuckPage}
 use Rattle.thp_drawing.specs.Elements.{text_at}
 use Rattle.thp_drawing.specs.Grouped.{grouped, many}
 use Rattle.thp_drawing.specs.Scales.{plus, times}

@@ -5,8 +5,8 @@ use Rattle.thp_drawing.specs.declared.node.IllegalEvent.{IllegalEvent}
 use Rattle.thp_metrics.specs.declared.column.Column.{Column}
 use Rattle.thp_metrics.specs.declared.stage.Stage.{Stage}
 use Rattle.thp_metrics.specs.declared.stage.Stage.TheVariants.{Allocated, PartlyMapped, Queued, InBatch, Split}
-use Rattle.thp_metrics.specs.declared.stuck_page.StuckPage.{StuckPage}
-use Rattle.thp_metrics.specs.Prelude.{shown_callers}
+use Rattle.thp_metrics.specs.declared.waiting.StuckPage.{StuckPage}
+use Rattle.thp_metrics.specs.Prelude.{count_in, shown_callers}
 use Rattle.thp_drawing.specs.Bars.{is_among}
 use Rattle.thp_drawing.specs.Elements.{field}
 use Rattle.thp_drawing.specs.declared.node.DrawnNode.{DrawnNode}
@@ -16,15 +16,20 @@ abbrev pub threshold_field : Option ℕ → List ℕ
 threshold_field None = codes "\toff"
 threshold_field (Some threshold) = field threshold
 
--- the numbers of a column: the least and the greatest of each series, the sum of each stage
+-- the number for each stage
+abbrev pub stage_fields : List ℕ → List ℕ
+stage_fields counts =
+    field (count_in counts Allocated) ++ field (count_in counts PartlyMapped) ++ field (count_in counts Queued)
+    ++ field (count_in counts InBatch) ++ field (count_in counts Split)
+
+-- the numbers of a column: the least and the greatest of each series
 unfoldable pub column_numbers : Column → List ℕ
 column_numbers c =
     field c.queue.least ++ field c.queue.greatest ++ field c.in_batches.least ++ field c.in_batches.greatest
     ++ field c.held.least ++ field c.held.greatest ++ field c.given.least ++ field c.given.greatest
     ++ field c.splits.least ++ field c.splits.greatest ++ field c.underused_splits.least
     ++ field c.underused_splits.greatest ++ field c.pinned_tries.least ++ field c.pinned_tries.greatest
-    ++ field c.wait.least ++ field c.wait.greatest ++ field c.pages.allocated ++ field c.pages.partly_mapped
-    ++ field c.pages.queued ++ field c.pages.in_batch ++ field c.pages.split
+    ++ field c.wait.least ++ field c.wait.greatest
 
 -- a page's stage as a letter; a page that is not live has none
 abbrev pub stage_letter : Option Stage → List ℕ
@@ -56,12 +61,12 @@ callers_joined callers = caller_items callers shown_callers
 abbrev pub caller_words : ℕ → List ℕ
 caller_words callers = if nat_eq callers 0 then codes "-" else callers_joined callers
 
--- the line of a column of node n, with its first and its last prefix; the last fields are the stages of the first pages
--- allocated, and the callers that had pages in their batches
+-- the line of a column of node n, with its first and its last prefix; the last fields are the sum of each stage, the stages of
+-- the first pages allocated, and the callers that had pages in their batches
 unfoldable pub column_line : ℕ → ℕ → ℕ → Column → List ℕ
 column_line n first last c =
-    (codes "column" ++ field n ++ field first ++ field last) ++ column_numbers c ++ codes "\t" ++ stage_letters c.stages
-    ++ codes "\t" ++ caller_words c.callers ++ codes "\n"
+    (codes "column" ++ field n ++ field first ++ field last) ++ column_numbers c ++ stage_fields c.pages ++ codes "\t"
+    ++ stage_letters c.stages ++ codes "\t" ++ caller_words c.callers ++ codes "\n"
 
 -- the lines of columns from column j on, w prefixes each of so many in all
 abbrev pub column_lines : ℕ → ℕ → ℕ → ℕ → List Column → List ℕ
@@ -69,14 +74,12 @@ column_lines n w prefixes j [] = []
 column_lines n w prefixes j (c ∷ more) =
     column_line n (w * j) (min (w * j + w) prefixes - 1) c ++ column_lines n w prefixes (j + 1) more
 
--- the numbers of a node after its shape: its events, the width of a column, and the numbers after the last event
+-- the numbers of a node after its shape: its events, the width of a column, and the numbers after the last event but those of its pages
 unfoldable pub node_numbers : DrawnNode → List ℕ
 node_numbers d =
     field (d.prefixes - 1) ++ field d.width ++ field d.last.queue ++ field d.last.in_batches
     ++ field d.last.held ++ field d.last.given ++ field d.last.splits ++ field d.last.underused_splits
-    ++ field d.last.pinned_tries ++ field d.last.wait ++ field d.last.pages.allocated
-    ++ field d.last.pages.partly_mapped ++ field d.last.pages.queued ++ field d.last.pages.in_batch
-    ++ field d.last.pages.split
+    ++ field d.last.pinned_tries ++ field d.last.wait
 
 -- the number of the line with the first illegal event in the journal's text, and that line, whose end ends the node's own
 abbrev pub illegal_fields : Option IllegalEvent → List ℕ
@@ -87,7 +90,7 @@ illegal_fields (Some illegal) = field illegal.line ++ codes "\t" ++ ended (event
 unfoldable pub node_line : ℕ → DrawnNode → List ℕ
 node_line n d =
     (codes "node" ++ field n ++ field d.shape.blocks ++ field d.shape.order) ++ threshold_field d.shape.underused
-    ++ node_numbers d ++ illegal_fields d.illegal
+    ++ node_numbers d ++ stage_fields d.last.pages ++ illegal_fields d.illegal
 
 -- the line of a stuck page of node n: the number of times it was found pinned, and the event since which it waits
 abbrev pub stuck_line : ℕ → StuckPage → List ℕ

@@ -5,10 +5,10 @@
 //! `Elements`, `Grouped`, `Styles`).
 //!
 //! - `node`: what is drawn of a node (`Drawn`): its numbers, its columns, the event at which it ends.
-//! - `table`; `picture`, `title`, `overview`, `panel`, `quantity`, `rows` (one for each page), `lanes` (one for each caller's
-//!   batches), `stages`, `stuck`, `bar`, `axis`, `area`, `scale`, `element`, `grouped`, `style`: by the same names. A text is a
-//!   list of pieces (`element`), which one function appends.
-//! - `escaping` (`Escapes`): words as XML has them. `laws` (`Laws`).
+//! - `table`; `picture` (`Styles`), `title` (`Stucks`), `overview`, `panel`, `quantity`, `stages`, `bar` (`Rows`, one for each
+//!   page; `Lanes`, one for each caller's batches; `Laws`), `axis`, `area`, `scale`, `element` (`Grouped`): by the same names. A
+//!   text is a list of pieces (`element`), which one function appends.
+//! - `escaping` (`Escapes`): words as XML has them.
 //!
 //! docs/FORMATS.md has both formats; the stored pictures are compared by `tests/drawer.py`.
 #![tactic(auto)]
@@ -18,24 +18,18 @@ mod axis;
 mod bar;
 mod element;
 mod escaping;
-mod grouped;
-mod lanes;
-mod laws;
 mod node;
 mod overview;
 mod panel;
 mod picture;
 mod quantity;
-mod rows;
 mod scale;
 mod stages;
-mod stuck;
-mod style;
 mod table;
 mod title;
 
+pub use bar::each_page_has_its_row;
 pub use escaping::{escaped_stays_within, put_escaped};
-pub use laws::each_page_has_its_row;
 pub use node::{DrawnNode, IllegalEvent};
 pub use picture::{put_node_picture, put_picture};
 pub use table::{put_node_table, put_table};

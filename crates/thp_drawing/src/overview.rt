@@ -1,13 +1,14 @@
 //! The overview of all nodes.
 ghost use Rattle.std.specs.Prelude.{◌≡◌, ◌++◌, OnOk};
-ghost use Rattle.thp_drawing.specs.Overviews.{live_pages, number_cell, overview, overview_foot, overview_heads, overview_line};
+ghost use Rattle.thp_drawing.specs.Overviews.{number_cell, overview, overview_foot, overview_heads, overview_line};
 
 use crate::element::{GROUP_END, PutResult, pieces, put_group, put_text, put_words};
 use crate::node::DrawnNode;
 use crate::quantity::Quantity;
 use crate::scale::{plus, times};
+use crate::stages::sum_up_to;
 use thp_journal_writer::put;
-use thp_metrics::Pages;
+use thp_metrics::{Stage, widened};
 
 /// The lower end of the picture's title.
 pub(crate) const TITLE_FOOT: u128 = 660;
@@ -62,7 +63,11 @@ fn put_overview_line(text: &mut Vec<u8>, y: u128, number: usize, node: &DrawnNod
     };
     let words = pieces!(Decimal(number as u128) Bytes(mark));
     put_words(text, b"ink", 150, 0, &words)?;
-    put_number(text, 2400, live_pages(&node.last.pages))?;
+    put_number(
+        text,
+        2400,
+        sum_up_to(Stage::Split, &widened(&node.last.pages)),
+    )?;
     put_number(text, 3900, Quantity::Queue.most(node.columns.as_slice()))?;
     put_number(text, 5400, node.last.held)?;
     put_number(text, 6900, node.last.given)?;
@@ -74,16 +79,4 @@ fn put_number(text: &mut Vec<u8>, x: u128, number: u128) -> PutResult
     ensures { OnOk result (text.new.items ≡ text.old.items ++ number_cell x number) }
 {
     put_words(text, b"ink e", x, 0, &pieces!(Grouped(number)))
-}
-
-// The number of live pages in all stages.
-fn live_pages(pages: &Pages) -> u128
-    ensures { result ≡ live_pages pages.now }
-{
-    let two = plus(u128::from(pages.allocated), u128::from(pages.partly_mapped));
-    let four = plus(
-        plus(two, u128::from(pages.queued)),
-        u128::from(pages.in_batch),
-    );
-    plus(four, u128::from(pages.split))
 }

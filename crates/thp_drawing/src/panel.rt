@@ -4,14 +4,14 @@ ghost use Rattle.thp_drawing.specs.Panels.{below, content_height, height_of, pan
 
 use crate::area::put_quantity_areas;
 use crate::axis::{BASE_LINE, put_event_rules, put_ticks};
+use crate::bar::{allocated_pages, has_rows, lanes_height, put_lanes, put_rows, rows_height};
 use crate::element::{PutResult, draw, pieces, put_group, put_item};
-use crate::lanes::{lanes_height, put_lanes};
 use crate::node::DrawnNode;
 use crate::quantity::Quantity;
-use crate::rows::{allocated_pages, has_rows, put_rows, rows_height};
 use crate::scale::{plus, scaled, steps_in, times};
 use crate::stages::{pages_most, put_stage_items, put_stages};
 use thp_journal_writer::put;
+use thp_metrics::Column;
 
 /// A panel of a node.
 #[derive(Clone, Copy, Debug, PartialEq, Eq)]
@@ -183,7 +183,7 @@ fn put_quantity_item(text: &mut Vec<u8>, quantity: Quantity, x: u128, node: &Dra
         return Ok(());
     }
     let (name, class, _) = quantity.words();
-    let last = quantity.last(&node.last);
+    let last = quantity.span(&Column::of(&node.last)).least;
     let words = pieces!(
         Bytes(name) Bytes(b": most ") Grouped(most) Bytes(b", last ") Grouped(last)
     );

@@ -1,9 +1,9 @@
 //! The quantities that are drawn over a node's events.
 ghost use Rattle.std.specs.Prelude.{◌≡◌};
-ghost use Rattle.thp_drawing.specs.Quantities.{last_of, most_of, quantity_class, quantity_name, quantity_step, quantity_unit, span_in};
+ghost use Rattle.thp_drawing.specs.Quantities.{most_of, quantity_class, quantity_name, quantity_step, quantity_unit, span_in};
 
 use crate::scale::{doubled_step, round_step};
-use thp_metrics::{Column, Numbers, Span};
+use thp_metrics::{Column, Span};
 
 /// A quantity of a node that is drawn over its events.
 #[derive(Clone, Copy, Debug, PartialEq, Eq)]
@@ -75,23 +75,6 @@ impl Quantity {
                 least: 0,
                 greatest: 0,
             },
-        }
-    }
-
-    /// Returns the quantity's number after the last event.
-    pub(crate) fn last(self, numbers: &Numbers) -> u128
-        ensures { result ≡ last_of self numbers.now }
-    {
-        match self {
-            Quantity::Queue => u128::from(numbers.queue),
-            Quantity::InBatches => u128::from(numbers.in_batches),
-            Quantity::Held => numbers.held,
-            Quantity::Given => numbers.given,
-            Quantity::Splits => u128::from(numbers.splits),
-            Quantity::PinnedTries => u128::from(numbers.pinned_tries),
-            Quantity::UnderusedSplits => u128::from(numbers.underused_splits),
-            Quantity::Wait => u128::from(numbers.wait),
-            Quantity::Nothing => 0,
         }
     }
 

@@ -1,7 +1,7 @@
 //! The numbers of pages in each stage, and their panel.
 ghost use Rattle.std.specs.Prelude.{◌≡◌, ◌++◌, OnOk};
 ghost use Rattle.thp_drawing.specs.Panels.{stage_item, stage_items, stages_drawn};
-ghost use Rattle.thp_drawing.specs.Quantities.{most_in, pages_most, prefixes_of, stage_class, stage_name, sum_in, sum_up_to};
+ghost use Rattle.thp_drawing.specs.Quantities.{most_in, pages_most, prefixes_of, stage_class, stage_name, sum_up_to};
 
 use crate::area::put_stage_area;
 use crate::axis::{BASE_LINE, put_ticks};
@@ -9,7 +9,7 @@ use crate::element::{PutResult, pieces, put_group, put_item};
 use crate::node::DrawnNode;
 use crate::scale::{plus, round_step, steps_in, times};
 use thp_journal_writer::put;
-use thp_metrics::{Column, PageSums, Stage};
+use thp_metrics::{Column, STAGES, Stage};
 
 /// Returns the name of a stage, and the class with its colour.
 pub(crate) fn stage_words(stage: Stage) -> (&'static [u8], &'static [u8])
@@ -25,32 +25,16 @@ pub(crate) fn stage_words(stage: Stage) -> (&'static [u8], &'static [u8])
     }
 }
 
-fn sum_in(stage: Stage, sums: &PageSums) -> u128
-    ensures { result ≡ sum_in stage sums.now }
+/// Returns the number of pages in a stage or an earlier one, given that of each stage.
+#[tactic(auto, unfolding(crate::specs::Scales::plus))]
+pub(crate) fn sum_up_to(stage: Stage, counts: &[u128; STAGES]) -> u128
+    ensures { result ≡ sum_up_to stage counts.now }
 {
-    match stage {
-        Stage::Allocated => sums.allocated,
-        Stage::PartlyMapped => sums.partly_mapped,
-        Stage::Queued => sums.queued,
-        Stage::InBatch => sums.in_batch,
-        Stage::Split => sums.split,
+    let mut sum = 0;
+    for count in counts.split_at(stage as usize + 1).0 {
+        sum = plus(sum, *count);
     }
-}
-
-/// Returns the number of pages in a stage or an earlier one, summed over a column's prefixes.
-pub(crate) fn sum_up_to(stage: Stage, sums: &PageSums) -> u128
-    ensures { result ≡ sum_up_to stage sums.now }
-{
-    let two = plus(sums.allocated, sums.partly_mapped);
-    let three = plus(two, sums.queued);
-    let four = plus(three, sums.in_batch);
-    match stage {
-        Stage::Allocated => sums.allocated,
-        Stage::PartlyMapped => two,
-        Stage::Queued => three,
-        Stage::InBatch => four,
-        Stage::Split => plus(four, sums.split),
-    }
+    sum
 }
 
 /// Returns the greatest sum of a stage in any column: 0 if the stage does not occur.
@@ -59,7 +43,7 @@ pub(crate) fn most_in(stage: Stage, columns: &[Column]) -> u128
 {
     let mut most = 0;
     for column in columns {
-        most = sum_in(stage, &column.pages).max(most);
+        most = column.pages[stage as usize].max(most);
     }
     most
 }

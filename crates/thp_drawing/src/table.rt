@@ -1,16 +1,15 @@
 //! The numbers of nodes as a table.
 ghost use Rattle.std.specs.Prelude.{◌≡◌, ◌≤◌, ◌++◌, ◌+◌, ◌*◌, ◌-◌, List, [], ◌∷◌, length, min, OnOk, codes};
 ghost use Rattle.thp_drawing.specs.Elements.{field};
-ghost use Rattle.thp_drawing.specs.Tables.{caller_item, caller_words, column_line, column_lines, illegal_fields, node_line, node_lines, node_table, stage_letters, stuck_line, stuck_lines, table_text, threshold_field};
+ghost use Rattle.thp_drawing.specs.Tables.{caller_item, caller_words, column_line, column_lines, illegal_fields, node_line, node_lines, node_table, stage_fields, stage_letters, stuck_line, stuck_lines, table_text, threshold_field};
 
 use crate::bar::is_among;
-use crate::element::{PutResult, draw};
-use crate::grouped::put_decimal;
+use crate::element::{PutResult, draw, put_decimal};
 use crate::node::{DrawnNode, IllegalEvent};
 use itoa::Buffer;
 use std::alloc::AllocError;
 use thp_journal_writer::{put, put_event_line};
-use thp_metrics::{Column, SHOWN_CALLERS, Stage};
+use thp_metrics::{Column, SHOWN_CALLERS, STAGES, Stage, widened};
 
 // The names of the fields of nodes, of columns, and of stuck pages.
 const HEADS: &[u8] =
@@ -62,7 +61,7 @@ fn put_node(text: &mut Vec<u8>, number: usize, node: &DrawnNode) -> PutResult
     Ok(())
 }
 
-#[tactic(auto, using(crate::proofs::Pieces::four), unfolding(crate::specs::Tables::node_line, crate::specs::Tables::node_numbers))]
+#[tactic(auto, using(crate::proofs::Pieces::five), unfolding(crate::specs::Tables::node_line, crate::specs::Tables::node_numbers))]
 fn put_node_line(text: &mut Vec<u8>, number: usize, node: &DrawnNode) -> PutResult
     ensures { OnOk result (text.new.items ≡ text.old.items ++ node_line number node.now) }
 {
@@ -78,10 +77,8 @@ fn put_node_line(text: &mut Vec<u8>, number: usize, node: &DrawnNode) -> PutResu
         Field(u128::from(last.queue)) Field(u128::from(last.in_batches)) Field(last.held)
         Field(last.given) Field(u128::from(last.splits)) Field(u128::from(last.underused_splits))
         Field(u128::from(last.pinned_tries)) Field(u128::from(last.wait))
-        Field(u128::from(last.pages.allocated)) Field(u128::from(last.pages.partly_mapped))
-        Field(u128::from(last.pages.queued)) Field(u128::from(last.pages.in_batch))
-        Field(u128::from(last.pages.split))
     )?;
+    put_stage_fields(text, &widened(&last.pages))?;
     put_illegal(text, &node.illegal)
 }
 
@@ -109,7 +106,7 @@ fn put_threshold(text: &mut Vec<u8>, threshold: Option<u32>) -> PutResult
     }
 }
 
-#[tactic(auto, using(crate::proofs::Pieces::seven), unfolding(crate::specs::Tables::column_line, crate::specs::Tables::column_numbers))]
+#[tactic(auto, using(crate::proofs::Pieces::eight), unfolding(crate::specs::Tables::column_line, crate::specs::Tables::column_numbers))]
 fn put_column(
     text: &mut Vec<u8>,
     number: usize,
@@ -127,14 +124,22 @@ fn put_column(
         Field(column.splits.greatest) Field(column.underused_splits.least)
         Field(column.underused_splits.greatest) Field(column.pinned_tries.least)
         Field(column.pinned_tries.greatest) Field(column.wait.least) Field(column.wait.greatest)
-        Field(column.pages.allocated) Field(column.pages.partly_mapped) Field(column.pages.queued)
-        Field(column.pages.in_batch) Field(column.pages.split)
     )?;
+    put_stage_fields(text, &column.pages)?;
     put(text, b"\t")?;
     put_stages(text, &column.stages)?;
     put(text, b"\t")?;
     put_callers(text, column.callers)?;
     put(text, b"\n")
+}
+
+// The number for each stage.
+fn put_stage_fields(text: &mut Vec<u8>, counts: &[u128; STAGES]) -> PutResult
+    ensures { OnOk result (text.new.items ≡ text.old.items ++ stage_fields counts.now) }
+{
+    draw!(text;
+        Field(counts[0]) Field(counts[1]) Field(counts[2]) Field(counts[3]) Field(counts[4])
+    )
 }
 
 // A set of callers, given as bits: their numbers, separated by commas.
@@ -169,14 +174,10 @@ fn put_stages(text: &mut Vec<u8>, stages: &[Option<Stage>]) -> PutResult
 {
     for stage in stages {
         let letter = match stage {
-            None => b"-",
-            Some(Stage::Allocated) => b"a",
-            Some(Stage::PartlyMapped) => b"m",
-            Some(Stage::Queued) => b"q",
-            Some(Stage::InBatch) => b"b",
-            Some(Stage::Split) => b"s",
+            None => b'-',
+            Some(stage) => b"amqbs"[*stage as usize],
         };
-        put(text, letter)?;
+        put(text, &[letter])?;
     }
     Ok(())
 }

@@ -1,13 +1,16 @@
-//! The title of a node above its panels.
-ghost use Rattle.std.specs.Prelude.{◌≡◌, ◌++◌, OnOk};
+//! The words above the panels of a node: its title, its first illegal event, and the pages whose split is prevented by pins.
+ghost use Rattle.std.specs.Prelude.{◌≡◌, ◌++◌, OnOk, codes};
 ghost use Rattle.thp_journal_writer.specs.Prelude.{event_line};
-ghost use Rattle.thp_drawing.specs.Elements.{shortened};
+ghost use Rattle.thp_drawing.specs.Elements.{shortened, text_at};
 ghost use Rattle.thp_drawing.specs.Titles.{illegal_text, node_words, threshold_words};
+ghost use Rattle.thp_drawing.specs.Stucks.{more_line, stuck_height, stuck_lines, stuck_text, stuck_words};
 
 use crate::element::{PutResult, draw, pieces, put_words};
 use crate::node::{DrawnNode, IllegalEvent};
+use crate::scale::{plus, times};
 use thp_history::Event;
 use thp_journal_writer::{put, put_event_line};
+use thp_metrics::StuckPage;
 
 // The greatest number of letters in the line of an event that is shown.
 const MAX_LETTERS: usize = 70;
@@ -70,4 +73,53 @@ fn put_shortened(text: &mut Vec<u8>, line: &[u8]) -> PutResult
     }
     put(text, line.split_at(67).0)?;
     put(text, b" ..")
+}
+
+// The number of pages that have a line each.
+const TOLD_STUCK: usize = 5;
+
+/// Appends the text about the stuck pages of a node, from this height on.
+#[tactic(auto, using(crate::proofs::Pieces::two), unfolding(crate::specs::Stucks::stuck_text))]
+pub(crate) fn put_stuck_text(text: &mut Vec<u8>, y: u128, node: &DrawnNode) -> PutResult
+    ensures { OnOk result (text.new.items ≡ text.old.items ++ stuck_text y node.now) }
+{
+    let pages = node.stuck.as_slice();
+    let (front, _) = pages.split_at(pages.len().min(TOLD_STUCK));
+    for (place, page) in front.iter().enumerate() {
+        put_stuck_line(text, plus(y, times(165, place as u128)), page)?;
+    }
+    put_more_line(text, y, pages.len() as u128)
+}
+
+// The text about a page.
+#[tactic(auto, unfolding(crate::specs::Stucks::stuck_words))]
+fn put_stuck_line(text: &mut Vec<u8>, y: u128, page: &StuckPage) -> PutResult
+    ensures { OnOk result (text.new.items ≡ text.old.items ++ text_at (codes "ink") 900 y (stuck_words page.now)) }
+{
+    let words = pieces!(
+        Bytes(b"stuck by pins: page ") Decimal(u128::from(page.page.0))
+        Bytes(b", found pinned ") Many(u128::from(page.finds), b"time")
+        Bytes(b", waits since event ") Grouped(u128::from(page.since))
+    );
+    put_words(text, b"ink", 900, y, &words)
+}
+
+// The number of pages without a line.
+#[tactic(auto, unfolding(crate::specs::Stucks::more_words))]
+fn put_more_line(text: &mut Vec<u8>, y: u128, count: u128) -> PutResult
+    ensures { OnOk result (text.new.items ≡ text.old.items ++ more_line y count) }
+{
+    let told = TOLD_STUCK as u128;
+    if count <= told {
+        return Ok(());
+    }
+    let words = pieces!(Bytes(b"stuck by pins: ") Many(count - told, b"more page"));
+    put_words(text, b"ink", 900, plus(y, times(165, told)), &words)
+}
+
+/// Returns the height of the text about stuck pages.
+pub(crate) fn stuck_height(node: &DrawnNode) -> u128
+    ensures { result ≡ stuck_height node.now }
+{
+    times(165, (node.stuck.len() as u128).min(TOLD_STUCK as u128 + 1))
 }

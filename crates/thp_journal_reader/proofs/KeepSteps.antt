@@ -8,8 +8,8 @@ use Rattle.thp_history.specs.declared.shape.Shape.{Shape}
 use Rattle.thp_history.specs.Prelude.{first_that, least_free, is_alloc, block_in_use, History, by, count_of, some_event}
 use Rattle.thp_live_pages.specs.Prelude.{least_of}
 use Rattle.thp_journal_reader.specs.declared.page_blocks.Allocation.{Allocation}
-use Rattle.thp_journal_reader.specs.declared.pages.PageRecord.{PageRecord}
-use Rattle.thp_journal_reader.specs.declared.pages.PageRecord.TheVariants.{Freed, Holds}
+use Rattle.thp_journal_reader.specs.declared.page_blocks.PageRecord.{PageRecord}
+use Rattle.thp_journal_reader.specs.declared.page_blocks.PageRecord.TheVariants.{Freed, Holds}
 use Rattle.thp_journal_reader.specs.Chains.{IsChain, IsCovered}
 use Rattle.thp_journal_reader.specs.Freeing.{freed_page}
 use Rattle.thp_journal_reader.specs.HeldBlocks.{is_unfreed, times_held, blocks_of, IsKnown, Keeps}

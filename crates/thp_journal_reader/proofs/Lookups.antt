@@ -2,9 +2,9 @@
 use Rattle.std.proofs.Common.{◌≡◌, ℕ, suc, zero, ◌<◌, ◌≤◌, Bool, true, false, cond, List, [], ◌∷◌, ◌++◌, length, set, get_or, refl, ap, sym, ◌∙◌, arith, nat_eq, nat_lt, eq-eqb, ne_eqb, Option, Some, None, slice_get, nat_cmp, is_eq, ltb-false, ltb-true, eqb-true}
 use Rattle.std.proofs.lemmas.Option.{slice_get_past, slice_get-get_or}
 use Rattle.std.proofs.lemmas.Bool.Decides.{eqb_tells}
-use Rattle.thp_journal_reader.specs.declared.pages.PageRecord.{PageRecord}
-use Rattle.thp_journal_reader.specs.declared.pages.PageRecord.TheVariants.{Holds}
-use Rattle.thp_journal_reader.specs.declared.pages.Pages.{Pages}
+use Rattle.thp_journal_reader.specs.declared.page_blocks.PageRecord.{PageRecord}
+use Rattle.thp_journal_reader.specs.declared.page_blocks.PageRecord.TheVariants.{Holds}
+use Rattle.thp_journal_reader.specs.declared.page_blocks.Pages.{Pages}
 use Rattle.thp_journal_reader.specs.PageRecord.{first_known, known_of}
 use Rattle.std.proofs.lemmas.Bool.{cases_lt}
 use Rattle.std.specs.BTreeMap.{get}

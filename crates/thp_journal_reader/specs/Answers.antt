@@ -3,7 +3,7 @@ use Rattle.std.specs.Prelude.{◌≡◌, ◌<◌, ◌+◌, ◌⊎◌, ⊤, ℕ, 
 use Rattle.thp_history.specs.Prelude.{SameButBlocks, History, IsLegal, IsFirstMisfit}
 use Rattle.thp_check.specs.Prelude.{Explains}
 use Rattle.thp_script.specs.Prelude.{Fault}
-use Rattle.thp_journal_reader.specs.declared.illegal.Illegal.{Illegal}
+use Rattle.thp_journal_reader.specs.declared.long_check.Illegal.{Illegal}
 use Rattle.thp_script.specs.declared.fault.LongReadFault.{LongReadFault}
 use Rattle.thp_script.specs.declared.fault.LongReadFault.TheVariants.{Text, OutOfMemory}
 use Rattle.thp_journal_reader.specs.declared.journals.Journals.{Journals}

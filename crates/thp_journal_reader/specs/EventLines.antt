@@ -8,10 +8,10 @@ use Rattle.thp_history.specs.Prelude.{by, loss_what, max_callers}
 use Rattle.thp_script.specs.declared.fault.TextKind.{TextKind}
 use Rattle.thp_script.specs.declared.fault.TextKind.TheVariants.{BadWord, BadCount}
 use Rattle.thp_script.specs.Prelude.{number_up_to, one_word, two_words, ◌>>=◌, Text}
-use Rattle.thp_journal_reader.specs.declared.event_word.EventWord.{EventWord}
-use Rattle.thp_journal_reader.specs.declared.event_word.EventWord.TheVariants.{OfPage, OfRange, OfLoss, UnmapSub, Split, Close}
-use Rattle.thp_journal_reader.specs.declared.event_word.PageWord.{PageWord}
-use Rattle.thp_journal_reader.specs.declared.event_word.RangeWord.{RangeWord}
+use Rattle.thp_journal_reader.specs.declared.event_line.EventWord.{EventWord}
+use Rattle.thp_journal_reader.specs.declared.event_line.EventWord.TheVariants.{OfPage, OfRange, OfLoss, UnmapSub, Split, Close}
+use Rattle.thp_journal_reader.specs.declared.event_line.PageWord.{PageWord}
+use Rattle.thp_journal_reader.specs.declared.event_line.RangeWord.{RangeWord}
 use Rattle.thp_journal_writer.specs.declared.version.Version.{Version}
 use Rattle.thp_journal_reader.specs.EventWords.{event_word, outcome_of, page_what, range_what}
 use Rattle.thp_journal_reader.specs.SetTexts.{set_of_text}

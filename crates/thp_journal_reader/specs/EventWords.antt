@@ -8,12 +8,12 @@ use Rattle.thp_history.specs.declared.events.What.TheVariants as what
 use Rattle.thp_script.specs.declared.fault.TextKind.{TextKind}
 use Rattle.thp_script.specs.declared.fault.TextKind.TheVariants.{BadWord}
 use Rattle.thp_script.specs.Prelude.{Text}
-use Rattle.thp_journal_reader.specs.declared.event_word.EventWord.{EventWord}
-use Rattle.thp_journal_reader.specs.declared.event_word.EventWord.TheVariants.{OfPage, OfRange, OfLoss, UnmapSub, Split, Close}
-use Rattle.thp_journal_reader.specs.declared.event_word.PageWord.{PageWord}
-use Rattle.thp_journal_reader.specs.declared.event_word.PageWord.TheVariants.{Alloc, MapWhole, SplitPmd, Pin, Taken, Pinned, Used, Back, Dropped}
-use Rattle.thp_journal_reader.specs.declared.event_word.RangeWord.{RangeWord}
-use Rattle.thp_journal_reader.specs.declared.event_word.RangeWord.TheVariants.{MapSub, Write, Zero}
+use Rattle.thp_journal_reader.specs.declared.event_line.EventWord.{EventWord}
+use Rattle.thp_journal_reader.specs.declared.event_line.EventWord.TheVariants.{OfPage, OfRange, OfLoss, UnmapSub, Split, Close}
+use Rattle.thp_journal_reader.specs.declared.event_line.PageWord.{PageWord}
+use Rattle.thp_journal_reader.specs.declared.event_line.PageWord.TheVariants.{Alloc, MapWhole, SplitPmd, Pin, Taken, Pinned, Used, Back, Dropped}
+use Rattle.thp_journal_reader.specs.declared.event_line.RangeWord.{RangeWord}
+use Rattle.thp_journal_reader.specs.declared.event_line.RangeWord.TheVariants.{MapSub, Write, Zero}
 use Rattle.thp_journal_writer.specs.declared.version.Version.{Version}
 use Rattle.thp_journal_writer.specs.declared.version.Version.TheVariants.{Plain, Orders, Underused}
 

@@ -4,7 +4,7 @@ use Rattle.thp_history.specs.declared.events.Event.{Event}
 use Rattle.thp_history.specs.declared.events.Outcome.{Outcome}
 use Rattle.thp_script.specs.declared.fault.TextKind.{TextKind}
 use Rattle.thp_script.specs.Prelude.{Text, lines_of, words_of}
-use Rattle.thp_journal_reader.specs.declared.event_word.EventWord.{EventWord}
+use Rattle.thp_journal_reader.specs.declared.event_line.EventWord.{EventWord}
 use Rattle.thp_journal_reader.specs.declared.line.Line.TheVariants.{Happened}
 use Rattle.thp_journal_writer.specs.declared.version.Version.{Version}
 use Rattle.thp_journal_reader.specs.EventLines.{caller_number}

@@ -6,8 +6,8 @@ use Rattle.thp_history.specs.declared.events.What.TheVariants.{Alloc}
 use Rattle.thp_history.specs.declared.shape.Shape.{Shape}
 use Rattle.thp_history.specs.Prelude.{frees, History, count_of, some_event}
 use Rattle.thp_journal_reader.specs.declared.page_blocks.Allocation.{Allocation}
-use Rattle.thp_journal_reader.specs.declared.pages.PageRecord.{PageRecord}
-use Rattle.thp_journal_reader.specs.declared.pages.PageRecord.TheVariants.{Freed, Holds}
+use Rattle.thp_journal_reader.specs.declared.page_blocks.PageRecord.{PageRecord}
+use Rattle.thp_journal_reader.specs.declared.page_blocks.PageRecord.TheVariants.{Freed, Holds}
 use Rattle.thp_journal_reader.specs.Chains.{IsChain}
 
 -- page p wasn't freed

@@ -7,8 +7,8 @@ use Rattle.thp_script.specs.declared.fault.TextKind.TheVariants.{BadByte, BadWor
 use Rattle.thp_script.specs.Prelude.{number_up_to, one_word, max_nodes, is_empty, is_printable, ◌>>=◌, Text, words_of}
 use Rattle.thp_journal_reader.specs.declared.line.Line.{Line}
 use Rattle.thp_journal_reader.specs.declared.line.Line.TheVariants.{Head, Node, Happened, End}
-use Rattle.thp_journal_reader.specs.declared.place.Place.{Place}
-use Rattle.thp_journal_reader.specs.declared.place.Place.TheVariants.{Start, Inside, Ended}
+use Rattle.thp_journal_reader.specs.declared.line.Place.{Place}
+use Rattle.thp_journal_reader.specs.declared.line.Place.TheVariants.{Start, Inside, Ended}
 use Rattle.thp_journal_writer.specs.declared.version.Version.{Version}
 use Rattle.thp_journal_writer.specs.declared.version.Version.TheVariants.{Plain, Orders, Underused}
 use Rattle.thp_journal_reader.specs.EventLines.{event_of, no_words}

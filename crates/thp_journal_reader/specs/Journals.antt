@@ -9,8 +9,8 @@ use Rattle.thp_journal_reader.specs.declared.journals.Journals.{Journals}
 use Rattle.thp_journal_reader.specs.declared.journals.NodeJournal.{NodeJournal}
 use Rattle.thp_journal_reader.specs.declared.line.Line.{Line}
 use Rattle.thp_journal_reader.specs.declared.line.Line.TheVariants.{Node, Happened}
-use Rattle.thp_journal_reader.specs.declared.place.Place.{Place}
-use Rattle.thp_journal_reader.specs.declared.place.Place.TheVariants.{Start, Ended}
+use Rattle.thp_journal_reader.specs.declared.line.Place.{Place}
+use Rattle.thp_journal_reader.specs.declared.line.Place.TheVariants.{Start, Ended}
 use Rattle.thp_journal_reader.specs.JournalLines.{line_in, place_after}
 
 -- if nothing follows the last line, the journal has ended, or is cut there

@@ -5,9 +5,9 @@ use Rattle.thp_history.specs.declared.shape.Shape.{Shape}
 use Rattle.thp_history.specs.Prelude.{History}
 use Rattle.thp_check.specs.Prelude.{Replayed}
 use Rattle.thp_journal_reader.specs.declared.follower.FollowedNodes.{FollowedNodes}
-use Rattle.thp_journal_reader.specs.declared.illegal.Illegal.{Illegal}
+use Rattle.thp_journal_reader.specs.declared.long_check.Illegal.{Illegal}
 use Rattle.thp_journal_reader.specs.declared.journals.NodeJournal.{NodeJournal}
-use Rattle.thp_journal_reader.specs.declared.reading.Nodes.{Nodes}
+use Rattle.thp_journal_reader.specs.declared.journals.Nodes.{Nodes}
 use Rattle.thp_journal_reader.specs.Following.{nodes_told, FollowsLines}
 use Rattle.thp_journal_reader.specs.Reading.{nodes_in, IsNodeBefore, IsReading}
 

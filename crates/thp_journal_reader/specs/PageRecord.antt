@@ -2,9 +2,9 @@
 use Rattle.std.specs.Prelude.{ℕ, slice_get, Option, Some, None}
 use Rattle.std.specs.Ordering.{nat_cmp}
 use Rattle.std.specs.BTreeMap.{get}
-use Rattle.thp_journal_reader.specs.declared.pages.PageRecord.{PageRecord}
-use Rattle.thp_journal_reader.specs.declared.pages.PageRecord.TheVariants.{Holds}
-use Rattle.thp_journal_reader.specs.declared.pages.Pages.{Pages}
+use Rattle.thp_journal_reader.specs.declared.page_blocks.PageRecord.{PageRecord}
+use Rattle.thp_journal_reader.specs.declared.page_blocks.PageRecord.TheVariants.{Holds}
+use Rattle.thp_journal_reader.specs.declared.page_blocks.Pages.{Pages}
 
 -- the first record that exists, or that the page holds no block
 abbrev pub first_known : Option PageRecord → Option PageRecord → PageRecord

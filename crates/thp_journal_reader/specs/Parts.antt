@@ -4,7 +4,7 @@ use Rattle.thp_script.specs.Prelude.{◌>>=◌, Fault, told_after, TextSoFar, Te
 use Rattle.thp_journal_reader.specs.declared.journals.Journals.{Journals}
 use Rattle.thp_journal_reader.specs.declared.journals.NodeJournal.{NodeJournal}
 use Rattle.thp_journal_reader.specs.declared.line.Line.{Line}
-use Rattle.thp_journal_reader.specs.declared.place.Place.{Place}
+use Rattle.thp_journal_reader.specs.declared.line.Place.{Place}
 use Rattle.thp_journal_reader.specs.Journals.{lines_from}
 use Rattle.thp_journal_reader.specs.Reading.{with_line}
 

@@ -8,10 +8,10 @@ use Rattle.thp_script.specs.declared.fault.TextKind.TheVariants.{Cut}
 use Rattle.thp_journal_reader.specs.declared.journals.NodeJournal.{NodeJournal}
 use Rattle.thp_journal_reader.specs.declared.line.Line.{Line}
 use Rattle.thp_journal_reader.specs.declared.line.Line.TheVariants.{Node, Happened}
-use Rattle.thp_journal_reader.specs.declared.place.Place.{Place}
-use Rattle.thp_journal_reader.specs.declared.place.Place.TheVariants.{Ended}
-use Rattle.thp_journal_reader.specs.declared.reading.Nodes.{Nodes}
-use Rattle.thp_journal_reader.specs.declared.reading.OpenNode.{OpenNode}
+use Rattle.thp_journal_reader.specs.declared.line.Place.{Place}
+use Rattle.thp_journal_reader.specs.declared.line.Place.TheVariants.{Ended}
+use Rattle.thp_journal_reader.specs.declared.journals.Nodes.{Nodes}
+use Rattle.thp_journal_reader.specs.declared.journals.OpenNode.{OpenNode}
 
 -- the blocks are those chosen for the node's shape and its events
 pub record GoesAlong (node : OpenNode) : Type 0 where

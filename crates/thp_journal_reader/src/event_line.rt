@@ -1,13 +1,12 @@
 //! Parses events from the words of a line.
-ghost use Rattle.std.specs.Prelude.{◌≡◌, ◌≤◌, Ok, Err, IfOk, MatchResult};
+ghost use Rattle.std.specs.Prelude.{◌≡◌, ◌≤◌, Ok, Err, IfOk, MatchResult, IfSome};
 ghost use Rattle.thp_script.specs.Prelude.{number_up_to, one_word};
-ghost use Rattle.thp_journal_reader.specs.EventLines.{caller_number, close_event, event_of, loss_event, outcome_and_word, page_event, page_number, range_event, range_number, split_event, unmap_event};
+ghost use Rattle.thp_journal_reader.specs.Prelude.{caller_number, common_word, event_of, event_word, later_word, loss_event, outcome_and_word, outcome_of, page_number, page_what, range_event, range_number, range_what, split_event, unmap_event, FastWord};
 
-use crate::event_word::{EventWord, PageWord, RangeWord, event_word, outcome_of};
 use crate::set_text::set_of_text;
 use thp_history::{Done, Event, Loss, MAX_CALLERS, Outcome, PageId, What};
 use thp_journal_writer::Version;
-use thp_script::{TextKind, Words, number};
+use thp_script::{TextKind, Words, after_name, number};
 
 /// Parses a number of at most `most`.
 pub(crate) fn small_number(most: u32, word: &[u8]) -> Result<u32, TextKind>
@@ -45,20 +44,6 @@ fn page_number(word: &[u8]) -> Result<PageId, TextKind>
 {
     let value = number(u64::MAX, word).ok_or(TextKind::BadNumber)?;
     Ok(PageId(value))
-}
-
-/// Parses `CALLER WORD PAGE`.
-#[tactic(auto, unfolding(crate::specs::EventLines::page_event))]
-fn page_event(name: PageWord, caller: &[u8], words: Words) -> Result<Event, TextKind>
-    ensures { result ≡ page_event name caller.now words.entry }
-{
-    let page = one_word(words)?;
-    let caller = caller_number(caller)?;
-    let page = page_number(page)?;
-    Ok(Event {
-        caller,
-        what: name.what(page),
-    })
 }
 
 /// Parses `CALLER WORD PAGE FIRST COUNT`.
@@ -158,21 +143,8 @@ fn split_event(caller: &[u8], mut words: Words) -> Result<Event, TextKind>
     })
 }
 
-/// Parses `CALLER close`.
-#[tactic(auto, unfolding(crate::specs::EventLines::close_event))]
-fn close_event(caller: &[u8], mut words: Words) -> Result<Event, TextKind>
-    ensures { result ≡ close_event caller.now words.entry }
-{
-    if words.next().is_some() {
-        return Err(TextKind::BadCount);
-    }
-    Ok(Event {
-        caller: caller_number(caller)?,
-        what: What::Close,
-    })
-}
-
 /// Parses the event of a line: its caller, the word of the event, and its operands.
+#[tactic(auto, unfolding(crate::specs::EventLines::page_event, crate::specs::EventLines::close_event))]
 pub(crate) fn event_of(version: Version, caller: &[u8], mut words: Words) -> Result<Event, TextKind>
     ensures { result ≡ event_of version caller.now words.entry }
 {
@@ -180,11 +152,219 @@ pub(crate) fn event_of(version: Version, caller: &[u8], mut words: Words) -> Res
         return Err(TextKind::BadWord);
     };
     match event_word(version, name)? {
-        EventWord::OfPage(name) => page_event(name, caller, words),
+        EventWord::OfPage(name) => {
+            let page = one_word(words)?;
+            let caller = caller_number(caller)?;
+            let page = page_number(page)?;
+            let what = name.what(page);
+            Ok(Event { caller, what })
+        }
         EventWord::OfRange(name) => range_event(name, caller, words),
         EventWord::OfLoss(name) => loss_event(name, caller, words),
         EventWord::UnmapSub => unmap_event(caller, words),
         EventWord::Split => split_event(caller, words),
-        EventWord::Close => close_event(caller, words),
+        EventWord::Close => {
+            if words.next().is_some() {
+                return Err(TextKind::BadCount);
+            }
+            let caller = caller_number(caller)?;
+            let what = What::Close;
+            Ok(Event { caller, what })
+        }
+    }
+}
+
+/// Events with a page.
+#[derive(Clone, Copy)]
+pub enum PageWord {
+    /// `alloc`
+    Alloc,
+    /// `mapwhole`
+    MapWhole,
+    /// `splitpmd`
+    SplitPmd,
+    /// `pin`
+    Pin,
+    /// `taken`
+    Taken,
+    /// `pinned`
+    Pinned,
+    /// `used`
+    Used,
+    /// `back`
+    Back,
+    /// `dropped`
+    Dropped,
+}
+
+impl PageWord {
+    pub(crate) fn what(self, page: PageId) -> What
+        ensures { result ≡ page_what self page }
+    {
+        match self {
+            PageWord::Alloc => What::Alloc { page, block: 0 },
+            PageWord::MapWhole => What::MapWhole { page },
+            PageWord::SplitPmd => What::SplitPmd { page },
+            PageWord::Pin => What::Pin { page },
+            PageWord::Taken => What::Taken { page },
+            PageWord::Pinned => What::Pinned { page },
+            PageWord::Used => What::Used { page },
+            PageWord::Back => What::Back { page },
+            PageWord::Dropped => What::Dropped { page },
+        }
+    }
+}
+
+/// Events with a page and a range of its subpages.
+#[derive(Clone, Copy)]
+pub enum RangeWord {
+    /// `mapsub`
+    MapSub,
+    /// `write`
+    Write,
+    /// `zero`
+    Zero,
+}
+
+impl RangeWord {
+    pub(crate) fn what(self, page: PageId, first: u32, count: u32) -> What
+        ensures { result ≡ range_what self page first count }
+    {
+        match self {
+            RangeWord::MapSub => What::MapSub { page, first, count },
+            RangeWord::Write => What::Write { page, first, count },
+            RangeWord::Zero => What::Zero { page, first, count },
+        }
+    }
+}
+
+/// The words of events, by the operands that follow them.
+#[derive(Clone, Copy)]
+pub enum EventWord {
+    /// `CALLER WORD PAGE`
+    OfPage(PageWord),
+    /// `CALLER WORD PAGE FIRST COUNT`
+    OfRange(RangeWord),
+    /// `CALLER WORD PAGE OUTCOME SET`
+    OfLoss(Loss),
+    /// `CALLER unmapsub PAGE FIRST COUNT OUTCOME SET`
+    UnmapSub,
+    /// `CALLER split PAGE SET`
+    Split,
+    /// `CALLER close`
+    Close,
+}
+
+#[inline(always)]
+#[tactic(auto, unfolding(crate::specs::EventWords::common_word))]
+fn common_word(name: &[u8]) -> Result<EventWord, TextKind>
+    ensures { result ≡ common_word name.now }
+{
+    match name {
+        b"alloc" => Ok(EventWord::OfPage(PageWord::Alloc)),
+        b"mapwhole" => Ok(EventWord::OfPage(PageWord::MapWhole)),
+        b"unmapwhole" => Ok(EventWord::OfLoss(Loss::UnmapWhole)),
+        b"mapsub" => Ok(EventWord::OfRange(RangeWord::MapSub)),
+        b"unmapsub" => Ok(EventWord::UnmapSub),
+        b"splitpmd" => Ok(EventWord::OfPage(PageWord::SplitPmd)),
+        b"pin" => Ok(EventWord::OfPage(PageWord::Pin)),
+        b"unpin" => Ok(EventWord::OfLoss(Loss::Unpin)),
+        b"taken" => Ok(EventWord::OfPage(PageWord::Taken)),
+        b"split" => Ok(EventWord::Split),
+        b"pinned" => Ok(EventWord::OfPage(PageWord::Pinned)),
+        b"back" => Ok(EventWord::OfPage(PageWord::Back)),
+        b"dropped" => Ok(EventWord::OfPage(PageWord::Dropped)),
+        b"close" => Ok(EventWord::Close),
+        _ => Err(TextKind::BadWord),
+    }
+}
+
+#[inline(always)]
+#[tactic(auto, unfolding(crate::specs::EventWords::later_word))]
+fn later_word(name: &[u8]) -> Result<EventWord, TextKind>
+    ensures { result ≡ later_word name.now }
+{
+    match name {
+        b"write" => Ok(EventWord::OfRange(RangeWord::Write)),
+        b"zero" => Ok(EventWord::OfRange(RangeWord::Zero)),
+        b"used" => Ok(EventWord::OfPage(PageWord::Used)),
+        _ => common_word(name),
+    }
+}
+
+/// Returns the event that a word names in a version of the format.
+#[inline(always)]
+pub(crate) fn event_word(version: Version, name: &[u8]) -> Result<EventWord, TextKind>
+    ensures { result ≡ event_word version name.now }
+{
+    match version {
+        Version::Plain | Version::Orders => common_word(name),
+        Version::Underused => later_word(name),
+    }
+}
+
+/// Returns the event that this word names and the text after the word and a space, if the text begins with them.
+#[inline(always)]
+fn word_at<'t>(version: Version, name: &[u8], text: &'t [u8]) -> Option<(EventWord, &'t [u8])>
+    ensures { IfSome result (λ read. FastWord version text.now read.0 read.1.now) }
+{
+    let rest = after_name(name, text)?;
+    let Ok(word) = event_word(version, name) else {
+        return None;
+    };
+    Some((word, rest))
+}
+
+#[inline(always)]
+fn either_at<'t>(
+    version: Version,
+    first: &[u8],
+    second: &[u8],
+    text: &'t [u8],
+) -> Option<(EventWord, &'t [u8])>
+    ensures { IfSome result (λ read. FastWord version text.now read.0 read.1.now) }
+{
+    if let Some(read) = word_at(version, first, text) {
+        return Some(read);
+    }
+    word_at(version, second, text)
+}
+
+/// Parses the word of an event at the beginning of a text, and returns it with the text after the following space. `None` implies
+/// nothing about the text.
+#[inline(always)]
+pub(crate) fn parse_word_fast(version: Version, text: &[u8]) -> Option<(EventWord, &[u8])>
+    ensures { IfSome result (λ read. FastWord version text.now read.0 read.1.now) }
+{
+    match *text.first()? {
+        b'a' => word_at(version, b"alloc", text),
+        b'm' => either_at(version, b"mapsub", b"mapwhole", text),
+        b'u' => {
+            if let Some(read) = either_at(version, b"unmapsub", b"unpin", text) {
+                return Some(read);
+            }
+            either_at(version, b"unmapwhole", b"used", text)
+        }
+        b's' => either_at(version, b"splitpmd", b"split", text),
+        b'p' => either_at(version, b"pin", b"pinned", text),
+        b't' => word_at(version, b"taken", text),
+        b'b' => word_at(version, b"back", text),
+        b'd' => word_at(version, b"dropped", text),
+        b'w' => word_at(version, b"write", text),
+        b'z' => word_at(version, b"zero", text),
+        _ => None,
+    }
+}
+
+/// Returns the outcome that a word names.
+#[tactic(auto, unfolding(crate::specs::EventWords::outcome_of))]
+pub(crate) fn outcome_of(word: &[u8]) -> Result<Outcome, TextKind>
+    ensures { result ≡ outcome_of word.now }
+{
+    match word {
+        b"stays" => Ok(Outcome::Stays),
+        b"queued" => Ok(Outcome::Queued),
+        b"freed" => Ok(Outcome::Freed),
+        _ => Err(TextKind::BadWord),
     }
 }

@@ -2,11 +2,11 @@
 ghost use Rattle.std.specs.Prelude.{◌≡◌, ◌<◌, ◌+◌, ◌^◌, [], Bool, true, false, Option, None, Some, length, IfOk, IfErr};
 ghost use Rattle.thp_check.specs.Prelude.{Explains, with_event, Replayed};
 ghost use Rattle.thp_journal_reader.specs.Keeping.{KeepsNothing, LeavesNothing};
-ghost use Rattle.thp_journal_reader.specs.declared.illegal.Illegal.{Illegal};
+ghost use Rattle.thp_journal_reader.specs.declared.long_check.Illegal.{Illegal};
 ghost use Rattle.thp_history.specs.Prelude.{least_free, History, Fits, IsShape};
 ghost use Rattle.thp_history.specs.declared.shape.Shape.{Shape};
 
-use crate::illegal::Illegal;
+use crate::long_check::Illegal;
 use std::alloc::{AllocError, Global};
 use thp_check::{Misfit, Replay};
 use thp_history::{Event, Shape};
@@ -38,11 +38,10 @@ pub trait FollowsNode: Drop {
     ghost leaves: { Replayed → Self.Rest → Type 0 };
 
     /// Whether nodes after the first illegal event are followed, too.
-    ghost follows_all: { Bool };
+    ghost FOLLOWS_ALL: { Bool };
 
-    /// Returns whether nodes after the first illegal event are followed, too.
-    fn follows_all() -> bool
-        ensures { result ≡ follows_all };
+    /// Whether nodes after the first illegal event are followed, too.
+    const FOLLOWS_ALL: bool;
 
     /// Begins a node without events.
     fn begin(alloc: Global, shape: Shape) -> Result<Self, AllocError>
@@ -84,11 +83,9 @@ impl FollowsNode for Replay {
 
     ghost leaves = { LeavesNothing };
 
-    ghost follows_all = { false };
+    ghost FOLLOWS_ALL = { false };
 
-    fn follows_all() -> bool {
-        false
-    }
+    const FOLLOWS_ALL: bool = false;
 
     fn begin(alloc: Global, shape: Shape) -> Result<Replay, AllocError> {
         Replay::new(alloc, shape)

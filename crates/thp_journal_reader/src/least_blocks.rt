@@ -4,9 +4,7 @@ ghost use Rattle.thp_journal_reader.specs.Freeing.{freed_page, IsInside};
 ghost use Rattle.thp_journal_reader.specs.BlocksState.{with_event};
 ghost use Rattle.thp_history.specs.Prelude.{event_with, least_free};
 
-use crate::holders::BlockHolders;
-use crate::page_blocks::PageBlocks;
-use crate::pages::PageRecord;
+use crate::page_blocks::{BlockHolders, PageBlocks, PageRecord};
 use std::alloc::{AllocError, Global};
 use std::marker::Model;
 use thp_history::{Event, PageId, Shape, Trace, What};
@@ -30,8 +28,7 @@ impl Model for LeastBlocks {
 
     ghost Value = { BlocksState };
 
-    ghost use Rattle.thp_journal_reader.specs.HeldBlocks.{Keeps};
-    ghost use Rattle.thp_journal_reader.specs.PageRecord.{known_of};
+    ghost use Rattle.thp_journal_reader.specs.Prelude.{known_of, Keeps};
 
     ghost view = { λ b. record { shape = b.shape; history = b.past } };
 

@@ -1,8 +1,7 @@
 //! Parses lines of a journal.
 ghost use Rattle.std.specs.Prelude.{◌≡◌, ◌≤◌, ◌<◌, ◌^◌, Ok, Err, IfOk, IfSome, MatchResult};
 ghost use Rattle.thp_history.specs.Prelude.{max_order, min_order};
-ghost use Rattle.thp_journal_reader.specs.JournalLines.{before, by_words, head_of, line_of, node_of, node_with, number_between, threshold_of, version_of};
-ghost use Rattle.thp_journal_reader.specs.LineRanges.{IsInRange};
+ghost use Rattle.thp_journal_reader.specs.Prelude.{before, by_words, line_in, line_of, may_stand, node_of, node_with, number_between, place_after, threshold_of, version_at, version_of, IsInRange};
 
 use crate::event_line::{event_of, one_word, small_number};
 use thp_history::{Event, Shape};
@@ -26,25 +25,12 @@ pub enum Line {
 fn version_of(word: &[u8]) -> Result<Version, TextKind>
     ensures { result ≡ version_of word.now }
 {
-    if word == b"1".as_slice() {
-        Ok(Version::Plain)
-    } else if word == b"2".as_slice() {
-        Ok(Version::Orders)
-    } else if word == b"3".as_slice() {
-        Ok(Version::Underused)
-    } else {
-        Err(TextKind::BadNumber)
+    match word {
+        b"1" => Ok(Version::Plain),
+        b"2" => Ok(Version::Orders),
+        b"3" => Ok(Version::Underused),
+        _ => Err(TextKind::BadNumber),
     }
-}
-
-/// Parses `thp-journal VERSION`.
-#[tactic(auto, unfolding(crate::specs::JournalLines::head_of))]
-fn head_of(words: Words) -> Result<Line, TextKind>
-    ensures value { result ≡ head_of words.entry }
-    ensures in_range { IfOk result IsInRange }
-{
-    let version = version_of(one_word(words)?)?;
-    Ok(Line::Head(version))
 }
 
 /// Returns the next word, if this one follows it.
@@ -141,7 +127,7 @@ fn node_of(version: Version, mut words: Words) -> Result<Line, TextKind>
 }
 
 /// Parses the words of a line.
-#[tactic(auto, unfolding(crate::specs::JournalLines::line_by))]
+#[tactic(auto, unfolding(crate::specs::JournalLines::line_by, crate::specs::JournalLines::head_of))]
 fn by_words(version: Version, mut words: Words) -> Result<Line, TextKind>
     ensures value { result ≡ by_words version words.entry }
     ensures in_range { IfOk result IsInRange }
@@ -150,7 +136,7 @@ fn by_words(version: Version, mut words: Words) -> Result<Line, TextKind>
         return Err(TextKind::BadWord);
     };
     if name == b"thp-journal".as_slice() {
-        return head_of(words);
+        return Ok(Line::Head(version_of(one_word(words)?)?));
     }
     if name == b"node".as_slice() {
         return node_of(version, words);
@@ -174,4 +160,69 @@ pub(crate) fn line_of(version: Version, text: &[u8]) -> Result<Line, TextKind>
         Ok(line) => Ok(line),
         Err(reading) => Err(fault_of_line(text, reading)),
     }
+}
+
+/// A position between the lines of a journal.
+#[derive(Clone, Copy)]
+pub enum Place {
+    /// Before the first line.
+    Start,
+    /// After the version and the lines of this many nodes.
+    Inside { version: Version, nodes: u32 },
+    /// After the end.
+    Ended { version: Version },
+}
+
+fn version_at(place: Place) -> Version
+    ensures { result ≡ version_at place }
+{
+    match place {
+        Place::Start => Version::Plain,
+        Place::Inside { version, .. } | Place::Ended { version } => version,
+    }
+}
+
+fn may_stand(place: Place, line: &Line) -> bool
+    ensures { result ≡ may_stand place line.now }
+{
+    match (place, line) {
+        (Place::Start, Line::Head(_)) => true,
+        (Place::Inside { nodes, .. }, Line::Node { number, .. }) => *number == nodes,
+        (Place::Inside { nodes, .. }, Line::Happened(_) | Line::End) => 0 < nodes,
+        _ => false,
+    }
+}
+
+/// Returns the position after a line.
+pub(crate) fn place_after(place: Place, line: &Line) -> Place
+    requires { IsInRange line.now }
+    ensures { result ≡ place_after place line.now }
+{
+    match (place, line) {
+        (_, Line::Head(version)) => Place::Inside {
+            version: *version,
+            nodes: 0,
+        },
+        (Place::Inside { version, .. }, Line::Node { number, .. }) => Place::Inside {
+            version,
+            nodes: *number + 1,
+        },
+        (_, Line::Node { .. } | Line::Happened(_)) => place,
+        (_, Line::End) => Place::Ended {
+            version: version_at(place),
+        },
+    }
+}
+
+/// Parses a whole line at its position.
+#[tactic(auto, unfolding(crate::specs::JournalLines::line_in))]
+pub(crate) fn line_in(place: Place, text: &[u8]) -> Result<Line, TextKind>
+    ensures value { result ≡ line_in place text.now }
+    ensures in_range { IfOk result IsInRange }
+{
+    let line = line_of(version_at(place), text)?;
+    if !may_stand(place, &line) {
+        return Err(TextKind::BadOrder);
+    }
+    Ok(line)
 }

@@ -1,19 +1,17 @@
 //! The check of journals of any length.
-ghost use Rattle.std.specs.Prelude.{◌≡◌, ◌≢◌, ◌≤◌, ◌+◌, ◌++◌, Ok, Err, [], IfOk, IfErr, IfSome};
-ghost use Rattle.thp_journal_reader.specs.Answers.{ReportsFirst, ReportsIllegal};
-ghost use Rattle.thp_journal_reader.specs.Journals.{journals_of, journals_within};
-ghost use Rattle.thp_journal_reader.specs.Parts.{told_with};
-ghost use Rattle.thp_journal_reader.specs.declared.journals.Journals.{Journals};
-ghost use Rattle.thp_journal_reader.specs.ReadTexts.{HasReadText, more_text_read, no_text_read};
+ghost use Rattle.std.specs.Prelude.{◌≡◌, ◌≢◌, ◌≤◌, ◌+◌, ◌++◌, Ok, Err, [], IfOk, IfErr, IfSome, All, None};
+ghost use Rattle.thp_journal_reader.specs.Prelude.{journals_of, journals_within, more_text_read, no_text_read, told_with, verdict_text, CanBeLegal, HasReadText, Journals, ReportsFirst, ReportsIllegal};
 ghost use Rattle.thp_script.specs.Prelude.{max_counted, max_input, nothing_of, ReportsFault, Text};
 ghost use Rattle.thp_script.specs.declared.fault.ReadFault.TheVariants.{OutOfMemory};
 
 use crate::follower::FollowedNodes;
-use crate::illegal::Illegal;
 use crate::text_reader::TextReader;
+use arrayvec::ArrayString;
+use itoa::Buffer;
 use std::alloc::{AllocError, Global};
 use std::marker::Model;
-use thp_check::Replay;
+use thp_check::{Misfit, Replay};
+use thp_history::Event;
 use thp_script::{ReadFault, ReadsParts, TextFault, TextInParts};
 
 /// A check of journals of any length, whose text arrives in parts of any length. It stores the state of the current node and the
@@ -28,9 +26,7 @@ pub struct LongCheck {
 
 impl Model for LongCheck {
     ghost use Rattle.std.specs.Prelude.{◌≤◌, false};
-    ghost use Rattle.thp_journal_reader.specs.Following.{nodes_told, FollowsLines};
-    ghost use Rattle.thp_journal_reader.specs.Keeping.{KeepsNothing};
-    ghost use Rattle.thp_journal_reader.specs.Parts.{so_far, ReadSoFar};
+    ghost use Rattle.thp_journal_reader.specs.Prelude.{nodes_told, so_far, FollowsLines, KeepsNothing, ReadSoFar};
     ghost use Rattle.thp_script.specs.Prelude.{max_counted};
 
     ghost Value = { ReadSoFar };
@@ -119,4 +115,48 @@ impl ReadsParts for LongCheck {
     ghost nothing_read = { no_text_read };
 
     ghost more_read = { more_text_read };
+}
+
+/// The first illegal event in a text, and why it is illegal.
+#[derive(Clone, Copy, Debug, PartialEq, Eq)]
+pub struct Illegal {
+    /// The line of the event, counted from 1.
+    pub line: u64,
+    /// The event. No line contains the block of a new page: an allocation has the least block that holds no live page.
+    pub event: Event,
+    /// Why the event does not fit the events before it on its node.
+    pub misfit: Misfit,
+}
+
+/// The room for a verdict, in bytes.
+pub const VERDICT: usize = 64;
+
+/// Returns the line of the verdict, given the line of the first illegal event, if any.
+#[tactic(auto, unfolding(crate::specs::Verdicts::verdict_text))]
+pub fn verdict(illegal: Option<u64>) -> ArrayString<VERDICT>
+    ensures { result.bytes ≡ verdict_text illegal }
+{
+    let mut text = ArrayString::new();
+    match illegal {
+        None => text.push_str("legal\n"),
+        Some(line) => {
+            text.push_str("illegal line ");
+            text.push_str(Buffer::new().format(line));
+            text.push_str("\n");
+        }
+    }
+    text
+}
+
+/// Returns the line of the first illegal event in a journal text, in the order of the text, or `None` if each node's events are
+/// legal.
+///
+/// The events are replayed as they are read, and not stored. The first error of the text takes precedence, even after an illegal
+/// event. Journals contain no blocks: a text is legal exactly if some choice of blocks makes it so.
+pub fn check_text(alloc: Global, text: &[u8]) -> Result<Option<u32>, ReadFault>
+    ensures line { IfOk result (λ line. (journals : Journals) × (journals_of text.now ≡ Ok journals) × ReportsIllegal journals.nodes line) }
+    ensures free_choice { IfOk result (λ line. (journals : Journals) → journals_of text.now ≡ Ok journals → All CanBeLegal journals.nodes → line ≡ None) }
+    ensures fault { IfErr result (ReportsFault (journals_of text.now)) }
+{
+    LongCheck::of_input(alloc).read_part(text)?.finish_input()
 }

@@ -1,10 +1,9 @@
 //! Fast parsing of events at the beginning of a text, in one pass over the bytes of their lines. Lines that it does not parse,
 //! such as a node's line, a close and errors, are left to `line`.
 ghost use Rattle.std.specs.Prelude.{◌≡◌, [], ◌∷◌, IfSome};
-ghost use Rattle.thp_journal_reader.specs.FastParsing.{FastEvent, FastLine, FastOperands, FastOutcome, FastSet};
-ghost use Rattle.thp_journal_reader.specs.EventLines.{event_by, loss_event, page_event, range_event, split_event, unmap_event};
+ghost use Rattle.thp_journal_reader.specs.Prelude.{event_by, loss_event, unmap_event, FastEvent, FastLine, FastOperands, FastOutcome, FastSet};
 
-use crate::event_word::{EventWord, PageWord, RangeWord, parse_word_fast};
+use crate::event_line::{EventWord, parse_word_fast};
 use crate::set_text::set_of_text;
 use thp_history::{Done, Event, Loss, MAX_CALLERS, Outcome, PageId, SubSet, What};
 use thp_journal_writer::Version;
@@ -64,28 +63,6 @@ fn after_no_frame(text: &[u8]) -> Option<&[u8]>
     }
 }
 
-/// Parses the operands `PAGE`.
-#[inline(always)]
-fn parse_page_event_fast(name: PageWord, caller: u32, text: &[u8]) -> Option<(Event, &[u8])>
-    ensures { IfSome result (λ read. FastOperands (page_event name) caller text.now read.0 read.1.now) }
-{
-    let (page, rest) = parse_number_fast(b'\n', u64::MAX, text)?;
-    let what = name.what(PageId(page));
-    Some((Event { caller, what }, rest))
-}
-
-/// Parses the operands `PAGE FIRST COUNT`.
-#[inline(always)]
-fn parse_range_event_fast(name: RangeWord, caller: u32, text: &[u8]) -> Option<(Event, &[u8])>
-    ensures { IfSome result (λ read. FastOperands (range_event name) caller text.now read.0 read.1.now) }
-{
-    let (page, rest) = parse_number_fast(b' ', u64::MAX, text)?;
-    let (first, rest) = parse_number_fast(b' ', u64::from(u16::MAX), rest)?;
-    let (count, rest) = parse_number_fast(b'\n', u64::from(u16::MAX), rest)?;
-    let what = name.what(PageId(page), first as u32, count as u32);
-    Some((Event { caller, what }, rest))
-}
-
 /// Parses the operands `PAGE OUTCOME SET`.
 #[inline(always)]
 fn parse_loss_event_fast(name: Loss, caller: u32, text: &[u8]) -> Option<(Event, &[u8])>
@@ -120,32 +97,34 @@ fn parse_unmap_event_fast(caller: u32, text: &[u8]) -> Option<(Event, &[u8])>
     Some((Event { caller, what }, rest))
 }
 
-/// Parses the operands `PAGE SET`.
-#[inline(always)]
-fn parse_split_event_fast(caller: u32, text: &[u8]) -> Option<(Event, &[u8])>
-    ensures { IfSome result (λ read. FastOperands split_event caller text.now read.0 read.1.now) }
-{
-    let (page, rest) = parse_number_fast(b' ', u64::MAX, text)?;
-    let mut released = SubSet::empty();
-    let rest = parse_set_fast(rest, &mut released)?;
-    let what = What::Split {
-        page: PageId(page),
-        released,
-    };
-    Some((Event { caller, what }, rest))
-}
-
 /// Parses the operands of an event, by its word. A close has none: its line is left to `line`.
 #[inline(always)]
 fn parse_operands_fast(word: EventWord, caller: u32, text: &[u8]) -> Option<(Event, &[u8])>
     ensures { IfSome result (λ read. FastOperands (event_by word) caller text.now read.0 read.1.now) }
 {
     match word {
-        EventWord::OfPage(name) => parse_page_event_fast(name, caller, text),
-        EventWord::OfRange(name) => parse_range_event_fast(name, caller, text),
+        EventWord::OfPage(name) => {
+            let (page, rest) = parse_number_fast(b'\n', u64::MAX, text)?;
+            let what = name.what(PageId(page));
+            Some((Event { caller, what }, rest))
+        }
+        EventWord::OfRange(name) => {
+            let (page, rest) = parse_number_fast(b' ', u64::MAX, text)?;
+            let (first, rest) = parse_number_fast(b' ', u64::from(u16::MAX), rest)?;
+            let (count, rest) = parse_number_fast(b'\n', u64::from(u16::MAX), rest)?;
+            let what = name.what(PageId(page), first as u32, count as u32);
+            Some((Event { caller, what }, rest))
+        }
         EventWord::OfLoss(name) => parse_loss_event_fast(name, caller, text),
         EventWord::UnmapSub => parse_unmap_event_fast(caller, text),
-        EventWord::Split => parse_split_event_fast(caller, text),
+        EventWord::Split => {
+            let (number, rest) = parse_number_fast(b' ', u64::MAX, text)?;
+            let mut released = SubSet::empty();
+            let rest = parse_set_fast(rest, &mut released)?;
+            let page = PageId(number);
+            let what = What::Split { page, released };
+            Some((Event { caller, what }, rest))
+        }
         EventWord::Close => None,
     }
 }

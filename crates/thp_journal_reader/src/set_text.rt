@@ -1,7 +1,7 @@
 //! Parses sets of subpages.
 ghost use Rattle.std.specs.Prelude.{◌≡◌, ◌≤◌, ◌+◌, ◌||◌, IfOk, length};
 ghost use Rattle.thp_history.specs.Prelude.{has, set_of};
-ghost use Rattle.thp_journal_reader.specs.SetTexts.{covers_number, longer_run, run_from, run_of, set_of_runs, set_of_text, subpage_number};
+ghost use Rattle.thp_journal_reader.specs.SetTexts.{covers_number, run_from, run_of, set_of_runs, set_of_text, subpage_number};
 
 use thp_history::SubSet;
 use thp_script::{TextKind, cut_at, number};
@@ -12,19 +12,6 @@ fn subpage_number(word: &[u8]) -> Result<u32, TextKind>
 {
     let value = number(511, word).ok_or(TextKind::BadSet)?;
     Ok(value as u32)
-}
-
-fn longer_run(first: &[u8], last: &[u8]) -> Result<(u32, u32), TextKind>
-    ensures value { result ≡ longer_run first.now last.now }
-    ensures order { IfOk result (λ run. run.0 ≤ run.1) }
-    ensures bound { IfOk result (λ run. run.1 ≤ 511) }
-{
-    let first = subpage_number(first)?;
-    let last = subpage_number(last)?;
-    if last <= first {
-        return Err(TextKind::BadSet);
-    }
-    Ok((first, last))
 }
 
 /// Parses the first and the last subpage of a run: `NUMBER` or `FIRST-LAST`.
@@ -43,7 +30,12 @@ fn run_of(text: &[u8]) -> Result<(u32, u32), TextKind>
     if more.is_some() {
         return Err(TextKind::BadSet);
     }
-    longer_run(first, last)
+    let first = subpage_number(first)?;
+    let last = subpage_number(last)?;
+    if last <= first {
+        return Err(TextKind::BadSet);
+    }
+    Ok((first, last))
 }
 
 /// Parses a run that does not begin below `least`.

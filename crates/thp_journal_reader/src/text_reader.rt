@@ -1,14 +1,11 @@
 //! Reads journals whose bytes arrive in parts, for any kind of data about their nodes.
 ghost use Rattle.std.specs.Prelude.{◌≡◌, ◌≤◌, ◌+◌, ◌++◌, Ok, Err, [], IfOk, IfErr, length};
-ghost use Rattle.thp_journal_reader.specs.Parts.{journals_in, lines_tell, so_far, told_with};
-ghost use Rattle.thp_journal_reader.specs.Reading.{fault_at};
-ghost use Rattle.thp_journal_reader.specs.declared.place.Place.TheVariants.{Start};
+ghost use Rattle.thp_journal_reader.specs.Prelude.{fault_at, journals_in, lines_tell, so_far, told_with, Start};
 ghost use Rattle.thp_script.specs.Prelude.{fault_after, told_after, IsCounted, Text};
 
 use crate::keeps_nodes::KeepsNodes;
-use crate::line::Line;
+use crate::line::{Line, Place, line_in, place_after};
 use crate::parse_event_fast::parse_event_fast;
-use crate::place::{Place, line_in, place_after};
 use std::alloc::{AllocError, Global};
 use thp_script::{TextFault, TextInParts, TextKind, WholeLine, fault_after};
 

@@ -6,7 +6,7 @@ use Rattle.thp_history.specs.declared.events.Event.{Event}
 use Rattle.thp_history.specs.declared.shape.Shape.{Shape}
 use Rattle.thp_history.specs.Prelude.{event_with, least_free, History, IsFirstMisfit}
 use Rattle.thp_history.proofs.ListPlaces.{get_middle, get_push}
-use Rattle.thp_journal_reader.specs.declared.illegal.Illegal.{Illegal}
+use Rattle.thp_journal_reader.specs.declared.long_check.Illegal.{Illegal}
 use Rattle.thp_journal_scripts.specs.Prelude.{JournalScript, ended_nodes, repeated_of, told_of, AddsLine, IsLegalPart, IsScripting, IsScriptOf, moved_by, nodes_of, out_of_turn_by, taken_of, untaken, BeginsNode, EndedNode, EndsAs, EndsNode, GoesOnWith, IsWriting, NodeScript}
 use Rattle.thp_journal_reader.specs.declared.journals.NodeJournal.{NodeJournal}
 use Rattle.thp_journal_reader.specs.declared.line.Line.{Line}

@@ -5,7 +5,7 @@ use Rattle.thp_history.specs.declared.events.Event.{Event}
 use Rattle.thp_history.specs.Prelude.{History}
 use Rattle.thp_script.specs.declared.script.Op.{Op}
 use Rattle.thp_script.specs.declared.script.Op.TheVariants as op
-use Rattle.thp_journal_scripts.specs.Prelude.{EventKind, Call, Take, Try, Put, ScriptBatch, Idle, Taking, Trying, Scanned, Open, Closing, open_by, pending_ops, settled, Completes, IsPending, PutsMore, RepeatsUpTo, TakesMore, TriesMore, nothing_moved, IsFoldedTo, IsScript, Moved, IsCallOrScan, IsWholeScans, counted, Interleaves, IsOfBatch, IsScan, neither, first, second, call_in, calls_in, calls_of, kind_of, AreBy, IsBy, IsScanBy, Repeats, RepeatsBy}
+use Rattle.thp_journal_scripts.specs.Prelude.{EventKind, Call, Take, Try, Put, ScriptBatch, Idle, Taking, Trying, Scanned, Open, Closing, open_by, pending_ops, settled, Completes, IsPending, IsSettled, PutsMore, RepeatsUpTo, TakesMore, TriesMore, nothing_moved, IsFoldedTo, IsScript, Moved, IsCallOrScan, IsWholeScans, counted, Interleaves, IsOfBatch, IsScan, neither, first, second, call_in, calls_in, calls_of, kind_of, AreBy, IsBy, IsScanBy, Repeats, RepeatsBy}
 use Rattle.thp_journal_scripts.proofs.RepeatLaws.{calls_in_both, calls_of_more, is_plain, no_calls_in_tries, repeats_more, repeats_tries, IsPlain}
 
 -- ---- events of one kind
@@ -193,6 +193,13 @@ module _ (h : History) (past : List Op) (b after : ScriptBatch) (n : ℕ) (f : I
       (more_events [] e (ap calls_in (append-nil past) ∙ batch_event h past e f.calls none) (subst (λ os. RepeatsUpTo (f.kept ++ e ∷ []) os after) (sym (append-nil f.here)) repeats))
 
 -- the commands of events without one, if the batch continues
+pub settled_twice : (b : ScriptBatch) → settled (settled b) ≡ settled b
+settled_twice x = grind arith
+
+-- a batch whose events all have a command is none, unless it is open
+pub settled_shut : (b : ScriptBatch) → IsSettled b → ((c : ℕ) → b ≡ Open c → ⊥) → b ≡ Idle
+settled_shut x settled shut = grind arith
+
 pub settles : (h : History) (past : List Op) (b : ScriptBatch) (n : ℕ) → IsFoldedTo h past b n → IsFoldedTo h (past ++ pending_ops b) (settled b) n
 settles h past b n f = more_commands h past b (settled b) n f (pending_ops b) (no_calls_pending b) (settle_repeats f.kept f.here b f.repeats)
 

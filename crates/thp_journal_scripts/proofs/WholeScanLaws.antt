@@ -10,7 +10,7 @@ use Rattle.thp_history.specs.declared.events.What.TheVariants as what
 use Rattle.thp_history.specs.Prelude.{History}
 use Rattle.thp_script.specs.declared.script.Op.{Op}
 use Rattle.thp_journal_scripts.specs.Prelude.{EventKind, Folding, FlyingPage, ScriptBatch, settled, Completes, EndsPuts, EndsTakes, EndsTries, IsIncomplete, PutsMore, TakesMore, TakesSome, TriesMore, AddsPlain, flying, flying_after, leave, leave_if_freed, nothing_moved, pages_at, IsAt, IsAtPlace, IsQuiet, KeepsFlights, kind_of, once_ended, pages_after, IsCallOrScan, place_of_call, place_of_put, place_of_take, place_of_try, scan_place, scan_place_after, scan_place_of, without_first, ScanPlace, Between, InTakes, Elsewhere}
-use Rattle.thp_journal_scripts.specs.declared.event_kind.EventKind.TheVariants as kind
+use Rattle.thp_journal_scripts.specs.declared.folding.EventKind.TheVariants as kind
 use Rattle.thp_journal_scripts.specs.declared.script_batch.ScriptBatch.TheVariants as batch
 
 -- an equal script is at the same place
@@ -131,7 +131,7 @@ freed_none : (o : Outcome) (p : ℕ) → leave_if_freed o p [] ≡ []
 freed_none x p = grind arith
 
 -- the pages follow an event, and nothing else changes
-module _ (w : What) (old new : Folding) (same : new.batch ≡ old.batch) (moved : new.moved ≡ old.moved) (pages : new.pages.pages.items ≡ flying_after w old.flights old.pages.pages.items) (keeps : KeepsFlights old new) where
+module _ (w : What) (old new : Folding) (same : new.batch ≡ old.batch) (moved : new.moved ≡ old.moved) (pages : new.pages.items ≡ flying_after w old.flights old.pages.items) (keeps : KeepsFlights old new) where
   quiet_after : (ps qs : List ℕ) → ((n : ℕ) → flying_after w n (map (flying n) ps) ≡ map (flying n) qs) → IsQuiet ps old → IsQuiet qs new
   quiet_after ps qs flies quiet = grind arith
 
@@ -154,27 +154,27 @@ module _ (w : What) (old new : Folding) (same : new.batch ≡ old.batch) (moved 
     put_after : (s : ScanPlace) → IsAt (place_of_put s by w) (pages_at s) old → IsAtPlace (place_of_put s by w) new
     put_after x at = grind (arith, if_after, nat_eq)
 
-pub event_after : (w : What) (old new : Folding) → new.batch ≡ old.batch → new.moved ≡ old.moved → new.pages.pages.items ≡ flying_after w old.flights old.pages.pages.items → KeepsFlights old new → (by : ℕ) (s : ScanPlace) → IsAt (scan_place_of s (kind_of w) by w) (pages_at s) old → IsAtPlace (scan_place_of s (kind_of w) by w) new
+pub event_after : (w : What) (old new : Folding) → new.batch ≡ old.batch → new.moved ≡ old.moved → new.pages.items ≡ flying_after w old.flights old.pages.items → KeepsFlights old new → (by : ℕ) (s : ScanPlace) → IsAt (scan_place_of s (kind_of w) by w) (pages_at s) old → IsAtPlace (scan_place_of s (kind_of w) by w) new
 event_after x old new same moved pages keeps by = grind (arith, call_after, freed_none, take_after, join_flying, try_after, leave_flying, put_after)
 
 -- ---- the end of a scan
 
-no_pages_left : (f : Folding) (q : ℕ) (ps : List ℕ) → IsQuiet (q ∷ ps) f → list_any (λ (q : FlyingPage). nat_eq q.flight f.flight) f.pages.pages.items ≡ false → ⊥
-no_pages_left f q ps quiet none = let some : list_any (λ (q : FlyingPage). nat_eq q.flight f.flight) f.pages.pages.items ≡ true = ap (λ fs. list_any (λ (q : FlyingPage). nat_eq q.flight f.flight) fs) quiet.pages_are ∙ flying_some f.flight q ps in cc
+no_pages_left : (f : Folding) (q : ℕ) (ps : List ℕ) → IsQuiet (q ∷ ps) f → list_any (λ (q : FlyingPage). nat_eq q.flight f.flight) f.pages.items ≡ false → ⊥
+no_pages_left f q ps quiet none = let some : list_any (λ (q : FlyingPage). nat_eq q.flight f.flight) f.pages.items ≡ true = ap (λ fs. list_any (λ (q : FlyingPage). nat_eq q.flight f.flight) fs) quiet.pages_are ∙ flying_some f.flight q ps in cc
 
-pages_left : (f : Folding) → IsQuiet [] f → list_any (λ (q : FlyingPage). nat_eq q.flight f.flight) f.pages.pages.items ≡ true → ⊥
-pages_left f quiet some = let none : list_any (λ (q : FlyingPage). nat_eq q.flight f.flight) f.pages.pages.items ≡ false = ap (λ fs. list_any (λ (q : FlyingPage). nat_eq q.flight f.flight) fs) quiet.pages_are in cc
+pages_left : (f : Folding) → IsQuiet [] f → list_any (λ (q : FlyingPage). nat_eq q.flight f.flight) f.pages.items ≡ true → ⊥
+pages_left f quiet some = let none : list_any (λ (q : FlyingPage). nat_eq q.flight f.flight) f.pages.items ≡ false = ap (λ fs. list_any (λ (q : FlyingPage). nat_eq q.flight f.flight) fs) quiet.pages_are in cc
 
 ended_if : (b : Bool) (s : ScanPlace) (f : Folding) → (b ≡ true → IsAtPlace Between f) → (b ≡ false → IsAtPlace s f) → IsAtPlace (cond b Between s) f
 ended_if b s f ends goes = (elim b as (λ v. (v ≡ true → IsAtPlace Between f) → (v ≡ false → IsAtPlace s f) → IsAtPlace (cond v Between s) f) [ true ↦ λ e g. e refl | false ↦ λ e g. g refl ]) ends goes
 
 module _ (f : Folding) where
   -- the batch is complete, and no page of it is left
-  pub scan_ends : (o : Op) → Completes f.batch o → list_any (λ (q : FlyingPage). nat_eq q.flight f.flight) f.pages.pages.items ≡ false → (s : ScanPlace) → IsAtPlace s f → IsAtPlace (once_ended s) (record f { batch = batch.Idle })
+  pub scan_ends : (o : Op) → Completes f.batch o → list_any (λ (q : FlyingPage). nat_eq q.flight f.flight) f.pages.items ≡ false → (s : ScanPlace) → IsAtPlace s f → IsAtPlace (once_ended s) (record f { batch = batch.Idle })
   scan_ends o done none x at = grind (arith, ended_if, nat_eq, quiet_with, eq-eqb, no_pages_left)
 
   -- a page of it is left
-  pub scan_stays : list_any (λ (q : FlyingPage). nat_eq q.flight f.flight) f.pages.pages.items ≡ true → (s : ScanPlace) → IsAtPlace s f → IsAtPlace (once_ended s) f
+  pub scan_stays : list_any (λ (q : FlyingPage). nat_eq q.flight f.flight) f.pages.items ≡ true → (s : ScanPlace) → IsAtPlace s f → IsAtPlace (once_ended s) f
   scan_stays some x at = grind (arith, pages_left)
 
   -- it is incomplete
@@ -206,5 +206,5 @@ pub still_at : (old new : Folding) → (old.waiting.items ≡ [] → new ≡ old
 still_at old new same x at = grind (arith, same_at)
 
 -- the end of a script whose batches are whole scans
-pub nothing_moves : (a m d : Folding) (left : ℕ) → IsAtPlace Between a → (a.batch ≡ batch.Idle → m ≡ a) → (m.moved.events ≡ 0 → d ≡ m) → left ≡ length a.pages.pages.items → record d.moved { left = left } ≡ nothing_moved
+pub nothing_moves : (a m d : Folding) (left : ℕ) → IsAtPlace Between a → (a.batch ≡ batch.Idle → m.moved ≡ a.moved) → (m.moved.events ≡ 0 → d ≡ m) → left ≡ length a.pages.items → record d.moved { left = left } ≡ nothing_moved
 nothing_moves a m d left at closes writes none = grind arith

@@ -8,7 +8,7 @@ use Rattle.thp_history.specs.declared.events.What.TheVariants.{UnmapWhole, Unmap
 use Rattle.thp_history.specs.Prelude.{History}
 use Rattle.thp_script.specs.declared.script.Op.{Op}
 use Rattle.thp_journal_scripts.specs.declared.folding.Folding.{Folding}
-use Rattle.thp_journal_scripts.specs.declared.moved.Moved.{Moved}
+use Rattle.thp_journal_scripts.specs.declared.folding.Moved.{Moved}
 use Rattle.thp_journal_scripts.specs.declared.open_flights.FlyingPage.{FlyingPage}
 use Rattle.thp_journal_scripts.specs.declared.script_batch.ScriptBatch.{ScriptBatch}
 use Rattle.thp_journal_scripts.specs.declared.script_batch.ScriptBatch.TheVariants as batch
@@ -83,7 +83,7 @@ flying flight p = record { page = p; flight = flight }
 
 -- these pages are in flight, all of one flight; no flight waits, and nothing moved
 pub record IsQuiet (ps : List ℕ) (f : Folding) : Type 0 where
-  pub pages_are : f.pages.pages.items ≡ map (flying f.flight) ps
+  pub pages_are : f.pages.items ≡ map (flying f.flight) ps
   pub none_waits : f.waiting.items ≡ []
   pub none_moved : f.moved ≡ nothing_moved
   pub last_flight : f.flights ≡ f.flight

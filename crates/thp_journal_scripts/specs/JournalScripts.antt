@@ -2,13 +2,13 @@
 use Rattle.std.specs.Prelude.{◌≡◌, ℕ, All, List, [], ◌∷◌, ◌++◌, Option, Some, None, length, map, take}
 use Rattle.thp_history.specs.declared.shape.Shape.{Shape}
 use Rattle.thp_history.specs.Prelude.{event_with, History, IsFirstMisfit}
-use Rattle.thp_journal_reader.specs.declared.illegal.Illegal.{Illegal}
+use Rattle.thp_journal_reader.specs.declared.long_check.Illegal.{Illegal}
 use Rattle.thp_journal_scripts.specs.declared.journal_script.JournalScript.{JournalScript}
 use Rattle.thp_journal_reader.specs.declared.journals.NodeJournal.{NodeJournal}
 use Rattle.thp_journal_reader.specs.declared.line.Line.{Line}
 use Rattle.thp_journal_reader.specs.declared.line.Line.TheVariants.{Node, Happened}
-use Rattle.thp_journal_scripts.specs.declared.moved.Moved.{Moved}
-use Rattle.thp_journal_scripts.specs.declared.scripted.Scripted.{Scripted}
+use Rattle.thp_journal_scripts.specs.declared.folding.Moved.{Moved}
+use Rattle.thp_journal_scripts.specs.declared.script_check.Scripted.{Scripted}
 use Rattle.thp_journal_reader.specs.Prelude.{AreLegalBefore, ReportsFirst, ReadSoFar}
 use Rattle.thp_journal_scripts.specs.Moving.{counted}
 use Rattle.thp_journal_scripts.specs.NodeScripts.{moved_in, nodes_of, nodes_text, out_of_turn_in, BeginsNode, EndedNode, GoesOnWith, IsEnded, IsWriting, NodeScript}

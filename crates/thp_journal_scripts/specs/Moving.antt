@@ -5,7 +5,7 @@ use Rattle.thp_history.specs.declared.events.Event.{Event}
 use Rattle.thp_history.specs.Prelude.{History}
 use Rattle.thp_script.specs.declared.script.Op.{Op}
 use Rattle.thp_script.specs.declared.script.Op.TheVariants as op
-use Rattle.thp_journal_scripts.specs.declared.moved.Moved.{Moved}
+use Rattle.thp_journal_scripts.specs.declared.folding.Moved.{Moved}
 use Rattle.thp_journal_scripts.specs.Repeating.{call_in, kind_of, Repeats}
 
 -- the third list has the elements of the first and of the second, each in its order

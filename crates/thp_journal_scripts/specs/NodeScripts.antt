@@ -6,7 +6,7 @@ use Rattle.thp_history.specs.Prelude.{History}
 use Rattle.thp_script.specs.declared.script.Op.{Op}
 use Rattle.thp_journal_scripts.specs.declared.folding.Folding.{Folding}
 use Rattle.thp_journal_scripts.specs.declared.journal_script.JournalScript.{JournalScript}
-use Rattle.thp_journal_scripts.specs.declared.moved.Moved.{Moved}
+use Rattle.thp_journal_scripts.specs.declared.folding.Moved.{Moved}
 use Rattle.thp_journal_scripts.specs.Folds.{nothing_moved, IsFolded, IsScript}
 use Rattle.thp_journal_scripts.specs.declared.turns.UntriedPage.{UntriedPage}
 use Rattle.thp_journal_scripts.specs.Moving.{both_moved, counted}

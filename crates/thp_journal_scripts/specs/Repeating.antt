@@ -8,8 +8,8 @@ use Rattle.thp_history.specs.Prelude.{History, recorded_call}
 use Rattle.thp_script.specs.Prelude.{page_op}
 use Rattle.thp_script.specs.declared.script.Op.{Op}
 use Rattle.thp_script.specs.declared.script.Op.TheVariants as op
-use Rattle.thp_journal_scripts.specs.declared.event_kind.EventKind.{EventKind}
-use Rattle.thp_journal_scripts.specs.declared.event_kind.EventKind.TheVariants.{Call, Take, Try, Put}
+use Rattle.thp_journal_scripts.specs.declared.folding.EventKind.{EventKind}
+use Rattle.thp_journal_scripts.specs.declared.folding.EventKind.TheVariants.{Call, Take, Try, Put}
 
 -- a call, with the command that repeats it; or a part of a batch: a take, a try, or else a put back or a drop
 abbrev pub kind_of : What → EventKind

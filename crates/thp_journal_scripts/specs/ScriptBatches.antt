@@ -3,7 +3,7 @@ use Rattle.std.specs.Prelude.{◌≡◌, ◌++◌, ◌+◌, ◌≤◌, ℕ, All,
 use Rattle.thp_history.specs.Prelude.{History, max_batch}
 use Rattle.thp_script.specs.declared.script.Op.{Op}
 use Rattle.thp_script.specs.declared.script.Op.TheVariants as op
-use Rattle.thp_journal_scripts.specs.declared.event_kind.EventKind.TheVariants.{Take, Try, Put}
+use Rattle.thp_journal_scripts.specs.declared.folding.EventKind.TheVariants.{Take, Try, Put}
 use Rattle.thp_journal_scripts.specs.declared.script_batch.ScriptBatch.{ScriptBatch}
 use Rattle.thp_journal_scripts.specs.declared.script_batch.ScriptBatch.TheVariants.{Idle, Taking, Trying, Scanned, Open, Closing}
 use Rattle.thp_journal_scripts.specs.Repeating.{AreBy, IsBy, IsScanBy, Repeats}
@@ -82,6 +82,10 @@ settled (Trying c n k) = Open c
 settled (Scanned c n) = Idle
 settled (Open c) = Open c
 settled (Closing c) = Idle
+
+-- all of its events have a command
+abbrev pub IsSettled : ScriptBatch → Type 0
+IsSettled b = settled b ≡ b
 
 -- the caller whose batch the written commands leave open
 abbrev pub open_by : ScriptBatch → Option ℕ

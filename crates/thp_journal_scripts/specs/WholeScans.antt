@@ -7,8 +7,8 @@ use Rattle.thp_history.specs.declared.events.What.TheVariants.{Taken, Split, Use
 use Rattle.thp_history.specs.Prelude.{History, max_batch}
 use Rattle.thp_script.specs.declared.script.Op.{Op}
 use Rattle.thp_script.specs.declared.script.Op.TheVariants as op
-use Rattle.thp_journal_scripts.specs.declared.event_kind.EventKind.{EventKind}
-use Rattle.thp_journal_scripts.specs.declared.event_kind.EventKind.TheVariants.{Call, Take, Try, Put}
+use Rattle.thp_journal_scripts.specs.declared.folding.EventKind.{EventKind}
+use Rattle.thp_journal_scripts.specs.declared.folding.EventKind.TheVariants.{Call, Take, Try, Put}
 use Rattle.thp_journal_scripts.specs.Repeating.{kind_of}
 
 -- how far a scan has come: its caller and the pages that it has in flight; in the tries also the number of pages taken and tried

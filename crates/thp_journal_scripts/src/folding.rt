@@ -4,19 +4,10 @@ ghost use Rattle.thp_history.specs.Prelude.{event_with};
 ghost use Rattle.thp_history.specs.declared.events.Event.{Event};
 ghost use Rattle.thp_history.specs.declared.events.What.{What};
 ghost use Rattle.thp_history.specs.declared.events.What.TheVariants.{Taken};
-ghost use Rattle.thp_journal_scripts.specs.ScriptBatches.{pending_ops, settled};
-ghost use Rattle.thp_journal_scripts.specs.Folds.{flying_after, leave_if_freed, AddsCommands, AddsEvent, AddsPlain, AddsTo, Ends, GoesOn, HasAdded, IsAtPlace, IsFolded, KeepsFlights};
-ghost use Rattle.thp_journal_scripts.specs.Moving.{counted};
-ghost use Rattle.thp_journal_scripts.specs.Repeating.{kind_of, IsBy};
-ghost use Rattle.thp_journal_scripts.specs.WholeScans.{once_ended, place_of_call, place_of_put, place_of_take, place_of_try, scan_place_of, ScanPlace};
-ghost use Rattle.thp_journal_scripts.specs.declared.script_batch.ScriptBatch.TheVariants.{Idle, Open};
-ghost use Rattle.thp_journal_scripts.specs.declared.event_kind.EventKind.TheVariants.{Call, Put, Take, Try};
+ghost use Rattle.thp_journal_scripts.specs.Prelude.{both_moved, counted, flying_after, kind_of, leave_if_freed, once_ended, pending_ops, place_of_call, place_of_put, place_of_take, place_of_try, scan_place_of, settled, AddsCommands, AddsEvent, AddsPlain, AddsTo, Call, Ends, GoesOn, HasAdded, Idle, IsAtPlace, IsBy, IsFolded, IsSettled, KeepsFlights, Open, Put, ScanPlace, Take, Try};
 
-use crate::event_kind::{EventKind, kind_of};
-use crate::moved::Moved;
-use crate::open_flights::OpenFlights;
+use crate::open_flights::{FlyingPage, WaitingFlight, extend_last, has_flight, leave, lose_page};
 use crate::script_batch::ScriptBatch;
-use crate::waiting_flights::{WaitingFlight, extend_last, lose_page};
 use std::alloc::{AllocError, Global};
 use std::collections::VecDeque;
 use thp_history::{Event, Outcome, PageId, What};
@@ -36,7 +27,8 @@ pub(crate) struct Folding {
     flight: u64,
     // the number of flights so far
     flights: u64,
-    pages: OpenFlights,
+    // the pages in flight, in the order of their takes
+    pages: Vec<FlyingPage>,
     waiting: VecDeque<WaitingFlight>,
     pub(crate) moved: Moved,
 }
@@ -50,7 +42,7 @@ impl Folding {
             batch: ScriptBatch::Idle,
             flight: 0,
             flights: 0,
-            pages: OpenFlights::new(alloc),
+            pages: Vec::new(alloc),
             waiting: VecDeque::new(alloc),
             moved: Moved::default(),
         }
@@ -88,8 +80,10 @@ impl Folding {
     {
         let mut folding = self;
         let left = folding.pages.len() as u64;
-        folding.close(ops)?;
-        folding.write_scans(true, ops)?;
+        folding.pages.clear();
+        folding.settle(ops)?;
+        folding.put_back_nothing(ops)?;
+        folding.write_scans(ops)?;
         Ok(Moved {
             left,
             ..folding.moved
@@ -174,7 +168,7 @@ impl Folding {
         ensures events { self.new.moved.events ≡ counted (self.old.moved.events + 1) }
     {
         self.count_event();
-        if self.pages.has(self.flights) && extend_last(&mut self.waiting, caller) {
+        if has_flight(&self.pages, self.flights) && extend_last(&mut self.waiting, caller) {
             return Ok(());
         }
         self.moved.batches = self.moved.batches.saturating_add(1);
@@ -236,39 +230,39 @@ impl Folding {
     fn follow(&mut self, what: &What) -> Result<(), AllocError>
         ensures batch { self.new.batch ≡ self.old.batch }
         ensures moved { self.new.moved ≡ self.old.moved }
-        ensures pages { OnOk result (self.new.pages.pages.items ≡ flying_after what.now self.old.flights self.old.pages.pages.items) }
+        ensures pages { OnOk result (self.new.pages.items ≡ flying_after what.now self.old.flights self.old.pages.items) }
         ensures flights { KeepsFlights self.old self.new }
     {
         match *what {
-            What::Taken { page } => self.pages.push(page, self.flights),
+            What::Taken { page } => {
+                let flight = self.flights;
+                self.pages.push(FlyingPage { page, flight })?;
+            }
             What::Split { page, .. }
             | What::Used { page }
             | What::Back { page }
             | What::Dropped { page } => {
-                self.pages.remove(page);
-                Ok(())
+                leave(&mut self.pages, page);
             }
             What::UnmapWhole { outcome, page, .. }
             | What::UnmapSub { outcome, page, .. }
-            | What::Unpin { outcome, page, .. } => {
-                self.lose(outcome, page);
-                Ok(())
-            }
-            _ => Ok(()),
+            | What::Unpin { outcome, page, .. } => self.lose(outcome, page),
+            _ => {}
         }
+        Ok(())
     }
 
     /// Removes a page from its flight if it was freed.
     fn lose(&mut self, outcome: Outcome, page: PageId)
         ensures batch { self.new.batch ≡ self.old.batch }
         ensures moved { self.new.moved ≡ self.old.moved }
-        ensures pages { self.new.pages.pages.items ≡ leave_if_freed outcome page self.old.pages.pages.items }
+        ensures pages { self.new.pages.items ≡ leave_if_freed outcome page self.old.pages.items }
         ensures flights { KeepsFlights self.old self.new }
     {
         if outcome != Outcome::Freed {
             return;
         }
-        if let Some(flight) = self.pages.remove(page) {
+        if let Some(flight) = leave(&mut self.pages, page) {
             lose_page(&mut self.waiting, flight);
         }
     }
@@ -282,7 +276,7 @@ impl Folding {
         let Some(op) = self.batch.completion() else {
             return Ok(());
         };
-        if self.pages.has(self.flight) {
+        if has_flight(&self.pages, self.flight) {
             return Ok(());
         }
         ops.push(op)?;
@@ -294,27 +288,12 @@ impl Folding {
     fn put_back_nothing(&mut self, ops: &mut Vec<Op>) -> Result<(), AllocError>
         ensures idle { OnOk result (self.old.batch ≡ Idle → self.new ≡ self.old) }
         ensures idle_ops { OnOk result (self.old.batch ≡ Idle → ops.new.items ≡ ops.old.items) }
+        ensures closes { OnOk result (self.old.pages.items ≡ [] → IsSettled self.old.batch → self.new.batch ≡ Idle) }
         ensures adds { OnOk result (HasAdded ops.old.items ops.new.items (AddsCommands self.old self.new)) }
     {
-        if self.pages.has(self.flight) {
+        if has_flight(&self.pages, self.flight) {
             return Ok(());
         }
-        let ScriptBatch::Open { caller: _caller } = self.batch else {
-            return Ok(());
-        };
-        ops.push(Op::PutBack)?;
-        self.batch = ScriptBatch::Idle;
-        Ok(())
-    }
-
-    /// Appends what is left of the batch.
-    fn close(&mut self, ops: &mut Vec<Op>) -> Result<(), AllocError>
-        ensures idle { OnOk result (self.new.batch ≡ Idle) }
-        ensures was_idle { OnOk result (self.old.batch ≡ Idle → self.new ≡ self.old) }
-        ensures idle_ops { OnOk result (self.old.batch ≡ Idle → ops.new.items ≡ ops.old.items) }
-        ensures adds { OnOk result (HasAdded ops.old.items ops.new.items (AddsCommands self.old self.new)) }
-    {
-        self.settle(ops)?;
         let ScriptBatch::Open { caller: _caller } = self.batch else {
             return Ok(());
         };
@@ -334,23 +313,20 @@ impl Folding {
         }
         self.put_back_nothing(ops)?;
         if matches!(self.batch, ScriptBatch::Idle) {
-            self.write_scans(false, ops)?;
+            self.write_scans(ops)?;
             return Ok(());
         }
         Ok(())
     }
 
-    /// Returns the number of pages of the first flight that waits; `None` if it has not ended, unless `all` flights are meant.
-    fn next_scan(&self, all: bool) -> Option<u16> {
+    /// Returns the number of pages of the first flight that waits; `None` if it has not ended.
+    fn next_scan(&self) -> Option<u16> {
         let first = self.waiting.front()?;
-        if !all && self.pages.has(first.flight) {
-            return None;
-        }
-        Some(first.taken)
+        (!has_flight(&self.pages, first.flight)).then_some(first.taken)
     }
 
-    /// Appends a scan for each flight that waits, up to the first that has not ended unless `all` flights are meant.
-    fn write_scans(&mut self, all: bool, ops: &mut Vec<Op>) -> Result<(), AllocError>
+    /// Appends a scan for each flight that waits, up to the first that has not ended.
+    fn write_scans(&mut self, ops: &mut Vec<Op>) -> Result<(), AllocError>
         ensures none { OnOk result (self.old.moved.events ≡ 0 → self.new ≡ self.old) }
         ensures none_written { OnOk result (self.old.moved.events ≡ 0 → ops.new.items ≡ ops.old.items) }
         ensures batch { OnOk result (self.new.batch ≡ self.old.batch) }
@@ -360,7 +336,7 @@ impl Folding {
             return Ok(());
         }
         for _flight in 0..self.waiting.len() {
-            let Some(count) = self.next_scan(all) else {
+            let Some(count) = self.next_scan() else {
                 return Ok(());
             };
             ops.push(Op::Scan { count })?;
@@ -368,4 +344,62 @@ impl Folding {
         }
         Ok(())
     }
+}
+
+/// What a script does in another order than the history, or cannot repeat. All are 0 if each batch of the history is a whole scan.
+/// Counts stop at 2^64 - 1.
+#[derive(Clone, Copy, Debug, PartialEq, Eq, Default)]
+pub struct Moved {
+    /// Batches that began while another one was open: each is a scan after that one.
+    pub batches: u64,
+    /// Calls made while such a batch waited: they come before its scan.
+    pub calls: u64,
+    /// Takes, tries and put-backs that no command repeats at their place: those of such batches, and those that fit no batch of a
+    /// script. If there are none, the script repeats the history.
+    pub events: u64,
+    /// Pages in a batch after the last event, which the script puts back.
+    pub left: u64,
+}
+
+impl Moved {
+    /// Returns the sums with those of another node.
+    pub(crate) fn and(self, other: Moved) -> Moved
+        ensures { result ≡ both_moved self other }
+    {
+        Moved {
+            batches: self.batches.saturating_add(other.batches),
+            calls: self.calls.saturating_add(other.calls),
+            events: self.events.saturating_add(other.events),
+            left: self.left.saturating_add(other.left),
+        }
+    }
+}
+
+/// The kind of an event, by the command that repeats it.
+#[derive(Clone, Copy)]
+pub enum EventKind {
+    /// A call, which this command repeats.
+    Call(Op),
+    /// A page was taken into a batch.
+    Take,
+    /// A page of a batch was tried: it was split, or found pinned or in use.
+    Try,
+    /// A page of a batch was put back or dropped.
+    Put,
+}
+
+/// Returns the kind of an event.
+pub(crate) fn kind_of(what: &What) -> EventKind
+    ensures { result ≡ kind_of what.now }
+{
+    EventKind::Call(match *what {
+        What::Alloc { .. } => Op::Alloc,
+        What::Close => Op::Close,
+        What::Taken { .. } => return EventKind::Take,
+        What::Split { .. } | What::Pinned { .. } | What::Used { .. } => return EventKind::Try,
+        _ => match what.page_call() {
+            Some((page, call)) => Op::of_page(page.0, call),
+            None => return EventKind::Put,
+        },
+    })
 }

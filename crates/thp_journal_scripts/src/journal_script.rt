@@ -1,16 +1,14 @@
 //! The script of the nodes in a journal.
 ghost use Rattle.std.specs.Prelude.{◌≡◌, ◌++◌, ◌-◌, [], ℕ, None, OnOk};
 ghost use Rattle.thp_history.specs.Prelude.{event_with};
-ghost use Rattle.thp_journal_scripts.specs.NodeScripts.{head_text, taken_of, untaken, BeginsNode, EndsNode, GoesOnWith, IsWriting, StaysWritten};
-ghost use Rattle.thp_journal_scripts.specs.ScriptTexts.{commands_text};
+ghost use Rattle.thp_journal_scripts.specs.Prelude.{commands_text, head_text, taken_of, untaken, BeginsNode, EndsNode, GoesOnWith, IsWriting, StaysWritten};
 
-use crate::command_text::put_commands;
-use crate::folding::Folding;
-use crate::moved::Moved;
-use crate::options_text::put_options;
-use crate::text_trace::TextTrace;
+use crate::folding::{Folding, Moved};
+use crate::script_text::{put_commands, put_options};
 use crate::turns::Turns;
 use std::alloc::{AllocError, Global};
+use std::marker::Model;
+use std::snapshot::Snapshot;
 use thp_history::{Event, Shape};
 use thp_journal_writer::put;
 use thp_script::Op;
@@ -132,5 +130,47 @@ fn put_head(text: &mut Vec<u8>, shapes: &[Shape]) -> Result<(), AllocError>
     match shapes {
         [_one] => put(text, b"setup\n"),
         _ => Ok(()),
+    }
+}
+
+/// Parts of a text one after the other, the newest outside.
+#[derive(Drop)]
+enum TextChain {
+    Start,
+    Then(Snapshot<Vec<u8>>, Snapshot<TextChain>),
+}
+
+/// A text that is visible to contracts only and has no bytes.
+#[derive(Drop)]
+pub(crate) struct TextTrace {
+    parts: Snapshot<TextChain>,
+}
+
+impl Model for TextTrace {
+    ghost use Rattle.std.specs.Prelude.{ℕ, List};
+    ghost use Rattle.thp_journal_scripts.specs.TextTrace.{text_in};
+
+    ghost Value = { List ℕ };
+
+    ghost view = { λ t. text_in t.parts.value };
+}
+
+impl TextTrace {
+    /// Returns the empty text.
+    pub(crate) fn new() -> TextTrace
+        ensures { result ≡ [] }
+    {
+        TextTrace {
+            parts: Snapshot::of(&TextChain::Start),
+        }
+    }
+
+    /// Appends a text.
+    pub(crate) fn push(&mut self, text: &Vec<u8>)
+        ensures { self.new ≡ self.old ++ text.now.items }
+    {
+        let start = Snapshot::of(&TextChain::Start);
+        let parts = std::mem::replace(&mut self.parts, start);
+        self.parts = Snapshot::of(&TextChain::Then(Snapshot::of(text), parts));
     }
 }

@@ -1,67 +1,72 @@
-//! The pages in flight, each with the number of its flight.
-ghost use Rattle.std.specs.Prelude.{◌≡◌, ◌++◌, [], ◌∷◌, length, nat_eq, OnOk};
+//! The pages in flight, each with the number of its flight, and the flights that wait.
+ghost use Rattle.std.specs.Prelude.{◌≡◌, [], nat_eq};
 ghost use Rattle.std.specs.List.{list_any};
-ghost use Rattle.thp_journal_scripts.specs.Folds.{flying, leave};
-ghost use Rattle.thp_journal_scripts.specs.declared.open_flights.FlyingPage.{FlyingPage};
+ghost use Rattle.thp_journal_scripts.specs.Prelude.{leave, FlyingPage};
 
-use std::alloc::{AllocError, Global};
+use crate::script_batch::MAX_TAKEN;
+use std::collections::VecDeque;
 use thp_history::PageId;
 
 /// A page in flight.
 #[derive(Clone, Copy)]
-struct FlyingPage {
-    page: PageId,
+pub(crate) struct FlyingPage {
+    pub(crate) page: PageId,
     // the number of flights that began before this one
-    flight: u64,
+    pub(crate) flight: u64,
 }
 
-/// The pages in flight, in the order of their takes.
-#[derive(Drop)]
-pub(crate) struct OpenFlights {
-    pages: Vec<FlyingPage>,
+/// Returns whether a page of this flight is left.
+pub(crate) fn has_flight(pages: &Vec<FlyingPage>, flight: u64) -> bool
+    ensures { result ≡ list_any (λ (flying : FlyingPage). nat_eq flying.flight flight) pages.now.items }
+{
+    pages.iter().any(|flying| flying.flight == flight)
 }
 
-impl OpenFlights {
-    /// Returns the list without a page.
-    pub(crate) fn new(alloc: Global) -> OpenFlights
-        ensures { result.pages.items ≡ [] }
-    {
-        OpenFlights {
-            pages: Vec::new(alloc),
+/// Removes a page, and returns its flight; `None` if the page is in no flight.
+pub(crate) fn leave(pages: &mut Vec<FlyingPage>, page: PageId) -> Option<u64>
+    ensures { pages.new.items ≡ leave page pages.old.items }
+{
+    for place in 0..pages.len() {
+        if pages[place].page == page {
+            return Some(pages.remove(place).flight);
         }
     }
+    None
+}
 
-    /// Returns the number of pages in flight.
-    pub(crate) fn len(&self) -> usize
-        ensures { result ≡ length self.now.pages.items }
-    {
-        self.pages.len()
+/// A flight that waits for the batch before it.
+#[derive(Clone, Copy)]
+pub(crate) struct WaitingFlight {
+    pub(crate) caller: u32,
+    pub(crate) taken: u16,
+    // the number of flights that began before this one
+    pub(crate) flight: u64,
+}
+
+/// Adds a page to the last of the flights that wait, if that is this caller's and has room. Returns whether it did.
+pub(crate) fn extend_last(waiting: &mut VecDeque<WaitingFlight>, by: u32) -> bool {
+    let Some(last) = waiting.back_mut() else {
+        return false;
+    };
+    if last.caller != by || last.taken >= MAX_TAKEN {
+        return false;
     }
+    last.taken += 1;
+    true
+}
 
-    /// Returns whether a page of this flight is left.
-    pub(crate) fn has(&self, flight: u64) -> bool
-        ensures { result ≡ list_any (λ (flying : FlyingPage). nat_eq flying.flight flight) self.now.pages.items }
-    {
-        self.pages.iter().any(|flying| flying.flight == flight)
+/// Removes a page from a flight, if that waits: the page was freed.
+pub(crate) fn lose_page(waiting: &mut VecDeque<WaitingFlight>, flight: u64)
+    ensures { waiting.old.items ≡ [] → waiting.new.items ≡ [] }
+{
+    let Some(first) = waiting.front() else {
+        return;
+    };
+    if flight < first.flight {
+        return;
     }
-
-    /// Adds a page that was taken.
-    pub(crate) fn push(&mut self, page: PageId, flight: u64) -> Result<(), AllocError>
-        ensures { OnOk result (self.new.pages.items ≡ self.old.pages.items ++ flying flight page ∷ []) }
-    {
-        self.pages.push(FlyingPage { page, flight })?;
-        Ok(())
-    }
-
-    /// Removes a page, and returns its flight; `None` if the page is in no flight.
-    pub(crate) fn remove(&mut self, page: PageId) -> Option<u64>
-        ensures { self.new.pages.items ≡ leave page self.old.pages.items }
-    {
-        for place in 0..self.len() {
-            if self.pages[place].page == page {
-                return Some(self.pages.remove(place).flight);
-            }
-        }
-        None
+    let behind = (flight - first.flight) as usize;
+    if let Some(waiting) = waiting.get_mut(behind) {
+        waiting.taken = waiting.taken.saturating_sub(1);
     }
 }

@@ -1,8 +1,7 @@
 //! Whether a batch tries its pages in the order in which it took them.
 ghost use Rattle.std.specs.Prelude.{◌≡◌, ◌+◌, ◌++◌, [], nat_eq, OnOk, if◌then◌else◌};
 ghost use Rattle.std.specs.List.{position};
-ghost use Rattle.thp_journal_scripts.specs.Moving.{counted};
-ghost use Rattle.thp_journal_scripts.specs.Turns.{done_page, first_of, is_out_of_turn, taken_by, tried_page, unless_done, untried_after};
+ghost use Rattle.thp_journal_scripts.specs.Prelude.{counted, done_page, first_of, is_out_of_turn, taken_by, tried_page, unless_done, untried_after};
 
 use std::alloc::{AllocError, Global};
 use thp_history::{Event, Outcome, PageId, What};
@@ -42,15 +41,8 @@ impl Turns {
         let more = u64::from(self.is_out_of_turn(event));
         self.out_of_turn = self.out_of_turn.saturating_add(more);
         self.leave(done_page(&event.what));
-        self.take(event.caller, &event.what)
-    }
-
-    /// Adds the page that an event takes.
-    fn take(&mut self, caller: u32, what: &What) -> Result<(), AllocError>
-        ensures untried { OnOk result (self.new.untried.items ≡ self.old.untried.items ++ taken_by caller what.now) }
-        ensures count { self.new.out_of_turn ≡ self.old.out_of_turn }
-    {
-        if let What::Taken { page } = *what {
+        if let What::Taken { page } = event.what {
+            let caller = event.caller;
             self.untried.push(UntriedPage { caller, page })?;
         }
         Ok(())

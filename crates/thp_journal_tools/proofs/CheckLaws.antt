@@ -5,9 +5,9 @@ use Rattle.thp_script.specs.Prelude.{max_counted, Fault, IsFrontOf}
 use Rattle.thp_script.specs.declared.fault.ReadFault.TheVariants as reading
 use Rattle.thp_script.specs.declared.fault.TextKind.{TextKind}
 use Rattle.thp_journal_writer.specs.Totals.{lines_from}
-use Rattle.thp_journal_reader.specs.declared.illegal.Illegal.{Illegal}
+use Rattle.thp_journal_reader.specs.declared.long_check.Illegal.{Illegal}
 use Rattle.thp_journal_reader.specs.declared.journals.NodeJournal.{NodeJournal}
-use Rattle.thp_journal_tools.specs.declared.summed.Summed.{Summed}
+use Rattle.thp_journal_tools.specs.declared.checking.Summed.{Summed}
 use Rattle.thp_script.specs.declared.fault.LongReadFault.{LongReadFault}
 use Rattle.thp_script.specs.declared.fault.LongReadFault.TheVariants as summary
 use Rattle.thp_journal_reader.specs.Prelude.{ReportsFirst, ReportsIllegal, ReportsLongReadFault, journals_within, verdict_text}
@@ -19,7 +19,7 @@ use Rattle.thp_cli.specs.declared.fault.RunFault.TheVariants.{Text, OutOfMemory,
 use Rattle.thp_cli.specs.Prelude.{WritesFront, WritesAnswer, fault_of_long_read, IsReadingFault}
 use Rattle.thp_cli.proofs.PassageLaws.{ends_cut, ends_early, ends_written, keeps_same}
 use Rattle.thp_journal_tools.specs.Checks.{line_of, IsCheckOf, IsFindFault, IsFound, LongEnds}
-use Rattle.thp_journal_tools.specs.declared.options.CheckOptions.{CheckOptions}
+use Rattle.thp_journal_tools.specs.declared.program.CheckOptions.{CheckOptions}
 
 -- ---- what is found
 

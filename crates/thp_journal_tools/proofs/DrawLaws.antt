@@ -14,7 +14,7 @@ use Rattle.thp_cli.specs.Prelude.{ReadsOn, WritesOn, WritesFront, Device, Source
 use Rattle.thp_journal_reader.specs.declared.journals.NodeJournal.{NodeJournal}
 use Rattle.thp_script.specs.Prelude.{max_counted, IsFrontOf}
 use Rattle.thp_journal_reader.proofs.VerdictLaws.{same_journals}
-use Rattle.thp_journal_tools.specs.declared.draw_options.DrawOptions.{DrawOptions}
+use Rattle.thp_journal_tools.specs.declared.draw_program.DrawOptions.{DrawOptions}
 use Rattle.thp_journal_tools.specs.Checks.{IsFindFault}
 use Rattle.thp_journal_tools.specs.Drawings.{Draws, IsDrawingOf, IsFound, LacksNode, Shows}
 use Rattle.thp_journal_tools.specs.DrawOutcomes.{Does, IsOutputFault}

@@ -2,7 +2,7 @@
 use Rattle.std.proofs.Common.{◌≡◌, ◌∷◌, [], ℕ, Option, Some, arith, subst, sym, slice_get}
 use Rattle.thp_drawing.specs.declared.node.IllegalEvent.{IllegalEvent}
 use Rattle.thp_drawing.specs.declared.node.DrawnNode.{DrawnNode}
-use Rattle.thp_journal_reader.specs.declared.illegal.Illegal.{Illegal}
+use Rattle.thp_journal_reader.specs.declared.long_check.Illegal.{Illegal}
 use Rattle.thp_journal_reader.specs.declared.journals.NodeJournal.{NodeJournal}
 use Rattle.thp_journal_reader.specs.Prelude.{IsFirstIllegalEvent, IsKept, ReportsFirst}
 use Rattle.thp_journal_tools.specs.Keeping.{told_of, KeepsDrawing}

@@ -5,7 +5,7 @@ use Rattle.thp_cli.specs.declared.fault.RunFault.{RunFault}
 use Rattle.thp_cli.specs.declared.fault.RunFault.TheVariants.{Text, OutOfMemory, Read, Write}
 use Rattle.thp_cli.specs.Prelude.{WritesFront, fault_of_long_read}
 use Rattle.thp_journal_tools.specs.Scripting.{Grows, IsDeviceFault, IsScriptEnd}
-use Rattle.thp_journal_scripts.specs.declared.scripted.Scripted.{Scripted}
+use Rattle.thp_journal_scripts.specs.declared.script_check.Scripted.{Scripted}
 use Rattle.thp_script.specs.Prelude.{max_counted, IsFrontOf}
 use Rattle.thp_script.specs.declared.fault.LongReadFault.{LongReadFault}
 use Rattle.thp_script.specs.declared.fault.LongReadFault.TheVariants as summary

@@ -2,10 +2,10 @@
 use Rattle.std.specs.Prelude.{◌≡◌, ◌++◌, ℕ, Bool, true, false, List, [], Option, Some, None, Result, Ok, Err, IfSome, if◌then◌else◌, option_map}
 use Rattle.thp_script.specs.Prelude.{max_counted, IsFrontOf}
 use Rattle.thp_check.specs.Prelude.{explanation}
-use Rattle.thp_journal_reader.specs.declared.illegal.Illegal.{Illegal}
+use Rattle.thp_journal_reader.specs.declared.long_check.Illegal.{Illegal}
 use Rattle.thp_journal_reader.specs.declared.journals.Journals.{Journals}
 use Rattle.thp_journal_reader.specs.declared.journals.NodeJournal.{NodeJournal}
-use Rattle.thp_journal_tools.specs.declared.summed.Summed.{Summed}
+use Rattle.thp_journal_tools.specs.declared.checking.Summed.{Summed}
 use Rattle.thp_journal_reader.specs.Prelude.{ReportsFirst, journals_within, is_legal, IsVerdictWithin}
 use Rattle.thp_journal_tools.specs.Summaries.{AreSummaries}
 use Rattle.thp_journal_writer.specs.Totals.{lines_from}
@@ -14,7 +14,7 @@ use Rattle.thp_cli.specs.declared.fault.RunFault.{RunFault}
 use Rattle.thp_cli.specs.declared.fault.RunFault.TheVariants.{Text, OutOfMemory, Read, Write}
 use Rattle.thp_cli.specs.Prelude.{ReadsOn, Device, Source, Ends, WritesAnswer}
 use Rattle.thp_journal_tools.specs.declared.checking.CheckFinding.{CheckFinding}
-use Rattle.thp_journal_tools.specs.declared.options.CheckOptions.{CheckOptions}
+use Rattle.thp_journal_tools.specs.declared.program.CheckOptions.{CheckOptions}
 
 -- the line of an illegal event
 abbrev pub line_of : Option Illegal → Option ℕ

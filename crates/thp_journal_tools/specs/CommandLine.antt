@@ -3,7 +3,7 @@ use Rattle.std.specs.Prelude.{ℕ, List, Result, codes}
 use Rattle.clap.specs.Words.{App, Row, one_of, with_rule}
 use Rattle.clap.specs.declared.error.Error.{Error}
 use Rattle.thp_cli.specs.Prelude.{bare_app, flag_rule, ReportsFlag}
-use Rattle.thp_journal_tools.specs.declared.options.CheckOptions.{CheckOptions}
+use Rattle.thp_journal_tools.specs.declared.program.CheckOptions.{CheckOptions}
 use Rattle.thp_journal_tools.specs.Words.{ReadsWords}
 
 -- the command `thpcheck`, with the flags `--explain`, `--summary`, `--progress` and `--script`

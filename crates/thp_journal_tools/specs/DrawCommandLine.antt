@@ -5,7 +5,7 @@ use Rattle.clap.specs.declared.builder.value_parser.ValueParser.TheVariants.{Sig
 use Rattle.clap.specs.declared.error.Error.{Error}
 use Rattle.thp_cli.specs.Prelude.{bare_app, flag_rule, valued_rule, ReportsFlag, ReportsNumber}
 use Rattle.thp_script.specs.Prelude.{max_nodes}
-use Rattle.thp_journal_tools.specs.declared.draw_options.DrawOptions.{DrawOptions}
+use Rattle.thp_journal_tools.specs.declared.draw_program.DrawOptions.{DrawOptions}
 use Rattle.thp_journal_tools.specs.Words.{ReadsWords}
 
 -- `--node NODE`: 0 to 7

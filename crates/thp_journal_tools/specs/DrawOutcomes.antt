@@ -7,7 +7,7 @@ use Rattle.thp_cli.specs.declared.ending.ProgramFault.{ProgramFault}
 use Rattle.thp_cli.specs.declared.ending.ProgramFault.TheVariants.{Run, NoNode}
 use Rattle.thp_cli.specs.declared.fault.RunFault.TheVariants.{OutOfMemory}
 use Rattle.thp_cli.specs.Prelude.{Device, Source}
-use Rattle.thp_journal_tools.specs.declared.draw_options.DrawOptions.{DrawOptions}
+use Rattle.thp_journal_tools.specs.declared.draw_program.DrawOptions.{DrawOptions}
 use Rattle.thp_journal_tools.specs.Drawings.{Draws, FindsNoNode}
 
 -- why there is no output for nodes: memory could not be allocated, or the requested one is not among them

@@ -8,12 +8,12 @@ use Rattle.thp_drawing.specs.declared.node.DrawnNode.{DrawnNode}
 use Rattle.thp_journal_reader.specs.declared.journals.Journals.{Journals}
 use Rattle.thp_journal_reader.specs.Prelude.{journals_within}
 use Rattle.thp_cli.specs.declared.ending.Ending.{Ending}
-use Rattle.thp_cli.specs.declared.ending.Ending.TheVariants.{Illegal, Written}
 use Rattle.thp_cli.specs.declared.fault.RunFault.{RunFault}
 use Rattle.thp_cli.specs.Prelude.{ReadsOn, Device, IsUntouched, Source, WritesAnswer}
 use Rattle.thp_script.specs.Prelude.{max_counted}
-use Rattle.thp_journal_tools.specs.declared.draw_options.DrawOptions.{DrawOptions}
+use Rattle.thp_journal_tools.specs.declared.draw_program.DrawOptions.{DrawOptions}
 use Rattle.thp_journal_tools.specs.Nodes.{AreDrawnOf}
+use Rattle.thp_journal_tools.specs.Requests.{ending_if}
 
 -- the output for all nodes: a table if that is requested, otherwise a picture
 abbrev pub drawing_text : Bool → List DrawnNode → List ℕ
@@ -26,10 +26,6 @@ node_text table n node = if table then node_table n node else node_picture n nod
 -- some node has an illegal event
 abbrev pub some_illegal : List DrawnNode → Bool
 some_illegal nodes = list_any (λ (node : DrawnNode). is_some node.illegal) nodes
-
--- how the program ends after the output was written, by whether an event in it is illegal
-abbrev pub ending_if : Bool → Ending
-ending_if illegal = if illegal then Illegal else Written
 
 -- the output shows all nodes, or exactly the requested one, with its number; and the program ends like this
 abbrev pub Shows : Bool → Option ℕ → List DrawnNode → Ending → List ℕ → Type 0

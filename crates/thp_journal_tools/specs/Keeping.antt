@@ -6,11 +6,11 @@ use Rattle.thp_check.specs.Prelude.{Replayed}
 use Rattle.thp_metrics.specs.Prelude.{numbers_at, series, AreStuck}
 use Rattle.thp_journal_writer.specs.Prelude.{totals_of}
 use Rattle.thp_journal_writer.specs.declared.totals.Totals.{Totals}
-use Rattle.thp_journal_reader.specs.declared.illegal.Illegal.{Illegal}
+use Rattle.thp_journal_reader.specs.declared.long_check.Illegal.{Illegal}
 use Rattle.thp_drawing.specs.Drawn.{AreColumnsOf}
 use Rattle.thp_drawing.specs.declared.node.IllegalEvent.{IllegalEvent}
 use Rattle.thp_drawing.specs.declared.node.DrawnNode.{DrawnNode}
-use Rattle.thp_journal_tools.specs.declared.series_node.SeriesRest.{SeriesRest}
+use Rattle.thp_metrics.specs.declared.node_series.SeriesEnd.{SeriesEnd}
 
 -- the totals
 abbrev pub KeepsTotals : Shape → History → Option Illegal → Totals → Type 0
@@ -32,8 +32,8 @@ pub record KeepsDrawing (shape : Shape) (front : History) (illegal : Option Ille
   pub illegal_is : kept.illegal ≡ told_of illegal
   pub stuck_are : AreStuck shape front kept.stuck.items
 
-pub record LeavesNumbers (before : Replayed) (rest : SeriesRest) : Type 0 where
-  pub shape_is : rest.shape ≡ before.shape
-  pub numbers_are : rest.end.numbers ≡ numbers_at before.shape before.history
-  pub columns_are : rest.end.columns ≡ series before.shape before.history
-  pub waiting_is : rest.end.waiting ≡ before
+pub record LeavesNumbers (before : Replayed) (rest : Shape × SeriesEnd) : Type 0 where
+  pub shape_is : rest.0 ≡ before.shape
+  pub numbers_are : rest.1.numbers ≡ numbers_at before.shape before.history
+  pub columns_are : rest.1.columns ≡ series before.shape before.history
+  pub waiting_is : rest.1.waiting ≡ before

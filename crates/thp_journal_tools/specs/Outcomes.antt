@@ -1,14 +1,14 @@
 -- What `thpcheck` does with a journal, as its options request (this project's profile).
 use Rattle.std.specs.Prelude.{◌≡◌, ◌&&◌, ℕ, Bool, true, false, not, List, Option, Some, None, Result, Ok, Err}
-use Rattle.thp_journal_reader.specs.declared.illegal.Illegal.{Illegal}
+use Rattle.thp_journal_reader.specs.declared.long_check.Illegal.{Illegal}
 use Rattle.thp_cli.specs.declared.ending.Ending.{Ending}
 use Rattle.thp_cli.specs.declared.ending.Ending.TheVariants.{Written, Illegal as IsIllegal}
 use Rattle.thp_cli.specs.declared.ending.ProgramFault.{ProgramFault}
 use Rattle.thp_cli.specs.declared.ending.ProgramFault.TheVariants.{Run}
 use Rattle.thp_cli.specs.Prelude.{Device, Source}
-use Rattle.thp_journal_tools.specs.declared.options.CheckOptions.{CheckOptions}
+use Rattle.thp_journal_tools.specs.declared.program.CheckOptions.{CheckOptions}
 use Rattle.thp_journal_tools.specs.Checks.{explanation_of, Checks}
-use Rattle.thp_journal_scripts.specs.declared.scripted.Scripted.{Scripted}
+use Rattle.thp_journal_scripts.specs.declared.script_check.Scripted.{Scripted}
 use Rattle.thp_journal_tools.specs.Progress.{may_show}
 use Rattle.thp_journal_tools.specs.Scripting.{notes_of, Scripts}
 

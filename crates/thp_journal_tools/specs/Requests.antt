@@ -1,8 +1,9 @@
 -- What a program of journals does with its words, its input and its outputs, and its exit status, for any kind of request (this
 -- project's profile).
-use Rattle.std.specs.Prelude.{◌≡◌, ◌⊎◌, ℕ, Bool, true, List, Option, Some, None, Result, Ok, Err, option_map}
+use Rattle.std.specs.Prelude.{◌≡◌, ◌⊎◌, ℕ, Bool, true, List, Option, Some, None, Result, Ok, Err, if◌then◌else◌, option_map}
 use Rattle.clap.specs.declared.error.Error.{Error}
 use Rattle.thp_cli.specs.declared.ending.Ending.{Ending}
+use Rattle.thp_cli.specs.declared.ending.Ending.TheVariants.{Illegal, Written}
 use Rattle.thp_cli.specs.declared.ending.Program.{Program}
 use Rattle.thp_cli.specs.declared.ending.ProgramFault.{ProgramFault}
 use Rattle.thp_cli.specs.declared.ending.ProgramFault.TheVariants.{NoText}
@@ -11,6 +12,10 @@ use Rattle.thp_cli.specs.declared.ending.WordsFault.TheVariants as words
 use Rattle.thp_cli.specs.Prelude.{Device, IsShort, IsUnread, IsUntouched, Source, Takes, WritesMessage, WasAnsweredBy, end_status}
 use Rattle.thp_journal_tools.specs.declared.request.ProgramEnd.{ProgramEnd}
 use Rattle.thp_journal_tools.specs.Progress.{ShowsProgress}
+
+-- how the program ends after the output was written, by whether an event in it is illegal
+abbrev pub ending_if : Bool → Ending
+ending_if illegal = if illegal then Illegal else Written
 
 -- how the program ended, and the text for standard error
 abbrev pub end_of : Result ProgramEnd ProgramFault → Result Ending ProgramFault

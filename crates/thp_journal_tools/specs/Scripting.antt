@@ -3,16 +3,16 @@ use Rattle.std.specs.Prelude.{◌≡◌, ◌==◌, ◌++◌, ℕ, Bool, true, fa
 use Rattle.std.specs.Io.KnownBytes.{Appends}
 use Rattle.thp_script.specs.Prelude.{max_counted, IsFrontOf}
 use Rattle.thp_check.specs.Prelude.{explanation}
-use Rattle.thp_journal_scripts.specs.declared.moved.Moved.{Moved}
-use Rattle.thp_journal_reader.specs.declared.illegal.Illegal.{Illegal}
+use Rattle.thp_journal_scripts.specs.declared.folding.Moved.{Moved}
+use Rattle.thp_journal_reader.specs.declared.long_check.Illegal.{Illegal}
 use Rattle.thp_journal_reader.specs.declared.journals.Journals.{Journals}
 use Rattle.thp_journal_reader.specs.Prelude.{ReportsFirst, journals_within, verdict_text}
 use Rattle.thp_journal_scripts.specs.Prelude.{IsScriptOf}
 use Rattle.thp_cli.specs.declared.fault.RunFault.{RunFault}
 use Rattle.thp_cli.specs.declared.fault.RunFault.TheVariants.{Text, OutOfMemory, Read, Write}
 use Rattle.thp_cli.specs.Prelude.{ReadsOn, Device, Source}
-use Rattle.thp_journal_tools.specs.declared.options.CheckOptions.{CheckOptions}
-use Rattle.thp_journal_scripts.specs.declared.scripted.Scripted.{Scripted}
+use Rattle.thp_journal_tools.specs.declared.program.CheckOptions.{CheckOptions}
+use Rattle.thp_journal_scripts.specs.declared.script_check.Scripted.{Scripted}
 
 -- ---- the script
 

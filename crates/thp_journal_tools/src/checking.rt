@@ -1,24 +1,24 @@
 //! From the bytes of a journal of any length to its verdict.
-ghost use Rattle.std.specs.Prelude.{◌≡◌, ◌++◌, IfOk, false, option_map};
-ghost use Rattle.thp_script.specs.Prelude.{max_counted};
+ghost use Rattle.std.specs.Prelude.{◌≡◌, ◌++◌, IfOk, false, option_map, ℕ, List, IfErr, IfSome};
+ghost use Rattle.thp_script.specs.Prelude.{max_counted, IsFrontOf};
 ghost use Rattle.thp_journal_reader.specs.Prelude.{verdict_text};
 ghost use Rattle.thp_cli.specs.Prelude.{ReadsOn, device_of, WritesAnswer};
 ghost use Rattle.thp_cli.specs.declared.ending.Program.TheVariants.{Thpcheck};
 ghost use Rattle.thp_journal_writer.specs.Totals.{lines_from};
-ghost use Rattle.thp_journal_tools.specs.Checks.{explanation_of, found_in, line_of, CheckEnds};
+ghost use Rattle.thp_journal_tools.specs.Checks.{explanation_of, found_in, line_of, CheckEnds, IsFindFault, IsFound};
 ghost use Rattle.thp_journal_tools.specs.Progress.{may_show, ShowsProgress};
 
-use crate::finding::find;
-use crate::options::CheckOptions;
-use crate::screen::Screen;
-use crate::summed::Summed;
+use crate::keeping_check::{KeepingCheck, SummedNode};
+use crate::program::CheckOptions;
+use crate::progress::{Screen, read_journal};
 use std::alloc::{AllocError, Global};
 use std::io::{Read, Write};
 use std::time::Clock;
-use thp_check::put_explanation;
-use thp_cli::{RunFault, Watched, write_text};
-use thp_journal_reader::{Illegal, verdict};
-use thp_journal_writer::{put, put_totals_of_each};
+use thp_check::{Misfit, put_explanation};
+use thp_cli::{Program, RunFault, Watched, write_text};
+use thp_history::{Outcome, Refusal, What};
+use thp_journal_reader::{Illegal, LongCheck, verdict};
+use thp_journal_writer::{Totals, put, put_totals_of_each};
 
 /// The result of the check of a journal.
 #[derive(Drop)]
@@ -100,4 +100,52 @@ pub fn check_long<R: Read, W: Write, S: Write, C: Clock>(
         illegal: found.illegal,
         explanation,
     })
+}
+
+/// Returns the first illegal event of the journal from the reader, which is read in parts, and the totals of its nodes if the
+/// options request them.
+pub(crate) fn find<R: Read, S: Write, C: Clock>(
+    alloc: Global,
+    options: CheckOptions,
+    reader: &mut Watched<R>,
+    screen: &mut Screen<S, C>,
+) -> Result<Summed, RunFault>
+    requires reader { reader.old.failed ≡ false }
+    requires screen { screen.old.writer.failed ≡ false }
+    ensures found { IfOk result (λ found. (bytes : List ℕ) × IfSome (R.remaining reader.old.device) (IsFrontOf max_counted bytes) × IsFound options.summary bytes found) }
+    ensures flag { IfOk result (λ _. reader.new.failed ≡ false) }
+    ensures fault { IfErr result (λ fault. IsFindFault (R.remaining reader.old.device) reader.new.failed fault) }
+    ensures calls { ReadsOn max_counted reader.new.failed reader.old.calls reader.new.calls }
+    ensures screen { ShowsProgress Thpcheck (may_show options.progress screen.old.is_terminal) (R.remaining reader.old.device) (device_of S.contents screen.old.writer screen.new.writer) }
+{
+    // the toolchain finds these types, which illegal events contain, only in functions that name them
+    let _in_illegal = (
+        What::Close,
+        Outcome::Stays,
+        Refusal::NoPage,
+        Misfit::BlockTaken,
+    );
+    let asked = options.progress;
+    if options.summary {
+        let check: KeepingCheck<Totals, SummedNode> = KeepingCheck::new(alloc);
+        let check = read_journal(alloc, Program::Thpcheck, asked, check, reader, screen)?;
+        let (illegal, totals) = check.finish()?;
+        return Ok(Summed { illegal, totals });
+    }
+    let check = LongCheck::new(alloc);
+    let check = read_journal(alloc, Program::Thpcheck, asked, check, reader, screen)?;
+    let illegal = check.finish()?;
+    Ok(Summed {
+        illegal,
+        totals: Vec::new(alloc),
+    })
+}
+
+/// The result of a check that also sums nodes up.
+#[derive(Drop)]
+pub struct Summed {
+    /// The first illegal event, in the order of the text; `None` if each node's events are legal.
+    pub illegal: Option<Illegal>,
+    /// The totals of each node, over all its events or over those before its first illegal event.
+    pub totals: Vec<Totals>,
 }

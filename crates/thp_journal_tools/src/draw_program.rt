@@ -1,20 +1,22 @@
 //! The program `thpdraw`: from the words of its command line to its exit status.
-ghost use Rattle.std.specs.Prelude.{◌≡◌, false};
+ghost use Rattle.std.specs.Prelude.{◌≡◌, false, IfOk};
 ghost use Rattle.thp_cli.specs.declared.ending.Program.TheVariants.{Thpdraw};
-ghost use Rattle.thp_cli.specs.Prelude.{device_of, given_words, source_of};
-ghost use Rattle.thp_journal_tools.specs.DrawCommandLine.{AnswersWords};
+ghost use Rattle.thp_cli.specs.Prelude.{device_of, given_words, source_of, IsOption};
+ghost use Rattle.thp_journal_tools.specs.DrawCommandLine.{AnswersWords, node_rule, thpdraw};
 ghost use Rattle.thp_journal_tools.specs.DrawOutcomes.{shows_progress, DoesRequest};
 ghost use Rattle.thp_journal_tools.specs.Requests.{Finishes, ShowsAsAsked};
+ghost use Rattle.clap.specs.Words.{app_of};
 
-use crate::draw_options::{DrawOptions, command};
+use crate::draw_help::AFTER_HELP;
+use crate::progress::Screen;
 use crate::request::{ProgramEnd, Request, run_request};
-use crate::screen::Screen;
 use crate::writing::draw;
-use clap::Error;
-use std::alloc::Global;
+use clap::{Arg, ArgAction, Command, Error, value_parser};
+use std::alloc::{AllocError, Global};
 use std::io::{Read, Write};
 use std::time::Clock;
-use thp_cli::{Program, ProgramFault, Watched, WordsFault};
+use thp_cli::{Program, ProgramFault, VERSION, Watched, WordsFault, flag};
+use thp_script::MAX_NODES;
 
 impl Request for DrawOptions {
     ghost program = { Thpdraw };
@@ -79,4 +81,47 @@ pub fn run_draw_program<R: Read, W: Write, E: Write, S: Write, C: Clock>(
     ensures screen { ShowsAsAsked Thpdraw AnswersWords shows_progress (given_words words) screen.old.is_terminal (source_of R.remaining reader.old reader.new) (device_of S.contents screen.old.writer screen.new.writer) }
 {
     run_request::<DrawOptions, R, W, E, S, C>(alloc, words, reader, output, errors, screen)
+}
+
+/// The request of a command line.
+#[derive(Clone, Copy, Debug, PartialEq, Eq)]
+pub struct DrawOptions {
+    /// Whether to write the numbers as a table instead of the picture.
+    pub table: bool,
+    /// The number of the only node to draw, if not all are drawn.
+    pub node: Option<u32>,
+    /// Whether to show the progress of the reading on standard error.
+    pub progress: bool,
+}
+
+fn node_option<'a>(alloc: Global) -> Arg<'a>
+    ensures { IsOption result node_rule }
+{
+    Arg::new(alloc, "node")
+        .long("node")
+        .value_name("NODE")
+        .help("Draw this node only, 0 to 7")
+        .action(ArgAction::Set)
+        .value_parser(value_parser!(u32).range(0..=MAX_NODES as i64 - 1))
+}
+
+/// Returns the command with its options.
+pub(crate) fn command<'a>(alloc: Global) -> Result<Command<'a>, AllocError>
+    ensures { IfOk result (λ command. app_of command ≡ thpdraw) }
+{
+    Command::new(alloc, "thpdraw")
+        .about("Draws the nodes of a journal of any length")
+        .version(VERSION)
+        .after_help(AFTER_HELP)
+        .arg(flag(
+            alloc,
+            "table",
+            "Write the numbers as a table instead of the picture",
+        ))?
+        .arg(node_option(alloc))?
+        .arg(flag(
+            alloc,
+            "progress",
+            "Show the progress of the reading on standard error",
+        ))
 }

@@ -1,12 +1,19 @@
 //! The check of journals of any length that also keeps data of each node.
-ghost use Rattle.std.specs.Prelude.{◌≡◌, Ok, [], IfOk, IfErr};
-ghost use Rattle.thp_journal_reader.specs.Prelude.{HasReadText, ReportsLongReadFault, HasEnded, journals_within, more_text_read, no_text_read, told_with};
+ghost use Rattle.std.specs.Prelude.{◌≡◌, Ok, [], IfOk, IfErr, true};
+ghost use Rattle.thp_journal_reader.specs.Prelude.{journals_within, more_text_read, no_text_read, told_with, HasEnded, HasReadText, ReportsLongReadFault};
 ghost use Rattle.thp_journal_reader.specs.declared.journals.Journals.{Journals};
 ghost use Rattle.thp_script.specs.Prelude.{max_counted, Text};
+ghost use Rattle.thp_journal_tools.specs.Keeping.{KeepsTotals, LeavesTotals, KeepsDrawing, LeavesNumbers};
+ghost use Rattle.thp_journal_writer.specs.Prelude.{totals_of};
 
-use std::alloc::Global;
+use std::alloc::{AllocError, Global};
 use std::marker::Model;
-use thp_journal_reader::{FollowedNodes, FollowsNode, Illegal, TextReader};
+use thp_check::Replay;
+use thp_drawing::{DrawnNode, IllegalEvent};
+use thp_history::{Event, Shape};
+use thp_journal_reader::{FollowedNodes, FollowsNode, Illegal, Stopped, TextReader};
+use thp_journal_writer::Totals;
+use thp_metrics::{NodeSeries, SeriesEnd};
 use thp_script::{LongReadFault, ReadFault, ReadsParts, TextInParts};
 
 /// A check of journals of any length that also keeps data of each node, which `F` makes from the node's legal events: its totals
@@ -25,7 +32,7 @@ impl<K: Drop, F: FollowsNode<Kept = K>> Model for KeepingCheck<K, F> {
 
     ghost view = { λ c. so_far (nodes_told c.text.nodes.lines) c.text.place c.text.text };
 
-    ghost invariant = { λ c. FollowsLines F.replayed F.keeps F.follows_all c.text.text.line c.text.nodes × (c.text.text.most ≤ max_counted) };
+    ghost invariant = { λ c. FollowsLines F.replayed F.keeps F.FOLLOWS_ALL c.text.text.line c.text.nodes × (c.text.text.most ≤ max_counted) };
 }
 
 impl<K: Drop, F: FollowsNode<Kept = K>> KeepingCheck<K, F> {
@@ -45,7 +52,7 @@ impl<K: Drop, F: FollowsNode<Kept = K>> KeepingCheck<K, F> {
     /// Returns the first illegal event of the whole text, and the data of each node. Fails with the first error of the text, even if
     /// that is after an illegal event, and if memory for the last node's data can't be allocated.
     pub fn finish(self) -> Result<(Option<Illegal>, Vec<K>), LongReadFault>
-        ensures kept { IfOk result (λ found. (journals : Journals) × (told_with self [] ≡ Ok journals) × HasEnded F.keeps F.follows_all journals.nodes found.0 found.1.items) }
+        ensures kept { IfOk result (λ found. (journals : Journals) × (told_with self [] ≡ Ok journals) × HasEnded F.keeps F.FOLLOWS_ALL journals.nodes found.0 found.1.items) }
         ensures fault { IfErr result (ReportsLongReadFault (told_with self [])) }
     {
         match self.text.finish() {
@@ -68,4 +75,162 @@ impl<K: Drop, F: FollowsNode<Kept = K>> ReadsParts for KeepingCheck<K, F> {
     ghost nothing_read = { no_text_read };
 
     ghost more_read = { more_text_read };
+}
+
+/// A node whose events so far are legal, followed for its totals.
+#[derive(Drop)]
+pub struct SummedNode {
+    shape: Shape,
+    replay: Replay,
+}
+
+impl Model for SummedNode {
+    ghost use Rattle.std.specs.Prelude.{◌≡◌};
+    ghost use Rattle.thp_check.specs.Prelude.{Replayed};
+
+    ghost Value = { Replayed };
+
+    ghost view = { λ n. n.replay };
+
+    ghost invariant = { λ n. n.shape ≡ n.replay.shape };
+}
+
+impl SummedNode {
+    fn totals(&self) -> Totals
+        ensures { result ≡ totals_of self.now.shape self.now.history }
+    {
+        let replay = &self.replay;
+        let counters = replay.counters();
+        Totals {
+            pages: replay.allocations(),
+            queue: replay.queue_len(),
+            frames_held: replay.frames_held(),
+            frames_given: replay.frames_given(),
+            thp_split_page: counters.split_page,
+            thp_split_page_failed: counters.split_page_failed,
+            thp_deferred_split_page: counters.deferred_split_page,
+            thp_split_pmd: counters.split_pmd,
+            thp_underused_split_page: if self.shape.shrinks_underused() {
+                Some(counters.underused_split_page)
+            } else {
+                None
+            },
+        }
+    }
+}
+
+/// Keeps the totals.
+impl FollowsNode for SummedNode {
+    type Kept = Totals;
+
+    type Rest = Totals;
+
+    ghost replayed = { λ node. node };
+
+    ghost keeps = { KeepsTotals };
+
+    ghost leaves = { LeavesTotals };
+
+    ghost FOLLOWS_ALL = { true };
+
+    const FOLLOWS_ALL: bool = true;
+
+    fn begin(alloc: Global, shape: Shape) -> Result<SummedNode, AllocError> {
+        let replay = Replay::new(alloc, shape)?;
+        Ok(SummedNode { shape, replay })
+    }
+
+    fn free_block(&self) -> u32 {
+        self.replay.least_free_block()
+    }
+
+    fn follow(self, event: &Event) -> Result<SummedNode, Stopped<Totals>> {
+        let rest = self.totals();
+        let SummedNode { shape, replay } = self;
+        match replay.admit(event) {
+            Ok(replay) => Ok(SummedNode { shape, replay }),
+            Err(misfit) => Err(Stopped { misfit, rest }),
+        }
+    }
+
+    fn end(self, _alloc: Global) -> Result<Totals, AllocError> {
+        Ok(self.totals())
+    }
+
+    fn stop(rest: Totals, _alloc: Global, _illegal: &Illegal) -> Result<Totals, AllocError> {
+        Ok(rest)
+    }
+}
+
+/// A node whose events so far are legal, followed for its numbers.
+#[derive(Drop)]
+pub struct SeriesNode {
+    shape: Shape,
+    series: NodeSeries,
+}
+
+impl Model for SeriesNode {
+    ghost use Rattle.std.specs.Prelude.{◌≡◌};
+    ghost use Rattle.thp_check.specs.Prelude.{Replayed};
+
+    ghost Value = { Replayed };
+
+    ghost view = { λ n. n.series };
+
+    ghost invariant = { λ n. n.shape ≡ n.series.shape };
+}
+
+/// Keeps what is drawn of the node.
+impl FollowsNode for SeriesNode {
+    type Kept = DrawnNode;
+
+    type Rest = (Shape, SeriesEnd);
+
+    ghost replayed = { λ node. node };
+
+    ghost keeps = { KeepsDrawing };
+
+    ghost leaves = { LeavesNumbers };
+
+    ghost FOLLOWS_ALL = { true };
+
+    const FOLLOWS_ALL: bool = true;
+
+    fn begin(alloc: Global, shape: Shape) -> Result<SeriesNode, AllocError> {
+        let series = NodeSeries::new(alloc, shape)?;
+        Ok(SeriesNode { shape, series })
+    }
+
+    fn free_block(&self) -> u32 {
+        self.series.least_free_block()
+    }
+
+    fn follow(self, event: &Event) -> Result<SeriesNode, Stopped<(Shape, SeriesEnd)>> {
+        let SeriesNode { shape, series } = self;
+        match series.admit(event) {
+            Ok(series) => Ok(SeriesNode { shape, series }),
+            Err(end) => Err(Stopped {
+                misfit: end.misfit,
+                rest: (shape, end),
+            }),
+        }
+    }
+
+    fn end(self, alloc: Global) -> Result<DrawnNode, AllocError> {
+        DrawnNode::of(alloc, self.shape, self.series)
+    }
+
+    fn stop(
+        rest: (Shape, SeriesEnd),
+        alloc: Global,
+        illegal: &Illegal,
+    ) -> Result<DrawnNode, AllocError> {
+        let (shape, end) = rest;
+        let stuck = end.waiting.stuck(alloc)?;
+        let illegal = Some(IllegalEvent {
+            line: illegal.line,
+            event: illegal.event,
+        });
+        Ok(DrawnNode::from_columns(shape, end.columns, end.numbers, illegal, stuck))
+    }
 }

@@ -1,22 +1,22 @@
 //! The program `thpcheck`: from the words of its command line to its exit status.
-ghost use Rattle.std.specs.Prelude.{◌≡◌, false};
+ghost use Rattle.std.specs.Prelude.{◌≡◌, false, IfOk};
 ghost use Rattle.thp_cli.specs.declared.ending.Program.TheVariants.{Thpcheck};
 ghost use Rattle.thp_cli.specs.Prelude.{device_of, given_words, source_of};
-ghost use Rattle.thp_journal_tools.specs.CommandLine.{AnswersWords};
+ghost use Rattle.thp_journal_tools.specs.CommandLine.{AnswersWords, thpcheck};
 ghost use Rattle.thp_journal_tools.specs.Outcomes.{ending_of, shows_progress, DoesRequest, DoesScript};
 ghost use Rattle.thp_journal_tools.specs.Requests.{end_of, notes_by, Finishes, ShowsAsAsked};
+ghost use Rattle.clap.specs.Words.{app_of};
 
 use crate::checking::check_long;
-use crate::notes::notes_of;
-use crate::options::{CheckOptions, command};
+use crate::help::AFTER_HELP;
+use crate::progress::Screen;
 use crate::request::{ProgramEnd, Request, run_request};
-use crate::screen::Screen;
-use crate::scripting::write_script;
-use clap::Error;
-use std::alloc::Global;
+use crate::scripting::{notes_of, write_script};
+use clap::{Command, Error};
+use std::alloc::{AllocError, Global};
 use std::io::{Read, Write};
 use std::time::Clock;
-use thp_cli::{Ending, Program, ProgramFault, RunFault, Watched, WordsFault};
+use thp_cli::{Ending, Program, ProgramFault, RunFault, VERSION, Watched, WordsFault, flag};
 use thp_journal_reader::Illegal;
 
 /// Returns how the program ends after the check of a journal.
@@ -123,4 +123,47 @@ pub fn run_check_program<R: Read, W: Write, E: Write, S: Write, C: Clock>(
     ensures screen { ShowsAsAsked Thpcheck AnswersWords shows_progress (given_words words) screen.old.is_terminal (source_of R.remaining reader.old reader.new) (device_of S.contents screen.old.writer screen.new.writer) }
 {
     run_request::<CheckOptions, R, W, E, S, C>(alloc, words, reader, output, errors, screen)
+}
+
+/// The request of a command line, in addition to the verdict.
+#[derive(Clone, Copy, Debug, PartialEq, Eq)]
+pub struct CheckOptions {
+    /// Whether to explain the first illegal event on standard error.
+    pub explain: bool,
+    /// Whether to write the totals of each node after the verdict.
+    pub summary: bool,
+    /// Whether to show the progress of the check on standard error.
+    pub progress: bool,
+    /// Whether to write the script that repeats the journal instead of the verdict.
+    pub script: bool,
+}
+
+/// Returns the command with its options.
+pub(crate) fn command<'a>(alloc: Global) -> Result<Command<'a>, AllocError>
+    ensures { IfOk result (λ command. app_of command ≡ thpcheck) }
+{
+    Command::new(alloc, "thpcheck")
+        .about("Checks whether a journal of any length is legal")
+        .version(VERSION)
+        .after_help(AFTER_HELP)
+        .arg(flag(
+            alloc,
+            "explain",
+            "Explain on standard error why a journal is illegal",
+        ))?
+        .arg(flag(
+            alloc,
+            "summary",
+            "Write the totals of each node after the verdict",
+        ))?
+        .arg(flag(
+            alloc,
+            "progress",
+            "Show the progress of the check on standard error",
+        ))?
+        .arg(flag(
+            alloc,
+            "script",
+            "Write the script that repeats the journal instead of the verdict",
+        ))
 }

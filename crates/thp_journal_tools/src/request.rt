@@ -6,9 +6,9 @@ ghost use Rattle.thp_cli.specs.declared.ending.Program.{Program};
 ghost use Rattle.thp_cli.specs.declared.ending.ProgramFault.{ProgramFault};
 ghost use Rattle.thp_cli.specs.Prelude.{device_of, given_words, source_of, Device, Source};
 ghost use Rattle.thp_journal_tools.specs.Progress.{ShowsProgress};
-ghost use Rattle.thp_journal_tools.specs.Requests.{end_of, notes_by, Finishes, Served, ShowsAsAsked, TakesNotes};
+ghost use Rattle.thp_journal_tools.specs.Requests.{end_of, ending_if, notes_by, Finishes, Served, ShowsAsAsked, TakesNotes};
 
-use crate::screen::Screen;
+use crate::progress::Screen;
 use clap::Error;
 use std::alloc::Global;
 use std::io::{Read, Write};
@@ -93,6 +93,17 @@ fn serve<Q: Request, R: Read, W: Write, S: Write, C: Clock>(
                 notes: None,
             })
         }
+    }
+}
+
+/// Returns how the program ends after the output was written, given whether an event in it is illegal.
+pub(crate) fn ending_if(illegal: bool) -> Ending
+    ensures { result ≡ ending_if illegal }
+{
+    if illegal {
+        Ending::Illegal
+    } else {
+        Ending::Written
     }
 }
 

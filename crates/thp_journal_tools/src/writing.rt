@@ -1,19 +1,24 @@
 //! From the bytes of a journal of any length to the drawing of its nodes.
-ghost use Rattle.std.specs.Prelude.{◌≡◌, IfErr, IfOk, false};
+ghost use Rattle.std.specs.Prelude.{◌≡◌, IfErr, IfOk, false, ℕ, List, IfSome};
 ghost use Rattle.thp_journal_tools.specs.Progress.{may_show, ShowsProgress};
 ghost use Rattle.thp_cli.specs.declared.ending.Program.TheVariants.{Thpdraw};
-ghost use Rattle.thp_cli.specs.Prelude.{device_of, source_of};
-ghost use Rattle.thp_journal_tools.specs.Drawings.{drawing_text, ending_if, node_text, some_illegal, Shows};
+ghost use Rattle.thp_cli.specs.Prelude.{device_of, source_of, ReadsOn};
+ghost use Rattle.thp_journal_tools.specs.Drawings.{drawing_text, node_text, some_illegal, Shows, IsFound};
 ghost use Rattle.thp_journal_tools.specs.DrawOutcomes.{Does, IsOutputFault};
+ghost use Rattle.thp_journal_tools.specs.Checks.{IsFindFault};
+ghost use Rattle.thp_script.specs.Prelude.{max_counted, IsFrontOf};
 
-use crate::draw_finding::find_nodes;
-use crate::draw_options::DrawOptions;
-use crate::screen::Screen;
+use crate::draw_program::DrawOptions;
+use crate::keeping_check::{KeepingCheck, SeriesNode};
+use crate::progress::{Screen, read_journal};
+use crate::request::ending_if;
 use std::alloc::{AllocError, Global};
 use std::io::{Read, Write};
 use std::time::Clock;
-use thp_cli::{Ending, ProgramFault, RunFault, Watched, write_text};
+use thp_check::Misfit;
+use thp_cli::{Ending, Program, ProgramFault, RunFault, Watched, write_text};
 use thp_drawing::{DrawnNode, put_node_picture, put_node_table, put_picture, put_table};
+use thp_history::{Outcome, Refusal, What};
 
 /// The output for a journal, and how the program ends after it was written.
 #[derive(Drop)]
@@ -27,17 +32,6 @@ fn some_illegal(nodes: &[DrawnNode]) -> bool
     ensures { result ≡ some_illegal nodes.now }
 {
     nodes.iter().any(|node| node.illegal.is_some())
-}
-
-/// Returns how the program ends after the output was written, given whether an event in it is illegal.
-fn ending_if(illegal: bool) -> Ending
-    ensures { result ≡ ending_if illegal }
-{
-    if illegal {
-        Ending::Illegal
-    } else {
-        Ending::Written
-    }
 }
 
 /// Returns the output for all nodes: a table if that is requested, otherwise a picture.
@@ -119,4 +113,32 @@ pub fn draw<R: Read, W: Write, S: Write, C: Clock>(
     let output = output_of(alloc, options, nodes.as_slice())?;
     write_text(writer, output.text.as_slice()).ok_or(RunFault::Write)?;
     Ok(output.ending)
+}
+
+/// Reads the journal from the reader in parts, and returns what is drawn of its nodes.
+pub(crate) fn find_nodes<R: Read, S: Write, C: Clock>(
+    alloc: Global,
+    asked: bool,
+    reader: &mut Watched<R>,
+    screen: &mut Screen<S, C>,
+) -> Result<Vec<DrawnNode>, RunFault>
+    requires reader { reader.old.failed ≡ false }
+    requires screen { screen.old.writer.failed ≡ false }
+    ensures found { IfOk result (λ nodes. (bytes : List ℕ) × IfSome (R.remaining reader.old.device) (IsFrontOf max_counted bytes) × IsFound bytes nodes.items) }
+    ensures flag { IfOk result (λ _. reader.new.failed ≡ false) }
+    ensures fault { IfErr result (λ fault. IsFindFault (R.remaining reader.old.device) reader.new.failed fault) }
+    ensures calls { ReadsOn max_counted reader.new.failed reader.old.calls reader.new.calls }
+    ensures screen { ShowsProgress Thpdraw (may_show asked screen.old.is_terminal) (R.remaining reader.old.device) (device_of S.contents screen.old.writer screen.new.writer) }
+{
+    // the toolchain finds these types, which illegal events contain, only in functions that name them
+    let _in_illegal = (
+        What::Close,
+        Outcome::Stays,
+        Refusal::NoPage,
+        Misfit::BlockTaken,
+    );
+    let check: KeepingCheck<DrawnNode, SeriesNode> = KeepingCheck::new(alloc);
+    let check = read_journal(alloc, Program::Thpdraw, asked, check, reader, screen)?;
+    let (_, nodes) = check.finish()?;
+    Ok(nodes)
 }

@@ -1,5 +1,5 @@
 -- The histories of nodes as the journals in a text.
-use Rattle.thp_journal_writer.specs.declared.node_history.NodeHistory.{NodeHistory}
+use Rattle.thp_journal_writer.specs.declared.writer.NodeHistory.{NodeHistory}
 use Rattle.thp_journal_writer.specs.Journals.{Journal}
 
 -- the node's shape and events

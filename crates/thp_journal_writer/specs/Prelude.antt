@@ -4,11 +4,11 @@ unfoldable pub use Rattle.thp_journal_writer.specs.EventLines.{event_line, event
 pub use Rattle.thp_journal_writer.specs.Histories.{journal_of}
 pub use Rattle.thp_journal_writer.specs.Journals.{Journal, ended, has_order_9, is_access, node_words, underused_word, version_line, version_number}
 unfoldable pub use Rattle.thp_journal_writer.specs.Journals.{journal_lines, journal_text, lines_of_node, node_line, tells_underused, version_of}
-pub use Rattle.thp_journal_writer.specs.Room.{Takes, number_room, outcome_room}
+pub use Rattle.thp_journal_writer.specs.Room.{Takes, number_room, outcome_room, set_room}
 pub use Rattle.thp_journal_writer.specs.SetTexts.{Run, run_text, runs_from, runs_text, with_number}
 unfoldable pub use Rattle.thp_journal_writer.specs.SetTexts.{set_text}
-pub use Rattle.thp_journal_writer.specs.Streams.{EventFollows, LeastVersionIsJournalText, NodeFollows, VersionComesFirst, text_begun}
+pub use Rattle.thp_journal_writer.specs.Streams.{EventFollows, IfTooLow, LeastVersionIsJournalText, NodeFollows, VersionComesFirst, shape_version, tells, text_begun, what_version}
 pub use Rattle.thp_journal_writer.specs.Totals.{totals_in, totals_of, totals_text}
-pub use Rattle.thp_journal_writer.specs.declared.node_history.NodeHistory.{NodeHistory}
 pub use Rattle.thp_journal_writer.specs.declared.version.Version.{Version}
 pub use Rattle.thp_journal_writer.specs.declared.version.Version.TheVariants.{Orders, Plain, Underused}
+pub use Rattle.thp_journal_writer.specs.declared.writer.NodeHistory.{NodeHistory}

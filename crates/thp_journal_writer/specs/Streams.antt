@@ -5,8 +5,8 @@ use Rattle.thp_history.specs.declared.events.What.{What}
 use Rattle.thp_history.specs.declared.events.What.TheVariants.{Write, Zero, Used}
 use Rattle.thp_history.specs.declared.shape.Shape.{Shape}
 use Rattle.thp_history.specs.Prelude.{History}
-use Rattle.thp_journal_writer.specs.declared.put_fault.PutFault.{PutFault}
-use Rattle.thp_journal_writer.specs.declared.put_fault.PutFault.TheVariants.{OutOfMemory, VersionTooLow}
+use Rattle.thp_journal_writer.specs.declared.stream.PutFault.{PutFault}
+use Rattle.thp_journal_writer.specs.declared.stream.PutFault.TheVariants.{OutOfMemory, VersionTooLow}
 use Rattle.thp_journal_writer.specs.declared.version.Version.{Version}
 use Rattle.thp_journal_writer.specs.declared.version.Version.TheVariants.{Plain, Orders, Underused}
 use Rattle.thp_journal_writer.specs.EventLines.{event_line}

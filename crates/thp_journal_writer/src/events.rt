@@ -1,10 +1,7 @@
 //! Appends events to a text, one line each.
 ghost use Rattle.std.specs.Prelude.{◌≡◌, [], ◌∷◌, ◌++◌, OnOk};
 ghost use Rattle.std.specs.Fmt.{decimal};
-ghost use Rattle.thp_journal_writer.specs.EventLines.{line_of, outcome_word, event_page, what_words, event_line};
-ghost use Rattle.thp_journal_writer.specs.Journals.{ended};
-ghost use Rattle.thp_journal_writer.specs.Room.{outcome_room, Takes};
-ghost use Rattle.thp_journal_writer.specs.SetTexts.{set_text};
+ghost use Rattle.thp_journal_writer.specs.Prelude.{ended, event_line, event_page, line_of, outcome_room, outcome_word, set_text, what_words, Takes};
 
 use crate::numbers::{put, put_number};
 use crate::sets::put_set;

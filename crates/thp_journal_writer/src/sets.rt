@@ -1,7 +1,6 @@
 //! Appends sets of subpages to a text.
 ghost use Rattle.std.specs.Prelude.{◌≡◌, ◌+◌, ◌<◌, ◌≤◌, [], ◌∷◌, ◌++◌, OnOk, MatchOption, IfSome, drop};
-ghost use Rattle.thp_journal_writer.specs.Room.{set_room, Takes};
-ghost use Rattle.thp_journal_writer.specs.SetTexts.{runs_from, run_text, set_text};
+ghost use Rattle.thp_journal_writer.specs.Prelude.{run_text, runs_from, set_room, set_text, Takes};
 
 use crate::numbers::{put, put_number};
 use std::alloc::AllocError;

@@ -1,14 +1,12 @@
 //! Writes journals line by line, as the events happen.
 ghost use Rattle.std.specs.Prelude.{◌≡◌, ◌++◌, true, false, IfErr, OnOk, OnErr};
-ghost use Rattle.thp_journal_writer.specs.EventLines.{event_line};
-ghost use Rattle.thp_journal_writer.specs.Journals.{node_line, ended};
-ghost use Rattle.thp_journal_writer.specs.Streams.{shape_version, what_version, tells, IfTooLow, VersionComesFirst, NodeFollows, EventFollows, LeastVersionIsJournalText};
-ghost use Rattle.thp_journal_writer.specs.declared.put_fault.PutFault.TheVariants.{VersionTooLow};
+ghost use Rattle.thp_journal_writer.specs.Prelude.{ended, event_line, node_line, shape_version, tells, what_version, EventFollows, IfTooLow, LeastVersionIsJournalText, NodeFollows, VersionComesFirst};
+ghost use Rattle.thp_journal_writer.specs.declared.stream.PutFault.TheVariants.{VersionTooLow, OutOfMemory};
 
 use crate::events::put_event_line;
-use crate::put_fault::PutFault;
 use crate::version::Version;
 use crate::writer::put_node_line;
+use std::alloc::AllocError;
 use thp_history::{Event, Shape};
 
 /// Appends the line of node n, whose events follow, to a text of this version. Nodes are numbered from 0.
@@ -68,3 +66,20 @@ pub fn lines_make_a_journal()
     ensures event { EventFollows }
     ensures whole { LeastVersionIsJournalText }
 {}
+
+/// Why a line of a journal was not written.
+#[derive(Clone, Copy, Debug, PartialEq, Eq)]
+pub enum PutFault {
+    /// Memory for the text could not be allocated. The text can contain a prefix of the line.
+    OutOfMemory,
+    /// The version of the text is below this one, the least that has such a line. Nothing was written.
+    VersionTooLow(Version),
+}
+
+impl From<AllocError> for PutFault {
+    ghost from_gives = { λ _ fault. fault ≡ OutOfMemory };
+
+    fn from(_error: AllocError) -> PutFault {
+        PutFault::OutOfMemory
+    }
+}

@@ -1,7 +1,6 @@
 //! The version of the format for a journal.
 ghost use Rattle.std.specs.Prelude.{◌≡◌};
-ghost use Rattle.thp_journal_writer.specs.Journals.{version_number};
-ghost use Rattle.thp_journal_writer.specs.Streams.{shape_version, tells, what_version};
+ghost use Rattle.thp_journal_writer.specs.Prelude.{shape_version, tells, version_number, what_version};
 
 use thp_history::{Shape, What};
 

@@ -3,14 +3,13 @@ ghost use Rattle.std.specs.Prelude.{◌≡◌, ◌+◌, [], ◌∷◌, ◌++◌,
 ghost use Rattle.std.specs.List.{flat_map, list_any, list_all};
 ghost use Rattle.std.specs.Fmt.{decimal};
 ghost use Rattle.thp_journal_writer.specs.Histories.{journal_of};
-ghost use Rattle.thp_journal_writer.specs.Journals.{journal_text as text_of, version_of, version_line, node_line, lines_of_node, underused_word, tells_underused, has_order_9, ended};
+ghost use Rattle.thp_journal_writer.specs.Journals.{journal_text as text_of, version_of, version_line, node_line, lines_of_node, underused_word, tells_underused, has_order_9, ended, is_access};
 
 use crate::events::put_event_line;
-use crate::node_history::NodeHistory;
 use crate::numbers::{put, put_number};
 use crate::version::Version;
 use std::alloc::{AllocError, Global};
-use thp_history::Shape;
+use thp_history::{Event, Shape, What};
 
 /// Returns the journal text of these nodes, which are numbered from 0.
 ///
@@ -47,7 +46,7 @@ fn least_version(nodes: &[NodeHistory<'_>]) -> Version
 fn tell_underused(nodes: &[NodeHistory<'_>]) -> bool
     ensures { result ≡ list_any (λ node. tells_underused (journal_of node)) nodes.now }
 {
-    nodes.iter().any(|node| node.tells_underused())
+    nodes.iter().any(|node| node.is_told_underused())
 }
 
 // whether the pages of each node have order 9
@@ -104,7 +103,7 @@ pub(crate) fn put_node_line(
     put(text, b"blocks ")?;
     match version {
         Version::Plain => put_number(text, u64::from(shape.blocks), b'\n'),
-        Version::Orders => { put_order(text, shape, b'\n') }
+        Version::Orders => put_order(text, shape, b'\n'),
         Version::Underused => {
             put_order(text, shape, b' ')?;
             put_underused(text, shape.underused)
@@ -130,4 +129,29 @@ fn put_underused(text: &mut Vec<u8>, underused: Option<u32>) -> Result<(), Alloc
         None => put(text, b"off\n"),
         Some(threshold) => put_number(text, u64::from(threshold), b'\n'),
     }
+}
+
+/// The size of a node, and its events, oldest first.
+#[derive(Clone, Copy, Debug)]
+pub struct NodeHistory<'a> {
+    /// The shape of the node.
+    pub shape: Shape,
+    /// The events, oldest first.
+    pub events: &'a [Event],
+}
+
+impl NodeHistory<'_> {
+    // whether the node looks for underused pages, or writes to its pages were recorded
+    fn is_told_underused(&self) -> bool
+        ensures { result ≡ tells_underused (journal_of self.now) }
+    {
+        self.shape.shrinks_underused() || has_access(self.events)
+    }
+}
+
+// whether some event is a write of data or zeros
+fn has_access(events: &[Event]) -> bool
+    ensures { result ≡ list_any (λ event. is_access event.what) events.now }
+{
+    events.iter().any(|event| matches!(event.what, What::Write { .. } | What::Zero { .. }))
 }

@@ -10,7 +10,7 @@ use Rattle.thp_history.specs.declared.events.What.TheVariants as what
 use Rattle.thp_history.specs.declared.events.What.TheVariants.{Taken, Split, Pinned, Used}
 use Rattle.thp_history.specs.Prelude.{by, History}
 use Rattle.thp_script.specs.declared.script.Op.{Op}
-use Rattle.thp_journal_scripts.specs.declared.event_kind.EventKind.TheVariants.{Call, Put, Try}
+use Rattle.thp_journal_scripts.specs.declared.folding.EventKind.TheVariants.{Call, Put, Try}
 use Rattle.thp_journal_scripts.specs.declared.turns.UntriedPage.{UntriedPage}
 use Rattle.thp_journal_scripts.specs.Prelude.{kind_of, done_page, is_other, is_out_of_turn, out_of_turn, taken_by, tried_page, turns_after, unless_done, TurnsSoFar, once_ended, place_of_call, place_of_put, place_of_try, scan_place_after, scan_place_of, Between, Elsewhere, InPuts, InTakes, InTries, IsWholeScans, ScanPlace}
 use Rattle.thp_journal_scripts.specs.Turns as counted

@@ -12,13 +12,13 @@ use Rattle.thp_script.specs.Prelude.{number_up_to, is_empty, is_printable, ◌>>
 use Rattle.thp_script.proofs.NumberLaws.{number_of-decimal}
 use Rattle.thp_journal_writer.specs.EventLines as written
 use Rattle.thp_journal_writer.specs.Prelude.{event_words, outcome_word, what_words, HasSmallNumbers, set_text}
-use Rattle.thp_journal_reader.specs.declared.event_word.EventWord.{EventWord}
-use Rattle.thp_journal_reader.specs.declared.event_word.EventWord.TheVariants as word
+use Rattle.thp_journal_reader.specs.declared.event_line.EventWord.{EventWord}
+use Rattle.thp_journal_reader.specs.declared.event_line.EventWord.TheVariants as word
 use Rattle.thp_history.specs.declared.page_call.Loss.{Loss}
-use Rattle.thp_journal_reader.specs.declared.event_word.PageWord.{PageWord}
-use Rattle.thp_journal_reader.specs.declared.event_word.PageWord.TheVariants as page
-use Rattle.thp_journal_reader.specs.declared.event_word.RangeWord.{RangeWord}
-use Rattle.thp_journal_reader.specs.declared.event_word.RangeWord.TheVariants as range
+use Rattle.thp_journal_reader.specs.declared.event_line.PageWord.{PageWord}
+use Rattle.thp_journal_reader.specs.declared.event_line.PageWord.TheVariants as page
+use Rattle.thp_journal_reader.specs.declared.event_line.RangeWord.{RangeWord}
+use Rattle.thp_journal_reader.specs.declared.event_line.RangeWord.TheVariants as range
 use Rattle.thp_journal_reader.specs.declared.line.Line.TheVariants.{Happened}
 use Rattle.thp_journal_writer.specs.declared.version.Version.{Version}
 use Rattle.thp_journal_reader.specs.Prelude.{caller_number, page_number, range_number, page_event, range_event, loss_event, unmap_event, split_event, close_event, outcome_and_word, event_by, event_of, common_word, later_word, event_word, outcome_of, page_what, range_what, line_by, by_words}

@@ -13,7 +13,7 @@ use Rattle.thp_journal_writer.specs.Prelude.{event_words, Journal, version_of, l
 use Rattle.thp_journal_writer.specs.Journals as journal
 use Rattle.thp_journal_reader.specs.declared.line.Line.{Line}
 use Rattle.thp_journal_reader.specs.declared.line.Line.TheVariants.{End}
-use Rattle.thp_journal_reader.specs.declared.place.Place.TheVariants.{Start}
+use Rattle.thp_journal_reader.specs.declared.line.Place.TheVariants.{Start}
 use Rattle.thp_journal_writer.specs.declared.version.Version.{Version}
 use Rattle.thp_journal_reader.specs.Journals as reading
 use Rattle.thp_journal_reader.specs.Prelude.{node_journal, nodes_of, journals_with, journals_of, journals_within}

@@ -11,8 +11,8 @@ use Rattle.thp_journal_writer.specs.Journals as journal
 use Rattle.thp_journal_writer.specs.Prelude.{Journal, lines_of_node}
 use Rattle.thp_journal_reader.specs.declared.line.Line.{Line}
 use Rattle.thp_journal_reader.specs.declared.line.Line.TheVariants.{Head, Node, Happened, End}
-use Rattle.thp_journal_reader.specs.declared.place.Place.{Place}
-use Rattle.thp_journal_reader.specs.declared.place.Place.TheVariants.{Start, Inside, Ended}
+use Rattle.thp_journal_reader.specs.declared.line.Place.{Place}
+use Rattle.thp_journal_reader.specs.declared.line.Place.TheVariants.{Start, Inside, Ended}
 use Rattle.thp_journal_writer.specs.declared.version.Version.{Version}
 use Rattle.thp_journal_reader.specs.JournalLines as read
 use Rattle.thp_journal_reader.specs.Prelude.{line_in, may_stand, place_after, version_at}

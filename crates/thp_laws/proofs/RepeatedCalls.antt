@@ -10,8 +10,8 @@ use Rattle.thp_history.specs.Prelude.{History, by, Fits, IsShape}
 use Rattle.thp_history.proofs.Allowed.{allowed_map_sub, allowed_unmap_sub, allowed_write, allowed_zero}
 use Rattle.thp_script.specs.declared.script.Op.{Op}
 use Rattle.thp_script.specs.declared.script.Op.TheVariants as op
-use Rattle.thp_journal_scripts.specs.declared.event_kind.EventKind.{EventKind}
-use Rattle.thp_journal_scripts.specs.declared.event_kind.EventKind.TheVariants.{Call}
+use Rattle.thp_journal_scripts.specs.declared.folding.EventKind.{EventKind}
+use Rattle.thp_journal_scripts.specs.declared.folding.EventKind.TheVariants.{Call}
 use Rattle.thp_journal_scripts.specs.Prelude.{kind_of}
 use Rattle.thp_worker.specs.declared.reply.Reply.TheVariants as reply
 use Rattle.thp_worker.specs.declared.steps.Step.TheVariants.{One}

@@ -16,8 +16,8 @@ use Rattle.thp_history.proofs.LegalSteps.{legal_front}
 use Rattle.thp_history.proofs.ListPlaces.{append_none}
 use Rattle.thp_history.proofs.OnePlace.{once_flies, without_none}
 use Rattle.thp_history.proofs.Standing.{times, times-cons}
-use Rattle.thp_journal_scripts.specs.declared.event_kind.EventKind.{EventKind}
-use Rattle.thp_journal_scripts.specs.declared.event_kind.EventKind.TheVariants.{Call, Take}
+use Rattle.thp_journal_scripts.specs.declared.folding.EventKind.{EventKind}
+use Rattle.thp_journal_scripts.specs.declared.folding.EventKind.TheVariants.{Call, Take}
 use Rattle.thp_journal_scripts.specs.Prelude.{pages_at, kind_of, once_ended, pages_after, place_of_call, place_of_put, place_of_take, place_of_try, scan_place, scan_place_after, scan_place_of, without_first, ScanPlace, Between, InTakes, Elsewhere}
 
 -- ---- the pages in flight

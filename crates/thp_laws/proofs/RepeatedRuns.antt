@@ -10,7 +10,7 @@ use Rattle.thp_history.proofs.ListPlaces.{append_none}
 use Rattle.thp_script.specs.declared.script.Command.{Command}
 use Rattle.thp_script.specs.declared.script.Op.{Op}
 use Rattle.thp_script.specs.declared.script.Op.TheVariants as op
-use Rattle.thp_journal_scripts.specs.declared.event_kind.EventKind.TheVariants.{Call, Put, Take, Try}
+use Rattle.thp_journal_scripts.specs.declared.folding.EventKind.TheVariants.{Call, Put, Take, Try}
 use Rattle.thp_journal_scripts.specs.Prelude.{kind_of, IsBy, IsScanBy, Repeats, scan_place, Between, IsCallOrScan}
 use Rattle.thp_worker.specs.declared.steps.Step.TheVariants.{One}
 use Rattle.thp_worker.specs.Prelude.{Does, Open, is_open, batches_after, command_of, put_back_on, steps_of, told_by, IsTurn, Made, Turn, TurnsOut}

@@ -16,7 +16,7 @@ use Rattle.thp_history.proofs.ScanRuns.{NextTry, scan_next_try, scan_taken, scan
 use Rattle.thp_history.proofs.TakeRuns.{more_taken, take_runs}
 use Rattle.thp_history.proofs.TryRuns.{split_releases, try_as}
 use Rattle.thp_script.specs.declared.script.Op.{Op}
-use Rattle.thp_journal_scripts.specs.declared.event_kind.EventKind.TheVariants.{Call, Put, Take, Try}
+use Rattle.thp_journal_scripts.specs.declared.folding.EventKind.TheVariants.{Call, Put, Take, Try}
 use Rattle.thp_journal_scripts.specs.Prelude.{kind_of, IsBy}
 use Rattle.thp_node.proofs.ScanLemmas.{all_tried}
 use Rattle.thp_laws.proofs.CountedTurns.{untried_after, AreInTurn, IsInTurn}

@@ -6,7 +6,7 @@ use Rattle.thp_history.specs.Prelude.{SameButBlocks, History, IsLegal, IsShape}
 use Rattle.thp_script.specs.declared.script.Command.{Command}
 use Rattle.thp_script.specs.declared.script.Op.{Op}
 use Rattle.thp_script.specs.declared.script.Script.{Script}
-use Rattle.thp_journal_scripts.specs.declared.moved.Moved.{Moved}
+use Rattle.thp_journal_scripts.specs.declared.folding.Moved.{Moved}
 use Rattle.thp_journal_scripts.specs.Prelude.{IsScript, out_of_turn, IsWholeScans}
 use Rattle.thp_worker.specs.declared.reply.SectionLog.{SectionLog}
 use Rattle.thp_run.specs.Runs.{IsRun}

@@ -1,10 +1,5 @@
 //! Laws of journal texts. The functions do nothing: each contract is the law.
-ghost use Rattle.thp_laws.specs.ReadBack.{
-  TextsAreReadBack,
-  NothingElseChanges,
-  WhatIsReadIsLegal,
-  TextsAreCalledLegal,
-};
+ghost use Rattle.thp_laws.specs.ReadBack.{TextsAreReadBack, NothingElseChanges, WhatIsReadIsLegal, TextsAreCalledLegal};
 ghost use Rattle.thp_laws.specs.SameTotals.{NoBlockShows, OneTextIsOfOneRun, OneTextHasOneTotal};
 
 /// States that the text of 1 to 8 legal journals is read back as these journals except for their blocks, which are the least free

@@ -1,11 +1,5 @@
 //! Laws of reports, and of the output of `thp_run::run`. The functions do nothing: each contract is the law.
-ghost use Rattle.thp_laws.specs.OneReport.{
-  OneSettingIsApart,
-  OneWorkerHasOneReport,
-  OneWorkerIsApart,
-  WorkersApartHaveOneReport,
-  WorkersApartWriteOneText,
-};
+ghost use Rattle.thp_laws.specs.OneReport.{OneSettingIsApart, OneWorkerHasOneReport, OneWorkerIsApart, WorkersApartHaveOneReport, WorkersApartWriteOneText};
 ghost use Rattle.thp_laws.specs.OneText.{OneJournalHasOneTotals};
 
 /// States that two lists of 1 to 8 legal histories with the same journal text, of callers below 64 and of at most 16,777,216

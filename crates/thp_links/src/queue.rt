@@ -88,19 +88,11 @@ impl Queue {
         ensures accesses { T.accesses table.new ≤ T.accesses table.old + 6 }
     {
         let _count = table.len();
-        let pair = table.link(i);
-        set_next(table, pair.prev, pair.next);
-        set_prev(table, pair.next, pair.prev);
-        let head = if pair.prev == NIL {
-            pair.next
-        } else {
-            self.head
-        };
-        let tail = if pair.next == NIL {
-            pair.prev
-        } else {
-            self.tail
-        };
+        let Link { prev, next } = table.link(i);
+        set_next(table, prev, next);
+        set_prev(table, next, prev);
+        let head = if prev == NIL { next } else { self.head };
+        let tail = if next == NIL { prev } else { self.tail };
         self.head = head;
         self.tail = tail;
         self.len -= 1;

@@ -1,5 +1,5 @@
 -- What is kept of a node, with one more event.
-use Rattle.std.proofs.Common.{◌≡◌, ℕ, ◌+◌, ◌^◌, ◌<◌, Bool, true, false, cond, List, [], ◌∷◌, ◌++◌, Option, Some, None, length, map, take, get_or, set, nat_eq, nat_lt, refl, ap, sym, ◌∙◌, subst, arith, length-append, replicate, ◌≢◌, eq-eqb, eqb-true, ltb-false, ltb-true, option_and_then}
+use Rattle.std.proofs.Common.{◌≡◌, ℕ, ◌+◌, ◌^◌, ◌<◌, Bool, true, false, cond, List, [], ◌∷◌, ◌++◌, Option, Some, None, length, map, take, get_or, set, zero, suc, ◌-◌, nat_eq, nat_lt, refl, ap, sym, ◌∙◌, subst, arith, length-append, replicate, ◌≢◌, eq-eqb, eqb-true, ltb-false, ltb-true, option_and_then}
 use Rattle.std.specs.List.{range_with_len}
 use Rattle.std.proofs.lemmas.List.{ext_get_or, get_or-set_other, get_or-set_same, length-set, same_lists, take_all, take-append-le}
 use Rattle.std.proofs.lemmas.List.FromFn.{get_or-map-range_with_len, length-map-range_with_len, map-range_with_len_more}
@@ -11,7 +11,7 @@ use Rattle.thp_history.proofs.LegalSteps.{legal_none, legal_push}
 use Rattle.thp_history.proofs.Numbers.{live_below}
 use Rattle.thp_history.proofs.Totals.{few_events}
 use Rattle.thp_check.specs.Prelude.{Replayed, with_event}
-use Rattle.thp_metrics.specs.Prelude.{Numbers, Pages, Stage, Allocated, PartlyMapped, Queued, InBatch, Split, count_in, entered, left, staged, GoesAlong, MayEnter, MayLeave, numbers_at, series, pages_at, pages_in, stage_of, stages_at, callers_at, longest_wait}
+use Rattle.thp_metrics.specs.Prelude.{Numbers, Stage, Allocated, PartlyMapped, Queued, InBatch, Split, count_in, entered, left, rank, staged, GoesAlong, MayEnter, MayLeave, numbers_at, series, pages_at, pages_in, stage_of, stages_at, callers_at, longest_wait}
 use Rattle.thp_journal_writer.specs.Prelude.{event_page}
 use Rattle.thp_metrics.proofs.Batches.{in_batches_are}
 use Rattle.thp_metrics.proofs.Moving.{count_moves, count_stays, none_named, not_named, no_more, one, part_of, stage_stays}
@@ -40,31 +40,41 @@ pub length_of_series : (s : Shape) (h : History) → length (series s h) ≡ len
 length_of_series s h = length-map-range_with_len (λ i. numbers_at s (take i h)) 0 (length h + 1)
 
 -- numbers are told by the parts
-pub numbers_are : (s : Shape) (h : History) (n : Numbers) → IsLegal s h → n.queue ≡ length (queue s h) → n.in_batches ≡ n.pages.in_batch → n.held ≡ frames_held s h → n.given ≡ frames_given h
+pub numbers_are : (s : Shape) (h : History) (n : Numbers) → IsLegal s h → n.queue ≡ length (queue s h) → n.in_batches ≡ count_in n.pages InBatch → n.held ≡ frames_held s h → n.given ≡ frames_given h
     → n.splits ≡ thp_split_page h → n.underused_splits ≡ thp_underused_split_page s h → n.pinned_tries ≡ thp_split_page_failed h → n.wait ≡ longest_wait s h → n.callers ≡ callers_at h → n.pages ≡ pages_at s h → n.stages ≡ stages_at s h → n ≡ numbers_at s h
 numbers_are s h n l a b c d e f g o u i j = grind (arith, in_batches_are)
 
 count_at : (s : Shape) (h : History) (x : Stage) → count_in (pages_at s h) x ≡ pages_in s h x
-count_at s h x = grind arith
+count_at s h Allocated = refl
+count_at s h PartlyMapped = refl
+count_at s h Queued = refl
+count_at s h InBatch = refl
+count_at s h Split = refl
+
+length_left : (n : List ℕ) (o : Option Stage) → length (left n o) ≡ length n
+length_left n None = refl
+length_left n (Some x) = length-set n (rank x) (count_in n x - 1)
+
+length_entered : (n : List ℕ) (o : Option Stage) → length (entered n o) ≡ length n
+length_entered n None = refl
+length_entered n (Some x) = length-set n (rank x) (count_in n x + 1)
 
 -- a page that leaves was counted
-count_left : (n : Pages) (x : Stage) (o : Option Stage) → MayLeave n o → count_in (left n o) x + one x o ≡ count_in n x
-count_left n x y may = grind arith
+count_left : (n : List ℕ) (x : Stage) (o : Option Stage) → length n ≡ 5 → MayLeave n o → count_in (left n o) x + one x o ≡ count_in n x
+count_left n x y size may = grind (arith, get_or-set_same, get_or-set_other)
 
-count_entered : (n : Pages) (x : Stage) (o : Option Stage) → count_in (entered n o) x ≡ count_in n x + one x o
-count_entered n x y = grind arith
+count_entered : (n : List ℕ) (x : Stage) (o : Option Stage) → length n ≡ 5 → count_in (entered n o) x ≡ count_in n x + one x o
+count_entered n x y size = grind (arith, get_or-set_same, get_or-set_other)
 
-pages_of : ℕ → ℕ → ℕ → ℕ → ℕ → Pages
-pages_of a b c d e = record { allocated = a; partly_mapped = b; queued = c; in_batch = d; split = e }
-
-same_pages : (n m : Pages) → ((x : Stage) → count_in n x ≡ count_in m x) → n ≡ m
-unfolding pages_of
-same_pages n m same =
-    ap (λ x. pages_of x n.partly_mapped n.queued n.in_batch n.split) (same Allocated)
-    ∙ ap (λ x. pages_of m.allocated x n.queued n.in_batch n.split) (same PartlyMapped)
-    ∙ ap (λ x. pages_of m.allocated m.partly_mapped x n.in_batch n.split) (same Queued)
-    ∙ ap (λ x. pages_of m.allocated m.partly_mapped m.queued x n.split) (same InBatch)
-    ∙ ap (λ x. pages_of m.allocated m.partly_mapped m.queued m.in_batch x) (same Split)
+same_pages : (n m : List ℕ) → length n ≡ 5 → length m ≡ 5 → ((x : Stage) → count_in n x ≡ count_in m x) → n ≡ m
+same_pages n m size other same = ext_get_or 0 n m (size ∙ sym other) (λ i low. at i (omega (arith, low, size))) where
+  at : (i : ℕ) → i < 5 → get_or n i 0 ≡ get_or m i 0
+  at zero low = same Allocated
+  at (suc zero) low = same PartlyMapped
+  at (suc (suc zero)) low = same Queued
+  at (suc (suc (suc zero))) low = same InBatch
+  at (suc (suc (suc (suc zero)))) low = same Split
+  at (suc (suc (suc (suc (suc i))))) low = absurd (omega (arith, low))
 
 live_of : (s : Shape) (h : History) (p : ℕ) (x : Stage) → stage_of s h p ≡ Some x → is_live h p ≡ true
 live_of s h p x e = grind arith
@@ -78,19 +88,25 @@ some_in s h p x l e =
     let here : one x (stage_of s h p) ≡ 1 = ap (one x) e ∙ is_itself x in
     omega (arith, here, part_of (allocations h) (λ i. one x (stage_of s h i)) p below)
 
-pub may_leave : (s : Shape) (h : History) (n : Pages) (o : Option Stage) (page : Option ℕ) → IsLegal s h → n ≡ pages_at s h → o ≡ option_and_then (stage_of s h) page → MayLeave n o
+pub may_leave : (s : Shape) (h : History) (n : List ℕ) (o : Option Stage) (page : Option ℕ) → IsLegal s h → n ≡ pages_at s h → o ≡ option_and_then (stage_of s h) page → MayLeave n o
 may_leave s h n x page l same is = grind (arith, count_at, some_in)
 
-pub may_enter : (s : Shape) (h : History) (n m : Pages) (o u : Option Stage) → n ≡ pages_at s h → length h + 1 < 2 ^ 64 → MayLeave n o → m ≡ left n o → MayEnter m u
+pub may_enter : (s : Shape) (h : History) (n m : List ℕ) (o u : Option Stage) → n ≡ pages_at s h → length h + 1 < 2 ^ 64 → MayLeave n o → m ≡ left n o → MayEnter m u
 may_enter s h n m o x same few may is = grind (arith, count_left, count_at, no_more, few_events)
 
 -- how many pages are in each stage, with one more event
-pages_push : (s : Shape) (h : History) (e : Event) (n : Pages) (o u : Option Stage) → IsLegal s h → Fits s h e → n ≡ pages_at s h → MayLeave n o → o ≡ option_and_then (stage_of s h) (event_page e.what) → u ≡ option_and_then (stage_of s (h ++ e ∷ [])) (event_page e.what) →
+pages_push : (s : Shape) (h : History) (e : Event) (n : List ℕ) (o u : Option Stage) → IsLegal s h → Fits s h e → n ≡ pages_at s h → MayLeave n o → o ≡ option_and_then (stage_of s h) (event_page e.what) → u ≡ option_and_then (stage_of s (h ++ e ∷ [])) (event_page e.what) →
     entered (left n o) u ≡ pages_at s (h ++ e ∷ [])
-pages_push s h e n o u l f same may before after = same_pages (entered (left n o) u) (pages_at s k) (λ x.
-    omega (arith, count_entered (left n o) x u, count_left n x o may, ap (λ (m : Pages). count_in m x) same, count_at s h x, count_at s k x, ap (one x) before, ap (one x) after, by_page x (event_page e.what) refl)) where
+pages_push s h e n o u l f same may before after = same_pages (entered (left n o) u) (pages_at s k) (length_entered (left n o) u ∙ left_size) refl (λ x.
+    omega (arith, count_entered (left n o) x u left_size, count_left n x o size may, ap (λ (m : List ℕ). count_in m x) same, count_at s h x, count_at s k x, ap (one x) before, ap (one x) after, by_page x (event_page e.what) refl)) where
       k : History
       k = h ++ e ∷ []
+
+      size : length n ≡ 5
+      size = ap length same
+
+      left_size : length (left n o) ≡ 5
+      left_size = length_left n o ∙ size
 
       by_page : (x : Stage) (page : Option ℕ) → event_page e.what ≡ page → pages_in s k x + one x (option_and_then (stage_of s h) page) ≡ pages_in s h x + one x (option_and_then (stage_of s k) page)
       by_page x (Some p) is = count_moves s h e.caller e.what p x l f is
@@ -133,7 +149,7 @@ stages_push s h e ss u f same after = ap (λ xs. staged xs (event_page e.what) u
     inside true low = one_staged (stage_of s h) (stage_of s k) p (ltb-true p 60 low) others
     inside false high = same_stages (stage_of s h) (stage_of s k) (λ i low. others i (λ z. omega (arith, z, low, ltb-false p 60 high)))
 
-pub goes_on : (r t : Replayed) (e : Event) (m v : Pages) (ss : List (Option Stage)) (cs ds : List Numbers) (old new : Numbers) (o u : Option Stage) → GoesAlong r old cs → t ≡ with_event r e → Fits r.shape r.history e →
+pub goes_on : (r t : Replayed) (e : Event) (m v : List ℕ) (ss : List (Option Stage)) (cs ds : List Numbers) (old new : Numbers) (o u : Option Stage) → GoesAlong r old cs → t ≡ with_event r e → Fits r.shape r.history e →
     MayLeave old.pages o → o ≡ option_and_then (stage_of r.shape r.history) (event_page e.what) → u ≡ option_and_then (stage_of t.shape t.history) (event_page e.what) →
     m ≡ left old.pages o → v ≡ entered m u → ss ≡ staged old.stages (event_page e.what) u → (IsLegal t.shape t.history → v ≡ pages_at t.shape t.history → ss ≡ stages_at t.shape t.history → new ≡ numbers_at t.shape t.history) → ds ≡ cs ++ new ∷ [] → GoesAlong t new ds
 goes_on r t e m v ss cs ds old new o u along is f may before after leaves enters stages told more =
@@ -141,7 +157,7 @@ goes_on r t e m v ss cs ds old new o u along is f may before after leaves enters
     let h : History = r.history in
     let legal : IsLegal s (h ++ e ∷ []) = legal_push s h e along.legal f in
     let pages : v ≡ pages_at s (h ++ e ∷ []) =
-    enters ∙ ap (λ (k : Pages). entered k u) leaves
+    enters ∙ ap (λ (k : List ℕ). entered k u) leaves
     ∙ pages_push s h e old.pages o u along.legal f (ap (λ (n : Numbers). n.pages) along.numbers_are) may before (after ∙ ap (λ (x : Replayed). option_and_then (stage_of x.shape x.history) (event_page e.what)) is) in
     let staged_are : ss ≡ stages_at s (h ++ e ∷ []) =
     stages ∙ stages_push s h e old.stages u f (ap (λ (n : Numbers). n.stages) along.numbers_are) (after ∙ ap (λ (x : Replayed). option_and_then (stage_of x.shape x.history) (event_page e.what)) is) in
@@ -153,7 +169,7 @@ goes_on r t e m v ss cs ds old new o u along is f may before after leaves enters
       columns_are = more ∙ ap (λ ns. ns ++ new ∷ []) along.columns_are ∙ ap (λ x. series s h ++ x ∷ []) numbers_is ∙ sym (series_push s h e);
     })
 
-pub begins_along : (r : Replayed) (n : Pages) (ss : List (Option Stage)) (cs : List Numbers) (numbers : Numbers) → r.history ≡ [] → n ≡ record { allocated = 0; partly_mapped = 0; queued = 0; in_batch = 0; split = 0 } →
+pub begins_along : (r : Replayed) (n : List ℕ) (ss : List (Option Stage)) (cs : List Numbers) (numbers : Numbers) → r.history ≡ [] → n ≡ replicate 5 0 →
     ss ≡ replicate 60 None → (IsLegal r.shape r.history → n ≡ pages_at r.shape r.history → ss ≡ stages_at r.shape r.history → numbers ≡ numbers_at r.shape r.history) → cs ≡ numbers ∷ [] → GoesAlong r numbers cs
 unfolding count_of sum_below some_event
 begins_along r n ss cs numbers none no_page no_stage told is =

@@ -1,10 +1,10 @@
 -- Columns that are joined in pairs.
 use Rattle.std.proofs.Common.{◌≡◌, ℕ, suc, zero, ◌+◌, ◌*◌, ◌^◌, ◌-◌, ◌<◌, ◌≤◌, List, [], ◌∷◌, ◌++◌, length, map, take, drop, get_or, set, refl, ap, subst, sym, ◌∙◌, arith, append_assoc, length-append, take_at}
 use Rattle.std.proofs.lemmas.List.{drop_more, get_or-append_right, get_or-drop, get_or_default, length-take-le, set_at, take_all, take_more}
-use Rattle.thp_metrics.specs.Prelude.{Column, Numbers, column_of, AreFull, AllLow, all_of, both, in_pairs, AreLow, AreWithin, FitTogether, PageSums}
+use Rattle.thp_metrics.specs.Prelude.{Column, Numbers, column_of, AreFull, AllLow, all_of, both, in_pairs, AreLow, AreWithin, FitTogether}
 use Rattle.thp_metrics.proofs.Spans.{column_append, low_append}
 
-pub lows_fit : (a b : PageSums) → AreWithin (2 ^ 126) a → AreWithin (2 ^ 126) b → FitTogether a b
+pub lows_fit : (a b : List ℕ) → AreWithin (2 ^ 126) a → AreWithin (2 ^ 126) b → FitTogether a b
 lows_fit a b low other = grind arith
 
 -- each two neighbours one behind the other

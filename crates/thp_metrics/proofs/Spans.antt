@@ -2,7 +2,7 @@
 use Rattle.std.proofs.Common.{◌≡◌, ℕ, ◌<◌, min, max, List, [], ◌∷◌, ◌++◌, length, map, refl, ap, subst, sym, ◌^◌, ◌*◌, length-append, ◌∙◌, arith, bit_or}
 use Rattle.std.proofs.lemmas.Nat.Bits.{bit_at_or, same_from_bits}
 use Rattle.std.proofs.lemmas.List.{map-append, length-map}
-use Rattle.thp_metrics.specs.Prelude.{Numbers, least, greatest, span_of, joined, all_callers, last_stages, column_of, sums_of, PageSums, HasLowSums, added, both, AreWithin}
+use Rattle.thp_metrics.specs.Prelude.{Numbers, least, greatest, span_of, joined, all_callers, last_stages, column_of, sums_of, HasLowSums, added, both, AreWithin}
 use Rattle.std.proofs.lemmas.List.Sums.{sum_by-append}
 
 least_append : (x : ℕ) (xs : List ℕ) (y : ℕ) (ys : List ℕ) → least ((x ∷ xs) ++ (y ∷ ys)) ≡ min (least (x ∷ xs)) (least (y ∷ ys))
@@ -27,13 +27,7 @@ sums_append xs ys = grind (arith, sum_by-append)
 -- sums of both are low where those of each are
 pub low_append : (xs ys : List Numbers) → HasLowSums xs → HasLowSums ys → HasLowSums (xs ++ ys)
 low_append xs ys a b =
-    subst (λ (sums : PageSums). AreWithin (2 ^ 64 * length (xs ++ ys)) sums) (sym (sums_append xs ys)) (record {
-      allocated = omega (arith, a.allocated, b.allocated, length-append xs ys);
-      partly_mapped = omega (arith, a.partly_mapped, b.partly_mapped, length-append xs ys);
-      queued = omega (arith, a.queued, b.queued, length-append xs ys);
-      in_batch = omega (arith, a.in_batch, b.in_batch, length-append xs ys);
-      split = omega (arith, a.split, b.split, length-append xs ys);
-    })
+    subst (AreWithin (2 ^ 64 * length (xs ++ ys))) (sym (sums_append xs ys)) (λ x. grind (arith, a, b, length-append xs ys))
 
 -- the last of both is the last of the latter
 last_of_both : (xs ys : List Numbers) → 0 < length ys → last_stages (xs ++ ys) ≡ last_stages ys

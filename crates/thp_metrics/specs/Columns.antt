@@ -2,9 +2,9 @@
 use Rattle.std.specs.Prelude.{◌≡◌, ℕ, ◌*◌, ◌^◌, ◌≤◌, zero, suc, List, [], ◌∷◌, Option, length, map, take, drop, bit_or, sum_by}
 use Rattle.thp_metrics.specs.declared.column.Column.{Column}
 use Rattle.thp_metrics.specs.declared.numbers.Numbers.{Numbers}
-use Rattle.thp_metrics.specs.declared.pages.PageSums.{PageSums}
 use Rattle.thp_metrics.specs.declared.stage.Stage.{Stage}
 use Rattle.thp_metrics.specs.Spans.{span_of}
+use Rattle.thp_metrics.specs.Stages.{all_stages, count_in}
 
 -- the greatest number of columns of a node
 abbrev pub max_columns : ℕ
@@ -24,14 +24,8 @@ parts (suc m) w [] = []
 parts (suc m) w (x ∷ xs) = take w (x ∷ xs) ∷ parts m w (drop w (x ∷ xs))
 
 -- the number of pages in each stage, summed over prefixes
-abbrev pub sums_of : List Numbers → PageSums
-sums_of ns = record {
-  allocated = sum_by (λ (n : Numbers). n.pages.allocated) ns;
-  partly_mapped = sum_by (λ (n : Numbers). n.pages.partly_mapped) ns;
-  queued = sum_by (λ (n : Numbers). n.pages.queued) ns;
-  in_batch = sum_by (λ (n : Numbers). n.pages.in_batch) ns;
-  split = sum_by (λ (n : Numbers). n.pages.split) ns;
-}
+abbrev pub sums_of : List Numbers → List ℕ
+sums_of ns = map (λ x. sum_by (λ (n : Numbers). count_in n.pages x) ns) all_stages
 
 -- the callers that have pages in their batches after one of some prefixes
 abbrev pub all_callers : List Numbers → ℕ

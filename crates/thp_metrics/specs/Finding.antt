@@ -5,8 +5,8 @@ use Rattle.thp_history.specs.declared.events.What.TheVariants.{Alloc, Pinned}
 use Rattle.thp_history.specs.declared.shape.Shape.{Shape}
 use Rattle.thp_history.specs.Prelude.{allocations, History}
 use Rattle.thp_live_pages.specs.Prelude.{block_of}
-use Rattle.thp_metrics.specs.declared.finds.PinCount.{PinCount}
-use Rattle.thp_metrics.specs.declared.stuck_page.StuckPage.{StuckPage}
+use Rattle.thp_metrics.specs.declared.waiting.PinCount.{PinCount}
+use Rattle.thp_metrics.specs.declared.waiting.StuckPage.{StuckPage}
 use Rattle.thp_metrics.specs.Arrivals.{Arrived, since_of}
 use Rattle.thp_metrics.specs.Stuck.{finds}
 

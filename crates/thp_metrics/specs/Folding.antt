@@ -1,6 +1,6 @@
 -- The content of columns that are merged in pairs. No public clause cites this module.
 use Rattle.std.specs.Prelude.{◌≡◌, ◌⊎◌, ⊤, ℕ, ◌+◌, ◌*◌, ◌^◌, ◌<◌, ◌≤◌, List, [], ◌∷◌, ◌++◌, length, map, vec_capacity, flat_map}
-use Rattle.thp_metrics.specs.declared.folded.Folded.{Folded}
+use Rattle.thp_metrics.specs.declared.columns.Folded.{Folded}
 use Rattle.thp_metrics.specs.declared.numbers.Numbers.{Numbers}
 use Rattle.thp_metrics.specs.Columns.{column_of, max_columns, sums_of}
 use Rattle.thp_metrics.specs.Joining.{AreLow, AreWithin}

@@ -1,17 +1,13 @@
 -- How two columns are merged. No public clause cites this module.
-use Rattle.std.specs.Prelude.{⊤, ℕ, ◌+◌, ◌^◌, ◌<◌, ◌≤◌, List, [], ◌∷◌, bit_or}
+use Rattle.std.specs.Prelude.{⊤, ℕ, ◌+◌, ◌^◌, ◌<◌, ◌≤◌, List, [], ◌∷◌, bit_or, map}
 use Rattle.thp_metrics.specs.declared.column.Column.{Column}
-use Rattle.thp_metrics.specs.declared.pages.PageSums.{PageSums}
+use Rattle.thp_metrics.specs.declared.stage.Stage.{Stage}
 use Rattle.thp_metrics.specs.Spans.{joined}
+use Rattle.thp_metrics.specs.Stages.{all_stages, count_in}
 
-abbrev pub added : PageSums → PageSums → PageSums
-added a b = record {
-  allocated = a.allocated + b.allocated;
-  partly_mapped = a.partly_mapped + b.partly_mapped;
-  queued = a.queued + b.queued;
-  in_batch = a.in_batch + b.in_batch;
-  split = a.split + b.split;
-}
+-- the sums of each stage added
+abbrev pub added : List ℕ → List ℕ → List ℕ
+added a b = map (λ x. count_in a x + count_in b x) all_stages
 
 -- the column of the prefixes of both
 abbrev pub both : Column → Column → Column
@@ -36,20 +32,12 @@ in_pairs (a ∷ []) = a ∷ []
 in_pairs (a ∷ b ∷ more) = both a b ∷ in_pairs more
 
 -- each sum is at most this large
-pub record AreWithin (most : ℕ) (sums : PageSums) : Type 0 where
-  pub allocated : sums.allocated ≤ most
-  pub partly_mapped : sums.partly_mapped ≤ most
-  pub queued : sums.queued ≤ most
-  pub in_batch : sums.in_batch ≤ most
-  pub split : sums.split ≤ most
+abbrev pub AreWithin : ℕ → List ℕ → Type 0
+AreWithin most sums = (x : Stage) → count_in sums x ≤ most
 
 -- two columns' sums can be added
-pub record FitTogether (a b : PageSums) : Type 0 where
-  pub allocated : a.allocated + b.allocated < 2 ^ 128
-  pub partly_mapped : a.partly_mapped + b.partly_mapped < 2 ^ 128
-  pub queued : a.queued + b.queued < 2 ^ 128
-  pub in_batch : a.in_batch + b.in_batch < 2 ^ 128
-  pub split : a.split + b.split < 2 ^ 128
+abbrev pub FitTogether : List ℕ → List ℕ → Type 0
+FitTogether a b = (x : Stage) → count_in a x + count_in b x < 2 ^ 128
 
 -- the same for any two of these columns
 abbrev pub AreLow : List Column → Type 0

@@ -1,6 +1,6 @@
 -- The least and the greatest of some numbers.
 use Rattle.std.specs.Prelude.{ℕ, zero, suc, min, max, List, [], ◌∷◌}
-use Rattle.thp_metrics.specs.declared.span.Span.{Span}
+use Rattle.thp_metrics.specs.declared.column.Span.{Span}
 
 -- the least number of a list; 0 for the empty list
 abbrev pub least : List ℕ → ℕ

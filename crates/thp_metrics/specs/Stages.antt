@@ -1,12 +1,11 @@
 -- The stages of a page's life, and the number of pages in each.
-use Rattle.std.specs.Prelude.{ℕ, Bool, true, false, nat_eq, if◌then◌else◌, Option, Some, None, List, map}
+use Rattle.std.specs.Prelude.{ℕ, Bool, true, false, get_or, nat_eq, if◌then◌else◌, Option, Some, None, List, [], ◌∷◌, map}
 use Rattle.std.specs.List.{range_with_len}
 use Rattle.thp_history.specs.declared.shape.Shape.{Shape}
 use Rattle.thp_history.specs.Prelude.{allocations, is_live, is_split, History, count_below, is_partly_mapped}
 use Rattle.thp_page.specs.declared.standing.Standing.{Standing}
 use Rattle.thp_page.specs.declared.standing.Standing.TheVariants as at
 use Rattle.thp_live_pages.specs.Prelude.{standing_of}
-use Rattle.thp_metrics.specs.declared.pages.Pages.{Pages}
 use Rattle.thp_metrics.specs.declared.stage.Stage.{Stage}
 use Rattle.thp_metrics.specs.declared.stage.Stage.TheVariants.{Allocated, PartlyMapped, Queued, InBatch, Split}
 
@@ -41,14 +40,16 @@ is_stage x (Some y) = nat_eq (rank x) (rank y)
 abbrev pub pages_in : Shape → History → Stage → ℕ
 pages_in s h x = count_below (allocations h) (λ p. is_stage x (stage_of s h p))
 
-abbrev pub pages_at : Shape → History → Pages
-pages_at s h = record {
-  allocated = pages_in s h Allocated;
-  partly_mapped = pages_in s h PartlyMapped;
-  queued = pages_in s h Queued;
-  in_batch = pages_in s h InBatch;
-  split = pages_in s h Split;
-}
+-- the stages, in the order in which numbers of pages are given
+abbrev pub all_stages : List Stage
+all_stages = Allocated ∷ PartlyMapped ∷ Queued ∷ InBatch ∷ Split ∷ []
+
+abbrev pub pages_at : Shape → History → List ℕ
+pages_at s h = map (pages_in s h) all_stages
+
+-- the number for this stage, among those for all stages
+abbrev pub count_in : List ℕ → Stage → ℕ
+count_in counts x = get_or counts (rank x) 0
 
 -- the number of pages whose individual stages are recorded
 abbrev pub shown_pages : ℕ

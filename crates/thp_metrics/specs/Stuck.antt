@@ -4,7 +4,7 @@ use Rattle.thp_history.specs.declared.events.What.{What}
 use Rattle.thp_history.specs.declared.events.What.TheVariants.{Pinned}
 use Rattle.thp_history.specs.declared.shape.Shape.{Shape}
 use Rattle.thp_history.specs.Prelude.{History, count_of}
-use Rattle.thp_metrics.specs.declared.stuck_page.StuckPage.{StuckPage}
+use Rattle.thp_metrics.specs.declared.waiting.StuckPage.{StuckPage}
 use Rattle.thp_metrics.specs.Waits.{waits, waited}
 
 -- the event finds page p pinned

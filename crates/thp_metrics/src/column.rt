@@ -1,11 +1,40 @@
 //! The data of a column's prefixes.
 ghost use Rattle.std.specs.Prelude.{◌≡◌, ◌^◌, [], ◌∷◌};
-ghost use Rattle.thp_metrics.specs.Prelude.{AreWithin, FitTogether, both, column_of};
+ghost use Rattle.thp_metrics.specs.Prelude.{AreWithin, FitTogether, both, column_of, joined};
 
 use crate::numbers::{Numbers, SHOWN_PAGES};
-use crate::pages::PageSums;
-use crate::span::Span;
-use crate::stage::Stage;
+use crate::stage::{STAGES, Stage, widened};
+
+/// The least and the greatest of some numbers.
+#[derive(Clone, Copy, Debug, PartialEq, Eq)]
+pub struct Span {
+    /// The least of them.
+    pub least: u128,
+    /// The greatest of them.
+    pub greatest: u128,
+}
+
+impl Span {
+    // The span of one number.
+    pub(crate) fn of(number: u128) -> Span
+        ensures { result ≡ record { least = number; greatest = number } }
+    {
+        Span {
+            least: number,
+            greatest: number,
+        }
+    }
+
+    // The span of the numbers of both.
+    pub(crate) fn join(&self, other: &Span) -> Span
+        ensures { result ≡ joined self.now other.now }
+    {
+        Span {
+            least: self.least.min(other.least),
+            greatest: self.greatest.max(other.greatest),
+        }
+    }
+}
 
 /// The least and the greatest of each number of a node over a column's prefixes; and for the number of pages in each stage, the
 /// sums.
@@ -29,15 +58,15 @@ pub struct Column {
     pub wait: Span,
     /// The callers 0 to 63 that have pages in their batches after one of the prefixes: caller c as bit c.
     pub callers: u64,
-    /// Live pages in each stage, summed over the prefixes.
-    pub pages: PageSums,
+    /// Live pages in each stage, in the order of `Stage`, summed over the prefixes.
+    pub pages: [u128; STAGES],
     /// The stages of the first pages allocated, after the column's last prefix.
     pub stages: [Option<Stage>; SHOWN_PAGES],
 }
 
 impl Column {
-    // The column of one prefix.
-    pub(crate) fn of(numbers: &Numbers) -> Column
+    /// Returns the column of one prefix.
+    pub fn of(numbers: &Numbers) -> Column
         ensures column { result ≡ column_of (numbers.now ∷ []) }
         ensures few { AreWithin (2 ^ 64) result.pages }
     {
@@ -51,7 +80,7 @@ impl Column {
             pinned_tries: Span::of(u128::from(numbers.pinned_tries)),
             wait: Span::of(u128::from(numbers.wait)),
             callers: numbers.callers,
-            pages: PageSums::of(numbers),
+            pages: widened(&numbers.pages),
             stages: numbers.stages,
         }
     }
@@ -61,6 +90,7 @@ impl Column {
         requires { FitTogether self.now.pages other.now.pages }
         ensures { result ≡ both self.now other.now }
     {
+        let (own, others) = (&self.pages, &other.pages);
         Column {
             queue: self.queue.join(&other.queue),
             in_batches: self.in_batches.join(&other.in_batches),
@@ -71,7 +101,13 @@ impl Column {
             pinned_tries: self.pinned_tries.join(&other.pinned_tries),
             wait: self.wait.join(&other.wait),
             callers: self.callers | other.callers,
-            pages: self.pages.join(&other.pages),
+            pages: [
+                own[0] + others[0],
+                own[1] + others[1],
+                own[2] + others[2],
+                own[3] + others[3],
+                own[4] + others[4],
+            ],
             stages: other.stages,
         }
     }

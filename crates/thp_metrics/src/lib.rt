@@ -7,35 +7,25 @@
 //! - `numbers_at`, `series` (`Series`): the numbers after these events, and after each prefix of them.
 //! - `stage_of` (`Stages`): `Split`, else `InBatch`, else `Queued`, else `PartlyMapped`, else `Allocated`; one event changes the
 //!   stage of its own page only (proofs `Moving`, `Batches`).
-//! - `waited`, `longest_wait`, `callers_at` (`Waits`): waits since a page joined a list; code in `waiting`, `arrivals`, `finds`,
-//!   `batch_counts`, `spot`.
+//! - `waited`, `longest_wait`, `callers_at` (`Waits`): waits since a page joined a list; code in `waiting`, `arrivals`,
+//!   `batch_counts`, `node_series`.
 //! - `AreStuck` (`Stuck`): pages that wait and were found pinned, the longest wait first.
-//! - `IsWidth`, `columns_of` (`Columns`, `Spans`); code in `columns`, `folded`, `column`, `span`; proofs `Folding`, `Pairs`,
-//!   `Widths`.
+//! - `IsWidth`, `columns_of` (`Columns`, `Spans`); code in `columns`, `column`; proofs `Folding`, `Pairs`, `Widths`.
 #![tactic(auto)]
 
 mod arrivals;
 mod batch_counts;
 mod column;
 mod columns;
-mod finds;
-mod folded;
 mod node_series;
 mod numbers;
-mod pages;
-mod span;
-mod spot;
 mod stage;
-mod stuck_page;
 mod waiting;
 
 pub use batch_counts::SHOWN_CALLERS;
-pub use column::Column;
+pub use column::{Column, Span};
 pub use columns::{Columns, MAX_COLUMNS};
 pub use node_series::{NodeSeries, SeriesEnd};
 pub use numbers::{Numbers, SHOWN_PAGES};
-pub use pages::{PageSums, Pages};
-pub use span::Span;
-pub use stage::Stage;
-pub use stuck_page::StuckPage;
-pub use waiting::Waiting;
+pub use stage::{STAGES, Stage, widened};
+pub use waiting::{StuckPage, Waiting};

@@ -1,21 +1,20 @@
 //! The numbers of a node, event by event.
-ghost use Rattle.std.specs.Prelude.{◌≡◌, ◌≤◌, ◌<◌, ◌+◌, ◌^◌, [], length, IfOk, IfErr};
+ghost use Rattle.std.specs.Prelude.{◌≡◌, ◌≤◌, ◌<◌, ◌+◌, ◌^◌, [], length, IfOk, IfErr, Some};
 ghost use Rattle.thp_history.specs.Prelude.{least_free, Fits, IsLegal, max_order, min_order};
 ghost use Rattle.thp_check.specs.Prelude.{Explains, with_event};
-ghost use Rattle.thp_metrics.specs.Prelude.{AreStuck, CountsBatches, numbers_at, pages_at, series, staged, stages_at};
+ghost use Rattle.thp_metrics.specs.Prelude.{AreStuck, CountsBatches, numbers_at, pages_at, series, staged, stages_at, batch_of, home, stage_of};
+ghost use Rattle.std.specs.Option.{option_and_then};
+ghost use Rattle.thp_journal_writer.specs.Prelude.{event_page};
 
 use crate::batch_counts::BatchCounts;
 use crate::columns::Columns;
 use crate::numbers::{Numbers, SHOWN_PAGES};
-use crate::pages::{NO_PAGES, Pages};
-use crate::spot::spot_in;
-use crate::stage::Stage;
-use crate::stuck_page::StuckPage;
-use crate::waiting::Waiting;
+use crate::stage::{STAGES, Stage, enter, leave, stage_by};
+use crate::waiting::{StuckPage, Waiting};
 use std::alloc::{AllocError, Global};
 use std::marker::Model;
-use thp_check::{Misfit, Replay};
-use thp_history::{Event, PageId, Shape};
+use thp_check::{Misfit, Replay, Standing};
+use thp_history::{Event, PageId, Shape, What};
 use thp_journal_writer::event_page;
 
 /// A node whose events arrive one by one, with its numbers after each prefix of them in columns.
@@ -67,7 +66,13 @@ impl NodeSeries {
         let replay = Replay::new(alloc, shape)?;
         let waiting = Waiting::new(alloc, shape)?;
         let batches = BatchCounts::new(alloc)?;
-        let numbers = numbers_of(&replay, &waiting, &batches, NO_PAGES, [None; SHOWN_PAGES]);
+        let numbers = numbers_of(
+            &replay,
+            &waiting,
+            &batches,
+            [0; STAGES],
+            [None; SHOWN_PAGES],
+        );
         let columns = Columns::new(alloc, &numbers)?;
         Ok(NodeSeries {
             replay,
@@ -104,8 +109,8 @@ impl NodeSeries {
                 batches.lose(before.batch);
                 batches.gain(after.batch);
                 let mut pages = numbers.pages;
-                pages.leave(before.stage);
-                pages.enter(after.stage);
+                leave(&mut pages, before.stage);
+                enter(&mut pages, after.stage);
                 let mut stages = numbers.stages;
                 set_stage(&mut stages, event_page(&event.what), after.stage);
                 let numbers = numbers_of(&replay, &waiting, &batches, pages, stages);
@@ -173,22 +178,62 @@ fn numbers_of(
     replay: &Replay,
     waiting: &Waiting,
     batches: &BatchCounts,
-    pages: Pages,
+    pages: [u64; STAGES],
     stages: [Option<Stage>; SHOWN_PAGES],
 ) -> Numbers
     ensures { IsLegal replay.now.shape replay.now.history → waiting.now ≡ replay.now → CountsBatches replay.now batches.now → pages ≡ pages_at replay.now.shape replay.now.history → stages ≡ stages_at replay.now.shape replay.now.history → result ≡ numbers_at replay.now.shape replay.now.history }
 {
+    let counters = replay.counters();
     Numbers {
         queue: u64::from(replay.queue_len()),
-        in_batches: pages.in_batch,
+        in_batches: pages[Stage::InBatch as usize],
         held: replay.frames_held(),
         given: replay.frames_given(),
-        splits: replay.thp_split_page(),
-        underused_splits: replay.thp_underused_split_page(),
-        pinned_tries: replay.thp_split_page_failed(),
+        splits: counters.split_page,
+        underused_splits: counters.underused_split_page,
+        pinned_tries: counters.split_page_failed,
         wait: waiting.longest(),
         callers: batches.callers(),
         pages,
         stages,
+    }
+}
+
+// The position of a page; all `None` if it is not live.
+#[derive(Clone, Copy)]
+pub(crate) struct PagePlace {
+    pub(crate) stage: Option<Stage>,
+    // its block, if it waits in the queue or in a batch
+    pub(crate) home: Option<u32>,
+    // the caller whose batch it is in
+    pub(crate) batch: Option<u32>,
+}
+
+const NOWHERE: PagePlace = PagePlace {
+    stage: None,
+    home: None,
+    batch: None,
+};
+
+// The position of an event's page, if it has one.
+pub(crate) fn spot_in(replay: &Replay, what: &What) -> PagePlace
+    ensures stage { result.stage ≡ option_and_then (stage_of replay.now.shape replay.now.history) (event_page what.now) }
+    ensures home { result.home ≡ option_and_then (home replay.now.shape replay.now.history) (event_page what.now) }
+    ensures batch { result.batch ≡ option_and_then (batch_of replay.now.shape replay.now.history) (event_page what.now) }
+{
+    let Some(page) = event_page(what) else {
+        return NOWHERE;
+    };
+    let Some(live) = replay.whereabouts(page) else {
+        return NOWHERE;
+    };
+    let stage = stage_by(live.split, live.standing, live.partly_mapped);
+    PagePlace {
+        stage: Some(stage),
+        home: matches!(stage, Stage::Queued | Stage::InBatch).then_some(live.block),
+        batch: match live.standing {
+            Standing::Batch(caller) => Some(caller),
+            _ => None,
+        },
     }
 }

@@ -1,6 +1,5 @@
 //! The numbers of a node.
-use crate::pages::Pages;
-use crate::stage::Stage;
+use crate::stage::{STAGES, Stage};
 
 /// The number of pages, from 0 on, whose individual stages are recorded.
 pub const SHOWN_PAGES: usize = 60;
@@ -27,8 +26,8 @@ pub struct Numbers {
     pub wait: u64,
     /// The callers 0 to 63 that have pages in their batches: caller c as bit c.
     pub callers: u64,
-    /// The number of live pages in each stage.
-    pub pages: Pages,
+    /// The number of live pages in each stage, in the order of `Stage`.
+    pub pages: [u64; STAGES],
     /// The stages of the first pages allocated, by number; `None` if a page is not live.
     pub stages: [Option<Stage>; SHOWN_PAGES],
 }

@@ -1,17 +1,26 @@
-//! The pages that wait for a split, in the queue or in a batch, event by event.
+//! The pages that wait for a split, in the queue or in a batch, event by event, and how often they were found pinned.
 ghost use Rattle.std.specs.Prelude.{◌≡◌, ◌<◌, ◌+◌, ◌^◌, ℕ, [], ◌∷◌, ◌++◌, length, IfOk, Contains};
 ghost use Rattle.std.specs.Option.{option_and_then};
 ghost use Rattle.thp_history.specs.Prelude.{Fits};
 ghost use Rattle.thp_journal_writer.specs.Prelude.{event_page};
 ghost use Rattle.thp_check.specs.Prelude.{with_event};
-ghost use Rattle.thp_metrics.specs.Prelude.{AreStuck, home, longest_wait, stuck_among};
+ghost use Rattle.thp_metrics.specs.Prelude.{AreStuck, home, longest_wait, noted, stuck_among, MayNote};
 
 use crate::arrivals::Arrivals;
-use crate::finds::{NO_PINS, PinCount, count_find};
-use crate::stuck_page::StuckPage;
 use std::alloc::{AllocError, Global};
 use std::marker::Model;
-use thp_history::{Event, Shape, Trace};
+use thp_history::{Event, PageId, Shape, Trace, What};
+
+/// A page that waits, in the queue or in a batch, and was found pinned when it was tried.
+#[derive(Clone, Copy, Debug, PartialEq, Eq)]
+pub struct StuckPage {
+    /// The page's number.
+    pub page: PageId,
+    /// The number of times that the page was found pinned.
+    pub finds: u64,
+    /// The number of the event with which the page began to wait, counted from 1; it has waited without interruption since.
+    pub since: u64,
+}
 
 /// The pages of a node that wait, in the queue or in a batch, with the events since which they wait.
 ///
@@ -114,4 +123,29 @@ fn stuck_among(
         }
     }
     Ok(pages)
+}
+
+// The last page of a block, and the number of times it was found pinned.
+#[derive(Clone, Copy)]
+pub(crate) struct PinCount {
+    pub(crate) page: PageId,
+    pub(crate) finds: u64,
+}
+
+// No page, which was never found pinned.
+pub(crate) const NO_PINS: PinCount = PinCount {
+    page: PageId(0),
+    finds: 0,
+};
+
+// Records an event that finds a page pinned, which waits in this block if it waits, or an event that places a page.
+pub(crate) fn count_find(counts: &mut Vec<PinCount>, what: &What, home: Option<u32>)
+    requires { MayNote counts.old.items what.now home }
+    ensures { counts.new.items ≡ noted counts.old.items what.now home }
+{
+    match (*what, home) {
+        (What::Alloc { page, block }, _) => counts[block as usize] = PinCount { page, finds: 0 },
+        (What::Pinned { .. }, Some(block)) => counts[block as usize].finds += 1,
+        _ => {}
+    }
 }

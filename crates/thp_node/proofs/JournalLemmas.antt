@@ -1,21 +1,17 @@
 -- How large the numbers that a history gives can be, and how a caller's flight grows and shrinks.
-use Rattle.std.proofs.Common.{◌≡◌, ℕ, ◌+◌, ◌*◌, ◌<◌, ◌≤◌, Bool, true, false, cond, not, List, [], ◌∷◌, ◌++◌, length, Some, None, refl, ap, sym, ◌∙◌, arith, nat_eq, eqb-true, eq-eqb, filter}
-use Rattle.std.proofs.Math.Nat.{mul-le-mul}
+use Rattle.std.proofs.Common.{◌≡◌, ℕ, ◌+◌, ◌<◌, ◌≤◌, Bool, true, false, cond, not, List, [], ◌∷◌, ◌++◌, length, Some, None, refl, ap, sym, ◌∙◌, arith, nat_eq, eqb-true, eq-eqb, filter}
 use Rattle.std.proofs.lemmas.List.{length_push}
 use Rattle.thp_history.specs.declared.events.Outcome.{Outcome}
 use Rattle.thp_history.specs.declared.events.Outcome.TheVariants.{Freed, Queued, Stays}
 use Rattle.thp_history.specs.declared.events.What.{What}
 use Rattle.thp_history.specs.declared.events.What.TheVariants.{Taken}
 use Rattle.thp_history.specs.declared.shape.Shape.{Shape}
-use Rattle.thp_history.specs.Prelude.{IsShape, subpages, History, by, allocations, frames_given, frames_held, flight_after, flight_by, IsLegal, FitsBy, flights, flight, without, has_page}
+use Rattle.thp_history.specs.Prelude.{History, by, flight_after, flight_by, IsLegal, FitsBy, flights, flight, without, has_page}
 use Rattle.thp_history.proofs.Bools.{one_if, none_if}
 use Rattle.thp_history.proofs.Flights.{flight_push}
-use Rattle.thp_history.proofs.Kept.{frames_kept}
 use Rattle.thp_history.proofs.OnePlace.{times_flight, has_times, once_flies}
-use Rattle.thp_history.proofs.Sizes.{few_subpages}
 use Rattle.thp_history.proofs.Standing.{times, flying, pages, times-cons, flying-cons, first_has, legal_sound}
 use Rattle.thp_live_pages.specs.Prelude.{flier}
-use Rattle.thp_history.proofs.Totals.{few_events}
 use Rattle.thp_node.specs.Prelude.{leaves_of, left_by, joins_of, one_for}
 
 -- the pages that c has among those in flight

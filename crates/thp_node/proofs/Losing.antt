@@ -7,7 +7,7 @@ use Rattle.thp_page.specs.Prelude.{Slot, slot_at}
 use Rattle.thp_history.specs.declared.page_call.Done.{Done}
 use Rattle.thp_history.specs.declared.page_call.Loss.{Loss}
 use Rattle.thp_live_pages.specs.Prelude.{PageStoreState, IsNode, block_of, flier, Relinks}
-use Rattle.thp_node.specs.Prelude.{FreedFrom, LostChained, context_of}
+use Rattle.thp_node.specs.Prelude.{LostChained, leaves_of}
 use Rattle.thp_live_pages.proofs.Admitting.{Found, at_home}
 use Rattle.thp_live_pages.proofs.Homing.{legal_homed}
 use Rattle.thp_live_pages.proofs.PageEvents.{LossFits, loss_fits, loss_left, lost_node}
@@ -16,16 +16,16 @@ use Rattle.thp_live_pages.proofs.PageEvents.{LossFits, loss_fits, loss_left, los
 pub node_relinked : (s : Shape) (h : History) (old new : PageStoreState) (n : ℕ) → Relinks old new n → IsNode s h old.table old.queue → IsNode s h new.table new.queue
 node_relinked s h old new n r m = grind (arith, get_or)
 
--- out of whose flight a loss freed its page is what its event leaves unsaid
-loss_unsaid : (s : Shape) (h : History) (c p : ℕ) (l : Loss) (o : Outcome) (set : List Bool) →
-    FreedFrom (if is_freed o then flier p (flights h) else None) ≡ context_of s h (loss_what l p o set)
-loss_unsaid s h c p l x set = grind arith
+-- out of whose flight a loss freed its page
+loss_leaves : (s : Shape) (h : History) (c p : ℕ) (l : Loss) (o : Outcome) (set : List Bool) →
+    (if is_freed o then flier p (flights h) else None) ≡ leaves_of h c (loss_what l p o set)
+loss_leaves s h c p l x set = grind arith
 
 -- the event fits and tells what it did, with out of whose flight the page went, and the node holds what it should
 pub record Losing (s : Shape) (h : History) (c p : ℕ) (l : Loss) (old new : PageStoreState) (done : Done) (left : Option ℕ) : Type 0 where
   pub gives : Gives s h (h ++ by c (loss_what l p done.outcome done.released) ∷ []) p done.outcome done.released
   pub fits : Fits s h (by c (loss_what l p done.outcome done.released))
-  pub unsaid_is : FreedFrom left ≡ context_of s h (loss_what l p done.outcome done.released)
+  pub leaves_is : left ≡ leaves_of h c (loss_what l p done.outcome done.released)
   pub node : IsNode s (h ++ by c (loss_what l p done.outcome done.released) ∷ []) new.table new.queue
   pub work : new.table.accesses ≤ old.table.accesses + 8
 
@@ -44,9 +44,7 @@ losing s h c p b l closed old new done left m home shut allowed lost =
     (record {
       gives = f.gives;
       fits = f.fits;
-      unsaid_is =
-          ap (λ (o : Option ℕ). FreedFrom o) (loss_left s h b w.slot l closed old what.between done left homed w.is what.lost)
-          ∙ loss_unsaid s h c w.slot.id l done.outcome done.released;
+      leaves_is = loss_left s h b w.slot l closed old what.between done left homed w.is what.lost ∙ loss_leaves s h c w.slot.id l done.outcome done.released;
       node = node_relinked s e what.between new 2 what.relinks (lost_node s h c b w.slot l closed old what.between done left homed m w.at what.lost f);
       work = omega (arith, what.lost.edits.work, what.relinks.work);
     })

@@ -1,16 +1,16 @@
 -- What a journal keeps: with no event, and with one more.
-use Rattle.std.proofs.Common.{◌≡◌, ℕ, zero, suc, ◌+◌, ◌^◌, ◌<◌, ◌≤◌, Bool, false, ◌||◌, List, [], ◌∷◌, ◌++◌, length, replicate, Option, None, IfSome, slice_index_or, refl, ap, sym, ◌∙◌, subst, arith}
+use Rattle.std.proofs.Common.{◌≡◌, ℕ, zero, suc, ◌+◌, ◌^◌, ◌<◌, ◌≤◌, Bool, false, ◌||◌, List, [], ◌∷◌, ◌++◌, length, replicate, Option, None, IfSome, slice_index_or, refl, ap, sym, ◌∙◌, arith}
 use Rattle.std.specs.Int.{from_bool}
-use Rattle.std.proofs.lemmas.List.{length_push}
 use Rattle.thp_history.specs.declared.events.Event.{Event}
 use Rattle.thp_history.specs.declared.events.What.{What}
 use Rattle.thp_history.specs.declared.events.Outcome.{Outcome}
 use Rattle.thp_history.specs.declared.page_call.Loss.{Loss}
 use Rattle.thp_history.specs.Prelude.{loss_what, History, by, count_of, some_event, IsShape, is_alloc, closes, flights, flight, IsLegal, Fits, IsContext, with_loss}
 use Rattle.thp_history.specs.declared.shape.Shape.{Shape}
+use Rattle.thp_history.specs.declared.tally.SplitContext.{SplitContext}
 use Rattle.thp_history.proofs.LegalSteps.{legal_none, legal_push}
 use Rattle.thp_history.proofs.Pushes.{count_of_push, some_event_push}
-use Rattle.thp_node.specs.Prelude.{NodeTally, EventContext, FreedFrom, IsJournal, leaves_of, context_of, leaves_by, joins_of, freed_from, of_split, one_for, CanLeave, HasCountRoom, Moves, Counts}
+use Rattle.thp_node.specs.Prelude.{NodeTally, IsJournal, leaves_of, one_for, CanLeave, HasCountRoom, Moves, Counts}
 use Rattle.thp_node.proofs.JournalLemmas.{flight_moves, leaves_one}
 use Rattle.thp_history.proofs.Totals.{few_events, adds_none, has_room, adds_push, adds_loss}
 
@@ -52,25 +52,15 @@ pub may_leave : (shape : Shape) (h : History) (c : ℕ) (w : What) (flying : Lis
     o ≡ leaves_of h c w → ((d : ℕ) → slice_index_or flying d 0 ≡ length (flight h d)) → IfSome o (CanLeave flying)
 may_leave shape h c w flying x l f e g = grind (arith, leaves_one)
 
--- what an event leaves unsaid tells out of which flight its page goes, and how many PMD mappings it splits
-pub leaves_told : (s : Shape) (h : History) (c : ℕ) (w : What) → leaves_by c w (context_of s h w) ≡ leaves_of h c w
-leaves_told s h c x = grind arith
-
--- and what its page was before a split
-split_told : (s : Shape) (h : History) (w : What) → IsContext s h w (of_split (context_of s h w))
-split_told s h x = grind arith
-
 pub few_one : (b : Bool) → from_bool b ≤ 1
 few_one x = grind arith
 
 -- with an event that fits, and the numbers that it is counted in
-pub journal_push : (shape : Shape) (h : History) (c : ℕ) (w : What) (u : EventContext) (old new : NodeTally) →
-    IsJournal shape h old → Fits shape h (by c w) → u ≡ context_of shape h w → Counts old new c w u →
+pub journal_push : (shape : Shape) (h : History) (c : ℕ) (w : What) (leaves : Option ℕ) (split : SplitContext) (old new : NodeTally) →
+    IsJournal shape h old → Fits shape h (by c w) → leaves ≡ leaves_of h c w → IsContext shape h w split → Counts old new c w leaves split →
     IsJournal shape (h ++ by c w ∷ []) new
-journal_push shape h c w u old new j f said a =
+journal_push shape h c w leaves split old new j f left said a =
     let e : Event = by c w in
-    let left : leaves_by c w u ≡ leaves_of h c w = ap (leaves_by c w) said ∙ leaves_told shape h c w in
-    let S : EventContext → Type 0 = λ x. IsContext shape h w (of_split x) in
     record {
       has_shape = j.has_shape;
       legal = legal_push shape h e j.legal f;
@@ -78,18 +68,11 @@ journal_push shape h c w u old new j f said a =
       closed_is = a.closed ∙ ap (λ b. b || closes w) j.closed_is ∙ sym (some_event_push closes h e);
       flying_are = λ d.
           omega (arith, a.flying d, ap (λ o. one_for o d) left, j.flying_are d, flight_moves shape h c d w j.legal f);
-      adds_up = adds_push shape h e (of_split u) old.sums new.sums j.adds_up (subst S (sym said) (split_told shape h w)) a.sums;
+      adds_up = adds_push shape h e split old.sums new.sums j.adds_up said a.sums;
     }
 
--- ---- an unmap or an unpin
-
--- out of whose flight its page goes
-pub left_told : (s : Shape) (h : History) (c p : ℕ) (l : Loss) (o : Outcome) (set : List Bool) (left : Option ℕ) → FreedFrom left ≡ context_of s h (loss_what l p o set) →
-    left ≡ leaves_of h c (loss_what l p o set)
-left_told s h c p x o set left e = grind arith
-
--- what it adds to the numbers
-pub counts_lost : (old new : NodeTally) (c p : ℕ) (l : Loss) (o : Outcome) (set : List Bool) (u : EventContext) → Moves old.flying new.flying None (freed_from u) →
+-- what an unmap or an unpin adds to the numbers
+pub counts_lost : (old new : NodeTally) (c p : ℕ) (l : Loss) (o : Outcome) (set : List Bool) (left : Option ℕ) (split : SplitContext) → Moves old.flying new.flying None left →
     new.sums ≡ with_loss o set old.sums → new ≡ record old { flying = new.flying; sums = new.sums } →
-    Counts old new c (loss_what l p o set) u
-counts_lost old new c p x o set u moves adds rest = grind (arith, adds_loss)
+    Counts old new c (loss_what l p o set) left split
+counts_lost old new c p x o set left split moves adds rest = grind (arith, adds_loss)

@@ -1,17 +1,15 @@
 -- The numbers that the journal of a node maintains in addition to its events.
-use Rattle.std.specs.Prelude.{◌≡◌, ℕ, ◌+◌, ◌*◌, ◌^◌, ◌≤◌, Bool, false, not, ◌||◌, cond, nat_eq, length, List, slice_index_or, Option, Some, None, IfSome, ◌<◌}
+use Rattle.std.specs.Prelude.{◌≡◌, ℕ, ◌+◌, ◌^◌, ◌||◌, cond, nat_eq, length, List, slice_index_or, Option, Some, None, IfSome, ◌<◌}
 use Rattle.std.specs.Int.{from_bool}
 use Rattle.thp_history.specs.declared.events.Outcome.{Outcome}
 use Rattle.thp_history.specs.declared.events.Outcome.TheVariants.{Freed}
 use Rattle.thp_history.specs.declared.events.What.{What}
 use Rattle.thp_history.specs.declared.events.What.TheVariants.{UnmapWhole, UnmapSub, Unpin, Taken, Split, Used, Back, Dropped}
 use Rattle.thp_history.specs.declared.shape.Shape.{Shape}
-use Rattle.thp_history.specs.Prelude.{IsShape, max_callers, History, is_closed, allocations, is_alloc, closes, whole, is_partly_mapped, flights, flight, IsLegal, AddsUp, Adds, HasRoom}
+use Rattle.thp_history.specs.Prelude.{IsShape, max_callers, History, is_closed, allocations, is_alloc, closes, flights, flight, IsLegal, AddsUp, Adds, HasRoom}
 use Rattle.thp_live_pages.specs.Prelude.{flier}
 use Rattle.thp_history.specs.declared.tally.SplitContext.{SplitContext}
 use Rattle.thp_node.specs.declared.journal.NodeTally.{NodeTally}
-use Rattle.thp_node.specs.declared.journal.EventContext.{EventContext}
-use Rattle.thp_node.specs.declared.journal.EventContext.TheVariants.{Nothing, FreedFrom, OfSplit}
 
 -- the node's shape, the events so far, and the number of further events that there is room for
 pub record JournalState : Type 0 where
@@ -45,33 +43,13 @@ leaves_of h c (Back p) = Some c
 leaves_of h c (Dropped p) = Some c
 leaves_of h c _ = None
 
--- the facts about an event that the event itself does not contain
-abbrev pub context_of : Shape → History → What → EventContext
-context_of s h (UnmapWhole outcome p set) = FreedFrom (left_by h p outcome)
-context_of s h (UnmapSub outcome p first count set) = FreedFrom (left_by h p outcome)
-context_of s h (Unpin outcome p set) = FreedFrom (left_by h p outcome)
-context_of s h (Split p set) = OfSplit (record { mappings = whole h p; underused = not (is_partly_mapped s h p) })
-context_of s h _ = Nothing
-
--- those facts: the caller from whose flight an event freed its page, and what a page was before its split
-abbrev pub freed_from : EventContext → Option ℕ
-freed_from (FreedFrom flier) = flier
-freed_from u = None
-
-abbrev pub of_split : EventContext → SplitContext
-of_split (OfSplit context) = context
-of_split u = record { mappings = 0; underused = false }
-
--- the caller whose flight a page leaves by an event of caller c, computed from those facts
-abbrev pub leaves_by : ℕ → What → EventContext → Option ℕ
-leaves_by c (UnmapWhole outcome p set) u = freed_from u
-leaves_by c (UnmapSub outcome p first count set) u = freed_from u
-leaves_by c (Unpin outcome p set) u = freed_from u
-leaves_by c (Split p set) u = Some c
-leaves_by c (Used p) u = Some c
-leaves_by c (Back p) u = Some c
-leaves_by c (Dropped p) u = Some c
-leaves_by c w u = None
+-- the same for every event except an unmap or an unpin, which the event itself determines
+abbrev pub leaves_by : ℕ → What → Option ℕ
+leaves_by c (Split p set) = Some c
+leaves_by c (Used p) = Some c
+leaves_by c (Back p) = Some c
+leaves_by c (Dropped p) = Some c
+leaves_by c w = None
 
 -- the caller whose flight a page joins by an event of caller c
 abbrev pub joins_of : ℕ → What → Option ℕ
@@ -103,9 +81,9 @@ pub record HasCountRoom (t : NodeTally) : Type 0 where
   pub next : t.next + 1 < 2 ^ 64
   pub sums : HasRoom t.sums
 
--- what an event of caller c adds to the numbers
-pub record Counts (old new : NodeTally) (c : ℕ) (w : What) (u : EventContext) : Type 0 where
+-- what an event of caller c adds to the numbers, by which a page leaves a flight, or is split
+pub record Counts (old new : NodeTally) (c : ℕ) (w : What) (leaves : Option ℕ) (split : SplitContext) : Type 0 where
   pub next : new.next ≡ old.next + from_bool (is_alloc w)
   pub closed : new.closed ≡ (old.closed || closes w)
-  pub flying : Moves old.flying new.flying (joins_of c w) (leaves_by c w u)
-  pub sums : Adds old.sums new.sums w (of_split u)
+  pub flying : Moves old.flying new.flying (joins_of c w) leaves
+  pub sums : Adds old.sums new.sums w split

@@ -3,7 +3,7 @@ pub use Rattle.thp_node.specs.Batches.{BatchState, FrontsStay, IsInFront, OlderA
 pub use Rattle.thp_node.specs.Calls.{Did, DidAlloc, Refused}
 pub use Rattle.thp_node.specs.Chaining.{HasChain, LostChained}
 unfoldable pub use Rattle.thp_node.specs.JournalLaws.{AllocatesOnce, FlightsGoOn, HasFramesOnce, HoldsWhileLive, KeepsFrames, LeavesFreedAlone, LivesApart, NoneIsUnderused, NothingEnters, OthersFree, QueueGoesOn, StandsOnce, StandsWhole, TakesOldest}
-pub use Rattle.thp_node.specs.Journals.{CanLeave, Counts, HasCountRoom, IsJournal, JournalState, Moves, context_of, freed_from, joins_of, leaves_by, leaves_of, left_by, of_split, one_for}
+pub use Rattle.thp_node.specs.Journals.{CanLeave, Counts, HasCountRoom, IsJournal, JournalState, Moves, joins_of, leaves_by, leaves_of, left_by, one_for}
 pub use Rattle.thp_node.specs.NodeState.{NodeState}
 pub use Rattle.thp_node.specs.Returning.{BeginsIn, OneBack, return_first}
 pub use Rattle.thp_node.specs.Scanning.{events_after, is_used, used_count}
@@ -11,6 +11,4 @@ pub use Rattle.thp_node.specs.Takings.{Took}
 pub use Rattle.thp_node.specs.declared.answers.BackReply.{BackReply}
 pub use Rattle.thp_node.specs.declared.answers.ScanReply.{ScanReply}
 pub use Rattle.thp_node.specs.declared.answers.Tried.{Tried}
-pub use Rattle.thp_node.specs.declared.journal.EventContext.{EventContext}
-pub use Rattle.thp_node.specs.declared.journal.EventContext.TheVariants.{FreedFrom, OfSplit}
 pub use Rattle.thp_node.specs.declared.journal.NodeTally.{NodeTally}

@@ -16,7 +16,7 @@ pub enum NewFault {
 pub enum Tried {
     /// The page was split into base pages.
     Split(PageId),
-    /// The page has pins and stays in the batch.
+    /// The page is worth a split, but has pins, and stays in the batch.
     Pinned(PageId),
     /// The page is not worth a split, being neither partly mapped nor underused, and left the batch.
     Used(PageId),

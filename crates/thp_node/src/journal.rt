@@ -1,7 +1,7 @@
 //! The journal of a node, and the numbers that are maintained with it.
 ghost use Rattle.std.specs.Prelude.{◌≡◌, ℕ, ◌+◌, ◌<◌, ◌≤◌, [], ◌∷◌, ◌++◌, ◌^◌, length, OnOk, OnErr, IfErr, IfSome, IsTrue, ◌↔◌, None, Some, not};
-ghost use Rattle.thp_history.specs.Prelude.{max_callers, by, IsShape, allocations, is_closed, counters_of, frames_given, frames_held, flight, IsLegal, Fits, loss_what, with_loss};
-ghost use Rattle.thp_node.specs.Journals.{HasFlightRoom, context_of, leaves_by, joins_of, HasCountRoom, CanJoin, CanLeave, Moves, Counts, freed_from, of_split};
+ghost use Rattle.thp_history.specs.Prelude.{max_callers, by, IsShape, IsContext, allocations, is_closed, counters_of, frames_given, frames_held, flight, IsLegal, Fits, loss_what, with_loss};
+ghost use Rattle.thp_node.specs.Journals.{HasFlightRoom, leaves_by, leaves_of, joins_of, HasCountRoom, CanJoin, CanLeave, Moves, Counts};
 
 use crate::recorder::{FullLog, Recorder};
 use std::alloc::Global;
@@ -10,17 +10,6 @@ use thp_history::{
     Counters, Done, Event, Loss, MAX_CALLERS, Outcome, PageId, Refusal, Shape, SplitContext,
     SubSet, Tally, What,
 };
-
-// The facts about an event that the event itself does not contain.
-#[derive(Clone, Copy)]
-pub(crate) enum EventContext {
-    // None.
-    Nothing,
-    // The caller, if any, from whose flight an unmap or an unpin freed its page.
-    FreedFrom(Option<u32>),
-    // What a page was before its split.
-    OfSplit(SplitContext),
-}
 
 // The number of callers that a journal counts for.
 const SEATS: usize = MAX_CALLERS as usize;
@@ -94,15 +83,16 @@ impl<R: Recorder> Journal<R> {
         self.events.has_room()
     }
 
-    // Records an event of a caller, which must fit, and the facts that it does not contain. Inlined, so that a caller with a
-    // known kind of event writes and counts that kind only.
+    // Records an event of a caller, which must fit, except an unmap or an unpin, and what its page was before a split. Inlined, so
+    // that a caller with a known kind of event writes and counts that kind only.
     #[inline(always)]
-    pub(crate) fn record(&mut self, caller: u32, what: What, unsaid: EventContext)
+    pub(crate) fn record(&mut self, caller: u32, what: What, split: SplitContext)
         requires caller { caller < max_callers }
         requires room { 0 < self.old.room }
         requires fits { Fits self.old.shape self.old.events (by caller what) }
         requires flight { HasFlightRoom self.old.events caller what }
-        requires unsaid { unsaid ≡ context_of self.old.shape self.old.events what }
+        requires leaves { leaves_by caller what ≡ leaves_of self.old.events caller what }
+        requires split { IsContext self.old.shape self.old.events what split }
         ensures shape { self.new.shape ≡ self.old.shape }
         ensures events { self.new.events ≡ self.old.events ++ by caller what ∷ [] }
         ensures room { self.new.room + 1 ≡ self.old.room }
@@ -111,10 +101,11 @@ impl<R: Recorder> Journal<R> {
         self.events.record(caller, what);
         // Shows the proof that the number of events, and therefore each number of the tally, is bounded.
         let _events = self.events.count();
-        self.tally.count(caller, &what, unsaid);
+        self.tally.count(caller, &what, split);
     }
 
-    // Records an unmap or an unpin, as `record` does. The numbers are taken from `done`: a node that keeps no events builds none.
+    // Records an unmap or an unpin, by which the page left the flight of `left`, if it is one, as `record` does. The numbers are
+    // taken from `done`: a node that keeps no events builds none.
     #[inline(always)]
     pub(crate) fn record_loss(
         &mut self,
@@ -127,7 +118,7 @@ impl<R: Recorder> Journal<R> {
         requires caller { caller < max_callers }
         requires room { 0 < self.old.room }
         requires fits { Fits self.old.shape self.old.events (by caller (loss_what loss page done.now.outcome done.now.released)) }
-        requires unsaid { EventContext.FreedFrom left ≡ context_of self.old.shape self.old.events (loss_what loss page done.now.outcome done.now.released) }
+        requires leaves { left ≡ leaves_of self.old.events caller (loss_what loss page done.now.outcome done.now.released) }
         ensures shape { self.new.shape ≡ self.old.shape }
         ensures events { self.new.events ≡ self.old.events ++ by caller (loss_what loss page done.now.outcome done.now.released) ∷ [] }
         ensures room { self.new.room + 1 ≡ self.old.room }
@@ -211,21 +202,18 @@ impl Journal<FullLog> {
 impl NodeTally {
     // Counts one more event of a caller: changes the numbers that its kind of event changes. Inlined with `record`.
     #[inline(always)]
-    fn count(&mut self, caller: u32, what: &What, unsaid: EventContext)
+    fn count(&mut self, caller: u32, what: &What, split: SplitContext)
         requires room { HasCountRoom self.old }
         requires joins { IfSome (joins_of caller what.now) (CanJoin self.old.flying) }
-        requires leaves { IfSome (leaves_by caller what.now unsaid) (CanLeave self.old.flying) }
-        ensures { Counts self.old self.new caller what.now unsaid }
+        requires leaves { IfSome (leaves_by caller what.now) (CanLeave self.old.flying) }
+        ensures { Counts self.old self.new caller what.now (leaves_by caller what.now) split }
     {
-        self.sums.count(what, unsaid.of_split());
+        self.sums.count(what, split);
         match what {
             What::Alloc { .. } => self.next += 1,
-            What::UnmapWhole { .. } | What::UnmapSub { .. } | What::Unpin { .. } => {
-                leave(&mut self.flying, unsaid.freed_from());
-            }
             What::Taken { .. } => self.flying[caller as usize] += 1,
             What::Split { .. } | What::Used { .. } | What::Back { .. } | What::Dropped { .. } => {
-                leave(&mut self.flying, Some(caller));
+                self.flying[caller as usize] -= 1;
             }
             What::Close => self.closed = true,
             _ => {}
@@ -242,38 +230,8 @@ impl NodeTally {
         ensures rest { self.new ≡ record self.old { flying = self.new.flying; sums = self.new.sums } }
     {
         self.sums.count_loss(outcome, released);
-        leave(&mut self.flying, left);
-    }
-}
-
-impl EventContext {
-    // The caller, if any, from whose flight the event freed its page.
-    fn freed_from(self) -> Option<u32>
-        ensures { result ≡ freed_from self }
-    {
-        match self {
-            EventContext::FreedFrom(flier) => flier,
-            _ => None,
+        if let Some(caller) = left {
+            self.flying[caller as usize] -= 1;
         }
-    }
-
-    // What the page was before its split, if the event is one.
-    fn of_split(self) -> SplitContext
-        ensures { result ≡ of_split self }
-    {
-        match self {
-            EventContext::OfSplit(context) => context,
-            _ => SplitContext::none(),
-        }
-    }
-}
-
-// Counts a page that leaves the flight of a caller, if there is one.
-fn leave(flying: &mut [u8; SEATS], flier: Option<u32>)
-    requires { IfSome flier (CanLeave flying.old) }
-    ensures { Moves flying.old flying.new None flier }
-{
-    if let Some(caller) = flier {
-        flying[caller as usize] -= 1;
     }
 }

@@ -8,7 +8,7 @@
 //!   results.
 //! - `node`: construction and readers. `node/page_calls`, `list_calls`, `batch_calls`, `return_calls`: the calls.
 //! - `batch`, `answers`: batches and results (`Batches`); `Takings`, `Returning`, `Scanning` are for longer calls.
-//! - `journal`: events, statistics, and the event context they need (`Journals`); `recorder`: [`FullLog`] keeps each event,
+//! - `journal`: events and statistics (`Journals`); `recorder`: [`FullLog`] keeps each event,
 //!   [`CountOnly`] counts them, and contracts see one history of both (`Recorders`). A caller's flight is counted in a byte.
 //! - `blocks`: the page store and the chain of free blocks (`Chaining`, proof `ChainLemmas`).
 //! - `laws` and `journal` ensure the laws of `JournalLaws`; proof `JournalFacts` has them for every legal history.

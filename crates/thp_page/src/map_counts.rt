@@ -95,15 +95,11 @@ impl MapCounts {
         requires { first + count ≤ max_subpages }
         ensures { result ≡ some_count self.now first count (λ n. nat_eq n 0) }
     {
-        if OneWord::holds(first, count) {
-            !OneWord::range(first, count)
-                .outside(&self.mapped)
-                .is_empty()
-        } else {
-            !SubSet::range(first as u32, count as u32)
-                .outside(&self.mapped)
-                .is_empty()
+        if let Some(word) = OneWord::range(first, count) {
+            return !word.outside(&self.mapped).is_empty();
         }
+        let range = SubSet::range(first as u32, count as u32);
+        !range.outside(&self.mapped).is_empty()
     }
 
     /// Returns whether some count of the range is `n`.
@@ -133,10 +129,9 @@ impl MapCounts {
         requires small { (i : ℕ) → covers first count i ≡ true → slice_index self.old i < 65535 }
         ensures { (i : ℕ) → i < max_subpages → slice_index self.new i ≡ slice_index self.old i + cond (covers first count i) 1 0 }
     {
-        if OneWord::holds(first, count) {
-            self.map_each(OneWord::range(first, count));
-        } else {
-            self.map_each(SubSet::range(first as u32, count as u32));
+        match OneWord::range(first, count) {
+            Some(word) => self.map_each(word),
+            None => self.map_each(SubSet::range(first as u32, count as u32)),
         }
     }
 
@@ -158,10 +153,9 @@ impl MapCounts {
         ensures taken { (i : ℕ) → i < max_subpages → slice_index self.old i ≡ slice_index self.new i + cond (covers first count i) 1 0 }
         ensures unmapped { result ≡ some_count self.old first count (λ n. nat_eq n 1) }
     {
-        if OneWord::holds(first, count) {
-            self.unmap_each(OneWord::range(first, count))
-        } else {
-            self.unmap_each(SubSet::range(first as u32, count as u32))
+        match OneWord::range(first, count) {
+            Some(word) => self.unmap_each(word),
+            None => self.unmap_each(SubSet::range(first as u32, count as u32)),
         }
     }
 

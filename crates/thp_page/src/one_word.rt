@@ -1,5 +1,5 @@
 //! Subpages that lie in one word of a set.
-ghost use Rattle.std.specs.Prelude.{◌≡◌, ℕ, ◌+◌, ◌-◌, ◌*◌, ◌/◌, ◌%◌, ◌^◌, ◌<◌, ◌≤◌, true};
+ghost use Rattle.std.specs.Prelude.{◌≡◌, ℕ, ◌+◌, ◌-◌, ◌*◌, ◌/◌, ◌%◌, ◌^◌, ◌<◌, ◌≤◌, IfSome};
 ghost use Rattle.thp_history.specs.Prelude.{max_subpages, covers};
 ghost use Rattle.thp_page.specs.OneWords.{in_word};
 
@@ -17,29 +17,20 @@ pub(crate) struct OneWord {
 }
 
 impl OneWord {
-    // Whether a range is not empty and lies in one word.
-    #[inline(always)]
-    pub(crate) fn holds(first: usize, count: usize) -> bool
-        requires { first + count ≤ max_subpages }
-        ensures some { result ≡ true → 0 < count }
-        ensures one { result ≡ true → first % 64 + count ≤ 64 }
-    {
-        count != 0 && first % 64 + count <= 64
-    }
-
-    // The subpages of such a range.
+    // The subpages of a range that is not empty and lies in one word; `None` for another range.
     #[inline(always)]
     #[tactic(auto, using(crate::proofs::WordBits::word_range))]
-    pub(crate) fn range(first: usize, count: usize) -> OneWord
-        requires inside { first + count ≤ max_subpages }
-        requires some { 0 < count }
-        requires one { first % 64 + count ≤ 64 }
-        ensures { (i : ℕ) → in_word result.at result.bits i ≡ covers first count i }
+    pub(crate) fn range(first: usize, count: usize) -> Option<OneWord>
+        requires { first + count ≤ max_subpages }
+        ensures { IfSome result (λ w. (i : ℕ) → in_word w.at w.bits i ≡ covers first count i) }
     {
-        OneWord {
+        if count == 0 || first % 64 + count > 64 {
+            return None;
+        }
+        Some(OneWord {
             at: first / 64,
             bits: (u64::MAX >> (64 - count)) << (first % 64),
-        }
+        })
     }
 }
 

@@ -106,10 +106,8 @@ impl PageTable {
         ensures number { option_map (λ r. r.0) result ≡ number_in (slot_at self.now block) }
         ensures page { option_map (λ r. r.1.now) result ≡ page_in (slot_at self.now block) }
     {
-        match self.numbers.at(block) {
-            Some(id) => Some((id, &self.descriptors[block as usize].page)),
-            None => None,
-        }
+        let id = self.numbers.at(block)?;
+        Some((id, &self.descriptors[block as usize].page))
     }
 
     /// Returns the page of a block for changes, or `None` if the block is empty.

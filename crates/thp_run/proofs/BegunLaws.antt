@@ -8,7 +8,7 @@ use Rattle.thp_script.specs.Prelude.{max_input, after_setup, spelled_with, ReadS
 use Rattle.thp_cli.specs.declared.calls.DeviceCall.{DeviceCall}
 use Rattle.thp_run.specs.InParts.{HasBegun}
 use Rattle.thp_run.proofs.BegunRunLaws.{begun_all, begun_nodes, starts_new}
-use Rattle.thp_worker.specs.declared.in_parts.SectionInParts.{SectionInParts}
+use Rattle.thp_worker.specs.declared.reply.SectionOutcome.{SectionOutcome}
 use Rattle.thp_worker.specs.Prelude.{fronts_in, Passes}
 use Rattle.thp_worker.proofs.StepLaws.{goes_trans}
 use Rattle.thp_script.specs.declared.script.Script.{Script}
@@ -19,7 +19,7 @@ use Rattle.thp_cli.specs.declared.fault.RunFault.{RunFault}
 use Rattle.thp_run.specs.ScriptInProgress.{EndsBeforeRun, HasRead, IsScriptInProgress}
 
 -- a run that has just begun, and a script of which nothing has come
-pub is_script_in_progress : (s : Settings) (cells : List TableId) (old : List PassState) (q : Passes) (setup : SectionInParts) (script : ReadSoFar) → HasBegun s cells old (fronts_in q) [] (fronts_in q) setup → script.settings ≡ s → IsScriptInProgress script q setup
+pub is_script_in_progress : (s : Settings) (cells : List TableId) (old : List PassState) (q : Passes) (setup : SectionOutcome) (script : ReadSoFar) → HasBegun s cells old (fronts_in q) [] (fronts_in q) setup → script.settings ≡ s → IsScriptInProgress script q setup
 is_script_in_progress s cells old q setup script b is =
     let new = starts_new s cells old b.new (fronts_in q) b.starts s.workers refl in
     record {
@@ -30,7 +30,7 @@ is_script_in_progress s cells old q setup script b is =
     }
 
 -- a run is begun still once more has been read
-pub begun_read : (s : Settings) (cells : List TableId) (old : List PassState) (script script' : ReadSoFar) (q q' : Passes) (setup setup' : SectionInParts) (bytes : List ℕ)
+pub begun_read : (s : Settings) (cells : List TableId) (old : List PassState) (script script' : ReadSoFar) (q q' : Passes) (setup setup' : SectionOutcome) (bytes : List ℕ)
     → HasBegun s cells old (fronts_in q) [] (fronts_in q) setup → (r : HasRead script q setup bytes script' q' setup') → HasBegun s cells old (fronts_in q) r.commands (fronts_in q') setup'
 begun_read s cells old script script' q q' setup setup' bytes b r = record {
   new = b.new;
@@ -44,17 +44,17 @@ pub reads_none : (failed : Bool) (calls : List DeviceCall) → failed ≡ false 
 reads_none failed calls is = rw is (reading_ended max_input max_input false calls calls [] calls (reading_none max_input calls) (inl refl) (omega arith) (sym (append-nil calls)))
 
 -- all that was read, and what was read behind the commands that are done
-pub read_whole : (s : Settings) (script script' : ReadSoFar) (q q' : Passes) (setup setup' : SectionInParts) (bytes : List ℕ) (rest : Script) → (r : HasRead script q setup bytes script' q' setup') → spelled_with script bytes ≡ script_of s bytes
+pub read_whole : (s : Settings) (script script' : ReadSoFar) (q q' : Passes) (setup setup' : SectionOutcome) (bytes : List ℕ) (rest : Script) → (r : HasRead script q setup bytes script' q' setup') → spelled_with script bytes ≡ script_of s bytes
     → spelled_with script' [] ≡ Ok rest → script_of s bytes ≡ Ok (after_setup r.commands rest)
 read_whole s script script' q q' setup setup' bytes rest r begins is = grind (arith, append-nil)
 
 -- the first error of what was read after the commands that are done
-read_faulty : (s : Settings) (script script' : ReadSoFar) (q q' : Passes) (setup setup' : SectionInParts) (bytes : List ℕ) (fault : Fault) → (r : HasRead script q setup bytes script' q' setup') → spelled_with script bytes ≡ script_of s bytes
+read_faulty : (s : Settings) (script script' : ReadSoFar) (q q' : Passes) (setup setup' : SectionOutcome) (bytes : List ℕ) (fault : Fault) → (r : HasRead script q setup bytes script' q' setup') → spelled_with script bytes ≡ script_of s bytes
     → spelled_with script' [] ≡ Err fault → script_of s bytes ≡ Err fault
 read_faulty s script script' q q' setup setup' bytes fault r begins is = grind (arith, append-nil)
 
 -- a script with an error, or too little memory for it, ends before its run
-pub ends_at_fault : {A : Type 0} (s : Settings) (known : Option (List ℕ)) (failed : Bool) (script script' : ReadSoFar) (q q' : Passes) (setup setup' : SectionInParts) (bytes : List ℕ) → IfSome known (IsInputOf bytes) → (r : HasRead script q setup bytes script' q' setup')
+pub ends_at_fault : {A : Type 0} (s : Settings) (known : Option (List ℕ)) (failed : Bool) (script script' : ReadSoFar) (q q' : Passes) (setup setup' : SectionOutcome) (bytes : List ℕ) → IfSome known (IsInputOf bytes) → (r : HasRead script q setup bytes script' q' setup')
     → spelled_with script bytes ≡ script_of s bytes → failed ≡ false → (fault : ReadFault) → ReportsFault (spelled_with script' []) fault → (result : Result A RunFault) → result ≡ Err (run_fault fault) → IfErr result (EndsBeforeRun s known failed)
 ends_at_fault s known failed script script' q q' setup setup' bytes read r begins flag (reading.Text line kind) told result is =
     rw is (flag, record { bytes = bytes; read = read; told = read_faulty s script script' q q' setup setup' bytes (line, kind) r begins told })

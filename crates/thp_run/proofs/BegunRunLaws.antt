@@ -6,7 +6,7 @@ use Rattle.thp_script.specs.declared.script.Command.{Command}
 use Rattle.thp_script.specs.declared.script.Script.{Script}
 use Rattle.thp_script.specs.declared.settings.Settings.{Settings}
 use Rattle.thp_script.specs.Prelude.{after_setup, IsScriptFor, max_nodes}
-use Rattle.thp_worker.specs.declared.in_parts.SectionInParts.{SectionInParts}
+use Rattle.thp_worker.specs.declared.reply.SectionOutcome.{SectionOutcome}
 use Rattle.thp_worker.specs.declared.reply.SectionLog.{SectionLog}
 use Rattle.thp_worker.specs.declared.reply.SectionOutcome.{SectionOutcome}
 use Rattle.thp_worker.specs.Prelude.{Fronts, Goes, HoldsAllCallers, DidFirst, fronts_in, Agree, Passes, Works}
@@ -32,14 +32,14 @@ module _ (s : Settings) (cells : List TableId) (passes : List PassState) (new : 
 
 -- ---- a run that has begun
 
-module _ (s : Settings) (cells : List TableId) (old : List PassState) (first : Fronts) (before : List Command) (now : Fronts) (setup : SectionInParts) (b : HasBegun s cells old first before now setup) where
+module _ (s : Settings) (cells : List TableId) (old : List PassState) (first : Fronts) (before : List Command) (now : Fronts) (setup : SectionOutcome) (b : HasBegun s cells old first before now setup) where
   pub begun_all : HoldsAllCallers now
   begun_all = grind (arith, starts_new)
 
   pub begun_nodes : now.nodes ≡ s.nodes
   begun_nodes = b.goes.same.nodes ∙ starts_nodes s cells old b.new first b.starts
 
-  module _ (script : Script) (for-it : IsScriptFor s script) (few : AreFew script) (then end : Fronts) (done : SectionInParts) (worked : SectionOutcome) (goes : Goes 0 now then) (ends : Goes 0 then end) (did : DidFirst 0 first then (before ++ script.setup) done) (works : Works 0 first end (before ++ script.setup) worked) where
+  module _ (script : Script) (for-it : IsScriptFor s script) (few : AreFew script) (then end : Fronts) (done : SectionOutcome) (worked : SectionOutcome) (goes : Goes 0 now then) (ends : Goes 0 then end) (did : DidFirst 0 first then (before ++ script.setup) done) (works : Works 0 first end (before ++ script.setup) worked) where
     pub begun_set_up : IsSetUp first end (before ++ script.setup) script.workers worked
     begun_set_up =
         let fits = script_fits s script first.nodes for-it few (starts_nodes s cells old b.new first b.starts) s.within_limits.least_workers s.within_limits.most_workers in

@@ -4,7 +4,7 @@ use Rattle.atomic_table.specs.Seated.{TableId}
 use Rattle.thp_cell.specs.Prelude.{PassState}
 use Rattle.thp_script.specs.declared.script.Command.{Command}
 use Rattle.thp_script.specs.declared.settings.Settings.{Settings}
-use Rattle.thp_worker.specs.declared.in_parts.SectionInParts.{SectionInParts}
+use Rattle.thp_worker.specs.declared.reply.SectionOutcome.{SectionOutcome}
 use Rattle.thp_worker.specs.Prelude.{Fronts, Goes, Held, DidFirst, fronts_in}
 use Rattle.thp_run.specs.NewNodes.{shape_of}
 use Rattle.thp_run.specs.Sharing.{cell_of, IsFresh, IsUnused, Pairs}
@@ -23,7 +23,7 @@ pub record StartsOn (s : Settings) (passes : List PassState) (f : Fronts) : Type
   pub are : f ≡ fronts_in (record { callers = s.workers + 1; first = 0; end = s.workers + 1; held = held })
 
 -- On new nodes, with the passes `old`, caller 0 executed these commands, the first of `setup`, and no other caller did anything.
-pub record HasBegun (s : Settings) (cells : List TableId) (old : List PassState) (first : Fronts) (commands : List Command) (now : Fronts) (setup : SectionInParts) : Type 0 where
+pub record HasBegun (s : Settings) (cells : List TableId) (old : List PassState) (first : Fronts) (commands : List Command) (now : Fronts) (setup : SectionOutcome) : Type 0 where
   pub new : AreNew s cells old
   pub starts : StartsOn s old first
   pub goes : Goes 0 first now

@@ -9,7 +9,7 @@ use Rattle.thp_run.specs.Runs.{IsRun}
 use Rattle.thp_run.specs.Sections.{SectionAnswersAre}
 use Rattle.thp_run.specs.Sharing.{RunsOn}
 use Rattle.thp_worker.specs.declared.answer_log.Answers.TheVariants.{Kept}
-use Rattle.thp_worker.specs.declared.in_parts.SectionInParts.{SectionInParts}
+use Rattle.thp_worker.specs.declared.reply.SectionOutcome.{SectionOutcome}
 use Rattle.thp_worker.specs.declared.reply.SectionLog.{SectionLog}
 use Rattle.thp_worker.specs.Prelude.{Fronts, Goes, HoldsAllCallers, HoldsCaller, DidFirst, fronts_in, Passes}
 use Rattle.thp_script.specs.declared.script.Command.{Command}
@@ -19,14 +19,14 @@ use Rattle.thp_script.specs.declared.settings.Settings.{Settings}
 use Rattle.thp_script.specs.Prelude.{after_setup, read_after, spelled_with, ReadSoFar, script_of, Fault, IsInputOf}
 
 -- the script is for the nodes of the passes, which have all callers
-pub record IsScriptInProgress (script : ReadSoFar) (passes : Passes) (setup : SectionInParts) : Type 0 where
+pub record IsScriptInProgress (script : ReadSoFar) (passes : Passes) (setup : SectionOutcome) : Type 0 where
   pub nodes : length passes.held ≡ script.settings.nodes
   pub all : HoldsAllCallers (fronts_in passes)
   pub some : HoldsCaller (fronts_in passes) 0
   pub opened : length setup.opened.items ≡ length passes.held
 
 -- From these bytes some commands of `setup` were read, and caller 0 executed them.
-pub record HasRead (script : ReadSoFar) (passes : Passes) (setup : SectionInParts) (bytes : List ℕ) (script' : ReadSoFar) (passes' : Passes) (setup' : SectionInParts) : Type 0 where
+pub record HasRead (script : ReadSoFar) (passes : Passes) (setup : SectionOutcome) (bytes : List ℕ) (script' : ReadSoFar) (passes' : Passes) (setup' : SectionOutcome) : Type 0 where
   pub commands : List Command
   pub text : (more : List ℕ) → spelled_with script (bytes ++ more) ≡ read_after commands (spelled_with script' more)
   pub settings : script'.settings ≡ script.settings

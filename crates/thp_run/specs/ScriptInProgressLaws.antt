@@ -2,7 +2,7 @@
 use Rattle.std.proofs.Common.{◌≡◌, ◌∙◌, ℕ, List, [], ◌++◌, Ok, Err, ap, append_assoc, refl, subst, sym}
 use Rattle.std.specs.Prelude.{Result}
 use Rattle.std.proofs.lemmas.List.{append-nil}
-use Rattle.thp_worker.specs.declared.in_parts.SectionInParts.{SectionInParts}
+use Rattle.thp_worker.specs.declared.reply.SectionOutcome.{SectionOutcome}
 use Rattle.thp_worker.specs.Prelude.{DidFirst, fronts_in, Passes}
 use Rattle.thp_worker.proofs.StepLaws.{goes_refl, goes_trans}
 use Rattle.thp_script.specs.declared.script.Command.{Command}
@@ -19,7 +19,7 @@ after_more front more (Ok script) = ap (λ setup. Ok (record { setup = setup; wo
 after_more front more (Err fault) = refl
 
 -- nothing is read
-pub nothing_read : (script : ReadSoFar) (passes : Passes) (setup : SectionInParts) → HasRead script passes setup [] script passes setup
+pub nothing_read : (script : ReadSoFar) (passes : Passes) (setup : SectionOutcome) → HasRead script passes setup [] script passes setup
 nothing_read script passes setup = record {
   commands = [];
   text = λ more. after_none (spelled_with script more);
@@ -30,7 +30,7 @@ nothing_read script passes setup = record {
 }
 
 -- bytes are read one part after the other
-pub more_read : (script script' script'' : ReadSoFar) (passes passes' passes'' : Passes) (setup setup' setup'' : SectionInParts) (first more : List ℕ)
+pub more_read : (script script' script'' : ReadSoFar) (passes passes' passes'' : Passes) (setup setup' setup'' : SectionOutcome) (first more : List ℕ)
     → HasRead script passes setup first script' passes' setup' → HasRead script' passes' setup' more script'' passes'' setup'' → HasRead script passes setup (first ++ more) script'' passes'' setup''
 more_read script script' script'' passes passes' passes'' setup setup' setup'' first more old new = record {
   commands = old.commands ++ new.commands;

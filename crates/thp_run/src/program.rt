@@ -1,10 +1,12 @@
-//! The program: from the words of its command line to its exit status.
-ghost use Rattle.std.specs.Prelude.{◌≡◌, false};
+//! The program: from the words of its command line, which select the settings, to its exit status.
+ghost use Rattle.std.specs.Prelude.{◌≡◌, IfSome, IfNone, None, false, replicate};
+ghost use Rattle.thp_history.specs.Prelude.{max_order};
+ghost use Rattle.thp_script.specs.Prelude.{max_nodes};
 ghost use Rattle.thp_cli.specs.Prelude.{IsLineWithinLimits, device_of, given_words, source_of};
+ghost use Rattle.thp_run.specs.Choices.{Chooses, HasBadOrders, HasOrders};
 ghost use Rattle.thp_run.specs.Outcomes.{Does, Finishes, Served};
 
 use crate::checking::check_run;
-use crate::choice::settings_of;
 use crate::running::run;
 use std::alloc::Global;
 use std::io::{Read, Write};
@@ -13,7 +15,43 @@ use thp_cli::{
     Ending, Line, Program, ProgramFault, RunFault, Watched, WordsFault, answer, read_line,
     status_of_ending, tell, texts_of,
 };
+use thp_script::{Settings, read_orders, read_underused};
 use thp_worker::NoGate;
+
+/// Returns the settings with the orders of the option `--orders`, if it is given; `None` if they are not valid.
+fn with_orders(settings: Settings, option: Option<&str>) -> Option<Settings>
+    requires orders { settings.orders ≡ replicate max_nodes max_order }
+    requires underused { settings.underused ≡ replicate max_nodes None }
+    ensures chosen { IfSome result (λ chosen. HasOrders option.entry settings.nodes chosen.orders) }
+    ensures bad { IfNone result (HasBadOrders option.entry settings.nodes) }
+    ensures underused { IfSome result (λ chosen. chosen.underused ≡ replicate max_nodes None) }
+    ensures nodes { IfSome result (λ chosen. chosen.nodes ≡ settings.nodes) }
+    ensures blocks { IfSome result (λ chosen. chosen.blocks ≡ settings.blocks) }
+    ensures workers { IfSome result (λ chosen. chosen.workers ≡ settings.workers) }
+    ensures report { IfSome result (λ chosen. chosen.report ≡ settings.report) }
+{
+    let Some(text) = option else {
+        return Some(settings);
+    };
+    let orders = read_orders(text)?;
+    settings.with_orders(&orders)
+}
+
+/// Returns the settings that a command line selects. Orders are checked before thresholds.
+fn settings_of(line: &Line) -> Result<Settings, ProgramFault>
+    requires { IsLineWithinLimits line.now }
+    ensures { Chooses line.now result }
+{
+    let settings = Settings::new(line.nodes, line.blocks, line.workers, line.report).unwrap();
+    let settings = with_orders(settings, line.orders).ok_or(ProgramFault::Orders)?;
+    let Some(text) = line.underused else {
+        return Ok(settings);
+    };
+    let thresholds = read_underused(text).ok_or(ProgramFault::Underused)?;
+    settings
+        .with_underused(&thresholds)
+        .ok_or(ProgramFault::Underused)
+}
 
 /// Runs a script or checks a journal, as a command line requests.
 fn do_line<T: Threads + Sync, R: Read, W: Write>(

@@ -1,13 +1,13 @@
 //! The report of a run.
 ghost use Rattle.std.specs.Prelude.{◌≡◌, IfOk, map};
-ghost use Rattle.thp_journal_writer.specs.Prelude.{journal_text as journals_told};
+ghost use Rattle.thp_journal_writer.specs.Prelude.{journal_text as journals_told, totals_of, totals_text};
+ghost use Rattle.thp_run.specs.Laws.{TotalsTellNoBlock};
 ghost use Rattle.thp_run.specs.Prelude.{report_of, told_of, with_stored};
 
 use crate::answers::answers_text;
-use crate::totals::totals_text;
 use std::alloc::{AllocError, Global};
-use thp_journal_writer::{NodeHistory, journal_text};
-use thp_node::Node;
+use thp_journal_writer::{NodeHistory, Totals, journal_text, put_totals};
+use thp_node::{Node, Recorder};
 use thp_script::{Report, Settings};
 use thp_worker::SectionLog;
 
@@ -50,3 +50,41 @@ pub fn journals_text(alloc: Global, nodes: &[Node]) -> Result<Vec<u8>, AllocErro
     }
     journal_text(alloc, histories.as_slice())
 }
+
+/// Returns the totals of the nodes, in order. The nodes need not store their events.
+pub fn totals_text<R: Recorder>(alloc: Global, nodes: &[Node<R>]) -> Result<Vec<u8>, AllocError>
+    ensures { IfOk result (λ text. text.items ≡ totals_text (map told_of nodes.now)) }
+{
+    let mut text = Vec::new(alloc);
+    for (number, node) in nodes.iter().enumerate() {
+        put_totals(&mut text, number, &totals_of(node))?;
+    }
+    Ok(text)
+}
+
+/// Returns the totals of a node.
+fn totals_of<R: Recorder>(node: &Node<R>) -> Totals
+    ensures { result ≡ totals_of node.now.shape node.now.journal }
+{
+    let counters = node.counters();
+    Totals {
+        pages: node.allocations(),
+        queue: node.queue_len(),
+        frames_held: node.frames_held(),
+        frames_given: node.frames_given(),
+        thp_split_page: counters.split_page,
+        thp_split_page_failed: counters.split_page_failed,
+        thp_deferred_split_page: counters.deferred_split_page,
+        thp_split_pmd: counters.split_pmd,
+        thp_underused_split_page: if node.shape().shrinks_underused() {
+            Some(counters.underused_split_page)
+        } else {
+            None
+        },
+    }
+}
+
+/// States that nodes that are equal except for the blocks of their pages have the same totals.
+pub fn totals_tell_no_block()
+    ensures { TotalsTellNoBlock }
+{}

@@ -13,9 +13,7 @@ ghost use Rattle.thp_run.specs.Sections.{SectionAnswersAre};
 ghost use Rattle.thp_script.specs.declared.fault.ReadFault.TheVariants.{OutOfMemory};
 ghost use Rattle.thp_script.specs.declared.script.Command.{Command};
 
-use crate::in_parts::{begin_run, end_run, take_apart};
-use crate::nodes::new_cells;
-use crate::run_result::RunResult;
+use crate::script_run::{RunResult, begin_run, end_run, new_cells, take_apart};
 use std::alloc::Global;
 use std::io::Read;
 use std::thread::Threads;
@@ -23,14 +21,14 @@ use thp_cell::{NodeCell, Pass};
 use thp_cli::{RunFault, Watched, read_parts};
 use thp_node::Recorder;
 use thp_script::{MAX_INPUT, ReadFault, ReadsParts, Report, ScriptReader, Settings};
-use thp_worker::{Gate, NodePasses, SectionInParts, SectionLog, do_commands};
+use thp_worker::{Gate, NodePasses, SectionLog, SectionOutcome, do_commands};
 
 // A script that has been read in part. Its commands of `setup` so far have been executed.
 #[derive(Drop)]
 struct ScriptInProgress<'a, N: Recorder> {
     script: ScriptReader<'a>,
     passes: NodePasses<'a, N>,
-    setup: SectionInParts,
+    setup: SectionOutcome,
     ghost ready: { IsScriptInProgress script passes setup },
 }
 

@@ -14,6 +14,11 @@ use Rattle.thp_worker.proofs.PartLaws.{lower_open, upper_open}
 pub pushed : (f : Held → Held) (all rest after : List Held) (x y : Held) (done more : List Held) → map f all ≡ done ++ map f rest → rest ≡ x ∷ after → y ≡ f x → more ≡ done ++ y ∷ [] → map f all ≡ more ++ map f after
 pushed f all rest after x y done more before is same now = before ∙ ap (λ l. done ++ map f l) is ∙ sym (append_assoc done (f x ∷ []) (map f after)) ∙ ap (λ (z : Held). (done ++ z ∷ []) ++ map f after) (sym same) ∙ ap (λ l. l ++ map f after) (sym now)
 
+-- and all are done where none is left
+pub all_done : (f : Held → Held) (all rest done : List Held) → map f all ≡ done ++ map f rest → length rest ≡ 0 → done ≡ map f all
+all_done f all [] done is none = sym (is ∙ append-nil done)
+all_done f all (x ∷ xs) done is none = absurd (omega (arith, none))
+
 pub adjoins_first : (xs ys : List Held) (l r : Held) (ls rs : List Held) → xs ≡ l ∷ ls → ys ≡ r ∷ rs → EachAdjoins xs ys → Adjoins l r × EachAdjoins ls rs
 unfolding EachAdjoins
 adjoins_first xs ys l r ls rs left right a = let b = rw (left, right) at a in b

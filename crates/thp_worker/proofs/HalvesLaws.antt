@@ -1,5 +1,5 @@
 -- Workers that come together.
-use Rattle.std.proofs.Common.{◌≡◌, ◌∙◌, ◌++◌, ◌+◌, ◌<◌, ◌≤◌, ap, ℕ, Bool, List, [], ◌∷◌, length, sym, subst, inl, inr, arith, append_assoc, length-append, Option, Some, None, slice_get}
+use Rattle.std.proofs.Common.{◌≡◌, ◌∙◌, ◌++◌, ◌+◌, ◌<◌, ◌≤◌, ap, ℕ, Bool, List, [], ◌∷◌, get_or, length, sym, subst, inl, inr, arith, append_assoc, length-append, Option, Some, None, slice_get}
 use Rattle.thp_history.specs.Prelude.{History, events_of, IsLegal}
 use Rattle.thp_script.specs.declared.script.Command.{Command}
 use Rattle.thp_worker.specs.Prelude.{Answer, Rest, SectionOutcome, CommandProgress, Fronts, HoldsCaller, Goes, Grows, SameNodes, Made, Steps, Works, WorksTo, Begins, Ends, IsNext, batches_after, progress_of, steps_of, KnowsOf, IsSplit, CanJoin, IsJoined, AllWork, CanRun, RangeDone}
@@ -94,6 +94,11 @@ all_work_append (v ∷ vs) us [] xs c d old new e a b = absurd a
 all_work_append (v ∷ vs) us (w ∷ ws) xs c d old new e a b = (a.0, all_work_append vs us ws xs (c + 1) d old new (omega (arith, e)) a.1 b)
 
 -- one worker alone
+pub only_one : (vs : List (List Command)) (v : List Command) → length vs ≡ 1 → v ≡ get_or vs 0 v → vs ≡ v ∷ []
+only_one [] v one is = absurd (omega (arith, one))
+only_one (w ∷ []) v one is = ap (λ (x : List Command). x ∷ []) (sym is)
+only_one (w ∷ x ∷ ws) v one is = absurd (omega (arith, one))
+
 pub ran_one : (c : ℕ) (old new : Fronts) (v : List Command) (ws : List SectionOutcome) (w : SectionOutcome) → CanRun old c (v ∷ []) → Goes c old new → Works c old new v w → ws ≡ w ∷ [] → RangeDone c old new (v ∷ []) ws
 unfolding AllWork
 ran_one c old new v ws w can goes works is = grind arith

@@ -10,7 +10,7 @@ use Rattle.thp_worker.specs.declared.answer_log.Answers.{Answers}
 use Rattle.thp_worker.specs.declared.reply.Answer.{Answer}
 use Rattle.thp_worker.specs.declared.reply.Rest.{Rest}
 use Rattle.thp_worker.specs.declared.reply.SectionOutcome.{SectionOutcome}
-use Rattle.thp_worker.specs.declared.scanning.CommandProgress.{CommandProgress}
+use Rattle.thp_worker.specs.declared.command.CommandProgress.{CommandProgress}
 use Rattle.thp_worker.specs.Does.{Open, Reaction, Does, IsFit}
 use Rattle.thp_worker.specs.Fronts.{Fronts, Grows}
 use Rattle.thp_worker.specs.OpenBatches.{is_open, OpenOn}

@@ -15,7 +15,7 @@ use Rattle.thp_worker.specs.declared.steps.Step.{Step}
 use Rattle.thp_worker.specs.declared.steps.Step.TheVariants.{One, Take, SplitNext, PutBack}
 use Rattle.thp_worker.specs.declared.reply.Reply.{Reply}
 use Rattle.thp_worker.specs.declared.reply.Reply.TheVariants as reply
-use Rattle.thp_worker.specs.declared.scanning.CommandProgress.{CommandProgress}
+use Rattle.thp_worker.specs.declared.command.CommandProgress.{CommandProgress}
 use Rattle.thp_worker.specs.Does.{Open, Reaction}
 use Rattle.thp_worker.specs.Fronts.{Fronts, HoldsAllCallers}
 

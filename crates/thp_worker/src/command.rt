@@ -1,12 +1,103 @@
-//! The steps of one command.
-ghost use Rattle.std.specs.Prelude.{◌≡◌, true, false};
-ghost use Rattle.thp_worker.specs.Prelude.{Comes, Fronts, Goes, HoldsCaller, IsCommandFor, IsReady, IsShared, Proceeds, WholeComes, answer_of, is_scan, no_progress};
+//! The steps of one command, and its progress.
+ghost use Rattle.std.specs.Prelude.{◌≡◌, ◌+◌, ◌≤◌, Ok, MatchOption, true, false};
+ghost use Rattle.thp_history.specs.Prelude.{max_batch};
+ghost use Rattle.thp_script.specs.declared.script.Op.TheVariants.{Scan};
+ghost use Rattle.thp_worker.specs.Prelude.{Comes, Ended, Fronts, Goes, HoldsCaller, IsCommandFor, IsReady, IsShared, On, Proceeds, WholeComes, answer_of, is_scan, next_step, no_progress, scan_goes_on, tries_of};
 
 use crate::reply::Reply;
-use crate::scanning::{CommandProgress, count_reply, is_scan, next_step, no_progress, scan_step};
-use crate::steps::{Steps, try_step};
+use crate::steps::{Step, Steps, try_step};
 use thp_cell::CellFault;
+use thp_node::{BackReply, ScanReply, Tried};
 use thp_script::{Command, Op};
+
+/// The number of a command's steps that have been made, and the counts of a scan so far.
+#[derive(Clone, Copy, Debug)]
+pub struct CommandProgress {
+    /// The number of steps that have been made.
+    pub steps: u32,
+    /// The counts of a scan so far.
+    pub so_far: ScanReply,
+}
+
+/// Returns the progress of a command without steps.
+pub(crate) fn no_progress() -> CommandProgress
+    ensures { result ≡ no_progress }
+{
+    CommandProgress {
+        steps: 0,
+        so_far: ScanReply {
+            taken: 0,
+            split: 0,
+            pinned: 0,
+            back: 0,
+            dropped: 0,
+            used: 0,
+        },
+    }
+}
+
+/// Returns the next step of a command.
+#[inline(always)]
+pub(crate) fn next_step(op: Op, begun: CommandProgress) -> Step
+    requires { tries_of begun.so_far ≤ max_batch }
+    ensures { result ≡ next_step op begun }
+{
+    match op {
+        Op::Scan { count } => scan_step(count, begun),
+        Op::Take { count } => Step::Take(u32::from(count)),
+        Op::SplitNext => Step::SplitNext,
+        Op::PutBack => Step::PutBack,
+        _ => Step::One(op),
+    }
+}
+
+/// Returns the next step of a scan of up to `count` pages.
+#[inline(always)]
+pub(crate) fn scan_step(count: u16, begun: CommandProgress) -> Step
+    requires { tries_of begun.so_far ≤ max_batch }
+    ensures { result ≡ next_step (Scan count) begun }
+{
+    let tries = begun.so_far.split + begun.so_far.pinned + begun.so_far.used;
+    if begun.steps == 0 {
+        Step::Take(u32::from(count))
+    } else if begun.steps == 1 + tries {
+        Step::SplitNext
+    } else {
+        Step::PutBack
+    }
+}
+
+/// Returns whether a command has several steps.
+pub(crate) fn is_scan(op: Op) -> bool
+    ensures { result ≡ is_scan op }
+{
+    matches!(op, Op::Scan { .. })
+}
+
+/// Counts the reply to a step of a scan. Returns the scan's reply after its last step.
+pub(crate) fn count_reply(begun: &mut CommandProgress, reply: &Reply) -> Option<Reply>
+    requires few { tries_of begun.old.so_far ≤ max_batch }
+    requires short { begun.old.steps ≤ max_batch + 2 }
+    ensures { MatchOption result (scan_goes_on begun.old (Ok reply.now) ≡ On begun.new) (λ answer. scan_goes_on begun.old (Ok reply.now) ≡ Ended (Ok answer)) }
+{
+    match *reply {
+        Reply::Taken(taken) => begun.so_far.taken = taken,
+        Reply::Tried(Tried::Split(_)) => begun.so_far.split += 1,
+        Reply::Tried(Tried::Pinned(_)) => begun.so_far.pinned += 1,
+        Reply::Tried(Tried::Used(_)) => begun.so_far.used += 1,
+        Reply::Tried(Tried::Done) => {}
+        Reply::Back(BackReply { back, dropped }) => {
+            return Some(Reply::Scan(ScanReply {
+                back,
+                dropped,
+                ..begun.so_far
+            }));
+        }
+        other => return Some(other),
+    }
+    begun.steps += 1;
+    None
+}
 
 /// Makes the remaining steps of a command, up to its answer, which is then in `reply`, or up to a step that stays busy, which
 /// `begun` then precedes.

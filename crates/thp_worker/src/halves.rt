@@ -1,5 +1,5 @@
 //! Runs workers concurrently, by dividing them into halves.
-ghost use Rattle.std.specs.Prelude.{◌≡◌, ◌<◌, All, IfOk, IsOkAnd, List, [], ◌∷◌, ◌++◌};
+ghost use Rattle.std.specs.Prelude.{◌≡◌, ◌<◌, All, IfOk, IsOkAnd, List, ◌++◌};
 ghost use Rattle.std.specs.Thread.{IsSync};
 ghost use Rattle.thp_worker.specs.Prelude.{AnswersAre, CanJoin, CanRun, Fronts, HoldsAllCallers, IsJoined, IsSplit, RangeDone};
 ghost use Rattle.thp_worker.specs.declared.reply.SectionOutcome.{SectionOutcome};
@@ -50,7 +50,11 @@ pub fn run_range<R: Threads + Sync, P: Passes + Send + Drop, G: Gate + Sync>(
     ensures answers { IfOk result (λ r. All (AnswersAre answers) r.1.items) }
 {
     if workers.len() == 1 {
-        return run_one(alloc, passes, first, &workers[0], answers, gate);
+        let mut passes = passes;
+        let commands = workers[0].as_slice();
+        let mut all = Vec::new(alloc);
+        all.push(work(alloc, commands, first, answers, &mut passes, gate)?)?;
+        return Ok((passes, all));
     }
     let middle = workers.len() / 2;
     let (low, high) = workers.split_at(middle);
@@ -69,38 +73,9 @@ pub fn run_range<R: Threads + Sync, P: Passes + Send + Drop, G: Gate + Sync>(
             ensures answers { IfOk result (λ r. All (AnswersAre answers) r.1.items) }
         { run_range(rt, alloc, right, at, high, answers, gate) },
     );
-    let (left, done) = left?;
-    let (right, more) = right?;
+    let (left, mut all) = left?;
+    let (right, mut more) = right?;
     let both = left.join(alloc, right)?;
-    let mut all = done;
-    let mut more = more;
     all.append(&mut more)?;
     Ok((both, all))
-}
-
-/// Executes the section of one worker.
-fn run_one<P: Passes + Drop, G: Gate>(
-    alloc: Global,
-    passes: P,
-    worker: u32,
-    commands: &Sequence<Command>,
-    answers: Answers,
-    gate: &G,
-) -> Result<(P, Vec<SectionOutcome>), AllocError>
-    requires { CanRun (P.fronts passes) worker (commands.now ∷ []) }
-    ensures ran { IfOk result (λ r. RangeDone worker (P.fronts passes) (P.fronts r.0) (commands.now ∷ []) r.1.items) }
-    ensures answers { IfOk result (λ r. All (AnswersAre answers) r.1.items) }
-{
-    let mut passes = passes;
-    let worked = work(
-        alloc,
-        commands.as_slice(),
-        worker,
-        answers,
-        &mut passes,
-        gate,
-    )?;
-    let mut all = Vec::new(alloc);
-    all.push(worked)?;
-    Ok((passes, all))
 }

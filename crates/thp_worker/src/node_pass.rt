@@ -1,13 +1,13 @@
 //! A pass of one node, with the open batches of its callers there.
-ghost use Rattle.std.specs.Prelude.{◌≡◌, ◌<◌, ◌≤◌, ℕ, length, slice_get, slice_set, IfOk, MatchBool, MatchOption, None, Ok, Some};
+ghost use Rattle.std.specs.Prelude.{◌≡◌, ◌<◌, ◌≤◌, ℕ, length, slice_set, IfOk, MatchBool, None, Ok, Some};
 ghost use Rattle.thp_history.specs.Prelude.{IsLegal};
 ghost use Rattle.thp_node.specs.Prelude.{no_batch};
 ghost use Rattle.thp_cell.specs.Prelude.{IsJoined, PartsStay, HasAll, HasCaller};
 ghost use Rattle.thp_script.specs.declared.script.Op.{Op};
-ghost use Rattle.thp_worker.specs.Prelude.{HeldDone, IsShut, IsStep, OpenStay, answer_of, batch_of, keeping_node, lower_part, node_call_of, page_reply, unit_reply, upper_part};
+ghost use Rattle.thp_worker.specs.Prelude.{HeldDone, IsShut, IsStep, OfPage, OpenStay, answer_of, batch_of, keeping_node, lower_part, node_call_of, page_reply, unit_reply, upper_part};
 
 use crate::reply::Reply;
-use crate::steps::{NodeCall, Step, node_call};
+use crate::steps::Step;
 use std::alloc::{AllocError, Global};
 use std::marker::Model;
 use thp_cell::{CellFault, NodeCell, Pass};
@@ -144,15 +144,17 @@ impl<'a, R: Recorder> NodePass<'a, R> {
         requires caller { HasCaller self.old.pass caller }
         ensures { HeldDone caller (Step.One op) self.old self.new (answer_of result reply.new) }
     {
-        match node_call(op) {
-            NodeCall::Alloc => page(self.cell.alloc_page(&mut self.pass, caller), reply),
-            NodeCall::Page(page, PageCall::Gain(gain)) => {
-                let page = PageId(page);
-                unit(self.cell.gain(&mut self.pass, caller, page, gain), reply)
-            }
-            NodeCall::Page(page, PageCall::Loss(kind)) => self.lose(caller, page, kind, reply),
-            NodeCall::Close => unit(self.cell.close(&mut self.pass, caller), reply),
-            NodeCall::Count => count(self.cell.count(&mut self.pass), reply),
+        match op {
+            Op::Alloc => page(self.cell.alloc_page(&mut self.pass, caller), reply),
+            Op::Close => unit(self.cell.close(&mut self.pass, caller), reply),
+            _ => match op.page_call() {
+                Some((page, PageCall::Gain(gain))) => {
+                    let page = PageId(page);
+                    unit(self.cell.gain(&mut self.pass, caller, page, gain), reply)
+                }
+                Some((page, PageCall::Loss(kind))) => self.lose(caller, page, kind, reply),
+                None => count(self.cell.count(&mut self.pass), reply),
+            },
         }
     }
 
@@ -165,7 +167,7 @@ impl<'a, R: Recorder> NodePass<'a, R> {
         reply: &mut Reply,
     ) -> Result<(), CellFault>
         requires caller { HasCaller self.old.pass caller }
-        ensures { (op : Op) → node_call_of op ≡ NodeCall.Page page (PageCall.Loss kind) → HeldDone caller (Step.One op) self.old self.new (answer_of result reply.new) }
+        ensures { (op : Op) → node_call_of op ≡ OfPage page (PageCall.Loss kind) → HeldDone caller (Step.One op) self.old self.new (answer_of result reply.new) }
     {
         // Field by field: a copy of the whole would include the padding, by loads that wait for its stores.
         let done = self.cell.lose(&mut self.pass, caller, PageId(page), kind)?;
@@ -214,13 +216,8 @@ impl<'a, R: Recorder> NodePass<'a, R> {
             *reply = Reply::NoBatch;
             return Ok(());
         };
-        match self.cell.split_next(&mut self.pass, batch) {
-            Ok(tried) => {
-                *reply = Reply::Tried(tried);
-                Ok(())
-            }
-            Err(fault) => Err(fault),
-        }
+        *reply = Reply::Tried(self.cell.split_next(&mut self.pass, batch)?);
+        Ok(())
     }
 
     #[inline(never)]
@@ -230,18 +227,13 @@ impl<'a, R: Recorder> NodePass<'a, R> {
     {
         let (first, _) = self.pass.callers();
         let place = (caller - first) as usize;
-        let Some(batch) = batch_at(&self.batches, place) else {
+        let Some(batch) = &self.batches[place] else {
             *reply = Reply::NoBatch;
             return Ok(());
         };
-        match self.cell.put_back_all(&mut self.pass, batch) {
-            Ok(back) => {
-                self.batches[place] = None;
-                *reply = Reply::Back(back);
-                Ok(())
-            }
-            Err(fault) => Err(fault),
-        }
+        *reply = Reply::Back(self.cell.put_back_all(&mut self.pass, batch)?);
+        self.batches[place] = None;
+        Ok(())
     }
 }
 
@@ -255,17 +247,6 @@ fn apart(called: Result<(), CellFault>) -> Result<(), CellFault>
         Ok(()) => Ok(()),
         Err(CellFault::Busy) => Err(CellFault::Busy),
         Err(CellFault::Refused(refusal)) => Err(CellFault::Refused(refusal)),
-    }
-}
-
-/// Returns the open batch at this index.
-fn batch_at(batches: &Vec<Option<Batch>>, place: usize) -> Option<&Batch>
-    requires { place < length batches.now.items }
-    ensures { MatchOption result (slice_get batches.now.items place ≡ Some None) (λ b. slice_get batches.now.items place ≡ Some (Some b.now)) }
-{
-    match &batches[place] {
-        Some(batch) => Some(batch),
-        None => None,
     }
 }
 

@@ -1,6 +1,6 @@
 //! Passes of all nodes, with the open batches of their callers.
 ghost use Rattle.std.specs.Prelude.{◌≡◌, ◌<◌, All, IfOk, map};
-ghost use Rattle.thp_worker.specs.Prelude.{Agree, EachAdjoins, EachJoint, HoldsAllCallers, IsCut, IsOfAll, fronts_in, high_part, keeping_node, low_part};
+ghost use Rattle.thp_worker.specs.Prelude.{Agree, HoldsAllCallers, IsOfAll, fronts_in, keeping_node};
 
 use crate::halves::Passes;
 use crate::node_pass::NodePass;
@@ -41,10 +41,8 @@ impl<'a, R: Recorder> Steps for NodePasses<'a, R> {
 
     fn step(&mut self, caller: u32, node: u32, step: Step) -> Result<Reply, CellFault> {
         let mut reply = Reply::Unit;
-        match self.step_into(caller, node, step, &mut reply) {
-            Ok(()) => Ok(reply),
-            Err(fault) => Err(fault),
-        }
+        self.step_into(caller, node, step, &mut reply)?;
+        Ok(reply)
     }
 
     fn step_into(
@@ -83,13 +81,14 @@ impl<'a, R: Recorder> NodePasses<'a, R> {
 
 impl<'a, R: Recorder> Passes for NodePasses<'a, R> {
     fn split(self, alloc: Global, at: u32) -> Result<(Self, Self), AllocError> {
-        let NodePasses {
-            callers,
-            first,
-            end,
-            nodes,
-        } = self;
-        let (low, high) = split_each(alloc, nodes, at)?;
+        let (callers, first, end) = (self.callers, self.first, self.end);
+        let mut low = Vec::new(alloc);
+        let mut high = Vec::new(alloc);
+        for node in self.nodes {
+            let (left, right) = node.split(at)?;
+            low.push(left)?;
+            high.push(right)?;
+        }
         Ok((
             NodePasses::new(low, callers, first, at),
             NodePasses::new(high, callers, at, end),
@@ -97,15 +96,15 @@ impl<'a, R: Recorder> Passes for NodePasses<'a, R> {
     }
 
     fn join(self, alloc: Global, other: Self) -> Result<Self, AllocError> {
-        let NodePasses {
-            callers,
-            first,
-            nodes,
-            ..
-        } = self;
-        let end = other.end;
-        let nodes = join_each(alloc, nodes, other.nodes)?;
-        Ok(NodePasses::new(nodes, callers, first, end))
+        let mut nodes = Vec::new(alloc);
+        let mut more = other.nodes.into_iter();
+        for low in self.nodes {
+            // there are equally many of both
+            if let Some(high) = more.next() {
+                nodes.push(low.join(high)?)?;
+            }
+        }
+        Ok(NodePasses::new(nodes, self.callers, self.first, other.end))
     }
 
     fn keep_nodes(&mut self)
@@ -125,45 +124,4 @@ fn keep_each<'a, R: Recorder>(nodes: &mut Vec<NodePass<'a, R>>)
     for index in 0..nodes.len() {
         nodes[index].keep_node();
     }
-}
-
-/// Divides the callers of each pass into those below `at` and those from `at` on.
-fn split_each<'a, R: Recorder>(
-    alloc: Global,
-    nodes: Vec<NodePass<'a, R>>,
-    at: u32,
-) -> Result<(Vec<NodePass<'a, R>>, Vec<NodePass<'a, R>>), AllocError>
-    requires { All (IsCut at) nodes.items }
-    ensures low { IfOk result (λ r. r.0.items ≡ map (low_part at) nodes.entry.items) }
-    ensures high { IfOk result (λ r. r.1.items ≡ map (high_part at) nodes.entry.items) }
-{
-    let mut low = Vec::new(alloc);
-    let mut high = Vec::new(alloc);
-    for node in nodes {
-        let (left, right) = node.split(at)?;
-        low.push(left)?;
-        high.push(right)?;
-    }
-    Ok((low, high))
-}
-
-/// Joins each pass with the one at the same index.
-fn join_each<'a, R: Recorder>(
-    alloc: Global,
-    nodes: Vec<NodePass<'a, R>>,
-    more: Vec<NodePass<'a, R>>,
-) -> Result<Vec<NodePass<'a, R>>, AllocError>
-    requires { EachAdjoins nodes.items more.items }
-    ensures { IfOk result (λ r. EachJoint nodes.entry.items more.entry.items r.items) }
-{
-    let mut all = Vec::new(alloc);
-    let mut more = more.into_iter();
-    for low in nodes {
-        match more.next() {
-            Some(high) => all.push(low.join(high)?)?,
-            // there are equally many of both
-            None => {}
-        }
-    }
-    Ok(all)
 }

@@ -1,16 +1,15 @@
-//! The commands of a section, one after another, and the put backs at its end.
-ghost use Rattle.std.specs.Prelude.{◌≡◌, ◌^◌, ◌≤◌, ◌<◌, All, IfOk, List, length};
+//! The commands of a section, one after another, all at once or as they arrive in parts, and the put backs at its end.
+ghost use Rattle.std.specs.Prelude.{◌≡◌, ◌^◌, ◌≤◌, ◌<◌, ◌++◌, [], All, IfOk, List, length};
 ghost use Rattle.thp_script.specs.declared.script.Command.{Command};
-ghost use Rattle.thp_worker.specs.Prelude.{AnswersAre, Begins, Comes, Ends, Fronts, Goes, HasNoBatch, HoldsAllCallers, HoldsCaller, IsCommandFor, IsDoneFor, IsShared, PutsBack, Works, answer_of, no_progress};
+ghost use Rattle.thp_worker.specs.Prelude.{AnswersAre, Begins, Comes, DidFirst, Ends, Fronts, Goes, HasNoBatch, HoldsAllCallers, HoldsCaller, IsCommandFor, IsDoneFor, IsShared, PutsBack, Works, answer_of, marked, no_progress};
 
 use crate::answer_log::{AnswerLog, Answers};
-use crate::command::do_command;
+use crate::command::{CommandProgress, do_command, do_whole_command, no_progress};
 use crate::gate::{Gate, NoGate};
-use crate::open_batches::mark;
 use crate::reply::{Reply, Rest, SectionOutcome};
-use crate::scanning::{CommandProgress, no_progress};
 use crate::steps::{Steps, told};
 use std::alloc::{AllocError, Global};
+use thp_history::Refusal;
 use thp_script::{Command, Op};
 
 /// Executes the commands of a section, in order, as steps of one caller, and puts back the batches left open.
@@ -74,9 +73,9 @@ pub fn work_rest<S: Steps>(
 fn go_on<S: Steps, G: Gate>(
     commands: &[Command],
     worker: u32,
-    answers: AnswerLog,
-    opened: Vec<bool>,
-    begun: CommandProgress,
+    mut answers: AnswerLog,
+    mut opened: Vec<bool>,
+    mut begun: CommandProgress,
     steps: &mut S,
     gate: &G,
 ) -> Result<SectionOutcome, AllocError>
@@ -90,9 +89,6 @@ fn go_on<S: Steps, G: Gate>(
     ensures answers { IfOk result (AnswersAre answers.are) }
     ensures done { HoldsAllCallers (S.fronts steps.old) → IfOk result IsDoneFor }
 {
-    let mut answers = answers;
-    let mut opened = opened;
-    let mut begun = begun;
     let mut reply = Reply::Unit;
     for index in answers.len()..commands.len() {
         let number = index as u32;
@@ -127,8 +123,8 @@ pub(crate) fn close<S: Steps>(
     count: u32,
     worker: u32,
     answers: AnswerLog,
-    opened: Vec<bool>,
-    closed: u32,
+    mut opened: Vec<bool>,
+    mut closed: u32,
     steps: &mut S,
 ) -> Result<SectionOutcome, AllocError>
     requires caller { HoldsCaller (S.fronts steps.old) worker }
@@ -139,8 +135,6 @@ pub(crate) fn close<S: Steps>(
     ensures answers { IfOk result (AnswersAre answers.are) }
     ensures done { HoldsAllCallers (S.fronts steps.old) → IfOk result IsDoneFor }
 {
-    let mut opened = opened;
-    let mut closed = closed;
     let mut reply = Reply::Unit;
     let nodes = steps.nodes();
     for node in 0..nodes {
@@ -172,4 +166,91 @@ pub(crate) fn close<S: Steps>(
         rest: None,
         opened,
     })
+}
+
+/// Records whether a command with this result leaves a batch open on its node.
+#[inline(always)]
+pub(crate) fn mark(opened: &mut Vec<bool>, command: Command, called: Result<(), Refusal>)
+    requires { command.node < length opened.old.items }
+    ensures { opened.new.items ≡ marked opened.old.items command called }
+{
+    match command.op {
+        Op::Take { .. } if called.is_ok() => opened[command.node as usize] = true,
+        Op::PutBack => opened[command.node as usize] = false,
+        _ => {}
+    }
+}
+
+/// Begins a section, before its first command.
+pub fn begin_section<S: Steps>(
+    alloc: Global,
+    worker: u32,
+    answers: Answers,
+    steps: &S,
+) -> Result<SectionOutcome, AllocError>
+    requires { HasNoBatch worker (S.fronts steps.now) }
+    ensures did { IfOk result (DidFirst worker (S.fronts steps.now) (S.fronts steps.now) []) }
+    ensures opened { IfOk result (λ section. length section.opened.items ≡ (S.fronts steps.now).nodes) }
+    ensures answers { IfOk result (λ section. section.answers.are ≡ answers) }
+{
+    Ok(SectionOutcome {
+        answers: AnswerLog::new(alloc, 0, answers)?,
+        rest: None,
+        opened: vec![in alloc; false; steps.nodes() as usize]?,
+    })
+}
+
+/// Executes the next commands of a section, in order, as steps of one caller, with the passes of all callers, which are never
+/// busy.
+///
+/// Fails if memory can't be allocated, or if the section would have 2^32 commands or more.
+pub fn do_commands<S: Steps>(
+    commands: &[Command],
+    worker: u32,
+    mut section: SectionOutcome,
+    steps: &mut S,
+) -> Result<SectionOutcome, AllocError>
+    requires caller { HoldsCaller (S.fronts steps.old) worker }
+    requires all { HoldsAllCallers (S.fronts steps.old) }
+    requires commands { All (IsCommandFor (S.fronts steps.old).nodes) commands.now }
+    requires opened { length section.opened.items ≡ (S.fronts steps.old).nodes }
+    ensures goes { Goes worker (S.fronts steps.old) (S.fronts steps.new) }
+    ensures did { (old : Fronts) (before : List Command) → DidFirst worker old (S.fronts steps.old) before section → IfOk result (DidFirst worker old (S.fronts steps.new) (before ++ commands.now)) }
+    ensures opened { IfOk result (λ done. length done.opened.items ≡ (S.fronts steps.new).nodes) }
+    ensures answers { IfOk result (λ done. done.answers.are ≡ section.answers.are) }
+{
+    let mut reply = Reply::Unit;
+    let first = section.answers.len();
+    if commands.len() > u32::MAX as usize || first > u32::MAX as usize - commands.len() {
+        return Err(AllocError);
+    }
+    section.answers.reserve(commands.len())?;
+    for index in 0..commands.len() {
+        let command = &commands[index];
+        let called = do_whole_command(command, worker, steps, &mut reply);
+        let Some(said) = told(called)? else {
+            unreachable!();
+        };
+        mark(&mut section.opened, *command, said);
+        let number = (first + index) as u32;
+        section.answers.push(number, command.node, said, &reply);
+    }
+    Ok(section)
+}
+
+/// Ends a section whose commands have all been executed: puts back the batches left open.
+pub fn end_section<S: Steps>(
+    worker: u32,
+    section: SectionOutcome,
+    steps: &mut S,
+) -> Result<SectionOutcome, AllocError>
+    requires caller { HoldsCaller (S.fronts steps.old) worker }
+    requires section { (old : Fronts) × (commands : List Command) × DidFirst worker old (S.fronts steps.old) commands section }
+    ensures goes { Goes worker (S.fronts steps.old) (S.fronts steps.new) }
+    ensures works { (old : Fronts) (commands : List Command) → DidFirst worker old (S.fronts steps.old) commands section → IfOk result (Works worker old (S.fronts steps.new) commands) }
+    ensures answers { IfOk result (AnswersAre section.answers.are) }
+    ensures done { HoldsAllCallers (S.fronts steps.old) → IfOk result IsDoneFor }
+{
+    let count = section.answers.len() as u32;
+    close(count, worker, section.answers, section.opened, 0, steps)
 }

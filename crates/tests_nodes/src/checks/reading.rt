@@ -148,14 +148,16 @@ fn has_frames(replay: &Replay, held: u128, given: u128) -> bool {
 
 // The pages split, and those of them that were underused.
 fn has_splits(replay: &Replay, splits: u64, underused: u64) -> bool {
-    replay.thp_split_page() == splits && replay.thp_underused_split_page() == underused
+    let counters = replay.counters();
+    counters.split_page == splits && counters.underused_split_page == underused
 }
 
 // The pages found pinned, the pages queued by an unmap or an unpin, and the PMD mappings split.
 fn has_others(replay: &Replay, failed: u64, deferred: u64, pmds: u128) -> bool {
-    replay.thp_split_page_failed() == failed
-        && replay.thp_deferred_split_page() == deferred
-        && replay.thp_split_pmd() == pmds
+    let counters = replay.counters();
+    counters.split_page_failed == failed
+        && counters.deferred_split_page == deferred
+        && counters.split_pmd == pmds
 }
 
 // The page was split, is worth that, and is partly mapped; its last three subpages are used and zero-filled; it holds no frame.

@@ -1,6 +1,6 @@
 //! Columns of invented numbers.
 use std::process::Abort;
-use thp_metrics::{Column, Columns, MAX_COLUMNS, Numbers, Pages, SHOWN_PAGES, Span};
+use thp_metrics::{Column, Columns, MAX_COLUMNS, Numbers, SHOWN_PAGES, Span, Stage};
 
 // A prefix with this number in each field, and all pages allocated.
 fn all(number: u64) -> Numbers {
@@ -14,13 +14,7 @@ fn all(number: u64) -> Numbers {
         pinned_tries: number,
         wait: number,
         callers: number,
-        pages: Pages {
-            allocated: number,
-            partly_mapped: 0,
-            queued: 0,
-            in_batch: 0,
-            split: 0,
-        },
+        pages: [number, 0, 0, 0, 0],
         stages: [None; SHOWN_PAGES],
     }
 }
@@ -48,7 +42,7 @@ fn columns_fold_in_pairs(rt: HostRuntime) {
         greatest: 15,
     };
     assert!(rt; second.queue == queue);
-    assert!(rt; second.pages.allocated == 92);
+    assert!(rt; second.pages[Stage::Allocated as usize] == 92);
     let given = Span {
         least: 2400,
         greatest: 2400,

@@ -5,7 +5,7 @@ use crate::drawing::columns::at;
 use std::alloc::Global;
 use std::process::Abort;
 use thp_history::{Event, Outcome, PageId, Shape, SubSet, What};
-use thp_metrics::{NodeSeries, Pages, Span, StuckPage};
+use thp_metrics::{NodeSeries, Span, Stage, StuckPage};
 
 /// 16 blocks of 512 subpages each.
 pub(crate) const LARGE: Shape = Shape {
@@ -72,14 +72,7 @@ fn once(number: u128) -> Span {
 fn node_series_follows_a_split(rt: HostRuntime) {
     let node = followed(&rt, rt.alloc(), &first_run());
     let numbers = node.numbers();
-    let split = Pages {
-        allocated: 0,
-        partly_mapped: 0,
-        queued: 0,
-        in_batch: 0,
-        split: 1,
-    };
-    assert!(rt; numbers.pages == split);
+    assert!(rt; numbers.pages == [0, 0, 0, 0, 1]);
     assert!(rt; (numbers.held, numbers.given) == (256, 256));
     let told = node.into_columns().into_columns();
     assert!(rt; at(&rt, &told, 3).queue == once(1));
@@ -89,7 +82,7 @@ fn node_series_follows_a_split(rt: HostRuntime) {
     assert!(rt; at(&rt, &told, 5).wait == once(0));
     assert!(rt; at(&rt, &told, 3).callers == 0);
     assert!(rt; at(&rt, &told, 4).callers == 1);
-    assert!(rt; at(&rt, &told, 4).pages.in_batch == 1);
+    assert!(rt; at(&rt, &told, 4).pages[Stage::InBatch as usize] == 1);
     assert!(rt; at(&rt, &told, 5).held == once(256));
 }
 

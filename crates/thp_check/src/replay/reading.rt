@@ -1,7 +1,7 @@
 //! The state of a replay for display: its queue, its flights and its pages, and the sums of its events.
 ghost use Rattle.std.specs.Prelude.{◌≡◌, ℕ, length, map, slice_get, is_some, IfOk, IfSome, IsSome, Some, ◌&&◌, nat_lt};
 ghost use Rattle.std.specs.List.{filter, range_with_len};
-ghost use Rattle.thp_history.specs.Prelude.{thp_split_page, thp_split_page_failed, thp_deferred_split_page, thp_split_pmd, thp_underused_split_page, is_live, is_split, is_used, own, pins, whole, block_in_use, frames_given, frames_held, is_held, flight, queue, set_of, subpages, is_partly_mapped, is_worth_split, is_zero_filled};
+ghost use Rattle.thp_history.specs.Prelude.{counters_of, is_live, is_split, is_used, own, pins, whole, block_in_use, frames_given, frames_held, is_held, flight, queue, set_of, subpages, is_partly_mapped, is_worth_split, is_zero_filled};
 ghost use Rattle.thp_page.specs.Prelude.{slot_at};
 ghost use Rattle.thp_live_pages.specs.Prelude.{block_of, standing_of};
 ghost use Rattle.thp_check.specs.Showing.{is_taken, page_at};
@@ -9,7 +9,7 @@ ghost use Rattle.thp_check.specs.Showing.{is_taken, page_at};
 use crate::live_page::{LivePage, PageLocation};
 use crate::replay::Replay;
 use std::alloc::{AllocError, Global};
-use thp_history::PageId;
+use thp_history::{Counters, PageId};
 use thp_live_pages::PageStore;
 
 impl Replay {
@@ -55,10 +55,7 @@ impl Replay {
         ensures held { IfSome result (λ x. x.held ≡ set_of (is_held self.now.shape self.now.history page)) }
     {
         let table = self.state.places.table();
-        let block = match table.block_of(page) {
-            Some(block) => block,
-            None => return None,
-        };
+        let block = table.block_of(page)?;
         let standing = table.standing(block);
         let threshold = self.state.shape.underused;
         match table.page(block) {
@@ -76,10 +73,7 @@ impl Replay {
         ensures partly { IfSome result (λ x. x.partly_mapped ≡ is_partly_mapped self.now.shape self.now.history page) }
     {
         let table = self.state.places.table();
-        let block = match table.block_of(page) {
-            Some(block) => block,
-            None => return None,
-        };
+        let block = table.block_of(page)?;
         let standing = table.standing(block);
         match table.page(block) {
             Some((_, state)) => Some(PageLocation {
@@ -102,10 +96,7 @@ impl Replay {
             return None;
         }
         let table = self.state.places.table();
-        let block = match table.block_of(page) {
-            Some(block) => block,
-            None => return None,
-        };
+        let block = table.block_of(page)?;
         match table.page(block) {
             Some((_, state)) => Some(state.own(i)),
             None => unreachable!(),
@@ -127,39 +118,11 @@ impl Replay {
         self.tally.frames_given
     }
 
-    /// Returns the number of pages split.
-    pub fn thp_split_page(&self) -> u64
-        ensures { result ≡ thp_split_page self.now.history }
+    /// Returns the node's statistics.
+    pub fn counters(&self) -> Counters
+        ensures { result ≡ counters_of self.now.shape self.now.history }
     {
-        self.tally.counters.split_page
-    }
-
-    /// Returns the number of tries that found a page pinned.
-    pub fn thp_split_page_failed(&self) -> u64
-        ensures { result ≡ thp_split_page_failed self.now.history }
-    {
-        self.tally.counters.split_page_failed
-    }
-
-    /// Returns the number of times that an unmap or an unpin queued a page. A put back or an allocation doesn't count.
-    pub fn thp_deferred_split_page(&self) -> u64
-        ensures { result ≡ thp_deferred_split_page self.now.history }
-    {
-        self.tally.counters.deferred_split_page
-    }
-
-    /// Returns the number of PMD mappings split: one for each `SplitPmd`, and all mappings of the whole page for each page split.
-    pub fn thp_split_pmd(&self) -> u128
-        ensures { result ≡ thp_split_pmd self.now.history }
-    {
-        self.tally.counters.split_pmd
-    }
-
-    /// Returns the number of pages split that were underused and not partly mapped.
-    pub fn thp_underused_split_page(&self) -> u64
-        ensures { result ≡ thp_underused_split_page self.now.shape self.now.history }
-    {
-        self.tally.counters.underused_split_page
+        self.tally.counters
     }
 }
 

@@ -1,29 +1,23 @@
 //! Which frames a page holds, which an event gives back, and the outcome of an unmap or an unpin.
 ghost use Rattle.std.specs.Prelude.{◌≡◌, ◌≤◌, ◌&&◌, not};
-ghost use Rattle.thp_history.specs.Prelude.{block_in_use, is_held, keeps_frame, max_order, outcome, released, standing};
+ghost use Rattle.thp_history.specs.Prelude.{block_in_use, is_held, max_order, outcome, released, standing};
 
-use super::pages::{is_closed, is_live, is_mapped, is_split, is_used, loses_use, pins};
+use super::pages::{is_closed, is_live, is_mapped, is_split, loses_use, pins, total};
 use super::passing::any_event;
 use super::places::has_page;
 use super::underused::is_zero_filled;
 use std::collections::VecDeque;
 use thp_history::{Event, MAX_SUBPAGES, Outcome, PageId, Shape, SubSet, What};
 
-// Whether a split of the page leaves subpage i its frame.
-fn keeps_frame(shape: Shape, events: &[Event], page: PageId, i: u32) -> bool
-    ensures { result ≡ keeps_frame shape events.now page i }
-{
-    is_used(events, page, i) && !(shape.shrinks_underused() && is_zero_filled(events, page, i))
-}
-
 // Whether the page holds the frame of its subpage i.
 pub(super) fn is_held(shape: Shape, events: &[Event], page: PageId, i: u32) -> bool
     requires { shape.order ≤ max_order }
     ensures { result ≡ is_held shape events.now page i }
 {
+    let given_as_zero = shape.shrinks_underused() && is_zero_filled(events, page, i);
     i < shape.subpages()
         && is_live(events, page)
-        && (!is_split(events, page) || keeps_frame(shape, events, page, i))
+        && (!is_split(events, page) || (0 < total(events, page, i) && !given_as_zero))
 }
 
 // Whether the page holds the frame of its subpage i before and not after.
@@ -61,17 +55,17 @@ pub(super) fn outcome(
     ensures { result ≡ outcome shape before.now after.now page }
 {
     if !is_mapped(shape, after, page) && pins(after, page) == 0 {
-        return Outcome::Freed;
-    }
-    if !is_split(before, page)
+        Outcome::Freed
+    } else if !is_split(before, page)
         && loses_use(shape, before, after, page)
         && is_mapped(shape, after, page)
         && !is_closed(before)
         && !has_page(page, listed)
     {
-        return Outcome::Queued;
+        Outcome::Queued
+    } else {
+        Outcome::Stays
     }
-    Outcome::Stays
 }
 
 // Whether the block is that of a live page.

@@ -1,7 +1,6 @@
-//! Kind by kind: what an event does to a page, why a call is refused, and whether an event fits a history.
-ghost use Rattle.std.specs.Prelude.{◌≡◌, ◌<◌, ◌≤◌, ◌↔◌, ◌&&◌, not, IsTrue, true, false, None, Some, IfOk, slice_get};
-ghost use Rattle.thp_history.specs.Prelude.{FitsAlloc, FitsBy, Gives, covers, has_page, is_closed, is_dropped, is_held, is_partly_mapped, is_split, is_worth_split, maps, maps_whole, max_order, pins, standing, unmaps_some, writes, zero_after, zeroes};
-ghost use Rattle.thp_history.specs.declared.shape.Shape.{Shape};
+//! Kind by kind: what an event does to a subpage, why a call is refused, and whether an event fits a history.
+ghost use Rattle.std.specs.Prelude.{◌≡◌, ◌∷◌, [], ◌<◌, ◌≤◌, ◌↔◌, ◌&&◌, not, false, IsTrue, IfOk};
+ghost use Rattle.thp_history.specs.Prelude.{FitsBy, Gives, allocations, block_in_use, covers, has_page, is_held, is_split, is_worth_split, maps, maps_whole, max_order, refusal_of, standing, zero_after};
 ghost use Rattle.thp_history.specs.Refusals as call;
 ghost use Rattle.thp_history.specs.Refusals.{refusal, first_of, no_page, bad_range, split_page, some_of};
 ghost use Rattle.thp_model.specs.Lists.{AreLists};
@@ -21,8 +20,8 @@ pub(super) fn maps(what: &What, p: PageId, i: u32) -> bool
     ensures { result ≡ maps p i what.now }
 {
     match *what {
-        What::Alloc { page, .. } | What::MapWhole { page } => p == page,
-        What::MapSub { page, first, count } => p == page && covers(first, count, i),
+        What::Alloc { page, .. } | What::MapWhole { page } => page == p,
+        What::MapSub { page, first, count } => page == p && covers(first, count, i),
         _ => false,
     }
 }
@@ -41,36 +40,16 @@ pub(super) fn covers(first: u32, count: u32, i: u32) -> bool
     first <= i && u64::from(i) < u64::from(first) + u64::from(count)
 }
 
-// Whether the event fills subpage i of the page with data.
-fn writes(what: &What, p: PageId, i: u32) -> bool
-    ensures { result ≡ writes p i what.now }
-{
-    matches!(*what, What::Write { page, first, count } if page == p && covers(first, count, i))
-}
-
-// Whether the event fills subpage i of the page with zeros.
-fn zeroes(what: &What, p: PageId, i: u32) -> bool
-    ensures { result ≡ zeroes p i what.now }
-{
-    match *what {
-        What::Alloc { page, .. } => p == page,
-        What::Zero { page, first, count } => p == page && covers(first, count, i),
-        _ => false,
-    }
-}
-
 // Whether subpage i of the page is zero-filled after the event, by whether it was before.
 pub(super) fn zero_after(before: bool, what: &What, p: PageId, i: u32) -> bool
     ensures { result ≡ zero_after p i before what.now }
 {
-    zeroes(what, p, i) || (before && !writes(what, p, i))
-}
-
-// Whether the event unmaps the page, as a whole or some of its subpages.
-pub(super) fn unmaps_some(what: &What, p: PageId) -> bool
-    ensures { result ≡ unmaps_some p what.now }
-{
-    matches!(*what, What::UnmapWhole { page, .. } | What::UnmapSub { page, .. } if page == p)
+    match *what {
+        What::Alloc { page, .. } => before || page == p,
+        What::Zero { page, first, count } => before || (page == p && covers(first, count, i)),
+        What::Write { page, first, count } => before && !(page == p && covers(first, count, i)),
+        _ => before,
+    }
 }
 
 // The greatest map count of a subpage, and the greatest number of pins.
@@ -94,18 +73,20 @@ fn no_page(events: &[Event], page: PageId) -> (bool, Refusal)
     (!is_live(events, page), Refusal::NoPage)
 }
 
-fn split_page(events: &[Event], page: PageId) -> (bool, Refusal)
-    ensures { result ≡ split_page events.now page }
-{
-    (is_split(events, page), Refusal::IsSplit)
-}
-
 fn bad_range(shape: Shape, first: u32, count: u32) -> (bool, Refusal)
     requires { shape.order ≤ max_order }
     ensures { result ≡ bad_range shape first count }
 {
     let ends_outside = u64::from(shape.subpages()) < u64::from(first) + u64::from(count);
     (count == 0 || ends_outside, Refusal::BadRange)
+}
+
+// Why a call about a whole page is refused: it is not live, it is split, or the reason holds.
+fn of_whole(events: &[Event], page: PageId, holds: bool, reason: Refusal) -> Option<Refusal>
+    ensures { result ≡ first_of (no_page events.now page ∷ split_page events.now page ∷ (holds, reason) ∷ []) }
+{
+    let split = (is_split(events, page), Refusal::IsSplit);
+    first_of(&[no_page(events, page), split, (holds, reason)])
 }
 
 // Whether the page was split and a frame of the range was given back.
@@ -119,48 +100,8 @@ fn gone(shape: Shape, events: &[Event], page: PageId, first: u32, count: u32) ->
     (is_split(events, page) && some_gone, Refusal::Gone)
 }
 
-// Why an allocation is refused.
-fn of_alloc(shape: Shape, events: &[Event]) -> Option<Refusal>
-    ensures { result ≡ refusal shape events.now call.alloc_page }
-{
-    let is_full = !any_below(shape.blocks, |block| !block_in_use(events, block));
-    first_of(&[
-        (is_closed(events), Refusal::Closed),
-        (is_full, Refusal::NoBlock),
-    ])
-}
-
-fn of_map_whole(shape: Shape, events: &[Event], page: PageId) -> Option<Refusal>
-    requires { shape.order ≤ max_order }
-    ensures { result ≡ refusal shape events.now (call.map_whole page) }
-{
-    let is_full = any_below(shape.subpages(), |i| total(events, page, i) == MOST);
-    first_of(&[
-        no_page(events, page),
-        split_page(events, page),
-        (is_full, Refusal::TooMany),
-    ])
-}
-
-// Why a call that removes a mapping of the whole page is refused: an unmap of it, or the split of its PMD.
-fn of_taking_whole(events: &[Event], page: PageId) -> Option<Refusal>
-    ensures unmap { (s : Shape) → result ≡ refusal s events.now (call.unmap_whole page) }
-    ensures split { (s : Shape) → result ≡ refusal s events.now (call.split_pmd page) }
-{
-    first_of(&[
-        no_page(events, page),
-        split_page(events, page),
-        (whole(events, page) == 0, Refusal::NotMapped),
-    ])
-}
-
-fn of_map_sub(
-    shape: Shape,
-    events: &[Event],
-    page: PageId,
-    first: u32,
-    count: u32,
-) -> Option<Refusal>
+// Why a mapping of a range is refused.
+fn of_map(shape: Shape, events: &[Event], page: PageId, first: u32, count: u32) -> Option<Refusal>
     requires { shape.order ≤ max_order }
     ensures { result ≡ refusal shape events.now (call.map_sub page first count) }
 {
@@ -175,67 +116,61 @@ fn of_map_sub(
     ])
 }
 
-fn of_unmap_sub(
-    shape: Shape,
-    events: &[Event],
-    page: PageId,
-    first: u32,
-    count: u32,
-) -> Option<Refusal>
+// Why the call of an event is refused; what a batch does with a page is no call.
+fn refusal(shape: Shape, events: &[Event], what: &What) -> Option<Refusal>
     requires { shape.order ≤ max_order }
-    ensures { result ≡ refusal shape events.now (call.unmap_sub page first count) }
+    ensures { result ≡ refusal_of shape events.now what.now }
 {
-    let is_unmapped = any_below(shape.subpages(), |i| {
-        covers(first, count, i) && own(events, page, i) == 0
-    });
-    first_of(&[
-        no_page(events, page),
-        bad_range(shape, first, count),
-        (is_unmapped, Refusal::NotMapped),
-    ])
-}
-
-fn of_pin(events: &[Event], page: PageId) -> Option<Refusal>
-    ensures { (s : Shape) → result ≡ refusal s events.now (call.pin page) }
-{
-    first_of(&[
-        no_page(events, page),
-        split_page(events, page),
-        (pins(events, page) == MOST, Refusal::TooMany),
-    ])
-}
-
-fn of_unpin(events: &[Event], page: PageId) -> Option<Refusal>
-    ensures { (s : Shape) → result ≡ refusal s events.now (call.unpin page) }
-{
-    first_of(&[
-        no_page(events, page),
-        split_page(events, page),
-        (pins(events, page) == 0, Refusal::NotPinned),
-    ])
-}
-
-// Why a write of data or zeros is refused.
-fn of_write(shape: Shape, events: &[Event], page: PageId, first: u32, count: u32) -> Option<Refusal>
-    requires { shape.order ≤ max_order }
-    ensures data { result ≡ refusal shape events.now (call.write page first count) }
-    ensures zeros { result ≡ refusal shape events.now (call.zero_fill page first count) }
-{
-    let is_unmapped = any_below(shape.subpages(), |i| {
-        covers(first, count, i) && total(events, page, i) == 0
-    });
-    first_of(&[
-        no_page(events, page),
-        bad_range(shape, first, count),
-        split_page(events, page),
-        (is_unmapped, Refusal::NotMapped),
-    ])
-}
-
-fn of_close(events: &[Event]) -> Option<Refusal>
-    ensures { (s : Shape) → result ≡ refusal s events.now call.close }
-{
-    first_of(&[(is_closed(events), Refusal::Closed)])
+    match *what {
+        What::Alloc { .. } => {
+            let is_full = !any_below(shape.blocks, |block| !block_in_use(events, block));
+            let closed = (is_closed(events), Refusal::Closed);
+            first_of(&[closed, (is_full, Refusal::NoBlock)])
+        }
+        What::MapWhole { page } => {
+            let is_full = any_below(shape.subpages(), |i| total(events, page, i) == MOST);
+            of_whole(events, page, is_full, Refusal::TooMany)
+        }
+        What::UnmapWhole { page, .. } | What::SplitPmd { page } => {
+            of_whole(events, page, whole(events, page) == 0, Refusal::NotMapped)
+        }
+        What::MapSub { page, first, count } => of_map(shape, events, page, first, count),
+        What::UnmapSub {
+            page,
+            first,
+            count,
+            ..
+        } => {
+            let is_unmapped = any_below(shape.subpages(), |i| {
+                covers(first, count, i) && own(events, page, i) == 0
+            });
+            let bad = bad_range(shape, first, count);
+            first_of(&[
+                no_page(events, page),
+                bad,
+                (is_unmapped, Refusal::NotMapped),
+            ])
+        }
+        What::Pin { page } => {
+            of_whole(events, page, pins(events, page) == MOST, Refusal::TooMany)
+        }
+        What::Unpin { page, .. } => {
+            of_whole(events, page, pins(events, page) == 0, Refusal::NotPinned)
+        }
+        What::Write { page, first, count } | What::Zero { page, first, count } => {
+            let is_unmapped = any_below(shape.subpages(), |i| {
+                covers(first, count, i) && total(events, page, i) == 0
+            });
+            first_of(&[
+                no_page(events, page),
+                bad_range(shape, first, count),
+                (is_split(events, page), Refusal::IsSplit),
+                (is_unmapped, Refusal::NotMapped),
+            ])
+        }
+        What::Close => first_of(&[(is_closed(events), Refusal::Closed)]),
+        _ => None,
+    }
 }
 
 // Whether an event fits the events before it; `after` are they and the event.
@@ -264,45 +199,33 @@ fn fits_lists(shape: Shape, before: &[Event], after: &[Event], event: &Event, li
     ensures { IsTrue result ↔ FitsBy shape before.now after.now event.now.caller event.now.what }
 {
     let (flight, caller) = (&lists.flight, event.caller);
+    let is_allowed = refusal(shape, before, &event.what).is_none();
     match event.what {
-        What::Alloc { page, block } => fits_alloc(shape, before, page, block),
-        What::MapWhole { page } => of_map_whole(shape, before, page).is_none(),
+        What::Alloc { page, block } => is_allowed && is_next(shape, before, page, block),
         What::UnmapWhole {
             outcome,
             page,
             released,
         } => {
             let told = Done { outcome, released };
-            let refusal = of_taking_whole(before, page);
-            refusal.is_none() && gives(shape, before, after, page, &told, lists)
-        }
-        What::MapSub { page, first, count } => {
-            of_map_sub(shape, before, page, first, count).is_none()
+            is_allowed && gives(shape, before, after, page, &told, lists)
         }
         What::UnmapSub {
             outcome,
             page,
-            first,
-            count,
             released,
+            ..
         } => {
             let told = Done { outcome, released };
-            let refusal = of_unmap_sub(shape, before, page, first, count);
-            refusal.is_none() && gives(shape, before, after, page, &told, lists)
+            is_allowed && gives(shape, before, after, page, &told, lists)
         }
-        What::SplitPmd { page } => of_taking_whole(before, page).is_none(),
-        What::Pin { page } => of_pin(before, page).is_none(),
         What::Unpin {
             outcome,
             page,
             released,
         } => {
             let told = Done { outcome, released };
-            let refusal = of_unpin(before, page);
-            refusal.is_none() && gives(shape, before, after, page, &told, lists)
-        }
-        What::Write { page, first, count } | What::Zero { page, first, count } => {
-            of_write(shape, before, page, first, count).is_none()
+            is_allowed && gives(shape, before, after, page, &told, lists)
         }
         What::Taken { page } => {
             is_first(page, &lists.queue) && (flight.is_empty() || is_taking(before, caller))
@@ -314,20 +237,21 @@ fn fits_lists(shape: Shape, before: &[Event], after: &[Event], event: &Event, li
         }
         What::Pinned { page } => can_try(shape, before, page, flight) && 0 < pins(before, page),
         What::Used { page } => has_page(page, flight) && !is_worth_split(shape, before, page),
-        What::Back { page } => is_first(page, flight) && !is_dropped(shape, before, page),
-        What::Dropped { page } => is_first(page, flight) && is_dropped(shape, before, page),
-        What::Close => of_close(before).is_none(),
+        What::Back { page } => {
+            is_first(page, flight) && !is_closed(before) && is_partly_mapped(shape, before, page)
+        }
+        What::Dropped { page } => {
+            is_first(page, flight) && (is_closed(before) || !is_partly_mapped(shape, before, page))
+        }
+        _ => is_allowed,
     }
 }
 
-// A new page has the next number, and a block of no live page.
-fn fits_alloc(shape: Shape, before: &[Event], page: PageId, block: u32) -> bool
-    ensures { IsTrue result ↔ FitsAlloc shape before.now page block }
+// Whether a page has the next number, and a block exists that holds no live page.
+fn is_next(shape: Shape, before: &[Event], page: PageId, block: u32) -> bool
+    ensures { IsTrue result ↔ ((page ≡ allocations before.now) × (block < shape.blocks) × (block_in_use before.now block ≡ false)) }
 {
-    of_alloc(shape, before).is_none()
-        && page.0 == allocations(before) as u64
-        && block < shape.blocks
-        && !block_in_use(before, block)
+    page.0 == allocations(before) as u64 && block < shape.blocks && !block_in_use(before, block)
 }
 
 // Whether an unmap or an unpin records the outcome and the frames that the model computes.
@@ -353,12 +277,4 @@ fn can_try(shape: Shape, before: &[Event], page: PageId, flight: &VecDeque<PageI
     ensures { result ≡ (has_page page flight.now.items && is_worth_split shape before.now page) }
 {
     has_page(page, flight) && is_worth_split(shape, before, page)
-}
-
-// Whether a page that leaves its batch is dropped rather than put back.
-fn is_dropped(shape: Shape, before: &[Event], page: PageId) -> bool
-    requires { shape.order ≤ max_order }
-    ensures { result ≡ is_dropped shape before.now page }
-{
-    is_closed(before) || !is_partly_mapped(shape, before, page)
 }

@@ -1,6 +1,6 @@
 //! The state of one page after a history: its map counts, its pins and its states.
 ghost use Rattle.std.specs.Prelude.{◌≡◌, ◌≤◌};
-ghost use Rattle.thp_history.specs.Prelude.{allocations, is_closed, is_live, is_mapped, is_split, is_used, loses_use, max_order, own, pins, total, whole};
+ghost use Rattle.thp_history.specs.Prelude.{allocations, is_closed, is_live, is_mapped, is_split, loses_use, max_order, own, pins, total, whole};
 
 use super::kinds::{covers, maps, maps_whole};
 use super::passing::{any_below, any_event, count_events};
@@ -14,43 +14,42 @@ pub(super) fn allocations(events: &[Event]) -> usize
 }
 
 // How often subpage i of the page is mapped.
-pub(super) fn total(events: &[Event], page: PageId, i: u32) -> usize
-    ensures { result ≡ total events.now page i }
+pub(super) fn total(events: &[Event], p: PageId, i: u32) -> usize
+    ensures { result ≡ total events.now p i }
 {
-    let mapped = count_events(events, |what| maps(what, page, i));
+    let mapped = count_events(events, |what| maps(what, p, i));
     let unmapped = count_events(events, |what| match *what {
-        What::UnmapWhole { page: other, .. } => other == page,
+        What::UnmapWhole { page, .. } => page == p,
         What::UnmapSub {
-            page: other,
+            page,
             first,
             count,
             ..
-        } => other == page && covers(first, count, i),
+        } => page == p && covers(first, count, i),
         _ => false,
     });
     mapped.saturating_sub(unmapped)
 }
 
 // Whether the page was split.
-pub(super) fn is_split(events: &[Event], page: PageId) -> bool
-    ensures { result ≡ is_split events.now page }
+pub(super) fn is_split(events: &[Event], p: PageId) -> bool
+    ensures { result ≡ is_split events.now p }
 {
     any_event(events, |what| {
-        matches!(*what, What::Split { page: other, .. } if other == page)
+        matches!(*what, What::Split { page, .. } if page == p)
     })
 }
 
 // How often the page is mapped whole.
-pub(super) fn whole(events: &[Event], page: PageId) -> usize
-    ensures { result ≡ whole events.now page }
+pub(super) fn whole(events: &[Event], p: PageId) -> usize
+    ensures { result ≡ whole events.now p }
 {
-    if is_split(events, page) {
+    if is_split(events, p) {
         return 0;
     }
-    let mapped = count_events(events, |what| maps_whole(what, page));
-    let unmapped = count_events(events, |what| match *what {
-        What::UnmapWhole { page: other, .. } | What::SplitPmd { page: other } => other == page,
-        _ => false,
+    let mapped = count_events(events, |what| maps_whole(what, p));
+    let unmapped = count_events(events, |what| {
+        matches!(*what, What::UnmapWhole { page, .. } | What::SplitPmd { page } if page == p)
     });
     mapped.saturating_sub(unmapped)
 }
@@ -63,14 +62,14 @@ pub(super) fn own(events: &[Event], page: PageId, i: u32) -> usize
 }
 
 // How many pins the page has.
-pub(super) fn pins(events: &[Event], page: PageId) -> usize
-    ensures { result ≡ pins events.now page }
+pub(super) fn pins(events: &[Event], p: PageId) -> usize
+    ensures { result ≡ pins events.now p }
 {
     let pinned = count_events(events, |what| {
-        matches!(*what, What::Pin { page: other } if other == page)
+        matches!(*what, What::Pin { page } if page == p)
     });
     let unpinned = count_events(events, |what| {
-        matches!(*what, What::Unpin { page: other, .. } if other == page)
+        matches!(*what, What::Unpin { page, .. } if page == p)
     });
     pinned.saturating_sub(unpinned)
 }
@@ -94,28 +93,16 @@ pub(super) fn loses_use(shape: Shape, before: &[Event], after: &[Event], page: P
 }
 
 // Whether the page was allocated and not freed.
-pub(super) fn is_live(events: &[Event], page: PageId) -> bool
-    ensures { result ≡ is_live events.now page }
+pub(super) fn is_live(events: &[Event], p: PageId) -> bool
+    ensures { result ≡ is_live events.now p }
 {
     let allocated = any_event(events, |what| {
-        matches!(*what, What::Alloc { page: other, .. } if other == page)
+        matches!(*what, What::Alloc { page, .. } if page == p)
     });
     let freed = any_event(events, |what| match *what {
-        What::UnmapWhole {
-            page: other,
-            outcome,
-            ..
-        }
-        | What::UnmapSub {
-            page: other,
-            outcome,
-            ..
-        }
-        | What::Unpin {
-            page: other,
-            outcome,
-            ..
-        } => other == page && outcome == Outcome::Freed,
+        What::UnmapWhole { page, outcome, .. }
+        | What::UnmapSub { page, outcome, .. }
+        | What::Unpin { page, outcome, .. } => page == p && outcome == Outcome::Freed,
         _ => false,
     });
     allocated && !freed
@@ -126,11 +113,4 @@ pub(super) fn is_closed(events: &[Event]) -> bool
     ensures { result ≡ is_closed events.now }
 {
     any_event(events, |what| matches!(*what, What::Close))
-}
-
-// Whether subpage i of the page is in use.
-pub(super) fn is_used(events: &[Event], page: PageId, i: u32) -> bool
-    ensures { result ≡ is_used events.now page i }
-{
-    is_live(events, page) && 0 < total(events, page, i)
 }

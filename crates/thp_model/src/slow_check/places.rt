@@ -25,13 +25,11 @@ fn queue_outcome(
     ensures { OnOk result (queue.new.items ≡ queue_by queue.old.items page outcome) }
 {
     match outcome {
-        Outcome::Stays => Ok(()),
-        Outcome::Queued => Ok(queue.push_back(page)?),
-        Outcome::Freed => {
-            queue.retain(|other| *other != page);
-            Ok(())
-        }
+        Outcome::Stays => {}
+        Outcome::Queued => queue.push_back(page)?,
+        Outcome::Freed => queue.retain(|other| *other != page),
     }
+    Ok(())
 }
 
 // The queue after an event.
@@ -39,22 +37,17 @@ fn queue_event(queue: &mut VecDeque<PageId>, shape: Shape, what: &What) -> Resul
     ensures { OnOk result (queue.new.items ≡ queue_after shape queue.old.items what.now) }
 {
     match *what {
-        What::Alloc { page, .. } => {
-            if shape.shrinks_underused() {
-                queue.push_back(page)?;
-            }
-            Ok(())
-        }
+        What::Alloc { page, .. } if shape.shrinks_underused() => queue.push_back(page)?,
         What::UnmapWhole { page, outcome, .. }
         | What::UnmapSub { page, outcome, .. }
-        | What::Unpin { page, outcome, .. } => queue_outcome(queue, page, outcome),
+        | What::Unpin { page, outcome, .. } => queue_outcome(queue, page, outcome)?,
         What::Taken { .. } => {
             let _ = queue.pop_front();
-            Ok(())
         }
-        What::Back { page } => Ok(queue.push_back(page)?),
-        _ => Ok(()),
+        What::Back { page } => queue.push_back(page)?,
+        _ => {}
     }
+    Ok(())
 }
 
 // The queue, the oldest page first.

@@ -1,9 +1,8 @@
 //! Which subpages of a page are zero-filled, and whether the page is worth a split.
 ghost use Rattle.std.specs.Prelude.{◌≡◌, ◌≤◌, ◌&&◌};
-ghost use Rattle.thp_history.specs.Prelude.{is_mapped, loses_use, max_order};
-ghost use Rattle.thp_history.specs.Underused.{is_zero_filled, is_partly_mapped, zero_filled, is_underused, is_worth_split, unmaps_some};
+ghost use Rattle.thp_history.specs.Prelude.{is_mapped, is_partly_mapped, is_worth_split, is_zero_filled, loses_use, max_order, unmaps_some, zero_filled};
 
-use super::kinds::{unmaps_some, zero_after};
+use super::kinds::zero_after;
 use super::pages::{is_mapped, loses_use};
 use thp_history::{Event, PageId, Shape, What};
 
@@ -19,13 +18,13 @@ pub(super) fn is_zero_filled(events: &[Event], page: PageId, i: u32) -> bool
 }
 
 // Whether the event removes the last mapping of a subpage of the page and leaves another subpage mapped.
-fn unmaps_part(shape: Shape, before: &[Event], after: &[Event], page: PageId, what: &What) -> bool
+fn unmaps_part(shape: Shape, before: &[Event], after: &[Event], p: PageId, what: &What) -> bool
     requires { shape.order ≤ max_order }
-    ensures { result ≡ (unmaps_some page what.now && (loses_use shape before.now after.now page && is_mapped shape after.now page)) }
+    ensures { result ≡ (unmaps_some p what.now && (loses_use shape before.now after.now p && is_mapped shape after.now p)) }
 {
-    unmaps_some(what, page)
-        && loses_use(shape, before, after, page)
-        && is_mapped(shape, after, page)
+    matches!(*what, What::UnmapWhole { page, .. } | What::UnmapSub { page, .. } if page == p)
+        && loses_use(shape, before, after, p)
+        && is_mapped(shape, after, p)
 }
 
 // Whether the page is partly mapped: some event unmapped a part of it and left another part mapped.
@@ -56,21 +55,11 @@ fn zero_filled(shape: Shape, events: &[Event], page: PageId) -> u32
     count
 }
 
-// Whether the page is underused: more of its subpages are zero-filled than the threshold.
-fn is_underused(shape: Shape, events: &[Event], page: PageId) -> bool
-    requires { shape.order ≤ max_order }
-    ensures { result ≡ is_underused shape events.now page }
-{
-    match shape.underused {
-        None => false,
-        Some(threshold) => threshold < zero_filled(shape, events, page),
-    }
-}
-
-// Whether the page is worth a split.
+// Whether the page is worth a split: it is partly mapped, or more of its subpages are zero-filled than the threshold.
 pub(super) fn is_worth_split(shape: Shape, events: &[Event], page: PageId) -> bool
     requires { shape.order ≤ max_order }
     ensures { result ≡ is_worth_split shape events.now page }
 {
-    is_partly_mapped(shape, events, page) || is_underused(shape, events, page)
+    let zero = zero_filled(shape, events, page);
+    is_partly_mapped(shape, events, page) || shape.underused.is_some_and(|most| most < zero)
 }

@@ -9,7 +9,6 @@ ghost use Rattle.thp_page.specs.Prelude.{slot_at};
 
 use crate::answers::{BackReply, ScanReply, Tried};
 use crate::batch::Batch;
-use crate::journal::EventContext::{Nothing, OfSplit};
 use crate::node::Node;
 use crate::recorder::Recorder;
 use thp_history::{PageId, Refusal, SplitContext, What};
@@ -105,18 +104,12 @@ impl<R: Recorder> Node<R> {
         ensures did { Did self.old self.new caller (by caller (What.Taken result) ∷ []) }
     {
         let page = self.blocks.take_first(caller);
-        self.journal.record(caller, What::Taken { page }, Nothing);
+        self.journal
+            .record(caller, What::Taken { page }, SplitContext::none());
         page
     }
 
     /// Tries the next page of a batch that is still in the flight of the batch's caller.
-    ///
-    /// | Result | Meaning |
-    /// | --- | --- |
-    /// | `Split` | the page was split into base pages |
-    /// | `Pinned` | the page is worth a split, but has pins; it stays in the flight |
-    /// | `Used` | the page is not worth a split, and left the batch |
-    /// | `Done` | no page is left to try |
     ///
     /// The call skips a page of the batch that was freed since the take, whatever page its block holds. Fails with `OutOfMemory`.
     pub fn split_next(&mut self, batch: &mut Batch) -> Result<Tried, Refusal>
@@ -196,27 +189,18 @@ impl<R: Recorder> Node<R> {
         ensures did { Did self.old self.new caller (try_event self.old.shape self.old.journal caller page ∷ []) }
     {
         if !self.is_split_candidate(block) {
-            self.let_go(caller, block, page);
+            self.blocks.drop_out(block);
+            self.journal
+                .record(caller, What::Used { page }, SplitContext::none());
             Tried::Used(page)
         } else if self.blocks.store().pins(block) == 0 {
             self.split_page(caller, block, page);
             Tried::Split(page)
         } else {
-            self.journal.record(caller, What::Pinned { page }, Nothing);
+            self.journal
+                .record(caller, What::Pinned { page }, SplitContext::none());
             Tried::Pinned(page)
         }
-    }
-
-    // Removes the page of a block, which is not worth a split, from the caller's flight.
-    fn let_go(&mut self, caller: u32, block: u32, page: PageId)
-        requires caller { caller < max_callers }
-        requires room { 0 < self.old.room }
-        requires flies { IsFlyingAt self.old.table caller page block }
-        requires used { AtSlot self.old.table block (λ x. is_split_candidate self.old.shape.underused x.page ≡ false) }
-        ensures did { Did self.old self.new caller (try_event self.old.shape self.old.journal caller page ∷ []) }
-    {
-        self.blocks.drop_out(block);
-        self.journal.record(caller, What::Used { page }, Nothing);
     }
 
     // Splits the page of a block, which is in the caller's flight, is worth a split and has no pins.
@@ -228,13 +212,13 @@ impl<R: Recorder> Node<R> {
         requires unpinned { IsUnpinnedAt self.old.table block }
         ensures did { Did self.old self.new caller (try_event self.old.shape self.old.journal caller page ∷ []) }
     {
-        let unsaid = OfSplit(SplitContext {
+        let split = SplitContext {
             mappings: self.blocks.store().whole(block),
             underused: !self.blocks.store().is_partly(block),
-        });
+        };
         let give_zero = self.journal.shape().shrinks_underused();
         let released = self.blocks.split(block, give_zero);
         self.journal
-            .record(caller, What::Split { page, released }, unsaid);
+            .record(caller, What::Split { page, released }, split);
     }
 }

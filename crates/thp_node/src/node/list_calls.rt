@@ -5,10 +5,9 @@ ghost use Rattle.thp_history.specs.Refusals as call;
 ghost use Rattle.thp_node.specs.Batches.{FrontsStay};
 ghost use Rattle.thp_node.specs.Calls.{Did, DidAlloc, Refused};
 
-use crate::journal::EventContext::Nothing;
 use crate::node::Node;
 use crate::recorder::Recorder;
-use thp_history::{PageId, Refusal, What};
+use thp_history::{PageId, Refusal, SplitContext, What};
 
 impl<R: Recorder> Node<R> {
     /// Allocates a page, mapped whole once, in a block that holds no live page. The page's number is the number of allocations
@@ -32,7 +31,7 @@ impl<R: Recorder> Node<R> {
         let queued = self.journal.shape().shrinks_underused();
         let block = self.blocks.place(page, queued);
         self.journal
-            .record(caller, What::Alloc { page, block }, Nothing);
+            .record(caller, What::Alloc { page, block }, SplitContext::none());
         Ok(page)
     }
 
@@ -48,7 +47,8 @@ impl<R: Recorder> Node<R> {
             return Err(Refusal::Closed);
         }
         self.journal.reserve(1)?;
-        self.journal.record(caller, What::Close, Nothing);
+        self.journal
+            .record(caller, What::Close, SplitContext::none());
         Ok(())
     }
 }

@@ -7,10 +7,9 @@ ghost use Rattle.thp_node.specs.Calls.{Did, Refused};
 ghost use Rattle.thp_page.specs.Prelude.{slot_at, HoldsPage};
 ghost use Rattle.thp_live_pages.specs.Prelude.{block_of};
 
-use crate::journal::EventContext::Nothing;
 use crate::node::Node;
 use crate::recorder::Recorder;
-use thp_history::{Done, Gain, Loss, PageCall, PageId, Refusal, What};
+use thp_history::{Done, Gain, Loss, PageCall, PageId, Refusal, SplitContext, What};
 
 impl<R: Recorder> Node<R> {
     /// Maps the whole page once more, by a PMD entry. Fails with `NoPage`, `IsSplit`, `TooMany` or `OutOfMemory`.
@@ -156,7 +155,8 @@ impl<R: Recorder> Node<R> {
     {
         let block = self.admit(page, PageCall::Gain(gain))?;
         self.blocks.gain(block, gain)?;
-        self.journal.record(caller, gain.what(page), Nothing);
+        self.journal
+            .record(caller, gain.what(page), SplitContext::none());
         Ok(())
     }
 

@@ -10,11 +10,10 @@ ghost use Rattle.thp_node.specs.Returning.{BeginsIn, return_first, OneBack};
 
 use crate::answers::{BackReply, ScanReply, Tried};
 use crate::batch::Batch;
-use crate::journal::EventContext::Nothing;
 use crate::node::Node;
 use crate::recorder::Recorder;
 use arrayvec::ArrayVec;
-use thp_history::{MAX_BATCH, PageId, Refusal, What};
+use thp_history::{MAX_BATCH, PageId, Refusal, SplitContext, What};
 
 impl<R: Recorder> Node<R> {
     /// Returns the pages of a batch that are still in the flight of the batch's caller to the node, in the batch's order.
@@ -113,10 +112,12 @@ impl<R: Recorder> Node<R> {
         let is_back = joins_queue(closed, partly);
         if is_back {
             self.blocks.enqueue(block);
-            self.journal.record(caller, What::Back { page }, Nothing);
+            self.journal
+                .record(caller, What::Back { page }, SplitContext::none());
         } else {
             self.blocks.drop_out(block);
-            self.journal.record(caller, What::Dropped { page }, Nothing);
+            self.journal
+                .record(caller, What::Dropped { page }, SplitContext::none());
         }
         is_back
     }
@@ -153,20 +154,18 @@ impl<R: Recorder> Node<R> {
         let mut batch = batch;
         let taken = batch.pages().len() as u32;
         let used = self.try_all(&mut batch);
-        match self.put_back_all(&batch) {
-            Ok(BackReply { back, dropped }) => {
-                // the remaining pages are the pinned ones
-                let pinned = back + dropped;
-                ScanReply {
-                    taken,
-                    split: taken - used - pinned,
-                    pinned,
-                    back,
-                    dropped,
-                    used,
-                }
-            }
-            Err(_) => unreachable!(),
+        let Ok(BackReply { back, dropped }) = self.put_back_all(&batch) else {
+            unreachable!()
+        };
+        // the remaining pages are the pinned ones
+        let pinned = back + dropped;
+        ScanReply {
+            taken,
+            split: taken - used - pinned,
+            pinned,
+            back,
+            dropped,
+            used,
         }
     }
 

@@ -52,12 +52,12 @@ impl Page {
             }
             Gain::Write { first, count } => {
                 self.check_write(first, count)?;
-                self.remove_zeros(first, count);
+                self.zero = self.zero.difference(SubSet::range(first, count));
                 Ok(())
             }
             Gain::Zero { first, count } => {
                 self.check_write(first, count)?;
-                self.add_zeros(first, count);
+                self.zero = self.zero.union(SubSet::range(first, count));
                 Ok(())
             }
         }
@@ -190,22 +190,6 @@ impl Page {
         ensures kept { OnErr result (self.new ≡ self.old) }
     {
         self.gain(Gain::Zero { first, count })
-    }
-
-    // Takes a range, which may be written, from the zero-filled subpages.
-    fn remove_zeros(&mut self, first: u32, count: u32)
-        requires { page_refusal self.old (call.write 0 first count) ≡ None }
-        ensures { RangeWritten first count self.old self.new }
-    {
-        self.zero = self.zero.difference(SubSet::range(first, count));
-    }
-
-    // Adds a range, which may be written, to the zero-filled subpages.
-    fn add_zeros(&mut self, first: u32, count: u32)
-        requires { page_refusal self.old (call.write 0 first count) ≡ None }
-        ensures { RangeZeroed first count self.old self.new }
-    {
-        self.zero = self.zero.union(SubSet::range(first, count));
     }
 
     // Fails with the reason why the call would be refused.

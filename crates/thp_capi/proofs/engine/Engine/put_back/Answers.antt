@@ -1,33 +1,26 @@
--- The other open batches stay in front of their flights; a refused put-back changes nothing.
-use Rattle.std.proofs.Common.{◌≡◌, ◌∙◌, ◌<◌, Some, None, ap, get_or, length, set, sym, subst, set-set}
-use Rattle.thp_node.specs.Prelude.{BatchState, IsInFront}
-use Rattle.thp_capi.specs.Calls.{BackFails}
-use Rattle.thp_capi.specs.declared.codes.Fault.TheVariants.{Refused}
-use Rattle.thp_capi.proofs.Places.{engine_took, engine_closed, own_front, back_refused}
+-- The other open batches stay in front of their flights; the pages of this one are its caller's.
+use Rattle.std.proofs.Common.{◌≡◌, ◌∙◌, ◌<◌, IfSome, Some, None, get_or, length, refl, subst, sym}
+use Rattle.std.proofs.lemmas.List.{get_or_default}
+use Rattle.thp_history.specs.Prelude.{still_flying}
+use Rattle.thp_node.specs.Prelude.{back_reply}
+use Rattle.thp_capi.specs.Calls.{BackReplies}
+use Rattle.thp_capi.proofs.Places.{engine_closed, own_front}
 use Rattle.thp_capi.proofs.engine.Engine.put_back.Goals as goal
 
-pub invariant_of-self-in-Ok : goal.invariant_of-self-in-Ok
-invariant_of-self-in-Ok g c =
+pub invariant_of-self-2 : goal.invariant_of-self-2
+invariant_of-self-2 g c =
     let lt : c.in_ok-place.place < length c.self.inside.batches.items = subst (λ x. c.in_ok-place.place < length x.batches) (sym c.self.view_is) c.in_ok-place.ensures.inside in
-    engine_closed _ c.put_back.new.self _ c.self.invariant _ c.in_ok-place.place c.put_back.ensures.fronts lt c.take_at.ensures.now
+    engine_closed _ c.put_back_all.new.self _ c.self.invariant _ c.in_ok-place.place c.put_back_all.ensures.fronts lt refl
 
-pub invariant_of-self-in-Err : goal.invariant_of-self-in-Err
-invariant_of-self-in-Err g c =
-    let lt : c.in_ok-place.place < length c.self.inside.batches.items = subst (λ x. c.in_ok-place.place < length x.batches) (sym c.self.view_is) c.in_ok-place.ensures.inside in
-    let is : get_or c.self.inside.batches.items c.in_ok-place.place None ≡ Some c.in-Some.batch = sym c.take_at.ensures.was ∙ c.in-Some.is in
-    let own = own_front _ c.self.inside.node _ c.self.invariant c.in_ok-place.place c.in-Some.batch lt is in
-    let now = c.put_at.ensures.now ∙ ap (λ xs. set xs c.in_ok-place.place (Some c.in-Err.batch)) c.take_at.ensures.now ∙ set-set c.self.inside.batches.items c.in_ok-place.place None (Some c.in-Err.batch) in
-    let back : c.in-Err.batch ≡ c.in-Some.batch = c.in-Err.ensures.handed_back in
-    engine_took _ c.put_back.new.self _ c.self.invariant _ c.in_ok-place.place c.in-Err.batch (λ b other front. c.put_back.ensures.fronts b front) lt
-    (ap (λ (x : BatchState). x.caller) back ∙ own.0) (subst (IsInFront c.put_back.new.self.journal) (sym back) (c.put_back.ensures.fronts c.in-Some.batch own.1)) now
-
-pub returns-in-Err-clause-failed : goal.returns-in-Err-clause-failed
-returns-in-Err-clause-failed g c =
-    let lt : c.in_ok-place.place < length c.self.inside.batches.items = subst (λ x. c.in_ok-place.place < length x.batches) (sym c.self.view_is) c.in_ok-place.ensures.inside in
-    let is : get_or c.self.inside.batches.items c.in_ok-place.place None ≡ Some c.in-Some.batch = sym c.take_at.ensures.was ∙ c.in-Some.is in
-    let own = own_front _ c.self.inside.node _ c.self.invariant c.in_ok-place.place c.in-Some.batch lt is in
-    let now = c.put_at.ensures.now ∙ ap (λ xs. set xs c.in_ok-place.place (Some c.in-Err.batch)) c.take_at.ensures.now ∙ set-set c.self.inside.batches.items c.in_ok-place.place None (Some c.in-Err.batch) in
-    let at : c.in_ok-place.place ≡ c.args.caller = c.in_ok-place.ensures.at in
-    subst (λ x. BackFails c.args.caller x (record { node = c.put_back.new.self; batches = c.put_at.new.places.items }) (Refused c.in-Err.refusal)) c.self.view_is
-    (subst (λ d. BackFails d (record { node = c.self.inside.node; batches = c.self.inside.batches.items }) (record { node = c.put_back.new.self; batches = c.put_at.new.places.items }) (Refused c.in-Err.refusal)) at
-    (back_refused c.self.inside.node c.put_back.new.self _ _ c.in_ok-place.place c.in-Some.batch c.in-Err.batch c.in-Err.refusal is own.0 now c.in-Err.ensures.handed_back c.in-Err.ensures.refused))
+pub returns-clause-reply : goal.returns-clause-reply
+returns-clause-reply g c =
+    let n = c.self.inside.node in
+    let bs = c.self.inside.batches.items in
+    let place = c.in_ok-place.place in
+    let r = c.in_ok-reply.reply in
+    let lt : place < length bs = subst (λ x. place < length x.batches) (sym c.self.view_is) c.in_ok-place.ensures.inside in
+    let is : get_or bs place None ≡ Some c.in-Some.batch = get_or_default bs place None c.index.result.now lt ∙ sym c.index.ensures ∙ c.in-Some.is in
+    subst (λ x. BackReplies c.args.caller x r) c.self.view_is
+    (subst (λ d. BackReplies d (record { node = n; batches = bs }) r) c.in_ok-place.ensures.at
+    (subst (λ o. IfSome o (λ b. r ≡ back_reply n.shape n.journal (still_flying n.journal place b.pages))) (sym is)
+    (subst (λ k. r ≡ back_reply n.shape n.journal (still_flying n.journal k c.in-Some.batch.pages)) (own_front _ n _ c.self.invariant place c.in-Some.batch lt is).0 c.in_ok-reply.ensures.reply)))

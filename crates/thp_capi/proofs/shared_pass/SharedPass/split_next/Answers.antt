@@ -1,10 +1,9 @@
 -- The batch and the others stay in front of their flights; what the cell's call did is told.
-use Rattle.std.proofs.Common.{◌≡◌, ◌∙◌, ◌+◌, ◌<◌, Some, None, arith, get_or, length, refl, set, sym, subst}
+use Rattle.std.proofs.Common.{◌≡◌, ◌∙◌, ◌+◌, ◌<◌, Some, None, Ok, arith, get_or, length, refl, set, sym, subst}
 use Rattle.std.proofs.lemmas.List.{get_or_default}
 use Rattle.thp_cell.specs.Prelude.{Called, DidTry}
 use Rattle.thp_capi.specs.PassBatches.{PassNext}
-use Rattle.thp_capi.proofs.Opened.{others_stay, own_at, shared_took, next_done, next_failed}
-use Rattle.thp_capi.proofs.shared_pass.SharedPass.split_next.Goals.{in-Ok, in-Err}
+use Rattle.thp_capi.proofs.Opened.{others_stay, own_at, shared_took, next_done}
 use Rattle.thp_capi.proofs.shared_pass.SharedPass.split_next.Goals as goal
 
 pub split_next-requires-clause-caller : goal.split_next-requires-clause-caller
@@ -19,6 +18,21 @@ split_next-requires-clause-caller g c =
 
 pub invariant_of-self-2 : goal.invariant_of-self-2
 invariant_of-self-2 g c =
+    let p = c.self.inside.pass in
+    let bs = c.self.inside.batches.items in
+    let place = c.in_ok-place.place in
+    let at : place + p.first ≡ c.args.caller = subst (λ x. place + x.pass.first ≡ c.args.caller) (sym c.self.view_is) c.in_ok-place.ensures.at in
+    let lt : place < length bs = subst (λ x. place < length x.batches) (sym c.self.view_is) c.in_ok-place.ensures.inside in
+    let b = c.in-Some.batch in
+    let is : get_or bs place None ≡ Some b = get_or_default bs place None c.index_mut.result.now lt ∙ sym c.index_mut.ensures.value ∙ c.in-Some.is in
+    let was = c.self.invariant.each place b lt is in
+    let own : b.caller ≡ c.args.caller = omega (arith, was.0, at) in
+    let e = c.split_next.ensures in
+    let q = c.split_next.new.pass in
+    shared_took _ _ _ _ p q bs _ c.args.caller place c.self.invariant e.same at lt refl c.split_next.new.batch (others_stay p q c.args.caller e.batches) (e.same_caller ∙ own) (e.front was.1) refl
+
+pub invariant_of-self-in_err-tried : goal.invariant_of-self-in_err-tried
+invariant_of-self-in_err-tried g c =
     let p = c.self.inside.pass in
     let bs = c.self.inside.batches.items in
     let place = c.in_ok-place.place in
@@ -47,9 +61,6 @@ returns g c =
     let b' = c.split_next.new.batch in
     let mark = c.self.inside.mark in
     let new = set bs place (Some b') in
-    subst (λ x. PassNext c.args.caller x (record { mark = mark; pass = q; batches = new }) c.match-split_next.result) c.self.view_is
-    (elim c.match-split_next.branch [
-      | in-Ok w ↦ rw w.result-is (next_done mark p q bs new c.args.caller place e.same at lt b b' w.of.result w.of.ensures.kind is own refl e.same_caller e.same_pages
-          (subst (λ t. Called p q b.caller (DidTry p.shape b b' t)) (sym w.of.ensures.value) w.in-Ok.ensures.recorded))
-      | in-Err w ↦ rw (w.result-is, w.from.ensures) (next_failed mark p q bs new c.args.caller place e.same at lt b b' w.in-Err.fault is own refl w.in-Err.ensures.kept w.in-Err.ensures.failed)
-    ])
+    subst (λ x. PassNext c.args.caller x (record { mark = mark; pass = q; batches = new }) (Ok c.of.result)) c.self.view_is
+    (next_done mark p q bs new c.args.caller place e.same at lt b b' c.of.result c.of.ensures.kind is own refl e.same_caller e.same_pages
+    (subst (λ t. Called p q b.caller (DidTry p.shape b b' t)) (sym c.of.ensures.value) c.in_ok-tried.ensures.recorded))

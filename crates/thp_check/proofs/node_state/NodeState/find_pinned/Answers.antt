@@ -10,14 +10,14 @@ returns-then-pins-eq0 c = λ s h m.
     let at = c.in-Some.ensures.there in
     pinned_not s h c.args.caller c.args.page c.in-Some.block c.args.self.now m at (sym (c.pins.ensures at.slot at.at) ∙ c.if-pins-eq0.true)
 
-pub returns-then-not-is_split_candidate : goal.returns-then-not-is_split_candidate
-returns-then-not-is_split_candidate c = λ s h m.
+pub returns-else-is_split_candidate : goal.returns-else-is_split_candidate
+returns-else-is_split_candidate c = λ s h m.
     let at = c.in-Some.ensures.there in
-    pinned_idle s h c.args.caller c.args.page c.in-Some.block c.args.self.now m at (sym (c.is_split_candidate.ensures at.slot at.at) ∙ c.if-not-is_split_candidate.true)
+    pinned_idle s h c.args.caller c.args.page c.in-Some.block c.args.self.now m at (sym (c.is_split_candidate.ensures at.slot at.at) ∙ c.if-is_split_candidate.false)
     (λ e. c.if-pins-eq0.false (c.pins.ensures at.slot at.at ∙ e))
 
-pub returns : goal.returns
-returns c = λ s h m.
+pub returns-then-is_split_candidate : goal.returns-then-is_split_candidate
+returns-then-is_split_candidate c = λ s h m.
     let at = c.in-Some.ensures.there in
-    pinned_goes s h c.args.caller c.args.page c.in-Some.block c.args.self.now m at (sym (c.is_split_candidate.ensures at.slot at.at) ∙ c.if-not-is_split_candidate.false)
+    pinned_goes s h c.args.caller c.args.page c.in-Some.block c.args.self.now m at (sym (c.is_split_candidate.ensures at.slot at.at) ∙ c.if-is_split_candidate.true)
     (λ e. c.if-pins-eq0.false (c.pins.ensures at.slot at.at ∙ e))

@@ -1,23 +1,30 @@
 use Rattle.std.proofs.Common.{ℕ, Contains, refl, sym, ◌∙◌, subst}
-use Rattle.thp_check.specs.Prelude.{blocks_in}
+use Rattle.std.proofs.lemmas.Result.{err_from_is_err_and}
+use Rattle.thp_history.specs.declared.events.What.TheVariants.{Back}
+use Rattle.thp_history.specs.Prelude.{by}
+use Rattle.thp_check.specs.Prelude.{IsMisfit, Misfit, blocks_in}
 use Rattle.thp_check.proofs.TakeSteps.{back_other, back_goes, back_dropped, is_there, same_some}
 use Rattle.thp_check.proofs.node_state.NodeState.put_back.Goals as goal
 
-pub returns-in-Err : goal.returns-in-Err
-returns-in-Err c = λ s h m. back_other s h c.args.caller c.args.page c.in-Err.first (c.in-Err.ensures.is_first s h m) c.in-Err.ensures.other
+pub returns-in_err-block : goal.returns-in_err-block
+returns-in_err-block c = λ s h m.
+    let other = c.in_err-block.ensures.other in
+    let P : Misfit → Type 0 = λ x. IsMisfit s h (by c.args.caller (Back c.args.page)) x in
+    let p = err_from_is_err_and c.from_residual.result c.from_residual.ensures.1 in
+    rw (p.1, p.2) (subst P (sym other.1) (back_other s h c.args.caller c.args.page other.0 (other.2 s h m) other.3))
 
 pub returns-then-is_dropped : goal.returns-then-is_dropped
 returns-then-is_dropped c = λ s h m.
-    let at = c.in-Ok.ensures.there in
-    back_dropped s h c.args.caller c.args.page c.in-Ok.block c.args.self.now m at (sym (c.is_dropped.ensures at.slot at.at) ∙ c.if-is_dropped.true) c.in-Ok.ensures.first
+    let at = c.in_ok-block.ensures.there in
+    back_dropped s h c.args.caller c.args.page c.in_ok-block.block c.args.self.now m at (sym (c.is_dropped.ensures at.slot at.at) ∙ c.if-is_dropped.true) c.in_ok-block.ensures.first
 
 pub leave-requires : goal.leave-requires
 leave-requires c = λ d e.
     let k = c.requires in
-    let P : ℕ → Type 0 = λ n. Contains (blocks_in c.args.self.now.flights n) c.in-Ok.block in
-    subst P (same_some c.args.caller d e) (is_there k.shape k.history c.args.caller c.args.page c.in-Ok.block c.args.self.now k.means c.in-Ok.ensures.there)
+    let P : ℕ → Type 0 = λ n. Contains (blocks_in c.args.self.now.flights n) c.in_ok-block.block in
+    subst P (same_some c.args.caller d e) (is_there k.shape k.history c.args.caller c.args.page c.in_ok-block.block c.args.self.now k.means c.in_ok-block.ensures.there)
 
 pub returns : goal.returns
 returns c = λ s h m.
-    let at = c.in-Ok.ensures.there in
-    back_goes s h c.args.caller c.args.page c.in-Ok.block c.args.self.now m at _ (sym (c.is_dropped.ensures at.slot at.at) ∙ c.if-is_dropped.false) c.in-Ok.ensures.first (c.enqueue.ensures at.slot at.at) c.leave.ensures.left c.leave.ensures.size refl refl refl
+    let at = c.in_ok-block.ensures.there in
+    back_goes s h c.args.caller c.args.page c.in_ok-block.block c.args.self.now m at _ (sym (c.is_dropped.ensures at.slot at.at) ∙ c.if-is_dropped.false) c.in_ok-block.ensures.first (c.enqueue.ensures at.slot at.at) c.leave.ensures.left c.leave.ensures.size refl refl refl

@@ -1,10 +1,10 @@
-use Rattle.std.proofs.Common.{◌≡◌, ◌∙◌, ◌++◌, ◌∷◌, [], length, ap, arith, subst, sym}
+use Rattle.std.proofs.Common.{◌≡◌, ◌++◌, ◌∷◌, [], length, ap, arith, subst, sym}
 use Rattle.thp_history.specs.declared.events.Event.{Event}
 use Rattle.thp_history.specs.declared.shape.Shape.{Shape}
 use Rattle.thp_history.specs.declared.tally.Tally.{Tally}
-use Rattle.thp_history.specs.Prelude.{allocations, is_alloc, History, in_words, AddsUp, HasRoom}
+use Rattle.thp_history.specs.Prelude.{allocations, is_alloc, History, AddsUp, HasRoom}
 use Rattle.thp_history.proofs.Totals.{few_events}
-use Rattle.thp_check.specs.Prelude.{NodeState, free_after, MarksFree, Means, Replayed}
+use Rattle.thp_check.specs.Prelude.{NodeState, MarksFree, Means, Replayed}
 use Rattle.thp_check.proofs.FreeMarks.{freed_inside, marks_push}
 use Rattle.thp_history.proofs.Totals.{has_room, adds_push}
 use Rattle.thp_check.proofs.replay.Replay.admit.Goals as goal
@@ -24,8 +24,8 @@ mark-requires-clause-freed c =
     let M : NodeState → Type 0 = λ r. Means s i.past r in
     freed_inside s i.past c.args.event.now.what i.free c.freed_block-freed.result c.self.invariant.0.kept.node.legal c.self.invariant.1 (c.freed_block-freed.ensures s i.past (subst M (sym c.deref.ensures) c.self.invariant.0))
 
-pub invariant_of-result : goal.invariant_of-result
-invariant_of-result c =
+pub invariant_of-self : goal.invariant_of-self
+invariant_of-self c =
     let i = c.self.inside in
     let s : Shape = i.state.value.shape in
     let e : Event = c.args.event.now in
@@ -34,7 +34,7 @@ invariant_of-result c =
     let went = c.in_ok-admit.ensures s i.past (subst M (sym c.deref_mut.ensures.value) c.self.invariant.0) in
     let marks : MarksFree s (i.past ++ e ∷ []) c.mark.new.free =
     marks_push s i.past e c.self.invariant.0.kept.node.legal went.0 i.free c.mark.new.free c.freed_block-freed.result c.self.invariant.1 freed c.mark.ensures.size
-    (λ b. c.mark.ensures.marked b ∙ ap (λ t. free_after t c.freed_block-freed.result b (in_words i.free b)) c.taken_block.ensures) in
+    c.mark.ensures.marked in
     let said = c.context_of-unsaid.ensures s i.past e.caller (subst M (sym c.deref-2.ensures) c.self.invariant.0) went.0 in
     let adds : AddsUp s (i.past ++ e ∷ []) c.count.new.self =
     let old : Tally → Type 0 = λ t. AddsUp s i.past t in

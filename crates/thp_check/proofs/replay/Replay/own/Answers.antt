@@ -13,12 +13,12 @@ neither false y e = refl
 both : (x y : Bool) → x ≡ true → y ≡ true → true ≡ (x && y)
 both x y e f = rw e (sym f)
 
-pub returns-in-None-clause-there : goal.returns-in-None-clause-there
-returns-in-None-clause-there c =
+pub returns-in_err-block-clause-there : goal.returns-in_err-block-clause-there
+returns-in_err-block-clause-there c =
     let i = c.self.inside in
     let same = c.table-table.ensures ∙ ap (λ (r : NodeState). r.places.table) c.deref-2.ensures in
-    let gone = unseen i.state.value.shape i.past i.state.value c.self.invariant.0 c.table-table.result.now same c.args.page c.in-None.ensures.absent in
-    neither _ _ (ap (λ (r : Replayed). is_live r.history c.args.page) (sym c.self.view_is) ∙ gone)
+    let gone = unseen i.state.value.shape i.past i.state.value c.self.invariant.0 c.table-table.result.now same c.args.page c.in_err-block.ensures.absent in
+    rw c.from_residual.ensures (neither _ _ (ap (λ (r : Replayed). is_live r.history c.args.page) (sym c.self.view_is) ∙ gone))
 
 -- the subpage is one of the page's
 inside : (i n m : ℕ) → n ≡ m → i < n → i < m
@@ -31,16 +31,16 @@ pub returns-clause-there : goal.returns-clause-there
 returns-clause-there c =
     let i = c.self.inside in
     let same = c.table-table.ensures ∙ ap (λ (r : NodeState). r.places.table) c.deref-2.ensures in
-    let k = seen i.state.value.shape i.past i.state.value c.self.invariant.0 c.table-table.result.now same c.args.page c.in-Some.block c.in-Some.ensures.found c.in-Some-page.state.now c.in-Some-page.ensures.page in
+    let k = seen i.state.value.shape i.past i.state.value c.self.invariant.0 c.table-table.result.now same c.args.page c.in_ok-block.block c.in_ok-block.ensures.found c.in-Some.state.now c.in-Some.ensures.page in
     let shape = c.subpages.ensures ∙ ap (λ (r : NodeState). subpages r.shape) c.deref.ensures ∙ ap (λ (r : Replayed). subpages r.shape) c.self.view_is in
     both _ _ (is_below _ _ (inside c.args.i c.subpages.result _ shape c.if-i-subpages.false)) (ap (λ (r : Replayed). is_live r.history c.args.page) (sym c.self.view_is) ∙ k.0)
 
 pub returns-clause-own : goal.returns-clause-own
 returns-clause-own c =
     let i = c.self.inside in
-    let state = c.in-Some-page.state.now in
+    let state = c.in-Some.state.now in
     let same = c.table-table.ensures ∙ ap (λ (r : NodeState). r.places.table) c.deref-2.ensures in
-    let k = seen i.state.value.shape i.past i.state.value c.self.invariant.0 c.table-table.result.now same c.args.page c.in-Some.block c.in-Some.ensures.found state c.in-Some-page.ensures.page in
+    let k = seen i.state.value.shape i.past i.state.value c.self.invariant.0 c.table-table.result.now same c.args.page c.in_ok-block.block c.in_ok-block.ensures.found state c.in-Some.ensures.page in
     let shape = c.subpages.ensures ∙ ap (λ (r : NodeState). subpages r.shape) c.deref.ensures in
     let below : c.args.i < subpages i.state.value.shape = inside c.args.i c.subpages.result _ shape c.if-i-subpages.false in
     let within = ap (nat_lt c.args.i) (size_is i.state.value.shape i.past c.args.page state k.1) ∙ is_below _ _ below in

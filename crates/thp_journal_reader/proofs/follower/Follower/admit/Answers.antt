@@ -19,8 +19,8 @@ returns-in_default g c = λ nodes f.
     let F = g.F.FollowsNode in
     let old = c.args.self.now in
     let none : old.at_hand ≡ None = sym c.take.ensures.value ∙ not_there c.take.result c.in_default.not-Some in
-    let kept = still F.keeps F.follows_all nodes old.illegal old.kept.items c.args.event.now f.first (none_is F.keeps F.replayed F.follows_all nodes old.at_hand old.next_line old.illegal old.kept.items f.known none) in
-    follows_none F.keeps F.replayed F.follows_all (on_last (with_event c.args.event.now) nodes) (record old { at_hand = c.take.new.self }) c.take.ensures.after kept.0 kept.1
+    let kept = still F.keeps F.FOLLOWS_ALL nodes old.illegal old.kept.items c.args.event.now f.first (none_is F.keeps F.replayed F.FOLLOWS_ALL nodes old.at_hand old.next_line old.illegal old.kept.items f.known none) in
+    follows_none F.keeps F.replayed F.FOLLOWS_ALL (on_last (with_event c.args.event.now) nodes) (record old { at_hand = c.take.new.self }) c.take.ensures.after kept.0 kept.1
 
 pub returns-in-Alloc : goal.returns-in-Alloc
 returns-in-Alloc g c =
@@ -29,7 +29,7 @@ returns-in-Alloc g c =
     let with_what : What → Event = λ what. record { caller = c.args.event.now.caller; what = what } in
     IfOk-weaker c.place.result _ _
     (λ u placed nodes f.
-    placed nodes c.args.event.now c.in-Alloc.block (f.first, at_hand_is F.keeps F.replayed F.follows_all nodes old.at_hand old.next_line old.illegal old.kept.items f.known c.in-Some.node (sym c.take.ensures.value ∙ c.in-Some.is)) (ap with_what c.in-Alloc.is))
+    placed nodes c.args.event.now c.in-Alloc.block (f.first, at_hand_is F.keeps F.replayed F.FOLLOWS_ALL nodes old.at_hand old.next_line old.illegal old.kept.items f.known c.in-Some.node (sym c.take.ensures.value ∙ c.in-Some.is)) (ap with_what c.in-Alloc.is))
     c.place.ensures
 
 pub returns-in_default-what : goal.returns-in_default-what
@@ -41,5 +41,5 @@ returns-in_default-what g c =
     let with_what : What → Event = λ what. record { caller = event.caller; what = what } in
     IfOk-weaker c.go_on.result _ _
     (λ u goes nodes f.
-    goes nodes event (f.first, at_hand_is F.keeps F.replayed F.follows_all nodes old.at_hand old.next_line old.illegal old.kept.items f.known c.in-Some.node (sym c.take.ensures.value ∙ c.in-Some.is)) (ap with_what (no_block (least_free replay.shape replay.history) event.what c.in_default-what.not-Alloc)))
+    goes nodes event (f.first, at_hand_is F.keeps F.replayed F.FOLLOWS_ALL nodes old.at_hand old.next_line old.illegal old.kept.items f.known c.in-Some.node (sym c.take.ensures.value ∙ c.in-Some.is)) (ap with_what (no_block (least_free replay.shape replay.history) event.what c.in_default-what.not-Alloc)))
     c.go_on.ensures

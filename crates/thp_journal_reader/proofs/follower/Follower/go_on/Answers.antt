@@ -19,5 +19,5 @@ returns-in-Err g c =
     IfOk-weaker c.stop.result _ _
     (λ u s nodes told known placed.
     let stopped = stops F.keeps nodes (F.replayed c.args.node) old.next_line old.kept.items known.1 told c.args.event.now placed c.in-Err.stopped.misfit c.in-Err.ensures.misfit c.in-Err.ensures.why F.leaves c.in-Err.stopped.rest old.illegal new.illegal new.kept.items known.0 c.in-Err.ensures.rest s in
-    follows_none F.keeps F.replayed F.follows_all (on_last (with_event told) nodes) new (c.stop.ensures.at_hand ∙ c.requires.none) stopped.0 (inl (stopped.1, stopped.2)))
+    follows_none F.keeps F.replayed F.FOLLOWS_ALL (on_last (with_event told) nodes) new (c.stop.ensures.at_hand ∙ c.requires.none) stopped.0 (inl (stopped.1, stopped.2)))
     c.stop.ensures.stops

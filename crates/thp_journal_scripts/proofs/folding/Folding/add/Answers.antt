@@ -19,8 +19,8 @@ returns c = λ block.
     let d = c.end.new.self in
     let place : ScanPlace → ScanPlace = λ s. scan_place_of s (kind_of e.what) e.caller e.what in
     let same : (s : ScanPlace) → place s ≡ scan_place_of s (kind_of told.what) told.caller told.what = λ s. in_any_block (λ (w : What). scan_place_of s (kind_of w) told.caller w) (λ p b d. refl) block told.what in
-    let pages : b.pages.pages.items ≡ flying_after e.what m.flights m.pages.pages.items =
-    c.in_ok-follow.ensures.pages ∙ sym (in_any_block (λ (w : What). flying_after w m.flights m.pages.pages.items) (λ p b d. refl) block told.what) in
+    let pages : b.pages.items ≡ flying_after e.what m.flights m.pages.items =
+    c.in_ok-follow.ensures.pages ∙ sym (in_any_block (λ (w : What). flying_after w m.flights m.pages.items) (λ p b d. refl) block told.what) in
     let goes : (s : ScanPlace) → IsAtPlace s a → IsAt (place s) (pages_at s) m = λ s at. subst (λ t. IsAt t (pages_at s) m) (sym (same s)) (c.in_ok-add_kind.ensures.goes_on s at) in
     let after : (s : ScanPlace) → IsAtPlace s a → IsAtPlace (place s) b = λ s at. event_after e.what m b c.follow.ensures.batch c.follow.ensures.moved pages c.follow.ensures.flights e.caller s (goes s at) in
     folded_more o c.release.new.ops.items e a c.release.new.self

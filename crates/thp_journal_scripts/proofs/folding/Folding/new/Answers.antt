@@ -20,6 +20,6 @@ returns c =
         count = c.default.ensures.1.1.0;
         none_late = λ zero. refl;
       };
-      scans = record { batch_is = refl; some = tt; quiet = record { pages_are = c.new.ensures; none_waits = c.new-2.ensures.items; none_moved = nothing; last_flight = refl } };
+      scans = record { batch_is = refl; some = tt; quiet = record { pages_are = c.new.ensures.items; none_waits = c.new-2.ensures.items; none_moved = nothing; last_flight = refl } };
       plain = λ ne. All-nil IsCallOrScan;
     }

@@ -1,7 +1,7 @@
 use Rattle.std.proofs.Common.{◌++◌, Option, subst, sym}
 use Rattle.thp_journal_reader.specs.Prelude.{ReportsFirst, nodes_told, journals_in}
 use Rattle.thp_journal_scripts.specs.Prelude.{IsScripting, IsScriptOf, taken_of, ScriptedNodes}
-use Rattle.thp_journal_reader.specs.declared.illegal.Illegal.{Illegal}
+use Rattle.thp_journal_reader.specs.declared.long_check.Illegal.{Illegal}
 use Rattle.thp_journal_scripts.proofs.script_check.ScriptCheck.finish.Goals as goal
 
 pub returns-in_ok-finish-in-Ok-clause-scripted : goal.returns-in_ok-finish-in-Ok-clause-scripted

@@ -7,5 +7,5 @@ pub returns-in_ok-finish-in-Ok-clause-kept : goal.returns-in_ok-finish-in-Ok-cla
 returns-in_ok-finish-in-Ok-clause-kept g c =
     let F = g.F.FollowsNode in
     let nodes = nodes_told c.self.inside.text.nodes.lines in
-    let P : FollowedNodes _ _ → Type 0 = λ kept. Follows F.replayed F.keeps F.follows_all nodes kept.follower in
+    let P : FollowedNodes _ _ → Type 0 = λ kept. Follows F.replayed F.keeps F.FOLLOWS_ALL nodes kept.follower in
     (journals_in nodes, rw (← c.self.view_is) c.in-Ok.ensures.told, c.in_ok-finish-in-Ok.ensures nodes (subst P (sym c.in-Ok.ensures.nodes) c.self.invariant.0.follows))

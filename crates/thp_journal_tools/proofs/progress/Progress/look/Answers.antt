@@ -1,5 +1,5 @@
 use Rattle.std.proofs.Common.{◌∙◌, ap}
-use Rattle.thp_journal_tools.specs.declared.counting.EventCount.{EventCount}
+use Rattle.thp_journal_tools.specs.declared.progress.EventCount.{EventCount}
 use Rattle.thp_journal_tools.proofs.ProgressLaws.{counts_more}
 use Rattle.thp_journal_tools.proofs.progress.Progress.look.Goals as goal
 

@@ -16,7 +16,7 @@ pub enter-requires : goal.enter-requires
 enter-requires c =
     let i = c.self.inside in
     let past : length i.replay.history ≡ length c.args.self.history = ap (λ (r : Replayed). length r.history) c.self.view_is in
-    may_enter i.replay.shape i.replay.history i.numbers.pages c.leave.new.self c.spot_in-before.result.stage c.spot_in-after.result.stage (ap (λ (n : Numbers). n.pages) c.self.invariant.0.numbers_are) (omega (arith, past, c.requires.room))
+    may_enter i.replay.shape i.replay.history i.numbers.pages c.leave.new.pages c.spot_in-before.result.stage c.spot_in-after.result.stage (ap (λ (n : Numbers). n.pages) c.self.invariant.0.numbers_are) (omega (arith, past, c.requires.room))
     (may_leave i.replay.shape i.replay.history i.numbers.pages c.spot_in-before.result.stage (event_page c.args.event.now.what) c.self.invariant.0.legal (ap (λ (n : Numbers). n.pages) c.self.invariant.0.numbers_are) c.spot_in-before.ensures.stage)
     c.leave.ensures
 
@@ -68,7 +68,7 @@ invariant_of-result c =
     (subst (CountsBatches (with_event i.replay e)) (sym counted)
     (counts_on i.replay e i.batches before.batch after.batch c.self.invariant.0.legal c.in-Ok.ensures.fits c.self.invariant.2 may c.spot_in-before.ensures.batch
     (c.spot_in-after.ensures.batch ∙ ap (λ (r : Replayed). option_and_then (batch_of r.shape r.history) (event_page e.what)) c.in-Ok.ensures.admitted))) in
-    let along = goes_on i.replay c.in-Ok.replay e c.leave.new.self c.enter.new.self c.set_stage.new.stages i.columns c.push.new.self i.numbers c.numbers_of-numbers.result before.stage after.stage c.self.invariant.0
+    let along = goes_on i.replay c.in-Ok.replay e c.leave.new.pages c.enter.new.pages c.set_stage.new.stages i.columns c.push.new.self i.numbers c.numbers_of-numbers.result before.stage after.stage c.self.invariant.0
     c.in-Ok.ensures.admitted c.in-Ok.ensures.fits
     (may_leave i.replay.shape i.replay.history i.numbers.pages before.stage (event_page e.what) c.self.invariant.0.legal (ap (λ (n : Numbers). n.pages) c.self.invariant.0.numbers_are) c.spot_in-before.ensures.stage)
     c.spot_in-before.ensures.stage c.spot_in-after.ensures.stage c.leave.ensures c.enter.ensures (rw c.event_page.ensures at c.set_stage.ensures)

@@ -1,36 +1,40 @@
-use Rattle.std.proofs.Common.{◌≡◌, Bool, true, ◌&&◌, IsTrue, ◌↔◌, ap, sym, ◌∙◌, subst, arith}
-use Rattle.thp_history.specs.Prelude.{FitsBy, has_page}
+use Rattle.std.proofs.Common.{◌≡◌, Bool, not, is_some, Option, None, true, ◌&&◌, IsTrue, ◌↔◌, ap, sym, ◌∙◌, subst, arith}
+use Rattle.thp_history.specs.Prelude.{FitsBy, History, has_page, refusal_of}
+use Rattle.thp_history.specs.declared.refusal.Refusal.{Refusal}
+use Rattle.thp_history.specs.declared.shape.Shape.{Shape}
 use Rattle.thp_history.specs.declared.events.What.{What}
 use Rattle.thp_history.proofs.Asked.{none_is}
 use Rattle.thp_history.proofs.WordLemmas.{same_set-Decides}
 use Rattle.thp_model.proofs.slow_check.kinds.fits_lists.Goals as goal
 use Rattle.thp_model.proofs.slow_check.kinds.fits_lists.Goals.{then-can_try, else-can_try}
 
-pub returns-in-Alloc : goal.returns-in-Alloc
-returns-in-Alloc c =
-    let P : What → Type 0 = λ w. IsTrue c.fits_alloc.result ↔ FitsBy c.args.shape c.args.before.now c.args.after.now c.args.event.now.caller w in
-    subst P (sym c.in-Alloc.is) c.fits_alloc.ensures
+-- the call is not refused
+allowed : (s : Shape) (h : History) (w v : What) (r : Option Refusal) (b : Bool) → r ≡ refusal_of s h w → is_some r ≡ not b → b ≡ true → w ≡ v → refusal_of s h v ≡ None
+allowed s h w v r b e f t is = let P : What → Type 0 = λ x. refusal_of s h x ≡ None in subst P is (sym e ∙ none_is r b f t)
 
-pub returns-then-is_none : goal.returns-then-is_none
-returns-then-is_none c =
-    let s = c.args.shape in
-    let none = sym (c.of_taking_whole-refusal.ensures.unmap s) ∙ none_is c.of_taking_whole-refusal.result c.is_none-in-UnmapWhole.result c.is_none-in-UnmapWhole.ensures c.if-is_none.true in
-    let P : What → Type 0 = λ w. IsTrue c.gives.result ↔ FitsBy s c.args.before.now c.args.after.now c.args.event.now.caller w in
+pub returns-then-is_allowed : goal.returns-then-is_allowed
+returns-then-is_allowed c =
+    let none = allowed c.args.shape c.args.before.now _ _ _ _ c.refusal.ensures c.is_none-is_allowed.ensures c.if-is_allowed.true c.in-Alloc.is in
+    let P : What → Type 0 = λ w. IsTrue c.is_next.result ↔ FitsBy c.args.shape c.args.before.now c.args.after.now c.args.event.now.caller w in
+    subst P (sym c.in-Alloc.is) (λ e. let w = c.is_next.ensures.0 e in record { allowed = none; number = w.0; inside = w.1; free = w.2 }, λ w. c.is_next.ensures.1 (w.number, w.inside, w.free))
+
+pub returns-then-is_allowed-2 : goal.returns-then-is_allowed-2
+returns-then-is_allowed-2 c =
+    let none = allowed c.args.shape c.args.before.now _ _ _ _ c.refusal.ensures c.is_none-is_allowed.ensures c.if-is_allowed-2.true c.in-UnmapWhole.is in
+    let P : What → Type 0 = λ w. IsTrue c.gives.result ↔ FitsBy c.args.shape c.args.before.now c.args.after.now c.args.event.now.caller w in
     subst P (sym c.in-UnmapWhole.is) (λ e. (none, c.gives.ensures.0 e), λ w. c.gives.ensures.1 w.1)
 
-pub returns-then-is_none-2 : goal.returns-then-is_none-2
-returns-then-is_none-2 c =
-    let s = c.args.shape in
-    let none = sym (c.of_unmap_sub-refusal.ensures) ∙ none_is c.of_unmap_sub-refusal.result c.is_none-in-UnmapSub.result c.is_none-in-UnmapSub.ensures c.if-is_none-2.true in
-    let P : What → Type 0 = λ w. IsTrue c.gives-then-is_none-2.result ↔ FitsBy s c.args.before.now c.args.after.now c.args.event.now.caller w in
-    subst P (sym c.in-UnmapSub.is) (λ e. (none, c.gives-then-is_none-2.ensures.0 e), λ w. c.gives-then-is_none-2.ensures.1 w.1)
+pub returns-then-is_allowed-3 : goal.returns-then-is_allowed-3
+returns-then-is_allowed-3 c =
+    let none = allowed c.args.shape c.args.before.now _ _ _ _ c.refusal.ensures c.is_none-is_allowed.ensures c.if-is_allowed-3.true c.in-UnmapSub.is in
+    let P : What → Type 0 = λ w. IsTrue c.gives-then-is_allowed-3.result ↔ FitsBy c.args.shape c.args.before.now c.args.after.now c.args.event.now.caller w in
+    subst P (sym c.in-UnmapSub.is) (λ e. (none, c.gives-then-is_allowed-3.ensures.0 e), λ w. c.gives-then-is_allowed-3.ensures.1 w.1)
 
-pub returns-then-is_none-3 : goal.returns-then-is_none-3
-returns-then-is_none-3 c =
-    let s = c.args.shape in
-    let none = sym (c.of_unpin-refusal.ensures s) ∙ none_is c.of_unpin-refusal.result c.is_none-in-Unpin.result c.is_none-in-Unpin.ensures c.if-is_none-3.true in
-    let P : What → Type 0 = λ w. IsTrue c.gives-then-is_none-3.result ↔ FitsBy s c.args.before.now c.args.after.now c.args.event.now.caller w in
-    subst P (sym c.in-Unpin.is) (λ e. (none, c.gives-then-is_none-3.ensures.0 e), λ w. c.gives-then-is_none-3.ensures.1 w.1)
+pub returns-then-is_allowed-4 : goal.returns-then-is_allowed-4
+returns-then-is_allowed-4 c =
+    let none = allowed c.args.shape c.args.before.now _ _ _ _ c.refusal.ensures c.is_none-is_allowed.ensures c.if-is_allowed-4.true c.in-Unpin.is in
+    let P : What → Type 0 = λ w. IsTrue c.gives-then-is_allowed-4.result ↔ FitsBy c.args.shape c.args.before.now c.args.after.now c.args.event.now.caller w in
+    subst P (sym c.in-Unpin.is) (λ e. (none, c.gives-then-is_allowed-4.ensures.0 e), λ w. c.gives-then-is_allowed-4.ensures.1 w.1)
 
 first : (x a b : Bool) → x ≡ (a && b) → x ≡ true → a ≡ true
 first x a b e t = grind arith

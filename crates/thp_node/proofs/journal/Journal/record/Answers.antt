@@ -1,17 +1,21 @@
-use Rattle.std.proofs.Common.{◌≡◌, ℕ, length, ap, sym, ◌∙◌, subst, arith}
+use Rattle.std.proofs.Common.{◌≡◌, ℕ, Option, length, ap, sym, ◌∙◌, subst, arith}
 use Rattle.std.proofs.lemmas.List.{length_push}
 use Rattle.thp_history.specs.declared.events.What.{What}
-use Rattle.thp_history.specs.Prelude.{History, by, Fits}
-use Rattle.thp_node.specs.Prelude.{EventContext, JournalState, IsJournal, context_of, leaves_by}
-use Rattle.thp_node.proofs.Recording.{count_room, may_leave, leaves_told, journal_push}
+use Rattle.thp_history.specs.declared.tally.SplitContext.{SplitContext}
+use Rattle.thp_history.specs.Prelude.{History, by, Fits, IsContext}
+use Rattle.thp_node.specs.Prelude.{JournalState, IsJournal, leaves_of}
+use Rattle.thp_node.proofs.Recording.{count_room, may_leave, journal_push}
 use Rattle.thp_node.proofs.journal.Journal.record.Goals as goal
 
 -- what is required of the journal's value, of its fields
 fits_inside : (v u : JournalState) (c : ℕ) (w : What) → v ≡ u → Fits u.shape u.events (by c w) → Fits v.shape v.events (by c w)
 fits_inside v u c w e f = let F : JournalState → Type 0 = λ s. Fits s.shape s.events (by c w) in subst F (sym e) f
 
-unsaid_inside : (v u : JournalState) (w : What) (o : EventContext) → v ≡ u → o ≡ context_of u.shape u.events w → o ≡ context_of v.shape v.events w
-unsaid_inside v u w o e f = f ∙ ap (λ (s : JournalState). context_of s.shape s.events w) (sym e)
+leaves_inside : (v u : JournalState) (c : ℕ) (w : What) (o : Option ℕ) → v ≡ u → o ≡ leaves_of u.events c w → o ≡ leaves_of v.events c w
+leaves_inside v u c w o e f = f ∙ ap (λ (s : JournalState). leaves_of s.events c w) (sym e)
+
+split_inside : (v u : JournalState) (w : What) (split : SplitContext) → v ≡ u → IsContext u.shape u.events w split → IsContext v.shape v.events w split
+split_inside v u w split e f = let F : JournalState → Type 0 = λ s. IsContext s.shape s.events w split in subst F (sym e) f
 
 pub count-requires-clause-room : goal.count-requires-clause-room
 count-requires-clause-room g c =
@@ -21,10 +25,9 @@ count-requires-clause-room g c =
 
 pub count-requires-clause-leaves : goal.count-requires-clause-leaves
 count-requires-clause-leaves g c =
-    let said = unsaid_inside _ _ c.args.what _ c.self.view_is c.requires.unsaid in
     may_leave c.self.inside.shape (g.R.Recorder.history c.self.inside.events) c.args.caller c.args.what c.self.inside.tally.flying _ c.self.invariant.legal
     (fits_inside _ _ c.args.caller c.args.what c.self.view_is c.requires.fits)
-    (ap (leaves_by c.args.caller c.args.what) said ∙ leaves_told _ _ c.args.caller c.args.what) c.self.invariant.flying_are
+    (leaves_inside _ _ c.args.caller c.args.what _ c.self.view_is c.requires.leaves) c.self.invariant.flying_are
 
 pub invariant_of-self : goal.invariant_of-self
 invariant_of-self g c =
@@ -33,8 +36,8 @@ invariant_of-self g c =
     let w : What = c.args.what in
     let P : History → Type 0 = λ k. IsJournal c.self.inside.shape k c.count.new.self in
     subst P (sym c.record.ensures.history)
-    (journal_push c.self.inside.shape h c.args.caller w c.args.unsaid _ _ j (fits_inside _ _ c.args.caller w c.self.view_is c.requires.fits)
-    (unsaid_inside _ _ w _ c.self.view_is c.requires.unsaid) c.count.ensures)
+    (journal_push c.self.inside.shape h c.args.caller w _ c.args.split _ _ j (fits_inside _ _ c.args.caller w c.self.view_is c.requires.fits)
+    (leaves_inside _ _ c.args.caller w _ c.self.view_is c.requires.leaves) (split_inside _ _ w c.args.split c.self.view_is c.requires.split) c.count.ensures)
 
 pub returns-clause-legal : goal.returns-clause-legal
 returns-clause-legal g c = (invariant_of-self g c).legal

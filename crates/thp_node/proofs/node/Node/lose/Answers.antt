@@ -42,8 +42,8 @@ record_loss-requires-clause-fits g c =
     (allowed j.shape j.events b c.args.page c.in_ok-block.block c.args.loss c.self.invariant (ap (λ (n : NodeState). block_of n.journal c.args.page) is ∙ c.in_ok-block.ensures.block) c.in_ok-left.ensures.refusal)
     c.in_ok-left.ensures.lost).fits
 
-pub record_loss-requires-clause-unsaid : goal.record_loss-requires-clause-unsaid
-record_loss-requires-clause-unsaid g c =
+pub record_loss-requires-clause-leaves : goal.record_loss-requires-clause-leaves
+record_loss-requires-clause-leaves g c =
     let j = c.self.inside.journal in
     let b = c.self.inside.blocks in
     let is = c.self.view_is ∙ c.in_ok-block.ensures.same in
@@ -51,7 +51,7 @@ record_loss-requires-clause-unsaid g c =
     (ap (λ (n : NodeState). block_of n.journal c.args.page) is ∙ c.in_ok-block.ensures.block)
     c.is_closed-closed.ensures
     (allowed j.shape j.events b c.args.page c.in_ok-block.block c.args.loss c.self.invariant (ap (λ (n : NodeState). block_of n.journal c.args.page) is ∙ c.in_ok-block.ensures.block) c.in_ok-left.ensures.refusal)
-    c.in_ok-left.ensures.lost).unsaid_is
+    c.in_ok-left.ensures.lost).leaves_is
 
 events : (g : Over) (c : goal.After-record_loss g) → c.record_loss.new.self.events ≡ c.self.inside.journal.events ++ by c.args.caller (loss_what c.args.loss c.args.page c.lose.new.done.outcome c.lose.new.done.released) ∷ []
 events g c = c.record_loss.ensures.events

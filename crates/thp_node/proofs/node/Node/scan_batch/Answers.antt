@@ -17,8 +17,8 @@ overflow_sub-result g c =
           c.in-Ok.field-0 (length c.pages.result.now) c.try_all-used.result c.in-Ok.ensures.reply (ap length c.pages.ensures.value) c.try_all-used.ensures.used).0,
     )
 
-pub overflow_sub-result-in-Ok : goal.overflow_sub-result-in-Ok
-overflow_sub-result-in-Ok g c =
+pub overflow_sub-result-2 : goal.overflow_sub-result-2
+overflow_sub-result-2 g c =
     omega (
       arith,
       (tried_reply c.args.self.now c.try_all-used.new.self c.try_all-used.new.batch c.args.batch.caller c.args.batch.pages c.requires.legal c.requires.flies
@@ -39,7 +39,7 @@ overflow_add-pinned g c =
 
 pub unreachable-requires : goal.unreachable-requires
 unreachable-requires g c =
-    no_refusal c.try_all-used.new.self c.put_back_all.new.self _ _ c.in-Err.ensures.refused
+    no_refusal c.try_all-used.new.self c.put_back_all.new.self _ _ c.in_default.ensures.refused
     (tried_room c.args.self.now c.try_all-used.new.self c.try_all-used.new.batch c.args.batch.caller c.args.batch.pages c.requires.legal c.requires.flies
     c.try_all-used.ensures.did c.try_all-used.ensures.same_caller c.try_all-used.ensures.same_pages c.requires.room)
 

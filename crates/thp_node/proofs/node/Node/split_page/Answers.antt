@@ -1,8 +1,9 @@
-use Rattle.std.proofs.Common.{not, ◌≡◌, true, ◌∷◌, [], ◌++◌, ap, ap₂, sym, ◌∙◌, subst, arith}
+use Rattle.std.proofs.Common.{not, ◌≡◌, Bool, cond, true, ◌∷◌, [], ◌++◌, ap, sym, ◌∙◌, subst, arith}
+use Rattle.std.specs.Int.{from_bool}
 use Rattle.thp_history.specs.declared.events.Event.{Event}
 use Rattle.thp_history.specs.declared.events.What.TheVariants.{Split}
 use Rattle.thp_history.specs.Prelude.{is_split_candidate, shrinks_underused, by, try_event}
-use Rattle.thp_node.specs.Prelude.{Did, OfSplit, NodeState}
+use Rattle.thp_node.specs.Prelude.{Did, NodeState}
 use Rattle.thp_node.proofs.BatchRuns.{flies_inside, unpinned_inside, node_recorded, slot_inside, ready_there, whole_there, partly_there, SplitOff, split_off}
 use Rattle.thp_node.proofs.CallLemmas.{did_one, node_of}
 use Rattle.thp_node.proofs.node.Node.split_page.Given.{Over}
@@ -28,12 +29,16 @@ split-released-requires-clause-allowed g c =
 pub record-requires-clause-fits : goal.record-requires-clause-fits
 record-requires-clause-fits g c = (off g (goal.at.record-requires-clause-fits g c).After-split-released).fits
 
-pub record-requires-clause-unsaid : goal.record-requires-clause-unsaid
-record-requires-clause-unsaid g c =
+from_not : (b : Bool) → from_bool (not b) ≡ cond b 0 1
+from_not x = grind arith
+
+pub record-requires-clause-split : goal.record-requires-clause-split
+record-requires-clause-split g c =
     let j = c.self.inside.journal in
-    let w = flies_inside _ c.args.self.now c.args.caller c.args.page c.args.block c.self.view_is c.requires.flies in
-    ap₂ (λ n z. OfSplit (record { mappings = n; underused = not z })) ((rw c.store.ensures at c.whole.ensures) w.slot w.at ∙ sym (whole_there j.shape j.events c.args.caller c.args.page c.args.block c.self.inside.blocks c.self.invariant w))
-    ((rw c.store-2.ensures at c.is_partly.ensures) w.slot w.at ∙ sym (partly_there j.shape j.events c.args.caller c.args.page c.args.block c.self.inside.blocks c.self.invariant w))
+    let w = flies_inside _ c.args.self.now c.args.caller c.args.page c.args.block c.self.view_is c.requires.flies in (
+      (rw c.store.ensures at c.whole.ensures) w.slot w.at ∙ sym (whole_there j.shape j.events c.args.caller c.args.page c.args.block c.self.inside.blocks c.self.invariant w),
+      ap (λ z. from_bool (not z)) ((rw c.store-2.ensures at c.is_partly.ensures) w.slot w.at ∙ sym (partly_there j.shape j.events c.args.caller c.args.page c.args.block c.self.inside.blocks c.self.invariant w)) ∙ from_not _,
+    )
 
 pub invariant_of-self : goal.invariant_of-self
 invariant_of-self g c =

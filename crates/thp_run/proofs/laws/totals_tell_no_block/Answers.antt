@@ -1,5 +1,0 @@
-use Rattle.thp_run.proofs.TotalsLaws.{totals_blind}
-use Rattle.thp_run.proofs.laws.totals_tell_no_block.Goals as goal
-
-pub returns : goal.returns
-returns c = totals_blind
