@@ -196,10 +196,6 @@ module _ (h : History) (past : List Op) (b after : ScriptBatch) (n : ℕ) (f : I
 pub settled_twice : (b : ScriptBatch) → settled (settled b) ≡ settled b
 settled_twice x = grind arith
 
--- a batch whose events all have a command is none, unless it is open
-pub settled_shut : (b : ScriptBatch) → IsSettled b → ((c : ℕ) → b ≡ Open c → ⊥) → b ≡ Idle
-settled_shut x settled shut = grind arith
-
 pub settles : (h : History) (past : List Op) (b : ScriptBatch) (n : ℕ) → IsFoldedTo h past b n → IsFoldedTo h (past ++ pending_ops b) (settled b) n
 settles h past b n f = more_commands h past b (settled b) n f (pending_ops b) (no_calls_pending b) (settle_repeats f.kept f.here b f.repeats)
 

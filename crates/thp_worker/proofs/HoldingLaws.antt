@@ -22,7 +22,7 @@ use Rattle.thp_cell.specs.declared.fault.CellFault.{CellFault}
 use Rattle.thp_cell.specs.declared.fault.CellFault.TheVariants.{Refused}
 use Rattle.thp_script.specs.declared.script.Op.{Op}
 use Rattle.thp_worker.specs.Prelude.{NodeCall, Step, Take, SplitNext, PutBack, Reply, call_events, node_call_of, Open, Reaction, Does, DoesCall, step_events, open_of, step_refusal, refusal_of_call, Held, IsHeld, Acts, HeldAnswered, HeldDone, batch_of, open_in, unit_reply, loss_reply, page_reply}
-use Rattle.thp_worker.specs.Does as node
+use Rattle.thp_worker.specs.declared.steps.NodeCall.TheVariants as node
 use Rattle.thp_worker.specs.declared.steps.Step.TheVariants as steps
 use Rattle.thp_worker.specs.declared.reply.Reply.TheVariants as reply
 

@@ -16,6 +16,8 @@ use Rattle.thp_node.specs.Prelude.{BatchState, rest, tried, back_reply}
 use Rattle.thp_script.specs.Prelude.{page_call_of}
 use Rattle.thp_script.specs.declared.script.Op.{Op}
 use Rattle.thp_script.specs.declared.script.Op.TheVariants as op
+use Rattle.thp_worker.specs.declared.steps.NodeCall.{NodeCall}
+use Rattle.thp_worker.specs.declared.steps.NodeCall.TheVariants as node
 use Rattle.thp_worker.specs.declared.steps.Step.{Step}
 use Rattle.thp_worker.specs.declared.steps.Step.TheVariants.{One, Take, SplitNext, PutBack}
 use Rattle.thp_worker.specs.declared.reply.Reply.{Reply}
@@ -38,30 +40,23 @@ pub record Open : Type 0 where
 abbrev pub open_of : BatchState → Open
 open_of b = record { pages = b.pages; left = rest b }
 
--- a call of a node that involves no batch
-pub data NodeCall : Type 0 where
-  Alloc : NodeCall
-  OfPage : ℕ → PageCall → NodeCall
-  Close : NodeCall
-  Count : NodeCall
-
 -- the call about a page, if there is one, else a count
 abbrev pub page_call_or_count : Option (ℕ × PageCall) → NodeCall
-page_call_or_count (Some call) = OfPage call.0 call.1
-page_call_or_count None = Count
+page_call_or_count (Some call) = node.Page call.0 call.1
+page_call_or_count None = node.Count
 
 -- the call of a node that a command makes which needs no batch
 abbrev pub node_call_of : Op → NodeCall
-node_call_of op.Alloc = Alloc
-node_call_of op.Close = Close
+node_call_of op.Alloc = node.Alloc
+node_call_of op.Close = node.Close
 node_call_of o = page_call_or_count (page_call_of o)
 
 -- the refusal of a step of caller c at h: a try, a put back and a count are never refused
 abbrev pub refusal_of_call : Shape → History → NodeCall → Option Refusal
-refusal_of_call s h Alloc = refusal s h call.alloc_page
-refusal_of_call s h (OfPage p c) = refusal s h (page_call c p)
-refusal_of_call s h Close = refusal s h call.close
-refusal_of_call s h Count = None
+refusal_of_call s h node.Alloc = refusal s h call.alloc_page
+refusal_of_call s h (node.Page p c) = refusal s h (page_call c p)
+refusal_of_call s h node.Close = refusal s h call.close
+refusal_of_call s h node.Count = None
 
 abbrev pub step_refusal : Shape → History → ℕ → Step → Option Refusal
 step_refusal s h c (One o) = refusal_of_call s h (node_call_of o)
@@ -83,10 +78,10 @@ DoesPageCall c p (either.Loss l) own answer = DoesLoss c (loss_what l p) own ans
 
 -- the events and the reply of a call that is not refused; a new page's block may be chosen
 abbrev pub DoesCall : Shape → History → ℕ → NodeCall → List Event → Reaction → Type 0
-DoesCall s h c Alloc own answer = (block : ℕ) × (own ≡ by c (what.Alloc (allocations h) block) ∷ []) × (answer ≡ Ok (reply.Page (allocations h)))
-DoesCall s h c (OfPage p k) own answer = DoesPageCall c p k own answer
-DoesCall s h c Close own answer = DoesOne c what.Close own answer
-DoesCall s h c Count own answer = (own ≡ []) × (answer ≡ Ok (reply.Count (length (queue s h))))
+DoesCall s h c node.Alloc own answer = (block : ℕ) × (own ≡ by c (what.Alloc (allocations h) block) ∷ []) × (answer ≡ Ok (reply.Page (allocations h)))
+DoesCall s h c (node.Page p k) own answer = DoesPageCall c p k own answer
+DoesCall s h c node.Close own answer = DoesOne c what.Close own answer
+DoesCall s h c node.Count own answer = (own ≡ []) × (answer ≡ Ok (reply.Count (length (queue s h))))
 
 -- no event, and this is the result
 abbrev pub Nothing : Option Open → List Event → Reaction → Option Open → Reaction → Type 0
@@ -115,7 +110,7 @@ Does s h c (Some b) PutBack own answer after =
 
 -- the number of events that a call records
 abbrev pub call_events : NodeCall → ℕ
-call_events Count = 0
+call_events node.Count = 0
 call_events k = 1
 
 -- the number of events that caller c's step would record at h, with this open batch, if it is not refused

@@ -1,5 +1,5 @@
 -- Re-exports the definitions and types of this library: other files import those that they cite from here, in one line.
-pub use Rattle.thp_worker.specs.Does.{DoesCall, DoesLoss, DoesOne, IsFit, IsStep, NodeCall, Nothing, OfPage, Open, Reaction, Unless, answer_of, call_events, node_call_of, open_of, refusal_of_call, step_events, step_refusal}
+pub use Rattle.thp_worker.specs.Does.{DoesCall, DoesLoss, DoesOne, IsFit, IsStep, Nothing, Open, Reaction, Unless, answer_of, call_events, node_call_of, open_of, refusal_of_call, step_events, step_refusal}
 unfoldable pub use Rattle.thp_worker.specs.Does.{Does}
 pub use Rattle.thp_worker.specs.Fronts.{Answered, Fronts, Goes, Grows, HoldsAllCallers, HoldsCaller, IsOther, IsStepBusy, Moves, OutOf, SameHolding, SameNodes, StepDone}
 pub use Rattle.thp_worker.specs.Halves.{CanJoin, CanRun, IsJoined, IsSection, IsSplit, KnowsOf, RangeDone}
@@ -22,5 +22,6 @@ pub use Rattle.thp_worker.specs.declared.reply.Reply.{Reply}
 pub use Rattle.thp_worker.specs.declared.reply.Rest.{Rest}
 pub use Rattle.thp_worker.specs.declared.reply.SectionOutcome.{SectionOutcome}
 pub use Rattle.thp_worker.specs.declared.command.CommandProgress.{CommandProgress}
+pub use Rattle.thp_worker.specs.declared.steps.NodeCall.{NodeCall}
 pub use Rattle.thp_worker.specs.declared.steps.Step.{Step}
 pub use Rattle.thp_worker.specs.declared.steps.Step.TheVariants.{One, PutBack, SplitNext, Take}

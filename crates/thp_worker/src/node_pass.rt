@@ -4,10 +4,10 @@ ghost use Rattle.thp_history.specs.Prelude.{IsLegal};
 ghost use Rattle.thp_node.specs.Prelude.{no_batch};
 ghost use Rattle.thp_cell.specs.Prelude.{IsJoined, PartsStay, HasAll, HasCaller};
 ghost use Rattle.thp_script.specs.declared.script.Op.{Op};
-ghost use Rattle.thp_worker.specs.Prelude.{HeldDone, IsShut, IsStep, OfPage, OpenStay, answer_of, batch_of, keeping_node, lower_part, node_call_of, page_reply, unit_reply, upper_part};
+ghost use Rattle.thp_worker.specs.Prelude.{HeldDone, IsShut, IsStep, OpenStay, answer_of, batch_of, keeping_node, lower_part, node_call_of, page_reply, unit_reply, upper_part};
 
 use crate::reply::Reply;
-use crate::steps::Step;
+use crate::steps::{NodeCall, Step, node_call};
 use std::alloc::{AllocError, Global};
 use std::marker::Model;
 use thp_cell::{CellFault, NodeCell, Pass};
@@ -86,12 +86,13 @@ impl<'a, R: Recorder> NodePass<'a, R> {
         requires step { IsStep step }
         ensures { HeldDone caller step self.old self.new (answer_of result reply.new) }
     {
-        match step {
-            Step::One(op) => self.call(caller, op, reply),
-            Step::Take(count) => apart(self.take(caller, count, reply)),
-            Step::SplitNext => apart(self.split_next(caller, reply)),
-            Step::PutBack => apart(self.put_back(caller, reply)),
-        }
+        let called = match step {
+            Step::One(op) => return self.call(caller, op, reply),
+            Step::Take(count) => self.take(caller, count, reply),
+            Step::SplitNext => self.split_next(caller, reply),
+            Step::PutBack => self.put_back(caller, reply),
+        };
+        apart(called)
     }
 
     /// Divides the callers into those below `at` and those from `at` on, each with its open batch.
@@ -144,17 +145,15 @@ impl<'a, R: Recorder> NodePass<'a, R> {
         requires caller { HasCaller self.old.pass caller }
         ensures { HeldDone caller (Step.One op) self.old self.new (answer_of result reply.new) }
     {
-        match op {
-            Op::Alloc => page(self.cell.alloc_page(&mut self.pass, caller), reply),
-            Op::Close => unit(self.cell.close(&mut self.pass, caller), reply),
-            _ => match op.page_call() {
-                Some((page, PageCall::Gain(gain))) => {
-                    let page = PageId(page);
-                    unit(self.cell.gain(&mut self.pass, caller, page, gain), reply)
-                }
-                Some((page, PageCall::Loss(kind))) => self.lose(caller, page, kind, reply),
-                None => count(self.cell.count(&mut self.pass), reply),
-            },
+        match node_call(op) {
+            NodeCall::Alloc => page(self.cell.alloc_page(&mut self.pass, caller), reply),
+            NodeCall::Page(page, PageCall::Gain(gain)) => {
+                let page = PageId(page);
+                unit(self.cell.gain(&mut self.pass, caller, page, gain), reply)
+            }
+            NodeCall::Page(page, PageCall::Loss(kind)) => self.lose(caller, page, kind, reply),
+            NodeCall::Close => unit(self.cell.close(&mut self.pass, caller), reply),
+            NodeCall::Count => count(self.cell.count(&mut self.pass), reply),
         }
     }
 
@@ -167,7 +166,7 @@ impl<'a, R: Recorder> NodePass<'a, R> {
         reply: &mut Reply,
     ) -> Result<(), CellFault>
         requires caller { HasCaller self.old.pass caller }
-        ensures { (op : Op) → node_call_of op ≡ OfPage page (PageCall.Loss kind) → HeldDone caller (Step.One op) self.old self.new (answer_of result reply.new) }
+        ensures { (op : Op) → node_call_of op ≡ NodeCall.Page page (PageCall.Loss kind) → HeldDone caller (Step.One op) self.old self.new (answer_of result reply.new) }
     {
         // Field by field: a copy of the whole would include the padding, by loads that wait for its stores.
         let done = self.cell.lose(&mut self.pass, caller, PageId(page), kind)?;

@@ -99,7 +99,7 @@ impl<'a, R: Recorder> Passes for NodePasses<'a, R> {
         let mut nodes = Vec::new(alloc);
         let mut more = other.nodes.into_iter();
         for low in self.nodes {
-            // there are equally many of both
+            // both hold a pass of each node
             if let Some(high) = more.next() {
                 nodes.push(low.join(high)?)?;
             }

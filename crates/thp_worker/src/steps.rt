@@ -1,6 +1,6 @@
 //! Steps of callers on nodes, for any implementation of the nodes.
 ghost use Rattle.std.specs.Prelude.{◌≡◌, ◌≢◌, ◌<◌, Err, IfErr, IfNone, IfOk, IfSome};
-ghost use Rattle.thp_worker.specs.Does.{answer_of, IsStep};
+ghost use Rattle.thp_worker.specs.Does.{answer_of, node_call_of, IsStep};
 ghost use Rattle.thp_worker.specs.Fronts.{Fronts, Goes, HoldsCaller, StepDone};
 ghost use Rattle.thp_worker.specs.Turns.{by_cell};
 
@@ -9,8 +9,36 @@ use crate::reply::Reply;
 use std::alloc::AllocError;
 use std::hint::spin_loop;
 use thp_cell::CellFault;
-use thp_history::Refusal;
+use thp_history::{PageCall, Refusal};
 use thp_script::Op;
+
+/// A call of a node that involves no batch.
+#[derive(Clone, Copy, Debug, PartialEq, Eq)]
+pub(crate) enum NodeCall {
+    /// Allocates a page.
+    Alloc,
+    /// A call about one page.
+    Page(u64, PageCall),
+    /// Closes the node.
+    Close,
+    /// Returns the number of queued pages.
+    Count,
+}
+
+/// Returns the call that a command without a batch makes.
+#[inline(always)]
+pub(crate) fn node_call(op: Op) -> NodeCall
+    ensures { result ≡ node_call_of op }
+{
+    match op {
+        Op::Alloc => NodeCall::Alloc,
+        Op::Close => NodeCall::Close,
+        _ => match op.page_call() {
+            Some((page, call)) => NodeCall::Page(page, call),
+            None => NodeCall::Count,
+        },
+    }
+}
 
 /// One call of a node: one that involves no batch, or one of the three about a batch.
 #[derive(Clone, Copy, Debug, PartialEq, Eq)]

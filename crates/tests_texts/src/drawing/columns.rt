@@ -1,6 +1,6 @@
 //! Columns of invented numbers.
 use std::process::Abort;
-use thp_metrics::{Column, Columns, MAX_COLUMNS, Numbers, SHOWN_PAGES, Span, Stage};
+use thp_metrics::{Column, Columns, MAX_COLUMNS, Numbers, SHOWN_PAGES, Span, Stage, widened};
 
 // A prefix with this number in each field, and all pages allocated.
 fn all(number: u64) -> Numbers {
@@ -22,6 +22,21 @@ fn all(number: u64) -> Numbers {
 // The column at this index, counted from 0.
 pub(crate) fn at(rt: &impl Abort, told: &[Column], place: usize) -> Column {
     *told.get(place).expect(rt, "a column")
+}
+
+#[test]
+fn a_column_of_one_prefix_has_its_numbers(rt: HostRuntime) {
+    let column = Column::of(&all(7));
+    let seven = Span {
+        least: 7,
+        greatest: 7,
+    };
+    assert!(rt; column.queue == seven);
+    assert!(rt; column.held == seven);
+    assert!(rt; column.callers == 7);
+    assert!(rt; column.pages == widened(&[7, 0, 0, 0, 0]));
+    assert!(rt; column.pages[Stage::Allocated as usize] == 7);
+    assert!(rt; column.pages[Stage::Queued as usize] == 0);
 }
 
 #[test]

@@ -2,7 +2,7 @@ use Rattle.std.proofs.Common.{refl, subst, Err, Ok}
 use Rattle.thp_history.specs.Prelude.{loss_call, loss_what}
 use Rattle.thp_history.specs.declared.page_call.PageCall.TheVariants as either
 use Rattle.thp_worker.specs.Prelude.{One, HeldDone}
-use Rattle.thp_worker.specs.Does as node
+use Rattle.thp_worker.specs.declared.steps.NodeCall.TheVariants as node
 use Rattle.thp_worker.proofs.CommandLaws.{handed_on}
 use Rattle.thp_worker.proofs.HoldingLaws.{held_stays, loss_done}
 use Rattle.thp_worker.proofs.node_pass.NodePass.lose.Goals as goal
@@ -13,13 +13,13 @@ returns-in_err-done g c op is =
     let kind = c.args.kind in
     let fault = c.in_err-done.field-0.0 in
     rw (handed_on _ fault c.from_residual.ensures.1) (subst (λ x. HeldDone c.args.caller (One op) x (record { pass = c.lose.new.pass; batches = c.self.inside.batches.items }) (Err fault)) c.self.view_is
-    (loss_done op (node.OfPage page (either.Loss kind)) is _ _ _ _ page (loss_what kind page) (Err fault) (loss_call kind page) c.lose.ensures.same tt c.in_err-done.ensures.failed (λ s h. refl) (λ s h own d e. (d, e, refl))))
+    (loss_done op (node.Page page (either.Loss kind)) is _ _ _ _ page (loss_what kind page) (Err fault) (loss_call kind page) c.lose.ensures.same tt c.in_err-done.ensures.failed (λ s h. refl) (λ s h own d e. (d, e, refl))))
 
 pub returns : goal.returns
 returns g c op is =
     let page = c.args.page in
     let kind = c.args.kind in
-    rw (← c.self.view_is) (loss_done op (node.OfPage page (either.Loss kind)) is _ _ _ _ page (loss_what kind page) (Ok c.in_ok-done.done) (loss_call kind page) c.lose.ensures.same c.in_ok-done.ensures.recorded tt (λ s h. refl) (λ s h own d e. (d, e, refl)))
+    rw (← c.self.view_is) (loss_done op (node.Page page (either.Loss kind)) is _ _ _ _ page (loss_what kind page) (Ok c.in_ok-done.done) (loss_call kind page) c.lose.ensures.same c.in_ok-done.ensures.recorded tt (λ s h. refl) (λ s h own d e. (d, e, refl)))
 
 pub invariant_of-self-2 : goal.invariant_of-self-2
 invariant_of-self-2 g c = held_stays _ _ _ _ c.self.invariant c.lose.ensures.same c.lose.ensures.batches
