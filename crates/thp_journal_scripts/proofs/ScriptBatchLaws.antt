@@ -5,7 +5,7 @@ use Rattle.thp_history.specs.declared.events.Event.{Event}
 use Rattle.thp_history.specs.Prelude.{History}
 use Rattle.thp_script.specs.declared.script.Op.{Op}
 use Rattle.thp_script.specs.declared.script.Op.TheVariants as op
-use Rattle.thp_journal_scripts.specs.Prelude.{EventKind, Call, Take, Try, Put, ScriptBatch, Idle, Taking, Trying, Scanned, Open, Closing, open_by, pending_ops, settled, Completes, IsPending, IsSettled, PutsMore, RepeatsUpTo, TakesMore, TriesMore, nothing_moved, IsFoldedTo, IsScript, Moved, IsCallOrScan, IsWholeScans, counted, Interleaves, IsOfBatch, IsScan, neither, first, second, call_in, calls_in, calls_of, kind_of, AreBy, IsBy, IsScanBy, Repeats, RepeatsBy}
+use Rattle.thp_journal_scripts.specs.Prelude.{EventKind, Call, Take, Try, Put, ScriptBatch, Idle, Taking, Trying, Scanned, Open, Closing, open_by, pending_ops, settled, Completes, IsPending, PutsMore, RepeatsUpTo, TakesMore, TriesMore, nothing_moved, IsFoldedTo, IsScript, Moved, IsCallOrScan, IsWholeScans, counted, Interleaves, IsOfBatch, IsScan, neither, first, second, call_in, calls_in, calls_of, kind_of, AreBy, IsBy, IsScanBy, Repeats, RepeatsBy}
 use Rattle.thp_journal_scripts.proofs.RepeatLaws.{calls_in_both, calls_of_more, is_plain, no_calls_in_tries, repeats_more, repeats_tries, IsPlain}
 
 -- ---- events of one kind
