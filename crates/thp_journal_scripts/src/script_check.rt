@@ -15,7 +15,7 @@ use thp_journal_reader::{FollowedNodes, Illegal, KeepsNodes, Line, TextReader};
 use thp_script::{LongReadFault, TextInParts};
 
 /// A check of journals of any length that also writes the script that repeats them, up to the first illegal event. It differs
-/// from a [`LongCheck`](crate::LongCheck) in that the text of the script is taken out after each part.
+/// from a [`LongCheck`](thp_journal_reader::LongCheck) in that the text of the script is taken out after each part.
 #[derive(Drop)]
 pub struct ScriptCheck {
     text: TextReader<ScriptedNodes>,
