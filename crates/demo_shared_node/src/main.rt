@@ -27,11 +27,23 @@ fn main(rt: HostRuntime) -> Result<()> {
     };
     let node = Node::new(rt.alloc(), shape).ok().context("no node")?;
     let mut node = used_by_two(&rt, node).context("no cell")?;
-    println!(rt; "pages queued: {}", node.queue_len())?;
+    let queued = node.queue_len();
     let scan = node.scan(0, 2 * PAGES).ok().context("no scan")?;
-    println!(rt; "pages split: {}", scan.split)?;
-    println!(rt; "frames given back: {}", node.frames_given())?;
-    println!(rt; "frames held: {}", node.frames_held())?;
+    print_totals(
+        &rt,
+        queued,
+        scan.split,
+        node.frames_given(),
+        node.frames_held(),
+    )
+}
+
+/// Prints what was queued and split, and the frames given back and held.
+fn print_totals<R: Print>(rt: &R, queued: u32, split: u32, given: u128, held: u128) -> Result<()> {
+    println!(rt; "pages queued: {queued}")?;
+    println!(rt; "pages split: {split}")?;
+    println!(rt; "frames given back: {given}")?;
+    println!(rt; "frames held: {held}")?;
     Ok(())
 }
 

@@ -5,6 +5,7 @@ use crate::stopwatch::Stopwatch;
 use crate::tables::links::after;
 use anyhow::Result;
 use std::alloc::{AllocError, Global};
+use std::fmt::Display;
 use std::time::CpuClock;
 use thp_history::PageId;
 use thp_page::PageTable;
@@ -36,22 +37,45 @@ pub(crate) fn time_block_of<R: CpuClock + Eprint + AllocGlobal>(
     requires { 0 < blocks }
 {
     for (kind, apart) in [("in a row", 1), ("alike", ALIKE)] {
-        let there = Numbers { first: 0, apart };
-        let first = apart.wrapping_mul(u64::from(blocks));
-        let others = Numbers { first, apart };
-        let table = occupied(rt.alloc(), blocks, there)?;
-
-        let watch = Stopwatch::start(rt)?;
-        let found = look_up(&table, blocks, there, rounds);
-        let what = format_args!("block_of, {blocks} blocks, numbers {kind}, there");
-        watch.tell(rt, what, rounds, found)?;
-
-        let watch = Stopwatch::start(rt)?;
-        let found = look_up(&table, blocks, others, rounds);
-        let what = format_args!("block_of, {blocks} blocks, numbers {kind}, not there");
-        watch.tell(rt, what, rounds, found)?;
+        time_kind(rt, blocks, rounds, kind, apart)?;
     }
     Ok(())
+}
+
+// The times of looking up the numbers of a full table, and as many numbers that it does not contain.
+fn time_kind<R: CpuClock + Eprint + AllocGlobal>(
+    rt: &R,
+    blocks: u32,
+    rounds: u32,
+    kind: &str,
+    apart: u64,
+) -> Result<()>
+    requires { 0 < blocks }
+{
+    let there = Numbers { first: 0, apart };
+    let first = apart.wrapping_mul(u64::from(blocks));
+    let others = Numbers { first, apart };
+    let table = occupied(rt.alloc(), blocks, there)?;
+    let what = format_args!("block_of, {blocks} blocks, numbers {kind}, there");
+    time_numbers(rt, &table, blocks, there, rounds, what)?;
+    let what = format_args!("block_of, {blocks} blocks, numbers {kind}, not there");
+    time_numbers(rt, &table, blocks, others, rounds, what)
+}
+
+// The time of looking up these numbers, printed with the text `what`.
+fn time_numbers<R: CpuClock + Eprint, D: Display + Drop>(
+    rt: &R,
+    table: &PageTable,
+    blocks: u32,
+    numbers: Numbers,
+    rounds: u32,
+    what: D,
+) -> Result<()>
+    requires { 0 < blocks }
+{
+    let watch = Stopwatch::start(rt)?;
+    let found = look_up(table, blocks, numbers, rounds);
+    watch.tell(rt, what, rounds, found)
 }
 
 // A table of this many blocks, each with a page.

@@ -4,7 +4,7 @@ use crate::nodes::new_node;
 use crate::stopwatch::tell_nanos;
 use anyhow::{Context, Result};
 use std::alloc::Global;
-use std::time::CpuClock;
+use std::time::{CpuClock, Duration};
 use thp_history::PageId;
 use thp_node::{Done, Node, Refusal};
 
@@ -61,15 +61,27 @@ fn time_one<R: CpuClock + Eprint + AllocGlobal>(
 ) -> Result<()> {
     let (mut spent, mut sum) = (0u128, 0u64);
     for _node in 0..rounds / EACH {
-        let mut node = made(rt.alloc(), round).context("memory for a node")?;
-        let start = rt.thread_cpu_time()?;
-        for _round in 0..EACH {
-            sum = sum.wrapping_add(once(&mut node, round));
-        }
-        let lap = rt.thread_cpu_time()?.saturating_sub(start);
+        let (lap, answers) = time_node(rt, round)?;
         spent = spent.saturating_add(lap.as_nanos());
+        sum = sum.wrapping_add(answers);
     }
     tell_nanos(rt, what, rounds / EACH * EACH, spent, sum)
+}
+
+// The time of a new node's rounds, and the sum of their numbers.
+fn time_node<R: CpuClock + AllocGlobal>(rt: &R, round: Round) -> Result<(Duration, u64)> {
+    let mut node = made(rt.alloc(), round).context("memory for a node")?;
+    time_each(rt, &mut node, round)
+}
+
+// Makes the rounds of a node.
+fn time_each<R: CpuClock>(rt: &R, node: &mut Node, round: Round) -> Result<(Duration, u64)> {
+    let start = rt.thread_cpu_time()?;
+    let mut sum = 0u64;
+    for _round in 0..EACH {
+        sum = sum.wrapping_add(once(node, round));
+    }
+    Ok((rt.thread_cpu_time()?.saturating_sub(start), sum))
 }
 
 // A node with room for the events of its rounds, with page 0 mapped whole once, or with pages that are queued and pinned.
