@@ -68,20 +68,20 @@ fn time_one<R: CpuClock + Eprint + AllocGlobal>(
     tell_nanos(rt, what, rounds / EACH * EACH, spent, sum)
 }
 
-// The time of a new node's rounds, and the sum of their numbers.
-fn time_node<R: CpuClock + AllocGlobal>(rt: &R, round: Round) -> Result<(Duration, u64)> {
-    let mut node = made(rt.alloc(), round).context("memory for a node")?;
-    time_each(rt, &mut node, round)
-}
-
-// Makes the rounds of a node.
-fn time_each<R: CpuClock>(rt: &R, node: &mut Node, round: Round) -> Result<(Duration, u64)> {
+// The time of the rounds on a node, and the sum of their numbers.
+fn time_rounds_on<R: CpuClock>(rt: &R, node: &mut Node, round: Round) -> Result<(Duration, u64)> {
     let start = rt.thread_cpu_time()?;
     let mut sum = 0u64;
     for _round in 0..EACH {
         sum = sum.wrapping_add(once(node, round));
     }
     Ok((rt.thread_cpu_time()?.saturating_sub(start), sum))
+}
+
+// The same of a new node.
+fn time_node<R: CpuClock + AllocGlobal>(rt: &R, round: Round) -> Result<(Duration, u64)> {
+    let mut node = made(rt.alloc(), round).context("memory for a node")?;
+    time_rounds_on(rt, &mut node, round)
 }
 
 // A node with room for the events of its rounds, with page 0 mapped whole once, or with pages that are queued and pinned.
