@@ -1,16 +1,15 @@
 """Builds the archive of the library for C from the libraries that `rt ci` has proved and kept.
 
 `rt ci` proves crates/thp_c from scratch, but builds nothing of it, and `rt lib` would prove all libraries below it again. The
-crate only has the exports, so the second proof is short. The build begins with the work that `rt check`, or an earlier build,
-kept in the crate's folder, so it proves nothing again that has not changed. The verdict on the crate's proof is that of `rt ci`
-only, where there is one.
+crate only has the exports, so the second proof is short. One process makes it: several take more processor time. The build begins
+with the work that `rt check`, or an earlier build, kept in the crate's folder, so it proves nothing again that has not changed. The
+verdict on the crate's proof is that of `rt ci` only, where there is one.
 
     python3 tests/archive.py TO
 """
 
 from __future__ import annotations
 
-import os
 import shutil
 import subprocess
 import sys
@@ -43,7 +42,7 @@ def words(kit: Path, to: Path) -> list[str]:
     found += ["--antt-project", f"{kit}/rattle/logic/antt-project.json", "--logic-built", f"{kit}/logic_built"]
     found += ["--incremental", str(ROOT / "crates" / NAME / "out/incremental")]
     found += ["--toolchain", f"{kit}/toolchain", "--links", f"{NAME}=", "--backend", "llvm"]
-    return [*found, "--jobs", str(min(4, len(os.sched_getaffinity(0)))), "-o", str(to)]
+    return [*found, "-o", str(to)]
 
 
 def is_placed(name: str) -> bool:

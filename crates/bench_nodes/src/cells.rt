@@ -2,54 +2,66 @@
 //!
 //! A round is a pin and an unpin of the thread's own page. A call that finds the node busy is counted and not repeated. Times of
 //! single calls by one thread follow.
+ghost use Rattle.std.specs.Prelude.{◌≡◌};
+ghost use Rattle.thp_cell.specs.Prelude.{HasAll};
+
 mod pass_calls;
 mod rounds;
 mod threads;
 
-use crate::cells::rounds::{Tally, bare_rounds, cell_rounds};
+use crate::cells::rounds::{Tally, bare_rounds};
 use crate::nodes::new_cell;
 use anyhow::{Context, Result};
 use std::fmt::Display;
 use std::thread::Threads;
 use std::time::{Clock, CpuClock, Instant};
+use thp_cell::{NodeCell, Pass};
 
 /// Makes `rounds` rounds in each thread.
 pub(crate) fn time_all<R: Clock + CpuClock + Eprint + AllocGlobal + Threads + Sync>(
     rt: &R,
     rounds: u32,
 ) -> Result<()> {
-    time_one(rt, rounds)?;
-    time_one_cell(rt, rounds)?;
+    time_bare(rt, rounds)?;
+    time_on_one(rt, 1, "one thread, through a cell", rounds)?;
+    time_on_one(rt, 2, "two threads, one cell", rounds)?;
+    time_on_one(rt, 4, "four threads, one cell", rounds)?;
     time_cell_each(rt, rounds)?;
     pass_calls::time_rounds(rt, rounds)
 }
 
-// One thread, on a bare node and through a cell.
-fn time_one<R: Clock + Eprint + AllocGlobal>(rt: &R, rounds: u32) -> Result<()> {
+// One thread on a bare node.
+fn time_bare<R: Clock + Eprint + AllocGlobal>(rt: &R, rounds: u32) -> Result<()> {
     let start = Instant::now(rt)?;
     let tally = bare_rounds(rt.alloc(), rounds).context("memory for a node")?;
-    tell(rt, "a bare node", start, tally)?;
-
-    let (cell, pass) = new_cell(rt.alloc(), 1).context("memory for a cell")?;
-    let start = Instant::now(rt)?;
-    let (_pass, tally) = cell_rounds(&cell, pass, 0, rounds);
-    tell(rt, "one thread, through a cell", start, tally)
+    tell(rt, "a bare node", start, tally)
 }
 
-// Two and four threads on one cell.
-fn time_one_cell<R: Clock + Eprint + AllocGlobal + Threads + Sync>(
+// So many threads on one cell.
+fn time_on_one<R: Clock + Eprint + AllocGlobal + Threads + Sync>(
     rt: &R,
+    threads: u32,
+    what: &str,
     rounds: u32,
 ) -> Result<()> {
-    let (cell, pass) = new_cell(rt.alloc(), 2).context("memory for a cell")?;
-    let start = Instant::now(rt)?;
-    let (_pass, tally) = threads::two_on_one(rt, &cell, pass, rounds);
-    tell(rt, "two threads, one cell", start, tally)?;
+    let (cell, pass) = new_cell(rt.alloc(), threads).context("memory for a cell")?;
+    time_threads(rt, &cell, pass, what, rounds)
+}
 
-    let (cell, pass) = new_cell(rt.alloc(), 4).context("memory for a cell")?;
+// A thread for each caller of the pass, which has all callers of the cell.
+fn time_threads<R: Clock + Eprint + Threads + Sync>(
+    rt: &R,
+    cell: &NodeCell,
+    pass: Pass,
+    what: &str,
+    rounds: u32,
+) -> Result<()>
+    requires cell { pass.cell ≡ cell.now }
+    requires all { HasAll pass }
+{
     let start = Instant::now(rt)?;
-    let (_pass, tally) = threads::four_on_one(rt, &cell, pass, rounds);
-    tell(rt, "four threads, one cell", start, tally)
+    let (_pass, tally) = threads::all_on_one(rt, cell, pass, rounds);
+    tell(rt, what, start, tally)
 }
 
 // Two and four threads with a cell each.

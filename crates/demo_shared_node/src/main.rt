@@ -20,17 +20,29 @@ const PAGES: u32 = 20;
 const TRIES: u32 = 50_000_000;
 
 fn main(rt: HostRuntime) -> Result<()> {
+    let mut node = used_node(&rt)?;
+    let shrunk = shrink(&rt, &mut node);
+    drop(node);
+    shrunk
+}
+
+/// A node of 64 blocks after two threads have used it.
+fn used_node<R: Threads + AllocGlobal>(rt: &R) -> Result<Node> {
     let shape = Shape {
         blocks: 64,
         order: 9,
         underused: None,
     };
     let node = Node::new(rt.alloc(), shape).ok().context("no node")?;
-    let mut node = used_by_two(&rt, node).context("no cell")?;
+    used_by_two(rt, node).context("no cell")
+}
+
+/// Shrinks the node's deferred split queue, and prints the totals.
+fn shrink<R: Print>(rt: &R, node: &mut Node) -> Result<()> {
     let queued = node.queue_len();
     let scan = node.scan(0, 2 * PAGES).ok().context("no scan")?;
     print_totals(
-        &rt,
+        rt,
         queued,
         scan.split,
         node.frames_given(),

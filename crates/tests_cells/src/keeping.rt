@@ -1,8 +1,15 @@
 //! Rows of passes that keep the node between their calls.
+ghost use Rattle.std.specs.Prelude.{◌≡◌};
+ghost use Rattle.thp_cell.specs.Prelude.{HasAll, HasCaller};
+ghost use Rattle.tests_cells.specs.Passes.{Stays};
+
 use crate::steps::{Step, cell_of, event_count, expect_steps, node_of_two};
+use std::alloc::Global;
 use std::process::Abort;
 use tests_steps::{Answer, Call};
+use thp_cell::{NodeCell, Pass};
 use thp_history::Refusal;
+use thp_node::Node;
 
 const CLOSED: Answer = Answer::Refused(Refusal::Closed);
 
@@ -24,9 +31,14 @@ const BUSY_WHILE_KEPT: &[(u32, Step)] = &[
     (0, Step::Count(0)),
 ];
 
+// Makes the steps of the callers 0 and 1 on a new cell.
+fn expect_on_new_cell(rt: &impl Abort, alloc: Global, steps: &[(u32, Step)]) {
+    drop(node_of_two(rt, alloc, steps));
+}
+
 #[test]
 fn busy_while_kept(rt: HostRuntime) {
-    let _node = node_of_two(&rt, rt.alloc(), BUSY_WHILE_KEPT);
+    expect_on_new_cell(&rt, rt.alloc(), BUSY_WHILE_KEPT);
 }
 
 const KEPT_AND_QUEUED: &[Step] = &[Step::Keep, Step::Queue(0)];
@@ -46,24 +58,61 @@ const KEPT: &[Step] = &[Step::Keep];
 
 const KEPT_AND_ALLOCATED: &[Step] = &[Step::Keep, Step::Call(Call::Alloc, Answer::Page(1))];
 
-// A division, a join, a hold and the end of the cell release a node that is kept.
-#[test]
-fn let_go_by_division_join_and_end(rt: HostRuntime) {
-    let (cell, mut pass) = cell_of(&rt, rt.alloc(), 16, 2);
-    expect_steps(&rt, &cell, &mut pass, 0, KEPT_AND_QUEUED);
+// The second of two passes has the node and keeps it.
+fn expect_kept(rt: &impl Abort, cell: &NodeCell, a: &mut Pass, b: &mut Pass)
+    requires a_cell { a.old.cell ≡ cell.now }
+    requires b_cell { b.old.cell ≡ cell.now }
+    requires a_caller { HasCaller a.old 0 }
+    requires b_caller { HasCaller b.old 1 }
+    ensures a { Stays a.old a.new }
+    ensures b { Stays b.old b.new }
+{
+    expect_steps(rt, cell, b, 1, BATCH_WHILE_KEPT);
+    expect_steps(rt, cell, a, 0, NOT_KEPT);
+}
+
+// The pass of two callers, which keeps the node, is divided, and its parts are joined while one of them keeps the node.
+fn divided_and_joined(rt: &impl Abort, cell: &NodeCell, pass: Pass) -> Pass
+    requires cell { pass.cell ≡ cell.now }
+    requires all { HasAll pass }
+    requires two { pass.callers ≡ 2 }
+    ensures { Stays pass result }
+{
+    let mut pass = pass;
+    expect_steps(rt, cell, &mut pass, 0, KEPT_AND_QUEUED);
     let (mut a, mut b) = cell.split(pass, 1);
-    expect_steps(&rt, &cell, &mut b, 1, BATCH_WHILE_KEPT);
-    expect_steps(&rt, &cell, &mut a, 0, NOT_KEPT);
-    let mut pass = cell.join(a, b);
-    expect_steps(&rt, &cell, &mut pass, 0, KEPT);
+    expect_kept(rt, cell, &mut a, &mut b);
+    cell.join(a, b)
+}
+
+// The pass, which keeps the node, takes it for a hold and releases it.
+fn held_and_released(rt: &impl Abort, cell: &NodeCell, pass: Pass) -> Pass
+    requires cell { pass.cell ≡ cell.now }
+    requires caller { HasCaller pass 0 }
+    ensures { Stays pass result }
+{
+    let mut pass = pass;
+    expect_steps(rt, cell, &mut pass, 0, KEPT);
     let Ok(hold) = cell.hold(pass) else {
         panic!(rt; "no other pass has the node");
     };
-    let mut pass = cell.release(hold);
-    expect_steps(&rt, &cell, &mut pass, 1, KEPT_AND_ALLOCATED);
-    let node = cell.finish(pass);
+    cell.release(hold)
+}
+
+// The node of a cell that ends while the pass keeps it.
+fn node_let_go(rt: &impl Abort, alloc: Global) -> Node {
+    let (cell, pass) = cell_of(rt, alloc, 16, 2);
+    let pass = divided_and_joined(rt, &cell, pass);
+    let mut pass = held_and_released(rt, &cell, pass);
+    expect_steps(rt, &cell, &mut pass, 1, KEPT_AND_ALLOCATED);
+    cell.finish(pass)
+}
+
+// A division, a join, a hold and the end of the cell release a node that is kept.
+#[test]
+fn let_go_by_division_join_and_end(rt: HostRuntime) {
     // two allocations, a split mapping, an unmap, a pin, and the batch's three
-    assert!(rt; event_count(&node) == 8);
+    assert!(rt; event_count(node_let_go(&rt, rt.alloc())) == 8);
 }
 
 const FREE_AFTER_A_CLOSE: &[(u32, Step)] = &[
@@ -75,7 +124,7 @@ const FREE_AFTER_A_CLOSE: &[(u32, Step)] = &[
 // A close that is refused leaves the node to others.
 #[test]
 fn free_after_a_refused_close(rt: HostRuntime) {
-    let _node = node_of_two(&rt, rt.alloc(), FREE_AFTER_A_CLOSE);
+    expect_on_new_cell(&rt, rt.alloc(), FREE_AFTER_A_CLOSE);
 }
 
 const FREE_AFTER_SCAN_AND_TAKE: &[(u32, Step)] = &[
@@ -90,7 +139,7 @@ const FREE_AFTER_SCAN_AND_TAKE: &[(u32, Step)] = &[
 // So do a scan and a take that are refused, since the caller has a batch.
 #[test]
 fn free_after_a_refused_scan_and_take(rt: HostRuntime) {
-    let _node = node_of_two(&rt, rt.alloc(), FREE_AFTER_SCAN_AND_TAKE);
+    expect_on_new_cell(&rt, rt.alloc(), FREE_AFTER_SCAN_AND_TAKE);
 }
 
 const BUSY_THROUGH_CLOSE: &[(u32, Step)] = &[
@@ -104,5 +153,5 @@ const BUSY_THROUGH_CLOSE: &[(u32, Step)] = &[
 // A node that is kept stays so through calls that are done.
 #[test]
 fn busy_through_close_and_scan(rt: HostRuntime) {
-    let _node = node_of_two(&rt, rt.alloc(), BUSY_THROUGH_CLOSE);
+    expect_on_new_cell(&rt, rt.alloc(), BUSY_THROUGH_CLOSE);
 }

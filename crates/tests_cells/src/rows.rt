@@ -1,6 +1,7 @@
 //! Worked rows on a shared node, with results known beforehand.
 ghost use Rattle.std.specs.Prelude.{◌≡◌};
-ghost use Rattle.thp_cell.specs.Prelude.{at_front, returning_node};
+ghost use Rattle.thp_cell.specs.Prelude.{HasCaller, at_front, returning_node};
+ghost use Rattle.tests_cells.specs.Passes.{Stays};
 
 use crate::steps::{
     Step, cell_of, expect_steps, has_frames, is_allocation, node_of_one, node_of_two,
@@ -42,6 +43,12 @@ fn is_one_allocation(events: &[Event], caller: u32, page: PageId) -> bool {
     }
 }
 
+fn has_one_allocation(node: Node, caller: u32, page: PageId) -> bool {
+    let is_alone = is_one_allocation(node.journal(), caller, page);
+    drop(node);
+    is_alone
+}
+
 fn has_callers(pass: &Pass, first: u32, end: u32) -> bool {
     pass.callers() == (first, end)
 }
@@ -50,19 +57,60 @@ const BUSY: &[Step] = &[Step::Busy];
 
 const ALLOCATED: &[Step] = &[Step::Call(Call::Alloc, Answer::Page(0))];
 
-#[test]
-fn busy_while_held(rt: HostRuntime) {
-    let (cell, pass) = cell_of(&rt, rt.alloc(), 16, 2);
-    let (a, mut b) = cell.split(pass, 1);
-    let hold = hold_node(&rt, &cell, a);
-    expect_steps(&rt, &cell, &mut b, 1, BUSY);
-    let mut b = refused_hold(&rt, &cell, b);
-    let a = cell.release(hold);
-    expect_steps(&rt, &cell, &mut b, 1, ALLOCATED);
+// Caller 1 finds the node busy, and its hold is refused.
+fn refused_steps(rt: &impl Abort, cell: &NodeCell, pass: Pass) -> Pass
+    requires cell { pass.cell ≡ cell.now }
+    requires caller { HasCaller pass 1 }
+    ensures { Stays pass result }
+{
+    let mut pass = pass;
+    expect_steps(rt, cell, &mut pass, 1, BUSY);
+    refused_hold(rt, cell, pass)
+}
+
+// While caller 0 has the node for a hold, it is busy for caller 1.
+fn released_after_busy(rt: &impl Abort, cell: &NodeCell, a: Pass, b: Pass) -> (Pass, Pass)
+    requires a_cell { a.cell ≡ cell.now }
+    requires b_cell { b.cell ≡ cell.now }
+    requires b_caller { HasCaller b 1 }
+    ensures a { Stays a result.0 }
+    ensures b { Stays b result.1 }
+{
+    let hold = hold_node(rt, cell, a);
+    let b = refused_steps(rt, cell, b);
+    (cell.release(hold), b)
+}
+
+// Caller 1 allocates a page, and the passes are joined.
+fn joined_after_allocation(rt: &impl Abort, cell: &NodeCell, a: Pass, b: Pass) -> Pass
+    requires a_cell { a.cell ≡ cell.now }
+    requires b_cell { b.cell ≡ cell.now }
+    requires b_caller { HasCaller b 1 }
+    requires adjacent { a.end ≡ b.first }
+    ensures cell { result.cell ≡ a.cell }
+    ensures callers { result.callers ≡ a.callers }
+    ensures first { result.first ≡ a.first }
+    ensures end { result.end ≡ b.end }
+{
+    let mut b = b;
+    expect_steps(rt, cell, &mut b, 1, ALLOCATED);
     let pass = cell.join(a, b);
     assert!(rt; has_callers(&pass, 0, 2));
-    let node = cell.finish(pass);
-    assert!(rt; is_one_allocation(node.journal(), 1, PageId(0)));
+    pass
+}
+
+// The node of two callers after a hold of the first one and an allocation of the second.
+fn node_after_hold(rt: &impl Abort, alloc: Global) -> Node {
+    let (cell, pass) = cell_of(rt, alloc, 16, 2);
+    let (a, b) = cell.split(pass, 1);
+    let (a, b) = released_after_busy(rt, &cell, a, b);
+    let pass = joined_after_allocation(rt, &cell, a, b);
+    cell.finish(pass)
+}
+
+#[test]
+fn busy_while_held(rt: HostRuntime) {
+    assert!(rt; has_one_allocation(node_after_hold(&rt, rt.alloc()), 1, PageId(0)));
 }
 
 const ONE_QUEUED: &[Step] = &[Step::Queue(0)];
@@ -73,16 +121,36 @@ const SCAN_OF_ONE: &[Step] = &[Step::Scan(8, [1, 1, 0, 0, 0, 0])];
 
 const COUNT_OF_NONE: &[Step] = &[Step::Count(0)];
 
+// Caller 1 counts the queue while another has the node for a hold.
+fn released_after_count(rt: &impl Abort, cell: &NodeCell, a: Pass, b: &mut Pass) -> Pass
+    requires a_cell { a.cell ≡ cell.now }
+    requires b_cell { b.old.cell ≡ cell.now }
+    requires b_caller { HasCaller b.old 1 }
+    ensures a { Stays a result }
+    ensures b { Stays b.old b.new }
+{
+    let hold = hold_node(rt, cell, a);
+    expect_steps(rt, cell, b, 1, COUNT_OF_ONE);
+    cell.release(hold)
+}
+
+fn expect_counts(rt: &impl Abort, cell: &NodeCell, a: Pass, b: &mut Pass)
+    requires a_cell { a.cell ≡ cell.now }
+    requires b_cell { b.old.cell ≡ cell.now }
+    requires a_caller { HasCaller a 0 }
+    requires b_caller { HasCaller b.old 1 }
+{
+    expect_steps(rt, cell, b, 1, ONE_QUEUED);
+    let mut a = released_after_count(rt, cell, a, b);
+    expect_steps(rt, cell, b, 1, SCAN_OF_ONE);
+    expect_steps(rt, cell, &mut a, 0, COUNT_OF_NONE);
+}
+
 #[test]
 fn count_while_held(rt: HostRuntime) {
     let (cell, pass) = cell_of(&rt, rt.alloc(), 16, 2);
     let (a, mut b) = cell.split(pass, 1);
-    expect_steps(&rt, &cell, &mut b, 1, ONE_QUEUED);
-    let hold = hold_node(&rt, &cell, a);
-    expect_steps(&rt, &cell, &mut b, 1, COUNT_OF_ONE);
-    let mut a = cell.release(hold);
-    expect_steps(&rt, &cell, &mut b, 1, SCAN_OF_ONE);
-    expect_steps(&rt, &cell, &mut a, 0, COUNT_OF_NONE);
+    expect_counts(&rt, &cell, a, &mut b);
 }
 
 // Why there is no cell of this many callers.
@@ -136,9 +204,13 @@ const EVERY_PAGE_CALL: &[Step] = &[
     Step::Count(0),
 ];
 
+fn expect_page_calls(rt: &impl Abort, alloc: Global) {
+    drop(node_of_one(rt, alloc, shape_of(2), EVERY_PAGE_CALL));
+}
+
 #[test]
 fn every_page_call(rt: HostRuntime) {
-    let _node = node_of_one(&rt, rt.alloc(), shape_of(2), EVERY_PAGE_CALL);
+    expect_page_calls(&rt, rt.alloc());
 }
 
 // Two callers take the pages 0 and 1, and page 2; the second frees page 1 before the first tries it.
@@ -158,8 +230,12 @@ const FREES_ACROSS_BATCHES: &[(u32, Step)] = &[
     (0, Step::Count(1)),
 ];
 
+// After these steps the pages hold so many frames, and so many were given back.
+fn expect_frames(rt: &impl Abort, alloc: Global, steps: &[(u32, Step)], held: u128, given: u128) {
+    assert!(rt; has_frames(node_of_two(rt, alloc, steps), held, given));
+}
+
 #[test]
 fn frees_across_batches(rt: HostRuntime) {
-    let node = node_of_two(&rt, rt.alloc(), FREES_ACROSS_BATCHES);
-    assert!(rt; has_frames(&node, 1023, 513));
+    expect_frames(&rt, rt.alloc(), FREES_ACROSS_BATCHES, 1023, 513);
 }

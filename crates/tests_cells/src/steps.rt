@@ -434,12 +434,25 @@ pub(crate) fn node_of_two(rt: &impl Abort, alloc: Global, steps: &[(u32, Step)])
     cell.finish(pass)
 }
 
+// How many events the node's journal has, how many frames its pages hold, and how many were given back.
+fn totals_of(node: Node) -> (usize, u128, u128) {
+    let totals = (
+        node.journal().len(),
+        node.frames_held(),
+        node.frames_given(),
+    );
+    drop(node);
+    totals
+}
+
 // How many events the node's journal has.
-pub(crate) fn event_count(node: &Node) -> usize {
-    node.journal().len()
+pub(crate) fn event_count(node: Node) -> usize {
+    let (events, _, _) = totals_of(node);
+    events
 }
 
 // The node's pages hold so many frames, and so many were given back.
-pub(crate) fn has_frames(node: &Node, held: u128, given: u128) -> bool {
-    node.frames_held() == held && node.frames_given() == given
+pub(crate) fn has_frames(node: Node, held: u128, given: u128) -> bool {
+    let (_, frames_held, frames_given) = totals_of(node);
+    frames_held == held && frames_given == given
 }

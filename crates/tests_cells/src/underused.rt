@@ -44,11 +44,14 @@ fn has_used_at(node: &Node, place: usize) -> bool {
     node.journal().get(place).is_some_and(is_used)
 }
 
+fn expect_used(rt: &impl Abort, node: Node) {
+    assert!(rt; has_used_at(&node, 3));
+    assert!(rt; event_count(node) == 10);
+}
+
 #[test]
 fn underused_scan(rt: HostRuntime) {
-    let node = small_node(&rt, rt.alloc(), 4, UNDERUSED_SCAN);
-    assert!(rt; event_count(&node) == 10);
-    assert!(rt; has_used_at(&node, 3));
+    expect_used(&rt, small_node(&rt, rt.alloc(), 4, UNDERUSED_SCAN));
 }
 
 // An underused page is split by a scan, and a pinned one is dropped by it.
@@ -61,10 +64,21 @@ const UNDERUSED_PINNED: &[Step] = &[
     Step::Count(0),
 ];
 
+// After these steps the pages hold so many frames, and so many were given back.
+fn expect_frames(
+    rt: &impl Abort,
+    alloc: Global,
+    blocks: u32,
+    steps: &[Step],
+    held: u128,
+    given: u128,
+) {
+    assert!(rt; has_frames(small_node(rt, alloc, blocks, steps), held, given));
+}
+
 #[test]
 fn underused_pinned(rt: HostRuntime) {
-    let node = small_node(&rt, rt.alloc(), 4, UNDERUSED_PINNED);
-    assert!(rt; has_frames(&node, 6, 2));
+    expect_frames(&rt, rt.alloc(), 4, UNDERUSED_PINNED, 6, 2);
 }
 
 // A page whose frames were all given back keeps its block until its last unmap.
@@ -81,8 +95,7 @@ const BLOCK_OF_A_LIVE_PAGE: &[Step] = &[
 
 #[test]
 fn block_of_a_live_page(rt: HostRuntime) {
-    let node = small_node(&rt, rt.alloc(), 1, BLOCK_OF_A_LIVE_PAGE);
-    assert!(rt; has_frames(&node, 4, 4));
+    expect_frames(&rt, rt.alloc(), 1, BLOCK_OF_A_LIVE_PAGE, 4, 4);
 }
 
 const WRITE_AND_ZERO_REFUSALS: &[Step] = &[
@@ -99,7 +112,11 @@ const WRITE_AND_ZERO_REFUSALS: &[Step] = &[
     Step::PutBack(1),
 ];
 
+fn expect_refusals(rt: &impl Abort, alloc: Global) {
+    drop(small_node(rt, alloc, 4, WRITE_AND_ZERO_REFUSALS));
+}
+
 #[test]
 fn write_and_zero_refusals(rt: HostRuntime) {
-    let _node = small_node(&rt, rt.alloc(), 4, WRITE_AND_ZERO_REFUSALS);
+    expect_refusals(&rt, rt.alloc());
 }

@@ -5,7 +5,7 @@ use std::alloc::Global;
 use std::process::Abort;
 use tests_steps::{Answer, Call, QUEUED, first_wrong, shape_of};
 use thp_history::Refusal;
-use thp_node::{CountOnly, Node, Recorder};
+use thp_node::{CountOnly, Counters, Node, Recorder};
 
 const PAGE: u64 = 0;
 
@@ -37,26 +37,32 @@ fn is_scanned<R: Recorder>(node: &mut Node<R>) -> bool {
     node.scan(1, 8).is_ok()
 }
 
-// The queue has one page, and 256 frames were given back.
+// The queue has one page, 256 frames were given back, and there were 12 events.
 fn is_left<R: Recorder>(node: &Node<R>) -> bool {
-    node.queue_len() == 1 && node.frames_given() == 256
+    node.queue_len() == 1 && node.frames_given() == 256 && node.event_count() == 12
 }
 
-fn have_same_counters(kept: &Node, unkept: &Node<CountOnly>) -> bool {
-    kept.counters() == unkept.counters()
+// What a node has counted after the calls and a scan.
+fn counted<R: Recorder>(rt: &impl Abort, node: &mut Node<R>) -> Counters {
+    assert!(rt; are_called(node));
+    assert!(rt; is_scanned(node));
+    assert!(rt; is_left(node));
+    node.counters()
+}
+
+fn kept_counters(rt: &impl Abort, alloc: Global) -> Counters {
+    let mut node = node_of(rt, alloc, 16);
+    let counters = counted(rt, &mut node);
+    assert!(rt; event_count(&node) == 12);
+    counters
+}
+
+fn unkept_counters(rt: &impl Abort, alloc: Global) -> Counters {
+    counted(rt, &mut unkept_node(rt, alloc))
 }
 
 #[test]
 fn kept_and_unkept(rt: HostRuntime) {
-    let mut kept = node_of(&rt, rt.alloc(), 16);
-    let mut unkept = unkept_node(&rt, rt.alloc());
-    assert!(rt; are_called(&mut kept));
-    assert!(rt; are_called(&mut unkept));
-    assert!(rt; is_scanned(&mut kept));
-    assert!(rt; is_scanned(&mut unkept));
-    assert!(rt; is_left(&kept));
-    assert!(rt; is_left(&unkept));
-    assert!(rt; have_same_counters(&kept, &unkept));
-    assert!(rt; event_count(&kept) == 12);
-    assert!(rt; unkept.event_count() == 12);
+    let kept = kept_counters(&rt, rt.alloc());
+    assert!(rt; kept == unkept_counters(&rt, rt.alloc()));
 }

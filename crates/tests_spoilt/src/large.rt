@@ -1,5 +1,6 @@
 //! Histories larger than any limit that a node or the check could have invented, beyond the size of an input.
 use std::alloc::Global;
+use std::process::Abort;
 use thp_check::{CheckFault, Replay, check};
 use thp_history::{Event, Outcome, PageId, Shape, SubSet, What};
 use thp_journal_reader::LeastBlocks;
@@ -24,15 +25,20 @@ fn node_of_one_block(alloc: Global) -> Option<Node> {
     Node::new(alloc, Shape { blocks: 1, ..SHAPE }).ok()
 }
 
+fn expect_two_million_pages(rt: &impl Abort, node: &mut Node) {
+    for number in 0..2_100_000 {
+        assert!(rt; is_numbered(node, number));
+    }
+    assert!(rt; node.allocations() == 2_100_000);
+    assert!(rt; node.journal().len() == 4_200_000);
+}
+
 /// More than 2^21 pages, one after the other in one block, and more than 2^22 events.
 #[test]
 fn two_million_pages(rt: HostRuntime) {
     let mut node = node_of_one_block(rt.alloc()).expect(&rt, "a node");
-    for number in 0..2_100_000 {
-        assert!(rt; is_numbered(&mut node, number));
-    }
-    assert!(rt; node.allocations() == 2_100_000);
-    assert!(rt; node.journal().len() == 4_200_000);
+    expect_two_million_pages(&rt, &mut node);
+    drop(node);
 }
 
 /// A page in each of 4,096 blocks, by a caller of its own, far beyond those that a node has, and one page more.

@@ -1,4 +1,6 @@
 //! Texts passed through runs and checks on devices of all behaviours.
+ghost use Rattle.std.specs.Prelude.{◌≡◌, false};
+
 use crate::devices::{LARGE, Manner, Sink, Source};
 use std::alloc::Global;
 use std::thread::Threads;
@@ -66,6 +68,26 @@ pub(crate) struct Passed {
     pub(crate) held: Vec<u8>,
 }
 
+/// How a run with the settings ends, or a check if there are none.
+fn ended<T: Threads + Sync>(
+    rt: &T,
+    alloc: Global,
+    settings: Option<Settings>,
+    reader: &mut Watched<Source>,
+    writer: &mut Watched<Sink>,
+) -> Result<(), RunFault>
+    requires reader { reader.old.failed ≡ false }
+    requires writer { writer.old.failed ≡ false }
+{
+    match settings {
+        Some(settings) => run(rt, alloc, &settings, reader, writer, &NoGate),
+        None => match check_run(alloc, reader, writer) {
+            Ok(_) => Ok(()),
+            Err(fault) => Err(fault),
+        },
+    }
+}
+
 /// Runs a script with the settings, or checks a journal if there are none.
 pub(crate) fn pass<T: Threads + Sync>(
     rt: &T,
@@ -76,13 +98,7 @@ pub(crate) fn pass<T: Threads + Sync>(
 ) -> Passed {
     let mut reader = Watched::new(source);
     let mut writer = Watched::new(Sink::new(alloc, writes));
-    let ended = match settings {
-        Some(settings) => run(rt, alloc, &settings, &mut reader, &mut writer, &NoGate),
-        None => match check_run(alloc, &mut reader, &mut writer) {
-            Ok(_) => Ok(()),
-            Err(fault) => Err(fault),
-        },
-    };
+    let ended = ended(rt, alloc, settings, &mut reader, &mut writer);
     let failed = (reader.failed(), writer.failed());
     let source = reader.into_inner();
     let sink = writer.into_inner();

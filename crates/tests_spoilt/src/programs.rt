@@ -88,6 +88,11 @@ fn end_of<T: Threads + Sync>(
     })
 }
 
+/// Whether the program ended with this status and these messages, after this many bytes of output.
+fn has_ended(ended: &Ended, status: u8, told: &[u8], written: usize) -> bool {
+    ended.status == status && ended.errors.as_slice() == told && ended.output.len() == written
+}
+
 const FAILS: Mishap = Mishap::Fails(ErrorKind::Other);
 
 /// Makes each read of the program fail in turn; returns the number of cases, or `None` if one ends wrong.
@@ -96,8 +101,7 @@ fn fail_reads<T: Threads + Sync>(rt: &T, alloc: Global, task: &Task) -> Option<u
     for call in 0..all {
         let reads = Manner::with(1, call, FAILS);
         let ended = end_of(rt, alloc, task, reads, LARGE, LARGE)?;
-        let is_told = ended.errors.as_slice() == b"thpsplit: read failed\n".as_slice();
-        if ended.status != 3 || !is_told || !ended.output.is_empty() {
+        if !has_ended(&ended, 3, b"thpsplit: read failed\n".as_slice(), 0) {
             return None;
         }
     }
@@ -110,8 +114,8 @@ fn fail_writes<T: Threads + Sync>(rt: &T, alloc: Global, task: &Task) -> Option<
     for call in 0..all {
         let writes = Manner::with(1, call, FAILS);
         let ended = end_of(rt, alloc, task, LARGE, writes, LARGE)?;
-        let is_told = ended.errors.as_slice() == b"thpsplit: write failed\n".as_slice();
-        if ended.status != 3 || !is_told || ended.output.len() != call as usize {
+        let told = b"thpsplit: write failed\n".as_slice();
+        if !has_ended(&ended, 3, told, call as usize) {
             return None;
         }
     }
@@ -125,8 +129,7 @@ fn fail_tells<T: Threads + Sync>(rt: &T, alloc: Global, task: &Task, told: &[u8]
     for count in 0..=told.len() {
         let tells = Manner::with(1, tried, FAILS);
         let ended = end_of(rt, alloc, task, LARGE, LARGE, tells)?;
-        let is_front = ended.errors.as_slice() == &told[..count];
-        if ended.status != 2 || !is_front || !ended.output.is_empty() {
+        if !has_ended(&ended, 2, &told[..count], 0) {
             return None;
         }
         tried = tried.saturating_add(1);

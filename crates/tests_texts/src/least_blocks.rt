@@ -56,14 +56,18 @@ fn placed_of(row: Row) -> Event {
     }
 }
 
+fn expect_row(rt: &impl Abort, least: &mut LeastBlocks, name: &str, row: Row) {
+    let event = least.place(event_of(row)).expect(rt, "memory");
+    assert!(rt; event == placed_of(row), "{name}");
+}
+
 // Each row's event is returned with its block.
 fn expect_rows(rt: &impl Abort, alloc: Global, blocks: u32, name: &str, rows: &[Row])
     requires { 1 ≤ blocks }
 {
     let mut least = LeastBlocks::new(alloc, shape_of(blocks)).expect(rt, "memory");
     for row in rows {
-        let event = least.place(event_of(*row)).expect(rt, "memory");
-        assert!(rt; event == placed_of(*row), "{name}");
+        expect_row(rt, &mut least, name, *row);
     }
 }
 

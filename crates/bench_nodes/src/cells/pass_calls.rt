@@ -6,7 +6,7 @@ ghost use Rattle.thp_node.specs.Prelude.{IsInFront};
 use crate::nodes::new_cell;
 use crate::stopwatch::tell_nanos;
 use anyhow::{Context, Result};
-use std::time::CpuClock;
+use std::time::{CpuClock, Duration};
 use thp_cell::{CellFault, NodeCell, Pass};
 use thp_history::{Done, PageId};
 use thp_node::Batch;
@@ -54,18 +54,38 @@ fn time_one<R: CpuClock + Eprint + AllocGlobal>(
     let (mut spent, mut sum) = (0u128, 0u64);
     let cells = (rounds / EACH).max(1);
     for _cell in 0..cells {
-        let (cell, mut pass) = new_cell(rt.alloc(), 1).context("memory for a cell")?;
-        if let Round::Batch = round {
-            queue_pinned(&cell, &mut pass);
-        }
-        let start = rt.thread_cpu_time()?;
-        for _round in 0..EACH {
-            sum = sum.wrapping_add(once(&cell, &mut pass, round));
-        }
-        let lap = rt.thread_cpu_time()?.saturating_sub(start);
+        let (lap, answers) = time_cell(rt, round)?;
         spent = spent.saturating_add(lap.as_nanos());
+        sum = sum.wrapping_add(answers);
     }
     tell_nanos(rt, what, cells.saturating_mul(EACH), spent, sum)
+}
+
+// The time of the rounds on a new cell, and the sum of their numbers.
+fn time_cell<R: CpuClock + AllocGlobal>(rt: &R, round: Round) -> Result<(Duration, u64)> {
+    let (cell, mut pass) = new_cell(rt.alloc(), 1).context("memory for a cell")?;
+    time_rounds_on(rt, &cell, &mut pass, round)
+}
+
+// The same of this cell, with the pages of a batch queued first where the rounds try one.
+fn time_rounds_on<R: CpuClock>(
+    rt: &R,
+    cell: &NodeCell,
+    pass: &mut Pass,
+    round: Round,
+) -> Result<(Duration, u64)>
+    requires cell { pass.old.cell ≡ cell.now }
+    requires caller { HasCaller pass.old 0 }
+{
+    if let Round::Batch = round {
+        queue_pinned(cell, pass);
+    }
+    let start = rt.thread_cpu_time()?;
+    let mut sum = 0u64;
+    for _round in 0..EACH {
+        sum = sum.wrapping_add(once(cell, pass, round));
+    }
+    Ok((rt.thread_cpu_time()?.saturating_sub(start), sum))
 }
 
 // Queues and pins the pages of a batch.

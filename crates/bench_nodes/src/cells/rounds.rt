@@ -6,6 +6,7 @@ use crate::nodes::{new_cell, new_node};
 use std::alloc::Global;
 use thp_cell::{CellFault, NodeCell, Pass};
 use thp_history::PageId;
+use thp_node::Node;
 
 /// The numbers of successful calls, and of calls that found the node busy.
 #[derive(Clone, Copy)]
@@ -38,6 +39,13 @@ impl Tally {
 /// Rounds on a bare node.
 pub(crate) fn bare_rounds(alloc: Global, rounds: u32) -> Option<Tally> {
     let mut node = new_node(alloc)?;
+    let tally = rounds_on(&mut node, rounds);
+    drop(node);
+    tally
+}
+
+// Allocates a page of a bare node and makes the rounds on it; none if it can't be allocated.
+fn rounds_on(node: &mut Node, rounds: u32) -> Option<Tally> {
     let mut done = 0u64;
     if let Err(_) = node.alloc_page(0) {
         return None;

@@ -8,13 +8,26 @@ use std::alloc::Global;
 use std::thread::{self, Threads};
 use thp_cell::{NodeCell, Pass};
 
-/// Two threads on one cell.
-pub(crate) fn two_on_one<R: Threads + Sync>(
+/// A thread for each caller of a pass that has all callers of a cell: one, two or four.
+pub(crate) fn all_on_one<R: Threads + Sync>(
     rt: &R,
     cell: &NodeCell,
     pass: Pass,
     rounds: u32,
 ) -> (Pass, Tally)
+    requires cell { pass.cell ≡ cell.now }
+    requires all { HasAll pass }
+{
+    let (_, threads) = pass.callers();
+    match threads {
+        2 => two_on_one(rt, cell, pass, rounds),
+        4 => four_on_one(rt, cell, pass, rounds),
+        _ => cell_rounds(cell, pass, 0, rounds),
+    }
+}
+
+// Two threads on one cell.
+fn two_on_one<R: Threads + Sync>(rt: &R, cell: &NodeCell, pass: Pass, rounds: u32) -> (Pass, Tally)
     requires cell { pass.cell ≡ cell.now }
     requires callers { pass.callers ≡ 2 }
     requires all { HasAll pass }
@@ -24,13 +37,8 @@ pub(crate) fn two_on_one<R: Threads + Sync>(
     (cell.join(left, right), one.with(two))
 }
 
-/// Four threads on one cell.
-pub(crate) fn four_on_one<R: Threads + Sync>(
-    rt: &R,
-    cell: &NodeCell,
-    pass: Pass,
-    rounds: u32,
-) -> (Pass, Tally)
+// Four threads on one cell.
+fn four_on_one<R: Threads + Sync>(rt: &R, cell: &NodeCell, pass: Pass, rounds: u32) -> (Pass, Tally)
     requires cell { pass.cell ≡ cell.now }
     requires callers { pass.callers ≡ 4 }
     requires all { HasAll pass }

@@ -52,14 +52,30 @@ fn time_kind<R: CpuClock + Eprint + AllocGlobal>(
 ) -> Result<()>
     requires { 0 < blocks }
 {
+    let table = occupied(rt.alloc(), blocks, Numbers { first: 0, apart })?;
+    let timed = time_both(rt, &table, blocks, rounds, kind, apart);
+    drop(table);
+    timed
+}
+
+// The same of this table.
+fn time_both<R: CpuClock + Eprint>(
+    rt: &R,
+    table: &PageTable,
+    blocks: u32,
+    rounds: u32,
+    kind: &str,
+    apart: u64,
+) -> Result<()>
+    requires { 0 < blocks }
+{
     let there = Numbers { first: 0, apart };
     let first = apart.wrapping_mul(u64::from(blocks));
     let others = Numbers { first, apart };
-    let table = occupied(rt.alloc(), blocks, there)?;
     let what = format_args!("block_of, {blocks} blocks, numbers {kind}, there");
-    time_numbers(rt, &table, blocks, there, rounds, what)?;
+    time_numbers(rt, table, blocks, there, rounds, what)?;
     let what = format_args!("block_of, {blocks} blocks, numbers {kind}, not there");
-    time_numbers(rt, &table, blocks, others, rounds, what)
+    time_numbers(rt, table, blocks, others, rounds, what)
 }
 
 // The time of looking up these numbers, printed with the text `what`.

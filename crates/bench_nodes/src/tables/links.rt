@@ -19,10 +19,25 @@ pub(crate) fn time_front<R: CpuClock + Eprint + AllocGlobal>(
     rounds: u32,
 ) -> Result<()> {
     let (mut table, mut queue) = filled(rt.alloc(), blocks)?;
+    let timed = time_rotations(rt, &mut table, &mut queue, blocks, rounds);
+    drop(table);
+    timed
+}
+
+// The time of removing and appending the oldest block of this queue.
+fn time_rotations<R: CpuClock + Eprint>(
+    rt: &R,
+    table: &mut PageTable,
+    queue: &mut Queue,
+    blocks: u32,
+    rounds: u32,
+) -> Result<()>
+    requires { Stands queue.old table.old.links }
+{
     let watch = Stopwatch::start(rt)?;
     let mut sum = 0u64;
     for _round in 0..rounds {
-        if let Some(i) = rotate(&mut table, &mut queue) {
+        if let Some(i) = rotate(table, queue) {
             sum = sum.wrapping_add(u64::from(i));
         }
     }
@@ -49,12 +64,30 @@ pub(crate) fn time_middle<R: CpuClock + Eprint + AllocGlobal>(
     requires { 0 < blocks }
 {
     let (mut table, mut queue) = filled(rt.alloc(), blocks)?;
+    let timed = time_returns(rt, &mut table, &mut queue, blocks, rounds);
+    drop(table);
+    timed
+}
+
+// The time of removing blocks from the middle of this queue, which has all blocks, and appending them.
+fn time_returns<R: CpuClock + Eprint>(
+    rt: &R,
+    table: &mut PageTable,
+    queue: &mut Queue,
+    blocks: u32,
+    rounds: u32,
+) -> Result<()>
+    requires some { 0 < blocks }
+    requires size { length table.old.links ≡ blocks }
+    requires stands { Stands queue.old table.old.links }
+    requires all { (i : ℕ) → i < blocks → Contains queue.old i }
+{
     let watch = Stopwatch::start(rt)?;
     let mut sum = 0u64;
     let mut i = 0;
     for _round in 0..rounds {
-        queue.remove(&mut table, i);
-        queue.push_back(&mut table, i);
+        queue.remove(table, i);
+        queue.push_back(table, i);
         sum = sum.wrapping_add(u64::from(queue.len()));
         i = after(i, blocks);
     }

@@ -80,13 +80,20 @@ fn time_rounds_on<R: CpuClock>(rt: &R, node: &mut Node, round: Round) -> Result<
 
 // The same of a new node.
 fn time_node<R: CpuClock + AllocGlobal>(rt: &R, round: Round) -> Result<(Duration, u64)> {
-    let mut node = made(rt.alloc(), round).context("memory for a node")?;
-    time_rounds_on(rt, &mut node, round)
+    let mut node = made(rt.alloc(), round)?;
+    let lap = time_rounds_on(rt, &mut node, round);
+    drop(node);
+    lap
 }
 
 // A node with room for the events of its rounds, with page 0 mapped whole once, or with pages that are queued and pinned.
-fn made(alloc: Global, round: Round) -> Option<Node> {
-    let mut node = new_node(alloc)?;
+fn made(alloc: Global, round: Round) -> Result<Node> {
+    let mut node = new_node(alloc).context("memory for a node")?;
+    fill(&mut node, round);
+    Ok(node)
+}
+
+fn fill(node: &mut Node, round: Round) {
     let pages = match round {
         Round::Batch => u64::from(BATCH),
         _ => 1,
@@ -100,7 +107,6 @@ fn made(alloc: Global, round: Round) -> Option<Node> {
             let _pinned = node.pin(0, PageId(page));
         }
     }
-    Some(node)
 }
 
 // One round, and a number computed from its result.

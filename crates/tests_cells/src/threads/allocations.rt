@@ -1,11 +1,16 @@
 //! Two concurrent threads on one cell.
 ghost use Rattle.std.specs.Prelude.{◌≡◌};
-ghost use Rattle.thp_cell.specs.Prelude.{HasCaller, at_front};
+ghost use Rattle.thp_cell.specs.Prelude.{HasAll, HasCaller, at_front};
+ghost use Rattle.tests_cells.specs.Passes.{Stays};
 
 use crate::steps::{cell_of, is_allocation};
+use std::alloc::Global;
+use std::process::Abort;
 use std::thread;
+use std::thread::Threads;
 use thp_cell::{NodeCell, Pass};
 use thp_history::{Event, PageId};
+use thp_node::Node;
 
 // Allocates 20 pages, or gives up after 50,000,000 calls.
 fn allocate_20(cell: &NodeCell, pass: Pass, caller: u32) -> (Pass, u32)
@@ -45,18 +50,50 @@ fn are_done(of_a: u32, of_b: u32) -> bool {
     of_a == 20 && of_b == 20
 }
 
+// Two threads allocate concurrently, with the callers 0 and 1.
+fn allocate_in_pairs<R: Threads + Sync>(
+    rt: &R,
+    cell: &NodeCell,
+    a: Pass,
+    b: Pass,
+) -> ((Pass, u32), (Pass, u32))
+    requires a_cell { a.cell ≡ cell.now }
+    requires b_cell { b.cell ≡ cell.now }
+    requires a_caller { HasCaller a 0 }
+    requires b_caller { HasCaller b 1 }
+    ensures a { result.0.0 ≡ at_front a result.0.0.front }
+    ensures b { result.1.0 ≡ at_front b result.1.0.front }
+{
+    thread::join(
+        rt,
+        move || allocate_20(cell, a, 0),
+        move || allocate_20(cell, b, 1),
+    )
+}
+
+// The pass of two callers after both threads have allocated their pages.
+fn allocated_by_two<R: Threads + Sync + Abort>(rt: &R, cell: &NodeCell, pass: Pass) -> Pass
+    requires cell { pass.cell ≡ cell.now }
+    requires all { HasAll pass }
+    requires two { pass.callers ≡ 2 }
+    ensures { Stays pass result }
+{
+    let (a, b) = cell.split(pass, 1);
+    let ((a, pages_of_a), (b, pages_of_b)) = allocate_in_pairs(rt, cell, a, b);
+    assert!(rt; are_done(pages_of_a, pages_of_b));
+    cell.join(a, b)
+}
+
+// The node after both threads have allocated their pages.
+fn node_of_two_threads<R: Threads + Sync + Abort>(rt: &R, alloc: Global) -> Node {
+    let (cell, pass) = cell_of(rt, alloc, 64, 2);
+    let pass = allocated_by_two(rt, &cell, pass);
+    cell.finish(pass)
+}
+
 #[test]
 fn two_threads_allocate(rt: HostRuntime) {
-    let (cell, pass) = cell_of(&rt, rt.alloc(), 64, 2);
-    let (a, b) = cell.split(pass, 1);
-    let shared = &cell;
-    let ((a, pages_of_a), (b, pages_of_b)) = thread::join(
-        &rt,
-        move || allocate_20(shared, a, 0),
-        move || allocate_20(shared, b, 1),
-    );
-    assert!(rt; are_done(pages_of_a, pages_of_b));
-    let pass = cell.join(a, b);
-    let node = cell.finish(pass);
+    let node = node_of_two_threads(&rt, rt.alloc());
     assert!(rt; are_40_allocations(node.journal()));
+    drop(node);
 }

@@ -3,7 +3,7 @@
 ghost use Rattle.std.specs.Prelude.{◌≡◌, ◌<◌, ◌≤◌, ◌+◌, false, IfSome};
 ghost use Rattle.std.specs.Thread.{IsSync};
 ghost use Rattle.thp_node.specs.Prelude.{IsInFront};
-ghost use Rattle.thp_cell.specs.Prelude.{HasCaller, HasAll, at_front, BatchesStay};
+ghost use Rattle.thp_cell.specs.Prelude.{HasCaller, HasAll, IsJoined, at_front, BatchesStay};
 
 use crate::steps::cell_of;
 use std::alloc::Global;
@@ -17,6 +17,9 @@ use thp_node::{BackReply, Batch, Node, Tried};
 
 // The pass of a thread that has finished, and the results of its calls.
 type Logged = (Pass, Vec<Answer>);
+
+// The results of the calls of two threads.
+type Logs = (Vec<Answer>, Vec<Answer>);
 
 // The result of a call, as far as a journal contains it.
 #[derive(Clone, Copy, PartialEq, Eq)]
@@ -336,26 +339,57 @@ fn is_log(node: &Node, caller: u32, answers: &[Answer]) -> bool {
     is_part(node.journal(), caller, answers)
 }
 
+// The pass of two threads that have finished, and the logs of both.
+fn join_pair(cell: &NodeCell, left: Logged, right: Logged) -> (Pass, Logs)
+    requires left_cell { left.0.cell ≡ cell.now }
+    requires right_cell { right.0.cell ≡ cell.now }
+    requires adjacent { left.0.end ≡ right.0.first }
+    ensures { IsJoined left.0 right.0 result.0 }
+{
+    let (left, of_left) = left;
+    let (right, of_right) = right;
+    (cell.join(left, right), (of_left, of_right))
+}
+
+// Lets four threads work with the callers of the pass, and returns the pass of all of them and their logs.
+fn work_by_four<R: Threads + Sync>(
+    rt: &R,
+    alloc: Global,
+    cell: &NodeCell,
+    pass: Pass,
+) -> (Pass, Logs, Logs)
+    requires cell { pass.cell ≡ cell.now }
+    requires all { HasAll pass }
+    requires four { pass.callers ≡ 4 }
+    ensures cell { result.0.cell ≡ cell.now }
+    ensures all { HasAll result.0 }
+{
+    let ((a, b), (c, d)) = split_in_four(cell, pass);
+    let ((a, b), (c, d)) = work_in_fours(rt, alloc, cell, a, b, c, d);
+    let (low, of_low) = join_pair(cell, a, b);
+    let (high, of_high) = join_pair(cell, c, d);
+    (cell.join(low, high), of_low, of_high)
+}
+
+// The node after the calls of four threads, and their logs.
+fn node_of_four_threads<R: Threads + Sync + Abort>(rt: &R, alloc: Global) -> (Node, Logs, Logs) {
+    let (cell, pass) = cell_of(rt, alloc, 64, 4);
+    let (pass, of_low, of_high) = work_by_four(rt, alloc, &cell, pass);
+    (cell.finish(pass), of_low, of_high)
+}
+
+// The journal is legal, and the events of each caller are those of its log.
+fn expect_logs(rt: &impl Abort, alloc: Global, node: &Node, of_low: &Logs, of_high: &Logs) {
+    assert!(rt; is_legal(alloc, node));
+    assert!(rt; is_log(node, 0, &of_low.0));
+    assert!(rt; is_log(node, 1, &of_low.1));
+    assert!(rt; is_log(node, 2, &of_high.0));
+    assert!(rt; is_log(node, 3, &of_high.1));
+}
+
 #[test]
 fn four_threads_mix_calls(rt: HostRuntime) {
-    let (cell, pass) = cell_of(&rt, rt.alloc(), 64, 4);
-    let ((a, b), (c, d)) = split_in_four(&cell, pass);
-    let (((a, of_a), (b, of_b)), ((c, of_c), (d, of_d))) = work_in_fours(
-        &rt,
-        rt.alloc(),
-        &cell,
-        a,
-        b,
-        c,
-        d,
-    );
-    let low = cell.join(a, b);
-    let high = cell.join(c, d);
-    let pass = cell.join(low, high);
-    let node = cell.finish(pass);
-    assert!(rt; is_legal(rt.alloc(), &node));
-    assert!(rt; is_log(&node, 0, &of_a));
-    assert!(rt; is_log(&node, 1, &of_b));
-    assert!(rt; is_log(&node, 2, &of_c));
-    assert!(rt; is_log(&node, 3, &of_d));
+    let (node, of_low, of_high) = node_of_four_threads(&rt, rt.alloc());
+    expect_logs(&rt, rt.alloc(), &node, &of_low, &of_high);
+    drop(node);
 }

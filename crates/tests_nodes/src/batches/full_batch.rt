@@ -51,16 +51,19 @@ fn has_room(node: &mut Node) -> bool {
     node.reserve(384) == Ok(())
 }
 
+fn expect_scan(rt: &impl Abort, node: &mut Node) {
+    expect_queued(rt, node, 128);
+    let from = event_count(node);
+    assert!(rt; has_room(node));
+    assert!(rt; is_scanned(node, 0, 128, [128, 0, 128, 128, 0, 0]));
+    expect_queued(rt, node, 128);
+    expect_round(rt, node, from);
+}
+
 // A scan of 128 pages has room for its 384 events, and leaves the queue in its order.
 #[test]
 fn scan_of_a_full_batch(rt: HostRuntime) {
-    let mut node = node_of_pinned(&rt, rt.alloc());
-    expect_queued(&rt, &node, 128);
-    let from = event_count(&node);
-    assert!(rt; has_room(&mut node));
-    assert!(rt; is_scanned(&mut node, 0, 128, [128, 0, 128, 128, 0, 0]));
-    expect_queued(&rt, &node, 128);
-    expect_round(&rt, &node, from);
+    expect_scan(&rt, &mut node_of_pinned(&rt, rt.alloc()));
 }
 
 // A take of the pages 0 to 127, a try of each, one more that finds none left, and the put back.

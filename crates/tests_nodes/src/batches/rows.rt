@@ -84,18 +84,27 @@ fn abandoned_after_its_split(rt: HostRuntime) {
     expect_batches(&rt, node, ABANDONED);
 }
 
+// Each of two callers takes a page and puts it back, the second one first.
+fn expect_batches_of_two(rt: &impl Abort, node: &mut Node) {
+    let first = take_these(rt, node, 1, 1, &[PageId(0)]);
+    let second = take_these(rt, node, 2, 1, &[PageId(1)]);
+    expect_put_back(rt, node, second, 1, 0);
+    expect_has_batch(rt, node, 1, 1);
+    expect_put_back(rt, node, first, 1, 0);
+}
+
+// A caller discards a batch of three pages, and has it still.
+fn expect_abandoned(rt: &impl Abort, node: &mut Node) {
+    take_these(rt, node, 1, 3, &[PageId(2), PageId(1), PageId(0)]).abandon();
+    expect_queued(rt, node, 0);
+    expect_has_batch(rt, node, 1, 1);
+}
+
 #[test]
 fn batches_of_two_callers(rt: HostRuntime) {
     let mut node = node_with_queued(&rt, rt.alloc(), 3);
-    let first = take_these(&rt, &mut node, 1, 1, &[PageId(0)]);
-    let second = take_these(&rt, &mut node, 2, 1, &[PageId(1)]);
-    expect_put_back(&rt, &mut node, second, 1, 0);
-    expect_has_batch(&rt, &mut node, 1, 1);
-    expect_put_back(&rt, &mut node, first, 1, 0);
-    let third = take_these(&rt, &mut node, 1, 3, &[PageId(2), PageId(1), PageId(0)]);
-    third.abandon();
-    expect_queued(&rt, &node, 0);
-    expect_has_batch(&rt, &mut node, 1, 1);
+    expect_batches_of_two(&rt, &mut node);
+    expect_abandoned(&rt, &mut node);
 }
 
 const FREED_AROUND: &[BatchStep] = &[
@@ -133,13 +142,17 @@ fn only_block(rt: &impl Abort, node: &Node) -> Option<u32> {
     node.queue().front()
 }
 
+// Once the older of two pages is freed, the queue has the other one's block.
+fn expect_block_of_the_other(rt: &impl Abort, node: &mut Node) {
+    let block = block_of(node, PageId(1));
+    assert!(rt; block.is_some());
+    expect(rt, node, 0, &[(Call::UnmapSub(ZERO, 1, 511), FREED)]);
+    assert!(rt; only_block(rt, node) == block);
+    assert!(rt; block_of(node, PageId(0)) == None);
+}
+
 // The queue is in the table's links, by the blocks of its pages.
 #[test]
 fn queue_stands_in_the_table(rt: HostRuntime) {
-    let mut node = node_with_queued(&rt, rt.alloc(), 2);
-    let block = block_of(&node, PageId(1));
-    assert!(rt; block.is_some());
-    expect(&rt, &mut node, 0, &[(Call::UnmapSub(ZERO, 1, 511), FREED)]);
-    assert!(rt; only_block(&rt, &node) == block);
-    assert!(rt; block_of(&node, PageId(0)) == None);
+    expect_block_of_the_other(&rt, &mut node_with_queued(&rt, rt.alloc(), 2));
 }

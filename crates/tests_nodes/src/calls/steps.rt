@@ -90,7 +90,11 @@ pub(crate) fn expect_events(
     kinds: &[Kind],
 ) {
     let mut node = node_at(rt, alloc, start);
-    expect_steps(rt, &mut node, steps);
+    expect_recorded(rt, &mut node, steps, from, kinds);
+}
+
+fn expect_recorded(rt: &impl Abort, node: &mut Node, steps: &[Step], from: usize, kinds: &[Kind]) {
+    expect_steps(rt, node, steps);
     assert!(rt; are_since(node.journal(), from, kinds));
 }
 

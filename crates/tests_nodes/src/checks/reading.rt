@@ -34,8 +34,18 @@ fn has_counts(replay: &Replay, allocations: u64, queued: u32, is_closed: bool) -
         && replay.is_closed() == is_closed
 }
 
-fn has_oldest(replay: &Replay, page: Option<PageId>) -> bool {
-    replay.oldest() == page
+// The replay of these rows on a small node has these counts, and page 0 is the oldest where one is queued.
+fn expect_counts(
+    rt: &impl Abort,
+    alloc: Global,
+    rows: &[Row],
+    allocations: u64,
+    queued: u32,
+    is_closed: bool,
+) {
+    let replay = small_replay(rt, alloc, rows);
+    let oldest = (queued > 0).then_some(PageId(ZERO));
+    assert!(rt; has_counts(&replay, allocations, queued, is_closed) && replay.oldest() == oldest);
 }
 
 const TWO_PAGES: &[Row] = &[(0, Kind::Alloc(ZERO, 0)), (0, Kind::Alloc(ONE, 1))];
@@ -48,13 +58,9 @@ const TWO_PAGES_CLOSED: &[Row] = &[
 
 #[test]
 fn replay_tells_of_its_node(rt: HostRuntime) {
-    let none = small_replay(&rt, rt.alloc(), &[]);
-    assert!(rt; has_oldest(&none, None));
-    let two = small_replay(&rt, rt.alloc(), TWO_PAGES);
-    assert!(rt; has_counts(&two, 2, 2, false));
-    let closed = small_replay(&rt, rt.alloc(), TWO_PAGES_CLOSED);
-    assert!(rt; has_counts(&closed, 2, 2, true));
-    assert!(rt; has_oldest(&closed, Some(PageId(ZERO))));
+    expect_counts(&rt, rt.alloc(), &[], 0, 0, false);
+    expect_counts(&rt, rt.alloc(), TWO_PAGES, 2, 2, false);
+    expect_counts(&rt, rt.alloc(), TWO_PAGES_CLOSED, 2, 2, true);
 }
 
 // The pages have these numbers.
@@ -124,21 +130,28 @@ const TAKEN_BY_ZERO: &[Row] = &[
 
 const TAKEN_BY_64: &[Row] = &[(64, Kind::Taken(TWO))];
 
+fn expect_only_two_queued(rt: &impl Abort, alloc: Global, events: &[Event]) {
+    let mut replay = replay_of(rt, alloc, large(), events);
+    assert!(rt; is_queue(&mut replay, alloc, ONLY_TWO));
+}
+
+fn expect_standings(rt: &impl Abort, alloc: Global, replay: &Replay) {
+    assert!(rt; is_flight(replay, alloc, 0, ALL_ZERO_AND_ONE));
+    assert!(rt; is_flight(replay, alloc, 64, ONLY_TWO));
+    assert!(rt; are_live(replay, alloc, ALL_LIVE));
+    assert!(rt; is_pinned_in_batch(&page_of(rt, replay, PageId(TWO))));
+    assert!(rt; is_gone(replay, PageId(THREE)));
+}
+
 // Pages 0 to 3 of a large node were queued, and page 3 freed. Caller 0 took two of them, and caller 64, whose flight is in the
 // same list, took one.
 #[test]
 fn replay_tells_where_pages_stand(rt: HostRuntime) {
     let alloc = rt.alloc();
     let mut events = queued_then(&rt, alloc, 4, TAKEN_BY_ZERO);
-    let mut replay = replay_of(&rt, alloc, large(), &events);
-    assert!(rt; is_queue(&mut replay, alloc, ONLY_TWO));
+    expect_only_two_queued(&rt, alloc, &events);
     add_rows(&rt, &mut events, TAKEN_BY_64);
-    let replay = replay_of(&rt, alloc, large(), &events);
-    assert!(rt; is_flight(&replay, alloc, 0, ALL_ZERO_AND_ONE));
-    assert!(rt; is_flight(&replay, alloc, 64, ONLY_TWO));
-    assert!(rt; are_live(&replay, alloc, ALL_LIVE));
-    assert!(rt; is_pinned_in_batch(&page_of(&rt, &replay, PageId(TWO))));
-    assert!(rt; is_gone(&replay, PageId(THREE)));
+    expect_standings(&rt, alloc, &replay_of(&rt, alloc, large(), &events));
 }
 
 // The frames held and given back.
@@ -190,12 +203,15 @@ const TWO_SPLITS: &[Row] = &[
     (0, Kind::UnmapSub(ONE, 0, 1, Outcome::Stays, FIRST)),
 ];
 
+fn expect_sums(rt: &impl Abort, replay: &Replay) {
+    assert!(rt; has_frames(replay, 4, 8));
+    assert!(rt; has_splits(replay, 2, 2));
+    assert!(rt; has_others(replay, 1, 0, 2));
+    assert!(rt; is_split_in_part(&page_of(rt, replay, PageId(ONE))));
+    assert!(rt; has_own(replay));
+}
+
 #[test]
 fn replay_tells_what_events_add_up_to(rt: HostRuntime) {
-    let replay = small_replay(&rt, rt.alloc(), TWO_SPLITS);
-    assert!(rt; has_frames(&replay, 4, 8));
-    assert!(rt; has_splits(&replay, 2, 2));
-    assert!(rt; has_others(&replay, 1, 0, 2));
-    assert!(rt; is_split_in_part(&page_of(&rt, &replay, PageId(ONE))));
-    assert!(rt; has_own(&replay));
+    expect_sums(&rt, &small_replay(&rt, rt.alloc(), TWO_SPLITS));
 }

@@ -1,5 +1,6 @@
 //! Rows of a section on a node that is busy at chosen calls.
 use crate::busy_nodes::sections::{BusyCalls, Queued, SectionResult, section};
+use std::process::Abort;
 use thp_history::{Event, PageId, Refusal, What};
 use thp_node::{ScanReply, Tried};
 use thp_worker::{Answer, Command, Op, Reply};
@@ -31,11 +32,26 @@ fn is_done(section: &SectionResult, answers: usize) -> bool {
     section.worked.rest.is_none() && section.worked.answers.len() == answers
 }
 
+// These are the replies to its commands.
+fn has_replies(section: &SectionResult, replies: &[Result<Reply, Refusal>]) -> bool {
+    for (command, reply) in replies.iter().enumerate() {
+        if reply_at(&section.worked.answers, command) != Some(*reply) {
+            return false;
+        }
+    }
+    true
+}
+
 // The section stopped at this command, when so many of its steps and so many commands were answered.
 fn stopped_at(section: &SectionResult, command: u32, steps: u32, answers: usize) -> bool {
     let is_there =
         matches!(section.stopped, Some((at, so_many, _)) if at == command && so_many == steps);
     is_there && section.answered_then.len() == answers
+}
+
+fn expect_done_at_once(rt: &impl Abort, section: &SectionResult, answers: usize) {
+    assert!(rt; section.stopped.is_none());
+    assert!(rt; is_done(section, answers));
 }
 
 #[test]
@@ -46,8 +62,14 @@ fn busy_63_times(rt: HostRuntime) {
         period: 64,
     };
     let section = section(&rt, rt.alloc(), Queued::Nothing, busy, &ALLOC_AND_CLOSE);
-    assert!(rt; section.stopped.is_none());
-    assert!(rt; is_done(&section, 2));
+    expect_done_at_once(&rt, &section, 2);
+}
+
+// The section stopped before its first command, and then did both.
+fn expect_allocated_and_closed(rt: &impl Abort, section: &SectionResult) {
+    assert!(rt; stopped_at(section, 0, 0, 0));
+    assert!(rt; is_done(section, 2));
+    assert!(rt; has_replies(section, &[Ok(Reply::Page(PageId(0))), Ok(Reply::Unit)]));
 }
 
 #[test]
@@ -58,11 +80,7 @@ fn busy_64_times(rt: HostRuntime) {
         period: 1000,
     };
     let section = section(&rt, rt.alloc(), Queued::Nothing, busy, &ALLOC_AND_CLOSE);
-    assert!(rt; stopped_at(&section, 0, 0, 0));
-    assert!(rt; is_done(&section, 2));
-    let answers = &section.worked.answers;
-    assert!(rt; matches!(reply_at(answers, 0), Some(Ok(Reply::Page(PageId(0))))));
-    assert!(rt; matches!(reply_at(answers, 1), Some(Ok(Reply::Unit))));
+    expect_allocated_and_closed(&rt, &section);
 }
 
 // One page was split, and one was pinned and went back.
@@ -81,6 +99,11 @@ fn is_scanned(section: &SectionResult) -> bool {
         )
 }
 
+fn expect_scanned_at_once(rt: &impl Abort, section: &SectionResult) {
+    assert!(rt; section.stopped.is_none());
+    assert!(rt; is_scanned(section));
+}
+
 #[test]
 fn scan_often_busy(rt: HostRuntime) {
     let busy = BusyCalls {
@@ -89,8 +112,7 @@ fn scan_often_busy(rt: HostRuntime) {
         period: 64,
     };
     let section = section(&rt, rt.alloc(), Queued::TwoOnePinned, busy, &SCAN);
-    assert!(rt; section.stopped.is_none());
-    assert!(rt; is_scanned(&section));
+    expect_scanned_at_once(&rt, &section);
 }
 
 // A scan that has taken two pages and split one of them by then.
@@ -112,6 +134,12 @@ fn has_split_one_of_two(section: &SectionResult) -> bool {
     )
 }
 
+fn expect_scan_continued(rt: &impl Abort, section: &SectionResult) {
+    assert!(rt; stopped_at(section, 0, 2, 0));
+    assert!(rt; has_split_one_of_two(section));
+    assert!(rt; is_scanned(section));
+}
+
 #[test]
 fn scan_interrupted(rt: HostRuntime) {
     let busy = BusyCalls {
@@ -120,9 +148,7 @@ fn scan_interrupted(rt: HostRuntime) {
         period: 1000,
     };
     let section = section(&rt, rt.alloc(), Queued::TwoOnePinned, busy, &SCAN);
-    assert!(rt; stopped_at(&section, 0, 2, 0));
-    assert!(rt; has_split_one_of_two(&section));
-    assert!(rt; is_scanned(&section));
+    expect_scan_continued(&rt, &section);
 }
 
 // The journal's last events: page 0 is taken, found pinned and, after the close, dropped, all by caller 1.
@@ -137,40 +163,35 @@ fn ends_with_a_drop(journal: &[Event]) -> bool {
     journal.ends_with(&last.map(|what| Event { caller: 1, what }))
 }
 
-#[test]
-fn open_batch_postponed(rt: HostRuntime) {
-    let commands = [
-        Command {
-            node: 0,
-            op: Op::Take { count: 8 },
-        },
-        Command {
-            node: 0,
-            op: Op::SplitNext,
-        },
-        Command {
-            node: 0,
-            op: Op::Close,
-        },
-    ];
-    let busy = BusyCalls {
-        from: 1,
-        to: 65,
-        period: 1000,
-    };
-    let section = section(&rt, rt.alloc(), Queued::OnePinned, busy, &commands);
-    assert!(rt; stopped_at(&section, 1, 0, 1));
-    assert!(rt; is_done(&section, 3));
-    let answers = &section.worked.answers;
-    assert!(rt; matches!(reply_at(answers, 0), Some(Ok(Reply::Taken(1)))));
-    assert!(rt;
-        matches!(
-            reply_at(answers, 1),
-            Some(Ok(Reply::Tried(Tried::Pinned(PageId(0)))))
-        )
-    );
-    assert!(rt; matches!(reply_at(answers, 2), Some(Ok(Reply::Unit))));
-    // the page was dropped, since the node was closed
+const TAKE_TRY_AND_CLOSE: [Command; 3] = [
+    Command {
+        node: 0,
+        op: Op::Take { count: 8 },
+    },
+    Command {
+        node: 0,
+        op: Op::SplitNext,
+    },
+    Command {
+        node: 0,
+        op: Op::Close,
+    },
+];
+
+const TAKEN_PINNED_AND_CLOSED: [Result<Reply, Refusal>; 3] = [
+    Ok(Reply::Taken(1)),
+    Ok(Reply::Tried(Tried::Pinned(PageId(0)))),
+    Ok(Reply::Unit),
+];
+
+fn expect_taken_and_closed(rt: &impl Abort, section: &SectionResult) {
+    assert!(rt; stopped_at(section, 1, 0, 1));
+    assert!(rt; is_done(section, 3));
+    assert!(rt; has_replies(section, &TAKEN_PINNED_AND_CLOSED));
+}
+
+// The page was dropped, since the node was closed.
+fn expect_dropped(rt: &impl Abort, section: &SectionResult) {
     assert!(rt; matches!(section.queued, Ok(Reply::Count(0))));
     assert!(rt; ends_with_a_drop(section.node.journal()));
     assert!(rt; section.node.frames_held() == 512);
@@ -178,24 +199,37 @@ fn open_batch_postponed(rt: HostRuntime) {
 }
 
 #[test]
-fn put_back_postponed(rt: HostRuntime) {
-    let commands = [
-        Command {
-            node: 0,
-            op: Op::Take { count: 8 },
-        },
-        Command {
-            node: 0,
-            op: Op::Scan { count: 1 },
-        },
-    ];
+fn open_batch_postponed(rt: HostRuntime) {
     let busy = BusyCalls {
-        from: 2,
-        to: 66,
+        from: 1,
+        to: 65,
         period: 1000,
     };
-    let section = section(&rt, rt.alloc(), Queued::TwoOnePinned, busy, &commands);
-    assert!(rt; stopped_at(&section, 2, 0, 2));
+    let section = section(
+        &rt,
+        rt.alloc(),
+        Queued::OnePinned,
+        busy,
+        &TAKE_TRY_AND_CLOSE,
+    );
+    expect_taken_and_closed(&rt, &section);
+    expect_dropped(&rt, &section);
+}
+
+const TAKE_AND_SCAN: [Command; 2] = [
+    Command {
+        node: 0,
+        op: Op::Take { count: 8 },
+    },
+    Command {
+        node: 0,
+        op: Op::Scan { count: 1 },
+    },
+];
+
+// The scan was refused because of the batch, which was put back in the end.
+fn expect_put_back(rt: &impl Abort, section: &SectionResult) {
+    assert!(rt; stopped_at(section, 2, 0, 2));
     let second = section.answered_then.get(1);
     assert!(rt;
         matches!(
@@ -206,6 +240,17 @@ fn put_back_postponed(rt: HostRuntime) {
             })
         )
     );
-    assert!(rt; is_done(&section, 2));
+    assert!(rt; is_done(section, 2));
     assert!(rt; matches!(section.queued, Ok(Reply::Count(2))));
+}
+
+#[test]
+fn put_back_postponed(rt: HostRuntime) {
+    let busy = BusyCalls {
+        from: 2,
+        to: 66,
+        period: 1000,
+    };
+    let section = section(&rt, rt.alloc(), Queued::TwoOnePinned, busy, &TAKE_AND_SCAN);
+    expect_put_back(&rt, &section);
 }

@@ -2,6 +2,7 @@
 use crate::program::running::run_with;
 use crate::program::whole_runs::FIRST_SCRIPT;
 use std::alloc::Global;
+use std::process::Abort;
 use thp_run::{Report, RunFault, Settings, TextKind, Watched, check_run};
 
 /// The output for a journal, and whether it is legal.
@@ -46,35 +47,38 @@ fn legal_and_illegal_journals(rt: HostRuntime) {
     assert!(rt; tells(alloc, second, false, b"illegal line 5\n"));
 }
 
+/// Journals with the line and the kind of their first error.
+const FAULTS: &[(&[u8], u64, TextKind)] = &[
+    (b"", 1, TextKind::Cut),
+    (b"thp-journal 9\n", 1, TextKind::BadNumber),
+    (b"node 0 blocks 1\nend\n", 1, TextKind::BadOrder),
+    (b"thp-journal 1\nend\n", 2, TextKind::BadOrder),
+    (
+        b"thp-journal 1\nnode 0 blocks 0\nend\n",
+        2,
+        TextKind::BadNumber,
+    ),
+    (
+        b"thp-journal 1\nnode 0 blocks 1\n0 unpin 0 stays 1,2\nend\n",
+        3,
+        TextKind::BadSet,
+    ),
+    (
+        b"thp-journal 1\nnode 0 blocks 1\n\nend\n",
+        3,
+        TextKind::BadWord,
+    ),
+    (
+        b"thp-journal 1\nnode 0 blocks 1\nend\nend\n",
+        4,
+        TextKind::BadOrder,
+    ),
+];
+
 #[test]
 fn faults_of_journals(rt: HostRuntime) {
-    let rows: [(&[u8], u64, TextKind); 8] = [
-        (b"", 1, TextKind::Cut),
-        (b"thp-journal 9\n", 1, TextKind::BadNumber),
-        (b"node 0 blocks 1\nend\n", 1, TextKind::BadOrder),
-        (b"thp-journal 1\nend\n", 2, TextKind::BadOrder),
-        (
-            b"thp-journal 1\nnode 0 blocks 0\nend\n",
-            2,
-            TextKind::BadNumber,
-        ),
-        (
-            b"thp-journal 1\nnode 0 blocks 1\n0 unpin 0 stays 1,2\nend\n",
-            3,
-            TextKind::BadSet,
-        ),
-        (
-            b"thp-journal 1\nnode 0 blocks 1\n\nend\n",
-            3,
-            TextKind::BadWord,
-        ),
-        (
-            b"thp-journal 1\nnode 0 blocks 1\nend\nend\n",
-            4,
-            TextKind::BadOrder,
-        ),
-    ];
-    for (journal, line, kind) in rows {
+    for row in FAULTS {
+        let (journal, line, kind) = *row;
         assert!(rt;
             first_fault(rt.alloc(), journal) == Some((line, kind)),
             "{line} {kind}"
@@ -100,24 +104,31 @@ fn journal_check_and_cuts(rt: HostRuntime) {
     assert!(rt; first_fault(alloc, &TAKES_THE_FIRST[..length - 4]) == Some((10, TextKind::Cut)));
 }
 
+/// A prefix of a journal is cut, with the line reported.
+fn expect_cut(rt: &impl Abort, alloc: Global, front: &[u8]) {
+    let lines = front.iter().filter(|b| **b == b'\n').count();
+    let kind = first_fault(alloc, front);
+    assert!(rt;
+        matches!(kind, Some((line, TextKind::Cut)) if line as usize == lines.saturating_add(1)),
+        "{}",
+        front.len()
+    );
+}
+
+/// A journal is legal, and each prefix of it is cut.
+fn expect_legal(rt: &impl Abort, alloc: Global, journal: &[u8]) {
+    assert!(rt; tells(alloc, journal, true, b"legal\n"));
+    for count in 0..journal.len() {
+        expect_cut(rt, alloc, &journal[..count]);
+    }
+}
+
 #[test]
 fn journal_of_a_run(rt: HostRuntime) {
     let alloc = rt.alloc();
     let settings = Settings::new(1, 16, 1, Report::Journal).expect(&rt, "within the limits");
-    let Ok(journal) = run_with(&rt, alloc, &settings, FIRST_SCRIPT) else {
-        assert!(rt; false, "a journal");
-        return;
-    };
-    let journal = journal.as_slice();
-    assert!(rt; tells(alloc, journal, true, b"legal\n"));
-    // each prefix of it is cut, with the line reported
-    for count in 0..journal.len() {
-        let front = &journal[..count];
-        let lines = front.iter().filter(|b| **b == b'\n').count();
-        let kind = first_fault(alloc, front);
-        assert!(rt;
-            matches!(kind, Some((line, TextKind::Cut)) if line as usize == lines.saturating_add(1)),
-            "{count}"
-        );
+    match run_with(&rt, alloc, &settings, FIRST_SCRIPT) {
+        Ok(journal) => expect_legal(&rt, alloc, journal.as_slice()),
+        Err(_) => assert!(rt; false, "a journal"),
     }
 }

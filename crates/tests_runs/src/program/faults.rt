@@ -1,8 +1,13 @@
 //! Scripts that are refused, and devices that fail.
+ghost use Rattle.std.specs.Prelude.{◌≡◌, false};
+
 use crate::program::running::refuses;
 use crate::program::whole_runs::FIRST_SCRIPT;
+use std::alloc::Global;
 use std::io;
 use std::io::{Error, ErrorKind, Read, Write};
+use std::process::Abort;
+use std::thread::Threads;
 use thp_run::{NoGate, Report, RunFault, Settings, Watched, check_run, run};
 
 /// A reader whose first read fails.
@@ -45,8 +50,19 @@ impl Write for Takes {
     }
 }
 
-/// Errors in the words of commands, each in line 2.
-const COMMAND_FAULTS: [(&[u8], &str); 14] = [
+/// Scripts with their first error.
+const SCRIPT_FAULTS: &[(&[u8], &str)] = &[
+    (b"alloc 0\n", "line 1: bad-order"),
+    (b"setup\nalloc 00\n", "line 2: bad-number"),
+    (b"setup\nalloc 0", "line 2: cut"),
+    (b"setup\nscan 0 129\n", "line 2: bad-number"),
+    (b"setup\nfly 0\n", "line 2: bad-word"),
+    (b"setup\nalloc\n", "line 2: bad-count"),
+    (b"worker 2\n", "line 1: bad-number"),
+    (b"setup\nsetup\n", "line 2: bad-order"),
+    (b"setup\nalloc  0\n", "line 2: bad-word"),
+    (b"setup\n#\x00\n", "line 2: bad-byte"),
+    // errors in the words of commands
     (b"setup\nmapwhole 0\n", "line 2: bad-count"),
     (b"setup\nunmapwhole 0 0 0\n", "line 2: bad-count"),
     (b"setup\nmap 0 0 0\n", "line 2: bad-count"),
@@ -68,105 +84,98 @@ const COMMAND_FAULTS: [(&[u8], &str); 14] = [
 
 #[test]
 fn script_faults(rt: HostRuntime) {
-    let alloc = rt.alloc();
-    assert!(rt; refuses(&rt, alloc, b"alloc 0\n", "line 1: bad-order"));
-    assert!(rt; refuses(&rt, alloc, b"setup\nalloc 00\n", "line 2: bad-number"));
-    assert!(rt; refuses(&rt, alloc, b"setup\nalloc 0", "line 2: cut"));
-    assert!(rt; refuses(&rt, alloc, b"setup\nscan 0 129\n", "line 2: bad-number"));
-    assert!(rt; refuses(&rt, alloc, b"setup\nfly 0\n", "line 2: bad-word"));
-    assert!(rt; refuses(&rt, alloc, b"setup\nalloc\n", "line 2: bad-count"));
-    assert!(rt; refuses(&rt, alloc, b"worker 2\n", "line 1: bad-number"));
-    assert!(rt; refuses(&rt, alloc, b"setup\nsetup\n", "line 2: bad-order"));
-    assert!(rt; refuses(&rt, alloc, b"setup\nalloc  0\n", "line 2: bad-word"));
-    assert!(rt; refuses(&rt, alloc, b"setup\n#\x00\n", "line 2: bad-byte"));
-    for (script, told) in COMMAND_FAULTS {
-        assert!(rt; refuses(&rt, alloc, script, told), "{told}");
+    for row in SCRIPT_FAULTS {
+        let (script, told) = *row;
+        assert!(rt; refuses(&rt, rt.alloc(), script, told), "{told}");
     }
+}
+
+/// A watched writer that takes this many bytes.
+fn writer_of(alloc: Global, room: usize, can_flush: bool) -> Watched<Takes>
+    ensures { result.failed ≡ false }
+{
+    Watched::new(Takes {
+        room,
+        held: Vec::new(alloc),
+        can_flush,
+    })
+}
+
+/// The writer took these bytes.
+fn expect_held(rt: &impl Abort, writer: Watched<Takes>, bytes: &[u8]) {
+    assert!(rt; writer.into_inner().held.as_slice() == bytes);
+}
+
+/// The result of a run with totals on these devices.
+fn run_on<T: Threads + Abort + Sync, R: Read, W: Write>(
+    rt: &T,
+    alloc: Global,
+    reader: &mut Watched<R>,
+    writer: &mut Watched<W>,
+) -> Result<(), RunFault>
+    requires reader { reader.old.failed ≡ false }
+    requires writer { writer.old.failed ≡ false }
+{
+    let settings = Settings::new(1, 16, 1, Report::Totals).expect(rt, "within the limits");
+    run(rt, alloc, &settings, reader, writer, &NoGate)
+}
+
+/// A run of a script whose writer fails.
+fn expect_failing_run<T: Threads + Abort + Sync>(rt: &T, alloc: Global, writer: &mut Watched<Takes>)
+    requires { writer.old.failed ≡ false }
+{
+    let done = run_on(rt, alloc, &mut Watched::new(FIRST_SCRIPT), writer);
+    assert!(rt; matches!(done, Err(RunFault::Write)));
 }
 
 #[test]
 fn failing_writer(rt: HostRuntime) {
-    let settings = Settings::new(1, 16, 1, Report::Totals).expect(&rt, "within the limits");
-    let mut reader = Watched::new(FIRST_SCRIPT);
-    let mut writer = Watched::new(Takes {
-        room: 5,
-        held: Vec::new(rt.alloc()),
-        can_flush: true,
-    });
-    let done = run(
-        &rt,
-        rt.alloc(),
-        &settings,
-        &mut reader,
-        &mut writer,
-        &NoGate,
-    );
-    assert!(rt; matches!(done, Err(RunFault::Write)));
-    assert!(rt; writer.failed());
-    assert!(rt; writer.into_inner().held.as_slice() == b"node ".as_slice());
+    let mut writer = writer_of(rt.alloc(), 5, true);
+    expect_failing_run(&rt, rt.alloc(), &mut writer);
+    assert!(&rt; writer.failed());
+    expect_held(&rt, writer, b"node ");
 }
 
 #[test]
 fn failing_flush(rt: HostRuntime) {
-    let settings = Settings::new(1, 16, 1, Report::Totals).expect(&rt, "within the limits");
-    let mut reader = Watched::new(FIRST_SCRIPT);
-    let mut writer = Watched::new(Takes {
-        room: 4096,
-        held: Vec::new(rt.alloc()),
-        can_flush: false,
-    });
-    let done = run(
-        &rt,
-        rt.alloc(),
-        &settings,
-        &mut reader,
-        &mut writer,
-        &NoGate,
-    );
-    assert!(rt; matches!(done, Err(RunFault::Write)));
+    expect_failing_run(&rt, rt.alloc(), &mut writer_of(rt.alloc(), 4096, false));
+}
+
+fn expect_no_reads<T: Threads + Abort + Sync>(rt: &T, alloc: Global, writer: &mut Watched<Vec<u8>>)
+    requires { writer.old.failed ≡ false }
+{
+    let mut reader = Watched::new(NoReads);
+    let done = run_on(rt, alloc, &mut reader, writer);
+    assert!(rt; matches!(done, Err(RunFault::Read)));
+    assert!(rt; reader.failed());
 }
 
 #[test]
 fn failing_reader(rt: HostRuntime) {
-    let settings = Settings::new(1, 16, 1, Report::Totals).expect(&rt, "within the limits");
-    let mut reader = Watched::new(NoReads);
     let mut writer: Watched<Vec<u8>> = Watched::new(Vec::new(rt.alloc()));
-    let done = run(
-        &rt,
-        rt.alloc(),
-        &settings,
-        &mut reader,
-        &mut writer,
-        &NoGate,
-    );
-    assert!(rt; matches!(done, Err(RunFault::Read)));
-    assert!(rt; reader.failed());
-    assert!(rt; writer.into_inner().is_empty());
+    expect_no_reads(&rt, rt.alloc(), &mut writer);
+    assert!(&rt; writer.into_inner().is_empty());
 }
 
 const JOURNAL: &[u8] = b"thp-journal 1\nnode 0 blocks 16\n0 alloc 0\nend\n";
 
+fn expect_read_fault(rt: &impl Abort, alloc: Global) {
+    let mut writer: Watched<Vec<u8>> = Watched::new(Vec::new(alloc));
+    let done = check_run(alloc, &mut Watched::new(NoReads), &mut writer);
+    assert!(rt; matches!(done, Err(RunFault::Read)));
+}
+
+fn expect_write_fault(rt: &impl Abort, alloc: Global, writer: &mut Watched<Takes>)
+    requires { writer.old.failed ≡ false }
+{
+    let done = check_run(alloc, &mut Watched::new(JOURNAL), writer);
+    assert!(rt; matches!(done, Err(RunFault::Write)));
+}
+
 #[test]
 fn failing_devices_of_a_check(rt: HostRuntime) {
-    let mut writer: Watched<Vec<u8>> = Watched::new(Vec::new(rt.alloc()));
-    let mut reader = Watched::new(NoReads);
-    assert!(rt;
-        matches!(
-            check_run(rt.alloc(), &mut reader, &mut writer),
-            Err(RunFault::Read)
-        )
-    );
-    let mut reader = Watched::new(JOURNAL);
-    let mut writer = Watched::new(Takes {
-        room: 3,
-        held: Vec::new(rt.alloc()),
-        can_flush: true,
-    });
-    assert!(rt;
-        matches!(
-            check_run(rt.alloc(), &mut reader, &mut writer),
-            Err(RunFault::Write)
-        )
-    );
-    assert!(rt; writer.into_inner().held.as_slice() == b"leg".as_slice());
+    expect_read_fault(&rt, rt.alloc());
+    let mut writer = writer_of(rt.alloc(), 3, true);
+    expect_write_fault(&rt, rt.alloc(), &mut writer);
+    expect_held(&rt, writer, b"leg");
 }

@@ -1,14 +1,17 @@
 //! Reports of two workers on one node whose commands are done in a chosen order.
+ghost use Rattle.std.specs.Prelude.{◌≡◌, false};
+
 use crate::program::checks::tells;
 use crate::turns::InTurns;
 use std::alloc::Global;
+use std::process::Abort;
 use std::thread::Threads;
 use thp_run::{Report, Settings, Watched, run};
 
 const TWO_EACH: &[u8] = b"worker 1\nalloc 0\nalloc 0\nworker 2\nalloc 0\nalloc 0\n";
 
 // The worker that goes first, the answers, and the journal.
-const IN_TURNS: [(u32, &[u8], &[u8]); 2] = [
+const IN_TURNS: &[(u32, &[u8], &[u8])] = &[
     (
         1,
         b"1 1 page 0\n1 2 page 2\n2 1 page 1\n2 2 page 3\n",
@@ -22,6 +25,20 @@ const IN_TURNS: [(u32, &[u8], &[u8]); 2] = [
 ];
 
 // A gate holds each worker up until the other's command before it is done. A gate serves one run.
+fn are_run_in_turns<R: Threads + Sync>(
+    rt: &R,
+    alloc: Global,
+    first: u32,
+    settings: &Settings,
+    writer: &mut Watched<Vec<u8>>,
+) -> bool
+    requires { writer.old.failed ≡ false }
+{
+    let gate = InTurns::new(first, 3u32.saturating_sub(first));
+    let mut reader = Watched::new(TWO_EACH);
+    run(rt, alloc, settings, &mut reader, writer, &gate).is_ok() && gate.held()
+}
+
 fn in_turns<R: Threads + Sync>(
     rt: &R,
     alloc: Global,
@@ -29,25 +46,32 @@ fn in_turns<R: Threads + Sync>(
     report: Report,
 ) -> Option<Vec<u8>> {
     let settings = Settings::new(1, 16, 2, report)?;
-    let gate = InTurns::new(first, 3u32.saturating_sub(first));
-    let mut reader = Watched::new(TWO_EACH);
     let mut writer: Watched<Vec<u8>> = Watched::new(Vec::new(alloc));
-    run(rt, alloc, &settings, &mut reader, &mut writer, &gate).ok()?;
-    if gate.held() {
+    if are_run_in_turns(rt, alloc, first, &settings, &mut writer) {
         Some(writer.into_inner())
     } else {
         None
     }
 }
 
+fn expect_report<R: Threads + Abort + Sync>(
+    rt: &R,
+    alloc: Global,
+    first: u32,
+    report: Report,
+    text: &[u8],
+) {
+    let told = in_turns(rt, alloc, first, report).expect(rt, "a report");
+    assert!(rt; told.as_slice() == text);
+}
+
 #[test]
 fn gated_workers(rt: HostRuntime) {
     let alloc = rt.alloc();
-    for (first, answers, journal) in IN_TURNS {
-        let told = in_turns(&rt, alloc, first, Report::Answers).expect(&rt, "answers");
-        assert!(rt; told.as_slice() == answers);
-        let told = in_turns(&rt, alloc, first, Report::Journal).expect(&rt, "a journal");
-        assert!(rt; told.as_slice() == journal);
-        assert!(rt; tells(alloc, told.as_slice(), true, b"legal\n"));
+    for row in IN_TURNS {
+        let (first, answers, journal) = *row;
+        expect_report(&rt, alloc, first, Report::Answers, answers);
+        expect_report(&rt, alloc, first, Report::Journal, journal);
+        assert!(rt; tells(alloc, journal, true, b"legal\n"));
     }
 }

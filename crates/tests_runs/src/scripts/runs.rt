@@ -9,7 +9,7 @@ use thp_script::{Report, Settings, read_script};
 use thp_worker::{Answer, Gate, Reply};
 
 // An answer, as far as rows show it.
-#[derive(Clone, Copy, PartialEq, Eq, Debug)]
+#[derive(Clone, Copy, PartialEq, Eq)]
 pub(crate) enum ExpectedAnswer {
     Page(u64),
     Done,
@@ -72,6 +72,18 @@ pub(crate) fn are_answers(ran: &RunResult, section: usize, wanted: &[ExpectedAns
                 })
         }
         None => false,
+    }
+}
+
+// The sections of a run have these answers.
+pub(crate) fn expect_answers(
+    rt: &impl Abort,
+    ran: &RunResult,
+    wanted: &[(usize, &[ExpectedAnswer])],
+) {
+    for row in wanted {
+        let (section, answers) = *row;
+        assert!(rt; are_answers(ran, section, answers), "section {section}");
     }
 }
 

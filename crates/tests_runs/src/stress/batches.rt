@@ -82,13 +82,12 @@ impl Batch {
 
     // The put back in the caller's next events: each remaining page is put back or dropped, in order.
     pub(crate) fn put_back(
-        self,
+        &mut self,
         tally: &Tally,
         part: &mut Part<'_>,
         count: usize,
     ) -> Option<BackReply> {
-        let mut batch = self;
-        batch.passed = 0;
+        self.passed = 0;
         let mut reply = BackReply {
             back: 0,
             dropped: 0,
@@ -96,17 +95,17 @@ impl Batch {
         for _ in 0..count {
             match part.next()? {
                 What::Back { page } => {
-                    let _place = batch.go_to(tally, page)?;
+                    let _place = self.go_to(tally, page)?;
                     reply.back = reply.back.checked_add(1)?;
                 }
                 What::Dropped { page } => {
-                    let _place = batch.go_to(tally, page)?;
+                    let _place = self.go_to(tally, page)?;
                     reply.dropped = reply.dropped.checked_add(1)?;
                 }
                 _ => return None,
             }
         }
-        if batch.is_passed(tally) {
+        if self.is_passed(tally) {
             Some(reply)
         } else {
             None

@@ -1,5 +1,6 @@
 //! A page, reconstructed from the events of its node.
 use std::alloc::{AllocError, Global};
+use thp_history::What;
 
 // A page's mappings, counted one by one, and the list that it is on.
 #[derive(Drop)]
@@ -46,8 +47,23 @@ impl PageSeen {
         used
     }
 
+    // Adds what an event does to the mappings.
+    pub(crate) fn add(&mut self, what: &What) -> Option<()> {
+        match *what {
+            What::MapWhole { .. } => {
+                self.whole = self.whole.checked_add(1)?;
+                Some(())
+            }
+            What::UnmapWhole { .. } => self.lose_whole(),
+            What::MapSub { first, count, .. } => self.gain(first, count),
+            What::UnmapSub { first, count, .. } => self.lose(first, count),
+            What::SplitPmd { .. } => self.spread(1),
+            _ => Some(()),
+        }
+    }
+
     // Each subpage of a range is mapped once more.
-    pub(crate) fn gain(&mut self, first: u32, count: u32) -> Option<()> {
+    fn gain(&mut self, first: u32, count: u32) -> Option<()> {
         for subpage in first..first.checked_add(count)? {
             let own = self.own.get_mut(subpage as usize)?;
             *own = own.checked_add(1)?;
@@ -56,7 +72,7 @@ impl PageSeen {
     }
 
     // Each subpage of a range is mapped once less.
-    pub(crate) fn lose(&mut self, first: u32, count: u32) -> Option<()> {
+    fn lose(&mut self, first: u32, count: u32) -> Option<()> {
         let before = self.used();
         for subpage in first..first.checked_add(count)? {
             let own = self.own.get_mut(subpage as usize)?;
@@ -67,7 +83,7 @@ impl PageSeen {
     }
 
     // The whole page is mapped once less.
-    pub(crate) fn lose_whole(&mut self) -> Option<()> {
+    fn lose_whole(&mut self) -> Option<()> {
         let before = self.used();
         self.whole = self.whole.checked_sub(1)?;
         self.note_loss(before);

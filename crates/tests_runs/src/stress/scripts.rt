@@ -60,40 +60,53 @@ fn write_page_command(
     node: u64,
     page: u64,
 ) -> Result<(), AllocError> {
-    let size = subpages_of(order_of(node));
+    let size = u64::from(subpages_of(order_of(node)));
     let others = size.wrapping_sub(1);
-    let first = (state >> 20).checked_rem(u64::from(size)).unwrap_or(0);
+    let first = (state >> 20).checked_rem(size).unwrap_or(0);
     let count = 1 + (state >> 30) % 3;
-    match (state >> 59) % 32 {
-        0..=4 => write!(text, "splitpmd {node} {page}\n"),
-        5..=9 => write!(text, "unmap {node} {page} 0 1\n"),
-        10..=15 => write!(text, "unmap {node} {page} 1 {others}\n"),
-        16 => write!(text, "map {node} {page} 0 1\n"),
-        17 => write!(text, "unmap {node} {page} {first} {count}\n"),
-        18 => write!(text, "map {node} {page} {first} {count}\n"),
-        19 => write!(text, "mapwhole {node} {page}\n"),
-        20..=23 => write!(text, "unmapwhole {node} {page}\n"),
-        24 => write!(text, "pin {node} {page}\n"),
-        25..=27 => write!(text, "unpin {node} {page}\n"),
-        28 => write!(text, "write {node} {page} {first} {count}\n"),
-        29 | 30 => write!(text, "write {node} {page} 0 {size}\n"),
-        _ => write!(text, "zero {node} {page} 0 {size}\n"),
+    let number = (state >> 59) % 32;
+    let range = match number {
+        5..=9 | 16 => Some((0, 1)),
+        10..=15 => Some((1, others)),
+        17 | 18 | 28 => Some((first, count)),
+        29..=31 => Some((0, size)),
+        _ => None,
+    };
+    let word = page_word(number);
+    match range {
+        Some((first, count)) => write!(text, "{word} {node} {page} {first} {count}\n"),
+        None => write!(text, "{word} {node} {page}\n"),
+    }
+}
+
+fn page_word(number: u64) -> &'static str {
+    match number {
+        0..=4 => "splitpmd",
+        5..=15 | 17 => "unmap",
+        16 | 18 => "map",
+        19 => "mapwhole",
+        20..=23 => "unmapwhole",
+        24 => "pin",
+        25..=27 => "unpin",
+        28..=30 => "write",
+        _ => "zero",
     }
 }
 
 // Writes a command about the node itself, chosen by a number. One node is closed once in a while.
 fn write_node_command(text: &mut String, state: u64, node: u64) -> Result<(), AllocError> {
-    match (state >> 59) % 16 {
-        0 => write!(text, "scan {node} 3\n"),
-        1 => write!(text, "scan {node} 128\n"),
-        2 | 3 => write!(text, "take {node} 2\n"),
-        4 => write!(text, "take {node} 8\n"),
-        5..=8 => write!(text, "splitnext {node}\n"),
-        9 | 10 => write!(text, "putback {node}\n"),
-        11 if node == 7 && (state >> 20) % 64 == 0 => write!(text, "close 7\n"),
-        11 => write!(text, "count {node}\n"),
-        _ => write!(text, "alloc {node}\n"),
-    }
+    let (word, count) = match (state >> 59) % 16 {
+        0 => ("scan", " 3"),
+        1 => ("scan", " 128"),
+        2 | 3 => ("take", " 2"),
+        4 => ("take", " 8"),
+        5..=8 => ("splitnext", ""),
+        9 | 10 => ("putback", ""),
+        11 if node == 7 && (state >> 20) % 64 == 0 => ("close", ""),
+        11 => ("count", ""),
+        _ => ("alloc", ""),
+    };
+    write!(text, "{word} {node}{count}\n")
 }
 
 // Writes one command, chosen by a number: about a node, or about a page of a few from `base` on or of all before these.

@@ -10,7 +10,6 @@ use std::thread::Threads;
 use std::time::Clock;
 use thp_check::check;
 use thp_node::Node;
-use thp_run::RunResult;
 use thp_script::{Script, Settings};
 use thp_worker::SectionLog;
 
@@ -76,21 +75,36 @@ fn changes_of(nodes: &[Node]) -> usize {
     changes
 }
 
-// Runs the script of a plan, checks the result, and returns how often later workers alternate.
-fn run_plan<R: Threads + Clock + Abort + Sync>(rt: &R, alloc: Global, plan: &Plan) -> usize {
-    let settings = settings_of(rt, plan);
-    let (script, ran) = ran(rt, alloc, plan, &settings);
-    let RunResult { nodes, sections } = ran;
-    let nodes = nodes.as_slice();
+// The journals of eight nodes are legal.
+fn expect_legal(rt: &impl Abort, alloc: Global, nodes: &[Node]) {
     assert!(rt; nodes.len() == 8);
     for node in nodes {
         assert!(rt; check(alloc, node.shape(), node.journal()).is_ok());
     }
+}
+
+// The answers are explained, and the reports agree with them.
+fn expect_told(
+    rt: &impl Abort,
+    alloc: Global,
+    settings: &Settings,
+    script: &Script,
+    nodes: &[Node],
+    sections: &[SectionLog],
+) {
     let tallies = tallies_of(alloc, nodes).expect(rt, "a tally");
     let tallies = tallies.as_slice();
-    let sections = sections.as_slice();
-    explain_sections(rt, alloc, tallies, &script, nodes, sections);
-    tell_the_run(rt, alloc, &settings, tallies, nodes, sections);
+    explain_sections(rt, alloc, tallies, script, nodes, sections);
+    tell_the_run(rt, alloc, settings, tallies, nodes, sections);
+}
+
+// Runs the script of a plan, checks the result, and returns how often later workers alternate.
+fn run_plan<R: Threads + Clock + Abort + Sync>(rt: &R, alloc: Global, plan: &Plan) -> usize {
+    let settings = settings_of(rt, plan);
+    let (script, ran) = ran(rt, alloc, plan, &settings);
+    let (nodes, sections) = (ran.nodes.as_slice(), ran.sections.as_slice());
+    expect_legal(rt, alloc, nodes);
+    expect_told(rt, alloc, &settings, &script, nodes, sections);
     changes_of(nodes)
 }
 

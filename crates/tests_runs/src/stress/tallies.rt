@@ -70,12 +70,21 @@ impl Tally {
         let held = pages
             .wrapping_mul(u64::from(self.subpages))
             .wrapping_sub(self.given);
-        write!(text, "node {node}\npages {pages}\nqueue {}\n", self.queue)?;
-        write!(text, "frames_held {held}\nframes_given {}\n", self.given)?;
-        write!(text, "thp_split_page {}\n", self.splits)?;
-        write!(text, "thp_split_page_failed {}\n", self.failures)?;
-        write!(text, "thp_deferred_split_page {}\n", self.queued)?;
-        write!(text, "thp_split_pmd {}\n", self.pmds)?;
+        let sums = [
+            ("node", node as u64),
+            ("pages", pages),
+            ("queue", u64::from(self.queue)),
+            ("frames_held", held),
+            ("frames_given", self.given),
+            ("thp_split_page", self.splits),
+            ("thp_split_page_failed", self.failures),
+            ("thp_deferred_split_page", self.queued),
+            ("thp_split_pmd", self.pmds),
+        ];
+        for row in sums.as_slice() {
+            let (name, sum) = *row;
+            write!(text, "{name} {sum}\n")?;
+        }
         if self.looks {
             write!(text, "thp_underused_split_page {}\n", self.underused)?;
         }
@@ -89,33 +98,26 @@ impl Tally {
     fn add(&mut self, alloc: Global, event: &Event) -> Option<()> {
         match event.what {
             What::Alloc { page, block: _ } => self.add_page(alloc, page),
-            What::MapWhole { page } => {
-                let seen = self.page(page)?;
-                seen.whole = seen.whole.checked_add(1)?;
-                Some(())
-            }
+            What::MapWhole { page } | What::MapSub { page, .. } => self
+                .page(page)?
+                .add(&event.what),
             What::UnmapWhole {
                 outcome,
                 page,
                 released,
-            } => {
-                self.page(page)?.lose_whole()?;
-                self.add_outcome(page, outcome, &released)
             }
-            What::MapSub { page, first, count } => self.page(page)?.gain(first, count),
-            What::UnmapSub {
+            | What::UnmapSub {
                 outcome,
                 page,
-                first,
-                count,
                 released,
+                ..
             } => {
-                self.page(page)?.lose(first, count)?;
+                self.page(page)?.add(&event.what)?;
                 self.add_outcome(page, outcome, &released)
             }
             What::SplitPmd { page } => {
                 self.pmds = self.pmds.checked_add(1)?;
-                self.page(page)?.spread(1)
+                self.page(page)?.add(&event.what)
             }
             What::Unpin {
                 outcome,

@@ -118,22 +118,35 @@ fn write_refusal(text: &mut String, refusal: Refusal) -> Result<(), AllocError> 
 }
 
 fn write_reply(text: &mut String, reply: Reply, looks: bool) -> Result<(), AllocError> {
-    match reply {
-        Reply::Page(PageId(page)) => write!(text, "page {page}"),
-        Reply::Unit => write!(text, "ok"),
+    let (words, number) = match reply {
+        Reply::Page(PageId(page)) => ("page ", Some(page)),
+        Reply::Unit => ("ok", None),
         Reply::Done(done) => {
             write_outcome(text, done.outcome)?;
-            write_set(text, &done.released)
+            return write_set(text, &done.released);
         }
-        Reply::Scan(scan) => write_scan(text, &scan, looks),
-        Reply::Count(length) => write!(text, "count {length}"),
-        Reply::Taken(taken) => write!(text, "taken {taken}"),
-        Reply::Tried(Tried::Split(PageId(page))) => write!(text, "split {page}"),
-        Reply::Tried(Tried::Pinned(PageId(page))) => write!(text, "pinned {page}"),
-        Reply::Tried(Tried::Used(PageId(page))) => write!(text, "used {page}"),
-        Reply::Tried(Tried::Done) => write!(text, "done"),
-        Reply::Back(BackReply { back, dropped }) => write!(text, "back {back} dropped {dropped}"),
-        Reply::NoBatch => write!(text, "no-batch"),
+        Reply::Scan(scan) => return write_scan(text, &scan, looks),
+        Reply::Count(length) => ("count ", Some(u64::from(length))),
+        Reply::Taken(taken) => ("taken ", Some(u64::from(taken))),
+        Reply::Tried(tried) => words_of_try(tried),
+        Reply::Back(BackReply { back, dropped }) => return write!(
+            text,
+            "back {back} dropped {dropped}"
+        ),
+        Reply::NoBatch => ("no-batch", None),
+    };
+    match number {
+        Some(number) => write!(text, "{words}{number}"),
+        None => text.push_str(words),
+    }
+}
+
+fn words_of_try(tried: Tried) -> (&'static str, Option<u64>) {
+    match tried {
+        Tried::Split(PageId(page)) => ("split ", Some(page)),
+        Tried::Pinned(PageId(page)) => ("pinned ", Some(page)),
+        Tried::Used(PageId(page)) => ("used ", Some(page)),
+        Tried::Done => ("done", None),
     }
 }
 

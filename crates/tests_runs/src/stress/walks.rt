@@ -5,7 +5,7 @@ use crate::stress::parts::Part;
 use crate::stress::tallies::Tally;
 use std::alloc::Global;
 use thp_history::Refusal;
-use thp_node::{Node, ScanReply, Tried};
+use thp_node::{BackReply, Node, ScanReply, Tried};
 use thp_script::{Command, Op};
 use thp_worker::{AnswerLog, Reply, SectionLog};
 
@@ -33,14 +33,7 @@ impl<'a> Walk<'a> {
                 self.explain_scan(alloc, u32::from(count), scan)
             }
             (Op::SplitNext, Reply::Tried(tried)) => self.explain_try(tried),
-            (Op::PutBack, Reply::Back(reply)) => {
-                let events = reply.back.checked_add(reply.dropped)?;
-                let told = self
-                    .open
-                    .take()?
-                    .put_back(self.tally, &mut self.part, events as usize)?;
-                is_so(told == reply)
-            }
+            (Op::PutBack, Reply::Back(reply)) => self.explain_put_back(reply),
             (Op::SplitNext | Op::PutBack, Reply::NoBatch) => is_so(self.open.is_none()),
             _ => {
                 let wanted = event_of(op, reply)?;
@@ -76,28 +69,37 @@ impl<'a> Walk<'a> {
         is_so(batch.try_next(self.tally, &mut self.part)? == tried)
     }
 
+    fn explain_put_back(&mut self, reply: BackReply) -> Option<()> {
+        let events = reply.back.checked_add(reply.dropped)?;
+        let mut batch = self.open.take()?;
+        is_so(batch.put_back(self.tally, &mut self.part, events as usize)? == reply)
+    }
+
     // The events of a scan are its takes, its tries, and its put backs.
     fn explain_scan(&mut self, alloc: Global, count: u32, scan: ScanReply) -> Option<()> {
-        if self.open.is_some() || scan.taken > count {
-            return None;
-        }
-        let mut batch = Batch::take(alloc, &mut self.part, scan.taken)?;
+        self.explain_take(alloc, count, scan.taken)?;
+        self.explain_tries(scan)?;
+        self.explain_put_back(BackReply {
+            back: scan.back,
+            dropped: scan.dropped,
+        })
+    }
+
+    // The tries of a scan go to the end of its batch.
+    fn explain_tries(&mut self, scan: ScanReply) -> Option<()> {
+        let batch = self.open.as_mut()?;
         let tries = scan.split.checked_add(scan.pinned)?.checked_add(scan.used)?;
         let (mut split, mut pinned, mut used) = (0u32, 0u32, 0u32);
         for _ in 0..tries {
             match batch.try_next(self.tally, &mut self.part)? {
-                Tried::Split(_) => split = split.checked_add(1)?,
-                Tried::Pinned(_) => pinned = pinned.checked_add(1)?,
-                Tried::Used(_) => used = used.checked_add(1)?,
+                Tried::Split(_) => split = split.wrapping_add(1),
+                Tried::Pinned(_) => pinned = pinned.wrapping_add(1),
+                Tried::Used(_) => used = used.wrapping_add(1),
                 Tried::Done => return None,
             }
         }
-        if !batch.is_passed(self.tally) || split != scan.split || pinned != scan.pinned {
-            return None;
-        }
-        let events = scan.back.checked_add(scan.dropped)?;
-        let reply = batch.put_back(self.tally, &mut self.part, events as usize)?;
-        is_so(used == scan.used && reply.back == scan.back && reply.dropped == scan.dropped)
+        let are_so = split == scan.split && pinned == scan.pinned && used == scan.used;
+        is_so(are_so && batch.is_passed(self.tally))
     }
 
     // The rest at the end of a section is the put back of its open batch.
@@ -105,7 +107,7 @@ impl<'a> Walk<'a> {
         let Walk { part, tally, open } = self;
         let mut part = part;
         match open {
-            Some(batch) => {
+            Some(mut batch) => {
                 let left = part.left();
                 let _reply = batch.put_back(tally, &mut part, left)?;
                 Some(())

@@ -105,15 +105,27 @@ fn let_go(cell: &NodeCell, hold: Hold) -> Pass
     cell.release(hold)
 }
 
+// Caller 1 makes all its calls, and is the only caller of its pass.
+fn expect_calls(rt: &impl Abort, cell: &NodeCell, pass: &mut Pass)
+    requires cell { pass.old.cell ≡ cell.now }
+    requires caller { HasCaller pass.old 1 }
+    ensures { pass.new ≡ at_front pass.old pass.new.front }
+{
+    let told = called(cell, pass);
+    assert!(rt; matches!(told, Ok((PageId(0), 1, Tried::Split(PageId(0))))));
+    assert!(rt; pass.callers() == (1, 2));
+}
+
+fn expect_events(rt: &impl Abort, node: &Node) {
+    assert!(rt; !node.journal().is_empty());
+}
+
 #[test]
 fn a_shared_node(rt: HostRuntime) {
     let (cell, pass) = cell_of(&rt, rt.alloc());
     let (left, mut right) = cell.split(pass, 1);
-    let told = called(&cell, &mut right);
-    assert!(rt; matches!(told, Ok((PageId(0), 1, Tried::Split(PageId(0))))));
+    expect_calls(&rt, &cell, &mut right);
     let left = held(&cell, left);
-    assert!(rt; right.callers() == (1, 2));
     let pass = cell.join(left, right);
-    let node = cell.finish(pass);
-    assert!(rt; !node.journal().is_empty());
+    expect_events(&rt, &cell.finish(pass));
 }

@@ -62,12 +62,11 @@ fn is_told(node: &Node) -> bool {
 }
 
 // Whether a node passes its calls.
-fn goes_through(alloc: Global) -> Result<bool, NewFault> {
-    let mut node = Node::new(alloc, SMALL)?;
-    if used(&mut node).is_err() {
-        return Ok(false);
+fn is_passed(node: &mut Node) -> bool {
+    if used(node).is_err() {
+        return false;
     }
-    match shrunk(&mut node) {
+    match shrunk(node) {
         Ok(
             (
                 Tried::Split(PageId(0)),
@@ -77,9 +76,14 @@ fn goes_through(alloc: Global) -> Result<bool, NewFault> {
                 },
                 scanned,
             ),
-        ) => { Ok(scanned.taken == 0 && is_told(&node) && !node.journal().is_empty()) }
-        _ => Ok(false),
+        ) => scanned.taken == 0 && is_told(node) && !node.journal().is_empty(),
+        _ => false,
     }
+}
+
+// Whether a new node does.
+fn goes_through(alloc: Global) -> Result<bool, NewFault> {
+    Ok(is_passed(&mut Node::new(alloc, SMALL)?))
 }
 
 #[test]

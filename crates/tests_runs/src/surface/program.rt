@@ -60,25 +60,27 @@ impl Gate for Open {
     fn pass(&self, _worker: u32, _index: u32) {}
 }
 
-// The output of a run.
-fn written<T: Threads + Sync>(
+// The output of a run of a script with a gate.
+fn written<T: Threads + Sync, G: Gate + Sync>(
     rt: &T,
     alloc: Global,
     settings: &Settings,
+    script: &[u8],
+    gate: &G,
 ) -> Result<Vec<u8>, RunFault> {
-    let mut reader = Watched::new(b"worker 1\nalloc 0\n".as_slice());
+    let mut reader = Watched::new(script);
     let mut writer: Watched<Vec<u8>> = Watched::new(Vec::new(alloc));
-    run(rt, alloc, settings, &mut reader, &mut writer, &Open)?;
-    let mut none: Watched<Vec<u8>> = Watched::new(Vec::new(alloc));
-    run(
-        rt,
-        alloc,
-        settings,
-        &mut Watched::new(b"".as_slice()),
-        &mut none,
-        &NoGate,
-    )?;
+    run(rt, alloc, settings, &mut reader, &mut writer, gate)?;
     Ok(writer.into_inner())
+}
+
+// Whether a run has the output of its command, and one without commands succeeds.
+fn is_run<T: Threads + Sync>(rt: &T, alloc: Global, settings: &Settings) -> bool {
+    let is_report = match written(rt, alloc, settings, b"worker 1\nalloc 0\n", &Open) {
+        Ok(text) => text.as_slice() == b"1 1 page 0\n".as_slice(),
+        Err(_) => false,
+    };
+    is_report && written(rt, alloc, settings, b"", &NoGate).is_ok()
 }
 
 // Whether one read, one write and one flush succeed.
@@ -124,8 +126,7 @@ fn settings_and_scripts(rt: HostRuntime) {
     let read = is_read(alloc);
     let script = is_script(alloc, &settings);
     let fault = is_faulty(alloc, &settings);
-    let report = written(&rt, alloc, &settings);
-    let told = matches!(&report, Ok(text) if text.as_slice() == b"1 1 page 0\n".as_slice());
+    let told = is_run(&rt, alloc, &settings);
     assert!(rt; read && script && fault && told);
 }
 

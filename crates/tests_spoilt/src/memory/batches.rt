@@ -69,16 +69,21 @@ fn is_as_before(node: &Node, events: usize) -> bool {
     node.queue_len() == 1 && event_count(node) == events
 }
 
-/// Takes the pinned page, tries it and puts it back.
+/// Takes the pinned page, tries it and puts it back, so that there are this many events.
+fn pass_pinned(rt: &(impl Abort + Print), node: &mut Node, events: usize) {
+    let mut batch = take_at_last(rt, node, 1, 8);
+    assert!(rt; batch.pages().len() == 1);
+    let tried = try_at_last(rt, node, &mut batch);
+    assert!(rt; matches!(tried, Tried::Pinned(PageId(0))));
+    let reply = return_at_last(rt, node, batch);
+    assert!(rt; is_back(reply, 1));
+    assert!(rt; is_as_before(node, events));
+}
+
 fn pass_batch(rt: &(impl Abort + Print), alloc: Global, writes: usize) {
     let mut node = node_after(rt, alloc, writes);
-    let mut batch = take_at_last(rt, &mut node, 1, 8);
-    assert!(rt; batch.pages().len() == 1);
-    let tried = try_at_last(rt, &mut node, &mut batch);
-    assert!(rt; matches!(tried, Tried::Pinned(PageId(0))));
-    let reply = return_at_last(rt, &mut node, batch);
-    assert!(rt; is_back(reply, 1));
-    assert!(rt; is_as_before(&node, writes.saturating_add(8)));
+    pass_pinned(rt, &mut node, writes.saturating_add(8));
+    drop(node);
 }
 
 #[test]

@@ -51,20 +51,25 @@ fn scan_at_last(rt: &(impl Abort + Print), node: &mut Node) -> ScanReply {
 }
 
 // A page is queued and gets this many pins; then it is taken, tried and put back.
-fn put_back_after_pins(rt: &(impl Abort + Print), alloc: Global, pins: usize) {
+fn put_back_pinned(rt: &(impl Abort + Print), node: &mut Node, pins: usize) {
     let page = 0;
-    let mut node = node_at_last(rt, alloc, shape_of(16));
-    expect_at_last(rt, &mut node, 0, &queueing(page));
+    expect_at_last(rt, node, 0, &queueing(page));
     for _pin in 0..pins {
-        expect_at_last(rt, &mut node, 0, &[(Call::Pin(page), Answer::Done)]);
+        expect_at_last(rt, node, 0, &[(Call::Pin(page), Answer::Done)]);
     }
-    let mut batch = take_at_last(rt, &mut node, 0, 1);
-    let tried = try_at_last(rt, &mut node, &mut batch);
+    let mut batch = take_at_last(rt, node, 0, 1);
+    let tried = try_at_last(rt, node, &mut batch);
     assert!(rt; tried == Tried::Pinned(PageId(page)));
-    assert!(rt; event_count(&node) == pins.saturating_add(5));
-    let reply = return_at_last(rt, &mut node, batch);
+    assert!(rt; event_count(node) == pins.saturating_add(5));
+    let reply = return_at_last(rt, node, batch);
     assert!(rt; is_back(reply, 1));
     assert!(rt; node.queue_len() == 1);
+}
+
+fn put_back_after_pins(rt: &(impl Abort + Print), alloc: Global, pins: usize) {
+    let mut node = node_at_last(rt, alloc, shape_of(16));
+    put_back_pinned(rt, &mut node, pins);
+    drop(node);
 }
 
 // For some of these numbers of pins, the failing allocation is in the put back.
@@ -113,6 +118,18 @@ fn pass_the_rest(rt: &(impl Abort + Print), node: &mut Node) {
     assert!(rt; is_back(reply, 4));
 }
 
+// Twelve pages pass every call that involves no batch. A scan and a batch take them, and the node is closed.
+fn calls_about_twelve_pages(rt: &(impl Abort + Print), node: &mut Node) {
+    for number in 0..12 {
+        calls_about_one_page(rt, node, number);
+    }
+    expect_at_last(rt, node, 0, &[(Call::Pin(1), Answer::Done)]);
+    assert!(rt; is_scanned(scan_at_last(rt, node)));
+    pass_the_rest(rt, node);
+    expect_at_last(rt, node, 0, &[(Call::Close, Answer::Done)]);
+    assert!(rt; node.queue_len() == 4);
+}
+
 #[test]
 fn each_growth_refused(rt: HostRuntime) {
     let shape = Shape {
@@ -121,28 +138,32 @@ fn each_growth_refused(rt: HostRuntime) {
         underused: None,
     };
     let mut node = node_at_last(&rt, rt.alloc(), shape);
-    for number in 0..12 {
-        calls_about_one_page(&rt, &mut node, number);
-    }
-    expect_at_last(&rt, &mut node, 0, &[(Call::Pin(1), Answer::Done)]);
-    assert!(rt; is_scanned(scan_at_last(&rt, &mut node)));
-    pass_the_rest(&rt, &mut node);
-    expect_at_last(&rt, &mut node, 0, &[(Call::Close, Answer::Done)]);
-    assert!(rt; node.queue_len() == 4);
+    calls_about_twelve_pages(&rt, &mut node);
+    drop(node);
 }
 
-// A `reserve` that succeeds leaves room for what was requested.
-#[test]
-fn reserved_calls_want_no_memory(rt: HostRuntime) {
-    let mut node = node_at_last(&rt, rt.alloc(), shape_of(1));
+// Reserves room for three events, at the second try at the latest.
+fn reserve_at_last(rt: &impl Abort, node: &mut Node) {
     if node.reserve(3).is_err() {
         assert!(rt; node.reserve(3) == Ok(()));
     }
+}
+
+fn expect_reserved(rt: &impl Abort, node: &mut Node) {
+    reserve_at_last(rt, node);
     let page = 0;
     let steps = [
         (Call::Alloc, Answer::Page(page)),
         (Call::Pin(page), Answer::Done),
         (Call::Close, Answer::Done),
     ];
-    assert!(rt; first_wrong(&mut node, 0, &steps) == None);
+    assert!(rt; first_wrong(node, 0, &steps) == None);
+}
+
+// A `reserve` that succeeds leaves room for what was requested.
+#[test]
+fn reserved_calls_want_no_memory(rt: HostRuntime) {
+    let mut node = node_at_last(&rt, rt.alloc(), shape_of(1));
+    expect_reserved(&rt, &mut node);
+    drop(node);
 }

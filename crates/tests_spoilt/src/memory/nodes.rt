@@ -203,17 +203,23 @@ fn is_closed(node: &mut Node) -> bool {
     matches!(node.alloc_page(1), Err(Refusal::Closed))
 }
 
-/// Makes a call on a node after this many writes, and then closes the node.
-fn make_one(rt: &(impl Abort + Print), alloc: Global, writes: usize, call: Call) {
-    let mut node = node_after(rt, alloc, writes);
-    let wanted = event_count(&node).saturating_add(events_of(call));
-    make_at_last(rt, &mut node, call, name_of(call));
-    assert!(rt; event_count(&node) == wanted);
+/// Makes a call, and then closes the node.
+fn make_and_close(rt: &(impl Abort + Print), node: &mut Node, call: Call) {
+    let wanted = event_count(node).saturating_add(events_of(call));
+    make_at_last(rt, node, call, name_of(call));
+    assert!(rt; event_count(node) == wanted);
     // and the node continues
     if !matches!(call, Call::Close) {
-        make_at_last(rt, &mut node, Call::Close, "Node::close");
+        make_at_last(rt, node, Call::Close, "Node::close");
     }
-    assert!(rt; is_closed(&mut node));
+    assert!(rt; is_closed(node));
+}
+
+/// Makes a call on a node after this many writes.
+fn make_one(rt: &(impl Abort + Print), alloc: Global, writes: usize, call: Call) {
+    let mut node = node_after(rt, alloc, writes);
+    make_and_close(rt, &mut node, call);
+    drop(node);
 }
 
 #[test]

@@ -1,4 +1,5 @@
 //! Columns of invented numbers.
+use std::alloc::Global;
 use std::process::Abort;
 use thp_metrics::{Column, Columns, MAX_COLUMNS, Numbers, SHOWN_PAGES, Span, Stage, widened};
 
@@ -39,19 +40,22 @@ fn a_column_of_one_prefix_has_its_numbers(rt: HostRuntime) {
     assert!(rt; column.pages[Stage::Queued as usize] == 0);
 }
 
-#[test]
-fn columns_fold_in_pairs(rt: HostRuntime) {
-    let mut columns = Columns::new(rt.alloc(), &all(0)).expect(&rt, "memory");
+// The columns of 2,401 prefixes, with the numbers from 0 on.
+fn many_columns(rt: &impl Abort, alloc: Global) -> Columns {
+    let mut columns = Columns::new(alloc, &all(0)).expect(rt, "memory");
     assert!(rt; columns.width() == 1);
     for number in 1..2401 {
         columns.push(&all(number));
     }
     assert!(rt; columns.width() == 8);
     assert!(rt; columns.prefixes() == 2401);
-    let told = columns.into_columns();
+    columns
+}
+
+fn expect_folded(rt: &impl Abort, told: &[Column]) {
     assert!(rt; told.len() == 301);
     assert!(rt; told.len() <= MAX_COLUMNS);
-    let second = at(&rt, &told, 1);
+    let second = at(rt, told, 1);
     let queue = Span {
         least: 8,
         greatest: 15,
@@ -62,5 +66,10 @@ fn columns_fold_in_pairs(rt: HostRuntime) {
         least: 2400,
         greatest: 2400,
     };
-    assert!(rt; at(&rt, &told, 300).given == given);
+    assert!(rt; at(rt, told, 300).given == given);
+}
+
+#[test]
+fn columns_fold_in_pairs(rt: HostRuntime) {
+    expect_folded(&rt, &many_columns(&rt, rt.alloc()).into_columns());
 }

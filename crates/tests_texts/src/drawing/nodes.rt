@@ -1,11 +1,12 @@
 //! The numbers of a node's events.
-ghost use Rattle.std.specs.Prelude.{◌≡◌, ◌<◌, length};
+ghost use Rattle.std.specs.Prelude.{◌≡◌, ◌+◌, ◌<◌, length};
 
 use crate::drawing::columns::at;
 use std::alloc::Global;
 use std::process::Abort;
+use thp_drawing::DrawnNode;
 use thp_history::{Event, Outcome, PageId, Shape, SubSet, What};
-use thp_metrics::{NodeSeries, Span, Stage, StuckPage};
+use thp_metrics::{Column, NodeSeries, Numbers, SeriesEnd, Span, Stage, StuckPage};
 
 /// 16 blocks of 512 subpages each.
 pub(crate) const LARGE: Shape = Shape {
@@ -42,6 +43,18 @@ pub(crate) fn first_run() -> [What; 5]
     ]
 }
 
+// The node with one more event of caller 0, which is legal.
+fn admitted(rt: &impl Abort, node: NodeSeries, what: What) -> NodeSeries
+    requires { length node.history < 100 }
+    ensures shape { result.shape ≡ node.shape }
+    ensures events { length result.history ≡ length node.history + 1 }
+{
+    match node.admit(&Event { caller: 0, what }) {
+        Ok(node) => node,
+        Err(_) => panic!(rt; "an illegal event"),
+    }
+}
+
 // A large node with these events of caller 0, which are legal.
 pub(crate) fn followed(rt: &impl Abort, alloc: Global, happened: &[What]) -> NodeSeries
     requires { length happened.now < 100 }
@@ -50,15 +63,15 @@ pub(crate) fn followed(rt: &impl Abort, alloc: Global, happened: &[What]) -> Nod
 {
     let mut node = NodeSeries::new(alloc, LARGE).expect(rt, "memory");
     for what in happened {
-        node = match node.admit(&Event {
-            caller: 0,
-            what: *what,
-        }) {
-            Ok(node) => node,
-            Err(_) => panic!(rt; "an illegal event"),
-        };
+        node = admitted(rt, node, *what);
     }
     node
+}
+
+// What is drawn of a large node with the events of the first run.
+pub(crate) fn drawn_first_run(rt: &impl Abort, alloc: Global) -> DrawnNode {
+    let node = followed(rt, alloc, &first_run());
+    DrawnNode::of(alloc, LARGE, node).expect(rt, "memory")
 }
 
 fn once(number: u128) -> Span {
@@ -68,48 +81,80 @@ fn once(number: u128) -> Span {
     }
 }
 
-#[test]
-fn node_series_follows_a_split(rt: HostRuntime) {
-    let node = followed(&rt, rt.alloc(), &first_run());
+fn expect_split_numbers(rt: &impl Abort, node: &NodeSeries) {
     let numbers = node.numbers();
     assert!(rt; numbers.pages == [0, 0, 0, 0, 1]);
     assert!(rt; (numbers.held, numbers.given) == (256, 256));
-    let told = node.into_columns().into_columns();
-    assert!(rt; at(&rt, &told, 3).queue == once(1));
-    assert!(rt; at(&rt, &told, 4).in_batches == once(1));
-    assert!(rt; at(&rt, &told, 3).wait == once(1));
-    assert!(rt; at(&rt, &told, 4).wait == once(2));
-    assert!(rt; at(&rt, &told, 5).wait == once(0));
-    assert!(rt; at(&rt, &told, 3).callers == 0);
-    assert!(rt; at(&rt, &told, 4).callers == 1);
-    assert!(rt; at(&rt, &told, 4).pages[Stage::InBatch as usize] == 1);
-    assert!(rt; at(&rt, &told, 5).held == once(256));
+}
+
+fn expect_split_columns(rt: &impl Abort, told: &[Column]) {
+    assert!(rt; at(rt, told, 3).queue == once(1));
+    assert!(rt; at(rt, told, 4).in_batches == once(1));
+    assert!(rt; at(rt, told, 3).wait == once(1));
+    assert!(rt; at(rt, told, 4).wait == once(2));
+    assert!(rt; at(rt, told, 5).wait == once(0));
+    assert!(rt; at(rt, told, 3).callers == 0);
+    assert!(rt; at(rt, told, 4).callers == 1);
+    assert!(rt; at(rt, told, 4).pages[Stage::InBatch as usize] == 1);
+    assert!(rt; at(rt, told, 5).held == once(256));
 }
 
 #[test]
-fn node_series_tells_what_was_before_an_illegal_event(rt: HostRuntime) {
+fn node_series_follows_a_split(rt: HostRuntime) {
     let node = followed(&rt, rt.alloc(), &first_run());
-    let before = node.numbers();
+    expect_split_numbers(&rt, &node);
+    expect_split_columns(&rt, &node.into_columns().into_columns());
+}
+
+// What the node leaves where a take of the split page stops it.
+fn stopped_by_a_take(rt: &impl Abort, node: NodeSeries) -> SeriesEnd
+    requires { length node.history < 100 }
+{
     let event = Event {
         caller: 0,
         what: What::Taken { page: PAGE },
     };
     match node.admit(&event) {
         Ok(_) => panic!(rt; "a split page is taken"),
-        Err(stopped) => {
-            assert!(rt; stopped.numbers == before);
-            assert!(rt; stopped.columns.prefixes() == 6);
-        }
+        Err(stopped) => stopped,
     }
 }
 
+fn expect_end(rt: &impl Abort, stopped: &SeriesEnd, before: &Numbers) {
+    assert!(rt; stopped.numbers == *before);
+    assert!(rt; stopped.columns.prefixes() == 6);
+}
+
+fn expect_stopped(rt: &impl Abort, node: NodeSeries, before: &Numbers)
+    requires { length node.history < 100 }
+{
+    expect_end(rt, &stopped_by_a_take(rt, node), before);
+}
+
 #[test]
-fn node_series_tells_stuck_pages(rt: HostRuntime) {
-    let [alloc, split, unmap, taken, _] = first_run();
-    let pin = What::Pin { page: PAGE };
-    let pinned = What::Pinned { page: PAGE };
-    let node = followed(&rt, rt.alloc(), &[alloc, split, unmap, taken, pin, pinned]);
-    let stuck = node.stuck(rt.alloc()).expect(&rt, "memory");
+fn node_series_tells_what_was_before_an_illegal_event(rt: HostRuntime) {
+    let node = followed(&rt, rt.alloc(), &first_run());
+    let before = node.numbers();
+    expect_stopped(&rt, node, &before);
+}
+
+// The first run up to its take, then a pin of the page, and a try that finds it pinned.
+fn pinned_run() -> [What; 6]
+    ensures { length result ≡ 6 }
+{
+    let run = first_run();
+    [
+        run[0],
+        run[1],
+        run[2],
+        run[3],
+        What::Pin { page: PAGE },
+        What::Pinned { page: PAGE },
+    ]
+}
+
+fn expect_stuck(rt: &impl Abort, alloc: Global, node: &NodeSeries) {
+    let stuck = node.stuck(alloc).expect(rt, "memory");
     let page = StuckPage {
         page: PAGE,
         finds: 1,
@@ -117,4 +162,12 @@ fn node_series_tells_stuck_pages(rt: HostRuntime) {
     };
     assert!(rt; stuck.len() == 1);
     assert!(rt; stuck[0] == page);
+}
+
+#[test]
+fn node_series_tells_stuck_pages(rt: HostRuntime) {
+    let node = followed(&rt, rt.alloc(), &pinned_run());
+    expect_stuck(&rt, rt.alloc(), &node);
+    // a call has a shorter proof than a drop at the end of the scope
+    drop(node);
 }

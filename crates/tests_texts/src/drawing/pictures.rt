@@ -1,5 +1,7 @@
 //! Pictures of nodes.
-use crate::drawing::nodes::{LARGE, first_run, followed};
+use crate::drawing::nodes::drawn_first_run;
+use std::alloc::Global;
+use std::process::Abort;
 use thp_drawing::{DrawnNode, put_escaped, put_picture};
 
 // Written out manually, and looked at in a browser, on a light and on a dark background.
@@ -158,12 +160,13 @@ fn words_are_escaped(rt: HostRuntime) {
     assert!(rt; text.as_slice() == ESCAPED);
 }
 
+fn expect_picture(rt: &impl Abort, alloc: Global, nodes: &[DrawnNode]) {
+    let mut text = Vec::new(alloc);
+    put_picture(&mut text, nodes).expect(rt, "memory");
+    assert!(rt; text.as_slice() == PICTURE);
+}
+
 #[test]
 fn picture_of_the_first_run(rt: HostRuntime) {
-    let alloc = rt.alloc();
-    let node = followed(&rt, alloc, &first_run());
-    let nodes = [DrawnNode::of(alloc, LARGE, node).expect(&rt, "memory")];
-    let mut text = Vec::new(alloc);
-    put_picture(&mut text, &nodes).expect(&rt, "memory");
-    assert!(rt; text.as_slice() == PICTURE);
+    expect_picture(&rt, rt.alloc(), &[drawn_first_run(&rt, rt.alloc())]);
 }

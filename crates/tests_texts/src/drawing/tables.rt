@@ -1,5 +1,7 @@
 //! Tables of nodes.
-use crate::drawing::nodes::{LARGE, PAGE, first_run, followed};
+use crate::drawing::nodes::{LARGE, PAGE, drawn_first_run, followed};
+use std::alloc::Global;
+use std::process::Abort;
 use thp_drawing::{DrawnNode, IllegalEvent, put_table};
 use thp_history::{Event, What};
 
@@ -27,13 +29,15 @@ b-----------------------------------------------------------\t0\n\
 column\t0\t5\t5\t0\t0\t0\t0\t256\t256\t256\t256\t1\t1\t0\t0\t0\t0\t0\t0\t0\t0\t0\t0\t1\t\
 s-----------------------------------------------------------\t-\n";
 
+fn table_of(rt: &impl Abort, alloc: Global, nodes: &[DrawnNode]) -> Vec<u8> {
+    let mut text = Vec::new(alloc);
+    put_table(&mut text, nodes).expect(rt, "memory");
+    text
+}
+
 #[test]
 fn table_of_the_first_run(rt: HostRuntime) {
-    let alloc = rt.alloc();
-    let node = followed(&rt, alloc, &first_run());
-    let nodes = [DrawnNode::of(alloc, LARGE, node).expect(&rt, "memory")];
-    let mut text = Vec::new(alloc);
-    put_table(&mut text, &nodes).expect(&rt, "memory");
+    let text = table_of(&rt, rt.alloc(), &[drawn_first_run(&rt, rt.alloc())]);
     assert!(rt; text.as_slice() == TABLE);
 }
 
@@ -43,10 +47,9 @@ const ILLEGAL: &[u8] =
 column\t0\t0\t0\t0\t0\t0\t0\t0\t0\t0\t0\t0\t0\t0\t0\t0\t0\t0\t0\t0\t0\t0\t0\t0\t\
 ------------------------------------------------------------\t-\n";
 
-#[test]
-fn table_tells_the_illegal_event(rt: HostRuntime) {
-    let alloc = rt.alloc();
-    let node = followed(&rt, alloc, &[]);
+// What is drawn of that node.
+fn illegal_node(rt: &impl Abort, alloc: Global) -> DrawnNode {
+    let node = followed(rt, alloc, &[]);
     let numbers = node.numbers();
     let illegal = IllegalEvent {
         line: 3,
@@ -55,15 +58,17 @@ fn table_tells_the_illegal_event(rt: HostRuntime) {
             what: What::Taken { page: PAGE },
         },
     };
-    let stuck = Vec::new(alloc);
-    let nodes = [DrawnNode::from_columns(
+    DrawnNode::from_columns(
         LARGE,
         node.into_columns(),
         numbers,
         Some(illegal),
-        stuck,
-    )];
-    let mut text = Vec::new(alloc);
-    put_table(&mut text, &nodes).expect(&rt, "memory");
+        Vec::new(alloc),
+    )
+}
+
+#[test]
+fn table_tells_the_illegal_event(rt: HostRuntime) {
+    let text = table_of(&rt, rt.alloc(), &[illegal_node(&rt, rt.alloc())]);
     assert!(rt; text.as_slice().ends_with(ILLEGAL));
 }

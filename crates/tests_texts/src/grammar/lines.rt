@@ -1,5 +1,6 @@
 //! Settings, words of a command line, and lists.
 use std::alloc::Global;
+use std::process::Abort;
 use thp_cli::{Line, read_line};
 use thp_script::{Command, Op, Report, Sequence, Settings, read_orders, read_underused};
 
@@ -83,21 +84,34 @@ fn orders_and_thresholds_of_two_nodes(rt: HostRuntime) {
     assert!(rt; with_orders(low, [2, 2].as_slice()).is_none());
 }
 
-#[test]
-fn words_of_a_line(rt: HostRuntime) {
-    let alloc = rt.alloc();
-    let words = ["thpsplit", "--blocks", "4096", "--report=journal"];
-    let line = line_of(alloc, words.as_slice());
-    assert!(rt;
-        matches!(
-            line,
-            Some(Line {
-                blocks: 4096,
-                report: Report::Journal,
-                ..
-            })
-        )
-    );
+// Whether these words set the largest number of blocks and a report of journals.
+fn sets_blocks_and_report(alloc: Global, words: &[&str]) -> bool {
+    matches!(
+        line_of(alloc, words),
+        Some(Line {
+            blocks: 4096,
+            report: Report::Journal,
+            ..
+        })
+    )
+}
+
+// Whether these words set the largest numbers of nodes and workers, both lists and the check.
+fn sets_nodes_and_lists(alloc: Global, words: &[&str]) -> bool {
+    matches!(
+        line_of(alloc, words),
+        Some(Line {
+            nodes: 8,
+            workers: 63,
+            orders: Some("2,9"),
+            underused: Some("off"),
+            check: true,
+            ..
+        })
+    )
+}
+
+fn expect_refused(rt: &impl Abort, alloc: Global) {
     let refused: [&[&str]; 5] = [
         &["thpsplit", "--blocks", "4097"],
         &["thpsplit", "--nodes", "9"],
@@ -108,6 +122,14 @@ fn words_of_a_line(rt: HostRuntime) {
     for words in refused {
         assert!(rt; line_of(alloc, words).is_none());
     }
+}
+
+#[test]
+fn words_of_a_line(rt: HostRuntime) {
+    let alloc = rt.alloc();
+    let words = ["thpsplit", "--blocks", "4096", "--report=journal"];
+    assert!(rt; sets_blocks_and_report(alloc, words.as_slice()));
+    expect_refused(&rt, alloc);
     let words = [
         "thpsplit",
         "--nodes",
@@ -119,20 +141,7 @@ fn words_of_a_line(rt: HostRuntime) {
         "--underused=off",
         "--check",
     ];
-    let line = line_of(alloc, words.as_slice());
-    assert!(rt;
-        matches!(
-            line,
-            Some(Line {
-                nodes: 8,
-                workers: 63,
-                orders: Some("2,9"),
-                underused: Some("off"),
-                check: true,
-                ..
-            })
-        )
-    );
+    assert!(rt; sets_nodes_and_lists(alloc, words.as_slice()));
 }
 
 #[test]

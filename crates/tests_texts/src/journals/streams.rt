@@ -5,6 +5,7 @@ use crate::journals::histories::{
     ZERO, by, expect_texts, large, queued, small, split, split_pmd, taken,
 };
 use std::alloc::{AllocError, Global};
+use std::process::Abort;
 use thp_check::Misfit;
 use thp_history::{Event, PageId, Shape, SubSet, What};
 use thp_journal_reader::{Illegal, LongCheck, read_journal};
@@ -81,21 +82,31 @@ fn is_read_back(alloc: Global, version: Version, shape: Shape, events: &[Event])
     }
 }
 
-#[test]
-fn each_version_is_read_back(rt: HostRuntime) {
+fn expect_large_read_back(rt: &impl Abort, alloc: Global, events: &[Event]) {
     for version in VERSIONS {
-        let events = half_given_back(256);
-        assert!(rt; is_read_back(rt.alloc(), version, large(16), &events));
+        assert!(rt; is_read_back(alloc, version, large(16), events));
     }
-    let of_small = half_given_back(2);
-    assert!(rt; is_read_back(rt.alloc(), Version::Orders, small(16, None), &of_small));
-    assert!(rt; is_read_back(rt.alloc(), Version::Underused, small(16, None), &of_small));
-    assert!(rt; is_read_back(rt.alloc(), Version::Underused, small(4, Some(1)), &of_small));
+}
+
+fn expect_small_read_back(rt: &impl Abort, alloc: Global, events: &[Event]) {
+    assert!(rt; is_read_back(alloc, Version::Orders, small(16, None), events));
+    assert!(rt; is_read_back(alloc, Version::Underused, small(16, None), events));
+    assert!(rt; is_read_back(alloc, Version::Underused, small(4, Some(1)), events));
+}
+
+fn expect_accesses_read_back(rt: &impl Abort, alloc: Global) {
     for what in accesses() {
         let events = [by(0, what)];
-        assert!(rt; is_read_back(rt.alloc(), Version::Underused, small(4, Some(1)), &events));
-        assert!(rt; is_read_back(rt.alloc(), Version::Underused, large(4), &events));
+        assert!(rt; is_read_back(alloc, Version::Underused, small(4, Some(1)), &events));
+        assert!(rt; is_read_back(alloc, Version::Underused, large(4), &events));
     }
+}
+
+#[test]
+fn each_version_is_read_back(rt: HostRuntime) {
+    expect_large_read_back(&rt, rt.alloc(), &half_given_back(256));
+    expect_small_read_back(&rt, rt.alloc(), &half_given_back(2));
+    expect_accesses_read_back(&rt, rt.alloc());
 }
 
 #[test]
@@ -159,25 +170,37 @@ fn refused_memory_is_a_fault(rt: HostRuntime) {
     assert!(rt; PutFault::from(AllocError) == PutFault::OutOfMemory);
 }
 
+fn put_head(rt: &impl Abort, text: &mut Vec<u8>) {
+    put_version(text, Version::Plain).expect(rt, "memory");
+    put_node(text, Version::Plain, 0, &large(1)).expect(rt, "memory");
+}
+
+fn put_allocation(rt: &impl Abort, text: &mut Vec<u8>, page: u64) {
+    let what = What::Alloc {
+        page: PageId(page),
+        block: 0,
+    };
+    put_event(text, Version::Plain, &by(0, what)).expect(rt, "memory");
+}
+
+// The check of the lines of two allocations in a node of one block, each line on its own.
+fn check_of_lines(rt: &impl Abort, text: &mut Vec<u8>, check: LongCheck) -> LongCheck {
+    let mut check = check;
+    put_head(rt, text);
+    for page in 0..2 {
+        put_allocation(rt, text, page);
+        check = check.read_part(text.as_slice()).expect(rt, "memory");
+        text.clear();
+    }
+    put_end(text).expect(rt, "memory");
+    check.read_part(text.as_slice()).expect(rt, "memory")
+}
+
 // A recorder passes each line on and clears the text.
 #[test]
 fn lines_are_checked_as_they_are_put(rt: HostRuntime) {
     let mut text = Vec::new(rt.alloc());
-    let mut check = LongCheck::of_input(rt.alloc());
-    put_version(&mut text, Version::Plain).expect(&rt, "memory");
-    put_node(&mut text, Version::Plain, 0, &large(1)).expect(&rt, "memory");
-    for page in 0..2 {
-        let what = What::Alloc {
-            page: PageId(page),
-            block: 0,
-        };
-        put_event(&mut text, Version::Plain, &by(0, what)).expect(&rt, "memory");
-        check = check.read_part(text.as_slice()).expect(&rt, "memory");
-        text.clear();
-    }
-    put_end(&mut text).expect(&rt, "memory");
-    check = check.read_part(text.as_slice()).expect(&rt, "memory");
-    let found = check.finish();
+    let found = check_of_lines(&rt, &mut text, LongCheck::of_input(rt.alloc())).finish();
     assert!(rt;
         matches!(
             found,

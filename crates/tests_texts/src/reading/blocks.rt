@@ -1,4 +1,5 @@
 //! The blocks that a reader gives the pages of a journal.
+use std::process::Abort;
 use thp_history::{Event, What};
 use thp_journal_reader::{NodeJournal, read_journal};
 
@@ -15,6 +16,22 @@ fn block_at(node: &NodeJournal, place: usize) -> Option<u32> {
     }
 }
 
+fn expect_least_blocks(rt: &impl Abort, node: &NodeJournal) {
+    assert!(rt; node.first_line == 3);
+    assert!(rt; block_at(node, 0) == Some(0));
+    assert!(rt; block_at(node, 1) == Some(1));
+    assert!(rt; block_at(node, 3) == Some(0), "block 0 is free again");
+    assert!(rt; block_at(node, 4) == Some(0), "each block is held");
+}
+
+fn expect_first_node(rt: &impl Abort, nodes: &[NodeJournal]) {
+    let Some(node) = nodes.first() else {
+        assert!(rt; false, "a node");
+        return;
+    };
+    expect_least_blocks(rt, node);
+}
+
 #[test]
 fn least_blocks_are_given(rt: HostRuntime) {
     let text =
@@ -23,13 +40,5 @@ fn least_blocks_are_given(rt: HostRuntime) {
         assert!(rt; false, "a journal");
         return;
     };
-    let Some(node) = journals.nodes.as_slice().first() else {
-        assert!(rt; false, "a node");
-        return;
-    };
-    assert!(rt; node.first_line == 3);
-    assert!(rt; block_at(node, 0) == Some(0));
-    assert!(rt; block_at(node, 1) == Some(1));
-    assert!(rt; block_at(node, 3) == Some(0), "block 0 is free again");
-    assert!(rt; block_at(node, 4) == Some(0), "each block is held");
+    expect_first_node(&rt, journals.nodes.as_slice());
 }

@@ -34,29 +34,34 @@ fn parts_of_each_length(rt: HostRuntime) {
     }
 }
 
+// Whether page 1 is the first illegal one, in the block that page 0 has.
+fn is_block_taken(check: LongCheck, text: &[u8]) -> bool {
+    matches!(
+        found_by_parts(check, text, 8),
+        Some(Ok(Some(Illegal {
+            line: 4,
+            event: Event {
+                caller: 5,
+                what: What::Alloc {
+                    page: PageId(1),
+                    block: 0
+                }
+            },
+            misfit: Misfit::BlockTaken
+        })))
+    )
+}
+
+fn is_legal(check: LongCheck, text: &[u8]) -> bool {
+    matches!(found_by_parts(check, text, 8), Some(Ok(None)))
+}
+
 #[test]
 fn an_illegal_page_has_the_least_block(rt: HostRuntime) {
     let text = b"thp-journal 1\nnode 0 blocks 1\n0 alloc 0\n5 alloc 1\nend\n";
-    let found = found_by_parts(LongCheck::new(rt.alloc()), text.as_slice(), 8);
-    assert!(rt;
-        matches!(
-            found,
-            Some(Ok(Some(Illegal {
-                line: 4,
-                event: Event {
-                    caller: 5,
-                    what: What::Alloc {
-                        page: PageId(1),
-                        block: 0
-                    }
-                },
-                misfit: Misfit::BlockTaken
-            })))
-        )
-    );
+    assert!(rt; is_block_taken(LongCheck::new(rt.alloc()), text.as_slice()));
     let legal = b"thp-journal 1\nnode 0 blocks 1\n0 alloc 0\nend\n";
-    let found = found_by_parts(LongCheck::new(rt.alloc()), legal.as_slice(), 8);
-    assert!(rt; matches!(found, Some(Ok(None))));
+    assert!(rt; is_legal(LongCheck::new(rt.alloc()), legal.as_slice()));
 }
 
 #[test]

@@ -89,6 +89,16 @@ pub(crate) fn underused_pinned(rt: &impl Abort, alloc: Global) -> Node {
     node
 }
 
+fn settings_of(rt: &impl Abort, nodes: &[Node], report: Report) -> Settings {
+    let count = u32::try_from(nodes.len()).expect(rt, "a few nodes");
+    Settings::new(count, 16, 63, report).expect(rt, "settings of these nodes")
+}
+
+fn expect_text(rt: &impl Abort, text: &[u8], want: &str) {
+    let told = str::from_utf8(text).expect(rt, "a report of text");
+    assert!(rt; told == want);
+}
+
 // The report on these nodes and sections is this text.
 pub(crate) fn expect(
     rt: &impl Abort,
@@ -98,9 +108,7 @@ pub(crate) fn expect(
     sections: &[SectionLog],
     want: &str,
 ) {
-    let count = u32::try_from(nodes.len()).expect(rt, "a few nodes");
-    let settings = Settings::new(count, 16, 63, report).expect(rt, "settings of these nodes");
+    let settings = settings_of(rt, nodes, report);
     let text = report_of_logs(alloc, &settings, nodes, sections).expect(rt, "memory for a report");
-    let told = str::from_utf8(text.as_slice()).expect(rt, "a report of text");
-    assert!(rt; told == want);
+    expect_text(rt, text.as_slice(), want);
 }

@@ -4,7 +4,7 @@ use crate::reports::nodes::empty_node;
 use std::alloc::Global;
 use std::process::Abort;
 use thp_history::{Outcome, PageId, Refusal, SubSet};
-use thp_node::Node;
+use thp_node::{Node, Recorder};
 use thp_run::{AnswerParts, answers_text};
 use thp_worker::{Reply, SectionLog};
 
@@ -13,11 +13,18 @@ const FULL_PART: usize = 65_536;
 
 const MAX_LINE: usize = 4_145;
 
-// How many parts the text of the sections has: each but the last is full, and they make the whole text.
-fn parts_of(rt: &impl Abort, alloc: Global, nodes: &[Node], sections: &[SectionLog]) -> usize {
-    let whole = answers_text(alloc, nodes, sections).expect(rt, "memory for a text");
-    let mut parts = AnswerParts::new(alloc, nodes, sections).expect(rt, "memory for a part");
-    let mut rest = whole.as_slice();
+// What is left of a text after its next part: nothing unless the part is full.
+fn rest_after<'a>(rt: &impl Abort, text: &'a [u8], part: &[u8]) -> &'a [u8] {
+    let Some(rest) = text.strip_prefix(part) else {
+        panic!(rt; "a part that isn't next");
+    };
+    assert!(rt; part.len() >= FULL_PART || rest.is_empty());
+    rest
+}
+
+// How many parts there are: each but the last is full, and they make the whole text.
+fn count_parts<R: Recorder>(rt: &impl Abort, parts: &mut AnswerParts<R>, whole: &[u8]) -> usize {
+    let mut rest = whole;
     for count in 0..100usize {
         parts.fill();
         let part = parts.part();
@@ -26,13 +33,26 @@ fn parts_of(rt: &impl Abort, alloc: Global, nodes: &[Node], sections: &[SectionL
             assert!(rt; rest.is_empty());
             return count;
         }
-        let Some(behind) = rest.strip_prefix(part) else {
-            panic!(rt; "a part that isn't next");
-        };
-        rest = behind;
-        assert!(rt; part.len() >= FULL_PART || rest.is_empty());
+        rest = rest_after(rt, rest, part);
     }
     panic!(rt; "too many parts")
+}
+
+fn count_parts_of(
+    rt: &impl Abort,
+    alloc: Global,
+    nodes: &[Node],
+    sections: &[SectionLog],
+    whole: &[u8],
+) -> usize {
+    let mut parts = AnswerParts::new(alloc, nodes, sections).expect(rt, "memory for a part");
+    count_parts(rt, &mut parts, whole)
+}
+
+// How many parts the text of the sections has.
+fn parts_of(rt: &impl Abort, alloc: Global, nodes: &[Node], sections: &[SectionLog]) -> usize {
+    let whole = answers_text(alloc, nodes, sections).expect(rt, "memory for a text");
+    count_parts_of(rt, alloc, nodes, sections, whole.as_slice())
 }
 
 // Every second subpage.

@@ -1,4 +1,5 @@
-use Rattle.std.proofs.Common.{◌++◌, arith, drop, map, flat_map}
+use Rattle.std.proofs.Common.{◌≤◌, ◌∙◌, ◌++◌, append-nil, ap, arith, drop, flat_map, length, map, sym}
+use Rattle.std.proofs.lemmas.List.{at_drop_all}
 use Rattle.thp_run.specs.Answers.{answer_line}
 use Rattle.thp_run.specs.Reports.{shape_of}
 use Rattle.thp_worker.specs.Prelude.{stored}
@@ -14,3 +15,26 @@ loop-place-preserved g c =
       room = omega (arith, c.in-Ok.ensures.room);
       most = omega (arith, c.in-Ok.ensures.room);
     }
+
+pub returns-then-len-ge-FULL_PART-clause-text : goal.returns-then-len-ge-FULL_PART-clause-text
+returns-then-len-ge-FULL_PART-clause-text g c = c.loop-place.invariant.text
+
+pub returns-then-len-ge-FULL_PART-clause-most : goal.returns-then-len-ge-FULL_PART-clause-most
+returns-then-len-ge-FULL_PART-clause-most g c = c.loop-place.invariant.most
+
+pub returns-then-len-ge-FULL_PART-clause-room : goal.returns-then-len-ge-FULL_PART-clause-room
+returns-then-len-ge-FULL_PART-clause-room g c = c.loop-place.invariant.room
+
+pub returns-clause-text : goal.returns-clause-text
+returns-clause-text g c =
+    let items = stored c.args.answers.now in
+    let line = answer_line (map shape_of c.args.nodes.now) c.args.worker in
+    let part = c.loop-place.part.items in
+    let end : length items ≤ c.loop-place.place = omega arith in
+    sym (append-nil part) ∙ ap (λ t. part ++ t) (sym (at_drop_all (flat_map line) items c.loop-place.place end)) ∙ c.loop-place.invariant.text
+
+pub returns-clause-most : goal.returns-clause-most
+returns-clause-most g c = c.loop-place.invariant.most
+
+pub returns-clause-room : goal.returns-clause-room
+returns-clause-room g c = c.loop-place.invariant.room

@@ -1,5 +1,5 @@
 use Rattle.std.proofs.Common.{◌≡◌, length}
-use Rattle.tests_texts.proofs.drawing.columns.columns_fold_in_pairs.Given as goal
+use Rattle.tests_texts.proofs.drawing.columns.many_columns.Given as goal
 
 -- a prefix for each number so far
 abbrev pub invariant-loop-number : goal.invariant-loop-number

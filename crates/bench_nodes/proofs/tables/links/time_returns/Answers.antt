@@ -2,7 +2,7 @@
 use Rattle.std.proofs.Common.{◌∙◌}
 use Rattle.thp_links.proofs.OneTable.{one_table}
 use Rattle.bench_nodes.proofs.Pushes.{all_again}
-use Rattle.bench_nodes.proofs.tables.links.time_middle.Goals as goal
+use Rattle.bench_nodes.proofs.tables.links.time_returns.Goals as goal
 
 pub push_back-requires-clause-absent : goal.push_back-requires-clause-absent
 push_back-requires-clause-absent g c = search one_table
