@@ -6,7 +6,8 @@
 //!   `reading` (what a replay shows).
 //! - `recorders`: `FullLog` and `CountOnly`. `nodes`: construction. `event_rows`: events as constants.
 //!
-//! It uses the libraries from above, so that they are proved once.
+//! It uses the libraries from above, so that they are proved once. Functions that own a node end with a call of `drop`, which has a
+//! shorter proof than a drop at the end of the scope.
 #![tactic(auto)]
 
 #[cfg(test)]

@@ -54,11 +54,15 @@ fn kept_counters(rt: &impl Abort, alloc: Global) -> Counters {
     let mut node = node_of(rt, alloc, 16);
     let counters = counted(rt, &mut node);
     assert!(rt; event_count(&node) == 12);
+    drop(node);
     counters
 }
 
 fn unkept_counters(rt: &impl Abort, alloc: Global) -> Counters {
-    counted(rt, &mut unkept_node(rt, alloc))
+    let mut node = unkept_node(rt, alloc);
+    let counters = counted(rt, &mut node);
+    drop(node);
+    counters
 }
 
 #[test]

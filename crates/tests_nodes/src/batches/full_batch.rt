@@ -63,7 +63,9 @@ fn expect_scan(rt: &impl Abort, node: &mut Node) {
 // A scan of 128 pages has room for its 384 events, and leaves the queue in its order.
 #[test]
 fn scan_of_a_full_batch(rt: HostRuntime) {
-    expect_scan(&rt, &mut node_of_pinned(&rt, rt.alloc()));
+    let mut node = node_of_pinned(&rt, rt.alloc());
+    expect_scan(&rt, &mut node);
+    drop(node);
 }
 
 // A take of the pages 0 to 127, a try of each, one more that finds none left, and the put back.
@@ -88,4 +90,5 @@ fn tries_of_a_full_batch(rt: HostRuntime) {
     assert!(rt; has_room(&mut node));
     let node = expect_batches(&rt, node, &steps);
     expect_round(&rt, &node, from);
+    drop(node);
 }

@@ -1,6 +1,6 @@
 //! Rows on batches: takes, tries and put backs as separate calls.
 use crate::batches::steps::{
-    BatchStep, expect_batches, expect_has_batch, expect_put_back, take_these,
+    BatchStep, expect_batch_row, expect_has_batch, expect_put_back, take_these,
 };
 use crate::event_rows::{ONE, TWO, ZERO};
 use crate::nodes::{expect, expect_queued, node_of, node_with_queued};
@@ -27,7 +27,7 @@ const FREED_AND_REUSED: &[BatchStep] = &[
 
 #[test]
 fn freed_from_a_batch_and_block_reused(rt: HostRuntime) {
-    expect_batches(&rt, node_of(&rt, rt.alloc(), 1), FREED_AND_REUSED);
+    expect_batch_row(&rt, node_of(&rt, rt.alloc(), 1), FREED_AND_REUSED);
 }
 
 const DROPPED_WHEN_CLOSED: &[BatchStep] = &[
@@ -48,7 +48,7 @@ const DROPPED_WHEN_CLOSED: &[BatchStep] = &[
 #[test]
 fn closed_node_drops(rt: HostRuntime) {
     let node = node_with_queued(&rt, rt.alloc(), 2);
-    expect_batches(&rt, node, DROPPED_WHEN_CLOSED);
+    expect_batch_row(&rt, node, DROPPED_WHEN_CLOSED);
 }
 
 const ONE_AT_A_TIME: &[BatchStep] = &[
@@ -64,7 +64,7 @@ const ONE_AT_A_TIME: &[BatchStep] = &[
 #[test]
 fn one_batch_at_a_time(rt: HostRuntime) {
     let node = node_with_queued(&rt, rt.alloc(), 1);
-    expect_batches(&rt, node, ONE_AT_A_TIME);
+    expect_batch_row(&rt, node, ONE_AT_A_TIME);
 }
 
 const ABANDONED: &[BatchStep] = &[
@@ -81,7 +81,7 @@ const ABANDONED: &[BatchStep] = &[
 #[test]
 fn abandoned_after_its_split(rt: HostRuntime) {
     let node = node_with_queued(&rt, rt.alloc(), 1);
-    expect_batches(&rt, node, ABANDONED);
+    expect_batch_row(&rt, node, ABANDONED);
 }
 
 // Each of two callers takes a page and puts it back, the second one first.
@@ -105,6 +105,7 @@ fn batches_of_two_callers(rt: HostRuntime) {
     let mut node = node_with_queued(&rt, rt.alloc(), 3);
     expect_batches_of_two(&rt, &mut node);
     expect_abandoned(&rt, &mut node);
+    drop(node);
 }
 
 const FREED_AROUND: &[BatchStep] = &[
@@ -129,7 +130,7 @@ const FREED_AROUND: &[BatchStep] = &[
 #[test]
 fn freed_around_a_batch(rt: HostRuntime) {
     let node = node_with_queued(&rt, rt.alloc(), 3);
-    expect_batches(&rt, node, FREED_AROUND);
+    expect_batch_row(&rt, node, FREED_AROUND);
 }
 
 fn block_of(node: &Node, page: PageId) -> Option<u32> {
@@ -154,5 +155,7 @@ fn expect_block_of_the_other(rt: &impl Abort, node: &mut Node) {
 // The queue is in the table's links, by the blocks of its pages.
 #[test]
 fn queue_stands_in_the_table(rt: HostRuntime) {
-    expect_block_of_the_other(&rt, &mut node_with_queued(&rt, rt.alloc(), 2));
+    let mut node = node_with_queued(&rt, rt.alloc(), 2);
+    expect_block_of_the_other(&rt, &mut node);
+    drop(node);
 }

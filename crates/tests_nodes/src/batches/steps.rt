@@ -226,7 +226,12 @@ fn made(
     }
 }
 
-// Makes the steps of a row on a node, one after the other, and returns the node.
+// Makes the steps of a row on a node, one after the other.
+pub(crate) fn expect_batch_row(rt: &impl Abort, node: Node, steps: &[BatchStep]) {
+    drop(expect_batches(rt, node, steps));
+}
+
+// The same, and returns the node.
 pub(crate) fn expect_batches(rt: &impl Abort, node: Node, steps: &[BatchStep]) -> Node {
     let mut node = node;
     let mut batch = None;

@@ -211,5 +211,7 @@ fn is_largest(node: &mut Node) -> bool {
 #[test]
 fn limits_and_constructors(rt: HostRuntime) {
     assert!(rt; first_good(rt.alloc(), BAD_SHAPES) == None);
-    assert!(rt; is_largest(&mut node_of(&rt, rt.alloc(), 4096)));
+    let mut node = node_of(&rt, rt.alloc(), 4096);
+    assert!(rt; is_largest(&mut node));
+    drop(node);
 }

@@ -78,6 +78,7 @@ fn expect_steps(rt: &impl Abort, node: &mut Node, steps: &[Step]) {
 pub(crate) fn expect_row(rt: &impl Abort, alloc: Global, start: Start, steps: &[Step]) {
     let mut node = node_at(rt, alloc, start);
     expect_steps(rt, &mut node, steps);
+    drop(node);
 }
 
 // The same, and then the events since the journal had `from` events are these of caller 0.
@@ -91,6 +92,7 @@ pub(crate) fn expect_events(
 ) {
     let mut node = node_at(rt, alloc, start);
     expect_recorded(rt, &mut node, steps, from, kinds);
+    drop(node);
 }
 
 fn expect_recorded(rt: &impl Abort, node: &mut Node, steps: &[Step], from: usize, kinds: &[Kind]) {
