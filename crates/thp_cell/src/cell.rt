@@ -85,6 +85,7 @@ impl<R: Recorder> NodeCell<R> {
         ensures parts { IfOk result (λ r. (c : ℕ) → part r.1 c ≡ events_of c node.journal) }
     {
         if callers == 0 || callers > MAX_CALLERS {
+            drop(node);
             return Err(NewFault::BadSize);
         }
         let word = 2 * u64::from(node.queue_len());
@@ -96,6 +97,7 @@ impl<R: Recorder> NodeCell<R> {
         node.laws();
         let _shape = node.shape();
         let Ok(mut slots) = Vec::with_capacity(alloc, 1) else {
+            drop(node);
             return Err(NewFault::OutOfMemory);
         };
         slots.push_reserved(node);

@@ -324,7 +324,7 @@ module _ (cs : List ℕ) (ls : List (List ℕ)) (links : List Link) (m : AreLink
 abbrev pub no_blocks : List ℕ
 no_blocks = []
 
-empty_at : (n k : ℕ) → list_at (replicate n no_blocks) k ≡ []
+pub empty_at : (n k : ℕ) → list_at (replicate n no_blocks) k ≡ []
 empty_at zero k = refl
 empty_at (suc n) zero = refl
 empty_at (suc n) (suc k) = empty_at n k

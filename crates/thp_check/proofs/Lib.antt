@@ -11,3 +11,4 @@ pub mod FreeMarks
 pub mod Showing
 pub mod Joined
 pub mod Fitting
+pub mod EmptyFlights

@@ -27,8 +27,10 @@ pub fn check(alloc: Global, shape: Shape, events: &[Event]) -> Result<(), CheckF
     };
     for (place, event) in events.iter().enumerate() {
         if let Err(_) = state.admit(event) {
+            drop(state);
             return Err(CheckFault::Illegal(place));
         }
     }
+    drop(state);
     Ok(())
 }

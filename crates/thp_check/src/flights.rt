@@ -38,7 +38,7 @@ impl Flights {
     {
         let mut lists = Vec::with_capacity(alloc, LISTS as usize)?;
         for _list in 0..LISTS {
-            lists.push(Queue::new())?;
+            lists.push_reserved(Queue::new());
         }
         Ok(Flights {
             callers: vec![in alloc; 0; blocks as usize]?,

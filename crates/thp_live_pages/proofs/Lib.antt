@@ -14,3 +14,5 @@ pub mod Walking
 pub mod Looking
 pub mod FreeWords
 pub mod Least
+pub mod Losing
+pub mod Emptying

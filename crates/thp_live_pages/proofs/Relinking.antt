@@ -130,6 +130,25 @@ links_then t u v b o slots first second k n none = grind (arith, get_or, get_or-
 pub taken : (o : Option Slot) → IsSome o → (x : Slot) × (o ≡ Some x)
 taken x h = grind arith
 
+-- a page changes in its place
+pub linked_paged : (t : Table) (q : List ℕ) (b : ℕ) (p : PageState) → IsLinked t q → IsSome (slot_at t b) → IsLinked (with_slot t b (paged (slot_at t b) p)) q
+linked_paged t q b p m h =
+    let w = taken _ h in
+    let was = listed_at t q b (Some w.0) m w.1 in
+    relinked t (with_slot t b (paged (slot_at t b) p)) q q b (Some (record w.0 { page = p })) m (ap (λ o. slice_set t.slots b (paged o p)) w.1) (slot_at-inside t b w.0 w.1) refl m.queue_stands (same_list q b)
+    (record { queued = was.queued; in_queue = was.in_queue })
+
+-- a block with a page is one of the table's links
+pub linked_inside : (t : Table) (q : List ℕ) (b : ℕ) → IsLinked t q → IsSome (slot_at t b) → b < length t.links
+linked_inside t q b m h = let w = taken _ h in subst (λ n. b < n) m.sizes (slot_at-inside t b w.0 w.1)
+
+-- the same facts of the table, from those of the store as seen from outside
+pub seen_taken : (n : PageStoreState) (t : Table) (q : List ℕ) (b : ℕ) → record { table = t; queue = q } ≡ n → IsSome (slot_at n.table b) → IsSome (slot_at t b)
+seen_taken n t q b e = subst (λ (z : PageStoreState). IsSome (slot_at z.table b)) (sym e)
+
+pub seen_inside : (n : PageStoreState) (t : Table) (q : List ℕ) (b : ℕ) → record { table = t; queue = q } ≡ n → IsLinked t q → IsSome (slot_at n.table b) → b < length t.links
+seen_inside n t q b e m h = linked_inside t q b m (seen_taken n t q b e h)
+
 -- a write over a write
 pub set_twice : (xs : List (Option Slot)) (b : ℕ) (x y : Option Slot) → slice_set (slice_set xs b x) b y ≡ slice_set xs b y
 set_twice [] b x y = refl

@@ -361,7 +361,7 @@ fn blocks_of(table: &mut PageTable, queue: &Queue, alloc: Global) -> Result<Vec<
         return Ok(blocks);
     };
     for _place in 0..queue.len() {
-        blocks.push(block)?;
+        blocks.push_reserved(block);
         block = table.link(block).next;
     }
     Ok(blocks)

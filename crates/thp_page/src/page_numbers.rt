@@ -39,7 +39,7 @@ impl PageNumbers {
     {
         let mut numbers = Vec::with_capacity(alloc, blocks as usize)?;
         for _block in 0..blocks {
-            numbers.push(None)?;
+            numbers.push_reserved(None);
         }
         Ok(PageNumbers {
             numbers,

@@ -73,14 +73,14 @@ impl PageTable {
     {
         let mut descriptors = Vec::with_capacity(alloc, blocks as usize)?;
         for _block in 0..blocks {
-            descriptors.push(Descriptor {
+            descriptors.push_reserved(Descriptor {
                 link: Link {
                     prev: NIL,
                     next: NIL,
                 },
                 standing: Standing::Nowhere,
                 page: Page::fresh(order),
-            })?;
+            });
         }
         Ok(PageTable {
             order,

@@ -147,7 +147,7 @@ fn pages_of(places: &PageStore, alloc: Global, blocks: &[u32]) -> Result<Vec<Pag
 {
     let mut pages = Vec::with_capacity(alloc, blocks.len())?;
     for block in blocks {
-        pages.push(places.number(*block))?;
+        pages.push_reserved(places.number(*block));
     }
     Ok(pages)
 }

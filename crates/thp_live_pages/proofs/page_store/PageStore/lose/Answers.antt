@@ -1,4 +1,4 @@
-use Rattle.std.proofs.Common.{◌≡◌, ℕ, ◌≤◌, Bool, List, Option, Some, IfSome, refl, ap, ◌∙◌, subst, arith, slice_set}
+use Rattle.std.proofs.Common.{◌≡◌, ℕ, ◌≤◌, Bool, List, Option, Some, IfSome, refl, ap, sym, ◌∙◌, subst, arith, slice_set}
 use Rattle.thp_history.specs.declared.events.Outcome.{Outcome}
 use Rattle.thp_history.specs.declared.events.Outcome.TheVariants as outcome
 use Rattle.thp_history.specs.declared.page_call.Loss.{Loss}
@@ -9,7 +9,8 @@ use Rattle.thp_page.specs.Prelude.{slot_at, with_slot, paged, page_in, IsChange}
 use Rattle.thp_live_pages.specs.Outcomes.{outcome_by, released_after}
 use Rattle.thp_live_pages.specs.Prelude.{AtSlot, PageStoreState, Edits, Lost, slot_after, queue_after, left_by, is_nowhere}
 use Rattle.thp_live_pages.proofs.PageUses.{outcome_is_by, released_is_by}
-use Rattle.thp_live_pages.proofs.Relinking.{edited_slot, edits_as, edits_then, edits_none, edits_settled, if_at}
+use Rattle.thp_live_pages.proofs.Losing.{left_outside, left_taken, paged_taken, queued_outside}
+use Rattle.thp_live_pages.proofs.Relinking.{linked_paged, seen_inside, seen_taken, edited_slot, edits_as, edits_then, edits_none, edits_settled, if_at}
 use Rattle.thp_live_pages.proofs.page_store.PageStore.lose.Goals as goal
 
 -- the store after a loss of a page, before its outcome is carried out
@@ -59,3 +60,41 @@ returns-in-Freed-clause-lost c =
     lost c.args.loss c.args.closed _ _ _ c.args.block _ _ c.lose.new.change c.standing-standing.result c.outcome_of-done.result outcome.Freed c.give_back.new.released _ 6 c.self.view_is c.in-Some.ensures.value c.standing-standing.ensures c.in_ok-lose.ensures.counts c.in_ok-lose.ensures.change
     c.outcome_of-done.ensures c.give_back.ensures c.in-Freed.is c.batch_of-left.ensures
     (λ y at. edits_as _ _ _ _ _ _ 6 6 c.leave_queue.ensures.edits.queue_is (omega arith) (edits_then _ _ _ _ _ _ _ _ 6 0 c.leave_queue.ensures.edits c.vacate.ensures)) (omega arith)
+
+pub enqueue-requires-clause-occupied : goal.enqueue-requires-clause-occupied
+enqueue-requires-clause-occupied c = paged_taken c.self.inside.table c.args.block _ (seen_taken _ _ _ c.args.block c.self.view_is c.requires.occupied)
+
+pub enqueue-requires-clause-outside : goal.enqueue-requires-clause-outside
+enqueue-requires-clause-outside c =
+    queued_outside c.self.inside.table c.args.block _ c.lose.new.change c.args.closed c.standing-standing.result (seen_taken _ _ _ c.args.block c.self.view_is c.requires.occupied) c.standing-standing.ensures
+    (sym c.outcome_of-done.ensures ∙ c.in-Queued.is)
+
+pub leave_queue-requires : goal.leave_queue-requires
+leave_queue-requires c = paged_taken c.self.inside.table c.args.block _ (seen_taken _ _ _ c.args.block c.self.view_is c.requires.occupied)
+
+pub vacate-requires-clause-occupied : goal.vacate-requires-clause-occupied
+vacate-requires-clause-occupied c = left_taken _ _ c.args.block (paged_taken c.self.inside.table c.args.block _ (seen_taken _ _ _ c.args.block c.self.view_is c.requires.occupied)) c.leave_queue.ensures
+
+pub vacate-requires-clause-outside : goal.vacate-requires-clause-outside
+vacate-requires-clause-outside c = left_outside _ _ c.args.block (paged_taken c.self.inside.table c.args.block _ (seen_taken _ _ _ c.args.block c.self.view_is c.requires.occupied)) c.leave_queue.ensures
+
+pub invariant_of-self : goal.invariant_of-self
+invariant_of-self c = linked_paged c.self.inside.table c.self.inside.queue c.args.block c.lose.new.self c.self.invariant (seen_taken _ _ _ c.args.block c.self.view_is c.requires.occupied)
+
+pub invariant_of-self-in-Stays : goal.invariant_of-self-in-Stays
+invariant_of-self-in-Stays c = linked_paged c.self.inside.table c.self.inside.queue c.args.block c.lose.new.self c.self.invariant (seen_taken _ _ _ c.args.block c.self.view_is c.requires.occupied)
+
+pub invariant_of-self-in-Queued : goal.invariant_of-self-in-Queued
+invariant_of-self-in-Queued c = linked_paged c.self.inside.table c.self.inside.queue c.args.block c.lose.new.self c.self.invariant (seen_taken _ _ _ c.args.block c.self.view_is c.requires.occupied)
+
+pub invariant_of-self-in-Freed : goal.invariant_of-self-in-Freed
+invariant_of-self-in-Freed c = linked_paged c.self.inside.table c.self.inside.queue c.args.block c.lose.new.self c.self.invariant (seen_taken _ _ _ c.args.block c.self.view_is c.requires.occupied)
+
+pub standing-standing-requires-clause-inside : goal.standing-standing-requires-clause-inside
+standing-standing-requires-clause-inside c = seen_inside _ _ _ c.args.block c.self.view_is c.self.invariant c.requires.occupied
+
+pub standing-standing-requires-clause-occupied : goal.standing-standing-requires-clause-occupied
+standing-standing-requires-clause-occupied c = seen_taken _ _ _ c.args.block c.self.view_is c.requires.occupied
+
+pub page_mut-requires : goal.page_mut-requires
+page_mut-requires c = record { inside = seen_inside _ _ _ c.args.block c.self.view_is c.self.invariant c.requires.occupied }

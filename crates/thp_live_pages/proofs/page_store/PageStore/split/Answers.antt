@@ -1,10 +1,21 @@
-use Rattle.std.proofs.Common.{◌≡◌, Some, ap, ◌∙◌, subst, arith, slice_set}
+use Rattle.std.proofs.Common.{◌≡◌, ◌<◌, Some, length, sym, ap, ◌∙◌, subst, arith, slice_set}
 use Rattle.thp_history.specs.Prelude.{PageState, PageSplit, gives_frames}
 use Rattle.thp_page.specs.Prelude.{slot_at, Table}
+use Rattle.thp_page.proofs.TableSlots.{slot_at-inside}
 use Rattle.thp_page.specs.declared.standing.Standing.TheVariants.{Nowhere}
 use Rattle.thp_live_pages.specs.Prelude.{PageStoreState}
-use Rattle.thp_live_pages.proofs.Relinking.{links_same, links_seen, page_there, stood_paged, stood_slot, taken}
+use Rattle.thp_live_pages.proofs.Relinking.{linked_outside, links_same, links_seen, page_there, seen_inside, seen_taken, stood_paged, stood_slot, taken}
 use Rattle.thp_live_pages.proofs.page_store.PageStore.split.Goals as goal
+
+pub set_standing-requires-clause-inside : goal.set_standing-requires-clause-inside
+set_standing-requires-clause-inside c = seen_inside _ _ _ c.args.block c.self.view_is c.self.invariant c.requires.occupied
+
+pub set_standing-requires-clause-occupied : goal.set_standing-requires-clause-occupied
+set_standing-requires-clause-occupied c = seen_taken _ _ _ c.args.block c.self.view_is c.requires.occupied
+
+pub page_mut-requires : goal.page_mut-requires
+page_mut-requires c =
+    record { inside = subst (λ (u : Table). c.args.block < length u.links) (sym c.set_standing.ensures) (seen_inside _ _ _ c.args.block c.self.view_is c.self.invariant c.requires.occupied) }
 
 pub split-requires-clause-whole : goal.split-requires-clause-whole
 split-requires-clause-whole c =
@@ -43,3 +54,12 @@ returns c = λ x e.
         work = omega (arith, ap (λ (u : Table). u.accesses) c.set_standing.ensures, ap (λ (n : PageStoreState). n.table.accesses) c.self.view_is);
       },
     )
+
+pub invariant_of-self : goal.invariant_of-self
+invariant_of-self c =
+    let t = c.self.inside.table in
+    let b = c.args.block in
+    let w = taken _ c.requires.occupied in
+    let at : slot_at t b ≡ Some w.0 = ap (λ (n : PageStoreState). slot_at n.table b) c.self.view_is ∙ w.1 in
+    linked_outside t _ c.self.inside.queue b (Some w.0) (Some (record w.0 { page = c.split.new.self; standing = Nowhere })) c.self.invariant at (slot_at-inside t b w.0 at)
+    (c.requires.allowed w.0 w.1).2 (λ e. cc) (stood_paged t c.set_standing.new.self b w.0 Nowhere c.split.new.self at c.set_standing.ensures) (ap (λ (u : Table). u.links) c.set_standing.ensures)

@@ -7,7 +7,7 @@ pub invariant_of-result : goal.invariant_of-result
 invariant_of-result c =
     let blocks = c.args.blocks in
     let end : c.loop-block._block ≡ blocks = omega arith in
-    let none : c.loop-block.numbers.items ≡ replicate blocks None = c.loop-block.invariant ∙ ap (λ n. replicate {A = Option ℕ} n None) end in
+    let none : c.loop-block.numbers.items ≡ replicate blocks None = c.loop-block.invariant.none ∙ ap (λ n. replicate {A = Option ℕ} n None) end in
     let size : length c.loop-block.numbers.items ≡ blocks = ap (λ (ns : List (Option ℕ)). length ns) none ∙ length-replicate blocks None in
     new_searchable blocks c.loop-block.numbers.items c.in_ok-vec.field-0.items c.in_ok-vec-2.field-0.items (omega arith) none size
     (omega (arith, c.in_ok-vec.ensures.len)) (c.in_ok-vec-2.ensures.items_if_clones_equal (λ y h. h)) (omega (arith, c.in_ok-vec-2.ensures.len))
@@ -15,4 +15,4 @@ invariant_of-result c =
 pub returns : goal.returns
 returns c =
     let end : c.loop-block._block ≡ c.args.blocks = omega arith in
-    c.loop-block.invariant ∙ ap (λ n. replicate {A = Option ℕ} n None) end
+    c.loop-block.invariant.none ∙ ap (λ n. replicate {A = Option ℕ} n None) end

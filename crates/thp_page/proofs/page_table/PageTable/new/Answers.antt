@@ -6,5 +6,5 @@ use Rattle.thp_page.proofs.page_table.PageTable.new.Goals as goal
 pub returns-clause-empty : goal.returns-clause-empty
 returns-clause-empty c =
     let end : c.loop-block._block ≡ c.args.blocks = omega arith in
-    let all : c.loop-block.descriptors.items ≡ replicate c.args.blocks (blank_descriptor c.args.order) = c.loop-block.invariant ∙ ap (λ n. replicate n (blank_descriptor c.args.order)) end in
+    let all : c.loop-block.descriptors.items ≡ replicate c.args.blocks (blank_descriptor c.args.order) = c.loop-block.invariant.blank ∙ ap (λ n. replicate n (blank_descriptor c.args.order)) end in
     ap₂ slots_of c.in_ok-new.ensures all ∙ slots_of-blank c.args.blocks (blank_descriptor c.args.order)
