@@ -1,12 +1,12 @@
 //! Parses events from the words of a line.
 ghost use Rattle.std.specs.Prelude.{◌≡◌, ◌≤◌, Ok, Err, IfOk, MatchResult, IfSome};
-ghost use Rattle.thp_script.specs.Prelude.{number_up_to, one_word};
+ghost use Rattle.thp_script.specs.Prelude.{number_up_to};
 ghost use Rattle.thp_journal_reader.specs.Prelude.{caller_number, common_word, event_of, event_word, later_word, loss_event, outcome_and_word, outcome_of, page_number, page_what, range_event, range_number, range_what, split_event, unmap_event, FastWord};
 
 use crate::set_text::set_of_text;
 use thp_history::{Done, Event, Loss, MAX_CALLERS, Outcome, PageId, What};
 use thp_journal_writer::Version;
-use thp_script::{TextKind, Words, after_name, number};
+use thp_script::{TextKind, Words, after_name, number, one_word};
 
 /// Parses a number of at most `most`.
 pub(crate) fn small_number(most: u32, word: &[u8]) -> Result<u32, TextKind>
@@ -15,16 +15,6 @@ pub(crate) fn small_number(most: u32, word: &[u8]) -> Result<u32, TextKind>
 {
     let value = number(u64::from(most), word).ok_or(TextKind::BadNumber)?;
     Ok(value as u32)
-}
-
-/// Returns the only word of these.
-pub(crate) fn one_word<'a>(mut words: Words<'a>) -> Result<&'a [u8], TextKind>
-    ensures { MatchResult result (λ word. one_word words.entry ≡ Ok word.now) (λ kind. one_word words.entry ≡ Err kind) }
-{
-    match (words.next(), words.next()) {
-        (Some(word), None) => Ok(word),
-        _ => Err(TextKind::BadCount),
-    }
 }
 
 fn caller_number(word: &[u8]) -> Result<u32, TextKind>

@@ -3,10 +3,10 @@ ghost use Rattle.std.specs.Prelude.{◌≡◌, ◌≤◌, ◌<◌, ◌^◌, Ok, 
 ghost use Rattle.thp_history.specs.Prelude.{max_order, min_order};
 ghost use Rattle.thp_journal_reader.specs.Prelude.{before, by_words, line_in, line_of, may_stand, node_of, node_with, number_between, place_after, threshold_of, version_at, version_of, IsInRange};
 
-use crate::event_line::{event_of, one_word, small_number};
+use crate::event_line::{event_of, small_number};
 use thp_history::{Event, Shape};
 use thp_journal_writer::Version;
-use thp_script::{MAX_NODES, TextKind, Words, fault_of_line};
+use thp_script::{MAX_NODES, TextKind, Words, fault_of_line, one_word};
 
 /// The content of a line of a journal.
 #[derive(Clone, Copy)]

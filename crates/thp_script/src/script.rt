@@ -1,6 +1,6 @@
 //! Scripts as values, and the words of their commands.
-ghost use Rattle.std.specs.Prelude.{◌≡◌, IfSome};
-ghost use Rattle.thp_script.specs.Prelude.{FastCommand, IsName, Names, batch_op, operand, page_call_of, page_op, range_op, reading_of};
+ghost use Rattle.std.specs.Prelude.{◌≡◌, Err, IfErr, IfOk, IfSome, List, map};
+ghost use Rattle.thp_script.specs.Prelude.{FastCommand, IsName, Names, Settings, Text, batch_op, command_in, operand, page_call_of, page_op, range_op, reading_of};
 
 use crate::fast_parsing::parse_operands_fast;
 use crate::fast_words::after_name;
@@ -178,30 +178,54 @@ pub(crate) enum CommandWord {
     OfBatch(BatchCall),
 }
 
+/// The commands, each by its word.
+const COMMANDS: [(&[u8], CommandWord); 16] = [
+    (b"alloc", CommandWord::OfNode(Op::Alloc)),
+    (
+        b"mapwhole",
+        CommandWord::OfPage(PageCall::Gain(Gain::MapWhole)),
+    ),
+    (
+        b"unmapwhole",
+        CommandWord::OfPage(PageCall::Loss(Loss::UnmapWhole)),
+    ),
+    (b"map", CommandWord::OfRange(RangeCall::Map)),
+    (b"unmap", CommandWord::OfRange(RangeCall::Unmap)),
+    (
+        b"splitpmd",
+        CommandWord::OfPage(PageCall::Gain(Gain::SplitPmd)),
+    ),
+    (b"pin", CommandWord::OfPage(PageCall::Gain(Gain::Pin))),
+    (b"unpin", CommandWord::OfPage(PageCall::Loss(Loss::Unpin))),
+    (b"write", CommandWord::OfRange(RangeCall::Write)),
+    (b"zero", CommandWord::OfRange(RangeCall::Zero)),
+    (b"close", CommandWord::OfNode(Op::Close)),
+    (b"scan", CommandWord::OfBatch(BatchCall::Scan)),
+    (b"count", CommandWord::OfNode(Op::Count)),
+    (b"take", CommandWord::OfBatch(BatchCall::Take)),
+    (b"splitnext", CommandWord::OfNode(Op::SplitNext)),
+    (b"putback", CommandWord::OfNode(Op::PutBack)),
+];
+
 /// Returns the command that a word names.
 #[tactic(auto, unfolding(crate::specs::Commands::command_of))]
 pub(crate) fn command_word(name: &[u8]) -> Result<CommandWord, TextKind>
     ensures { Names name.now result }
 {
-    match name {
-        b"alloc" => Ok(CommandWord::OfNode(Op::Alloc)),
-        b"mapwhole" => Ok(CommandWord::OfPage(PageCall::Gain(Gain::MapWhole))),
-        b"unmapwhole" => Ok(CommandWord::OfPage(PageCall::Loss(Loss::UnmapWhole))),
-        b"map" => Ok(CommandWord::OfRange(RangeCall::Map)),
-        b"unmap" => Ok(CommandWord::OfRange(RangeCall::Unmap)),
-        b"splitpmd" => Ok(CommandWord::OfPage(PageCall::Gain(Gain::SplitPmd))),
-        b"pin" => Ok(CommandWord::OfPage(PageCall::Gain(Gain::Pin))),
-        b"unpin" => Ok(CommandWord::OfPage(PageCall::Loss(Loss::Unpin))),
-        b"write" => Ok(CommandWord::OfRange(RangeCall::Write)),
-        b"zero" => Ok(CommandWord::OfRange(RangeCall::Zero)),
-        b"close" => Ok(CommandWord::OfNode(Op::Close)),
-        b"scan" => Ok(CommandWord::OfBatch(BatchCall::Scan)),
-        b"count" => Ok(CommandWord::OfNode(Op::Count)),
-        b"take" => Ok(CommandWord::OfBatch(BatchCall::Take)),
-        b"splitnext" => Ok(CommandWord::OfNode(Op::SplitNext)),
-        b"putback" => Ok(CommandWord::OfNode(Op::PutBack)),
-        _ => Err(TextKind::BadWord),
+    command_in(&COMMANDS, name)
+}
+
+/// Returns the command that a word names among these.
+fn command_in(commands: &[(&[u8], CommandWord)], name: &[u8]) -> Result<CommandWord, TextKind>
+    ensures named { IfOk result (λ word. (s : Settings) (words : List Text) → command_in (map (λ command. (command.0.now, reading_of command.1)) commands.now) s name.now words ≡ reading_of word s words) }
+    ensures unknown { IfErr result (λ kind. (s : Settings) (words : List Text) → command_in (map (λ command. (command.0.now, reading_of command.1)) commands.now) s name.now words ≡ Err kind) }
+{
+    for (word, command) in commands {
+        if name == *word {
+            return Ok(*command);
+        }
     }
+    Err(TextKind::BadWord)
 }
 
 /// Parses the line that a text begins with, if its command has this name.

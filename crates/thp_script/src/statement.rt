@@ -1,10 +1,10 @@
 //! The meaning of a line of a script.
 ghost use Rattle.std.specs.Prelude.{◌≡◌};
-ghost use Rattle.thp_script.specs.Statements.{by_words, may_stand, says_nothing, section_after, statement_in, statement_of, worker_of};
+ghost use Rattle.thp_script.specs.Statements.{by_words, may_stand, says_nothing, section_after, setup_of, statement_in, statement_of, worker_of};
 
 use crate::fault::TextKind;
 use crate::lines::{fault_of_line, is_printable};
-use crate::operands::{command_of, number_up_to};
+use crate::operands::{command_of, number_up_to, one_word};
 use crate::script::Command;
 use crate::settings::Settings;
 use crate::words::Words;
@@ -22,15 +22,22 @@ pub(crate) enum Statement {
 
 /// Parses the section line of a worker: `worker K`, with K from 1 to the number of workers.
 #[tactic(auto, unfolding(crate::specs::Statements::worker_of))]
-fn worker_of(settings: &Settings, mut words: Words) -> Result<Statement, TextKind>
+fn worker_of(settings: &Settings, words: Words) -> Result<Statement, TextKind>
     ensures { result ≡ worker_of settings.now words.entry }
 {
-    let (Some(word), None) = (words.next(), words.next()) else {
-        return Err(TextKind::BadCount);
-    };
-    match number_up_to(u64::from(settings.workers), word)? {
+    match number_up_to(u64::from(settings.workers), one_word(words)?)? {
         0 => Err(TextKind::BadNumber),
         worker => Ok(Statement::Section(worker as u32)),
+    }
+}
+
+/// Parses the section line `setup`.
+fn setup_of(mut words: Words) -> Result<Statement, TextKind>
+    ensures { result ≡ setup_of words.entry }
+{
+    match words.next() {
+        None => Ok(Statement::Section(0)),
+        Some(_) => Err(TextKind::BadCount),
     }
 }
 
@@ -39,14 +46,14 @@ fn worker_of(settings: &Settings, mut words: Words) -> Result<Statement, TextKin
 fn by_words(settings: &Settings, mut words: Words) -> Result<Statement, TextKind>
     ensures { result ≡ by_words settings.now words.entry }
 {
-    match words.next().ok_or(TextKind::BadWord)? {
-        b"setup" => match words.next() {
-            None => Ok(Statement::Section(0)),
-            Some(_) => Err(TextKind::BadCount),
-        },
-        b"worker" => worker_of(settings, words),
-        name => Ok(Statement::Call(command_of(settings, name, words)?)),
+    let name = words.next().ok_or(TextKind::BadWord)?;
+    if name == b"setup".as_slice() {
+        return setup_of(words);
     }
+    if name == b"worker".as_slice() {
+        return worker_of(settings, words);
+    }
+    Ok(Statement::Call(command_of(settings, name, words)?))
 }
 
 fn says_nothing(line: &[u8]) -> bool
