@@ -155,7 +155,7 @@ def options_are_told(path: str, options: str = "crates/thp_cli/src/options.rt") 
     """A file contains each option of a command line, and no other; for a manual page, its section of options. In fish's form an
     option is `-l NAME`."""
     source = (ROOT / options).read_text()
-    wanted = set(re.findall(r'(?:\.long\(|flag\(\s*alloc,\s*)"([a-z]+)"', source)) | {"help", "version"}
+    wanted = set(re.findall(r'(?:\.long\(|(?:flag|valued|number)\(\s*alloc,\s*)"([a-z]+)"', source)) | {"help", "version"}
     text = (ROOT / path).read_text().replace("\\-", "-").split(".SH OPTIONS")[-1].split(".SH ")[0]
     told = set(re.findall(r"--([a-z]+)", text)) | set(re.findall(r" -l ([a-z]+)", text))
     if told == wanted:

@@ -1,6 +1,6 @@
 -- Re-exports the definitions and types of this library: other files import those that they cite from here, in one line.
 pub use Rattle.thp_cli.specs.Calls.{EndsReading, Follow, IsTaken, ReadsOn, WritesAll, WritesOn, is_answered, read_giving, read_room, writes_of}
-pub use Rattle.thp_cli.specs.CommandLine.{FailsAsWords, HoldsWords, IsLineWithinLimits, bare, blocks_rule, check_rule, nodes_rule, orders_rule, own_rules, report_name, report_names, report_rule, underused_rule, with_rules, workers_rule}
+pub use Rattle.thp_cli.specs.CommandLine.{FailsAsWords, HoldsWords, IsLineWithinLimits, bare, blocks_rule, check_rule, nodes_rule, number_rule, orders_rule, own_rules, report_name, report_names, report_rule, underused_rule, with_rules, workers_rule}
 pub use Rattle.thp_cli.specs.Devices.{WritesFront}
 pub use Rattle.thp_cli.specs.Flags.{IsOption, ReportsFlag, ReportsNumber, WritesNumber, bare_app, flag_rule, valued_rule}
 pub use Rattle.thp_cli.specs.Options.{HasValue}

@@ -1,5 +1,5 @@
-//! Flags of a command line.
-ghost use Rattle.thp_cli.specs.Flags.{flag_rule, IsOption};
+//! Options of a command line, by their kind.
+ghost use Rattle.thp_cli.specs.Flags.{flag_rule, valued_rule, IsOption};
 
 use clap::{Arg, ArgAction};
 use std::alloc::Global;
@@ -12,4 +12,20 @@ pub fn flag<'a>(alloc: Global, name: &'a str, help: &'a str) -> Arg<'a>
         .long(name)
         .help(help)
         .action(ArgAction::SetTrue)
+}
+
+/// Returns the option `--NAME VALUE`, with the name of its value and its text in `--help`.
+pub(crate) fn valued<'a>(
+    alloc: Global,
+    name: &'a str,
+    value_name: &'a str,
+    help: &'a str,
+) -> Arg<'a>
+    ensures { IsOption result (valued_rule name.entry.now) }
+{
+    Arg::new(alloc, name)
+        .long(name)
+        .value_name(value_name)
+        .help(help)
+        .action(ArgAction::Set)
 }

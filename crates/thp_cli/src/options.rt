@@ -1,61 +1,58 @@
 //! The options of the command line.
 ghost use Rattle.std.specs.Prelude.{◌≡◌, ◌∷◌, [], IfOk, map, codes};
-ghost use Rattle.thp_cli.specs.Prelude.{IsOption, IsOwnCommand, blocks_rule, check_rule, nodes_rule, orders_rule, report_names, report_rule, underused_rule, workers_rule};
+ghost use Rattle.thp_cli.specs.Prelude.{IsOption, IsOwnCommand, blocks_rule, check_rule, nodes_rule, number_rule, orders_rule, report_names, report_rule, underused_rule, workers_rule};
 
-use crate::flags::flag;
+use crate::flags::{flag, valued};
 use crate::help::AFTER_HELP;
 use crate::version::VERSION;
-use clap::{Arg, ArgAction, Command, value_parser};
+use clap::{Arg, Command, value_parser};
 use std::alloc::{AllocError, Global};
 use thp_history::Shape;
 use thp_script::{MAX_NODES, MAX_WORKERS};
 
 static REPORTS: [&str; 3] = ["totals", "journal", "answers"];
 
+// The option `--NAME NUMBER`: a whole number from 1 to the highest.
+fn number<'a>(
+    alloc: Global,
+    name: &'a str,
+    value_name: &'a str,
+    help: &'a str,
+    highest: u32,
+    default: &'a str,
+) -> Arg<'a>
+    ensures { IsOption result (number_rule name.entry.now highest default.entry.now) }
+{
+    valued(alloc, name, value_name, help)
+        .value_parser(value_parser!(u32).range(1..=i64::from(highest)))
+        .default_value(default)
+}
+
 fn nodes_option<'a>(alloc: Global) -> Arg<'a>
     ensures { IsOption result nodes_rule }
 {
-    Arg::new(alloc, "nodes")
-        .long("nodes")
-        .value_name("NODES")
-        .help("Memory nodes, 1 to 8")
-        .action(ArgAction::Set)
-        .value_parser(value_parser!(u32).range(1..=MAX_NODES as i64))
-        .default_value("1")
+    let help = "Memory nodes, 1 to 8";
+    number(alloc, "nodes", "NODES", help, MAX_NODES as u32, "1")
 }
 
 fn blocks_option<'a>(alloc: Global) -> Arg<'a>
     ensures { IsOption result blocks_rule }
 {
-    Arg::new(alloc, "blocks")
-        .long("blocks")
-        .value_name("BLOCKS")
-        .help("Blocks of each node, 1 to 4096")
-        .action(ArgAction::Set)
-        .value_parser(value_parser!(u32).range(1..=i64::from(Shape::MAX_BLOCKS)))
-        .default_value("16")
+    let help = "Blocks of each node, 1 to 4096";
+    number(alloc, "blocks", "BLOCKS", help, Shape::MAX_BLOCKS, "16")
 }
 
 fn workers_option<'a>(alloc: Global) -> Arg<'a>
     ensures { IsOption result workers_rule }
 {
-    Arg::new(alloc, "workers")
-        .long("workers")
-        .value_name("WORKERS")
-        .help("Workers that a script may name, 1 to 63")
-        .action(ArgAction::Set)
-        .value_parser(value_parser!(u32).range(1..=i64::from(MAX_WORKERS)))
-        .default_value("1")
+    let help = "Workers that a script may name, 1 to 63";
+    number(alloc, "workers", "WORKERS", help, MAX_WORKERS, "1")
 }
 
 fn report_option<'a>(alloc: Global) -> Arg<'a>
     ensures { (names : _) × (map (λ name. name.now) names.now ≡ report_names) × IsOption result (report_rule names) }
 {
-    Arg::new(alloc, "report")
-        .long("report")
-        .value_name("REPORT")
-        .help("What to write at the end")
-        .action(ArgAction::Set)
+    valued(alloc, "report", "REPORT", "What to write at the end")
         .value_parser(REPORTS.as_slice())
         .default_value("totals")
 }
@@ -63,23 +60,23 @@ fn report_option<'a>(alloc: Global) -> Arg<'a>
 fn orders_option<'a>(alloc: Global) -> Arg<'a>
     ensures { IsOption result orders_rule }
 {
-    Arg::new(alloc, "orders")
-        .long("orders")
-        .value_name("ORDERS")
-        .help(
-            "Orders of the nodes' pages, 2 to 9 each, separated by commas; without this option 9 each",
-        )
-        .action(ArgAction::Set)
+    valued(
+        alloc,
+        "orders",
+        "ORDERS",
+        "Orders of the nodes' pages, 2 to 9 each, separated by commas; without this option 9 each",
+    )
 }
 
 fn underused_option<'a>(alloc: Global) -> Arg<'a>
     ensures { IsOption result underused_rule }
 {
-    Arg::new(alloc, "underused")
-        .long("underused")
-        .value_name("THRESHOLDS")
-        .help("Zero-filled subpages allowed in a page of each node, or 'off', separated by commas")
-        .action(ArgAction::Set)
+    valued(
+        alloc,
+        "underused",
+        "THRESHOLDS",
+        "Zero-filled subpages allowed in a page of each node, or 'off', separated by commas",
+    )
 }
 
 fn check_option<'a>(alloc: Global) -> Arg<'a>
@@ -96,15 +93,18 @@ fn check_option<'a>(alloc: Global) -> Arg<'a>
 pub(crate) fn command<'a>(alloc: Global) -> Result<Command<'a>, AllocError>
     ensures { IfOk result IsOwnCommand }
 {
+    let options = vec![in alloc;
+        nodes_option(alloc),
+        blocks_option(alloc),
+        workers_option(alloc),
+        report_option(alloc),
+        orders_option(alloc),
+        underused_option(alloc),
+        check_option(alloc),
+    ]?;
     Command::new(alloc, "thpsplit")
         .about("Runs a script on deferred split queues of huge pages, and reports the result")
         .version(VERSION)
         .after_help(AFTER_HELP)
-        .arg(nodes_option(alloc))?
-        .arg(blocks_option(alloc))?
-        .arg(workers_option(alloc))?
-        .arg(report_option(alloc))?
-        .arg(orders_option(alloc))?
-        .arg(underused_option(alloc))?
-        .arg(check_option(alloc))
+        .args(options)
 }
