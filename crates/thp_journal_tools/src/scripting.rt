@@ -64,6 +64,7 @@ fn write_parts<R: Read, W: Write>(
     let mut left = MAX_COUNTED;
     loop {
         let Some(count) = reader.read(&mut part) else {
+            drop(check);
             return Err(RunFault::Read);
         };
         if count == 0 {
@@ -91,7 +92,10 @@ fn write_part<W: Write>(
     ensures fault { IfErr result (λ fault. IsDeviceFault false writer.new.failed fault) }
 {
     let mut check = check.read_part(part)?;
-    write_all(writer, check.script()).ok_or(RunFault::Write)?;
+    let Some(()) = write_all(writer, check.script()) else {
+        drop(check);
+        return Err(RunFault::Write);
+    };
     check.clear_script();
     Ok(check)
 }

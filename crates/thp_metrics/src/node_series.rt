@@ -1,5 +1,5 @@
 //! The numbers of a node, event by event.
-ghost use Rattle.std.specs.Prelude.{◌≡◌, ◌≤◌, ◌<◌, ◌+◌, ◌^◌, [], length, IfOk, IfErr, Some};
+ghost use Rattle.std.specs.Prelude.{◌≡◌, ◌≤◌, ◌<◌, ◌+◌, ◌^◌, [], length, IfOk, IfErr, Some, replicate};
 ghost use Rattle.thp_history.specs.Prelude.{least_free, Fits, IsLegal, max_order, min_order};
 ghost use Rattle.thp_check.specs.Prelude.{Explains, with_event};
 ghost use Rattle.thp_metrics.specs.Prelude.{AreStuck, CountsBatches, numbers_at, pages_at, series, staged, stages_at, batch_of, home, stage_of};
@@ -64,8 +64,22 @@ impl NodeSeries {
         ensures none { IfOk result (λ n. n.history ≡ []) }
     {
         let replay = Replay::new(alloc, shape)?;
-        let waiting = Waiting::new(alloc, shape)?;
-        let batches = BatchCounts::new(alloc)?;
+        let (waiting, batches) = begin_counts(alloc, shape)?;
+        NodeSeries::begin(alloc, replay, waiting, batches)
+    }
+
+    // The node of a replay without events, with what waits and what is in batches after none.
+    fn begin(
+        alloc: Global,
+        replay: Replay,
+        waiting: Waiting,
+        batches: BatchCounts,
+    ) -> Result<NodeSeries, AllocError>
+        requires none { replay.history ≡ [] }
+        requires waiting { waiting ≡ replay }
+        requires batches { CountsBatches replay batches }
+        ensures { IfOk result (λ n. n ≡ replay) }
+    {
         let numbers = numbers_of(
             &replay,
             &waiting,
@@ -159,6 +173,17 @@ impl NodeSeries {
     {
         self.columns
     }
+}
+
+// The pages that wait and the pages in batches, of a node without events.
+fn begin_counts(alloc: Global, shape: Shape) -> Result<(Waiting, BatchCounts), AllocError>
+    ensures shape { IfOk result (λ counts. counts.0.shape ≡ shape) }
+    ensures none { IfOk result (λ counts. counts.0.history ≡ []) }
+    ensures batches { IfOk result (λ counts. counts.1 ≡ replicate 64 0) }
+{
+    let waiting = Waiting::new(alloc, shape)?;
+    let batches = BatchCounts::new(alloc)?;
+    Ok((waiting, batches))
 }
 
 // Sets the stage of a page, if it is one of the first pages allocated.

@@ -1,7 +1,8 @@
-use Rattle.std.proofs.Common.{◌≡◌, ◌∙◌, ◌+◌, ◌-◌, ◌*◌, ◌++◌, ◌∷◌, ℕ, List, ap, drop, min, sym}
+use Rattle.std.proofs.Common.{◌≡◌, ◌∙◌, ◌+◌, ◌-◌, ◌*◌, ◌++◌, ◌∷◌, ◌≤◌, ℕ, List, ap, arith, drop, length, min, refl, sym}
 use Rattle.thp_metrics.specs.declared.column.Column.{Column}
-use Rattle.thp_drawing.specs.Tables.{column_line, column_lines}
-use Rattle.thp_drawing.proofs.Walks.{piece_put, same_place}
+use Rattle.thp_drawing.specs.Tables.{column_line, column_lines, node_line, node_lines, stuck_lines}
+use Rattle.thp_drawing.proofs.Pieces.{three}
+use Rattle.thp_drawing.proofs.Walks.{all_walked, piece_put, same_place}
 use Rattle.thp_drawing.proofs.table.put_node.Goals as goal
 
 -- the lines of columns from column j on
@@ -19,3 +20,25 @@ loop-place-preserved c =
     let last = c.saturating_sub-last.ensures ∙ ap (λ (m : ℕ). m - 1) c.min.ensures in
     let cut = same_place _ _ c.loop-place.place _ c.deref-column-items.ensures.value c.loop-place-test.true in
     piece_put _ _ _ c.in_ok-put_column.ensures (lines_at _ _ _ _ _ _ _ c.from-width.ensures last cut) c.loop-place.invariant
+
+pub loop-place-init : goal.loop-place-init
+loop-place-init c =
+    let d = c.args.node.now in
+    ap (λ (x : List ℕ). x ++ column_lines c.args.number d.width d.prefixes 0 d.columns.items) c.in_ok-put_node_line.ensures
+
+pub loop-page-init : goal.loop-page-init
+loop-page-init c =
+    let d = c.args.node.now in
+    let j = c.loop-place.place in
+    let end : length d.columns.items ≤ j = omega (arith, c.loop-place-test.false, ap length c.deref-column-items.ensures.value) in
+    ap (λ (x : List ℕ). x ++ stuck_lines c.args.number d.stuck.items)
+    (all_walked (column_lines c.args.number d.width d.prefixes j) d.columns.items j _ end refl c.loop-place.invariant)
+
+pub returns : goal.returns
+unfolding node_lines
+returns c =
+    let d = c.args.node.now in
+    let i = c.loop-page.page-index in
+    let end : length d.stuck.items ≤ i = omega (arith, c.loop-page-test.false, ap length c.deref-page-items.ensures.value) in
+    all_walked (stuck_lines c.args.number) d.stuck.items i _ end refl c.loop-page.invariant
+    ∙ three c.args.text.now.items (node_line c.args.number d) (column_lines c.args.number d.width d.prefixes 0 d.columns.items) (stuck_lines c.args.number d.stuck.items)
