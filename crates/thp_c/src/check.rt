@@ -36,7 +36,10 @@ pub extern "C" fn thp_c_check_create(handle: &mut ThpCheck, alloc: Global) -> u3
 pub extern "C" fn thp_c_check_destroy(handle: &mut ThpCheck, alloc: Global) -> u32
     ensures { Reports result (Emptied (value_of handle.old.held) (value_of handle.new.held)) }
 {
-    code(handle.take(alloc).map(drop))
+    let (room, stage) = attempt!(handle.take(alloc));
+    drop(stage);
+    drop(room);
+    code(Ok(()))
 }
 
 /// Reads the next part of the text. If memory for that can't be allocated, the check is lost and the handle is empty.

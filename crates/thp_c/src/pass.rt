@@ -41,7 +41,10 @@ pub extern "C" fn thp_c_cell_create(
 pub extern "C" fn thp_c_pass_destroy(handle: &mut ThpPass, alloc: Global) -> u32
     ensures { Reports result (Emptied (value_of handle.old.held) (value_of handle.new.held)) }
 {
-    code(handle.take(alloc).map(drop))
+    let (room, pass) = attempt!(handle.take(alloc));
+    drop(pass);
+    drop(room);
+    code(Ok(()))
 }
 
 /// Divides the callers of a pass: those below `at` stay, and the other handle is filled with a pass of those from `at` on.

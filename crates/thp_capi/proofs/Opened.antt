@@ -1,17 +1,20 @@
 -- Passes and the open batches of their callers: what calls keep, and where a caller's batch is found.
-use Rattle.std.proofs.Common.{◌≡◌, ◌∙◌, ◌≢◌, ◌++◌, ◌+◌, ◌-◌, ◌<◌, ◌≤◌, ap, ℕ, Bool, true, false, length, refl, sym, subst, arith, length-append, length-drop, Option, Some, None, Ok, Err, set, get_or, take, drop, nat_le}
+use Rattle.std.proofs.Common.{Result, IsErrAnd, ◌≡◌, ◌∙◌, ◌≢◌, ◌++◌, ◌+◌, ◌-◌, ◌<◌, ◌≤◌, ap, ℕ, Bool, true, false, length, refl, sym, subst, arith, length-append, length-drop, Option, Some, None, Ok, Err, set, get_or, take, drop, nat_le}
 use Rattle.std.proofs.lemmas.Bool.Decides.{nat_tests}
 use Rattle.std.proofs.lemmas.List.{set-set, length-take, length-set, get_or-take, get_or-drop, get_or-set_same, get_or-set_other, get_or_append_left, get_or-append-add}
 use Rattle.atomic_table.specs.Seated.{TableId}
 use Rattle.thp_node.specs.Prelude.{BatchState, IsInFront, rest}
-use Rattle.thp_history.specs.Prelude.{put_back_events, split_next_events}
-use Rattle.thp_cell.specs.Prelude.{at_front, BatchesStay, OtherBatchesStay, Called, Failed, IsJoined, below, from, DidPutBack, DidTry, PassState, HasCaller}
+use Rattle.thp_history.specs.Prelude.{put_back_events, refusal, split_next_events, take as take_call, take_events}
+use Rattle.thp_cell.specs.Prelude.{at_front, BatchesStay, OtherBatchesStay, Called, Failed, IsJoined, below, from, DidPutBack, DidTake, DidTry, PassState, HasCaller}
 use Rattle.thp_history.specs.declared.refusal.Refusal.{Refusal}
 use Rattle.thp_cell.specs.declared.fault.CellFault.{CellFault}
+use Rattle.thp_cell.specs.declared.fault.CellFault.TheVariants as fault
 use Rattle.thp_capi.specs.Codes.{fault_in}
-use Rattle.thp_capi.specs.PassBatches.{PassNext, PassBack, PassFailsOnBatch}
+use Rattle.thp_capi.specs.PassBatches.{PassNext, PassBack, PassTake, PassFailsOnBatch, PassFailsTaking}
 use Rattle.thp_capi.specs.Replies.{tried_of}
-use Rattle.thp_capi.specs.Sharing.{IsShared, OnlyOf, batch_of}
+use Rattle.thp_capi.specs.declared.codes.Fault.{Fault}
+use Rattle.thp_capi.specs.declared.codes.Fault.TheVariants.{NoBatch}
+use Rattle.thp_capi.specs.Sharing.{IsPart, IsShared, OnlyFront, OnlyOf, SharedState, batch_of}
 use Rattle.thp_node.specs.declared.answers.BackReply.{BackReply}
 use Rattle.thp_capi.specs.declared.replies.ThpTried.{ThpTried}
 use Rattle.thp_capi.proofs.Places.{Batches, IsFor, each_set, for_none, for_some, same_again}
@@ -32,6 +35,12 @@ shared_failed t n m p q bs why k x shared fails = grind (arith, shared_stays)
 -- batches that stay in front do so whoever's they are
 pub others_stay : (p q : PassState) (c : ℕ) → BatchesStay p q → OtherBatchesStay c p q
 others_stay p q c stay b has other front = stay b has front
+
+-- only the front of the pass changed
+pub only_front : (mark : ℕ) (p q : PassState) (bs : Batches) → q ≡ at_front p q.front → OnlyFront (record { mark = mark; pass = p; batches = bs }) (record { mark = mark; pass = q; batches = bs })
+only_front mark p q bs same =
+    let state : PassState → SharedState = λ x. record { mark = mark; pass = x; batches = bs } in
+    ap state same
 
 -- ---- calls that change one
 
@@ -88,9 +97,45 @@ module _ (mark : ℕ) (p q : PassState) (bs new : Batches) (c place : ℕ) (same
       → PassNext c (record { mark = mark; pass = p; batches = bs }) (record { mark = mark; pass = q; batches = new }) (Ok t)
   next_done b b' t kind is own now caller pages did = (only_of (Some b') now, rw (held b is, here (Some b') now) (record { caller_is = caller; pages = pages; kind = kind; did = subst (λ d. Called p q d (DidTry p.shape b b' (tried_of t))) own did }), tt)
 
+  pub next_failed : (b b' : BatchState) (f : CellFault) → get_or bs place None ≡ Some b → b.caller ≡ c → new ≡ set bs place (Some b') → b' ≡ b → Failed p q None (length (split_next_events q.shape q.front b.caller (rest b))) f
+      → PassNext c (record { mark = mark; pass = p; batches = bs }) (record { mark = mark; pass = q; batches = new }) (Err (fault_in f))
+  next_failed b b' f is own now kept fails =
+      let stays : new ≡ bs = now ∙ ap (λ (x : BatchState). set bs place (Some x)) kept ∙ same_again bs place (Some b) is in
+      (only_of (Some b') now, tt, failed (λ x. length (split_next_events q.shape q.front c (rest x))) b f is stays (subst (λ d. Failed p q None (length (split_next_events q.shape q.front d (rest b))) f) own fails))
+
+  pub back_failed : (b : BatchState) (f : CellFault) → get_or bs place None ≡ Some b → b.caller ≡ c → new ≡ bs → Failed p q None (length (put_back_events q.shape q.front b.caller b.pages)) f
+      → PassBack c (record { mark = mark; pass = p; batches = bs }) (record { mark = mark; pass = q; batches = new }) (Err (fault_in f))
+  back_failed b f is own now fails =
+      (only_of (Some b) (now ∙ sym (same_again bs place (Some b) is)), tt, tt, tt, failed (λ x. length (put_back_events q.shape q.front c x.pages)) b f is now (subst (λ d. Failed p q None (length (put_back_events q.shape q.front d b.pages)) f) own fails))
+
+  pub take_done : (n count : ℕ) (b : BatchState) → get_or bs place None ≡ None → new ≡ set bs place (Some b) → Called p q c (DidTake p.shape c n b) → count ≡ length b.pages
+      → PassTake c n (record { mark = mark; pass = p; batches = bs }) (record { mark = mark; pass = q; batches = new }) (Ok count)
+  take_done n count b was now did size = (only_of (Some b) now, found_at mark c place p bs at ∙ was, rw (here (Some b) now) refl, rw (here (Some b) now) (did, size), tt)
+
+  take_why : (n : ℕ) (f : CellFault) → new ≡ bs → Failed p q (refusal q.shape q.front (take_call c)) (length (take_events q.shape q.front c n)) f
+      → PassFailsTaking n c (record { mark = mark; pass = p; batches = bs }) (record { mark = mark; pass = q; batches = new }) (fault_in f)
+  take_why n fault.Busy now fails = rw now (only_front mark p q bs same, fails)
+  take_why n (fault.Refused r) now fails = rw now (only_front mark p q bs same, fails)
+
+  pub take_failed : (n : ℕ) (f : CellFault) → get_or bs place None ≡ None → new ≡ bs → Failed p q (refusal q.shape q.front (take_call c)) (length (take_events q.shape q.front c n)) f
+      → PassTake c n (record { mark = mark; pass = p; batches = bs }) (record { mark = mark; pass = q; batches = new }) (Err (fault_in f))
+  take_failed n f was now fails = (only_of None (now ∙ sym (same_again bs place None was)), tt, tt, tt, take_why n f now fails)
+
   pub back_done : (b : BatchState) (r : BackReply) → get_or bs place None ≡ Some b → b.caller ≡ c → new ≡ set bs place None → Called p q b.caller (DidPutBack p.shape b r)
       → PassBack c (record { mark = mark; pass = p; batches = bs }) (record { mark = mark; pass = q; batches = new }) (Ok r)
   back_done b r is own now did = (only_of None now, rw (held b is) refl, here None now, rw (held b is) (subst (λ d. Called p q d (DidPutBack p.shape b r)) own did), tt)
+
+-- a call that fails tells why, as its result
+pub told_as : {A : Type 0} (r : Result A Fault) (f : Fault) → IsErrAnd r (λ e. e ≡ f) → r ≡ Err f
+told_as (Ok x) f is = absurd is
+told_as (Err e) f is = ap (λ x. Err x) is
+
+-- a try without an open batch
+pub next_none : (mark : ℕ) (p : PassState) (bs new : Batches) (c place : ℕ) → place + p.first ≡ c → place < length bs → get_or bs place None ≡ None → new ≡ bs
+    → PassNext c (record { mark = mark; pass = p; batches = bs }) (record { mark = mark; pass = p; batches = new }) (Err NoBatch)
+next_none mark p bs new c place at lt is now =
+    let state : Batches → SharedState = λ l. record { mark = mark; pass = p; batches = l } in
+    (only_of mark p p bs new c place refl at lt None (now ∙ sym (same_again bs place None is)), tt, (found_at mark c place p bs at ∙ is, ap state now))
 
 -- ---- parts, and passes of both
 
@@ -99,6 +144,13 @@ shared_below t n m p bs at k shared is le = grind (arith, length-take, get_or-ta
 
 pub shared_from : (t : TableId) (n m room : ℕ) (p : PassState) (bs : Batches) (at k : ℕ) → IsShared t n m p bs → k + p.first ≡ at → at ≤ p.end → n ≤ at + room → IsShared t n room (from p at) (drop k bs)
 shared_from t n m room p bs at k shared is le enough = grind (arith, length-drop, get_or-drop)
+
+-- the callers of each part keep their open batches
+pub part_below : (mark : ℕ) (p : PassState) (bs : Batches) (at k : ℕ) → k + p.first ≡ at → IsPart (below p at) (record { mark = mark; pass = p; batches = bs }) (record { mark = mark; pass = below p at; batches = take k bs })
+part_below mark p bs at k is = record { pass = refl; mark = refl; batches = λ c has. grind (arith, nat_le, nat_tests, get_or-take) }
+
+pub part_from : (mark : ℕ) (p : PassState) (bs : Batches) (at k : ℕ) → k + p.first ≡ at → IsPart (from p at) (record { mark = mark; pass = p; batches = bs }) (record { mark = mark; pass = from p at; batches = drop k bs })
+part_from mark p bs at k is = record { pass = refl; mark = refl; batches = λ c has. grind (arith, nat_le, nat_tests, get_or-drop) }
 
 pub shared_joined : (t u : TableId) (n m h l room : ℕ) (p q r : PassState) (bs cs : Batches) → IsShared t n m p bs → IsShared u h l q cs → IsJoined p q r → BatchesStay p r → BatchesStay q r → p.end ≡ q.first → m ≤ room → IsShared t n room r (bs ++ cs)
 shared_joined t u n m h l room p q r bs cs left right j left-stay right-stay adjacent enough =

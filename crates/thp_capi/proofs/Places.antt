@@ -1,14 +1,14 @@
 -- Open batches at their callers' places: what holds of each of them as one is changed.
-use Rattle.std.proofs.Common.{◌≡◌, ◌∙◌, ◌≢◌, ◌+◌, ◌<◌, ◌==◌, ap, ℕ, Bool, true, false, List, length, refl, sym, subst, arith, Option, Some, None, set, get_or, unwrap_or}
+use Rattle.std.proofs.Common.{◌≡◌, ◌∙◌, ◌≢◌, ◌+◌, ◌<◌, ◌==◌, ap, ℕ, Bool, true, false, List, length, refl, sym, subst, arith, Option, Some, None, Err, set, get_or, unwrap_or}
 use Rattle.std.proofs.lemmas.Bool.{eqb-true, eqb-false}
 use Rattle.std.proofs.lemmas.List.{length-set, get_or-set_same, get_or-set_other, set-get_or}
 use Rattle.thp_history.specs.declared.refusal.Refusal.{Refusal}
 use Rattle.thp_history.specs.Prelude.{History, put_back_events}
 use Rattle.thp_node.specs.Prelude.{BatchState, IsInFront, FrontsStay, OtherFrontsStay, Refused, NodeState}
-use Rattle.thp_capi.specs.Calls.{BackFails}
-use Rattle.thp_capi.specs.Engines.{IsEngine}
+use Rattle.thp_capi.specs.Calls.{BackFails, NextCall}
+use Rattle.thp_capi.specs.Engines.{EngineState, IsEngine}
 use Rattle.thp_capi.specs.OpenBatches.{EachOpen}
-use Rattle.thp_capi.specs.declared.codes.Fault.TheVariants.{Refused as RefusedWith}
+use Rattle.thp_capi.specs.declared.codes.Fault.TheVariants.{NoBatch, Refused as RefusedWith}
 
 abbrev pub Batches : Type 0
 Batches = List (Option BatchState)
@@ -72,3 +72,9 @@ module _ (n m : NodeState) (bs : Batches) (engine : IsEngine (record { node = n;
   -- the open batch of caller c is its own, and in front of its flight
   pub own_front : (c : ℕ) (b : BatchState) → c < length bs → get_or bs c None ≡ Some b → (b.caller ≡ c) × IsInFront n.journal b
   own_front c b lt is = let was = engine.each c b lt is in (omega (arith, was.0), was.1)
+
+-- a try without an open batch
+pub next_none : (n : NodeState) (bs new : Batches) (c : ℕ) → get_or bs c None ≡ None → new ≡ bs → NextCall c (record { node = n; batches = bs }) (record { node = n; batches = new }) (Err NoBatch)
+next_none n bs new c is now =
+    let state : Batches → EngineState = λ l. record { node = n; batches = l } in
+    (tt, (λ d other. ap (λ (l : Batches). get_or l d None) now), (is, ap state now))

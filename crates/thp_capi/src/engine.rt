@@ -67,7 +67,10 @@ impl<R: Recorder> Engine<R> {
         ensures none_open { IfOk result NoneOpen }
     {
         let node = Node::with_recorder(alloc, shape)?;
-        let batches = none_open(alloc, MAX_CALLERS)?;
+        let Ok(batches) = none_open(alloc, MAX_CALLERS) else {
+            drop(node);
+            return Err(Fault::Refused(Refusal::OutOfMemory));
+        };
         Ok(Engine { node, batches })
     }
 

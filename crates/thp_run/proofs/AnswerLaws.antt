@@ -1,7 +1,7 @@
 -- Lines of answers, made piece by piece.
-use Rattle.std.proofs.Common.{◌≡◌, ℕ, ◌+◌, Bool, List, [], ◌∷◌, ◌++◌, drop, Some, Result, Ok, Err, ap, sym, ◌∙◌, append_assoc, OnOk, slice_get}
+use Rattle.std.proofs.Common.{◌≡◌, ℕ, ◌+◌, ◌<◌, Bool, Option, arith, inl, inr, length, List, [], ◌∷◌, ◌++◌, drop, Some, Result, Ok, Err, ap, sym, ◌∙◌, append_assoc, OnOk, slice_get}
 use Rattle.std.proofs.lemmas.List.{drop_more}
-use Rattle.std.proofs.lemmas.Option.{get_or_from_slice_get, slice_get_within}
+use Rattle.std.proofs.lemmas.Option.{get_or_from_slice_get, slice_get_cases, slice_get_within}
 use Rattle.std.specs.declared.alloc.AllocError.{AllocError}
 use Rattle.thp_node.specs.declared.answers.Tried.{Tried}
 use Rattle.thp_node.specs.declared.answers.Tried.TheVariants as tried
@@ -57,3 +57,10 @@ answer-put (Ok u) ws own t t1 t2 t3 a b s o p q g =
 pub drop_at_get : {A : Type 0} (xs : List A) (place : ℕ) (x : A) → Some x ≡ slice_get xs place → drop place xs ≡ x ∷ drop (place + 1) xs
 drop_at_get xs place x is =
     drop_more xs place x (slice_get_within xs place x (sym is)) ∙ ap (λ y. y ∷ drop (place + 1) xs) (get_or_from_slice_get xs place x x (sym is))
+
+-- there is an element at each index below the length
+pub there : {A : Type 0} (xs : List A) (got : Option A) (i n : ℕ) → n ≡ length xs → i < n → got ≡ slice_get xs i → ((x : A) → got ≡ Some x → ⊥) → ⊥
+there xs got i n size lt is none = elim (slice_get_cases xs i).1 [
+  | inl a ↦ none a.0 (is ∙ a.2)
+  | inr past ↦ absurd (omega (arith, size, lt, past.0))
+]

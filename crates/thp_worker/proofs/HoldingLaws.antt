@@ -1,6 +1,6 @@
 -- Calls of a cell, as steps of the holder of a pass and its open batches.
-use Rattle.std.proofs.Common.{◌≡◌, ◌∙◌, ◌⊎◌, ◌≢◌, ◌++◌, ◌+◌, ◌-◌, ◌<◌, ◌==◌, ap, ℕ, Bool, true, false, cond, List, [], ◌∷◌, length, refl, sym, subst, arith, zero, suc, Option, Some, None, Ok, Err, set, unwrap_or, slice_get, Result, IfOk, IfErr, OnOk, nat_le, append-nil}
-use Rattle.std.proofs.lemmas.Option.{slice_get_within}
+use Rattle.std.proofs.Common.{◌≡◌, ◌∙◌, ◌⊎◌, ◌≢◌, ◌++◌, ◌+◌, ◌-◌, ◌<◌, ◌==◌, ap, ℕ, Bool, true, false, cond, List, [], ◌∷◌, length, refl, sym, subst, arith, zero, suc, Option, Some, None, Ok, Err, set, unwrap_or, slice_get, Result, IfOk, IfErr, OnOk, nat_le, append-nil, All, if◌then◌else◌}
+use Rattle.std.proofs.lemmas.Option.{get_or_from_slice_get, slice_get_within}
 use Rattle.std.proofs.lemmas.Bool.{eqb-true, eqb-false}
 use Rattle.std.proofs.lemmas.Bool.Decides.{nat_tests}
 use Rattle.std.proofs.lemmas.List.Elements.{All-nil}
@@ -21,7 +21,7 @@ use Rattle.thp_cell.specs.Prelude.{IsOther, at_front, BatchesStay, OtherBatchesS
 use Rattle.thp_cell.specs.declared.fault.CellFault.{CellFault}
 use Rattle.thp_cell.specs.declared.fault.CellFault.TheVariants.{Refused}
 use Rattle.thp_script.specs.declared.script.Op.{Op}
-use Rattle.thp_worker.specs.Prelude.{NodeCall, Step, Take, SplitNext, PutBack, Reply, call_events, node_call_of, Open, Reaction, Does, DoesCall, step_events, open_of, step_refusal, refusal_of_call, Held, IsHeld, Acts, HeldAnswered, HeldDone, batch_of, open_in, unit_reply, loss_reply, page_reply}
+use Rattle.thp_worker.specs.Prelude.{NodeCall, Step, Take, SplitNext, PutBack, Reply, call_events, node_call_of, Open, Reaction, Does, DoesCall, step_events, open_of, step_refusal, refusal_of_call, Held, IsHeld, IsShut, Acts, HeldAnswered, HeldDone, batch_of, open_in, unit_reply, loss_reply, page_reply}
 use Rattle.thp_worker.specs.declared.steps.NodeCall.TheVariants as node
 use Rattle.thp_worker.specs.declared.steps.Step.TheVariants as steps
 use Rattle.thp_worker.specs.declared.reply.Reply.TheVariants as reply
@@ -48,6 +48,29 @@ never_memory s h c x = grind (arith, never_call, never)
 
 pub held_stays : (cell : TableId) (p q : PassState) (bs : List (Option BatchState)) → IsHeld cell p bs → q ≡ at_front p q.front → BatchesStay p q → IsHeld cell q bs
 held_stays cell p q bs held same stay = grind (arith, slice_get_within)
+
+-- ---- callers without an open batch
+
+none_there : (bs : List (Option BatchState)) → All (λ (b : Option BatchState). b ≡ None) bs → (k : ℕ) (b : BatchState) → slice_get bs k ≡ Some (Some b) → ⊥
+none_there bs none k b is =
+    let here : Some b ≡ None = sym (get_or_from_slice_get bs k (Some b) None is) ∙ none k None (slice_get_within bs k (Some b) is) in
+    absurd (cc)
+
+-- the invariant of a holder whose callers have no open batch
+pub held_shut : (cell : TableId) (p : PassState) (bs : List (Option BatchState)) → p.cell ≡ cell → p.first + length bs ≡ p.end → All (λ (b : Option BatchState). b ≡ None) bs → IsHeld cell p bs
+held_shut cell p bs same places none = record { cell_is = same; callers = places; each = λ k b is. absurd (none_there bs none k b is) }
+
+none_in : (x : Option (Option BatchState)) → ((b : BatchState) → x ≡ Some (Some b) → ⊥) → open_in x ≡ None
+none_in None none = refl
+none_in (Some None) none = refl
+none_in (Some (Some b)) none = absurd (none b refl)
+
+pub is_shut : (p : PassState) (bs : List (Option BatchState)) → All (λ (b : Option BatchState). b ≡ None) bs → IsShut (record { pass = p; batches = bs })
+is_shut p bs none c = from (nat_le p.first c)
+  where
+    from : (t : Bool) → (if t then open_in (slice_get bs (c - p.first)) else None) ≡ None
+    from true = none_in (slice_get bs (c - p.first)) (none_there bs none (c - p.first))
+    from false = refl
 
 -- ---- calls that leave the open batches alone
 

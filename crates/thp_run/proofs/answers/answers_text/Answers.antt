@@ -5,7 +5,7 @@ use Rattle.thp_run.specs.Answers.{answer_line, answers_text, section_text, with_
 use Rattle.thp_run.specs.Reports.{shape_of}
 use Rattle.thp_worker.specs.declared.reply.SectionLog.{SectionLog}
 use Rattle.thp_worker.specs.Prelude.{stored}
-use Rattle.thp_run.proofs.AnswerLaws.{drop_at_get}
+use Rattle.thp_run.proofs.AnswerLaws.{drop_at_get, there}
 use Rattle.thp_run.proofs.answers.answers_text.Goals as goal
 
 -- all answers of a section were put
@@ -38,3 +38,15 @@ pub loop-section-preserved : goal.loop-section-preserved
 loop-section-preserved g c =
     section_put (map shape_of c.args.nodes.now) c.loop-place.place c.loop-section.section-index c.args.sections.now c.section-item.result c.loop-section.text.items c.loop-place.text.items _
     c.loop-section-test.true c.section-item.is (omega arith) c.loop-place.invariant c.loop-section.invariant
+
+pub unreachable-requires : goal.unreachable-requires
+unreachable-requires g c = there (stored c.section-item.result.answers) c.get.result c.loop-place.place c.stored_len-place-end.result c.stored_len-place-end.ensures c.loop-place-test.true c.get.ensures c.in_default.not-Some
+
+pub returns : goal.returns
+unfolding answers_text
+returns g c =
+    let shapes = map shape_of c.args.nodes.now in
+    let sections = c.args.sections.now in
+    let text = c.loop-section.text.items in
+    let end : length sections ≤ c.loop-section.section-index = omega arith in
+    sym (append-nil text) ∙ ap (λ t. text ++ t) (sym (at_drop_all (λ (l : List SectionLog). answers_text shapes (map with_stored l)) sections c.loop-section.section-index end)) ∙ c.loop-section.invariant

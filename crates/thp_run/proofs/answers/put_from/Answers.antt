@@ -4,6 +4,7 @@ use Rattle.thp_run.specs.Answers.{answer_line}
 use Rattle.thp_run.specs.Reports.{shape_of}
 use Rattle.thp_worker.specs.Prelude.{stored}
 use Rattle.thp_run.proofs.PartLaws.{one_put}
+use Rattle.thp_run.proofs.AnswerLaws.{there}
 use Rattle.thp_run.proofs.answers.put_from.Goals as goal
 
 pub loop-place-preserved : goal.loop-place-preserved
@@ -38,3 +39,6 @@ returns-clause-most g c = c.loop-place.invariant.most
 
 pub returns-clause-room : goal.returns-clause-room
 returns-clause-room g c = c.loop-place.invariant.room
+
+pub unreachable-requires : goal.unreachable-requires
+unreachable-requires g c = there (stored c.args.answers.now) c.get.result c.loop-place.place c.stored_len-place-end.result c.stored_len-place-end.ensures c.loop-place-test.true c.get.ensures c.in_default.not-Some

@@ -1,8 +1,9 @@
-use Rattle.std.proofs.Common.{◌∙◌, ◌+◌, ◌++◌, List, ◌∷◌, ap, append_assoc, drop, map, sym, ℕ}
-use Rattle.std.proofs.lemmas.List.{drop_more}
+use Rattle.std.proofs.Common.{◌∙◌, ◌+◌, ◌++◌, List, ◌∷◌, ap, append_assoc, drop, map, sym, ℕ, append-nil}
+use Rattle.std.proofs.lemmas.List.{drop_more, at_drop_all}
 use Rattle.thp_journal_writer.specs.Prelude.{totals_in}
 use Rattle.thp_journal_writer.specs.Totals.{lines_from, totals_lines}
 use Rattle.thp_run.specs.Reports.{told_of}
+use Rattle.thp_node.specs.Prelude.{NodeState}
 use Rattle.thp_run.proofs.report.totals_text.Goals as goal
 
 pub loop-number-preserved : goal.loop-number-preserved
@@ -18,3 +19,10 @@ loop-number-preserved g c =
     ∙ append_assoc text (totals_lines n totals) more
     ∙ ap (λ left. text ++ lines_from n (map totals_in (map told_of left))) (sym cut)
     ∙ c.loop-number.invariant
+
+pub returns : goal.returns
+returns g c =
+    let n = c.loop-number.number in
+    let text = c.loop-number.text.items in
+    let lines : List NodeState → List ℕ = λ nodes. text ++ lines_from n (map totals_in (map told_of nodes)) in
+    sym (append-nil text) ∙ sym (at_drop_all lines c.args.nodes.now n c.loop-number-test.false) ∙ c.loop-number.invariant

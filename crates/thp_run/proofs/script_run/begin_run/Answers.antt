@@ -1,5 +1,5 @@
 use Rattle.std.proofs.Common.{◌≡◌, ◌∙◌, ◌∷◌, ◌+◌, ◌≤◌, [], ap, arith, length, length-append, map, subst, sym, None, ℕ, All}
-use Rattle.std.proofs.lemmas.List.Elements.{All-tail}
+use Rattle.std.proofs.lemmas.List.Elements.{All-tail, All-head}
 use Rattle.std.specs.Vec.Iter.{into_iter_items}
 use Rattle.thp_cell.specs.Prelude.{PassState}
 use Rattle.thp_worker.specs.Prelude.{Fronts, fronts_in}
@@ -71,3 +71,15 @@ returns-clause-begun g c =
     let unused = filled_end IsUnused ps (into_iter_items c.loop-pass.pass-iterator) held (omega (arith, inv.left, c.in-None.ensures.steps.0)) inv.filled in
     let is : fronts_in c.keep_nodes.new.self ≡ fronts_in (record { callers = s.workers + 1; first = 0; end = s.workers + 1; held = held }) = c.keep_nodes.ensures.fronts ∙ ap fronts_in c.new-passes.ensures in
     record { new = c.requires; starts = record { held = held; unused = unused; are = is }; goes = goes_refl _ _; did = c.in_ok-setup.ensures.did }
+
+pub bounds-cells-len : goal.bounds-cells-len
+bounds-cells-len g c =
+    let steps = c.in-Some.ensures.steps in
+    let nodes = c.loop-pass.nodes in
+    let pass = c.in-Some.pass in
+    let at = at_drop c.args.cells.now (map cell_of (into_iter_items c.next.new.self)) (length nodes.items) (cell_of pass) (cell_of pass) (c.loop-pass.invariant.cells ∙ ap (map cell_of) steps.0) in
+    omega (arith, c.len.ensures, nodes.ok.0, at.0)
+
+pub new-requires-clause-some : goal.new-requires-clause-some
+new-requires-clause-some g c =
+    All-head (λ (p : PassState). p.first ≤ p.end) c.in-Some.pass _ (subst (All (λ (p : PassState). p.first ≤ p.end)) c.in-Some.ensures.steps.0 c.loop-pass.invariant.some)

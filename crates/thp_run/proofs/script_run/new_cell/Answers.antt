@@ -1,6 +1,9 @@
-use Rattle.std.proofs.Common.{◌≡◌, ◌∙◌, ℕ, List, [], Result, Ok, Err, IfOk, MatchResult, is_ok, true≢false}
+use Rattle.std.proofs.Common.{◌<◌, ap, length, rules, slice_index_or, sym, None, ◌≡◌, ◌∙◌, ℕ, List, [], Result, Ok, Err, IfOk, MatchResult, is_ok, true≢false, subst}
 use Rattle.std.proofs.lemmas.Result.{IfOk-at_ok, IfOk-from_err}
 use Rattle.thp_history.specs.declared.events.Event.{Event}
+use Rattle.std.proofs.lemmas.List.{get_or_default}
+use Rattle.thp_history.specs.declared.shape.Shape.{Shape}
+use Rattle.thp_history.specs.Prelude.{max_order}
 use Rattle.thp_cell.specs.Prelude.{HasAll, PassState}
 use Rattle.thp_run.specs.Sharing.{IsFresh}
 use Rattle.thp_run.proofs.script_run.new_cell.Goals as goal
@@ -37,3 +40,13 @@ returns-clause-fresh g c =
     let made = kept c.with_recorder.result c.map_err.result _ _ c.map_err.ensures.cases c.map_err.ensures.variant c.with_recorder.ensures.journal in
     let none = IfOk-at_ok _ c.in_ok-node.was made in
     kept c.new.result c.map_err-2.result _ _ c.map_err-2.ensures.cases c.map_err-2.ensures.variant (is_fresh c.new.result _ _ c.new.ensures.callers c.new.ensures.all c.new.ensures.front none)
+
+pub returns-clause-shape : goal.returns-clause-shape
+returns-clause-shape g c =
+    let settings = c.args.settings.now in
+    let i = c.args.index in
+    let inside : i < length settings.orders = search rules in
+    let shape : ℕ → Shape = λ o. record { blocks = settings.blocks; order = o; underused = slice_index_or settings.underused i None } in
+    let made = kept c.with_recorder.result c.map_err.result _ _ c.map_err.ensures.cases c.map_err.ensures.variant c.with_recorder.ensures.shape in
+    let is = IfOk-at_ok _ c.in_ok-node.was made ∙ ap shape (sym (get_or_default settings.orders i max_order 0 inside)) in
+    kept c.new.result c.map_err-2.result _ _ c.map_err-2.ensures.cases c.map_err-2.ensures.variant (subst (λ s. IfOk c.new.result (λ r. r.1.shape ≡ s)) is c.new.ensures.shape)

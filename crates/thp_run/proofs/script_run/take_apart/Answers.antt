@@ -6,6 +6,7 @@ use Rattle.thp_cell.specs.Prelude.{HasAll}
 use Rattle.thp_run.specs.Sharing.{cell_of, IsNodeOf}
 use Rattle.thp_run.proofs.NodeLaws.{cons_tail, filled_end, filled_first, filled_more}
 use Rattle.thp_run.proofs.SharingLaws.{is_run, nodes_asked}
+use Rattle.thp_history.proofs.Options.{not_there}
 use Rattle.thp_run.proofs.script_run.take_apart.Goals as goal
 
 pub loop-cell-init : goal.loop-cell-init
@@ -62,3 +63,12 @@ returns-clause-run g c = λ old script new ran.
     let mapped = length-map items cell_of in
     let pairs = filled_end IsNodeOf c.args.passes.items items c.loop-cell.nodes.items (omega (arith, same, mapped, inv.left, c.in-None.ensures.steps.0)) inv.filled in
     is_run c.args.settings.now script c.args.cells.items old c.args.passes.items c.loop-cell.nodes.items c.args.sections.items new ran pairs
+
+pub loop-cell-preserved : goal.loop-cell-preserved
+loop-cell-preserved g c =
+    let inv = c.loop-cell.invariant in
+    let none = (rw (not_there _ c.in_default.not-Some) at c.next-in-loop-cell.ensures.cases).0 in
+    let same = ap length inv.cells in
+    let mapped = length-map (into_iter_items c.loop-cell.passes) cell_of in
+    let some = ap length c.in-Some.ensures.steps.0 in
+    absurd (omega (arith, same, mapped, some, none, inv.right))

@@ -54,3 +54,18 @@ loop-index-preserved g c =
       are = c.push.ensures.are ∙ inv.are;
       room = omega (arith, c.push.ensures.room, inv.room);
     }
+
+pub returns-then-commands-clause-goes : goal.returns-then-commands-clause-goes
+returns-then-commands-clause-goes g c = goes_refl _ _
+
+pub returns-in_err-reserve-clause-goes : goal.returns-in_err-reserve-clause-goes
+returns-in_err-reserve-clause-goes g c = goes_refl _ _
+
+pub do_whole_command-called-requires-clause-command : goal.do_whole_command-called-requires-clause-command
+do_whole_command-called-requires-clause-command g c =
+    rw c.loop-index.invariant.goes.same.nodes (c.requires.commands c.loop-index.index (record { node = 0; op = Alloc }) c.loop-index-test.true)
+
+pub mark-requires : goal.mark-requires
+mark-requires g c =
+    let lt = (c.requires.commands c.loop-index.index (record { node = 0; op = Alloc }) c.loop-index-test.true).node_exists in
+    rw c.loop-index.invariant.nodes lt

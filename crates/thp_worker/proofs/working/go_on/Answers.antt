@@ -1,8 +1,8 @@
-use Rattle.std.proofs.Common.{◌≡◌, ◌∙◌, ap, arith, get_or, length, refl, sym, Some, slice_get, length-set}
+use Rattle.std.proofs.Common.{◌≡◌, ◌∙◌, ap, arith, get_or, length, refl, rules, sym, Some, slice_get, length-set}
 use Rattle.std.proofs.lemmas.Option.{slice_get-get_or}
 use Rattle.thp_history.proofs.Options.{not_there}
 use Rattle.thp_script.specs.declared.script.Op.TheVariants.{Alloc}
-use Rattle.thp_worker.proofs.StepLaws.{goes_trans}
+use Rattle.thp_worker.proofs.StepLaws.{goes_trans, goes_refl}
 use Rattle.thp_worker.proofs.SectionLaws.{begun_on, begins_told, begins_stop, ends_first, works_stop}
 use Rattle.thp_worker.proofs.working.go_on.Goals as goal
 
@@ -56,3 +56,23 @@ pub returns-clause-works : goal.returns-clause-works
 returns-clause-works g c =
     let inv = c.loop-index.invariant in
     λ old b. c.close.ensures.works old c.args.commands.now refl (ends_first _ _ _ _ _ _ _ (omega (arith, inv.count, c.loop-index-test.false)) (inv.begins old b))
+
+pub loop-index-init : goal.loop-index-init
+loop-index-init g c = record {
+  goes = goes_refl _ _;
+  begins = λ old b. b;
+  nodes = let b = c.requires.begun.1 in b.known.count ∙ sym b.grows.same.nodes;
+  count = search rules;
+  are = refl;
+  room = c.requires.room;
+}
+
+pub mark-requires : goal.mark-requires
+mark-requires g c =
+    let lt = (c.requires.commands c.loop-index.index (record { node = 0; op = Alloc }) c.loop-index-test.true).node_exists in
+    rw c.loop-index.invariant.nodes lt
+
+pub returns-clause-done : goal.returns-clause-done
+returns-clause-done g c = λ all.
+    let same = c.loop-index.invariant.goes.same in
+    c.close.ensures.done (record { low = same.first ∙ all.low; high = same.end ∙ all.high ∙ sym same.callers })

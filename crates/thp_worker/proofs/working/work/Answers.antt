@@ -1,5 +1,6 @@
 use Rattle.std.proofs.Common.{◌∙◌, ap, false, replicate}
 use Rattle.thp_worker.proofs.SectionLaws.{begins_first}
+use Rattle.thp_worker.proofs.StepLaws.{goes_refl}
 use Rattle.thp_worker.proofs.working.work.Goals as goal
 
 pub go_on-requires-clause-begun : goal.go_on-requires-clause-begun
@@ -9,3 +10,9 @@ go_on-requires-clause-begun g c =
 pub returns-clause-works : goal.returns-clause-works
 unfolding go_on-requires-clause-begun
 returns-clause-works g c = c.go_on.ensures.works _ (go_on-requires-clause-begun g c.before).1
+
+pub returns-in_err-log-clause-goes : goal.returns-in_err-log-clause-goes
+returns-in_err-log-clause-goes g c = goes_refl _ _
+
+pub returns-in_err-opened-clause-goes : goal.returns-in_err-opened-clause-goes
+returns-in_err-opened-clause-goes g c = goes_refl _ _

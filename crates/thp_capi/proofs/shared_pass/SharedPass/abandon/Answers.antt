@@ -9,3 +9,10 @@ invariant_of-self-2 g c =
     let at : c.in_ok-place.place + p.first ≡ c.args.caller = subst (λ x. c.in_ok-place.place + x.pass.first ≡ c.args.caller) (sym c.self.view_is) c.in_ok-place.ensures.at in
     let lt : c.in_ok-place.place < length c.self.inside.batches.items = subst (λ x. c.in_ok-place.place < length x.batches) (sym c.self.view_is) c.in_ok-place.ensures.inside in
     shared_closed _ _ _ _ p p _ _ c.args.caller c.in_ok-place.place c.self.invariant refl at lt refl (λ b has front. front) (ap (set c.self.inside.batches.items c.in_ok-place.place) c.take.ensures.after)
+
+pub invariant_of-self : goal.invariant_of-self
+invariant_of-self g c =
+    let p = c.self.inside.pass in
+    let at : c.in_ok-place.place + p.first ≡ c.args.caller = subst (λ x. c.in_ok-place.place + x.pass.first ≡ c.args.caller) (sym c.self.view_is) c.in_ok-place.ensures.at in
+    let lt : c.in_ok-place.place < length c.self.inside.batches.items = subst (λ x. c.in_ok-place.place < length x.batches) (sym c.self.view_is) c.in_ok-place.ensures.inside in
+    shared_closed _ _ _ _ p p _ _ c.args.caller c.in_ok-place.place c.self.invariant refl at lt refl (λ b has front. front) (ap (set c.self.inside.batches.items c.in_ok-place.place) c.take.ensures.after)

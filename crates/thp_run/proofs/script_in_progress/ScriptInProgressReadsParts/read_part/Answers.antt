@@ -1,6 +1,8 @@
-use Rattle.std.proofs.Common.{◌∙◌, ◌++◌, subst, sym}
-use Rattle.thp_worker.specs.Prelude.{DidFirst, fronts_in}
+use Rattle.std.proofs.Common.{◌∙◌, ◌++◌, subst, sym, ap, All}
+use Rattle.thp_worker.specs.Prelude.{DidFirst, fronts_in, IsCommandFor}
 use Rattle.thp_script.specs.Parts.{setup_of}
+use Rattle.thp_script.specs.declared.settings.Settings.{Settings}
+use Rattle.thp_run.proofs.SharingLaws.{commands_fit}
 use Rattle.thp_run.proofs.script_in_progress.ScriptInProgressReadsParts.read_part.Goals as goal
 
 pub returns-clause-read : goal.returns-clause-read
@@ -12,3 +14,8 @@ returns-clause-read g c = record {
   did = λ first before d. subst (λ cs. DidFirst 0 first (fronts_in c.do_commands.new.steps) (before ++ cs) c.in_ok-setup.setup) c.setup.ensures.commands (c.in_ok-setup.ensures.did first before d);
   answers = c.in_ok-setup.ensures.answers;
 }
+
+pub do_commands-requires-clause-commands : goal.do_commands-requires-clause-commands
+do_commands-requires-clause-commands g c =
+    subst (λ n. All (IsCommandFor n) c.setup.result.now) (ap (λ (s : Settings). s.nodes) c.in_ok-script.ensures.settings ∙ sym c.args.self.ready.nodes)
+    (commands_fit c.in_ok-script.script.settings.nodes c.setup.result.now c.setup.ensures.in_range)

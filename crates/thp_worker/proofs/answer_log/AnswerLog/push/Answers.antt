@@ -1,6 +1,7 @@
-use Rattle.std.proofs.Common.{◌≡◌, arith, refl}
+use Rattle.std.proofs.Common.{◌≡◌, arith, refl, ◌∙◌, ◌∷◌, ◌+◌, [], ap, length, length-append}
 use Rattle.thp_worker.specs.Prelude.{Answer, ShortAnswer, Refused, answer_in}
 use Rattle.thp_worker.proofs.KeptLaws.{log_pushed}
+use Rattle.thp_worker.specs.Logs.{LogState}
 use Rattle.thp_worker.proofs.answer_log.AnswerLog.push.Goals.{in-Ok, in-Err}
 use Rattle.thp_worker.proofs.answer_log.AnswerLog.push.Goals as goal
 
@@ -24,3 +25,14 @@ invariant_of-self c =
           c.self.invariant c.in-Kept.is c.push.ensures (rw (w.self-inside-is, w.reply-is) at e.items) (rw w.self-inside-is at e.len) (rw w.self-inside-is at e.capacity)
           (λ r t. (t, refl)) tt same (omega arith) refl)
     ]
+
+pub returns-in-Counted-clause-count : goal.returns-in-Counted-clause-count
+returns-in-Counted-clause-count c =
+    let last : Answer = record { command = c.args.command; node = c.args.node; reply = c.and.result } in
+    ap length c.push.ensures ∙ length-append c.self.inside.told (last ∷ []) ∙ ap (λ (l : LogState). length l.items + 1) c.self.view_is
+
+pub returns-after-called-clause-count : goal.returns-after-called-clause-count
+returns-after-called-clause-count c =
+    let last : Answer = record { command = c.args.command; node = c.args.node; reply = c.and.result } in
+    let longer = ap length c.push.ensures ∙ length-append c.self.inside.told (last ∷ []) ∙ ap (λ (l : LogState). length l.items + 1) c.self.view_is in
+    elim c.match-called.branch [ in-Ok w ↦ rw w.self-inside-is longer | in-Err w ↦ rw w.self-inside-is longer ]

@@ -1,10 +1,11 @@
-use Rattle.std.proofs.Common.{refl, subst, Err, Ok}
+use Rattle.std.proofs.Common.{refl, subst, Err, Ok, sym}
 use Rattle.thp_history.specs.Prelude.{loss_call, loss_what}
 use Rattle.thp_history.specs.declared.page_call.PageCall.TheVariants as either
-use Rattle.thp_worker.specs.Prelude.{One, HeldDone}
+use Rattle.thp_worker.specs.Prelude.{One, HeldDone, Held}
 use Rattle.thp_worker.specs.declared.steps.NodeCall.TheVariants as node
 use Rattle.thp_worker.proofs.CommandLaws.{handed_on}
 use Rattle.thp_worker.proofs.HoldingLaws.{held_stays, loss_done}
+use Rattle.thp_cell.specs.Prelude.{HasCaller}
 use Rattle.thp_worker.proofs.node_pass.NodePass.lose.Goals as goal
 
 pub returns-in_err-done : goal.returns-in_err-done
@@ -23,3 +24,12 @@ returns g c op is =
 
 pub invariant_of-self-2 : goal.invariant_of-self-2
 invariant_of-self-2 g c = held_stays _ _ _ _ c.self.invariant c.lose.ensures.same c.lose.ensures.batches
+
+pub lose-requires-clause-cell : goal.lose-requires-clause-cell
+lose-requires-clause-cell g c = c.self.invariant.cell_is
+
+pub lose-requires-clause-caller : goal.lose-requires-clause-caller
+lose-requires-clause-caller g c = subst (λ (h : Held). HasCaller h.pass c.args.caller) (sym c.self.view_is) c.requires.caller
+
+pub invariant_of-self : goal.invariant_of-self
+invariant_of-self g c = held_stays _ _ _ _ c.self.invariant c.lose.ensures.same c.lose.ensures.batches

@@ -1,5 +1,5 @@
 use Rattle.std.proofs.Common.{◌≡◌, ◌∙◌, ap, arith, length, map, subst, sym, All}
-use Rattle.std.proofs.lemmas.List.Elements.{All-tail}
+use Rattle.std.proofs.lemmas.List.Elements.{All-tail, All-head}
 use Rattle.std.specs.Vec.Iter.{into_iter_items}
 use Rattle.thp_worker.specs.Prelude.{high_part, low_part, IsCut, IsSplit, Passes, fronts_in, fronts_of}
 use Rattle.thp_worker.proofs.EachLaws.{all_done, cut_each, agree_low, agree_high, pushed, split_fronts}
@@ -47,3 +47,9 @@ returns g c =
     let high : c.loop-node.high.items ≡ map (high_part c.args.at) i.nodes.items = all_done (high_part c.args.at) _ (into_iter_items c.loop-node.node-iterator) _ inv.high (omega (arith, inv.left, c.in-None.ensures.steps.0)) ∙ ap (map (high_part c.args.at)) (sym (ap (λ (p : Passes). p.held) c.self.view_is)) in
     rw (c.new.ensures, c.new-2.ensures) (subst (λ (p : Passes). IsSplit c.args.at (fronts_in p) (fronts_of i.callers i.first c.args.at c.loop-node.low.items) (fronts_of i.callers c.args.at i.end c.loop-node.high.items)) c.self.view_is
     (rw (low, high) (split_fronts _ _ _ c.args.at _ c.self.invariant (rw (← c.self.view_is) at c.requires.after))))
+
+pub split-requires-clause-after : goal.split-requires-clause-after
+split-requires-clause-after g c = (All-head (IsCut c.args.at) c.in-Some.node _ (subst (All (IsCut c.args.at)) c.in-Some.ensures.steps.0 c.loop-node.invariant.cut)).after
+
+pub split-requires-clause-before : goal.split-requires-clause-before
+split-requires-clause-before g c = (All-head (IsCut c.args.at) c.in-Some.node _ (subst (All (IsCut c.args.at)) c.in-Some.ensures.steps.0 c.loop-node.invariant.cut)).before
