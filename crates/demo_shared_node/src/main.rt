@@ -52,10 +52,15 @@ fn shrink<R: Print>(rt: &R, node: &mut Node) -> Result<()> {
 
 /// Prints what was queued and split, and the frames given back and held.
 fn print_totals<R: Print>(rt: &R, queued: u32, split: u32, given: u128, held: u128) -> Result<()> {
-    println!(rt; "pages queued: {queued}")?;
-    println!(rt; "pages split: {split}")?;
-    println!(rt; "frames given back: {given}")?;
-    println!(rt; "frames held: {held}")?;
+    let totals = [
+        ("pages queued", u128::from(queued)),
+        ("pages split", u128::from(split)),
+        ("frames given back", given),
+        ("frames held", held),
+    ];
+    for (what, total) in totals {
+        println!(rt; "{what}: {total}")?;
+    }
     Ok(())
 }
 

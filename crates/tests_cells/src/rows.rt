@@ -3,6 +3,7 @@ ghost use Rattle.std.specs.Prelude.{◌≡◌};
 ghost use Rattle.thp_cell.specs.Prelude.{HasCaller, at_front, returning_node};
 ghost use Rattle.tests_cells.specs.Passes.{Stays};
 
+use crate::equal::expect_equal;
 use crate::steps::{
     Step, cell_of, expect_steps, has_frames, is_allocation, node_of_one, node_of_two,
 };
@@ -162,17 +163,12 @@ fn fault_of(rt: &impl Abort, alloc: Global, callers: u32) -> Option<NewFault> {
     }
 }
 
-// There is no cell of so many callers, or one where no fault is given.
-fn is_limited(rt: &impl Abort, alloc: Global, callers: u32, fault: Option<NewFault>) -> bool {
-    fault_of(rt, alloc, callers) == fault
-}
-
 #[test]
 fn limits_and_constructors(rt: HostRuntime) {
-    assert!(rt; is_limited(&rt, rt.alloc(), 0, Some(NewFault::BadSize)));
-    assert!(rt; is_limited(&rt, rt.alloc(), 1, None));
-    assert!(rt; is_limited(&rt, rt.alloc(), 64, None));
-    assert!(rt; is_limited(&rt, rt.alloc(), 65, Some(NewFault::BadSize)));
+    expect_equal(&rt, fault_of(&rt, rt.alloc(), 0), Some(NewFault::BadSize));
+    expect_equal(&rt, fault_of(&rt, rt.alloc(), 1), None);
+    expect_equal(&rt, fault_of(&rt, rt.alloc(), 64), None);
+    expect_equal(&rt, fault_of(&rt, rt.alloc(), 65), Some(NewFault::BadSize));
 }
 
 const BAD_RANGE: Answer = Answer::Refused(Refusal::BadRange);

@@ -5,6 +5,7 @@
 //! - `checks`: `legal`, `misfits`, `underused` and `random` histories, for both checks; `explained`, `reasons` (texts),
 //!   `reading` (what a replay shows).
 //! - `recorders`: `FullLog` and `CountOnly`. `nodes`: construction. `event_rows`: events as constants.
+//! - `equal` compares results.
 //!
 //! It uses the libraries from above, so that they are proved once. Functions that own a node end with a call of `drop`, which has a
 //! shorter proof than a drop at the end of the scope.
@@ -16,6 +17,8 @@ mod batches;
 mod calls;
 #[cfg(test)]
 mod checks;
+#[cfg(test)]
+mod equal;
 #[cfg(test)]
 mod event_rows;
 #[cfg(test)]

@@ -32,6 +32,25 @@ pub(crate) fn node_with_queued(rt: &impl Abort, alloc: Global, pages: u64) -> No
     queued_node(alloc, pages).expect(rt, "a node with queued pages")
 }
 
+// The node that a row begins with.
+#[derive(Clone, Copy)]
+pub(crate) enum Start {
+    // of order 9 with so many blocks
+    Empty(u32),
+    // of order 9 with so many pages, all of them queued
+    Queued(u64),
+    // of order 2 with so many blocks, whose shrinker splits pages with more than one zero-filled subpage too
+    Small(u32),
+}
+
+pub(crate) fn node_at(rt: &impl Abort, alloc: Global, start: Start) -> Node {
+    match start {
+        Start::Empty(blocks) => node_of(rt, alloc, blocks),
+        Start::Queued(pages) => node_with_queued(rt, alloc, pages),
+        Start::Small(blocks) => small_node(rt, alloc, blocks),
+    }
+}
+
 // A caller makes these calls one after the other, each with its result.
 pub(crate) fn expect(rt: &impl Abort, node: &mut Node, caller: u32, steps: &[(Call, Answer)])
     requires { caller < 64 }

@@ -1,5 +1,6 @@
 //! A node that stores its events, compared with one that counts them: the same calls have the same results, and leave the same
 //! state.
+use crate::equal::expect_equal;
 use crate::nodes::{event_count, node_of};
 use std::alloc::Global;
 use std::process::Abort;
@@ -44,9 +45,9 @@ fn is_left<R: Recorder>(node: &Node<R>) -> bool {
 
 // What a node has counted after the calls and a scan.
 fn counted<R: Recorder>(rt: &impl Abort, node: &mut Node<R>) -> Counters {
-    assert!(rt; are_called(node));
-    assert!(rt; is_scanned(node));
-    assert!(rt; is_left(node));
+    expect_equal(rt, are_called(node), true);
+    expect_equal(rt, is_scanned(node), true);
+    expect_equal(rt, is_left(node), true);
     node.counters()
 }
 

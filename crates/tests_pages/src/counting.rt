@@ -2,6 +2,7 @@
 ghost use Rattle.std.specs.Prelude.{◌≡◌, ℕ, ◌<◌, length, Contains};
 ghost use Rattle.thp_links.specs.Prelude.{Stands};
 
+use crate::equal::expect_equal;
 use std::process::Abort;
 use thp_links::{Link, LinkTable, Queue};
 
@@ -47,6 +48,11 @@ impl<T: LinkTable + Drop> LinkTable for Counting<T> {
     ghost same_rest_trans = { λ a b c p q. T.same_rest_trans a.table b.table c.table p q };
 }
 
+// A call of this name, with this number of indices or at this one, made at most so many accesses.
+fn expect_few(rt: &impl Abort, call: &str, number: u32, spent: u32, most: u32) {
+    assert!(rt; spent <= most, "{call} of {number}");
+}
+
 // All indices of a table in a queue in rising order, each pushed by at most 4 accesses.
 fn filled<T: LinkTable + Drop>(rt: &impl Abort, table: T) -> (Counting<T>, Queue)
     ensures size { length (T.links result.0.table) ≡ length (T.links table) }
@@ -57,7 +63,7 @@ fn filled<T: LinkTable + Drop>(rt: &impl Abort, table: T) -> (Counting<T>, Queue
     let mut queue = Queue::new();
     for i in 0..table.len() {
         queue.push_back(&mut table, i);
-        assert!(rt; table.spent() <= 4, "push of {i}");
+        expect_few(rt, "push", i, table.spent(), 4);
     }
     (table, queue)
 }
@@ -69,10 +75,10 @@ pub(crate) fn calls_counted<T: LinkTable + Drop>(rt: &impl Abort, table: T, midd
     let len = table.len();
     let (mut table, mut queue) = filled(rt, table);
     queue.remove(&mut table, middle);
-    assert!(rt; table.spent() <= 6, "remove of {len}");
+    expect_few(rt, "remove", len, table.spent(), 6);
     queue.push_back(&mut table, middle);
-    assert!(rt; table.spent() <= 4, "push_back of {len}");
-    assert!(rt; queue.pop_front(&mut table) == Some(0));
-    assert!(rt; table.spent() <= 4, "pop_front of {len}");
-    assert!(rt; queue.len() == len - 1);
+    expect_few(rt, "push_back", len, table.spent(), 4);
+    expect_equal(rt, queue.pop_front(&mut table), Some(0));
+    expect_few(rt, "pop_front", len, table.spent(), 4);
+    expect_equal(rt, queue.len(), len - 1);
 }

@@ -3,6 +3,7 @@ ghost use Rattle.std.specs.Prelude.{◌≡◌, ◌+◌, ◌≤◌, ⊤, [], ◌�
 ghost use Rattle.thp_links.specs.Prelude.{Apart, without, Stands, ChainStands};
 
 use crate::counting::calls_counted;
+use crate::equal::expect_equal;
 use std::alloc::{AllocError, Global};
 use std::process::Abort;
 use std::test::Fail;
@@ -77,14 +78,14 @@ fn queue_by_hand(rt: &impl Abort, table: &mut Pairs)
     requires { length table.old.pairs.items ≡ 4 }
 {
     let mut queue = queue_of_three(table);
-    assert!(rt; queue.len() == 3);
+    expect_equal(rt, queue.len(), 3);
     queue.remove(table, 0);
-    assert!(rt; queue.pop_front(table) == Some(2));
-    assert!(rt; queue.pop_front(table) == Some(3));
-    assert!(rt; queue.pop_front(table) == None);
-    assert!(rt; queue.front() == None);
+    expect_equal(rt, queue.pop_front(table), Some(2));
+    expect_equal(rt, queue.pop_front(table), Some(3));
+    expect_equal(rt, queue.pop_front(table), None);
+    expect_equal(rt, queue.front(), None);
     queue.push_back(table, 0);
-    assert!(rt; queue.front() == Some(0));
+    expect_equal(rt, queue.front(), Some(0));
 }
 
 // The same for a chain.
@@ -94,10 +95,10 @@ fn chain_by_hand(rt: &impl Abort, table: &mut Pairs)
     let mut chain = FreeChain::new();
     chain.push(table, 1);
     chain.push(table, 3);
-    assert!(rt; chain.first() == Some(3));
-    assert!(rt; chain.pop(table) == Some(3));
-    assert!(rt; chain.pop(table) == Some(1));
-    assert!(rt; chain.pop(table) == None);
+    expect_equal(rt, chain.first(), Some(3));
+    expect_equal(rt, chain.pop(table), Some(3));
+    expect_equal(rt, chain.pop(table), Some(1));
+    expect_equal(rt, chain.pop(table), None);
 }
 
 #[test]
@@ -151,19 +152,22 @@ fn release<T: LinkTable>(table: &mut T, free: &mut FreeChain, queue: &mut Queue,
     free.push(table, i);
 }
 
-// A block moves from the free chain to the queue and back, in one table.
-#[test]
-fn one_table_serves_both(rt: HostRuntime) -> Result<(), Fail> {
-    let mut table = Pairs::new(rt.alloc(), 4)?;
+// A block moves from the free chain to the queue and back.
+fn there_and_back(rt: &impl Abort, table: &mut Pairs)
+    requires { length table.old.pairs.items ≡ 4 }
+{
     let mut free = FreeChain::new();
     let mut queue = Queue::new();
-    free.push(&mut table, 2);
-    free.push(&mut table, 3);
-    assert!(rt; enqueue_free(&mut table, &mut free, &mut queue) == Some(3));
-    assert!(rt; queue.front() == Some(3));
-    assert!(rt; free.first() == Some(2));
-    release(&mut table, &mut free, &mut queue, 3);
-    assert!(rt; queue.front() == None);
-    assert!(rt; free.first() == Some(3));
+    free.push(table, 2);
+    free.push(table, 3);
+    assert!(rt; enqueue_free(table, &mut free, &mut queue) == Some(3));
+    expect_equal(rt, (queue.front(), free.first()), (Some(3), Some(2)));
+    release(table, &mut free, &mut queue, 3);
+    expect_equal(rt, (queue.front(), free.first()), (None, Some(3)));
+}
+
+#[test]
+fn one_table_serves_both(rt: HostRuntime) -> Result<(), Fail> {
+    there_and_back(&rt, &mut Pairs::new(rt.alloc(), 4)?);
     Ok(())
 }

@@ -2,6 +2,7 @@
 ghost use Rattle.std.specs.Prelude.{◌+◌, ◌≤◌};
 
 use crate::calls::{Answer, Call, change, expect, repeat};
+use crate::equal::expect_equal;
 use std::process::Abort;
 use thp_history::{Refusal, SubSet};
 use thp_page::{Change, Page};
@@ -21,16 +22,20 @@ fn up_and_down(rt: &impl Abort, first: u32, count: u32)
         (Call::MapSub(511, 1), Answer::Done),
     ];
     expect(rt, &mut page, &steps);
-    assert!(rt; page.own(first) == 65_535);
-    assert!(rt; page.own(first + count) == 1);
-    assert!(rt; page.own(512) == 0);
+    expect_equal(rt, page.own(first), 65_535);
+    expect_equal(rt, page.own(first + count), 1);
+    expect_equal(rt, page.own(512), 0);
     repeat(rt, &mut page, &[(unmap, change(false, true))], 65_534);
     let steps = [
         (unmap, change(true, true)),
         (unmap, Answer::Refused(Refusal::NotMapped)),
     ];
     expect(rt, &mut page, &steps);
-    assert!(rt; page.in_use_set() == SubSet::full(9).difference(SubSet::range(first, count)));
+    expect_equal(
+        rt,
+        page.in_use_set(),
+        SubSet::full(9).difference(SubSet::range(first, count)),
+    );
 }
 
 #[test]

@@ -2,6 +2,7 @@
 ghost use Rattle.std.specs.Prelude.{◌≡◌, ◌≤◌};
 
 use crate::calls::{Answer, Call, change, expect, repeat};
+use crate::equal::expect_equal;
 use std::process::Abort;
 use thp_history::{Refusal, SubSet};
 use thp_page::{Change, Page};
@@ -12,7 +13,7 @@ fn counts_at_their_limit_at(rt: &impl Abort, order: u32)
 {
     let mut page = Page::fresh(order);
     repeat(rt, &mut page, &[(Call::MapWhole, Answer::Done)], 65_534);
-    assert!(rt; page.whole() == 65_535);
+    expect_equal(rt, page.whole(), 65_535);
     let steps = [
         (Call::MapWhole, Answer::Refused(Refusal::TooMany)),
         (Call::MapSub(0, 1), Answer::Refused(Refusal::TooMany)),
@@ -20,7 +21,7 @@ fn counts_at_their_limit_at(rt: &impl Abort, order: u32)
         (Call::MapSub(0, 1), Answer::Refused(Refusal::TooMany)),
     ];
     expect(rt, &mut page, &steps);
-    assert!(rt; page.whole() == 65_534);
+    expect_equal(rt, page.whole(), 65_534);
 
     let mut pinned = Page::fresh(order);
     repeat(rt, &mut pinned, &[(Call::Pin, Answer::Done)], 65_535);
@@ -29,7 +30,7 @@ fn counts_at_their_limit_at(rt: &impl Abort, order: u32)
         &mut pinned,
         &[(Call::Pin, Answer::Refused(Refusal::TooMany))],
     );
-    assert!(rt; pinned.pins() == 65_535);
+    expect_equal(rt, pinned.pins(), 65_535);
 }
 
 #[test]
@@ -70,7 +71,7 @@ fn refusals_after_a_split_at(rt: &impl Abort, order: u32, last: u32)
         (Call::UnmapSub(0, 1), freed),
     ];
     expect(rt, &mut page, &steps);
-    assert!(rt; !page.has_use());
+    expect_equal(rt, page.has_use(), false);
 }
 
 #[test]
@@ -177,14 +178,18 @@ fn split_of_a_mapped_page_at(rt: &impl Abort, order: u32, last: u32)
         (Call::UnmapSub(0, 1), change(true, true)),
     ];
     expect(rt, &mut page, &unmapped);
-    assert!(rt; page.in_use_set() == SubSet::range(1, last));
+    expect_equal(rt, page.in_use_set(), SubSet::range(1, last));
     let split = [
         (Call::MapWhole, Answer::Done),
         (Call::Split(false), Answer::GaveBack(SubSet::empty())),
     ];
     expect(rt, &mut page, &split);
-    assert!(rt; page.in_use_set() == SubSet::full(order));
-    assert!(rt; (page.whole(), page.is_split(), page.order()) == (0, true, order));
+    expect_equal(rt, page.in_use_set(), SubSet::full(order));
+    expect_equal(
+        rt,
+        (page.whole(), page.is_split(), page.order()),
+        (0, true, order),
+    );
 }
 
 #[test]
@@ -207,10 +212,10 @@ fn pinned_page_is_freed_by_unpin_at(rt: &impl Abort, order: u32)
         (Call::UnmapWhole, change(true, false)),
     ];
     expect(rt, &mut page, &unmapped);
-    assert!(rt; page.pins() == 1);
+    expect_equal(rt, page.pins(), 1);
     expect(rt, &mut page, &[(Call::Unpin, Answer::Done)]);
-    assert!(rt; (page.pins(), page.has_use()) == (0, false));
-    assert!(rt; page.in_use_set() == SubSet::empty());
+    expect_equal(rt, (page.pins(), page.has_use()), (0, false));
+    expect_equal(rt, page.in_use_set(), SubSet::empty());
 }
 
 #[test]
@@ -234,6 +239,6 @@ fn subpages_go_out_of_use_one_by_one(rt: HostRuntime) {
         (Call::UnmapSub(3, 1), change(true, true)),
     ];
     expect(&rt, &mut page, &unmapped);
-    assert!(rt; page.order() == 2);
+    expect_equal(&rt, page.order(), 2);
     assert!(rt; page.in_use(0) && !page.in_use(3));
 }

@@ -1,4 +1,5 @@
 //! Sets of subpages and shapes, with values counted manually.
+use crate::equal::expect_equal;
 use std::process::Abort;
 use thp_history::{Shape, SubSet};
 
@@ -38,7 +39,7 @@ fn ranges_and_full_sets(rt: HostRuntime) {
         (SubSet::range(0, 512), 512),
         (SubSet::range(511, 1), 1),
     ] {
-        assert!(rt; set.count() == want);
+        expect_equal(&rt, set.count(), want);
     }
     let full = [
         (SubSet::full(2), SubSet::range(0, 4)),
@@ -51,7 +52,7 @@ fn ranges_and_full_sets(rt: HostRuntime) {
 fn sets_of_two(rt: HostRuntime) {
     let (low, high) = (SubSet::range(0, 300), SubSet::range(200, 312));
     let mut one = SubSet::empty();
-    assert!(rt; one.is_empty());
+    expect_equal(&rt, one.is_empty(), true);
     one.insert(300);
     let rows = [
         (low.union(high), SubSet::full(9)),
@@ -60,7 +61,7 @@ fn sets_of_two(rt: HostRuntime) {
     ];
     expect_same(&rt, &rows);
     assert!(rt; low.difference(SubSet::full(9)).is_empty());
-    assert!(rt; !low.is_empty());
+    expect_equal(&rt, low.is_empty(), false);
     assert!(rt; one != low);
 }
 
@@ -69,7 +70,7 @@ fn sets_of_two(rt: HostRuntime) {
 fn sets_word_by_word(rt: HostRuntime) {
     let range = SubSet::range(60, 70);
     let words = [range.word(0), range.word(1), range.word(2), range.word(3)];
-    assert!(rt; words == [0xf000_0000_0000_0000, u64::MAX, 3, 0]);
+    expect_equal(&rt, words, [0xf000_0000_0000_0000, u64::MAX, 3, 0]);
     let mut written = range;
     written.set_word(1, 0);
     let rows = [
@@ -82,7 +83,7 @@ fn sets_word_by_word(rt: HostRuntime) {
         (range.symmetric_difference(range), SubSet::empty()),
     ];
     expect_same(&rt, &rows);
-    assert!(rt; range.symmetric_difference(range).is_empty());
+    expect_equal(&rt, range.symmetric_difference(range).is_empty(), true);
 }
 
 #[test]
@@ -92,8 +93,8 @@ fn shapes(rt: HostRuntime) {
         order: 9,
         underused: None,
     };
-    assert!(rt; shape.is_valid());
-    assert!(rt; shape.subpages() == 512);
+    expect_equal(&rt, shape.is_valid(), true);
+    expect_equal(&rt, shape.subpages(), 512);
     for (blocks, order) in [(0, 9), (4097, 9), (1, 1), (1, 10)] {
         let shape = Shape {
             blocks,
@@ -117,7 +118,7 @@ fn thresholds(rt: HostRuntime) {
             order: 2,
             underused,
         };
-        assert!(rt; shape.is_valid() == is_valid);
-        assert!(rt; shape.shrinks_underused() == is_on);
+        expect_equal(&rt, shape.is_valid(), is_valid);
+        expect_equal(&rt, shape.shrinks_underused(), is_on);
     }
 }

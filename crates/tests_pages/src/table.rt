@@ -5,6 +5,7 @@ ghost use Rattle.thp_history.specs.Pages.{Pinned};
 ghost use Rattle.thp_page.specs.Prelude.{Slot, slot_at, with_slot, fresh_slot};
 
 use crate::counting::calls_counted;
+use crate::equal::expect_equal;
 use std::process::Abort;
 use std::test::Fail;
 use thp_history::{PageId, Refusal};
@@ -61,12 +62,17 @@ fn pair_after<T: LinkTable>(table: &mut T, i: u32, link: Link) -> Link
 }
 
 // A new table of four blocks has no page, and one that is placed is found by its number.
+fn expect_found(rt: &impl Abort, table: &mut PageTable)
+    requires { length table.old.links ≡ 4 }
+{
+    expect_equal(rt, table.len(), 4);
+    put(rt, table, 2, PageId(0));
+    expect_equal(rt, table.block_of(PageId(0)), Some(2));
+}
+
 #[test]
 fn limits_and_constructors(rt: HostRuntime) -> Result<(), Fail> {
-    let mut table = PageTable::new(rt.alloc(), 4, 9)?;
-    assert!(rt; table.len() == 4);
-    put(&rt, &mut table, 2, PageId(0));
-    assert!(rt; table.block_of(PageId(0)) == Some(2));
+    expect_found(&rt, &mut PageTable::new(rt.alloc(), 4, 9)?);
     Ok(())
 }
 
@@ -79,8 +85,8 @@ fn page_comes(rt: &impl Abort, table: &mut PageTable, id: PageId)
     ensures occupied { IsSome (slot_at table.new 2) }
 {
     put(rt, table, 2, id);
-    assert!(rt; table.standing(2) == Standing::Nowhere);
-    assert!(rt; pins_at(table, 2) == 0);
+    expect_equal(rt, table.standing(2), Standing::Nowhere);
+    expect_equal(rt, pins_at(table, 2), 0);
 }
 
 // The page of block 2 is pinned, and moves into a batch.
@@ -92,10 +98,10 @@ fn page_moves(rt: &impl Abort, table: &mut PageTable)
     ensures slots { length table.new.slots ≡ 4 }
     ensures occupied { IsSome (slot_at table.new 2) }
 {
-    assert!(rt; pin_at(table, 2) == Ok(()));
+    expect_equal(rt, pin_at(table, 2), Ok(()));
     table.set_standing(2, Standing::Batch(5));
-    assert!(rt; pins_at(table, 2) == 1);
-    assert!(rt; table.standing(2) == Standing::Batch(5));
+    expect_equal(rt, pins_at(table, 2), 1);
+    expect_equal(rt, table.standing(2), Standing::Batch(5));
 }
 
 // The page of block 2, which has this number, is removed.
@@ -107,43 +113,65 @@ fn page_goes(rt: &impl Abort, table: &mut PageTable, id: PageId)
     ensures slots { length table.new.slots ≡ 4 }
 {
     table.clear(2);
-    assert!(rt; table.block_of(id) == None);
-    assert!(rt; table.page(2).is_none());
+    let is_empty = table.page(2).is_none();
+    expect_equal(rt, (table.block_of(id), is_empty), (None, true));
 }
 
 // A page is placed, pinned, moved between lists and taken away, and its block's pair stays.
-#[test]
-fn page_comes_and_goes(rt: HostRuntime) -> Result<(), Fail> {
-    let mut table = PageTable::new(rt.alloc(), 4, 9)?;
+fn come_and_go(rt: &impl Abort, table: &mut PageTable)
+    requires size { length table.old.links ≡ 4 }
+    requires slots { length table.old.slots ≡ 4 }
+{
     let link = Link { prev: 3, next: 0 };
-    assert!(rt; pair_after(&mut table, 2, link) == link);
+    expect_equal(rt, pair_after(table, 2, link), link);
     let alone = Link {
         prev: NIL,
         next: NIL,
     };
-    assert!(rt; table.link(1) == alone);
-    page_comes(&rt, &mut table, PageId(7));
-    page_moves(&rt, &mut table);
-    assert!(rt; table.link(2) == link);
-    page_goes(&rt, &mut table, PageId(7));
-    assert!(rt; table.link(2) == link);
-    page_comes(&rt, &mut table, PageId(8));
+    expect_equal(rt, table.link(1), alone);
+    page_comes(rt, table, PageId(7));
+    page_moves(rt, table);
+    expect_equal(rt, table.link(2), link);
+    page_goes(rt, table, PageId(7));
+    expect_equal(rt, table.link(2), link);
+    page_comes(rt, table, PageId(8));
+}
+
+#[test]
+fn page_comes_and_goes(rt: HostRuntime) -> Result<(), Fail> {
+    come_and_go(&rt, &mut PageTable::new(rt.alloc(), 4, 9)?);
     Ok(())
 }
 
-// In a full table whose numbers all share their low bits each of them is found, and no other.
-#[test]
-fn numbers_alike_are_found(rt: HostRuntime) -> Result<(), Fail> {
-    let mut table = PageTable::new(rt.alloc(), 4096, 2)?;
+// A page comes into each block, with numbers that all share their low bits.
+fn fill_alike(rt: &impl Abort, table: &mut PageTable)
+    requires { length table.old.links ≡ 4096 }
+{
     for block in 0..4096 {
-        put(&rt, &mut table, block, PageId(block as u64 * 65_536));
+        put(rt, table, block, PageId(block as u64 * 65_536));
     }
+}
+
+// Each of these numbers is found, and no other.
+fn expect_alike(rt: &impl Abort, table: &PageTable) {
     for block in 0..4096 {
         let number = block as u64 * 65_536;
-        assert!(rt; table.block_of(PageId(number)) == Some(block));
-        assert!(rt; table.block_of(PageId(number + 1)) == None);
-        assert!(rt; table.block_of(PageId(u64::MAX - number)) == None);
+        expect_equal(rt, table.block_of(PageId(number)), Some(block));
+        expect_equal(rt, table.block_of(PageId(number + 1)), None);
+        expect_equal(rt, table.block_of(PageId(u64::MAX - number)), None);
     }
+}
+
+fn find_alike(rt: &impl Abort, table: &mut PageTable)
+    requires { length table.old.links ≡ 4096 }
+{
+    fill_alike(rt, table);
+    expect_alike(rt, table);
+}
+
+#[test]
+fn numbers_alike_are_found(rt: HostRuntime) -> Result<(), Fail> {
+    find_alike(&rt, &mut PageTable::new(rt.alloc(), 4096, 2)?);
     Ok(())
 }
 

@@ -1,5 +1,6 @@
 //! Worked rows on zero-filled subpages, of pages of order 2 unless stated otherwise.
 use crate::calls::{Answer, Call, change, expect};
+use crate::equal::expect_equal;
 use std::process::Abort;
 use thp_history::{Refusal, SubSet};
 use thp_page::{Change, Page};
@@ -15,9 +16,9 @@ fn last_unmap(released: SubSet) -> Answer {
 
 // The zero-filled subpages of a page, and whether it is partly mapped.
 fn expect_zeros(rt: &impl Abort, page: &Page, zeros: SubSet, partly: bool) {
-    assert!(rt; page.zero_set() == zeros);
-    assert!(rt; page.zero_count() == zeros.count());
-    assert!(rt; page.is_partly() == partly);
+    expect_equal(rt, page.zero_set(), zeros);
+    expect_equal(rt, page.zero_count(), zeros.count());
+    expect_equal(rt, page.is_partly(), partly);
 }
 
 #[test]
@@ -101,7 +102,7 @@ fn expect_worth(rt: &impl Abort, page: &Page, wants: [bool; 4]) {
         page.is_split_candidate(Some(1)),
         page.is_split_candidate(Some(3)),
     ];
-    assert!(rt; told == wants);
+    expect_equal(rt, told, wants);
 }
 
 // A split gives back unused and zero-filled subpages; the mappings of the latter remain, and their unmaps give nothing back.
@@ -120,7 +121,7 @@ fn split_gives_zero_filled_frames(rt: HostRuntime) {
         (Call::UnmapSub(1, 2), last_unmap(SubSet::range(1, 2))),
     ];
     expect(&rt, &mut page, &steps);
-    assert!(rt; !page.has_use());
+    expect_equal(&rt, page.has_use(), false);
 }
 
 #[test]

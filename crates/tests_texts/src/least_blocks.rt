@@ -159,26 +159,31 @@ fn pages_of_no_legal_history(rt: HostRuntime) {
     expect_rows(&rt, alloc, 8, "large numbers", &large);
 }
 
-// All blocks of the largest node, given back from the last to the first.
+fn add(rt: &impl Abort, rows: &mut Vec<Row>, row: Row) {
+    rows.push(row).expect(rt, "memory");
+}
+
+// Adds rows that fill all blocks, and give them back from the last to the first.
+fn add_all_blocks(rt: &impl Abort, rows: &mut Vec<Row>) {
+    for block in 0..4096u32 {
+        add(rt, rows, Row::Gets(u64::from(block), block));
+    }
+    add(rt, rows, Row::Gets(4096, 0));
+    for back in 1..4096u32 {
+        let block = 4096 - back;
+        add(rt, rows, Row::Frees(u64::from(block)));
+        add(rt, rows, Row::Gets(4096 + u64::from(back), block));
+    }
+    add(rt, rows, Row::Frees(0));
+    add(rt, rows, Row::Gets(10_000, 0));
+    add(rt, rows, Row::Frees(4096));
+    add(rt, rows, Row::Gets(10_001, 0));
+}
+
 #[test]
 fn largest_node(rt: HostRuntime) {
     let alloc = rt.alloc();
     let mut rows = Vec::new(alloc);
-    for block in 0..4096u32 {
-        rows.push(Row::Gets(u64::from(block), block))
-            .expect(&rt, "memory");
-    }
-    rows.push(Row::Gets(4096, 0)).expect(&rt, "memory");
-    for back in 1..4096u32 {
-        let block = 4096 - back;
-        rows.push(Row::Frees(u64::from(block)))
-            .expect(&rt, "memory");
-        rows.push(Row::Gets(4096 + u64::from(back), block))
-            .expect(&rt, "memory");
-    }
-    rows.push(Row::Frees(0)).expect(&rt, "memory");
-    rows.push(Row::Gets(10_000, 0)).expect(&rt, "memory");
-    rows.push(Row::Frees(4096)).expect(&rt, "memory");
-    rows.push(Row::Gets(10_001, 0)).expect(&rt, "memory");
+    add_all_blocks(&rt, &mut rows);
     expect_rows(&rt, alloc, 4096, "largest node", &rows);
 }

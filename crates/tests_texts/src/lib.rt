@@ -2,13 +2,15 @@
 //!
 //! - `grammar`: settings, words of a command line, lists and scripts as they are read.
 //! - `journals` (written), `reading` (read and checked), `least_blocks`, `reports`.
-//! - `drawing`: numbers over the events (`checks`, `columns`, `nodes`), `tables` and `pictures`.
+//! - `drawing`: numbers over the events (`checks`, `columns`, `nodes`), `tables` and `pictures`. `equal` compares results.
 //!
 //! It uses the libraries from above, so that they are proved once.
 #![tactic(auto)]
 
 #[cfg(test)]
 mod drawing;
+#[cfg(test)]
+mod equal;
 #[cfg(test)]
 mod grammar;
 #[cfg(test)]

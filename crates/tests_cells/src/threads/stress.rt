@@ -5,6 +5,7 @@ ghost use Rattle.std.specs.Thread.{IsSync};
 ghost use Rattle.thp_node.specs.Prelude.{IsInFront};
 ghost use Rattle.thp_cell.specs.Prelude.{HasCaller, HasAll, IsJoined, at_front, BatchesStay};
 
+use crate::equal::expect_equal;
 use crate::steps::cell_of;
 use std::alloc::Global;
 use std::process::Abort;
@@ -380,11 +381,11 @@ fn node_of_four_threads<R: Threads + Sync + Abort>(rt: &R, alloc: Global) -> (No
 
 // The journal is legal, and the events of each caller are those of its log.
 fn expect_logs(rt: &impl Abort, alloc: Global, node: &Node, of_low: &Logs, of_high: &Logs) {
-    assert!(rt; is_legal(alloc, node));
-    assert!(rt; is_log(node, 0, &of_low.0));
-    assert!(rt; is_log(node, 1, &of_low.1));
-    assert!(rt; is_log(node, 2, &of_high.0));
-    assert!(rt; is_log(node, 3, &of_high.1));
+    expect_equal(rt, is_legal(alloc, node), true);
+    expect_equal(rt, is_log(node, 0, &of_low.0), true);
+    expect_equal(rt, is_log(node, 1, &of_low.1), true);
+    expect_equal(rt, is_log(node, 2, &of_high.0), true);
+    expect_equal(rt, is_log(node, 3, &of_high.1), true);
 }
 
 #[test]

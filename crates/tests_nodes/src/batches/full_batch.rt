@@ -2,7 +2,7 @@
 
 use crate::batches::steps::{BatchStep, expect_batches};
 use crate::nodes::{event_count, expect, expect_queued, is_scanned, node_of, queue_page};
-use std::alloc::{AllocError, Global};
+use std::alloc::Global;
 use std::process::Abort;
 use tests_steps::{Answer, Call};
 use thp_history::{Event, PageId, What};
@@ -14,11 +14,15 @@ const MOST: u64 = 128;
 // A node whose queue has the pages 0 to 127, each with a pin.
 fn node_of_pinned(rt: &impl Abort, alloc: Global) -> Node {
     let mut node = node_of(rt, alloc, 4096);
-    for number in 0..MOST {
-        queue_page(rt, &mut node, number);
-        expect(rt, &mut node, 0, &[(Call::Pin(number), Answer::Done)]);
-    }
+    queue_pinned(rt, &mut node);
     node
+}
+
+fn queue_pinned(rt: &impl Abort, node: &mut Node) {
+    for number in 0..MOST {
+        queue_page(rt, node, number);
+        expect(rt, node, 0, &[(Call::Pin(number), Answer::Done)]);
+    }
 }
 
 // The event at this index of a take of all pages, a try of each and a put back.
@@ -33,12 +37,15 @@ fn event_at(place: u64) -> What {
 
 // The events from `from` on are these 384.
 fn is_round(events: &[Event], from: usize) -> bool {
-    for (place, event) in (0..384).zip(events.iter().skip(from)) {
-        if event.what != event_at(place) {
+    let Some(events) = events.get(from..) else {
+        return false;
+    };
+    for (place, event) in events.iter().enumerate() {
+        if event.what != event_at(place as u64) {
             return false;
         }
     }
-    events.len() == from.saturating_add(384)
+    events.len() == 384
 }
 
 // From `from` on every page was taken, tried and put back, in the order of the queue, and nothing else happened.
@@ -68,27 +75,34 @@ fn scan_of_a_full_batch(rt: HostRuntime) {
     drop(node);
 }
 
-// A take of the pages 0 to 127, a try of each, one more that finds none left, and the put back.
-fn full_steps(alloc: Global) -> Result<Vec<BatchStep>, AllocError> {
-    let mut steps = Vec::new(alloc);
-    steps.push(BatchStep::Take(5, 128, 128))?;
-    steps.push(BatchStep::Queued(0))?;
+fn add(rt: &impl Abort, steps: &mut Vec<BatchStep>, step: BatchStep) {
+    steps.push(step).expect(rt, "memory");
+}
+
+// Adds a take of the pages 0 to 127, a try of each, one more that finds none left, and the put back.
+fn add_full_steps(rt: &impl Abort, steps: &mut Vec<BatchStep>) {
+    add(rt, steps, BatchStep::Take(5, 128, 128));
+    add(rt, steps, BatchStep::Queued(0));
     for number in 0..MOST {
-        steps.push(BatchStep::Pinned(number))?;
+        add(rt, steps, BatchStep::Pinned(number));
     }
-    steps.push(BatchStep::NoMore)?;
-    steps.push(BatchStep::PutBack(128, 0))?;
-    steps.push(BatchStep::Queued(128))?;
-    Ok(steps)
+    add(rt, steps, BatchStep::NoMore);
+    add(rt, steps, BatchStep::PutBack(128, 0));
+    add(rt, steps, BatchStep::Queued(128));
+}
+
+fn expect_tries(rt: &impl Abort, node: &mut Node, steps: &[BatchStep]) {
+    let from = event_count(node);
+    assert!(rt; has_room(node));
+    expect_batches(rt, node, steps);
+    expect_round(rt, node, from);
 }
 
 #[test]
 fn tries_of_a_full_batch(rt: HostRuntime) {
-    let steps = full_steps(rt.alloc()).expect(&rt, "memory");
+    let mut steps = Vec::new(rt.alloc());
+    add_full_steps(&rt, &mut steps);
     let mut node = node_of_pinned(&rt, rt.alloc());
-    let from = event_count(&node);
-    assert!(rt; has_room(&mut node));
-    let node = expect_batches(&rt, node, &steps);
-    expect_round(&rt, &node, from);
+    expect_tries(&rt, &mut node, &steps);
     drop(node);
 }

@@ -2,8 +2,9 @@
 use crate::batches::steps::{
     BatchStep, expect_batch_row, expect_has_batch, expect_put_back, take_these,
 };
+use crate::equal::expect_equal;
 use crate::event_rows::{ONE, TWO, ZERO};
-use crate::nodes::{expect, expect_queued, node_of, node_with_queued};
+use crate::nodes::{Start, expect, expect_queued, node_with_queued};
 use std::process::Abort;
 use tests_steps::{Answer, Call, FREED, QUEUED, STAYS};
 use thp_history::{Outcome, PageId, Refusal};
@@ -27,7 +28,7 @@ const FREED_AND_REUSED: &[BatchStep] = &[
 
 #[test]
 fn freed_from_a_batch_and_block_reused(rt: HostRuntime) {
-    expect_batch_row(&rt, node_of(&rt, rt.alloc(), 1), FREED_AND_REUSED);
+    expect_batch_row(&rt, rt.alloc(), Start::Empty(1), FREED_AND_REUSED);
 }
 
 const DROPPED_WHEN_CLOSED: &[BatchStep] = &[
@@ -47,8 +48,7 @@ const DROPPED_WHEN_CLOSED: &[BatchStep] = &[
 
 #[test]
 fn closed_node_drops(rt: HostRuntime) {
-    let node = node_with_queued(&rt, rt.alloc(), 2);
-    expect_batch_row(&rt, node, DROPPED_WHEN_CLOSED);
+    expect_batch_row(&rt, rt.alloc(), Start::Queued(2), DROPPED_WHEN_CLOSED);
 }
 
 const ONE_AT_A_TIME: &[BatchStep] = &[
@@ -63,8 +63,7 @@ const ONE_AT_A_TIME: &[BatchStep] = &[
 
 #[test]
 fn one_batch_at_a_time(rt: HostRuntime) {
-    let node = node_with_queued(&rt, rt.alloc(), 1);
-    expect_batch_row(&rt, node, ONE_AT_A_TIME);
+    expect_batch_row(&rt, rt.alloc(), Start::Queued(1), ONE_AT_A_TIME);
 }
 
 const ABANDONED: &[BatchStep] = &[
@@ -80,8 +79,7 @@ const ABANDONED: &[BatchStep] = &[
 // A batch without remaining pages may be discarded.
 #[test]
 fn abandoned_after_its_split(rt: HostRuntime) {
-    let node = node_with_queued(&rt, rt.alloc(), 1);
-    expect_batch_row(&rt, node, ABANDONED);
+    expect_batch_row(&rt, rt.alloc(), Start::Queued(1), ABANDONED);
 }
 
 // Each of two callers takes a page and puts it back, the second one first.
@@ -129,8 +127,7 @@ const FREED_AROUND: &[BatchStep] = &[
 // A batch is still a prefix of its flight after calls of others and of its own caller, whatever they free.
 #[test]
 fn freed_around_a_batch(rt: HostRuntime) {
-    let node = node_with_queued(&rt, rt.alloc(), 3);
-    expect_batch_row(&rt, node, FREED_AROUND);
+    expect_batch_row(&rt, rt.alloc(), Start::Queued(3), FREED_AROUND);
 }
 
 fn block_of(node: &Node, page: PageId) -> Option<u32> {
@@ -146,10 +143,10 @@ fn only_block(rt: &impl Abort, node: &Node) -> Option<u32> {
 // Once the older of two pages is freed, the queue has the other one's block.
 fn expect_block_of_the_other(rt: &impl Abort, node: &mut Node) {
     let block = block_of(node, PageId(1));
-    assert!(rt; block.is_some());
+    expect_equal(rt, block.is_some(), true);
     expect(rt, node, 0, &[(Call::UnmapSub(ZERO, 1, 511), FREED)]);
-    assert!(rt; only_block(rt, node) == block);
-    assert!(rt; block_of(node, PageId(0)) == None);
+    expect_equal(rt, only_block(rt, node), block);
+    expect_equal(rt, block_of(node, PageId(0)), None);
 }
 
 // The queue is in the table's links, by the blocks of its pages.

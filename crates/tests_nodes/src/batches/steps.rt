@@ -2,7 +2,9 @@
 ghost use Rattle.std.specs.Prelude.{◌≡◌, ◌<◌, ◌≤◌, IfSome};
 ghost use Rattle.thp_node.specs.Prelude.{IsInFront, FrontsStay, OtherFrontsStay};
 
-use crate::nodes::{has_frames, is_scanned};
+use crate::equal::expect_equal;
+use crate::nodes::{Start, has_frames, is_scanned, node_at};
+use std::alloc::Global;
 use std::process::Abort;
 use tests_steps::{Answer, Call, answer_of};
 use thp_history::{PageId, Refusal};
@@ -53,7 +55,7 @@ pub(crate) fn expect_put_back(
     ensures { FrontsStay node.old.journal node.new.journal }
 {
     match node.put_back(batch) {
-        Ok(reply) => assert!(rt; reply == BackReply { back, dropped }),
+        Ok(reply) => expect_equal(rt, reply, BackReply { back, dropped }),
         Err(_) => panic!(rt; "a put-back was refused"),
     }
 }
@@ -64,14 +66,14 @@ pub(crate) fn expect_has_batch(rt: &impl Abort, node: &mut Node, caller: u32, n:
     requires count { n ≤ 128 }
     ensures { FrontsStay node.old.journal node.new.journal }
 {
-    match node.take(caller, n) {
-        Ok(_) => panic!(rt; "a take was not refused"),
-        Err(refusal) => assert!(rt; refusal == Refusal::HasBatch),
-    }
-    match node.scan(caller, n) {
-        Ok(_) => panic!(rt; "a scan was not refused"),
-        Err(refusal) => assert!(rt; refusal == Refusal::HasBatch),
-    }
+    let Err(refusal) = node.take(caller, n) else {
+        panic!(rt; "a take was not refused");
+    };
+    expect_equal(rt, refusal, Refusal::HasBatch);
+    let Err(refusal) = node.scan(caller, n) else {
+        panic!(rt; "a scan was not refused");
+    };
+    expect_equal(rt, refusal, Refusal::HasBatch);
 }
 
 // A step of a row with one batch at a time, with the result that the row expects.
@@ -227,18 +229,18 @@ fn made(
 }
 
 // Makes the steps of a row on a node, one after the other.
-pub(crate) fn expect_batch_row(rt: &impl Abort, node: Node, steps: &[BatchStep]) {
-    drop(expect_batches(rt, node, steps));
-}
-
-// The same, and returns the node.
-pub(crate) fn expect_batches(rt: &impl Abort, node: Node, steps: &[BatchStep]) -> Node {
-    let mut node = node;
+pub(crate) fn expect_batches(rt: &impl Abort, node: &mut Node, steps: &[BatchStep]) {
     let mut batch = None;
     for (place, step) in steps.iter().enumerate() {
-        let (is_made, next) = made(rt, &mut node, batch, *step);
+        let (is_made, next) = made(rt, node, batch, *step);
         assert!(rt; is_made, "step {place}");
         batch = next;
     }
-    node
+}
+
+// The same on a new node.
+pub(crate) fn expect_batch_row(rt: &impl Abort, alloc: Global, start: Start, steps: &[BatchStep]) {
+    let mut node = node_at(rt, alloc, start);
+    expect_batches(rt, &mut node, steps);
+    drop(node);
 }

@@ -1,7 +1,7 @@
 //! Rows of batches on nodes whose shrinker looks for underused pages: order 2, more than one zero-filled subpage.
 use crate::batches::steps::{BatchStep, expect_batch_row};
 use crate::event_rows::{ONE, ZERO};
-use crate::nodes::small_node;
+use crate::nodes::Start;
 use tests_steps::{Answer, Call, STAYS};
 use thp_history::Refusal;
 
@@ -29,7 +29,7 @@ const WRITE_AND_ZERO: &[BatchStep] = &[
 
 #[test]
 fn write_and_zero_refusals(rt: HostRuntime) {
-    expect_batch_row(&rt, small_node(&rt, rt.alloc(), 4), WRITE_AND_ZERO);
+    expect_batch_row(&rt, rt.alloc(), Start::Small(4), WRITE_AND_ZERO);
 }
 
 const FOUND_USED: &[BatchStep] = &[
@@ -49,5 +49,5 @@ const FOUND_USED: &[BatchStep] = &[
 // A try that finds a page in use takes it out of its batch, pinned or not.
 #[test]
 fn used_pages_leave_their_batch(rt: HostRuntime) {
-    expect_batch_row(&rt, small_node(&rt, rt.alloc(), 4), FOUND_USED);
+    expect_batch_row(&rt, rt.alloc(), Start::Small(4), FOUND_USED);
 }

@@ -1,6 +1,7 @@
 //! Rows on the calls about one page: refusals, limits and ranges.
-use crate::calls::steps::{Start, Step, expect_events, expect_row};
+use crate::calls::steps::{Step, expect_events, expect_row};
 use crate::event_rows::{FIRST, Kind, ONE, ZERO};
+use crate::nodes::Start;
 use tests_steps::{Answer, Call, FREED, QUEUED, STAYS};
 use thp_history::{Outcome, Refusal};
 

@@ -1,7 +1,7 @@
 //! Rows on scans, with the events that they record.
-use crate::calls::steps::{Start, Step, expect_events, expect_row};
+use crate::calls::steps::{Step, expect_events, expect_row};
 use crate::event_rows::{FIRST, Kind, NONE, ONE, TWO, ZERO};
-use crate::nodes::node_of;
+use crate::nodes::{Start, node_of};
 use std::alloc::Global;
 use tests_steps::{Answer, Call, FREED, QUEUED, STAYS, shape_of};
 use thp_history::{Outcome, Shape};
@@ -183,9 +183,15 @@ const BAD_SHAPES: &[(u32, u32, Option<u32>)] = &[
     (16, 9, Some(512)),
 ];
 
-// No node has this shape.
-fn is_refused(alloc: Global, shape: Shape) -> bool {
-    matches!(Node::new(alloc, shape), Err(NewFault::BadSize))
+// Why there is no node of this shape; none if there is one.
+fn fault_of(alloc: Global, shape: Shape) -> Option<NewFault> {
+    match Node::new(alloc, shape) {
+        Ok(node) => {
+            drop(node);
+            None
+        }
+        Err(fault) => Some(fault),
+    }
 }
 
 // The index of the first row that is the shape of a node, if there is one.
@@ -196,7 +202,7 @@ fn first_good(alloc: Global, rows: &[(u32, u32, Option<u32>)]) -> Option<usize> 
             order,
             underused,
         };
-        if !is_refused(alloc, shape) {
+        if fault_of(alloc, shape) != Some(NewFault::BadSize) {
             return Some(place);
         }
     }

@@ -1,6 +1,6 @@
 //! Rows as tables of steps: calls, scans, and looks at the node.
 use crate::event_rows::{Kind, what_of};
-use crate::nodes::{has_frames, is_scanned, node_of, node_with_queued, small_node};
+use crate::nodes::{Start, has_frames, is_scanned, node_at};
 use std::alloc::Global;
 use std::process::Abort;
 use tests_steps::{Answer, Call, first_wrong};
@@ -48,25 +48,6 @@ fn is_made(node: &mut Node, step: Step) -> bool {
     }
 }
 
-// The node that a row begins with.
-#[derive(Clone, Copy)]
-pub(crate) enum Start {
-    // of order 9 with so many blocks
-    Empty(u32),
-    // of order 9 with so many pages, all of them queued
-    Queued(u64),
-    // of order 2 with so many blocks, whose shrinker splits pages with more than one zero-filled subpage too
-    Small(u32),
-}
-
-fn node_at(rt: &impl Abort, alloc: Global, start: Start) -> Node {
-    match start {
-        Start::Empty(blocks) => node_of(rt, alloc, blocks),
-        Start::Queued(pages) => node_with_queued(rt, alloc, pages),
-        Start::Small(blocks) => small_node(rt, alloc, blocks),
-    }
-}
-
 // Makes the steps of a row on a node, one after the other.
 fn expect_steps(rt: &impl Abort, node: &mut Node, steps: &[Step]) {
     for (place, step) in steps.iter().enumerate() {
@@ -100,21 +81,21 @@ fn expect_recorded(rt: &impl Abort, node: &mut Node, steps: &[Step], from: usize
     assert!(rt; are_since(node.journal(), from, kinds));
 }
 
-// The index of the first event that is not this one of caller 0, if there is one.
-fn first_other(events: &[Event], kinds: &[Kind]) -> Option<usize> {
-    for (place, (event, kind)) in events.iter().zip(kinds).enumerate() {
+// The events begin with these of caller 0.
+fn begin_with(events: &[Event], kinds: &[Kind]) -> bool {
+    for (place, kind) in kinds.iter().enumerate() {
         let what = what_of(*kind);
-        if *event != (Event { caller: 0, what }) {
-            return Some(place);
+        if events.get(place) != Some(&Event { caller: 0, what }) {
+            return false;
         }
     }
-    None
+    true
 }
 
 // The events since the journal had `from` events are these of caller 0.
 fn are_since(events: &[Event], from: usize, kinds: &[Kind]) -> bool {
     match events.get(from..) {
-        Some(events) => events.len() == kinds.len() && first_other(events, kinds) == None,
+        Some(events) => events.len() == kinds.len() && begin_with(events, kinds),
         None => false,
     }
 }

@@ -1,6 +1,7 @@
 //! Rows on nodes whose shrinker looks for underused pages: order 2, more than one zero-filled subpage.
-use crate::calls::steps::{Start, Step, expect_events, expect_row};
+use crate::calls::steps::{Step, expect_events, expect_row};
 use crate::event_rows::{FIRST, Kind, NONE, ONE, ZERO};
+use crate::nodes::Start;
 use tests_steps::{Answer, Call, QUEUED, STAYS};
 use thp_history::{Outcome, Refusal};
 use thp_node::Counters;

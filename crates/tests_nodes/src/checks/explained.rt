@@ -44,6 +44,7 @@ fn expect_texts<const N: usize>(
     for (then, want) in rows {
         let events = queued_then(rt, alloc, queued, then);
         expect_text(rt, alloc, large(), &events, want);
+        drop(events);
     }
 }
 
@@ -211,11 +212,17 @@ const IN_USE_TEXT: &str =
 const TOO_MANY_TEXT: &str =
     "line 7: 0 pin 0\nexpected: nothing\nwhy: refused too-many: the count is already 65535\n";
 
+// The last of these events does not fit on a small node, and has this explanation.
+fn expect_small_text(rt: &impl Abort, alloc: Global, rows: &[Row], want: &str) {
+    let events = events_of(rt, alloc, rows);
+    expect_text(rt, alloc, small(4), &events, want);
+    drop(events);
+}
+
 #[test]
 fn event_behind_others_is_explained(rt: HostRuntime) {
     expect_texts(&rt, rt.alloc(), 2, EVENT_BEHIND_OTHERS_IS_EXPLAINED);
-    let in_use = events_of(&rt, rt.alloc(), IN_USE);
-    expect_text(&rt, rt.alloc(), small(4), &in_use, IN_USE_TEXT);
+    expect_small_text(&rt, rt.alloc(), IN_USE, IN_USE_TEXT);
     let pin = event_of((0, Kind::Pin(ZERO)));
     let too_many = Misfit::Refused(Refusal::TooMany);
     assert!(rt; is_explained(rt.alloc(), &pin, &too_many, TOO_MANY_TEXT));

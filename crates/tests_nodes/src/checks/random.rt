@@ -2,6 +2,7 @@
 ghost use Rattle.std.specs.Prelude.{◌≡◌, ◌+◌, ◌<◌};
 
 use std::alloc::Global;
+use std::process::Abort;
 use thp_check::check;
 use thp_history::{Event, Outcome, PageId, Shape, SubSet, What};
 use thp_model::check as slow_check;
@@ -142,20 +143,33 @@ fn shape_in(round: u32) -> Shape
     }
 }
 
-// Each event is kept if it fits, so the histories grow, and most events don't fit.
+// Adds an event if it fits. Both checks agree on that.
+fn add(rt: &impl Abort, alloc: Global, shape: Shape, events: &mut Vec<Event>, event: Event)
+    requires { shape.order ≡ 2 }
+{
+    events.push(event).expect(rt, "memory");
+    let (agree, is_legal) = told_by_both(alloc, shape, events);
+    assert!(rt; agree);
+    if !is_legal {
+        let _ = events.pop();
+    }
+}
+
+// Each event is kept if it fits, so the history grows, and most events don't fit.
+fn expect_agreement(rt: &impl Abort, alloc: Global, dice: &mut Dice, shape: Shape)
+    requires { shape.order ≡ 2 }
+{
+    let mut events = Vec::new(alloc);
+    for _ in 0..200 {
+        add(rt, alloc, shape, &mut events, dice.event());
+    }
+    drop(events);
+}
+
 #[test]
 fn both_checks_agree(rt: HostRuntime) {
     let mut dice = Dice { state: 1 };
     for round in 0..12u32 {
-        let shape = shape_in(round);
-        let mut events = Vec::new(rt.alloc());
-        for _ in 0..200 {
-            events.push(dice.event()).expect(&rt, "memory");
-            let (agree, is_legal) = told_by_both(rt.alloc(), shape, &events);
-            assert!(rt; agree);
-            if !is_legal {
-                let _ = events.pop();
-            }
-        }
+        expect_agreement(&rt, rt.alloc(), &mut dice, shape_in(round));
     }
 }

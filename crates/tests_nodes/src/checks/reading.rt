@@ -3,6 +3,7 @@ ghost use Rattle.std.specs.Prelude.{◌≤◌};
 
 use crate::checks::histories::{add_rows, events_of, large, queued_then};
 use crate::checks::underused::small;
+use crate::equal::expect_equal;
 use crate::event_rows::{FIRST, Kind, ONE, Row, TWO, WHOLE, ZERO};
 use std::alloc::Global;
 use std::process::Abort;
@@ -24,7 +25,9 @@ fn replay_of(rt: &impl Abort, alloc: Global, shape: Shape, events: &[Event]) -> 
 // The replay of these rows on a small node.
 fn small_replay(rt: &impl Abort, alloc: Global, rows: &[Row]) -> Replay {
     let events = events_of(rt, alloc, rows);
-    replay_of(rt, alloc, small(4), &events)
+    let replay = replay_of(rt, alloc, small(4), &events);
+    drop(events);
+    replay
 }
 
 // The number of pages ever allocated, the length of the queue, and whether the node is closed.
@@ -44,8 +47,14 @@ fn expect_counts(
     is_closed: bool,
 ) {
     let replay = small_replay(rt, alloc, rows);
+    expect_equal(
+        rt,
+        has_counts(&replay, allocations, queued, is_closed),
+        true,
+    );
     let oldest = (queued > 0).then_some(PageId(ZERO));
-    assert!(rt; has_counts(&replay, allocations, queued, is_closed) && replay.oldest() == oldest);
+    expect_equal(rt, replay.oldest(), oldest);
+    drop(replay);
 }
 
 const TWO_PAGES: &[Row] = &[(0, Kind::Alloc(ZERO, 0)), (0, Kind::Alloc(ONE, 1))];
@@ -65,8 +74,8 @@ fn replay_tells_of_its_node(rt: HostRuntime) {
 
 // The pages have these numbers.
 fn are_numbers(pages: &[PageId], numbers: &[u64]) -> bool {
-    for (page, number) in pages.iter().zip(numbers) {
-        if page.0 != *number {
+    for (place, number) in numbers.iter().enumerate() {
+        if pages.get(place) != Some(&PageId(*number)) {
             return false;
         }
     }
@@ -132,15 +141,26 @@ const TAKEN_BY_64: &[Row] = &[(64, Kind::Taken(TWO))];
 
 fn expect_only_two_queued(rt: &impl Abort, alloc: Global, events: &[Event]) {
     let mut replay = replay_of(rt, alloc, large(), events);
-    assert!(rt; is_queue(&mut replay, alloc, ONLY_TWO));
+    expect_equal(rt, is_queue(&mut replay, alloc, ONLY_TWO), true);
+    drop(replay);
 }
 
 fn expect_standings(rt: &impl Abort, alloc: Global, replay: &Replay) {
-    assert!(rt; is_flight(replay, alloc, 0, ALL_ZERO_AND_ONE));
-    assert!(rt; is_flight(replay, alloc, 64, ONLY_TWO));
-    assert!(rt; are_live(replay, alloc, ALL_LIVE));
-    assert!(rt; is_pinned_in_batch(&page_of(rt, replay, PageId(TWO))));
-    assert!(rt; is_gone(replay, PageId(THREE)));
+    expect_equal(rt, is_flight(replay, alloc, 0, ALL_ZERO_AND_ONE), true);
+    expect_equal(rt, is_flight(replay, alloc, 64, ONLY_TWO), true);
+    expect_equal(rt, are_live(replay, alloc, ALL_LIVE), true);
+    expect_equal(
+        rt,
+        is_pinned_in_batch(&page_of(rt, replay, PageId(TWO))),
+        true,
+    );
+    expect_equal(rt, is_gone(replay, PageId(THREE)), true);
+}
+
+fn expect_standings_after(rt: &impl Abort, alloc: Global, events: &[Event]) {
+    let replay = replay_of(rt, alloc, large(), events);
+    expect_standings(rt, alloc, &replay);
+    drop(replay);
 }
 
 // Pages 0 to 3 of a large node were queued, and page 3 freed. Caller 0 took two of them, and caller 64, whose flight is in the
@@ -151,7 +171,8 @@ fn replay_tells_where_pages_stand(rt: HostRuntime) {
     let mut events = queued_then(&rt, alloc, 4, TAKEN_BY_ZERO);
     expect_only_two_queued(&rt, alloc, &events);
     add_rows(&rt, &mut events, TAKEN_BY_64);
-    expect_standings(&rt, alloc, &replay_of(&rt, alloc, large(), &events));
+    expect_standings_after(&rt, alloc, &events);
+    drop(events);
 }
 
 // The frames held and given back.
@@ -204,14 +225,20 @@ const TWO_SPLITS: &[Row] = &[
 ];
 
 fn expect_sums(rt: &impl Abort, replay: &Replay) {
-    assert!(rt; has_frames(replay, 4, 8));
-    assert!(rt; has_splits(replay, 2, 2));
-    assert!(rt; has_others(replay, 1, 0, 2));
-    assert!(rt; is_split_in_part(&page_of(rt, replay, PageId(ONE))));
-    assert!(rt; has_own(replay));
+    expect_equal(rt, has_frames(replay, 4, 8), true);
+    expect_equal(rt, has_splits(replay, 2, 2), true);
+    expect_equal(rt, has_others(replay, 1, 0, 2), true);
+    expect_equal(
+        rt,
+        is_split_in_part(&page_of(rt, replay, PageId(ONE))),
+        true,
+    );
+    expect_equal(rt, has_own(replay), true);
 }
 
 #[test]
 fn replay_tells_what_events_add_up_to(rt: HostRuntime) {
-    expect_sums(&rt, &small_replay(&rt, rt.alloc(), TWO_SPLITS));
+    let replay = small_replay(&rt, rt.alloc(), TWO_SPLITS);
+    expect_sums(&rt, &replay);
+    drop(replay);
 }

@@ -90,6 +90,7 @@ fn expect_reasons<const N: usize>(
     for (name, then, reason) in rows {
         let events = queued_then(rt, alloc, queued, then);
         expect_reason(rt, alloc, large(), name, &events, *reason);
+        drop(events);
     }
 }
 
@@ -464,13 +465,17 @@ const FOUND_PINNED: &[Row] = &[
 ];
 
 // A new page with data in all subpages but the last is in use.
+// The last of these events does not fit on a small node, for this reason.
+fn expect_small_reason(rt: &impl Abort, alloc: Global, name: &str, rows: &[Row], reason: Reason) {
+    let events = events_of(rt, alloc, rows);
+    expect_reason(rt, alloc, small(4), name, &events, reason);
+    drop(events);
+}
+
 #[test]
 fn reasons_of_pages_in_use(rt: HostRuntime) {
     for (name, rows, reason) in REASONS_OF_PAGES_IN_USE {
-        let events = events_of(&rt, rt.alloc(), rows);
-        expect_reason(&rt, rt.alloc(), small(4), name, &events, *reason);
+        expect_small_reason(&rt, rt.alloc(), name, rows, *reason);
     }
-    let events = events_of(&rt, rt.alloc(), FOUND_PINNED);
-    let in_use = Reason::InUse;
-    expect_reason(&rt, rt.alloc(), small(4), "pinned", &events, in_use);
+    expect_small_reason(&rt, rt.alloc(), "pinned", FOUND_PINNED, Reason::InUse);
 }

@@ -1,4 +1,5 @@
 //! Columns of invented numbers.
+use crate::equal::expect_equal;
 use std::alloc::Global;
 use std::process::Abort;
 use thp_metrics::{Column, Columns, MAX_COLUMNS, Numbers, SHOWN_PAGES, Span, Stage, widened};
@@ -32,41 +33,41 @@ fn a_column_of_one_prefix_has_its_numbers(rt: HostRuntime) {
         least: 7,
         greatest: 7,
     };
-    assert!(rt; column.queue == seven);
-    assert!(rt; column.held == seven);
-    assert!(rt; column.callers == 7);
-    assert!(rt; column.pages == widened(&[7, 0, 0, 0, 0]));
-    assert!(rt; column.pages[Stage::Allocated as usize] == 7);
-    assert!(rt; column.pages[Stage::Queued as usize] == 0);
+    expect_equal(&rt, column.queue, seven);
+    expect_equal(&rt, column.held, seven);
+    expect_equal(&rt, column.callers, 7);
+    expect_equal(&rt, column.pages, widened(&[7, 0, 0, 0, 0]));
+    expect_equal(&rt, column.pages[Stage::Allocated as usize], 7);
+    expect_equal(&rt, column.pages[Stage::Queued as usize], 0);
 }
 
 // The columns of 2,401 prefixes, with the numbers from 0 on.
 fn many_columns(rt: &impl Abort, alloc: Global) -> Columns {
     let mut columns = Columns::new(alloc, &all(0)).expect(rt, "memory");
-    assert!(rt; columns.width() == 1);
+    expect_equal(rt, columns.width(), 1);
     for number in 1..2401 {
         columns.push(&all(number));
     }
-    assert!(rt; columns.width() == 8);
-    assert!(rt; columns.prefixes() == 2401);
+    expect_equal(rt, columns.width(), 8);
+    expect_equal(rt, columns.prefixes(), 2401);
     columns
 }
 
 fn expect_folded(rt: &impl Abort, told: &[Column]) {
-    assert!(rt; told.len() == 301);
+    expect_equal(rt, told.len(), 301);
     assert!(rt; told.len() <= MAX_COLUMNS);
     let second = at(rt, told, 1);
     let queue = Span {
         least: 8,
         greatest: 15,
     };
-    assert!(rt; second.queue == queue);
-    assert!(rt; second.pages[Stage::Allocated as usize] == 92);
+    expect_equal(rt, second.queue, queue);
+    expect_equal(rt, second.pages[Stage::Allocated as usize], 92);
     let given = Span {
         least: 2400,
         greatest: 2400,
     };
-    assert!(rt; at(rt, told, 300).given == given);
+    expect_equal(rt, at(rt, told, 300).given, given);
 }
 
 #[test]

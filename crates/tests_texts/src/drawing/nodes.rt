@@ -2,6 +2,7 @@
 ghost use Rattle.std.specs.Prelude.{◌≡◌, ◌+◌, ◌<◌, length};
 
 use crate::drawing::columns::at;
+use crate::equal::expect_equal;
 use std::alloc::Global;
 use std::process::Abort;
 use thp_drawing::DrawnNode;
@@ -83,20 +84,20 @@ fn once(number: u128) -> Span {
 
 fn expect_split_numbers(rt: &impl Abort, node: &NodeSeries) {
     let numbers = node.numbers();
-    assert!(rt; numbers.pages == [0, 0, 0, 0, 1]);
-    assert!(rt; (numbers.held, numbers.given) == (256, 256));
+    expect_equal(rt, numbers.pages, [0, 0, 0, 0, 1]);
+    expect_equal(rt, (numbers.held, numbers.given), (256, 256));
 }
 
 fn expect_split_columns(rt: &impl Abort, told: &[Column]) {
-    assert!(rt; at(rt, told, 3).queue == once(1));
-    assert!(rt; at(rt, told, 4).in_batches == once(1));
-    assert!(rt; at(rt, told, 3).wait == once(1));
-    assert!(rt; at(rt, told, 4).wait == once(2));
-    assert!(rt; at(rt, told, 5).wait == once(0));
-    assert!(rt; at(rt, told, 3).callers == 0);
-    assert!(rt; at(rt, told, 4).callers == 1);
-    assert!(rt; at(rt, told, 4).pages[Stage::InBatch as usize] == 1);
-    assert!(rt; at(rt, told, 5).held == once(256));
+    expect_equal(rt, at(rt, told, 3).queue, once(1));
+    expect_equal(rt, at(rt, told, 4).in_batches, once(1));
+    expect_equal(rt, at(rt, told, 3).wait, once(1));
+    expect_equal(rt, at(rt, told, 4).wait, once(2));
+    expect_equal(rt, at(rt, told, 5).wait, once(0));
+    expect_equal(rt, at(rt, told, 3).callers, 0);
+    expect_equal(rt, at(rt, told, 4).callers, 1);
+    expect_equal(rt, at(rt, told, 4).pages[Stage::InBatch as usize], 1);
+    expect_equal(rt, at(rt, told, 5).held, once(256));
 }
 
 #[test]

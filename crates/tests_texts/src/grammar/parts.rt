@@ -1,7 +1,9 @@
 //! Scripts whose text arrives in parts.
 ghost use Rattle.std.specs.Prelude.{◌<◌};
 
+use crate::equal::expect_equal;
 use std::alloc::Global;
+use std::process::Abort;
 use thp_script::{
     Command, Op, ReadFault, Report, Script, ScriptReader, Settings, TextInParts, TextKind,
 };
@@ -75,14 +77,17 @@ fn ends_one(text: &mut TextInParts, part: &[u8], number: u64, bytes: &[u8]) -> b
     is_line && matches!(text.next_line(&mut rest), Ok(None))
 }
 
+fn expect_lines(rt: &impl Abort, text: &mut TextInParts) {
+    expect_equal(rt, ends_one(text, b"one\ntw", 1, b"one"), true);
+    expect_equal(rt, ends_one(text, b"o\n", 2, b"two"), true);
+    text.note_fault(TextKind::BadWord);
+    expect_equal(rt, text.fault(), Some((2, TextKind::BadWord)));
+}
+
 #[test]
 fn lines_in_turn(rt: HostRuntime) {
     let mut text = TextInParts::new(rt.alloc());
-    assert!(rt; ends_one(&mut text, b"one\ntw", 1, b"one"));
-    assert!(rt; ends_one(&mut text, b"o\n", 2, b"two"));
-    text.note_fault(TextKind::BadWord);
-    assert!(rt; text.fault() == Some((2, TextKind::BadWord)));
+    expect_lines(&rt, &mut text);
     let (line, behind) = text.last_line();
-    assert!(rt; line == 3);
-    assert!(rt; behind.is_empty());
+    expect_equal(&rt, (line, behind.len()), (3, 0));
 }

@@ -51,7 +51,23 @@ fn accesses() -> [What; 3] {
     ]
 }
 
-// The journal of one node in a version, line by line.
+// Adds the journal of one node in a version, line by line.
+fn put_journal(
+    text: &mut Vec<u8>,
+    version: Version,
+    shape: &Shape,
+    events: &[Event],
+) -> Result<(), PutFault> {
+    put_version(text, version)?;
+    put_node(text, version, 0, shape)?;
+    for event in events {
+        put_event(text, version, event)?;
+    }
+    put_end(text)?;
+    Ok(())
+}
+
+// The journal of one node in a version.
 fn written(
     alloc: Global,
     version: Version,
@@ -59,12 +75,7 @@ fn written(
     events: &[Event],
 ) -> Result<Vec<u8>, PutFault> {
     let mut text = Vec::new(alloc);
-    put_version(&mut text, version)?;
-    put_node(&mut text, version, 0, shape)?;
-    for event in events {
-        put_event(&mut text, version, event)?;
-    }
-    put_end(&mut text)?;
+    put_journal(&mut text, version, shape, events)?;
     Ok(text)
 }
 
@@ -133,6 +144,12 @@ fn later_version_tells_more(rt: HostRuntime) {
     assert!(rt; text.as_slice() == wanted.as_slice());
 }
 
+// The version was refused, since this one is the least; nothing was written.
+fn expect_too_low(rt: &impl Abort, put: Result<(), PutFault>, least: Version, text: &[u8]) {
+    assert!(rt; put == Err(PutFault::VersionTooLow(least)));
+    assert!(rt; text.is_empty());
+}
+
 #[test]
 fn node_below_its_version(rt: HostRuntime) {
     let threshold = Shape {
@@ -148,8 +165,7 @@ fn node_below_its_version(rt: HostRuntime) {
     for (version, shape, least) in rows {
         let mut text = Vec::new(rt.alloc());
         let put = put_node(&mut text, version, 0, &shape);
-        assert!(rt; put == Err(PutFault::VersionTooLow(least)));
-        assert!(rt; text.is_empty());
+        expect_too_low(&rt, put, least, &text);
     }
 }
 
@@ -159,8 +175,7 @@ fn event_below_its_version(rt: HostRuntime) {
         for what in accesses() {
             let mut text = Vec::new(rt.alloc());
             let put = put_event(&mut text, version, &by(0, what));
-            assert!(rt; put == Err(PutFault::VersionTooLow(Version::Underused)));
-            assert!(rt; text.is_empty());
+            expect_too_low(&rt, put, Version::Underused, &text);
         }
     }
 }

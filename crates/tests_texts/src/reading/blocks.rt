@@ -1,4 +1,5 @@
 //! The blocks that a reader gives the pages of a journal.
+use crate::equal::expect_equal;
 use std::process::Abort;
 use thp_history::{Event, What};
 use thp_journal_reader::{NodeJournal, read_journal};
@@ -18,10 +19,12 @@ fn block_at(node: &NodeJournal, place: usize) -> Option<u32> {
 
 fn expect_least_blocks(rt: &impl Abort, node: &NodeJournal) {
     assert!(rt; node.first_line == 3);
-    assert!(rt; block_at(node, 0) == Some(0));
-    assert!(rt; block_at(node, 1) == Some(1));
-    assert!(rt; block_at(node, 3) == Some(0), "block 0 is free again");
-    assert!(rt; block_at(node, 4) == Some(0), "each block is held");
+    expect_equal(rt, block_at(node, 0), Some(0));
+    expect_equal(rt, block_at(node, 1), Some(1));
+    // block 0 is free again
+    expect_equal(rt, block_at(node, 3), Some(0));
+    // each block is held
+    expect_equal(rt, block_at(node, 4), Some(0));
 }
 
 fn expect_first_node(rt: &impl Abort, nodes: &[NodeJournal]) {

@@ -1,5 +1,7 @@
 //! The first faults of journal texts, by line and kind.
+use crate::equal::expect_equal;
 use std::alloc::Global;
+use std::process::Abort;
 use thp_journal_reader::check_text;
 use thp_script::{MAX_INPUT, ReadFault, Report, Settings, TextKind, read_script};
 
@@ -145,29 +147,35 @@ fn order_faults(rt: HostRuntime) {
     }
 }
 
+/// Whether a text is too long for a script.
+fn is_too_long(alloc: Global, settings: &Settings, text: &[u8]) -> bool {
+    matches!(
+        read_script(alloc, settings, text),
+        Err(ReadFault::Text {
+            line: 0,
+            kind: TextKind::TooLong,
+        })
+    )
+}
+
+fn expect_too_long(rt: &impl Abort, alloc: Global, text: &[u8]) {
+    let settings = Settings::new(1, 16, 1, Report::Totals).expect(rt, "within the limits");
+    expect_equal(rt, text.len(), 16_777_217);
+    expect_equal(rt, first_fault(alloc, text), Some((0, TextKind::TooLong)));
+    expect_equal(rt, is_too_long(alloc, &settings, text), true);
+}
+
 #[test]
 fn a_text_that_is_too_long(rt: HostRuntime) {
     let alloc = rt.alloc();
-    let settings = Settings::new(1, 16, 1, Report::Totals).expect(&rt, "within the limits");
-    let Ok(text) = vec![in alloc; b'\n'; MAX_INPUT + 1] else {
-        assert!(rt; false, "memory");
-        return;
-    };
-    let text = text.as_slice();
-    assert!(rt; text.len() == 16_777_217);
-    assert!(rt; first_fault(alloc, text) == Some((0, TextKind::TooLong)));
-    let script = read_script(alloc, &settings, text);
-    assert!(rt;
-        matches!(
-            script,
-            Err(ReadFault::Text {
-                line: 0,
-                kind: TextKind::TooLong,
-            })
-        )
-    );
+    let text = vec![in alloc; b'\n'; MAX_INPUT + 1].expect(&rt, "memory");
+    expect_too_long(&rt, alloc, &text);
     // a byte less is within the limit, and its first line is no journal's
-    assert!(rt; first_fault(alloc, &text[1..]) == Some((1, TextKind::BadWord)));
+    expect_equal(
+        &rt,
+        first_fault(alloc, &text[1..]),
+        Some((1, TextKind::BadWord)),
+    );
 }
 
 #[test]

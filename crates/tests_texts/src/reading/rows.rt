@@ -1,4 +1,5 @@
 //! Journals of worked rows, and whether they are legal.
+use crate::equal::expect_equal;
 use std::alloc::Global;
 use thp_journal_reader::check_text;
 
@@ -14,15 +15,15 @@ fn answer(alloc: Global, text: &[u8]) -> Option<Option<u32>> {
 fn journal_check_and_cuts(rt: HostRuntime) {
     let wrong =
         b"thp-journal 1\nnode 0 blocks 4\n0 alloc 0\n0 splitpmd 0\n0 unmapsub 0 0 1 queued -\n0 alloc 1\n0 splitpmd 1\n0 unmapsub 1 0 1 queued -\n0 taken 1\nend\n";
-    assert!(rt; answer(rt.alloc(), wrong) == Some(Some(9)));
+    expect_equal(&rt, answer(rt.alloc(), wrong), Some(Some(9)));
     let right =
         b"thp-journal 1\nnode 0 blocks 4\n0 alloc 0\n0 splitpmd 0\n0 unmapsub 0 0 1 queued -\n0 alloc 1\n0 splitpmd 1\n0 unmapsub 1 0 1 queued -\n0 taken 0\nend\n";
-    assert!(rt; answer(rt.alloc(), right) == Some(None));
+    expect_equal(&rt, answer(rt.alloc(), right), Some(None));
     let with_order =
         b"thp-journal 2\nnode 0 blocks 4 order 9\n0 alloc 0\n0 splitpmd 0\n0 unmapsub 0 0 1 queued -\n0 alloc 1\n0 splitpmd 1\n0 unmapsub 1 0 1 queued -\n0 taken 1\nend\n";
-    assert!(rt; answer(rt.alloc(), with_order) == Some(Some(9)));
+    expect_equal(&rt, answer(rt.alloc(), with_order), Some(Some(9)));
     let closed_twice = b"thp-journal 1\nnode 0 blocks 4\n0 close\n0 close\nend\n";
-    assert!(rt; answer(rt.alloc(), closed_twice) == Some(Some(4)));
+    expect_equal(&rt, answer(rt.alloc(), closed_twice), Some(Some(4)));
 }
 
 #[test]
@@ -43,10 +44,10 @@ fn rows_are_legal(rt: HostRuntime) {
 fn the_first_illegal_event_of_the_text_is_told(rt: HostRuntime) {
     let second_node =
         b"thp-journal 1\nnode 0 blocks 4\n0 close\nnode 1 blocks 4\n0 pin 0\n0 pin 0\nend\n";
-    assert!(rt; answer(rt.alloc(), second_node) == Some(Some(5)));
+    expect_equal(&rt, answer(rt.alloc(), second_node), Some(Some(5)));
     let both_nodes =
         b"thp-journal 1\nnode 0 blocks 4\n0 close\n0 close\nnode 1 blocks 4\n0 pin 0\nend\n";
-    assert!(rt; answer(rt.alloc(), both_nodes) == Some(Some(4)));
+    expect_equal(&rt, answer(rt.alloc(), both_nodes), Some(Some(4)));
     let fault_behind_it = b"thp-journal 1\nnode 0 blocks 4\n0 pin 0\n0 pin\nend\n";
-    assert!(rt; answer(rt.alloc(), fault_behind_it) == None);
+    expect_equal(&rt, answer(rt.alloc(), fault_behind_it), None);
 }

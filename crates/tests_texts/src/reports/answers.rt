@@ -1,5 +1,5 @@
 //! Answers of sections.
-use crate::reports::nodes::{empty_node, expect, small_node};
+use crate::reports::nodes::{EMPTY, EMPTY_SMALL, expect};
 use std::alloc::Global;
 use std::process::Abort;
 use thp_history::{Outcome, PageId, Refusal, SubSet};
@@ -7,14 +7,20 @@ use thp_node::{BackReply, Done, ScanReply, Tried};
 use thp_script::Report;
 use thp_worker::{AnswerLog, Answers, Reply, SectionLog};
 
-// The answers to the commands of a section, all on one node.
-pub(crate) fn section(
-    rt: &impl Abort,
-    alloc: Global,
-    worker: u32,
-    node: u32,
-    replies: &[Result<Reply, Refusal>],
-) -> SectionLog {
+// The worker of a section, the node of its commands, and the answers to them.
+#[derive(Clone, Copy)]
+pub(crate) struct Section<'a> {
+    pub(crate) worker: u32,
+    pub(crate) node: u32,
+    pub(crate) replies: &'a [Result<Reply, Refusal>],
+}
+
+fn log_of(rt: &impl Abort, alloc: Global, section: Section<'_>) -> SectionLog {
+    let Section {
+        worker,
+        node,
+        replies,
+    } = section;
     let mut answers = AnswerLog::new(alloc, replies.len(), Answers::Kept).expect(rt, "room");
     for (command, reply) in replies.iter().enumerate() {
         let command = u32::try_from(command).expect(rt, "a few commands");
@@ -24,6 +30,19 @@ pub(crate) fn section(
         }
     }
     SectionLog { worker, answers }
+}
+
+// The logs of these sections.
+pub(crate) fn sections_of(
+    rt: &impl Abort,
+    alloc: Global,
+    sections: &[Section<'_>],
+) -> Vec<SectionLog> {
+    let mut logs = Vec::new(alloc);
+    for section in sections {
+        logs.push(log_of(rt, alloc, *section)).expect(rt, "memory");
+    }
+    logs
 }
 
 pub(crate) fn done(outcome: Outcome, released: SubSet) -> Result<Reply, Refusal> {
@@ -41,17 +60,24 @@ fn scanned() -> Result<Reply, Refusal> {
     }))
 }
 
+// The answers to the commands of these sections, all on a node without a call, are this text.
+fn expect_answers(rt: &impl Abort, alloc: Global, sections: &[Section<'_>], want: &str) {
+    expect(rt, alloc, Report::Answers, &[EMPTY], sections, want);
+}
+
 #[test]
 fn no_command_has_no_answer(rt: HostRuntime) {
-    let nodes = [empty_node(&rt, rt.alloc())];
-    let sections = [section(&rt, rt.alloc(), 0, 0, &[])];
-    expect(&rt, rt.alloc(), Report::Answers, &nodes, &sections, "");
-    expect(&rt, rt.alloc(), Report::Answers, &nodes, &[], "");
+    let section = Section {
+        worker: 0,
+        node: 0,
+        replies: &[],
+    };
+    expect_answers(&rt, rt.alloc(), &[section], "");
+    expect_answers(&rt, rt.alloc(), &[], "");
 }
 
 #[test]
 fn each_reply_has_its_words(rt: HostRuntime) {
-    let nodes = [empty_node(&rt, rt.alloc())];
     let replies = [
         Ok(Reply::Page(PageId(u64::MAX))),
         Ok(Reply::Unit),
@@ -70,15 +96,18 @@ fn each_reply_has_its_words(rt: HostRuntime) {
         })),
         Ok(Reply::NoBatch),
     ];
-    let sections = [section(&rt, rt.alloc(), 0, 0, &replies)];
+    let section = Section {
+        worker: 0,
+        node: 0,
+        replies: &replies,
+    };
     let want =
         "0 1 page 18446744073709551615\n0 2 ok\n0 3 stays -\n0 4 queued 3\n0 5 freed 0-511\n0 6 count 4096\n0 7 taken 128\n0 8 split 7\n0 9 pinned 80\n0 10 used 900\n0 11 done\n0 12 back 12 dropped 34\n0 13 no-batch\n";
-    expect(&rt, rt.alloc(), Report::Answers, &nodes, &sections, want);
+    expect_answers(&rt, rt.alloc(), &[section], want);
 }
 
 #[test]
 fn each_refusal_has_its_word(rt: HostRuntime) {
-    let nodes = [empty_node(&rt, rt.alloc())];
     let replies = [
         Err(Refusal::NoPage),
         Err(Refusal::BadRange),
@@ -91,28 +120,38 @@ fn each_refusal_has_its_word(rt: HostRuntime) {
         Err(Refusal::NoBlock),
         Err(Refusal::HasBatch),
     ];
-    let sections = [section(&rt, rt.alloc(), 63, 0, &replies)];
+    let section = Section {
+        worker: 63,
+        node: 0,
+        replies: &replies,
+    };
     let want =
         "63 1 refused no-page\n63 2 refused bad-range\n63 3 refused is-split\n63 4 refused not-mapped\n63 5 refused gone\n63 6 refused not-pinned\n63 7 refused too-many\n63 8 refused closed\n63 9 refused no-block\n63 10 refused has-batch\n";
-    expect(&rt, rt.alloc(), Report::Answers, &nodes, &sections, want);
+    expect_answers(&rt, rt.alloc(), &[section], want);
 }
 
 // Only the scans of node 1, whose switch is on, contain the pages found in use.
 #[test]
 fn sections_stand_in_order(rt: HostRuntime) {
-    let nodes = [empty_node(&rt, rt.alloc()), small_node(&rt, rt.alloc())];
     let sections = [
-        section(
-            &rt,
-            rt.alloc(),
-            0,
-            0,
-            &[Ok(Reply::Page(PageId(0))), scanned()],
-        ),
-        section(&rt, rt.alloc(), 1, 1, &[scanned()]),
-        section(&rt, rt.alloc(), 2, 0, &[scanned(), Ok(Reply::Unit)]),
+        Section {
+            worker: 0,
+            node: 0,
+            replies: &[Ok(Reply::Page(PageId(0))), scanned()],
+        },
+        Section {
+            worker: 1,
+            node: 1,
+            replies: &[scanned()],
+        },
+        Section {
+            worker: 2,
+            node: 0,
+            replies: &[scanned(), Ok(Reply::Unit)],
+        },
     ];
     let want =
         "0 1 page 0\n0 2 taken 15 split 5 pinned 4 back 3 dropped 2\n1 1 taken 15 split 5 pinned 4 back 3 dropped 2 used 1\n2 1 taken 15 split 5 pinned 4 back 3 dropped 2\n2 2 ok\n";
+    let nodes = [EMPTY, EMPTY_SMALL];
     expect(&rt, rt.alloc(), Report::Answers, &nodes, &sections, want);
 }

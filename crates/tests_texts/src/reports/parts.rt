@@ -1,6 +1,6 @@
 //! The text of answers in parts.
-use crate::reports::answers::{done, section};
-use crate::reports::nodes::empty_node;
+use crate::reports::answers::{Section, done, sections_of};
+use crate::reports::nodes::{EMPTY, nodes_of};
 use std::alloc::Global;
 use std::process::Abort;
 use thp_history::{Outcome, PageId, Refusal, SubSet};
@@ -49,10 +49,32 @@ fn count_parts_of(
     count_parts(rt, &mut parts, whole)
 }
 
-// How many parts the text of the sections has.
-fn parts_of(rt: &impl Abort, alloc: Global, nodes: &[Node], sections: &[SectionLog]) -> usize {
+fn count_parts_of_text(
+    rt: &impl Abort,
+    alloc: Global,
+    nodes: &[Node],
+    sections: &[SectionLog],
+) -> usize {
     let whole = answers_text(alloc, nodes, sections).expect(rt, "memory for a text");
     count_parts_of(rt, alloc, nodes, sections, whole.as_slice())
+}
+
+// The text of the sections, which are on a node without a call, has so many parts.
+fn expect_parts(rt: &impl Abort, alloc: Global, sections: &[Section<'_>], parts: usize) {
+    let nodes = nodes_of(rt, alloc, &[EMPTY]);
+    let sections = sections_of(rt, alloc, sections);
+    assert!(rt; count_parts_of_text(rt, alloc, &nodes, &sections) == parts);
+    drop(sections);
+    drop(nodes);
+}
+
+// The answers to a worker's commands on the node.
+fn section_of(worker: u32, replies: &[Result<Reply, Refusal>]) -> Section<'_> {
+    Section {
+        worker,
+        node: 0,
+        replies,
+    }
 }
 
 // Every second subpage.
@@ -66,45 +88,37 @@ fn every_second() -> SubSet {
 
 #[test]
 fn no_answer_has_no_part(rt: HostRuntime) {
-    let nodes = [empty_node(&rt, rt.alloc())];
-    let sections = [
-        section(&rt, rt.alloc(), 0, 0, &[]),
-        section(&rt, rt.alloc(), 1, 0, &[]),
-    ];
-    assert!(rt; parts_of(&rt, rt.alloc(), &nodes, &sections) == 0);
-    assert!(rt; parts_of(&rt, rt.alloc(), &nodes, &[]) == 0);
+    let sections = [section_of(0, &[]), section_of(1, &[])];
+    expect_parts(&rt, rt.alloc(), &sections, 0);
+    expect_parts(&rt, rt.alloc(), &[], 0);
 }
 
 #[test]
 fn a_few_answers_are_one_part(rt: HostRuntime) {
-    let nodes = [empty_node(&rt, rt.alloc())];
     let sections = [
-        section(&rt, rt.alloc(), 0, 0, &[Ok(Reply::Page(PageId(0)))]),
-        section(&rt, rt.alloc(), 1, 0, &[]),
-        section(&rt, rt.alloc(), 2, 0, &[Err(Refusal::Gone)]),
+        section_of(0, &[Ok(Reply::Page(PageId(0)))]),
+        section_of(1, &[]),
+        section_of(2, &[Err(Refusal::Gone)]),
     ];
-    assert!(rt; parts_of(&rt, rt.alloc(), &nodes, &sections) == 1);
+    expect_parts(&rt, rt.alloc(), &sections, 1);
 }
 
 // 3 sections of 5,000 answers each: 261,679 bytes, so that parts end within sections and continue after their ends.
 #[test]
 fn many_answers_are_several_parts(rt: HostRuntime) {
-    let nodes = [empty_node(&rt, rt.alloc())];
     let replies = [Ok(Reply::Unit); 5000];
     let pages = [Ok(Reply::Page(PageId(u64::MAX))); 5000];
     let sections = [
-        section(&rt, rt.alloc(), 0, 0, &replies),
-        section(&rt, rt.alloc(), 1, 0, &pages),
-        section(&rt, rt.alloc(), 2, 0, &replies),
+        section_of(0, &replies),
+        section_of(1, &pages),
+        section_of(2, &replies),
     ];
-    assert!(rt; parts_of(&rt, rt.alloc(), &nodes, &sections) == 4);
+    expect_parts(&rt, rt.alloc(), &sections, 4);
 }
 
 // The longest lines, of some 1,000 bytes each.
 #[test]
 fn long_lines_stand_in_one_part(rt: HostRuntime) {
-    let nodes = [empty_node(&rt, rt.alloc())];
     let replies = [done(Outcome::Freed, every_second()); 300];
-    let sections = [section(&rt, rt.alloc(), 63, 0, &replies)];
-    assert!(rt; parts_of(&rt, rt.alloc(), &nodes, &sections) == 5);
+    expect_parts(&rt, rt.alloc(), &[section_of(63, &replies)], 5);
 }

@@ -21,13 +21,13 @@ all_more n xs ys is all j less = subst (λ (zs : List ℕ). Contains zs j) (sym 
 
 pub push_back-requires-clause-absent : goal.push_back-requires-clause-absent
 push_back-requires-clause-absent g c m =
-    let i = c.loop-i.i-counter in
+    let i = c.loop-i.i in
     let itself : i < i = c.loop-i.invariant.below i m in
     omega arith
 
 pub loop-i-preserved : goal.loop-i-preserved
 loop-i-preserved g c =
-    let i = c.loop-i.i-counter in
+    let i = c.loop-i.i in
     let list = c.push_back.ensures.list in
     let pairs = ap (λ t. g.T.LinkTable.links t.table) c.spent.ensures in
     record {

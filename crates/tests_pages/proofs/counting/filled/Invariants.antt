@@ -7,6 +7,6 @@ abbrev pub invariant-loop-i : goal.invariant-loop-i
 invariant-loop-i g l = record {
   size : length (g.T.LinkTable.links l.table.table) ≡ length (g.T.LinkTable.links l.fn.table);
   stands : Stands l.queue (g.T.LinkTable.links l.table.table);
-  below : (j : ℕ) → Contains l.queue j → j < l.i-counter;
-  all : (j : ℕ) → j < l.i-counter → Contains l.queue j;
+  below : (j : ℕ) → Contains l.queue j → j < l.i;
+  all : (j : ℕ) → j < l.i → Contains l.queue j;
 }

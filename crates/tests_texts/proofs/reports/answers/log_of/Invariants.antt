@@ -1,5 +1,5 @@
 use Rattle.std.proofs.Common.{◌≡◌, length}
-use Rattle.tests_texts.proofs.reports.answers.section.Given as goal
+use Rattle.tests_texts.proofs.reports.answers.log_of.Given as goal
 
 abbrev pub invariant-loop-command : goal.invariant-loop-command
 invariant-loop-command g l =
