@@ -1,5 +1,10 @@
 //! Rows of a section on a node that is busy at chosen calls.
+ghost use Rattle.std.specs.Prelude.{◌<◌, ◌^◌, All, length};
+ghost use Rattle.thp_worker.specs.Prelude.{IsCommandFor};
+
 use crate::busy_nodes::sections::{BusyCalls, Queued, SectionResult, section};
+use crate::equal::expect_equal;
+use std::alloc::Global;
 use std::process::Abort;
 use thp_history::{Event, PageId, Refusal, What};
 use thp_node::{ScanReply, Tried};
@@ -20,6 +25,53 @@ const SCAN: [Command; 1] = [Command {
     node: 0,
     op: Op::Scan { count: 8 },
 }];
+
+// What becomes of a section.
+#[derive(Clone, Copy)]
+enum Wanted {
+    // it is done at once
+    DoneAtOnce,
+    // it stops before its first command, and then allocates a page and closes the node
+    AllocatedAndClosed,
+    ScannedAtOnce,
+    // it stops within its scan, which then goes on
+    ScanContinued,
+    // it stops within a batch, whose page is dropped after the close
+    Dropped,
+    // it stops before its batch is put back
+    PutBack,
+}
+
+fn expect_wanted(rt: &impl Abort, section: &SectionResult, wanted: Wanted) {
+    match wanted {
+        Wanted::DoneAtOnce => expect_done_at_once(rt, section, 2),
+        Wanted::AllocatedAndClosed => expect_allocated_and_closed(rt, section),
+        Wanted::ScannedAtOnce => expect_scanned_at_once(rt, section),
+        Wanted::ScanContinued => expect_scan_continued(rt, section),
+        Wanted::Dropped => {
+            expect_taken_and_closed(rt, section);
+            expect_dropped(rt, section);
+        }
+        Wanted::PutBack => expect_put_back(rt, section),
+    }
+}
+
+// This becomes of a section of caller 1.
+fn expect_section(
+    rt: &(impl Abort + Print),
+    alloc: Global,
+    queued: Queued,
+    busy: BusyCalls,
+    commands: &[Command],
+    wanted: Wanted,
+)
+    requires few { length commands.now < 2 ^ 32 }
+    requires commands { All (IsCommandFor 1) commands.now }
+{
+    let section = section(rt, alloc, queued, busy, commands);
+    expect_wanted(rt, &section, wanted);
+    drop(section);
+}
 
 // The reply to a command.
 fn reply_at(answers: &Vec<Answer>, command: usize) -> Option<Result<Reply, Refusal>> {
@@ -61,15 +113,22 @@ fn busy_63_times(rt: HostRuntime) {
         to: 63,
         period: 64,
     };
-    let section = section(&rt, rt.alloc(), Queued::Nothing, busy, &ALLOC_AND_CLOSE);
-    expect_done_at_once(&rt, &section, 2);
+    expect_section(
+        &rt,
+        rt.alloc(),
+        Queued::Nothing,
+        busy,
+        &ALLOC_AND_CLOSE,
+        Wanted::DoneAtOnce,
+    );
 }
 
 // The section stopped before its first command, and then did both.
 fn expect_allocated_and_closed(rt: &impl Abort, section: &SectionResult) {
-    assert!(rt; stopped_at(section, 0, 0, 0));
-    assert!(rt; is_done(section, 2));
-    assert!(rt; has_replies(section, &[Ok(Reply::Page(PageId(0))), Ok(Reply::Unit)]));
+    expect_equal(rt, stopped_at(section, 0, 0, 0), true);
+    expect_equal(rt, is_done(section, 2), true);
+    let replies = [Ok(Reply::Page(PageId(0))), Ok(Reply::Unit)];
+    expect_equal(rt, has_replies(section, &replies), true);
 }
 
 #[test]
@@ -79,8 +138,14 @@ fn busy_64_times(rt: HostRuntime) {
         to: 64,
         period: 1000,
     };
-    let section = section(&rt, rt.alloc(), Queued::Nothing, busy, &ALLOC_AND_CLOSE);
-    expect_allocated_and_closed(&rt, &section);
+    expect_section(
+        &rt,
+        rt.alloc(),
+        Queued::Nothing,
+        busy,
+        &ALLOC_AND_CLOSE,
+        Wanted::AllocatedAndClosed,
+    );
 }
 
 // One page was split, and one was pinned and went back.
@@ -111,8 +176,14 @@ fn scan_often_busy(rt: HostRuntime) {
         to: 63,
         period: 64,
     };
-    let section = section(&rt, rt.alloc(), Queued::TwoOnePinned, busy, &SCAN);
-    expect_scanned_at_once(&rt, &section);
+    expect_section(
+        &rt,
+        rt.alloc(),
+        Queued::TwoOnePinned,
+        busy,
+        &SCAN,
+        Wanted::ScannedAtOnce,
+    );
 }
 
 // A scan that has taken two pages and split one of them by then.
@@ -135,9 +206,9 @@ fn has_split_one_of_two(section: &SectionResult) -> bool {
 }
 
 fn expect_scan_continued(rt: &impl Abort, section: &SectionResult) {
-    assert!(rt; stopped_at(section, 0, 2, 0));
-    assert!(rt; has_split_one_of_two(section));
-    assert!(rt; is_scanned(section));
+    expect_equal(rt, stopped_at(section, 0, 2, 0), true);
+    expect_equal(rt, has_split_one_of_two(section), true);
+    expect_equal(rt, is_scanned(section), true);
 }
 
 #[test]
@@ -147,8 +218,14 @@ fn scan_interrupted(rt: HostRuntime) {
         to: 66,
         period: 1000,
     };
-    let section = section(&rt, rt.alloc(), Queued::TwoOnePinned, busy, &SCAN);
-    expect_scan_continued(&rt, &section);
+    expect_section(
+        &rt,
+        rt.alloc(),
+        Queued::TwoOnePinned,
+        busy,
+        &SCAN,
+        Wanted::ScanContinued,
+    );
 }
 
 // The journal's last events: page 0 is taken, found pinned and, after the close, dropped, all by caller 1.
@@ -185,17 +262,22 @@ const TAKEN_PINNED_AND_CLOSED: [Result<Reply, Refusal>; 3] = [
 ];
 
 fn expect_taken_and_closed(rt: &impl Abort, section: &SectionResult) {
-    assert!(rt; stopped_at(section, 1, 0, 1));
-    assert!(rt; is_done(section, 3));
-    assert!(rt; has_replies(section, &TAKEN_PINNED_AND_CLOSED));
+    expect_equal(rt, stopped_at(section, 1, 0, 1), true);
+    expect_equal(rt, is_done(section, 3), true);
+    expect_equal(rt, has_replies(section, &TAKEN_PINNED_AND_CLOSED), true);
+}
+
+// So many pages are queued after the section.
+fn is_queued(section: &SectionResult, pages: u32) -> bool {
+    matches!(section.queued, Ok(Reply::Count(count)) if count == pages)
 }
 
 // The page was dropped, since the node was closed.
 fn expect_dropped(rt: &impl Abort, section: &SectionResult) {
-    assert!(rt; matches!(section.queued, Ok(Reply::Count(0))));
-    assert!(rt; ends_with_a_drop(section.node.journal()));
-    assert!(rt; section.node.frames_held() == 512);
-    assert!(rt; section.node.frames_given() == 0);
+    expect_equal(rt, is_queued(section, 0), true);
+    expect_equal(rt, ends_with_a_drop(section.node.journal()), true);
+    expect_equal(rt, section.node.frames_held(), 512);
+    expect_equal(rt, section.node.frames_given(), 0);
 }
 
 #[test]
@@ -205,15 +287,14 @@ fn open_batch_postponed(rt: HostRuntime) {
         to: 65,
         period: 1000,
     };
-    let section = section(
+    expect_section(
         &rt,
         rt.alloc(),
         Queued::OnePinned,
         busy,
         &TAKE_TRY_AND_CLOSE,
+        Wanted::Dropped,
     );
-    expect_taken_and_closed(&rt, &section);
-    expect_dropped(&rt, &section);
 }
 
 const TAKE_AND_SCAN: [Command; 2] = [
@@ -227,21 +308,23 @@ const TAKE_AND_SCAN: [Command; 2] = [
     },
 ];
 
+// The section's second command was refused by then because of the batch.
+fn is_second_refused(section: &SectionResult) -> bool {
+    matches!(
+        section.answered_then.get(1),
+        Some(Answer {
+            reply: Err(Refusal::HasBatch),
+            ..
+        })
+    )
+}
+
 // The scan was refused because of the batch, which was put back in the end.
 fn expect_put_back(rt: &impl Abort, section: &SectionResult) {
-    assert!(rt; stopped_at(section, 2, 0, 2));
-    let second = section.answered_then.get(1);
-    assert!(rt;
-        matches!(
-            second,
-            Some(Answer {
-                reply: Err(Refusal::HasBatch),
-                ..
-            })
-        )
-    );
-    assert!(rt; is_done(section, 2));
-    assert!(rt; matches!(section.queued, Ok(Reply::Count(2))));
+    expect_equal(rt, stopped_at(section, 2, 0, 2), true);
+    expect_equal(rt, is_second_refused(section), true);
+    expect_equal(rt, is_done(section, 2), true);
+    expect_equal(rt, is_queued(section, 2), true);
 }
 
 #[test]
@@ -251,6 +334,12 @@ fn put_back_postponed(rt: HostRuntime) {
         to: 66,
         period: 1000,
     };
-    let section = section(&rt, rt.alloc(), Queued::TwoOnePinned, busy, &TAKE_AND_SCAN);
-    expect_put_back(&rt, &section);
+    expect_section(
+        &rt,
+        rt.alloc(),
+        Queued::TwoOnePinned,
+        busy,
+        &TAKE_AND_SCAN,
+        Wanted::PutBack,
+    );
 }

@@ -1,4 +1,5 @@
 //! Journals that are checked: legal ones, illegal ones, and those that are cut.
+use crate::equal::expect_equal;
 use crate::program::running::run_with;
 use crate::program::whole_runs::FIRST_SCRIPT;
 use std::alloc::Global;
@@ -32,19 +33,13 @@ fn first_fault(alloc: Global, journal: &[u8]) -> Option<(u64, TextKind)> {
 #[test]
 fn legal_and_illegal_journals(rt: HostRuntime) {
     let alloc = rt.alloc();
-    assert!(rt;
-        tells(
-            alloc,
-            b"thp-journal 1\nnode 0 blocks 1\nend\n",
-            true,
-            b"legal\n"
-        )
-    );
+    let empty = b"thp-journal 1\nnode 0 blocks 1\nend\n";
+    expect_equal(&rt, tells(alloc, empty, true, b"legal\n"), true);
     let illegal = b"thp-journal 1\nnode 0 blocks 1\n0 alloc 0\n0 pin 1\nend\n";
-    assert!(rt; tells(alloc, illegal, false, b"illegal line 4\n"));
+    expect_equal(&rt, tells(alloc, illegal, false, b"illegal line 4\n"), true);
     let second =
         b"thp-journal 1\nnode 0 blocks 1\n0 alloc 0\nnode 1 blocks 1\n0 unpin 0 stays -\nend\n";
-    assert!(rt; tells(alloc, second, false, b"illegal line 5\n"));
+    expect_equal(&rt, tells(alloc, second, false, b"illegal line 5\n"), true);
 }
 
 /// Journals with the line and the kind of their first error.
@@ -96,12 +91,24 @@ const TAKES_THE_FIRST: &[u8] =
 #[test]
 fn journal_check_and_cuts(rt: HostRuntime) {
     let alloc = rt.alloc();
-    assert!(rt; tells(alloc, TAKES_THE_SECOND, false, b"illegal line 9\n"));
-    assert!(rt; tells(alloc, TAKES_THE_FIRST, true, b"legal\n"));
+    expect_equal(
+        &rt,
+        tells(alloc, TAKES_THE_SECOND, false, b"illegal line 9\n"),
+        true,
+    );
+    expect_equal(&rt, tells(alloc, TAKES_THE_FIRST, true, b"legal\n"), true);
     let length = TAKES_THE_FIRST.len();
     // cut within line 9, and after it
-    assert!(rt; first_fault(alloc, &TAKES_THE_FIRST[..length - 8]) == Some((9, TextKind::Cut)));
-    assert!(rt; first_fault(alloc, &TAKES_THE_FIRST[..length - 4]) == Some((10, TextKind::Cut)));
+    expect_equal(
+        &rt,
+        first_fault(alloc, &TAKES_THE_FIRST[..length - 8]),
+        Some((9, TextKind::Cut)),
+    );
+    expect_equal(
+        &rt,
+        first_fault(alloc, &TAKES_THE_FIRST[..length - 4]),
+        Some((10, TextKind::Cut)),
+    );
 }
 
 /// A prefix of a journal is cut, with the line reported.

@@ -18,7 +18,9 @@ fn events_of<R: Threads + Abort + Sync>(
     let settings = settings_of(rt, 1, blocks, 1);
     let run = ran(rt, alloc, &settings, script, &NoGate);
     expect_answers(rt, &run, wanted);
-    events_on(&run, 0)
+    let events = events_on(&run, 0);
+    drop(run);
+    events
 }
 
 const FREED: &[ExpectedAnswer] = &[
@@ -112,7 +114,7 @@ fn open_batch_goes_back_at_a_sections_end(rt: HostRuntime) {
     let wanted: &[(usize, &[ExpectedAnswer])] = &[(0, LEFT_OPEN), (1, TAKEN_AGAIN)];
     let events = events_of(&rt, rt.alloc(), 16, script.as_slice(), wanted);
     // the page was taken and put back twice
-    assert_eq!(&rt; events, 7);
+    assert!(rt; events == 7);
 }
 
 const PINNED_LAST: &[ExpectedAnswer] = &[

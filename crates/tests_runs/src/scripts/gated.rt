@@ -1,12 +1,12 @@
 //! Two workers whose commands are done in a chosen order, by a gate that holds them up.
-use crate::scripts::runs::{ExpectedAnswer, are_answers, events_on, ran, settings_of};
+use crate::scripts::runs::{ExpectedAnswer, events_on, expect_answers, ran, settings_of};
 use crate::turns::InTurns;
 use std::alloc::{AllocError, Global};
 use std::process::Abort;
 use std::thread::Threads;
-use thp_run::RunResult;
 
-// Runs a script of two workers with two commands each, `first` before `other`, and checks the answers of both.
+// Runs a script of two workers with two commands each, `first` before `other`, checks the answers of both, and returns how many
+// events there are.
 fn take_turns<R: Threads + Abort + Sync>(
     rt: &R,
     alloc: Global,
@@ -14,14 +14,16 @@ fn take_turns<R: Threads + Abort + Sync>(
     other: u32,
     script: &[u8],
     wanted: [&[ExpectedAnswer]; 2],
-) -> RunResult {
+) -> usize {
     let settings = settings_of(rt, 1, 16, first.max(other));
     let gate = InTurns::new(first, other);
     let run = ran(rt, alloc, &settings, script, &gate);
-    assert!(rt; are_answers(&run, first as usize, wanted[0]));
-    assert!(rt; are_answers(&run, other as usize, wanted[1]));
     assert!(rt; gate.held());
-    run
+    let wanted = [(first as usize, wanted[0]), (other as usize, wanted[1])];
+    expect_answers(rt, &run, &wanted);
+    let events = events_on(&run, 0);
+    drop(run);
+    events
 }
 
 const TWO_ALLOCATIONS: &[u8] = b"worker 1\nalloc 0\nalloc 0\nworker 2\nalloc 0\nalloc 0\n";
@@ -35,22 +37,22 @@ const LATER: &[ExpectedAnswer] = &[ExpectedAnswer::Page(1), ExpectedAnswer::Page
 
 #[test]
 fn gated_workers(rt: HostRuntime) {
-    let _run = take_turns(&rt, rt.alloc(), 1, 2, TWO_ALLOCATIONS, [EARLIER, LATER]);
+    let _events = take_turns(&rt, rt.alloc(), 1, 2, TWO_ALLOCATIONS, [EARLIER, LATER]);
 }
 
 #[test]
 fn gated_workers_exchanged(rt: HostRuntime) {
-    let _run = take_turns(&rt, rt.alloc(), 2, 1, TWO_ALLOCATIONS, [EARLIER, LATER]);
+    let _events = take_turns(&rt, rt.alloc(), 2, 1, TWO_ALLOCATIONS, [EARLIER, LATER]);
 }
 
 #[test]
 fn gated_worker_9(rt: HostRuntime) {
-    let _run = take_turns(&rt, rt.alloc(), 9, 63, BY_9_AND_63, [EARLIER, LATER]);
+    let _events = take_turns(&rt, rt.alloc(), 9, 63, BY_9_AND_63, [EARLIER, LATER]);
 }
 
 #[test]
 fn gated_worker_63(rt: HostRuntime) {
-    let _run = take_turns(&rt, rt.alloc(), 63, 9, BY_9_AND_63, [EARLIER, LATER]);
+    let _events = take_turns(&rt, rt.alloc(), 63, 9, BY_9_AND_63, [EARLIER, LATER]);
 }
 
 // Both workers have a batch open at the same time, and each puts its own page back.
@@ -59,26 +61,25 @@ fn gated_batches(rt: HostRuntime) {
     let script =
         b"setup\nalloc 0\nsplitpmd 0 0\nunmap 0 0 0 1\nalloc 0\nsplitpmd 0 1\nunmap 0 1 0 1\nworker 1\ntake 0 1\nputback 0\nworker 2\ntake 0 1\nputback 0\n";
     let wanted: &[ExpectedAnswer] = &[ExpectedAnswer::Taken(1), ExpectedAnswer::Back(1, 0)];
-    let run = take_turns(&rt, rt.alloc(), 2, 1, script.as_slice(), [wanted, wanted]);
-    assert_eq!(rt; events_on(&run, 0), 10);
+    let events = take_turns(&rt, rt.alloc(), 2, 1, script.as_slice(), [wanted, wanted]);
+    assert!(rt; events == 10);
 }
 
-// A script of `setup` that allocates and frees 4,096 pages and then has two more, each of which a worker pins twice.
-fn late_pages(alloc: Global) -> Result<String, AllocError> {
-    let mut text = String::from_str(alloc, "setup\n")?;
+// Writes a script of `setup` that allocates and frees 4,096 pages and then has two more, each of which a worker pins twice.
+fn write_late_pages(text: &mut String) -> Result<(), AllocError> {
+    text.push_str("setup\n")?;
     for page in 0..4_096u32 {
-        let lines = format!(in alloc; "alloc 0\nunmapwhole 0 {page}\n")?;
-        text.push_str(lines.as_str())?;
+        write!(text, "alloc 0\nunmapwhole 0 {page}\n")?;
     }
     text.push_str("alloc 0\nalloc 0\n")?;
-    text.push_str("worker 1\npin 0 4096\npin 0 4096\nworker 2\npin 0 4097\npin 0 4097\n")?;
-    Ok(text)
+    text.push_str("worker 1\npin 0 4096\npin 0 4096\nworker 2\npin 0 4097\npin 0 4097\n")
 }
 
 // Pages of high numbers are reached while the other worker has its pass, too.
 #[test]
 fn gated_late_pages(rt: HostRuntime) {
-    let script = late_pages(rt.alloc()).expect(&rt, "a script");
+    let mut script = String::new(rt.alloc());
+    write_late_pages(&mut script).expect(&rt, "memory");
     let wanted: &[ExpectedAnswer] = &[ExpectedAnswer::Done, ExpectedAnswer::Done];
-    let _run = take_turns(&rt, rt.alloc(), 1, 2, script.as_bytes(), [wanted, wanted]);
+    let _events = take_turns(&rt, rt.alloc(), 1, 2, script.as_bytes(), [wanted, wanted]);
 }

@@ -1,5 +1,8 @@
 //! Rows of workers on one node and on a node each.
-use crate::scripts::runs::{ExpectedAnswer, are_answers, ran, settings_of};
+use crate::scripts::runs::{ExpectedAnswer, are_answers, expect_answers, ran, settings_of};
+use std::alloc::Global;
+use std::process::Abort;
+use std::thread::Threads;
 use thp_run::RunResult;
 use thp_worker::NoGate;
 
@@ -21,35 +24,61 @@ fn are_without_answers(ran: &RunResult) -> bool {
         && section.answers.len() == 0)
 }
 
+// Each of both workers allocated a page, in either order.
+fn expect_either_order(rt: &impl Abort, run: &RunResult) {
+    let first = are_answers(run, 1, &[ExpectedAnswer::Page(0)])
+        && are_answers(run, 2, &[ExpectedAnswer::Page(1)]);
+    let second = are_answers(run, 1, &[ExpectedAnswer::Page(1)])
+        && are_answers(run, 2, &[ExpectedAnswer::Page(0)]);
+    assert!(rt; first || second);
+    assert!(rt; each_node_holds(run, 2, 1024));
+}
+
+fn expect_node_each(rt: &impl Abort, run: &RunResult) {
+    let page: &[ExpectedAnswer] = &[ExpectedAnswer::Page(0)];
+    expect_answers(rt, run, &[(1, page), (2, page)]);
+    assert!(rt; has(run, 2, 3));
+    assert!(rt; each_node_holds(run, 1, 512));
+}
+
+fn expect_no_answers(rt: &impl Abort, run: &RunResult) {
+    assert!(rt; has(run, 8, 64));
+    assert!(rt; are_without_answers(run));
+}
+
+// The run of a script without a gate, on so many nodes with these blocks, by so many workers.
+fn run_of<R: Threads + Abort + Sync>(
+    rt: &R,
+    alloc: Global,
+    nodes: u32,
+    blocks: u32,
+    workers: u32,
+    script: &[u8],
+) -> RunResult {
+    let settings = settings_of(rt, nodes, blocks, workers);
+    ran(rt, alloc, &settings, script, &NoGate)
+}
+
 #[test]
 fn two_workers_totals(rt: HostRuntime) {
-    let settings = settings_of(&rt, 1, 16, 2);
     let script = b"worker 1\nalloc 0\nworker 2\nalloc 0\n";
-    let run = ran(&rt, rt.alloc(), &settings, script.as_slice(), &NoGate);
-    let first = are_answers(&run, 1, &[ExpectedAnswer::Page(0)])
-        && are_answers(&run, 2, &[ExpectedAnswer::Page(1)]);
-    let second = are_answers(&run, 1, &[ExpectedAnswer::Page(1)])
-        && are_answers(&run, 2, &[ExpectedAnswer::Page(0)]);
-    assert!(&rt; first || second);
-    assert!(&rt; each_node_holds(&run, 2, 1024));
+    let run = run_of(&rt, rt.alloc(), 1, 16, 2, script.as_slice());
+    expect_either_order(&rt, &run);
+    drop(run);
 }
 
 #[test]
 fn workers_on_a_node_each(rt: HostRuntime) {
-    let settings = settings_of(&rt, 2, 16, 2);
     let script = b"worker 1\nalloc 0\nworker 2\nalloc 1\n";
-    let run = ran(&rt, rt.alloc(), &settings, script.as_slice(), &NoGate);
-    assert!(&rt; has(&run, 2, 3));
-    assert!(&rt; are_answers(&run, 1, &[ExpectedAnswer::Page(0)]));
-    assert!(&rt; are_answers(&run, 2, &[ExpectedAnswer::Page(0)]));
-    assert!(&rt; each_node_holds(&run, 1, 512));
+    let run = run_of(&rt, rt.alloc(), 2, 16, 2, script.as_slice());
+    expect_node_each(&rt, &run);
+    drop(run);
 }
 
 // Without commands there are sections without answers, one for setup and one for each worker.
 #[test]
 fn empty_input(rt: HostRuntime) {
-    let settings = settings_of(&rt, 8, 1, 63);
-    let run = ran(&rt, rt.alloc(), &settings, b"".as_slice(), &NoGate);
-    assert!(&rt; has(&run, 8, 64));
-    assert!(&rt; are_without_answers(&run));
+    let run = run_of(&rt, rt.alloc(), 8, 1, 63, b"".as_slice());
+    expect_no_answers(&rt, &run);
+    drop(run);
 }

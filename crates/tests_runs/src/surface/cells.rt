@@ -3,6 +3,7 @@ ghost use Rattle.std.specs.Prelude.{◌≡◌};
 ghost use Rattle.thp_cell.specs.Prelude.{at_front, returning_node, HasAll, HasCaller};
 
 use super::sets::SMALL;
+use crate::equal::expect_equal;
 use std::alloc::Global;
 use std::process::Abort;
 use thp_cell::{Busy, CellFault, Hold, NodeCell, Pass};
@@ -112,8 +113,8 @@ fn expect_calls(rt: &impl Abort, cell: &NodeCell, pass: &mut Pass)
     ensures { pass.new ≡ at_front pass.old pass.new.front }
 {
     let told = called(cell, pass);
-    assert!(rt; matches!(told, Ok((PageId(0), 1, Tried::Split(PageId(0))))));
-    assert!(rt; pass.callers() == (1, 2));
+    expect_equal(rt, told, Ok((PageId(0), 1, Tried::Split(PageId(0)))));
+    expect_equal(rt, pass.callers(), (1, 2));
 }
 
 fn expect_events(rt: &impl Abort, node: &Node) {

@@ -3,6 +3,7 @@ ghost use Rattle.std.specs.Prelude.{◌<◌, ◌^◌, All, length};
 ghost use Rattle.thp_run.specs.Listed.{WorksOn};
 ghost use Rattle.thp_worker.specs.Prelude.{Fronts, HoldsCaller, HasNoBatch, IsCommandFor};
 
+use crate::equal::expect_equal;
 use std::alloc::{AllocError, Global};
 use std::process::Abort;
 use thp_model::{PageId, Refusal};
@@ -82,17 +83,37 @@ fn answers_in_vectors(rt: HostRuntime) {
     assert!(rt; matches!(&report, Ok(text) if text.as_slice() == want));
 }
 
-#[test]
-fn sections_compare(rt: HostRuntime) {
-    let alloc = rt.alloc();
-    let one = section(alloc).expect(&rt, "room");
-    let other = section(alloc).expect(&rt, "room");
+// Whether another section with the same answers is the same.
+fn is_same_again(rt: &impl Abort, alloc: Global, one: &Section) -> bool {
+    let other = section(alloc).expect(rt, "room");
+    let is_same = *one == other;
+    drop(other);
+    is_same
+}
+
+fn expect_compared(rt: &impl Abort, alloc: Global, one: &Section) {
     let none = Section {
         worker: 1,
         answers: Vec::new(alloc),
     };
-    assert!(rt; one == other);
-    assert!(rt; one != none);
+    expect_equal(rt, *one != none, true);
+    drop(none);
+    expect_equal(rt, is_same_again(rt, alloc, one), true);
+}
+
+#[test]
+fn sections_compare(rt: HostRuntime) {
+    let one = section(rt.alloc()).expect(&rt, "room");
+    expect_compared(&rt, rt.alloc(), &one);
+    drop(one);
+}
+
+// Whether this is the result of a section that is finished, or has this rest.
+fn is_result(rt: &impl Abort, alloc: Global, done: &Worked, rest: Option<Rest>) -> bool {
+    let other = worked(alloc, rest).expect(rt, "room");
+    let is_same = *done == other;
+    drop(other);
+    is_same
 }
 
 #[test]
@@ -111,8 +132,7 @@ fn what_became_of_sections_compares(rt: HostRuntime) {
         },
     };
     let done = worked(alloc, None).expect(&rt, "room");
-    let again = worked(alloc, None).expect(&rt, "room");
-    let stopped = worked(alloc, Some(rest)).expect(&rt, "room");
-    assert!(rt; done == again);
-    assert!(rt; done != stopped);
+    expect_equal(&rt, is_result(&rt, alloc, &done, None), true);
+    expect_equal(&rt, is_result(&rt, alloc, &done, Some(rest)), false);
+    drop(done);
 }

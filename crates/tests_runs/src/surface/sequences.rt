@@ -1,7 +1,8 @@
 //! Sequences: the number of elements, one by its index, and all in order.
 ghost use Rattle.std.specs.Prelude.{◌≡◌, ◌-◌, length, slice_get};
 
-use std::alloc::Global;
+use crate::equal::expect_equal;
+use std::process::Abort;
 use thp_run::{Command, Op, Sequence};
 
 // The last command, if there is one.
@@ -29,18 +30,27 @@ fn command(node: u32) -> Command {
     }
 }
 
+fn expect_none(rt: &impl Abort, commands: &Sequence<Command>) {
+    assert!(rt; last_of(commands).is_none());
+}
+
+// The commands are those of the nodes 0 to 2.
+fn expect_three(rt: &impl Abort, commands: &Sequence<Command>) {
+    expect_equal(rt, last_of(commands) == Some(command(2)), true);
+    expect_equal(rt, command_at(commands, 1) == Some(command(1)), true);
+    expect_equal(rt, command_at(commands, 3).is_none(), true);
+    expect_equal(rt, commands.len(), 3);
+    for (place, command) in commands.iter().enumerate() {
+        expect_equal(rt, command.node as usize, place);
+    }
+}
+
 #[test]
 fn elements_by_index_and_in_order(rt: HostRuntime) {
     let mut commands: Sequence<Command> = Sequence::new(rt.alloc());
-    assert!(rt; last_of(&commands).is_none());
+    expect_none(&rt, &commands);
     for node in 0..3 {
         commands.push(command(node)).expect(&rt, "room");
     }
-    assert!(rt; last_of(&commands) == Some(command(2)));
-    assert!(rt; command_at(&commands, 1) == Some(command(1)));
-    assert!(rt; command_at(&commands, 3).is_none());
-    assert!(rt; commands.len() == 3);
-    for (place, command) in commands.iter().enumerate() {
-        assert!(rt; command.node as usize == place);
-    }
+    expect_three(&rt, &commands);
 }
