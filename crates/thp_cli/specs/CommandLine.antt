@@ -4,7 +4,7 @@ use Rattle.std.specs.Borrow.{Bor}
 use Rattle.clap.specs.Words.{App, FailsBy, Row, Rule, fault_of, first_of, matches_of, one_of, with_rule}
 use Rattle.clap.specs.declared.builder.value_parser.ValueParser.TheVariants.{Names, Signed}
 use Rattle.clap.specs.declared.error.Error.{Error}
-use Rattle.thp_cli.specs.Flags.{bare_app, flag_rule, valued_rule, ReportsFlag, WritesNumber}
+use Rattle.thp_cli.specs.OptionKinds.{bare_app, flag_rule, valued_rule, ReportsFlag, WritesNumber}
 use Rattle.thp_history.specs.Prelude.{max_blocks}
 use Rattle.thp_cli.specs.declared.line.Line.{Line}
 use Rattle.thp_script.specs.declared.settings.Report.{Report}

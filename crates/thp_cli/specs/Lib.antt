@@ -5,7 +5,7 @@ pub mod RunFaults
 pub mod Passages
 pub mod Outcomes
 pub mod CommandLine
-pub mod Flags
+pub mod OptionKinds
 pub mod Options
 pub mod OwnCommand
 pub mod Prelude

@@ -2,7 +2,7 @@
 pub use Rattle.thp_cli.specs.Calls.{EndsReading, Follow, IsTaken, ReadsOn, WritesAll, WritesOn, is_answered, read_giving, read_room, writes_of}
 pub use Rattle.thp_cli.specs.CommandLine.{FailsAsWords, HoldsWords, IsLineWithinLimits, bare, blocks_rule, check_rule, nodes_rule, number_rule, orders_rule, own_rules, report_name, report_names, report_rule, underused_rule, with_rules, workers_rule}
 pub use Rattle.thp_cli.specs.Devices.{WritesFront}
-pub use Rattle.thp_cli.specs.Flags.{IsOption, ReportsFlag, ReportsNumber, WritesNumber, bare_app, flag_rule, valued_rule}
+pub use Rattle.thp_cli.specs.OptionKinds.{IsOption, ReportsFlag, ReportsNumber, WritesNumber, bare_app, flag_rule, valued_rule}
 pub use Rattle.thp_cli.specs.Options.{HasValue}
 pub use Rattle.thp_cli.specs.Outcomes.{Device, IsShort, IsUnread, IsUntouched, Source, Takes, WasAnsweredBy, WritesMessage, device_of, end_status, fault_line, given_words, name_front, no_node_line, source_of, status_of}
 pub use Rattle.thp_cli.specs.OwnCommand.{IsOwnCommand}

@@ -2,9 +2,9 @@
 //!
 //! What the programs of this project share.
 //!
-//! - `options`, `line`, `flags`, `words` (`CommandLine`, `Options`, `Flags`, `OwnCommand`): the command line of `thpsplit`, and
-//!   command lines in general. `help`, `version`: the texts (a new version also changes tests/stored, CHANGELOG.md and
-//!   bench/plain).
+//! - `options`, `line`, `option_kinds`, `words` (`CommandLine`, `Options`, `OptionKinds`, `OwnCommand`): the command line of
+//!   `thpsplit`, and command lines in general. `help`, `version`: the texts (a new version also changes tests/stored,
+//!   CHANGELOG.md and bench/plain).
 //! - `answering` (`Answers` of `Outcomes`): `--help`, `--version` and words in error.
 //! - `device` (`Devices`), `watched`, `calls` (`Watch`, `Calls`): reads in parts, whole writes, and the calls that contracts
 //!   see.
@@ -17,9 +17,9 @@ mod calls;
 mod device;
 mod ending;
 mod fault;
-mod flags;
 mod help;
 mod line;
+mod option_kinds;
 mod options;
 mod telling;
 mod version;
@@ -30,8 +30,8 @@ pub use answering::{WordsAnswer, answer};
 pub use device::{read_parts, write_all, write_text};
 pub use ending::{Ending, Program, ProgramFault, WordsFault};
 pub use fault::RunFault;
-pub use flags::flag;
 pub use line::{Line, read_line};
+pub use option_kinds::flag;
 pub use telling::{name_front, status_of_ending, tell, tell_run, tell_text};
 pub use version::VERSION;
 pub use watched::Watched;

@@ -2,8 +2,8 @@
 ghost use Rattle.std.specs.Prelude.{◌≡◌, ◌∷◌, [], IfOk, map, codes};
 ghost use Rattle.thp_cli.specs.Prelude.{IsOption, IsOwnCommand, blocks_rule, check_rule, nodes_rule, number_rule, orders_rule, report_names, report_rule, underused_rule, workers_rule};
 
-use crate::flags::{flag, valued};
 use crate::help::AFTER_HELP;
+use crate::option_kinds::{flag, valued};
 use crate::version::VERSION;
 use clap::{Arg, Command, value_parser};
 use std::alloc::{AllocError, Global};

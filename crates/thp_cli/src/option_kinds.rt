@@ -1,5 +1,5 @@
 //! Options of a command line, by their kind.
-ghost use Rattle.thp_cli.specs.Flags.{flag_rule, valued_rule, IsOption};
+ghost use Rattle.thp_cli.specs.OptionKinds.{flag_rule, valued_rule, IsOption};
 
 use clap::{Arg, ArgAction};
 use std::alloc::Global;
