@@ -1,7 +1,7 @@
 -- Passes and the open batches of their callers: what calls keep, and where a caller's batch is found.
 use Rattle.std.proofs.Common.{Result, IsErrAnd, ◌≡◌, ◌∙◌, ◌≢◌, ◌++◌, ◌+◌, ◌-◌, ◌<◌, ◌≤◌, ap, ℕ, Bool, true, false, length, refl, sym, subst, arith, length-append, length-drop, Option, Some, None, Ok, Err, set, get_or, take, drop, nat_le}
 use Rattle.std.proofs.lemmas.Bool.Decides.{nat_tests}
-use Rattle.std.proofs.lemmas.List.{set-set, length-take, length-set, get_or-take, get_or-drop, get_or-set_same, get_or-set_other, get_or_append_left, get_or-append-add}
+use Rattle.std.proofs.lemmas.List.{length-take, length-set, get_or-take, get_or-drop, get_or-set_same, get_or-set_other, get_or_append_left, get_or-append-add}
 use Rattle.atomic_table.specs.Seated.{TableId}
 use Rattle.thp_node.specs.Prelude.{BatchState, IsInFront, rest}
 use Rattle.thp_history.specs.Prelude.{put_back_events, refusal, split_next_events, take as take_call, take_events}
@@ -125,7 +125,7 @@ module _ (mark : ℕ) (p q : PassState) (bs new : Batches) (c place : ℕ) (same
       → PassBack c (record { mark = mark; pass = p; batches = bs }) (record { mark = mark; pass = q; batches = new }) (Ok r)
   back_done b r is own now did = (only_of None now, rw (held b is) refl, here None now, rw (held b is) (subst (λ d. Called p q d (DidPutBack p.shape b r)) own did), tt)
 
--- a call that fails tells why, as its result
+-- the result of a call that fails is its fault
 pub told_as : {A : Type 0} (r : Result A Fault) (f : Fault) → IsErrAnd r (λ e. e ≡ f) → r ≡ Err f
 told_as (Ok x) f is = absurd is
 told_as (Err e) f is = ap (λ x. Err x) is

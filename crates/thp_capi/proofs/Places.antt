@@ -2,13 +2,12 @@
 use Rattle.std.proofs.Common.{◌≡◌, ◌∙◌, ◌≢◌, ◌+◌, ◌<◌, ◌==◌, ap, ℕ, Bool, true, false, List, length, refl, sym, subst, arith, Option, Some, None, Err, set, get_or, unwrap_or}
 use Rattle.std.proofs.lemmas.Bool.{eqb-true, eqb-false}
 use Rattle.std.proofs.lemmas.List.{length-set, get_or-set_same, get_or-set_other, set-get_or}
-use Rattle.thp_history.specs.declared.refusal.Refusal.{Refusal}
-use Rattle.thp_history.specs.Prelude.{History, put_back_events}
-use Rattle.thp_node.specs.Prelude.{BatchState, IsInFront, FrontsStay, OtherFrontsStay, Refused, NodeState}
-use Rattle.thp_capi.specs.Calls.{BackFails, NextCall}
+use Rattle.thp_history.specs.Prelude.{History}
+use Rattle.thp_node.specs.Prelude.{BatchState, IsInFront, FrontsStay, OtherFrontsStay, NodeState}
+use Rattle.thp_capi.specs.Calls.{NextCall}
 use Rattle.thp_capi.specs.Engines.{EngineState, IsEngine}
 use Rattle.thp_capi.specs.OpenBatches.{EachOpen}
-use Rattle.thp_capi.specs.declared.codes.Fault.TheVariants.{NoBatch, Refused as RefusedWith}
+use Rattle.thp_capi.specs.declared.codes.Fault.TheVariants.{NoBatch}
 
 abbrev pub Batches : Type 0
 Batches = List (Option BatchState)

@@ -1,7 +1,7 @@
 -- Which subpages of a page are zero-filled, and whether a page is worth a split: partly mapped, or underused.
 -- (admin-guide/mm/transhuge.rst, "shrink_underused", for the switch; the threshold and what counts as zero-filled are this
 -- project's profile)
-use Rattle.std.specs.Prelude.{ℕ, Bool, true, false, not, ◌&&◌, ◌||◌, nat_eq, nat_lt, IsTrue, [], ◌∷◌, ◌++◌, Option, Some, None, fold}
+use Rattle.std.specs.Prelude.{ℕ, Bool, true, false, not, ◌&&◌, ◌||◌, nat_eq, nat_lt, [], ◌∷◌, ◌++◌, Option, Some, None, fold}
 use Rattle.thp_history.specs.declared.events.Event.{Event}
 use Rattle.thp_history.specs.declared.events.What.{What}
 use Rattle.thp_history.specs.declared.events.What.TheVariants.{Alloc, UnmapWhole, UnmapSub, Write, Zero}

@@ -16,9 +16,7 @@ use Rattle.thp_journal_reader.specs.declared.event_line.EventWord.{EventWord}
 use Rattle.thp_journal_reader.specs.declared.event_line.EventWord.TheVariants as word
 use Rattle.thp_history.specs.declared.page_call.Loss.{Loss}
 use Rattle.thp_journal_reader.specs.declared.event_line.PageWord.{PageWord}
-use Rattle.thp_journal_reader.specs.declared.event_line.PageWord.TheVariants as page
 use Rattle.thp_journal_reader.specs.declared.event_line.RangeWord.{RangeWord}
-use Rattle.thp_journal_reader.specs.declared.event_line.RangeWord.TheVariants as range
 use Rattle.thp_journal_reader.specs.declared.line.Line.TheVariants.{Happened}
 use Rattle.thp_journal_writer.specs.declared.version.Version.{Version}
 use Rattle.thp_journal_reader.specs.Prelude.{caller_number, page_number, range_number, page_event, range_event, loss_event, unmap_event, split_event, close_event, outcome_and_word, event_by, event_of, common_word, later_word, event_word, outcome_of, page_what, range_what, line_by, by_words}

@@ -5,7 +5,6 @@ use Rattle.std.specs.List.{AllByRecursion, fold}
 use Rattle.std.proofs.lemmas.List.Sums.{fold-append, fold_push}
 use Rattle.thp_history.specs.declared.events.Event.{Event}
 use Rattle.thp_history.specs.declared.events.Outcome.{Outcome}
-use Rattle.thp_history.specs.declared.events.Outcome.TheVariants as outcome
 use Rattle.thp_history.specs.declared.events.What.{What}
 use Rattle.thp_history.specs.declared.events.What.TheVariants as what
 use Rattle.thp_history.specs.declared.shape.Shape.{Shape}

@@ -1,13 +1,10 @@
 -- A table without pages, and its empty queue.
-use Rattle.std.proofs.Common.{◌≡◌, ℕ, ◌<◌, zero, suc, List, [], Option, None, Contains, length, get_or, replicate, refl, ap, sym, ◌∙◌, subst, arith}
+use Rattle.std.proofs.Common.{◌≡◌, ℕ, zero, suc, List, [], Option, None, length, get_or, replicate, refl, ap, sym, ◌∙◌, subst}
 use Rattle.std.proofs.lemmas.List.{length-replicate}
+use Rattle.thp_links.proofs.Members.{Contains-nil}
 use Rattle.thp_links.proofs.OneTable.{Stands-nil}
 use Rattle.thp_page.specs.Prelude.{Slot, Table}
 use Rattle.thp_live_pages.specs.Prelude.{IsLinked, IsQueued}
-
--- the empty list has no member
-none : (k : ℕ) → Contains [] k → ⊥
-none k m = let below : m.0 < 0 = m.1 in omega arith
 
 -- no block has a page
 empty : (n b : ℕ) → get_or (replicate {A = Option Slot} n None) b None ≡ None
@@ -21,7 +18,7 @@ linked_none t n slots links = record {
   sizes = ap (λ (os : List (Option Slot)). length os) slots ∙ length-replicate n None ∙ sym links;
   queue_stands = Stands-nil t.links;
   listed = λ b. record {
-    queued = λ i. absurd (none b i);
+    queued = λ i. absurd (Contains-nil b i);
     in_queue = λ i. absurd (subst (λ (o : Option Slot). IsQueued o) (ap (λ (os : List (Option Slot)). get_or os b None) slots ∙ empty n b) i);
   };
 }

@@ -4,7 +4,7 @@ use Rattle.std.proofs.lemmas.List.Elements.{Contains-append_cases}
 use Rattle.std.proofs.lemmas.Bool.Decides.{eqb_tells}
 use Rattle.thp_links.specs.declared.link.Link.{Link}
 use Rattle.thp_links.specs.Prelude.{Distinct, without, Stands, SameOutside}
-use Rattle.thp_links.proofs.Members.{Contains-cons_cases, Contains-head, Contains-behind, first_and_rest, Contains-from_without, Contains-without, Contains-from_rest, Distinct-head, without_absent}
+use Rattle.thp_links.proofs.Members.{Contains-nil, Contains-cons_cases, Contains-head, Contains-behind, first_and_rest, Contains-from_without, Contains-without, Contains-from_rest, Distinct-head, without_absent}
 use Rattle.thp_history.specs.declared.events.Outcome.{Outcome}
 use Rattle.thp_history.specs.Prelude.{PageState}
 use Rattle.thp_page.specs.declared.standing.Standing.{Standing}
@@ -27,13 +27,10 @@ same_list xs b = record { to = λ k n m. m; from = λ k n m. m }
 pub same_pushed : (xs : List ℕ) (b : ℕ) → SameBut xs (xs ++ b ∷ []) b
 same_pushed xs b = record {
   to = λ k n m. left xs k m;
-  from = λ k n m. elim (Contains-append_cases xs (b ∷ []) k m) [ inl y ↦ y | inr y ↦ absurd (elim (Contains-cons_cases b [] k y) [ inl z ↦ n z | inr z ↦ none k z ]) ];
+  from = λ k n m. elim (Contains-append_cases xs (b ∷ []) k m) [ inl y ↦ y | inr y ↦ absurd (elim (Contains-cons_cases b [] k y) [ inl z ↦ n z | inr z ↦ Contains-nil k z ]) ];
 } where
-  none : (k : ℕ) → Contains [] k → ⊥
-  none k m = let below : m.0 < 0 = m.1 in omega arith
-
   left : (ys : List ℕ) (k : ℕ) → Contains ys k → Contains (ys ++ b ∷ []) k
-  left [] k m = absurd (none k m)
+  left [] k m = absurd (Contains-nil k m)
   left (y ∷ ys) k m = elim (Contains-cons_cases y ys k m) [
     | inl e ↦ let P : ℕ → Type 0 = λ z. Contains (y ∷ (ys ++ b ∷ [])) z in subst P (sym e) (Contains-head y (ys ++ b ∷ []))
     | inr n ↦ Contains-behind y (ys ++ b ∷ []) k (left ys k n)
