@@ -126,10 +126,10 @@ unseen s h r m u same p none =
     let N : Table → Type 0 = λ v. (b : ℕ) → HoldsPage (slot_at v b) p → ⊥ in
     not_live s h r.places.table r.places.queue p m.kept.node (subst N same none)
 
--- what is unsaid of a page that is split
-pub unsaid_there : (s : Shape) (h : History) (r : NodeState) → Means s h r → (p b : ℕ) (set : List Bool) → HoldsPage (slot_at r.places.table b) p → (n : ℕ) (partly : Bool) →
+-- the context of a split
+pub context_there : (s : Shape) (h : History) (r : NodeState) → Means s h r → (p b : ℕ) (set : List Bool) → HoldsPage (slot_at r.places.table b) p → (n : ℕ) (partly : Bool) →
     AtSlot r.places.table b (λ x. n ≡ x.page.whole) → AtSlot r.places.table b (λ x. partly ≡ x.page.partly) → IsContext s h (Split p set) (record { mappings = n; underused = not partly })
-unsaid_there s h r m p b set held n partly count part =
+context_there s h r m p b set held n partly count part =
     let w : Found s h r.places.table p b = found s h r.places.table r.places.queue p b m.kept.node held in (
       count w.slot w.at ∙ sym (whole_is s h w.slot.id w.slot.page w.is.tallies) ∙ ap (whole h) w.id_is,
       go partly (is_partly_mapped s h p) (part w.slot w.at ∙ w.is.tallies.partly ∙ ap (is_partly_mapped s h) w.id_is),

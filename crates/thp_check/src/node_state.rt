@@ -134,7 +134,7 @@ impl NodeState {
             Err(refusal) => return refused(refusal),
         };
         self.flights.leave(left, block);
-        if !is_told(&done, what) {
+        if !is_recorded(&done, what) {
             return other_outcome(&done);
         }
         Ok(())
@@ -330,7 +330,7 @@ fn taker_of(event: &Event) -> Option<u32>
 }
 
 // Whether an unmap or an unpin contains the computed outcome and frames.
-fn is_told(done: &Done, what: &What) -> bool
+fn is_recorded(done: &Done, what: &What) -> bool
     ensures { (l : Loss) (p : ℕ) (o : Outcome) (set : List Bool) → what.now ≡ loss_what l p o set → (IsTrue result ↔ ((done.now.outcome ≡ o) × (done.now.released ≡ set))) }
 {
     match what {

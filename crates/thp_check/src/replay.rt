@@ -67,10 +67,10 @@ impl Replay {
         ensures why { IfErr result (λ m. Explains self.shape self.history event.now m) }
     {
         let freed = freed_block(&self.state, &event.what);
-        let unsaid = context_of(&self.state, &event.what);
+        let context = context_of(&self.state, &event.what);
         self.state.admit(event)?;
         mark(&mut self.free, &event.what, freed);
-        self.tally.count(&event.what, unsaid);
+        self.tally.count(&event.what, context);
         self.past.push(event);
         Ok(self)
     }

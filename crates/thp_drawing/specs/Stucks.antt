@@ -18,8 +18,8 @@ stuck_lines y n [] = []
 stuck_lines y n (x ∷ more) = text_at (codes "ink") 900 (plus y (times 165 n)) (stuck_words x) ++ stuck_lines y (n + 1) more
 
 -- the number of pages that have a line each, those that have waited longest
-abbrev pub told_stuck : ℕ
-told_stuck = 5
+abbrev pub listed_stuck : ℕ
+listed_stuck = 5
 
 -- the text about the number of further pages
 unfoldable pub more_words : ℕ → List ℕ
@@ -27,13 +27,13 @@ more_words n = codes "stuck by pins: " ++ many n (codes "more page")
 
 abbrev pub more_line : ℕ → ℕ → List ℕ
 more_line y count =
-    if nat_le count told_stuck then []
-    else text_at (codes "ink") 900 (plus y (times 165 told_stuck)) (more_words (count - told_stuck))
+    if nat_le count listed_stuck then []
+    else text_at (codes "ink") 900 (plus y (times 165 listed_stuck)) (more_words (count - listed_stuck))
 
 -- the text about the stuck pages of a node, from this height on
 unfoldable pub stuck_text : ℕ → DrawnNode → List ℕ
-stuck_text y d = stuck_lines y 0 (take told_stuck d.stuck.items) ++ more_line y (length d.stuck.items)
+stuck_text y d = stuck_lines y 0 (take listed_stuck d.stuck.items) ++ more_line y (length d.stuck.items)
 
 -- its height
 abbrev pub stuck_height : DrawnNode → ℕ
-stuck_height d = times 165 (min (length d.stuck.items) (told_stuck + 1))
+stuck_height d = times 165 (min (length d.stuck.items) (listed_stuck + 1))

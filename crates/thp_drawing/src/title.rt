@@ -76,7 +76,7 @@ fn put_shortened(text: &mut Vec<u8>, line: &[u8]) -> PutResult
 }
 
 // The number of pages that have a line each.
-const TOLD_STUCK: usize = 5;
+const LISTED_STUCK: usize = 5;
 
 /// Appends the text about the stuck pages of a node, from this height on.
 #[tactic(auto, using(crate::proofs::Pieces::two), unfolding(crate::specs::Stucks::stuck_text))]
@@ -84,7 +84,7 @@ pub(crate) fn put_stuck_text(text: &mut Vec<u8>, y: u128, node: &DrawnNode) -> P
     ensures { OnOk result (text.new.items ≡ text.old.items ++ stuck_text y node.now) }
 {
     let pages = node.stuck.as_slice();
-    let (front, _) = pages.split_at(pages.len().min(TOLD_STUCK));
+    let (front, _) = pages.split_at(pages.len().min(LISTED_STUCK));
     for (place, page) in front.iter().enumerate() {
         put_stuck_line(text, plus(y, times(165, place as u128)), page)?;
     }
@@ -109,17 +109,20 @@ fn put_stuck_line(text: &mut Vec<u8>, y: u128, page: &StuckPage) -> PutResult
 fn put_more_line(text: &mut Vec<u8>, y: u128, count: u128) -> PutResult
     ensures { OnOk result (text.new.items ≡ text.old.items ++ more_line y count) }
 {
-    let told = TOLD_STUCK as u128;
-    if count <= told {
+    let listed = LISTED_STUCK as u128;
+    if count <= listed {
         return Ok(());
     }
-    let words = pieces!(Bytes(b"stuck by pins: ") Many(count - told, b"more page"));
-    put_words(text, b"ink", 900, plus(y, times(165, told)), &words)
+    let words = pieces!(Bytes(b"stuck by pins: ") Many(count - listed, b"more page"));
+    put_words(text, b"ink", 900, plus(y, times(165, listed)), &words)
 }
 
 /// Returns the height of the text about stuck pages.
 pub(crate) fn stuck_height(node: &DrawnNode) -> u128
     ensures { result ≡ stuck_height node.now }
 {
-    times(165, (node.stuck.len() as u128).min(TOLD_STUCK as u128 + 1))
+    times(
+        165,
+        (node.stuck.len() as u128).min(LISTED_STUCK as u128 + 1),
+    )
 }

@@ -10,10 +10,10 @@ use std::alloc::{AllocError, Global};
 use thp_script::{TextFault, TextInParts, TextKind, WholeLine, fault_after};
 
 /// Returns the error of the text after the last line, at this position.
-fn fault_at(behind: &[u8], place: Place) -> Option<TextKind>
-    ensures { result ≡ fault_at (fault_after behind.now) place }
+fn fault_at(begun: &[u8], place: Place) -> Option<TextKind>
+    ensures { result ≡ fault_at (fault_after begun.now) place }
 {
-    if let Some(kind) = fault_after(behind) {
+    if let Some(kind) = fault_after(begun) {
         return Some(kind);
     }
     match place {
@@ -43,12 +43,12 @@ fn add_fast<'p, N: KeepsNodes>(
 {
     let Place::Inside {
         version,
-        nodes: told,
+        nodes: count,
     } = place
     else {
         return Ok(part);
     };
-    if told == 0 || !text.begins_line() {
+    if count == 0 || !text.begins_line() {
         return Ok(part);
     }
     let mut rest = part;
@@ -104,12 +104,12 @@ impl<N: KeepsNodes + Drop> TextReader<N> {
         let rest = text.next_part(part);
         let mut rest = add_fast(alloc, &mut nodes, place, &mut text, rest)?;
         while let Some(WholeLine { number, bytes }) = text.next_line(&mut rest)? {
-            let said = line_in(place, bytes.as_slice());
+            let line = line_in(place, bytes.as_slice());
             drop(bytes);
-            match said {
-                Ok(said) => {
-                    nodes.add(alloc, number, &said)?;
-                    place = place_after(place, &said);
+            match line {
+                Ok(line) => {
+                    nodes.add(alloc, number, &line)?;
+                    place = place_after(place, &line);
                     rest = add_fast(alloc, &mut nodes, place, &mut text, rest)?;
                 }
                 Err(kind) => {
@@ -134,8 +134,8 @@ impl<N: KeepsNodes + Drop> TextReader<N> {
         ensures fault_line { IfErr result (λ fault. fault.line ≤ self.text.most + 1) }
         ensures last_line { self.text.line ≤ self.text.most + 1 }
     {
-        let (line, behind) = self.text.last_line();
-        match (self.text.fault(), fault_at(behind, self.place)) {
+        let (line, begun) = self.text.last_line();
+        match (self.text.fault(), fault_at(begun, self.place)) {
             (Some((line, kind)), _) => Err(TextFault { line, kind }),
             (None, Some(kind)) => Err(TextFault { line, kind }),
             (None, None) => Ok(self.nodes),

@@ -207,8 +207,8 @@ fn fits_lists(shape: Shape, before: &[Event], after: &[Event], event: &Event, li
             page,
             released,
         } => {
-            let told = Done { outcome, released };
-            is_allowed && gives(shape, before, after, page, &told, lists)
+            let recorded = Done { outcome, released };
+            is_allowed && gives(shape, before, after, page, &recorded, lists)
         }
         What::UnmapSub {
             outcome,
@@ -216,16 +216,16 @@ fn fits_lists(shape: Shape, before: &[Event], after: &[Event], event: &Event, li
             released,
             ..
         } => {
-            let told = Done { outcome, released };
-            is_allowed && gives(shape, before, after, page, &told, lists)
+            let recorded = Done { outcome, released };
+            is_allowed && gives(shape, before, after, page, &recorded, lists)
         }
         What::Unpin {
             outcome,
             page,
             released,
         } => {
-            let told = Done { outcome, released };
-            is_allowed && gives(shape, before, after, page, &told, lists)
+            let recorded = Done { outcome, released };
+            is_allowed && gives(shape, before, after, page, &recorded, lists)
         }
         What::Taken { page } => {
             is_first(page, &lists.queue) && (flight.is_empty() || is_taking(before, caller))
@@ -260,15 +260,15 @@ fn gives(
     before: &[Event],
     after: &[Event],
     page: PageId,
-    told: &Done,
+    recorded: &Done,
     lists: &Lists,
 ) -> bool
     requires order { shape.order ≤ max_order }
     requires lists { lists.now.standing.items ≡ standing shape before.now }
-    ensures { IsTrue result ↔ Gives shape before.now after.now page told.now.outcome told.now.released }
+    ensures { IsTrue result ↔ Gives shape before.now after.now page recorded.now.outcome recorded.now.released }
 {
-    told.outcome == outcome(shape, before, after, page, &lists.standing)
-        && told.released == frames::released(shape, before, after, page)
+    recorded.outcome == outcome(shape, before, after, page, &lists.standing)
+        && recorded.released == frames::released(shape, before, after, page)
 }
 
 // Whether a page is in a flight and worth a split.

@@ -11,12 +11,12 @@ loop-event-preserved g c =
     let a = c.in-Some.ensures in
     let after = c.in-Some.after.now in
     let is = c.pass_line.ensures in
-    let some : 0 < c.in-Inside.told = omega (arith, c.if-told-eq0.false) in
+    let some : 0 < c.in-Inside.count = omega (arith, c.if-count-eq0.false) in
     let added : told c.add.new.self ≡ with_line l.text.line (told l.nodes) (Happened c.in-Some.event) = c.in_ok-add.ensures.nodes in
     let P : ℕ → Type 0 = λ k. g.N.KeepsNodes.goes_along (k + 1) c.add.new.self in
     record {
       tells = λ more. rw (is, added, c.in-Inside.is)
-          (ap (told_after l.text more) (sym (event_tells (told l.nodes) c.in-Inside.version c.in-Inside.told l.text.line l.text.begun l.rest.now more after c.in-Some.event a some l.invariant.begins)))
+          (ap (told_after l.text more) (sym (event_tells (told l.nodes) c.in-Inside.version c.in-Inside.count l.text.line l.text.begun l.rest.now more after c.in-Some.event a some l.invariant.begins)))
           ∙ l.invariant.tells more;
       counted = rw is (record { lines = omega (arith, l.invariant.counted.lines, a.shorter); most = omega (arith, l.invariant.counted.most, a.shorter) });
       along = rw is (subst P c.last_line-number.ensures.number c.in_ok-add.ensures.along);

@@ -25,21 +25,21 @@ leave-requires c =
     let k = c.requires.known in
     lost_there k.shape k.history c.args.page c.in-Some.block c.args.self.now k.means c.in-Some.ensures c.args.loss c.lose.new.self c.lose.new.done c.in-Ok.left c.in-Ok.ensures.lost
 
-pub returns-then-not-is_told : goal.returns-then-not-is_told
-returns-then-not-is_told c =
+pub returns-then-not-is_recorded : goal.returns-then-not-is_recorded
+returns-then-not-is_recorded c =
     let o = outcome_in c.args.what.now in
     let set = frames_in c.args.what.now in
     let is = recorded_loss c.args.what.now c.args.page c.args.loss c.requires.call in
     rw (c.other_outcome.ensures, is) (λ n s h m.
     loss_differs s h n c.args.page c.in-Some.block c.args.self.now m c.in-Some.ensures c.args.loss o set c.lose.new.self c.lose.new.done c.in-Ok.left
-    (λ x e q. c.in-Ok.ensures.refusal x e q) c.in-Ok.ensures.lost (λ y. no_both c.is_told.result c.if-not-is_told.true ((c.is_told.ensures c.args.loss c.args.page o set is).1 y)))
+    (λ x e q. c.in-Ok.ensures.refusal x e q) c.in-Ok.ensures.lost (λ y. no_both c.is_recorded.result c.if-not-is_recorded.true ((c.is_recorded.ensures c.args.loss c.args.page o set is).1 y)))
 
 pub returns : goal.returns
 returns c =
     let o = outcome_in c.args.what.now in
     let set = frames_in c.args.what.now in
     let is = recorded_loss c.args.what.now c.args.page c.args.loss c.requires.call in
-    let told = (c.is_told.ensures c.args.loss c.args.page o set is).0 c.if-not-is_told.false in
+    let told = (c.is_recorded.ensures c.args.loss c.args.page o set is).0 c.if-not-is_recorded.false in
     rw is (λ n s h m.
     loss_goes s h n c.args.page c.in-Some.block c.args.self.now m c.in-Some.ensures c.args.loss o set _ c.lose.new.done c.in-Ok.left
     (λ x e q. c.in-Ok.ensures.refusal x e q) c.in-Ok.ensures.lost c.leave.ensures.left c.leave.ensures.size refl refl refl told.0 told.1)

@@ -35,10 +35,10 @@ invariant_of-self c =
     let marks : MarksFree s (i.past ++ e ∷ []) c.mark.new.free =
     marks_push s i.past e c.self.invariant.0.kept.node.legal went.0 i.free c.mark.new.free c.freed_block-freed.result c.self.invariant.1 freed c.mark.ensures.size
     c.mark.ensures.marked in
-    let said = c.context_of-unsaid.ensures s i.past e.caller (subst M (sym c.deref-2.ensures) c.self.invariant.0) went.0 in
+    let context = c.context_of-context.ensures s i.past e.caller (subst M (sym c.deref-2.ensures) c.self.invariant.0) went.0 in
     let adds : AddsUp s (i.past ++ e ∷ []) c.count.new.self =
     let old : Tally → Type 0 = λ t. AddsUp s i.past t in
-    adds_push s i.past e c.context_of-unsaid.result c.deref_mut-2.result.now c.count.new.self (subst old (sym c.deref_mut-2.ensures.value) c.self.invariant.2) said c.count.ensures in
+    adds_push s i.past e c.context_of-context.result c.deref_mut-2.result.now c.count.new.self (subst old (sym c.deref_mut-2.ensures.value) c.self.invariant.2) context c.count.ensures in
     let P : Shape → History → Type 0 = λ z h. Means z h c.admit.new.self × MarksFree z h c.mark.new.free × AddsUp z h c.count.new.self in
     subst (λ z. P z c.push.new.self) (sym went.1.kept.shape_is) (subst (λ h. P s h) (sym c.push.ensures) (went.1, marks, adds))
 

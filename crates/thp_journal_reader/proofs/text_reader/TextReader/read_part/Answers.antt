@@ -28,15 +28,15 @@ loop-text-preserved g c =
     let told = g.N.KeepsNodes.told in
     let l = c.loop-text in
     let bytes = c.as_slice.result.now in
-    let said = c.in-Ok.said in
+    let line = c.in-Ok.line in
     let after : c.next_line.new.self ≡ after_line l.text = search rules in
     let lines : (more : Text) → lines_of (l.text.begun ++ (l.rest.now ++ more)) ≡ bytes ∷ lines_of (c.next_line.new.rest.now ++ more) = search rules in
-    let says : Ok said ≡ line_in l.place bytes = c.in-Ok.ensures.value in
+    let says : Ok line ≡ line_in l.place bytes = c.in-Ok.ensures.value in
     let number : c.in-Some.field-0.number ≡ l.text.line = rw c.in-Some.is at c.in_ok-number.ensures.number in
-    let added : told c.add.new.self ≡ with_line l.text.line (told l.nodes) said = rw number at c.in_ok-add-in-Ok.ensures.nodes in
+    let added : told c.add.new.self ≡ with_line l.text.line (told l.nodes) line = rw number at c.in_ok-add-in-Ok.ensures.nodes in
     let step : (more : Text) → told_after c.next_line.new.self more (lines_tell (told c.add.new.self) c.place_after-place.result c.next_line.new.self.line (c.next_line.new.self.begun ++ (c.next_line.new.rest.now ++ more)))
     ≡ told_after l.text more (lines_tell (told l.nodes) l.place l.text.line (l.text.begun ++ (l.rest.now ++ more)))
-    = λ more. rw (after, added, c.place_after-place.ensures) (ap (told_after l.text more) (sym (line_tells (told l.nodes) l.place l.text.line (l.text.begun ++ (l.rest.now ++ more)) bytes (c.next_line.new.rest.now ++ more) said (lines more) says)))
+    = λ more. rw (after, added, c.place_after-place.ensures) (ap (told_after l.text more) (sym (line_tells (told l.nodes) l.place l.text.line (l.text.begun ++ (l.rest.now ++ more)) bytes (c.next_line.new.rest.now ++ more) line (lines more) says)))
     in
     record {
       tells = λ more. c.in_ok-rest-in-Ok.ensures.tells more ∙ step more ∙ l.invariant.tells more;

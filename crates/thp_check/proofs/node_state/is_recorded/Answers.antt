@@ -1,7 +1,7 @@
 use Rattle.std.proofs.Common.{◌≡◌, inl, inr, rules, ap, sym, ◌∙◌}
 use Rattle.thp_history.proofs.WordLemmas.{same_set-Decides}
 use Rattle.thp_check.proofs.PageEvents.{frames_in, outcome_in, told_by}
-use Rattle.thp_check.proofs.node_state.is_told.Goals as goal
+use Rattle.thp_check.proofs.node_state.is_recorded.Goals as goal
 
 pub returns-then-eq : goal.returns-then-eq
 returns-then-eq c = λ l p o set is.
