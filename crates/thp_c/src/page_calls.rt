@@ -3,7 +3,7 @@ ghost use Rattle.thp_history.specs.Refusals as call;
 ghost use Rattle.thp_capi.specs.Prelude.{Does, LoseCall, OneCall, PassLost, PassOne, Reports, Returns, value_of};
 
 use std::alloc::Global;
-use thp_capi::{ThpDone, ThpNode, ThpPass};
+use thp_capi::{ThpDone, ThpNode, ThpPass, code, on_node, on_pass};
 use thp_history::{Gain, Loss, PageId, What};
 
 /// Maps the whole page once more, by a PMD entry.
@@ -16,7 +16,7 @@ pub extern "C" fn thp_c_node_map_whole(
 ) -> u32
     ensures { Reports result (Does handle.old.held handle.new.held (OneCall caller (call.map_whole page) (What.MapWhole page))) }
 {
-    handle.gain(alloc, caller, PageId(page), Gain::MapWhole)
+    code(on_node!(handle, alloc, engine => engine.gain(caller, PageId(page), Gain::MapWhole)))
 }
 
 /// Maps each of the `count` subpages from `first` on once more, by PTE entries.
@@ -31,7 +31,8 @@ pub extern "C" fn thp_c_node_map_sub(
 ) -> u32
     ensures { Reports result (Does handle.old.held handle.new.held (OneCall caller (call.map_sub page first count) (What.MapSub page first count))) }
 {
-    handle.gain(alloc, caller, PageId(page), Gain::MapSub { first, count })
+    let gain = Gain::MapSub { first, count };
+    code(on_node!(handle, alloc, engine => engine.gain(caller, PageId(page), gain)))
 }
 
 /// Replaces one PMD mapping of the page by a PTE mapping of each subpage.
@@ -44,7 +45,7 @@ pub extern "C" fn thp_c_node_split_pmd(
 ) -> u32
     ensures { Reports result (Does handle.old.held handle.new.held (OneCall caller (call.split_pmd page) (What.SplitPmd page))) }
 {
-    handle.gain(alloc, caller, PageId(page), Gain::SplitPmd)
+    code(on_node!(handle, alloc, engine => engine.gain(caller, PageId(page), Gain::SplitPmd)))
 }
 
 /// Adds a pin to the page.
@@ -52,7 +53,7 @@ pub extern "C" fn thp_c_node_split_pmd(
 pub extern "C" fn thp_c_node_pin(handle: &mut ThpNode, alloc: Global, caller: u32, page: u64) -> u32
     ensures { Reports result (Does handle.old.held handle.new.held (OneCall caller (call.pin page) (What.Pin page))) }
 {
-    handle.gain(alloc, caller, PageId(page), Gain::Pin)
+    code(on_node!(handle, alloc, engine => engine.gain(caller, PageId(page), Gain::Pin)))
 }
 
 /// Records that data is written to each of the `count` subpages from `first` on.
@@ -67,7 +68,8 @@ pub extern "C" fn thp_c_node_write(
 ) -> u32
     ensures { Reports result (Does handle.old.held handle.new.held (OneCall caller (call.write page first count) (What.Write page first count))) }
 {
-    handle.gain(alloc, caller, PageId(page), Gain::Write { first, count })
+    let gain = Gain::Write { first, count };
+    code(on_node!(handle, alloc, engine => engine.gain(caller, PageId(page), gain)))
 }
 
 /// Records that zeros are written to each of the `count` subpages from `first` on.
@@ -82,7 +84,8 @@ pub extern "C" fn thp_c_node_zero(
 ) -> u32
     ensures { Reports result (Does handle.old.held handle.new.held (OneCall caller (call.zero_fill page first count) (What.Zero page first count))) }
 {
-    handle.gain(alloc, caller, PageId(page), Gain::Zero { first, count })
+    let gain = Gain::Zero { first, count };
+    code(on_node!(handle, alloc, engine => engine.gain(caller, PageId(page), gain)))
 }
 
 /// Removes one mapping of the whole page.
@@ -96,7 +99,7 @@ pub extern "C" fn thp_c_node_unmap_whole(
 ) -> u32
     ensures { Reports result (Returns handle.old.held handle.new.held done.old done.new (LoseCall caller (call.unmap_whole page) page (λ o released. What.UnmapWhole o page released))) }
 {
-    handle.lose(alloc, caller, PageId(page), Loss::UnmapWhole, done)
+    on_node!(handle, alloc, engine => engine.lose(caller, PageId(page), Loss::UnmapWhole), done)
 }
 
 /// Removes one mapping of each of the `count` subpages from `first` on.
@@ -112,13 +115,8 @@ pub extern "C" fn thp_c_node_unmap_sub(
 ) -> u32
     ensures { Reports result (Returns handle.old.held handle.new.held done.old done.new (LoseCall caller (call.unmap_sub page first count) page (λ o released. What.UnmapSub o page first count released))) }
 {
-    handle.lose(
-        alloc,
-        caller,
-        PageId(page),
-        Loss::UnmapSub { first, count },
-        done,
-    )
+    let loss = Loss::UnmapSub { first, count };
+    on_node!(handle, alloc, engine => engine.lose(caller, PageId(page), loss), done)
 }
 
 /// Removes a pin of the page.
@@ -132,7 +130,7 @@ pub extern "C" fn thp_c_node_unpin(
 ) -> u32
     ensures { Reports result (Returns handle.old.held handle.new.held done.old done.new (LoseCall caller (call.unpin page) page (λ o released. What.Unpin o page released))) }
 {
-    handle.lose(alloc, caller, PageId(page), Loss::Unpin, done)
+    on_node!(handle, alloc, engine => engine.lose(caller, PageId(page), Loss::Unpin), done)
 }
 
 /// Maps the whole page once more, by a PMD entry.
@@ -145,7 +143,7 @@ pub extern "C" fn thp_c_pass_map_whole(
 ) -> u32
     ensures { Reports result (Does (value_of handle.old.held) (value_of handle.new.held) (PassOne caller (call.map_whole page) (What.MapWhole page))) }
 {
-    handle.gain(alloc, caller, PageId(page), Gain::MapWhole)
+    code(on_pass!(handle, alloc, pass => pass.gain(caller, PageId(page), Gain::MapWhole)))
 }
 
 /// Maps each of the `count` subpages from `first` on once more, by PTE entries.
@@ -160,7 +158,8 @@ pub extern "C" fn thp_c_pass_map_sub(
 ) -> u32
     ensures { Reports result (Does (value_of handle.old.held) (value_of handle.new.held) (PassOne caller (call.map_sub page first count) (What.MapSub page first count))) }
 {
-    handle.gain(alloc, caller, PageId(page), Gain::MapSub { first, count })
+    let gain = Gain::MapSub { first, count };
+    code(on_pass!(handle, alloc, pass => pass.gain(caller, PageId(page), gain)))
 }
 
 /// Replaces one PMD mapping of the page by a PTE mapping of each subpage.
@@ -173,7 +172,7 @@ pub extern "C" fn thp_c_pass_split_pmd(
 ) -> u32
     ensures { Reports result (Does (value_of handle.old.held) (value_of handle.new.held) (PassOne caller (call.split_pmd page) (What.SplitPmd page))) }
 {
-    handle.gain(alloc, caller, PageId(page), Gain::SplitPmd)
+    code(on_pass!(handle, alloc, pass => pass.gain(caller, PageId(page), Gain::SplitPmd)))
 }
 
 /// Adds a pin to the page.
@@ -181,7 +180,7 @@ pub extern "C" fn thp_c_pass_split_pmd(
 pub extern "C" fn thp_c_pass_pin(handle: &mut ThpPass, alloc: Global, caller: u32, page: u64) -> u32
     ensures { Reports result (Does (value_of handle.old.held) (value_of handle.new.held) (PassOne caller (call.pin page) (What.Pin page))) }
 {
-    handle.gain(alloc, caller, PageId(page), Gain::Pin)
+    code(on_pass!(handle, alloc, pass => pass.gain(caller, PageId(page), Gain::Pin)))
 }
 
 /// Records that data is written to each of the `count` subpages from `first` on.
@@ -196,7 +195,8 @@ pub extern "C" fn thp_c_pass_write(
 ) -> u32
     ensures { Reports result (Does (value_of handle.old.held) (value_of handle.new.held) (PassOne caller (call.write page first count) (What.Write page first count))) }
 {
-    handle.gain(alloc, caller, PageId(page), Gain::Write { first, count })
+    let gain = Gain::Write { first, count };
+    code(on_pass!(handle, alloc, pass => pass.gain(caller, PageId(page), gain)))
 }
 
 /// Records that zeros are written to each of the `count` subpages from `first` on.
@@ -211,7 +211,8 @@ pub extern "C" fn thp_c_pass_zero(
 ) -> u32
     ensures { Reports result (Does (value_of handle.old.held) (value_of handle.new.held) (PassOne caller (call.zero_fill page first count) (What.Zero page first count))) }
 {
-    handle.gain(alloc, caller, PageId(page), Gain::Zero { first, count })
+    let gain = Gain::Zero { first, count };
+    code(on_pass!(handle, alloc, pass => pass.gain(caller, PageId(page), gain)))
 }
 
 /// Removes one mapping of the whole page.
@@ -225,7 +226,7 @@ pub extern "C" fn thp_c_pass_unmap_whole(
 ) -> u32
     ensures { Reports result (Returns (value_of handle.old.held) (value_of handle.new.held) done.old done.new (PassLost caller (call.unmap_whole page) page (λ o released. What.UnmapWhole o page released))) }
 {
-    handle.lose(alloc, caller, PageId(page), Loss::UnmapWhole, done)
+    on_pass!(handle, alloc, pass => pass.lose(caller, PageId(page), Loss::UnmapWhole), done)
 }
 
 /// Removes one mapping of each of the `count` subpages from `first` on.
@@ -241,13 +242,8 @@ pub extern "C" fn thp_c_pass_unmap_sub(
 ) -> u32
     ensures { Reports result (Returns (value_of handle.old.held) (value_of handle.new.held) done.old done.new (PassLost caller (call.unmap_sub page first count) page (λ o released. What.UnmapSub o page first count released))) }
 {
-    handle.lose(
-        alloc,
-        caller,
-        PageId(page),
-        Loss::UnmapSub { first, count },
-        done,
-    )
+    let loss = Loss::UnmapSub { first, count };
+    on_pass!(handle, alloc, pass => pass.lose(caller, PageId(page), loss), done)
 }
 
 /// Removes a pin of the page.
@@ -261,5 +257,5 @@ pub extern "C" fn thp_c_pass_unpin(
 ) -> u32
     ensures { Reports result (Returns (value_of handle.old.held) (value_of handle.new.held) done.old done.new (PassLost caller (call.unpin page) page (λ o released. What.Unpin o page released))) }
 {
-    handle.lose(alloc, caller, PageId(page), Loss::Unpin, done)
+    on_pass!(handle, alloc, pass => pass.lose(caller, PageId(page), Loss::Unpin), done)
 }

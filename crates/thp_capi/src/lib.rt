@@ -6,8 +6,7 @@
 //! - Handles: `handle` (one for all; `Handles`, `Rows`), `room` (`Rooms`), and what C sees of them: `node_handle`, `pass_handle`,
 //!   `check_handle`.
 //! - Nodes: `engine` (a node and its open batches), `replies`; `Calls`, `Reading`, `Replies`, `Engines`. `held`, `held_passes`:
-//!   what handles hold, of nodes that store their events or only count them (`Held`), and the calls on it (`on_node`, `on_pass`;
-//!   about one page: `page_calls`).
+//!   what handles hold, of nodes that store their events or only count them (`Held`), and the calls on it (`on_node`, `on_pass`).
 //! - Shared nodes: `shared_pass`, `open_batches`; `Passes`, `Sharing`, `PassBatches`, `OpenBatches` (of nodes, too).
 //! - Checks: `checks` (of a whole text: `Checks`; in parts: `LongChecks`).
 //! - Codes: `codes` (`Codes`).
@@ -25,7 +24,6 @@ mod held;
 mod held_passes;
 mod node_handle;
 mod open_batches;
-mod page_calls;
 mod pass_handle;
 mod replies;
 mod room;
