@@ -165,6 +165,40 @@ def made_since(began: float, names: tuple[str, ...]) -> list[str]:
     return [str(path) for path in paths if path.is_file() and path.stat().st_mtime >= began]
 
 
+def test_programs(gate: Gate, programs: list[str], began: float) -> None:
+    """Adds the tests of the program, as each compiler built it."""
+    for program in programs:
+        for script in BY_EACH:
+            gate.add(f"{Path(script).name} {Path(program).name}", [sys.executable, script, program])
+    for program in programs[:1]:
+        for script in BY_ONE:
+            gate.add(Path(script).name, [sys.executable, script, program])
+        gate.add(Path(CEILINGS[0]).name, [sys.executable, *CEILINGS, program])
+        gate.add("outside.py --self-test", [sys.executable, "tests/outside.py", "--self-test", program])
+        rows = [f"{path}:{REFUSED}" for path in made_since(began, (SPOILT,))]
+        gate.add("memory.py", [sys.executable, "tests/memory.py", program, *rows])
+
+
+def test_library(gate: Gate, programs: list[str], archives: list[str]) -> None:
+    """Adds the tests of the library for C, and of what a call from C takes."""
+    gate.add("library.py", [sys.executable, "tests/library.py", *archives, *(programs[:1] if archives else [])])
+    for archive in archives:
+        gate.add("bench/calls/run", [sys.executable, "bench/calls/run", archive, "--ceilings"])
+    gate.add("policies", [sys.executable, "linux/whatif/tests/__main__.py", "test_policies.py"])
+
+
+def test_journal_tools(gate: Gate, programs: list[str], checkers: list[str], drawers: list[str]) -> None:
+    """Adds the tests of the programs for journals of any length."""
+    for program in checkers:
+        gate.add(f"checker.py {Path(program).name}", [sys.executable, "tests/checker.py", program])
+        gate.add(f"streams.py {Path(program).name}", [sys.executable, "tests/streams.py", program])
+    for program, player in zip(checkers, programs):
+        gate.add(f"repeats.py {Path(program).name}", [sys.executable, "tests/repeats.py", program, player])
+    for program in drawers:
+        gate.add(f"drawer.py {Path(program).name}", [sys.executable, "tests/drawer.py", program])
+        gate.add(f"tables.py {Path(program).name}", [sys.executable, "tests/tables.py", program])
+
+
 def main() -> None:
     """Runs everything and ends with the sum."""
     gate = Gate()
@@ -180,30 +214,11 @@ def main() -> None:
     for script in WITHOUT:
         gate.add(script, [sys.executable, script])
     programs = made_since(began, BUILT)
-    for program in programs:
-        for script in BY_EACH:
-            gate.add(f"{Path(script).name} {Path(program).name}", [sys.executable, script, program])
-    for program in programs[:1]:
-        for script in BY_ONE:
-            gate.add(Path(script).name, [sys.executable, script, program])
-        gate.add(Path(CEILINGS[0]).name, [sys.executable, *CEILINGS, program])
-        gate.add("outside.py --self-test", [sys.executable, "tests/outside.py", "--self-test", program])
-        rows = [f"{path}:{REFUSED}" for path in made_since(began, (SPOILT,))]
-        gate.add("memory.py", [sys.executable, "tests/memory.py", program, *rows])
+    test_programs(gate, programs, began)
     gate.add("archive.py", [sys.executable, "tests/archive.py", ARCHIVE])
-    archives = made_since(began, (ARCHIVE,))
-    gate.add("library.py", [sys.executable, "tests/library.py", *archives, *(programs[:1] if archives else [])])
-    gate.add("policies", [sys.executable, "linux/whatif/tests/__main__.py", "test_policies.py"])
-    checkers = made_since(began, CHECKERS)
-    for program in checkers:
-        gate.add(f"checker.py {Path(program).name}", [sys.executable, "tests/checker.py", program])
-        gate.add(f"streams.py {Path(program).name}", [sys.executable, "tests/streams.py", program])
-    for program, player in zip(checkers, programs):
-        gate.add(f"repeats.py {Path(program).name}", [sys.executable, "tests/repeats.py", program, player])
-    drawers = made_since(began, DRAWERS)
-    for program in drawers:
-        gate.add(f"drawer.py {Path(program).name}", [sys.executable, "tests/drawer.py", program])
-        gate.add(f"tables.py {Path(program).name}", [sys.executable, "tests/tables.py", program])
+    archives, checkers, drawers = (made_since(began, names) for names in ((ARCHIVE,), CHECKERS, DRAWERS))
+    test_library(gate, programs, archives)
+    test_journal_tools(gate, programs, checkers, drawers)
     if programs and checkers and drawers and archives:
         gate.add("package.py", [sys.executable, "tests/package.py", programs[0], checkers[0], drawers[0], archives[0]])
     if not programs:
