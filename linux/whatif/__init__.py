@@ -3,7 +3,7 @@
     queues       what the kernel's own structures contain of huge pages, by BPF; linux/common/reader has all else of them
     processes    which processes are looked at
     rights       the rights that the tool has, tried on what it needs
-    snapshot     all of it together, and what was left out
+    look         takes a look; snapshot: what it has read, and what was left out
     stored       stored snapshots, read back and checked
     page_commands   a huge page as commands of a script
     scripts      pages as scripts for thpsplit, and such scripts read back

@@ -6,11 +6,11 @@ import argparse
 
 from ..common.arguments import OneLineParser, seconds, whole
 from ..common.errors import InputFault
-from ..common.hold import LIMIT
 from ..common.reader import MEMORY
 from ..common.version import add_version
+from .look import LookOptions
 from .processes import ProcessChoice
-from .snapshot import NAME, LookOptions
+from .snapshot import NAME
 
 MOST_PROCESS = 1 << 22  # the kernel's limit of process numbers
 MOST_COUNT = 1000000  # rounds
@@ -25,21 +25,12 @@ def add_choice(words: argparse.ArgumentParser) -> None:
     words.add_argument("--pid", type=process, action="append", default=[], metavar="P", help="a process; repeatable")
     words.add_argument("--cgroup", action="append", default=[], metavar="DIR", help="a control group and those below")
     words.add_argument("--all", action="store_true", help="all processes")
-    words.add_argument("--freeze", action="store_true", help="hold the processes still meanwhile")
-    add_hold(words)
     words.add_argument("--memory", type=whole(1, MOST_MEMORY), default=MEMORY, metavar="MIB", help="the look's limit")
     words.add_argument("--orders", action="store_true", help="huge pages below PMD size, too")
     words.add_argument(
         "--queued", choices=("seen", "all"), default="seen", help="all: as if each page were still in its queue"
     )
     words.add_argument("--no-kernel", action="store_true", help="do without BPF: queues and pins are guessed")
-
-
-def add_hold(words: argparse.ArgumentParser) -> None:
-    """Adds the options of holding processes."""
-    limit = seconds(0.001, 60)
-    words.add_argument("--freeze-limit", type=limit, default=LIMIT, metavar="SECONDS", help="the longest hold")
-    words.add_argument("--wait", action="store_true", help="wait until another tool that changes or holds has ended")
 
 
 def add_thresholds(words: argparse.ArgumentParser) -> None:
@@ -121,7 +112,7 @@ def add_verify(words: argparse.ArgumentParser) -> None:
     after = seconds(0, LONGEST)
     words.add_argument("--after", type=after, default=5.0, metavar="SECONDS", help="for which the command runs first")
     words.add_argument("--user", metavar="NAME", help="runs the command; if not given, the caller of sudo")
-    add_hold(words)
+    words.add_argument("--wait", action="store_true", help="wait until another tool that changes the machine has ended")
     words.add_argument("--running", action="store_true", help="don't hold the pages still until the comparison")
     words.add_argument("--enabled", choices=("always", "madvise"), help="transparent_hugepage/enabled meanwhile")
     words.add_argument("--no-kernel", action="store_true", help="do without BPF: queues and pins are guessed")
@@ -141,11 +132,8 @@ def parse_choice(options: argparse.Namespace) -> ProcessChoice:
 def parse_look_options(options: argparse.Namespace) -> LookOptions:
     """Returns how it is to be looked at."""
     return LookOptions(
-        freeze=options.freeze,
         with_small=options.orders,
         with_kernel=not options.no_kernel,
         all_queued=options.queued == "all",
-        freeze_limit=options.freeze_limit,
-        wait=options.wait,
         memory=options.memory,
     )

@@ -21,7 +21,8 @@ from .predictor import DEFAULT, OFF, Predictor, Row, Share, find_highest, label,
 from .processes import ProcessChoice
 from .rights import demand_root
 from .scripts import Script, Spool, read_script
-from .snapshot import NAME, Snapshot, SnapshotTaker, guess_of, list_notes, show_progress, warnings, write_snapshot
+from .look import SnapshotTaker, show_progress
+from .snapshot import NAME, Snapshot, guess_of, list_notes, warnings, write_snapshot
 from .table import (
     FRAMES_A_MEBIBYTE,
     cost_table,
@@ -356,7 +357,6 @@ def command_verify(options: argparse.Namespace) -> int:
         enabled=options.enabled or "",
         change=options.change,
         with_kernel=not options.no_kernel,
-        freeze_limit=options.freeze_limit,
         wait=options.wait,
         verbose=options.verbose,
         keep=options.keep,

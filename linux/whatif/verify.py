@@ -45,7 +45,8 @@ from .page_commands import Reason
 from .predictor import OFF, Predictor, label
 from .processes import ProcessChoice
 from .reference import given_back
-from .snapshot import NAME, LookOptions, Scripts, Snapshot, SnapshotTaker, write_snapshot
+from .look import LookOptions, SnapshotTaker
+from .snapshot import NAME, Scripts, Snapshot, write_snapshot
 
 THRESHOLDS = (OFF, 0, 1, 16, 32, 64, 128, 256, 409, 500, 510)
 SMALL_ORDERS = (4, 6)
