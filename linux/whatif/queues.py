@@ -10,15 +10,16 @@ from __future__ import annotations
 import ctypes
 import struct
 from dataclasses import dataclass, replace
-from typing import Callable, Dict, Iterable, List, Set
+from typing import Callable, Dict, Iterable, List, Set, Tuple
 
 from ..common.bpf import SLEEPABLE, ProgramType, load_program
 from ..common.btf import Types
 from ..common.errors import Unavailable
 from ..common.folios import Folio, even_counts
 from ..common.kernel_memory import KernelMemory, build_copier
-from ..common.reader import load_library
+from ..common.workers import load_library
 
+UNORDERED = "the order of pages in their queues isn't known: control groups or queues change all the time"
 HEADS = 4  # struct pages that a struct folio lies over
 BATCH = 1024  # pages that are read at a time
 NUMBER, COUNT = struct.Struct("<Q"), struct.Struct("<i")
@@ -106,17 +107,17 @@ class Queues:
         folio.pins = references - (large + 1) - (folio.size if folio.is_swap_cached else 0)
         return bool(references > 0)
 
-    def places(self, groups: List[int], wanted: Set[int]) -> Dict[int, int]:
-        """Returns the place in its queue of each selected page (by frame) of these control groups (inodes). A queue that
-        changes all the time, and a group that ended, are left out: their pages then have no order, which changes no
-        row. So are all queues where this kernel has them in another form."""
+    def places(self, groups: Set[int], wanted: Set[int]) -> Tuple[Dict[int, int], List[str]]:
+        """Returns the place in its queue of each selected page (by frame) of these control groups (inodes), and a note where
+        places aren't known: they change no row but the order of splits."""
         out: Dict[int, int] = {}
-        addresses = self._memory.groups() if self._ordered and groups else {}
-        for inode in groups:
-            if inode in addresses:
-                try:
-                    frames = self._memory.queue_frames(addresses[inode])
-                except Unavailable:
-                    continue
+        if not self._ordered or not groups:
+            return out, []
+        try:
+            addresses = self._memory.groups()
+            for inode in groups & set(addresses):
+                frames = self._memory.queue_frames(addresses[inode])
                 out.update({frame: place for place, frame in enumerate(frames) if frame in wanted})
-        return out
+        except Unavailable:
+            return out, [UNORDERED]
+        return out, []

@@ -33,10 +33,9 @@ from ..common.folios import Folio
 from ..common.groups import Groups
 from ..common.hold import LIMIT, hold_processes
 from ..common.keeper import Keeper
-from ..common.page_files import Frames, PageFlag, frame_of_entry
+from ..common.page_files import Frames, OpenFiles, PageFlag, frame_of_entry
 from ..common.proc import members
 from ..common.program import Program
-from ..common.reader import OpenFiles
 from ..common.subpages import size
 from ..common.text import escape
 from ..common.user import User
