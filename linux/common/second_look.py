@@ -50,7 +50,7 @@ class SecondLook:
         self._walk()
         self._count()
         changed = [reader.folios[frame] for frame in sorted(self._first) if frame in reader.folios]
-        for folio in changed[MOST_AGAIN:] + [folio for folio in changed[:MOST_AGAIN] if not is_coherent(folio)]:
+        for folio in changed[MOST_AGAIN:] + [folio for folio in changed[:MOST_AGAIN] if not reconcile(folio)]:
             self._leave_out(folio, MOVED)
         reader.contents.read([folio for folio in changed if folio.frame in self._first])
         sampled = self._sample()
@@ -127,11 +127,15 @@ def blank(folio: Folio, mappings: list[Mapping]) -> Folio:
     )
 
 
-def is_coherent(folio: Folio) -> bool:
-    """Returns whether each subpage that the processes map is counted as mapped."""
-    return min(folio.totals) > 0 or not any(
-        mapping.subset >> place & 1 for place, total in enumerate(folio.totals) if not total for mapping in folio.mappings
-    )
+def reconcile(folio: Folio) -> bool:
+    """Takes from a page's mappings what nobody maps by its counts, which were read later; returns whether anything is left."""
+    if min(folio.totals) == 0 or folio.whole == 0:
+        counted = sum(1 << place for place, total in enumerate(folio.totals) if total)
+        folio.mappings = [
+            mapping._replace(subset=mapping.subset & counted, by_pmd=mapping.by_pmd and folio.whole != 0)
+            for mapping in folio.mappings if mapping.subset & counted
+        ]
+    return bool(folio.mappings)
 
 
 def split(pieces: bytes) -> list[bytes]:

@@ -45,6 +45,7 @@ class ContentLooks:
         reader = Reader(min(self._orders) < PMD_ORDER, 1, direct=self._direct, memory=MOST_MEMORY)
         try:
             reader.read_processes(processes_of(path))
+            reader.read_groups(reader.folios.values())
             reader.read_counts(reader.folios.values())
             reader.read_contents()
             SecondLook(reader).take()
