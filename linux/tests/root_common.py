@@ -318,7 +318,7 @@ def nobody_reaches_the_folder() -> Optional[str]:
         if not all(map(os.path.exists, paths)):
             return "nothing to open"
         done = subprocess.run(["/usr/bin/python3", "-c", code, *paths], capture_output=True, text=True, timeout=20,
-                              check=False, **user.nobody().rights())
+                              check=False, user=user.NOBODY, group=user.NOBODY, extra_groups=[])
     finally:
         end(tool)
         settings()
