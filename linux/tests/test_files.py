@@ -6,7 +6,6 @@ import os
 import random
 import stat
 import subprocess
-import sys
 import tempfile
 import unittest
 from pathlib import Path

@@ -13,7 +13,7 @@ import tarfile
 import tempfile
 import time
 from pathlib import Path
-from typing import List, Optional, Sequence
+from typing import Sequence
 
 from ..common.errors import RunFailed, Unavailable
 from ..common.helpers import own_folder_of_helpers
@@ -31,7 +31,7 @@ _IMAGE = re.compile(r"(?:\./)?(?:boot/vmlinuz-[^/]+|(?:usr/)?lib/modules/[^/]+/v
 _URI = re.compile(r"^'[^']+' ([A-Za-z0-9.+~_%-]+)\.deb ", re.MULTILINE)
 
 
-def call(words: Sequence[str], folder: Optional[str] = None) -> subprocess.CompletedProcess[bytes]:
+def call(words: Sequence[str], folder: str | None = None) -> subprocess.CompletedProcess[bytes]:
     """Runs a program of apt or dpkg. Unavailable where it isn't there or takes too long."""
     if not shutil.which(words[0]):
         raise Unavailable(f"no {words[0]}: packages can't be used here")
@@ -52,11 +52,11 @@ def reason_of(done: subprocess.CompletedProcess[bytes]) -> str:
 class PackageLists:
     """The lists of the machine, or those of a suite in a folder of the cache."""
 
-    def __init__(self, suite: Optional[str]) -> None:
+    def __init__(self, suite: str | None) -> None:
         self._folder = own_folder_of_helpers() / "kernels"
         open_folder(str(self._folder))
         self._suite = suite
-        self._options: List[str] = ["-o", "APT::Sandbox::User=root"] if os.geteuid() == 0 else []
+        self._options: list[str] = ["-o", "APT::Sandbox::User=root"] if os.geteuid() == 0 else []
         if suite:
             self._use_suite(suite)
 

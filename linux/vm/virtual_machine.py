@@ -16,7 +16,7 @@ import socket
 import stat
 import subprocess
 from dataclasses import dataclass
-from typing import List
+
 
 from ..common.errors import Unavailable
 from ..common.program import ENVIRONMENT
@@ -40,7 +40,7 @@ class Shape:
     nodes: int
     processors: int
 
-    def words(self) -> List[str]:
+    def words(self) -> list[str]:
         """Returns qemu's words for it."""
         out = ["-smp", str(self.processors), "-m", f"{self.memory // self.nodes * self.nodes}M"]
         for node in range(self.nodes):
@@ -58,7 +58,7 @@ def find_qemu() -> str:
     return found
 
 
-def groups_for_kvm() -> List[int]:
+def groups_for_kvm() -> list[int]:
     """Returns the group that may use KVM, for a user without rights; none where that is root's."""
     try:
         found = os.stat(KVM_DEVICE)
@@ -116,7 +116,7 @@ class VirtualMachine:
             self._process = self._start(words, passed, user_without_rights(), with_kvm)
 
     @staticmethod
-    def _start(words: List[str], passed: List[int], user: User, with_kvm: bool) -> subprocess.Popen[bytes]:
+    def _start(words: list[str], passed: list[int], user: User, with_kvm: bool) -> subprocess.Popen[bytes]:
         rights = user.rights()
         if rights and with_kvm:
             rights["extra_groups"] = groups_for_kvm()
