@@ -44,7 +44,7 @@ def commands_for(options: RecordOptions, seed: int) -> List[List[str]]:
     """Returns the command given, or a workload for each order."""
     if options.command:
         return [options.command]
-    path, own = helper("record/workload.c"), options.own
+    path, own = helper("workload"), options.own
     return [[path, str(own.threads), str(own.steps), str(seed), str(order), *own.extra] for order in options.orders]
 
 
@@ -101,7 +101,7 @@ class Run:
 
     def _check(self, recording: Recording) -> None:
         self._outputs.write_records(recording.stores)
-        page_size = self._memory.types.struct_size("page")
+        page_size = self._memory.page_size()
         builders, queues = build_journals(self._options, recording, page_size)
         journal = JournalFile(builders)
         try:
@@ -160,9 +160,9 @@ def record(options: RecordOptions) -> int:
         raise Unavailable(parts[0].text)
     machine.demand(parts, [part.name for part in parts])
     by = find_checker(options.checker, options.program)
-    options.check_nodes(memory.queue_count())
+    options.check_nodes(len(memory.numa_nodes()))
     options.check_command()
-    outputs = Outputs(options, options.groups * memory.queue_count())
+    outputs = Outputs(options, options.groups * len(memory.numa_nodes()))
     run = Run(options, by, memory, outputs)
     try:
         run.all()

@@ -18,11 +18,11 @@ MOST_MEMORY = 64  # MiB of one look
 
 
 class ContentLooks:
-    """Looks at control groups, one as often as the other. The kernel's types are needed when it is made, and not later."""
+    """Looks at control groups, one as often as the other."""
 
     def __init__(self, memory: KernelMemory, paths: Sequence[str], orders: Sequence[int], every: float) -> None:
         self._paths, self._orders, self._every = list(paths), set(orders), every
-        self._first_page, self._page_size = memory.vmemmap()
+        self._memory = memory
         self._direct: Optional[DirectMap] = None
         try:
             self._direct = DirectMap(memory)
@@ -54,7 +54,7 @@ class ContentLooks:
             now = time.monotonic_ns()
             for frame, folio in reader.folios.items():
                 if folio.order in self._orders:
-                    values = (self._first_page + self._page_size * frame, began, *(0,) * 7)
+                    values = (self._memory.folio(frame), began, *(0,) * 7)
                     yield Record(Kind.CONTENTS, now, 0, 0, values, None, contents=(folio.known & ~folio.zero, folio.zero))
         finally:
             reader.close()

@@ -11,16 +11,15 @@ from typing import Callable, Dict, List, Optional, Sequence, Tuple
 from ..common.files import COLLAPSE_SLEEP, COMPACT, PMD_ORDER, PTES_NONE, SWITCH, read, size_folder, write
 from ..common.groups import Groups
 from ..common.keeper import Keeper
+from ..common.kernel_library import Counters
 from ..common.kernel_memory import KernelMemory
 from ..common.numa import numa_frames
 from .commands import PAUSE, Commands, Interrupts
 from .contents import ContentLooks
 from .options import RecordOptions
-from .queue_places import find_places
-from .ring import SIZE
 from .state import Settings
 from .store import FOLDER, Store
-from .trace_programs import TracePrograms
+from .trace_programs import RING, TracePrograms
 
 QUIET = 3600000  # milliseconds between khugepaged's rounds
 AFTER = 0.05  # seconds for what comes after the commands' end
@@ -67,18 +66,17 @@ class Recorder:
         """Records these commands in each group until all have ended, or have to end."""
         folder = os.path.dirname(os.path.abspath(self._options.records)) if self._options.records else FOLDER
         groups = {path: self._memory.group(path) for path in self._paths}
-        places = [(path, place) for path in self._paths for place in find_places(self._memory, groups[path])]
-        folios = [self._folios_on(place.numa_node) for _, place in places]
-        room = 1 << (SIZE // len(places)).bit_length() - 1
+        places = [(path, node) for path in self._paths for node in self._memory.numa_nodes()]
+        folios = [self._folios_on(node) for _, node in places]
+        room = 1 << (RING // len(places)).bit_length() - 1
         stores = [Store(folder) for _ in places]
         traces: List[TracePrograms] = []
         try:
-            for path, place in places:
-                traces.append(TracePrograms(self._memory, groups[path], place, self._options.orders, room))
+            for path, node in places:
+                traces.append(TracePrograms(self._memory, groups[path], node, self._options.orders, room))
             looks: Optional[ContentLooks] = None
             if self._options.contents is not None:
                 looks = ContentLooks(self._memory, self._paths, self._options.orders, self._options.contents)
-            self._memory.types.release()
 
             def take() -> None:
                 for trace, store in zip(traces, stores):
@@ -93,12 +91,13 @@ class Recorder:
             running = Commands(self._keeper, take)
             ended = self._run(running, commands, stores, take)
             lacking = traces[0].lacking
-            inner = count_inner_pages([path for path, _ in places], traces)
+            counters = [trace.counters() for trace in traces]
+            inner = count_inner_pages([path for path, _ in places], counters)
             if inner or running.has_inner_groups:
                 lacking.append(f"control groups were made in a recorded one: {inner} huge pages of their tasks aren't followed")
-            if any(trace.is_unfiltered() for trace in traces):
+            if any(each.unfiltered for each in counters):
                 lacking.append("more address spaces than can be known: all records were kept from then on")
-            lost = sum(trace.lost() for trace in traces)
+            lost = sum(each.lost for each in counters)
             return Recording(stores, folios, lost, running.statuses(), ended, lacking, self._threshold)
         finally:
             for trace in traces:
@@ -106,7 +105,7 @@ class Recorder:
 
     def _folios_on(self, numa_node: Optional[int]) -> Tuple[range, ...]:
         """Returns where the folios of a NUMA node are; none: those of all nodes are wanted."""
-        if numa_node is None or self._memory.queue_count() == 1:
+        if numa_node is None or len(self._memory.numa_nodes()) == 1:
             return ()
         folio = self._memory.folio
         return tuple(range(folio(each.start), folio(each.stop)) for each in numa_frames()[numa_node])
@@ -160,12 +159,12 @@ class Recorder:
                     pass  # the next round tries it again
 
 
-def count_inner_pages(paths: Sequence[str], traces: Sequence[TracePrograms]) -> int:
+def count_inner_pages(paths: Sequence[str], counters: Sequence[Counters]) -> int:
     """Returns how many huge pages were allocated in control groups below the recorded ones, by the path of each queue's group:
     the programs of each of a group's queues count all of them."""
     counts: Dict[str, int] = {}
-    for path, trace in zip(paths, traces):
-        counts[path] = max(counts.get(path, 0), trace.inner_pages())
+    for path, each in zip(paths, counters):
+        counts[path] = max(counts.get(path, 0), each.inner_pages)
     return sum(counts.values())
 
 

@@ -15,17 +15,21 @@ from typing import Callable, Dict, Iterator, List, Optional, Tuple
 
 from ..common.errors import RunFailed
 from .records import FOLIOS_AT, HEAD, IN_FAULT, QUEUE_MOST, WITH_QUEUE, Kind, Record, parse_record, without_repeats
-from .ring import DISCARDED, Bytes, room_of
-from .ring import HEAD as RING_HEAD
 
 FOLDER = "/var/tmp"
+RING_HEAD = 8  # bytes before a record: its length
 BLOCK = 1 << 20  # bytes that are read at a time
 DIES_AT, LINK_AT = 8 * 13, 8 * 15  # the words of a record that are its links
 _WORD, _LINKS = struct.Struct("<Q"), struct.Struct("<3Q")
 _LENGTH = struct.Struct("<I")
 _LINKED = frozenset([Kind.SCAN, Kind.SCANNED, Kind.ALLOC, Kind.FORK, Kind.EXIT_MMAP])
 
-OneLineParser = Tuple[int, ...]
+Words = Tuple[int, ...]
+
+
+def room_of(length: int) -> int:
+    """Returns the bytes that a record of this length takes in the file."""
+    return RING_HEAD + (length + 7 & ~7)
 
 
 class Store:
@@ -37,23 +41,28 @@ class Store:
         except OSError as error:
             raise RunFailed(f"no temporary file in {folder}: {error.strerror}") from error
         self._descriptor = self._file.fileno()
-        self._size = 0
-        self.count = 0  # of the records, kept by who writes them
+        self.size = 0  # bytes
+        self.count = 0  # of the records
 
-    def write(self, piece: Bytes) -> None:
-        """Appends bytes of the ring."""
-        while len(piece):
-            try:
-                written = os.write(self._descriptor, piece)
-            except OSError as error:
-                raise RunFailed(f"the records can't be written to disk: {error.strerror}") from error
-            self._size += written
-            piece = piece[written:]
+    @property
+    def descriptor(self) -> int:
+        """The open file, to whose end records may be written."""
+        return self._descriptor
+
+    def note_records(self, count: int) -> None:
+        """Notes that so many records were written to the file."""
+        self.count += count
+        self.size = os.fstat(self._descriptor).st_size
 
     def append(self, raw: bytes) -> None:
         """Appends one record."""
-        self.write((_WORD.pack(len(raw)) + raw).ljust(room_of(len(raw)), b"\0"))
-        self.count += 1
+        piece = (_WORD.pack(len(raw)) + raw).ljust(room_of(len(raw)), b"\0")
+        while piece:
+            try:
+                piece = piece[os.write(self._descriptor, piece) :]
+            except OSError as error:
+                raise RunFailed(f"the records can't be written to disk: {error.strerror}") from error
+        self.note_records(1)
 
     def link(self) -> None:
         """Links the records, all of which have come: what records.link_records does in memory."""
@@ -117,7 +126,7 @@ class Store:
     def _walk(self, at: int = 0, end: Optional[int] = None) -> Iterator[Tuple[int, bytes, int]]:
         """Yields the records from a place in the file to another, each as its place, a block of the file, and its place
         in the block."""
-        end = self._size if end is None else end
+        end = self.size if end is None else end
         while at < end:
             block, place = os.pread(self._descriptor, BLOCK, at), 0
             while place + RING_HEAD <= len(block) and at + place < end:
@@ -125,8 +134,7 @@ class Store:
                 room = room_of(head)
                 if place + room > len(block):
                     break
-                if not head & DISCARDED:
-                    yield at + place + RING_HEAD, block, place + RING_HEAD
+                yield at + place + RING_HEAD, block, place + RING_HEAD
                 place += room
             if not place:
                 raise RunFailed("the records on disk end within a record")
@@ -148,7 +156,7 @@ class _Linker:
         self._torn: List[int] = []  # scans' ends without a copy: their places
         self._torn_time = 0
 
-    def see(self, at: int, words: OneLineParser, block: bytes, place: int) -> None:
+    def see(self, at: int, words: Words, block: bytes, place: int) -> None:
         """Takes the next record."""
         kind, time, task, space = words[0], words[1], words[2] & 0xFFFFFFFF, words[3]
         if self._torn or kind == Kind.SCANNED:
@@ -186,7 +194,7 @@ class _Linker:
         if first:
             self._patch(first, at)
 
-    def _has_queue(self, words: OneLineParser, block: bytes, place: int) -> bool:
+    def _has_queue(self, words: Words, block: bytes, place: int) -> bool:
         count = words[14]
         if words[0] not in WITH_QUEUE or count > QUEUE_MOST:
             return False
