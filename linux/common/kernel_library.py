@@ -69,7 +69,7 @@ def load_library() -> ctypes.CDLL:
         ("thp_memory_window", [pointer], ctypes.POINTER(Window)),
         ("thp_memory_zero_program", [pointer], number),
         ("thp_record_open", [pointer, pointer, size], pointer),
-        ("thp_record_take", [pointer, number], ctypes.c_long),
+        ("thp_record_take", [pointer, number, size, pointer], number),
         ("thp_record_counters", [pointer, pointer], None),
         ("thp_record_close", [pointer], None),
     ):

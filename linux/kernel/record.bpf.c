@@ -23,6 +23,7 @@ const volatile __u32 nomemalloc, movable;	/* ___GFP_*: of an enumeration without
 const volatile bool has_collapse_order;		/* an argument of a tracepoint, since Linux 7 */
 
 struct thp_counters counters;			/* except `missed` */
+__u64 caught;					/* runs of on_free that were left out, and on_free_in_interrupt ran instead */
 
 enum { SPACES = 8192, HOMES = 65536, TRACKED = 65536, BLOCKS = 4096, RANGE = 32, INNER_LEVELS = 8, TRIES = 3, LARGE = 512 };
 enum { MMAP = 9, MPROTECT = 10, MUNMAP = 11, BRK = 12, MREMAP = 25, MADVISE = 28 };	/* x86-64 */
@@ -44,6 +45,7 @@ struct thp_space {
 
 struct thp_home { __u64 space, block; };
 struct thp_seen { __u64 bits[LARGE / 64]; };
+struct thp_frees { __u64 first, last; };	/* runs of on_free; of these, what on_free_in_interrupt has seen */
 
 struct {
 	__uint(type, BPF_MAP_TYPE_RINGBUF);
@@ -79,6 +81,13 @@ struct {
 	__type(key, __u64);
 	__type(value, struct thp_seen);
 } tracked SEC(".maps");
+
+struct {
+	__uint(type, BPF_MAP_TYPE_PERCPU_ARRAY);
+	__uint(max_entries, 1);
+	__type(key, __u32);
+	__type(value, struct thp_frees);
+} free_runs SEC(".maps");
 
 /* records with a queue, one of each kind, since an interrupt may send another */
 struct {
@@ -531,26 +540,56 @@ int BPF_PROG(on_alloc, struct page *page, unsigned int order, __u32 flags)
 }
 
 /*
- * mm_page_free: pages in blocks where a huge page of ours was made, by whomever they are freed (FREE). A frame that is freed
- * again was another's meanwhile, and so is a block once it was freed whole. raw_tp: it computes with the address of the page.
+ * Sends the free of a page in a block where a huge page of ours was made. A frame that is freed again was another's meanwhile, and
+ * so is a block once it was freed whole. For the same free a second call sends nothing.
  */
-SEC("raw_tp/mm_page_free")
-int BPF_PROG(on_free, struct page *page, unsigned int order)
+static __always_inline int send_free(__u64 page, unsigned int order)
 {
-	__u64 block = block_of((__u64)page), place, bit;
+	__u64 block = block_of(page), place, bit;
 	struct thp_seen *seen = bpf_map_lookup_elem(&tracked, &block);
 
 	if (!seen)
 		return 0;
-	if (!order) {
-		place = ((__u64)page - block) / bpf_core_type_size(struct page) % LARGE;
+	if (order < PMD_ORDER) {
+		place = (page - block) / bpf_core_type_size(struct page) % LARGE;
 		bit = 1ull << place % 64;
 		if (__sync_fetch_and_or(&seen->bits[place / 64], bit) & bit)
 			return 0;
-	} else if (order >= PMD_ORDER) {
+	} else {
 		bpf_map_delete_elem(&tracked, &block);
 	}
-	return send(FREE, bpf_get_current_task_btf(), (__u64)page, order, 0, 0, 0);
+	return send(FREE, bpf_get_current_task_btf(), page, order, 0, 0, 0);
+}
+
+/* mm_page_free: pages in blocks where a huge page of ours was made, by whomever they are freed (FREE). raw_tp: it computes with
+ * the address of the page. */
+SEC("raw_tp/mm_page_free")
+int BPF_PROG(on_free, struct page *page, unsigned int order)
+{
+	struct thp_frees *frees = bpf_map_lookup_elem(&free_runs, &(__u32){ 0 });
+
+	if (frees)
+		frees->first++;
+	return send_free((__u64)page, order);
+}
+
+/*
+ * mm_page_free, a second time: the kernel leaves on_free out in an interrupt that interrupts it, as at the end of a transfer from
+ * or to a device, and then this program runs instead. Counts how often: only a free that both are left out of is missed.
+ */
+SEC("raw_tp/mm_page_free")
+int BPF_PROG(on_free_in_interrupt, struct page *page, unsigned int order)
+{
+	struct thp_frees *frees = bpf_map_lookup_elem(&free_runs, &(__u32){ 0 });
+	__u64 first;
+
+	if (frees) {
+		first = frees->first;
+		if (first == frees->last)
+			__sync_fetch_and_add(&caught, 1);
+		frees->last = first;
+	}
+	return send_free((__u64)page, order);
 }
 
 /* collapses and migrations */

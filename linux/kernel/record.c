@@ -17,6 +17,8 @@ struct recorder {
 	struct record_bpf *programs;
 	struct ring_buffer *ring;
 	int file;
+	long count;	/* records that were taken .. */
+	size_t room;	/* .. and bytes that the file may still grow by */
 	size_t filled;
 	char piece[PIECE];
 };
@@ -45,12 +47,14 @@ static int flush(struct recorder *recorder)
 	return 0;
 }
 
-/* Keeps a record after a head of 8 bytes, its length, which is a multiple of 8. */
+/* Keeps a record after a head of 8 bytes, its length, which is a multiple of 8. A negative result leaves it in the ring. */
 static int take_one(void *context, void *data, size_t size)
 {
 	struct recorder *recorder = context;
 	uint64_t length = size;
 
+	if (HEAD + size > recorder->room)
+		return -EXFULL;
 	if (recorder->filled + HEAD + size > PIECE) {
 		int failed = flush(recorder);
 
@@ -60,6 +64,8 @@ static int take_one(void *context, void *data, size_t size)
 	memcpy(recorder->piece + recorder->filled, &length, HEAD);
 	memcpy(recorder->piece + recorder->filled + HEAD, data, size);
 	recorder->filled += HEAD + size;
+	recorder->room -= HEAD + size;
+	recorder->count++;
 	return 0;
 }
 
@@ -119,27 +125,44 @@ struct recorder *thp_record_open(const struct thp_settings *settings, char *prob
 	return NULL;
 }
 
-/* Writes the records that have come to a file. Returns how many these are, or -errno. */
-long thp_record_take(struct recorder *recorder, int file)
+/* Writes the records that have come to a file, which may grow by `room` bytes. Returns how many these are, or -errno; -EXFULL: there
+ * was no room for all, and *count are written. */
+int thp_record_take(struct recorder *recorder, int file, size_t room, long *count)
 {
-	int count, failed;
+	int taken, failed;
 
 	recorder->file = file;
-	count = ring_buffer__consume(recorder->ring);
-	failed = count < 0 ? count : flush(recorder);
-	return failed ? failed : count;
+	recorder->room = room;
+	recorder->count = 0;
+	taken = ring_buffer__consume(recorder->ring);
+	failed = taken < 0 && taken != -EXFULL ? taken : flush(recorder);
+	*count = recorder->count;
+	return failed ? failed : taken < 0 ? taken : 0;
 }
 
+static uint64_t count_misses(const struct bpf_program *program)
+{
+	struct bpf_prog_info info = {};
+	uint32_t size = sizeof(info);
+
+	if (bpf_program__fd(program) < 0 || bpf_obj_get_info_by_fd(bpf_program__fd(program), &info, &size))
+		return 0;
+	return info.recursion_misses;
+}
+
+/*
+ * Runs that the kernel left out, since the same program ran on the processor, count as missed with two exceptions. Those of on_alloc
+ * are allocations in interrupts or for the programs' own maps, of no huge page and no copy. Those of on_free are caught by the
+ * second program of frees, except where that was left out, too.
+ */
 void thp_record_counters(const struct recorder *recorder, struct thp_counters *counters)
 {
+	const struct record_bpf *programs = recorder->programs;
 	struct bpf_program *program;
 
-	*counters = recorder->programs->bss->counters;
-	bpf_object__for_each_program(program, recorder->programs->obj) {
-		struct bpf_prog_info info = {};
-		uint32_t size = sizeof(info);
-
-		if (bpf_program__fd(program) >= 0 && !bpf_obj_get_info_by_fd(bpf_program__fd(program), &info, &size))
-			counters->missed += info.recursion_misses;
-	}
+	*counters = programs->bss->counters;
+	bpf_object__for_each_program(program, programs->obj)
+		if (program != programs->progs.on_alloc && program != programs->progs.on_free_in_interrupt)
+			counters->missed += count_misses(program);
+	counters->missed -= programs->bss->caught < counters->missed ? programs->bss->caught : counters->missed;
 }

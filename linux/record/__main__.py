@@ -10,7 +10,7 @@ The command runs as the caller of `sudo`; in a root shell it runs as root unless
 A node of the journal is a control group, an order and (Linux 7) a NUMA node. Prints the verdict, for an illegal journal its
 line and the explanation, and what was observed, inferred and left out. SIGINT ends the recording; the records until then are checked.
 The command's own status is printed and changes nothing. Needs root.
-Status 0: legal; 1: illegal, records were lost, or a queue didn't keep the order of all its pages (O); 2: an error in the
+Status 0: legal; 1: illegal, records are missing, or a queue didn't keep the order of all its pages (O); 2: an error in the
 options; 3: a system error; 75: another tool is running; 77: nothing could be recorded, or nothing was.
 """
 
@@ -119,7 +119,8 @@ class Run:
     def _report(self, recording: Recording, builders: List[JournalBuilder], journal: JournalFile) -> None:
         events = sum(builder.events for builder in builders)
         verdict = check_journal(journal, events, self._by)
-        complete = f"incomplete: {recording.lost} records were lost; " if recording.lost else ""
+        gaps = recording.gaps()
+        complete = f"incomplete: {', '.join(gaps)}; " if gaps else ""
         pages, followed = count_pages(builders)
         print(f"{complete}{verdict.text}, {recording.count} records, {followed} of {pages} pages followed")
         for why in verdict.why:
@@ -130,7 +131,7 @@ class Run:
         more = {"recordings": 1, "recordings that are legal": int(verdict.legal), "events in journals": events}
         self._count({**more, "pages": pages})
         self.lacking = recording.lacking
-        self.good = self.good and verdict.legal and not recording.lost
+        self.good = self.good and verdict.legal and not gaps
         self.events += events
         if self._options.tamper and verdict.legal:
             self._tamper(journal)

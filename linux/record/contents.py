@@ -4,7 +4,7 @@ from __future__ import annotations
 
 import os
 import time
-from typing import Iterator, List, Optional, Sequence
+from typing import Iterator, Sequence
 
 from ..common.direct_map import DirectMap
 from ..common.errors import Unavailable
@@ -23,7 +23,7 @@ class ContentLooks:
     def __init__(self, memory: KernelMemory, paths: Sequence[str], orders: Sequence[int], every: float) -> None:
         self._paths, self._orders, self._every = list(paths), set(orders), every
         self._memory = memory
-        self._direct: Optional[DirectMap] = None
+        self._direct: DirectMap | None = None
         try:
             self._direct = DirectMap(memory)
         except Unavailable:
@@ -34,9 +34,9 @@ class ContentLooks:
         """Returns whether it is time for the next look."""
         return time.monotonic() >= self._due
 
-    def look(self) -> List[List[bytes]]:
-        """Returns for each group the records of what its pages contain."""
-        out = [[pack_record(record) for record in self._look_at(path)] for path in self._paths]
+    def look(self) -> dict[str, list[bytes]]:
+        """Returns for each group, by its path, the records of what its pages contain."""
+        out = {path: [pack_record(record) for record in self._look_at(path)] for path in self._paths}
         self._due = time.monotonic() + self._every
         return out
 
@@ -60,7 +60,7 @@ class ContentLooks:
             reader.close()
 
 
-def processes_of(path: str) -> List[int]:
+def processes_of(path: str) -> list[int]:
     """Returns the processes of a control group, without this tool."""
     try:
         found = [int(number) for number in read_bytes(f"{path}/cgroup.procs").split()]

@@ -3,6 +3,7 @@
 from __future__ import annotations
 
 import ctypes
+import errno
 import os
 from typing import Sequence
 
@@ -35,12 +36,15 @@ class TracePrograms:
         self._library.thp_record_counters(self._recorder, ctypes.byref(found))
         return found
 
-    def read(self, into: Store) -> None:
-        """Moves the records since the last call to a store: taking them must not be slower than their making."""
-        count = int(self._library.thp_record_take(self._recorder, into.descriptor))
-        if count < 0:
-            raise RunFailed(f"the records can't be written to disk: {os.strerror(-count)}")
-        into.note_records(count)
+    def read(self, into: Store, room: int) -> bool:
+        """Moves the records since the last call to a store, which may grow by so many bytes: taking them must not be slower than
+        their making. Returns whether there was room for all."""
+        count = ctypes.c_long()
+        failed = int(self._library.thp_record_take(self._recorder, into.descriptor, max(room, 0), ctypes.byref(count)))
+        if failed not in (0, -errno.EXFULL):
+            raise RunFailed(f"the records can't be written to disk: {os.strerror(-failed)}")
+        into.note_records(count.value)
+        return not failed
 
     def close(self) -> None:
         """Removes the programs and the ring."""
