@@ -2,7 +2,6 @@
  *
  *   start_worker    a process that reads what may wait for another process's mmap_lock: page tables, smaps, mem
  *   scan_frames     which subpages of many huge pages are zero-filled, by a BPF program, in threads
- *   run_each        runs a BPF program with many contexts
  *
  * All of them only read. Content is not read by process_vm_readv: that pins what it reads, and a pin of a page that a fork
  * shares makes the kernel copy it first (FAULT_FLAG_UNSHARE in mm/gup.c).
@@ -459,11 +458,6 @@ struct test_run {
 static int run_program(int program, void *context, long size) {
     struct test_run run = { .program = (uint32_t)program, .context_size = (uint32_t)size, .context = (uintptr_t)context };
     return syscall(SYS_BPF, TEST_RUN, &run, sizeof run) >= 0 && !run.answer;
-}
-
-/* Runs a BPF program with each of `count` contexts, which follow each other; `failed`: a byte for each. */
-void run_each(int program, char *contexts, long count, long size, char *failed) {
-    for (long i = 0; i < count; i++) failed[i] = !run_program(program, contexts + i * size, size);
 }
 
 struct scan {

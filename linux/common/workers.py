@@ -39,14 +39,13 @@ UNITS = {WALK: PIECE.size, READ: CONTENT.size, COMPARE: 4}  # bytes of what an a
 
 @lru_cache(maxsize=None)
 def load_library() -> ctypes.CDLL:
-    """Loads the C helper. Unavailable where it isn't built and there is no compiler."""
-    library = ctypes.CDLL(helper("common/pages.c", ["-shared", "-fPIC"]))
+    """Loads the C helper. Unavailable where it isn't built."""
+    library = ctypes.CDLL(helper("pages.so"))
     number, long, pointer = ctypes.c_int, ctypes.c_long, ctypes.c_void_p
     library.start_worker.argtypes = [pointer, number, pointer]
     library.find_locked.argtypes = [number, pointer, long]
     library.find_locked.restype = long
     library.find_zeros.argtypes = [number, ctypes.c_uint64, long, pointer, pointer]
-    library.run_each.argtypes = [number, pointer, long, long, pointer]
     library.scan_frames.argtypes = [number, pointer, long, number]
     return library
 

@@ -59,7 +59,6 @@ class SnapshotTaker:
                 memory = KernelMemory()
                 self._queues, self.lacking = Queues(memory), ""
                 self._direct = DirectMap(memory)
-                memory.types.release()
             except (Unavailable, OSError) as error:
                 if is_own(error):
                     raise
@@ -103,8 +102,8 @@ class SnapshotTaker:
         places: dict[int, int] = {}
         if self._queues:
             began = time.monotonic()
-            places, lacking = self._queues.places({folio.cgroup for folio in reader.folios.values()}, set(reader.folios))
-            reader.notes += lacking
+            places, notes = self._queues.places(reader.folios.values())
+            reader.notes += notes
             reader.spent["queues"] += time.monotonic() - began
         return changes, places
 
