@@ -17,7 +17,7 @@ from concurrent.futures import ThreadPoolExecutor
 from typing import Any
 from unittest import mock
 
-from ..common import spaces, workers
+from ..common import proc, spaces, workers
 from ..common.contents import begin
 from ..common.files import BASE
 from ..common.folios import Folio
@@ -173,14 +173,14 @@ def children() -> list[int]:
 class Errors(unittest.TestCase):
     def test_an_error_is_never_no_memory(self) -> None:
         for error in (FileNotFoundError(2, "gone"), ProcessLookupError(3, "gone")):
-            with mock.patch.object(spaces.proc, "read_file", side_effect=error):
+            with mock.patch.object(proc, "read_file", side_effect=error):
                 self.assertIsNone(spaces.live_thread(7))
         unread: Counter[str] = Counter()
         pool: Any = mock.Mock(ask=lambda todo: iter(()))
-        with mock.patch.object(spaces.proc, "read_file", side_effect=PermissionError(13, "Permission denied")):
+        with mock.patch.object(proc, "read_file", side_effect=PermissionError(13, "Permission denied")):
             self.assertEqual(spaces.find_spaces([7], pool, unread), ([], []))
         self.assertEqual(list(unread), ["process 7 (?): Permission denied"])
-        with mock.patch.object(spaces.proc, "read_file", side_effect=OSError(24, "Too many open files")):
+        with mock.patch.object(proc, "read_file", side_effect=OSError(24, "Too many open files")):
             self.assertRaises(OSError, spaces.find_spaces, [7], pool, unread)
 
 
