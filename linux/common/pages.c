@@ -191,6 +191,8 @@ static void take_range(struct walk *w, uint64_t at, uint64_t end, int by_pmd) {
     }
 }
 
+struct span { uint64_t low, high; };
+
 /* Takes what a range of addresses maps. Returns 0, or -errno. */
 static long walk_range(struct walk *w, uint64_t start, uint64_t last) {
     struct region regions[REGIONS];
@@ -210,13 +212,52 @@ static long walk_range(struct walk *w, uint64_t start, uint64_t last) {
     return 0;
 }
 
+static int has_bit(const uint64_t *set, long i) {
+    return set[i / 64] >> i % 64 & 1;
+}
+
+/* The blocks of addresses that a piece lies in. */
+static struct span blocks_of(const struct piece *p) {
+    long first = 0, last = (1l << p->order) - 1;
+    while (first < last && !has_bit(p->set, first)) first++;
+    while (last > first && !has_bit(p->set, last)) last--;
+    return (struct span){ (p->address + first * BASE) & -(uint64_t)(BLOCK * BASE),
+                          ((p->address + last * BASE) | (BLOCK * BASE - 1)) + 1 };
+}
+
+/* Whether PTEs map the subpages of a piece as before, and its frames are still one huge page. */
+static int is_unchanged(const struct walk *w, const struct piece *p) {
+    uint64_t entries[BLOCK], front[2], last;
+    long size = 1l << p->order;
+    if (p->by_pmd || pread(w->map, entries, size * 8, p->address / BASE * 8) != size * 8) return 0;
+    for (long i = 0; i < size; i++)
+        if ((frame_of(entries[i]) == p->head + i) != has_bit(p->set, i)) return 0;
+    if (pread(w->flags_file, front, 16, p->head * 8) != 16) return 0;
+    if (pread(w->flags_file, &last, 8, (p->head + size - 1) * 8) != 8) return 0;
+    return is_ours(front[0]) && front[0] & HEAD && (front[0] & KEPT) == p->flags && front[1] & last & TAIL;
+}
+
+/* Takes `count` pieces that were found before, ascending, once more: of blocks in which one has changed, what is mapped now. */
+static long walk_again(struct walk *w, const struct piece *old, long count) {
+    long error = 0;
+    for (long i = 0, next; i < count && !error; i = next) {
+        struct span here = blocks_of(&old[i]), more;
+        int is_same = is_unchanged(w, &old[i]);
+        for (next = i + 1; next < count && (more = blocks_of(&old[next])).low < here.high; next++) {
+            is_same = is_same && is_unchanged(w, &old[next]);
+            if (more.high > here.high) here.high = more.high;
+        }
+        if (!is_same) error = walk_range(w, here.low, here.high);
+        else for (long j = i; j < next && w->found < w->most; j++) w->out[w->found++] = old[j];
+    }
+    return error;
+}
+
 static int open_file(int thread, const char *name) {
     char path[64];
     snprintf(path, sizeof path, "/proc/%d/%s", thread, name);
     return open(path, O_RDONLY | O_CLOEXEC);
 }
-
-struct span { uint64_t low, high; };
 
 static int is_digit(char c) {
     return c && strchr("0123456789abcdef", c);
@@ -300,10 +341,6 @@ long find_locked(int file, struct span *out, long most) {
 
 static const char zero_page[BASE];
 
-static int has_bit(const uint64_t *set, long i) {
-    return set[i / 64] >> i % 64 & 1;
-}
-
 /* Sets bit i of `zero` where subpage i of the range at `address` is zero-filled, for those of `wanted`; what can't be
  * read is taken from `wanted`. `memory` is an open /proc/PID/mem; count is at most 512. */
 void find_zeros(int memory, uint64_t address, long count, uint64_t *wanted, uint64_t *zero) {
@@ -343,18 +380,19 @@ struct reply { int64_t found, lost, small, others, changed, spans, huge; };
 
 /* Reads how a process maps huge pages: `found` pieces, or -errno. Counts pieces that had no room, pages below PMD size that
  * weren't asked for, anonymous base pages beside them, and base pages whose flags no longer fit their page table. Then its
- * locked areas, and AnonHugePages. With `count` spans only there. */
+ * locked areas, and AnonHugePages. With `count` pieces, which are the last ones of the room: only these again. */
 static struct reply walk(const struct room *room, int flags_file, const struct request *q) {
     struct walk w = { .known = q->count ? NULL : room->known, .flags_file = flags_file, .process = q->process,
-                      .with_small = q->with_small, .out = room->pieces, .most = q->most, .block = ~0ul, .order = -1,
+                      .with_small = q->with_small, .out = room->pieces, .block = ~0ul, .order = -1,
+                      .most = q->count ? room->most_pieces - q->count : q->most,
                       .entries_at = ~0ul, .map = open_file(q->thread, "pagemap") };
     struct reply out = { .found = -errno };
     uint64_t entry;
     long error = 0;
     if (w.map < 0) return out;
     if (pread(w.map, &entry, 8, 0) != 8) error = -ESRCH; /* it ended; kernels before 6.15 can't bear a scan then */
-    for (long i = 0; i < q->count && !error; i++) error = walk_range(&w, room->spans[i].low, room->spans[i].high);
-    if (!q->count && !error && (error = walk_range(&w, 0, WIDEST)) == -EFAULT) error = walk_range(&w, 0, WIDE);
+    if (q->count && !error) error = walk_again(&w, room->pieces + w.most, q->count);
+    else if (!error && (error = walk_range(&w, 0, WIDEST)) == -EFAULT) error = walk_range(&w, 0, WIDE);
     close(w.map);
     out = (struct reply){ error ? error : w.found, w.lost, w.small, w.others, w.changed, 0, 0 };
     if (out.found <= 0 || q->count) return out;

@@ -74,8 +74,8 @@ class Reader:
         self._files = [os.open(f"/proc/kpage{name}", os.O_RDONLY | os.O_CLOEXEC) for name in ("flags", "count")]
         if os.path.exists("/proc/kpagecgroup"):  # else a kernel without memory control groups: all pages are in one node
             self._files.append(os.open("/proc/kpagecgroup", os.O_RDONLY | os.O_CLOEXEC))
-        most = self._memory // (PIECE_COST + FOLIO_COST)
-        self._workers = Workers(self._files[0], threads, most, with_small)
+        self._most = self._memory // (PIECE_COST + FOLIO_COST)
+        self._workers = Workers(self._files[0], threads, self._most, with_small)
         self.contents = Contents(direct, threads, self.answers, self._progress)
         self.spaces: dict[int, Space] = {}  # by process
         self.walked: dict[int, bytes] = {}  # the pieces of each process that has any
@@ -132,6 +132,11 @@ class Reader:
             self._add(request.process, answer)
             self._progress("walking page tables", done, len(spaces))
         self.spent["walk"] += time.monotonic() - began
+
+    def request_again(self, process: int) -> Request:
+        """Returns the request to look again at what a process maps: at all of it where a worker has no room for both."""
+        pieces = self.walked[process]
+        return self.spaces[process].request(pieces if 2 * len(pieces) <= self._most * PIECE.size else b"")
 
     def _add(self, process: int, answer: Answer) -> None:
         """Adds what a process maps, as far as the limit of memory lets."""

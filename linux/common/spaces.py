@@ -14,7 +14,7 @@ from typing import Iterable, NamedTuple
 
 from . import proc
 from .proc import FLAGS, RESIDENT, SIZE, Unreadable, stat_fields
-from .workers import COMPARE, SECONDS, WALK, Request, Workers
+from .workers import COMPARE, PIECE, SECONDS, WALK, Request, Workers
 
 NO_KCMP = "processes that share an address space are counted each, since the kernel has no kcmp (KCMP)"
 KTHREAD = 0x200000  # include/linux/sched.h: PF_KTHREAD, a thread of the kernel
@@ -40,10 +40,10 @@ class Space:
     others: list[int]
     tries: int = 0
 
-    def request(self, ranges: bytes = b"") -> Request:
-        """Returns the request to walk it, or some ranges of it."""
+    def request(self, pieces: bytes = b"") -> Request:
+        """Returns the request to walk it, or to look at some pieces again."""
         seconds = SECONDS + SECONDS_A_PAGE * self.thread.pages
-        return Request(self.process, WALK, seconds, len(ranges) // 16, ranges)
+        return Request(self.process, WALK, seconds, len(pieces) // PIECE.size, pieces)
 
     def is_alive(self) -> bool:
         """Returns whether it has a thread that lives, after the one that was used has ended."""

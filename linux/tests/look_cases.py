@@ -153,7 +153,7 @@ def check_part(pages: Pages) -> str | None:
         DirectMap(KernelMemory())
     except (Unavailable, OSError) as lacking:
         raise Missing(str(lacking)) from lacking
-    zeros = {folio.zeros.bit_length() - bin(folio.zeros).count("0") + 1 for folio in seen.folios}
+    zeros = {bin(folio.zeros).count("1") for folio in seen.folios}
     return None if zeros == {384} and len(seen.folios) >= 8 else f"{len(seen.folios)} pages with {zeros} zero-filled subpages"
 
 
@@ -179,7 +179,7 @@ def check_churn(pages: Pages) -> str | None:
         for place in ("a", "b", "c"):
             os.mkdir(f"{group}/{place}")
             os.chown(f"{group}/{place}", USER, USER)
-            child = subprocess.Popen([sys.executable, "-c", CHURN, f"{group}/{place}"], user=USER, group=USER, extra_groups=[])
+            child = subprocess.Popen(["/usr/bin/python3", "-c", CHURN, f"{group}/{place}"], user=USER, group=USER, extra_groups=[])
             stack.callback(child.wait)
             stack.callback(child.kill)
         taker, until, looks = SnapshotTaker(LookOptions()), time.monotonic() + CHURN_TIME, 0

@@ -11,7 +11,6 @@ import subprocess
 import sys
 import time
 import unittest
-from array import array
 from collections import Counter, deque
 from concurrent.futures import ThreadPoolExecutor
 from typing import Any
@@ -22,8 +21,8 @@ from ..common.contents import begin
 from ..common.files import BASE
 from ..common.folios import Folio
 from ..common.reader import Reader
-from ..common.second_look import SecondLook, ranges_of
-from ..common.workers import PIECE, WALK, Request, Workers, load_library
+from ..common.second_look import SecondLook
+from ..common.workers import WALK, Request, Workers, load_library
 
 HUGE = 1 << 21
 
@@ -99,21 +98,6 @@ class Changes(unittest.TestCase):
         self.assertIsNone(found[3])
         self.assertNotIn(self.own[3], self.reader.folios.values())
         self.assertFalse(self.reader.unread or self.reader.left_out)
-
-
-class Ranges(unittest.TestCase):
-    def test_blocks_of_addresses_of_pieces(self) -> None:
-        def piece(address: int, subset: int) -> bytes:
-            return PIECE.pack(address % (1 << 64), 0, 0, 1, 9, 0, 0, subset.to_bytes(64, "little"))
-
-        full = (1 << 512) - 1
-        for pieces, wanted in (
-            ([(HUGE, full), (2 * HUGE, full), (9 * HUGE, 1)], [HUGE, 3 * HUGE, 9 * HUGE, 10 * HUGE]),
-            ([(HUGE + BASE, 1 << 511)], [2 * HUGE, 3 * HUGE]),  # a page that isn't mapped at a multiple of its size
-            ([(16 * BASE - 300 * BASE, 1 << 300)], [0, HUGE]),  # subpage 0 would be below all addresses
-        ):
-            found = array("Q", ranges_of(b"".join(piece(*each) for each in pieces)))
-            self.assertEqual(list(found), wanted)
 
 
 @unittest.skipUnless(os.geteuid() == 0, "not root")
