@@ -20,7 +20,7 @@ from .direct_map import DirectMap
 from .errors import Unavailable
 from .files import BASE
 from .folios import Folio, Mapping, compact_counts
-from .page_files import PageFlag, read_numbers
+from .page_files import NumberFile, PageFlag, TooShort
 from .proc import Unreadable, describe
 from .spaces import Space, find_spaces
 from .subpages import bits_of
@@ -71,11 +71,11 @@ class Reader:
         threads = threads or min(4, os.cpu_count() or 1)
         self._progress = progress or (lambda what, done, of: None)
         self._memory, self._used = memory << 20, 0
-        self._files = [os.open(f"/proc/kpage{name}", os.O_RDONLY | os.O_CLOEXEC) for name in ("flags", "count")]
+        self._files = [NumberFile(f"/proc/kpage{name}") for name in ("flags", "count")]
         if os.path.exists("/proc/kpagecgroup"):  # else a kernel without memory control groups: all pages are in one node
-            self._files.append(os.open("/proc/kpagecgroup", os.O_RDONLY | os.O_CLOEXEC))
+            self._files.append(NumberFile("/proc/kpagecgroup"))
         self._most = self._memory // (PIECE_COST + FOLIO_COST)
-        self._workers = Workers(self._files[0], threads, self._most, with_small)
+        self._workers = Workers(self._files[0].descriptor, threads, self._most, with_small)
         self.contents = Contents(direct, threads, self.answers, self._progress)
         self.spaces: dict[int, Space] = {}  # by process
         self.walked: dict[int, bytes] = {}  # the pieces of each process that has any
@@ -97,7 +97,7 @@ class Reader:
         self._workers.close()
         self.contents.close()
         for file in self._files:
-            os.close(file)
+            file.close()
         self._files = []
 
     def answers(self, todo: Deque[Request]) -> Iterator[tuple[Request, Answer]]:
@@ -181,8 +181,8 @@ class Reader:
         began, gone = time.monotonic(), []
         for folio in folios if len(self._files) > 2 else ():
             try:
-                folio.cgroup = read_numbers(self._files[2], folio.frame, 1)[0]
-            except EOFError:
+                folio.cgroup = self._files[2].at(folio.frame, 1)[0]
+            except TooShort:
                 gone.append(folio)
         self.spent["groups"] += time.monotonic() - began
         return gone
@@ -193,8 +193,8 @@ class Reader:
         began, gone = time.monotonic(), []
         for folio in (folio for folio in folios if not folio.totals):
             try:
-                folio.totals = compact_counts(read_numbers(self._files[1], folio.frame, folio.size))
-            except EOFError:
+                folio.totals = compact_counts(self._files[1].at(folio.frame, folio.size))
+            except TooShort:
                 gone.append(folio)
         self.spent["counts"] += time.monotonic() - began
         return gone

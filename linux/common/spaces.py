@@ -16,7 +16,7 @@ from . import proc
 from .proc import FLAGS, RESIDENT, SIZE, Unreadable, stat_fields
 from .workers import COMPARE, PIECE, SECONDS, WALK, Request, Workers
 
-NO_KCMP = "processes that share an address space are counted each, since the kernel has no kcmp (KCMP)"
+COUNTED_EACH = "processes that share an address space are counted each: "
 KTHREAD = 0x200000  # include/linux/sched.h: PF_KTHREAD, a thread of the kernel
 MANY = 1 << 18  # base pages, a GiB
 SECONDS_A_PAGE = 0.1 / MANY  # that a walk may take longer
@@ -94,14 +94,17 @@ def find_spaces(processes: Iterable[int], workers: Workers, unread: Counter[str]
             threads[process] = thread
             alike[thread.key].append(process)
     groups = {group[0]: group for group in alike.values() if len(group) > 1}
-    first, notes = {process: process for process in threads}, []
+    first = {process: process for process in threads}
+    notes: list[str] = []
     for request, answer in workers.ask(deque(compare_request(group, threads) for group in groups.values())):
         if answer and answer.found < 0:
-            notes = [NO_KCMP]
+            notes = [f"{COUNTED_EACH}kcmp can't be used: {os.strerror(-answer.found)}"]
         elif answer:  # else they are walked each, and wait so
             group = groups[request.process]
             number_of = {threads[process].number: process for process in group}
             first.update(zip(group, (number_of[number] for number in array("i", answer.data))))
+    if groups and proc.missing_capabilities("CAP_SYS_PTRACE"):
+        notes = [f"{COUNTED_EACH}CAP_SYS_PTRACE is missing"]
     spaces = {process: Space(process, thread, []) for process, thread in threads.items() if first[process] == process}
     for process, lowest in first.items():
         if process != lowest:

@@ -22,7 +22,7 @@ from ..common.files import BASE
 from ..common.folios import Folio
 from ..common.reader import Reader
 from ..common.second_look import SecondLook
-from ..common.workers import WALK, Request, Workers, load_library
+from ..common.workers import WALK, Answer, Request, Workers, load_library
 
 HUGE = 1 << 21
 
@@ -166,6 +166,14 @@ class Errors(unittest.TestCase):
         self.assertEqual(list(unread), ["process 7 (?): Permission denied"])
         with mock.patch.object(proc, "read_file", side_effect=OSError(24, "Too many open files")):
             self.assertRaises(OSError, spaces.find_spaces, [7], pool, unread)
+
+    def test_processes_are_counted_each_where_there_is_no_kcmp(self) -> None:
+        fields = [b"S", *[b"1"] * 48]
+        pool: Any = mock.Mock(ask=lambda todo: ((request, Answer(-38)) for request in todo))
+        with mock.patch.object(spaces, "stat_fields", return_value=fields):
+            found, notes = spaces.find_spaces([7, 8], pool, Counter())
+        self.assertEqual([space.process for space in found], [7, 8])
+        self.assertRegex(notes[0], "^processes that share an address space are counted each: ")
 
 
 class Work(unittest.TestCase):

@@ -16,14 +16,14 @@ from ..common.files import BASE, PMD_ORDER, PTES_NONE, SWITCH, read
 from ..common.folios import Folio
 from ..common.groups import find_hierarchy
 from ..common.kernel_memory import KernelMemory
-from ..common.machine import namespace_note
+from ..common.machine import demand_frame_numbers, namespace_note
 from ..common.proc import group_names, is_own, machine_huge, name_of
 from ..common.reader import FREED, HIDDEN, MEMORY, Reader
 from ..common.second_look import MOVED, Changes, SecondLook
 from ..common.text import escape
 from .processes import ProcessChoice
 from .queues import Queues, keep_lasting_pins
-from .rights import demand_frames, demand_reading
+from .rights import demand_reading
 from .snapshot import Snapshot, Sums
 
 
@@ -53,7 +53,7 @@ class SnapshotTaker:
         self._queues: Queues | None = None
         self.lacking = "not asked for"
         self._direct: DirectMap | None = None
-        demand_frames()
+        demand_frame_numbers()
         if how.with_kernel:
             try:
                 memory = KernelMemory()

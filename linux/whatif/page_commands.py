@@ -19,8 +19,8 @@ from functools import lru_cache
 from typing import Dict, List, Sequence
 
 from ..common.files import PMD_ORDER
-from ..common.folios import Folio, even_counts, full_set, runs
-from ..common.subpages import size
+from ..common.folios import Folio, even_counts, full_set
+from ..common.subpages import runs, size
 
 BYTE = 255
 LEVELS = 32  # map counts and pins beyond this are written as this many: more change no answer
