@@ -179,9 +179,10 @@ static long read_entries(struct walk *w, uint64_t at) {
 static void take_range(struct walk *w, uint64_t at, uint64_t end, int by_pmd) {
     uint64_t begin = at / BASE / BLOCK * BLOCK * BASE;
     if (by_pmd && end - at == BLOCK * BASE) { take_whole(w, at); return; }
-    long have = read_entries(w, begin), last = (end - begin) / BASE;
+    long have = read_entries(w, begin), first = (at - begin) / BASE, last = (end - begin) / BASE;
+    if (have < last) w->changed += last - (have > first ? have : first);
     if (have > last) have = last;
-    for (long i = (at - begin) / BASE; i < have;) {
+    for (long i = first; i < have;) {
         uint64_t frame = frame_of(w->entries[i]);
         long count = 1;
         if (!frame) { i++; continue; }

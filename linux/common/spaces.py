@@ -20,6 +20,7 @@ COUNTED_EACH = "processes that share an address space are counted each: "
 KTHREAD = 0x200000  # include/linux/sched.h: PF_KTHREAD, a thread of the kernel
 MANY = 1 << 18  # base pages, a GiB
 SECONDS_A_PAGE = 0.1 / MANY  # that a walk may take longer
+SECONDS_A_PROCESS = 1e-4  # that a comparison may take longer
 TRIES = 3  # threads of an address space that end while it is read
 
 
@@ -115,4 +116,4 @@ def find_spaces(processes: Iterable[int], workers: Workers, unread: Counter[str]
 def compare_request(group: list[int], threads: dict[int, Thread]) -> Request:
     """Returns the request to find which of these processes share an address space."""
     numbers = array("i", (threads[process].number for process in group))
-    return Request(group[0], COMPARE, entries=len(group), data=numbers.tobytes())
+    return Request(group[0], COMPARE, SECONDS + SECONDS_A_PROCESS * len(group), len(group), numbers.tobytes())

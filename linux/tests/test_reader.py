@@ -16,7 +16,7 @@ from concurrent.futures import ThreadPoolExecutor
 from typing import Any
 from unittest import mock
 
-from ..common import proc, spaces, workers
+from ..common import proc, spaces
 from ..common.contents import begin
 from ..common.files import BASE
 from ..common.folios import Folio
@@ -117,11 +117,8 @@ class Waiting(unittest.TestCase):
         self.assertEqual(self.answered(5), {True: 5})
         for process in children():
             signal.pidfd_send_signal(os.pidfd_open(process), signal.SIGSTOP)
-        began = time.monotonic()
-        with mock.patch.object(workers, "SECONDS", 0.3):
-            found = self.answered(6)
-        self.assertEqual((found[False] in (1, 2), found.total() if hasattr(found, "total") else 6), (True, 6))
-        self.assertLess(time.monotonic() - began, 60)
+        found = self.answered(6)
+        self.assertEqual((found[False] in (1, 2), found[False] + found[True]), (True, 6))
         self.assertEqual(self.answered(3), {True: 3})
 
     def test_workers_that_are_killed_are_replaced(self) -> None:
