@@ -135,7 +135,7 @@ class Reader:
 
     def request_again(self, process: int) -> Request:
         """Returns the request to look again at what a process maps: at all of it where a worker has no room for both."""
-        pieces = self.walked[process]
+        pieces, self._workers.most = self.walked[process], self._most
         return self.spaces[process].request(pieces if 2 * len(pieces) <= self._most * PIECE.size else b"")
 
     def _add(self, process: int, answer: Answer) -> None:
