@@ -9,6 +9,7 @@ from __future__ import annotations
 import os
 from array import array
 from collections import Counter, defaultdict, deque
+from contextlib import suppress
 from dataclasses import dataclass
 from typing import Iterable, NamedTuple
 
@@ -75,8 +76,9 @@ def thread_of(number: int, fields: list[bytes]) -> Thread | None:
         return None
     pages = int(fields[RESIDENT])
     if pages > MANY:
-        resident, shared = proc.read_file(number, "statm").split()[1:3]
-        pages = int(resident) - int(shared)
+        with suppress(FileNotFoundError, ProcessLookupError):  # it ended
+            resident, shared = proc.read_file(number, "statm").split()[1:3]
+            pages = int(resident) - int(shared)
     return Thread(number, max(0, pages), (*fields[23:26], *fields[42:49]))
 
 
