@@ -38,7 +38,7 @@ class Mapping(NamedTuple):
     """How one process maps a huge page, or a part of it."""
 
     process: int  # its number (pid)
-    address: int  # of subpage 0, whether that one is mapped or not
+    address: int  # of subpage 0, whether that one is mapped or not; modulo 2**64
     subset: int  # the subpages
     by_pmd: bool  # by one PMD entry; else by PTEs
 
@@ -110,7 +110,8 @@ FLAGS = ("is_locked", "is_poisoned", "is_swap_cached", "is_lazily_freed")
 MAYBE_FLAGS = ("is_queued", "is_partly")
 NUMBERS = {"frame": 1 << 52, "cgroup": (1 << 64) - 1}  # and the most that each may be
 LEAST = {"whole": 0, "pins": -MOST_MAPPED, "place": 0}  # pins: references dropped between two reads make it negative
-MOST_PROCESS, MOST_ADDRESS = 1 << 31, 1 << 57
+MOST_PROCESS = 1 << 31
+MOST_ADDRESS = (1 << 64) - 1  # a page whose first subpages aren't mapped may begin below address 0
 
 
 def number_of(value: Any, name: str, most: int, least: int = 0) -> int:

@@ -48,6 +48,7 @@ class Spans:
 
     def subpages(self, address: int, size: int) -> int:
         """Returns the set of those of `size` subpages from an address on that lie in these areas."""
+        address -= address >> 63 << 64  # which may be below 0
         out, end = 0, address + size * BASE
         for index in range(bisect_right(self.highs, address), len(self.lows)):
             low, high = max(self.lows[index], address), min(self.highs[index], end)

@@ -11,6 +11,7 @@ import subprocess
 import sys
 import time
 import unittest
+from array import array
 from collections import Counter, deque
 from concurrent.futures import ThreadPoolExecutor
 from typing import Any
@@ -20,7 +21,7 @@ from ..common import proc, spaces
 from ..common.contents import begin
 from ..common.files import BASE
 from ..common.folios import Folio
-from ..common.reader import Reader
+from ..common.reader import Reader, Spans
 from ..common.second_look import SecondLook
 from ..common.workers import WALK, Answer, Request, Workers, load_library
 
@@ -98,6 +99,12 @@ class Changes(unittest.TestCase):
         self.assertIsNone(found[3])
         self.assertNotIn(self.own[3], self.reader.folios.values())
         self.assertFalse(self.reader.unread or self.reader.left_out)
+
+
+class Locked(unittest.TestCase):
+    def test_a_page_whose_first_subpages_are_not_mapped_may_begin_below_all_addresses(self) -> None:
+        spans = Spans(array("Q", [16 * BASE, 18 * BASE]).tobytes())
+        self.assertEqual(spans.subpages((16 - 300) * BASE % (1 << 64), 512), 3 << 300)
 
 
 @unittest.skipUnless(os.geteuid() == 0, "not root")
