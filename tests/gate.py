@@ -184,7 +184,7 @@ def test_library(gate: Gate, programs: list[str], archives: list[str]) -> None:
     gate.add("library.py", [sys.executable, "tests/library.py", *archives, *(programs[:1] if archives else [])])
     for archive in archives:
         gate.add("bench/calls/run", [sys.executable, "bench/calls/run", archive, "--ceilings"])
-    gate.add("policies", [sys.executable, "linux/whatif/tests/__main__.py", "test_policies.py"])
+    gate.add("policies and predictions", [sys.executable, "linux/whatif/tests/__main__.py", "test_policies.py", "test_predict.py"])
 
 
 def test_journal_tools(gate: Gate, programs: list[str], checkers: list[str], drawers: list[str]) -> None:

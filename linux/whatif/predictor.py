@@ -10,8 +10,9 @@ from concurrent.futures import ThreadPoolExecutor
 from functools import lru_cache
 from typing import Iterable, Mapping, Sequence
 
-from ..common.errors import RunFailed
+from ..common.errors import RunFailed, Unavailable
 from ..common.folios import Folio
+from ..common.text import escape
 from .libthp import helper_with_libthp
 from .page_plan import RECORD, SET, NotPredictable, plan_page
 from .rows import Fate, Moved, Row, Share, label
@@ -27,13 +28,17 @@ class Library:
     """predict.c, compiled with libthp. Unavailable where that isn't possible."""
 
     def __init__(self, source: str = SOURCE) -> None:
-        self._library = ctypes.CDLL(helper_with_libthp(source, ["-shared", "-fPIC"]))
+        path = helper_with_libthp(source, ["-shared", "-fPIC"])
+        try:
+            self._library = ctypes.CDLL(path)
+        except OSError as error:
+            raise Unavailable(f"the helper {escape(path)} can't be loaded: {escape(str(error))}") from error
         pointer, number = ctypes.c_void_p, ctypes.c_uint32
         self._library.predict.argtypes = [pointer, number, number, pointer, pointer, pointer]
         self._library.words_of.restype = ctypes.c_char_p
 
-    def predict(self, records: bytes, threshold: int, with_given: bool = False) -> tuple[memoryview, bytes]:
-        """Returns the fates of packed pages, as pairs of an outcome and a number of frames; `with_given`: and for each the
+    def predict(self, records: bytes, threshold: int, with_given: bool = False) -> tuple[bytes, bytes]:
+        """Returns the fates of packed pages, each an outcome and a number of frames of four bytes; `with_given`: and for each the
         set of subpages whose frames come back. ModelFault where libthp refuses a call."""
         count = len(records) // RECORD.size
         fates, failed = ctypes.create_string_buffer(count * FATE), ctypes.c_uint32()
@@ -41,7 +46,7 @@ class Library:
         code = self._library.predict(records, count, threshold, fates, given, ctypes.byref(failed))
         if code:
             raise ModelFault(failed.value, self._library.words_of(code).decode("ascii"))
-        return memoryview(fates).cast("B").cast("I"), given.raw if given else b""
+        return fates.raw, given.raw if given else b""
 
 
 class ModelFault(Exception):
@@ -109,7 +114,7 @@ class Predictor:
             for first in range(len(fates) // 2, len(records), CHUNK)
         ]
 
-        def predict(job: tuple[int, int]) -> memoryview:
+        def predict(job: tuple[int, int]) -> bytes:
             threshold, first = job
             return self._predict(b"".join(records[first : first + CHUNK]), first, threshold)[0]
 
@@ -117,7 +122,7 @@ class Predictor:
             for (threshold, _), fates in zip(jobs, pool.map(predict, jobs)):
                 self._fates[threshold].frombytes(fates)
 
-    def _predict(self, records: bytes, first: int, threshold: int, with_given: bool = False) -> tuple[memoryview, bytes]:
+    def _predict(self, records: bytes, first: int, threshold: int, with_given: bool = False) -> tuple[bytes, bytes]:
         try:
             return self._library.predict(records, threshold, with_given)
         except ModelFault as fault:
@@ -187,7 +192,8 @@ class Predictor:
         """Returns of each page that is split the subpages whose frames come back, by frame."""
         fates, given = self._predict(b"".join(self._records), 0, threshold, True)
         sets = [int.from_bytes(given[at : at + SET], "little") for at in range(0, len(given), SET)]
-        return {f.frame: sets[number] for f, number in zip(self.folios, self._numbers) if fates[2 * number] & SPLIT}
+        split = [outcome & SPLIT for outcome in array("I", fates)[::2]]
+        return {folio.frame: sets[number] for folio, number in zip(self.folios, self._numbers) if split[number]}
 
     def moved_rows(
         self, first: Sequence[Folio | None], second: Sequence[Folio | None], thresholds: Sequence[int]

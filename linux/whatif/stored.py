@@ -207,7 +207,7 @@ class StoredReader:
         """Returns the fields of a snapshot, each checked."""
         fields = fields_of(value_of(self._next(file) + "}"))
         while (line := self._next(file)) != "}":
-            found = re.fullmatch(r',"([a-z_]{1,40})": ([[{])', line)
+            found = re.fullmatch(r',"([a-z_]{1,40})": (\[|{)', line)
             if not found or found[1] not in (OBJECTS if found[2] == "{" else LISTS) or found[1] in fields:
                 raise ValueError("no section of a snapshot begins here")
             fields[found[1]] = self._section(file, found[1], found[2] + {"{": "}", "[": "]"}[found[2]])
