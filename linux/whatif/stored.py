@@ -20,7 +20,6 @@ MOST = (1 << 63) - 1
 MOST_TEXT = 4096  # letters of a name
 DIGITS = 20  # of a number
 LINE = 1 << 20  # bytes of a line: a page that 5,000 processes map
-ENTRY_COST = 300  # bytes that a name or a reason takes beyond its text
 OBJECTS = ("processes", "names", "left_out", "unread")
 LISTS = ("changed_pages", "folios")
 
@@ -62,10 +61,13 @@ def no_constant(text: str) -> NoReturn:
     raise ValueError(f"{text} is no number")
 
 
+DECODER = json.JSONDecoder(parse_int=whole_number, parse_constant=no_constant)
+
+
 def value_of(text: str) -> Any:
     """Returns the value of a JSON text. ValueError where it isn't one."""
     try:
-        return json.loads(text, parse_int=whole_number, parse_constant=no_constant)
+        return DECODER.decode(text)
     except json.JSONDecodeError as error:
         raise ValueError(f"no JSON: {error.msg}") from error
     except RecursionError as error:
@@ -220,18 +222,15 @@ class StoredReader:
         out = read_value(name, value_of(brackets))
         while (line := self._next(file)) != brackets[1]:
             entry = read_value(name, value_of(brackets[0] + line.rstrip(",") + brackets[1]))
-            self._take(line, entry)
+            self._take(entry)
             out.update(entry) if isinstance(out, dict) else out.extend(entry)
         return out
 
-    def _take(self, line: str, entry: Any) -> None:
-        """Counts the memory of an entry."""
+    def _take(self, entry: Any) -> None:
+        """Counts the memory of an entry: a name or a reason like a huge page without mappings."""
         if len(entry) != 1:
             raise ValueError("a line has another number of entries than one")
-        if isinstance(entry, dict):
-            self._room -= ENTRY_COST + len(line)
-        else:
-            pages = [page for page in (entry[0] if isinstance(entry[0], tuple) else entry) if page]
-            self._room -= max(ENTRY_COST, sum(FOLIO_COST + PIECE_COST * len(page.mappings) for page in pages))
+        pages = [] if isinstance(entry, dict) else entry[0] if isinstance(entry[0], tuple) else entry
+        self._room -= FOLIO_COST * (len(pages) or 1) + PIECE_COST * sum(len(page.mappings) for page in pages if page)
         if self._room < 0:
             raise ValueError(f"it takes more than {self._mebibytes} MiB of memory (--memory)")

@@ -21,7 +21,8 @@ class Plans(unittest.TestCase):
         self.assertEqual(plan_page(folio(zero=FULL, known=bits_of(0, 100))).zero, bits_of(0, 100))
 
     def test_pages_in_no_queue(self) -> None:
-        for page in (folio(is_queued=False), folio(order=4, is_queued=None, is_partly=None), folio(is_locked=True), folio(is_poisoned=True)):
+        small = folio(order=4, is_queued=None, is_partly=None)
+        for page in (small, folio(is_queued=False), folio(is_locked=True), folio(is_poisoned=True)):
             self.assertFalse(plan_page(page).is_in_queue)
         self.assertTrue(plan_page(folio(is_queued=None)).is_in_queue)
         self.assertTrue(plan_page(holed_folio(0, 5, is_queued=False)).is_in_queue)

@@ -185,9 +185,10 @@ class MadeUp(unittest.TestCase):
         self.assertEqual(one.run([63])[0].pages, 0)
 
 
+GIVEN = "threshold < most ? threshold : most)"
 WRONG: dict[str, Callable[[str], str]] = {
-    "a threshold that is one too low": lambda c: c.replace("threshold < most ? threshold : most)", "threshold < most ? threshold - !!threshold : most)"),
-    "a threshold that is one too high": lambda c: c.replace("threshold < most ? threshold : most)", "threshold < most - 1 ? threshold + 1 : most)"),
+    "a threshold that is one too low": lambda c: c.replace(GIVEN, "threshold < most ? threshold - !!threshold : most)"),
+    "a threshold that is one too high": lambda c: c.replace(GIVEN, "threshold < most - 1 ? threshold + 1 : most)"),
     "no rule for 511": lambda c: c.replace("is_off && !page->is_partly ? none : page->zero", "page->zero"),
     "zeros of partly mapped pages forgotten with 511": lambda c: c.replace("is_off && !page->is_partly ?", "is_off ?"),
     "small pages underused above their size": lambda c: c.replace("threshold == OFF || threshold > most", "threshold == OFF"),
@@ -198,7 +199,8 @@ WRONG: dict[str, Callable[[str], str]] = {
     "a page mapped whole again isn't partly mapped": lambda c: c.replace("if (page->is_partly && !has_holes)", "if (0)"),
     "mappings by PTEs beside those by PMD entries forgotten": lambda c: c.replace(
         "if (page->is_whole) return call_runs(model, map, page->mapped, true);", "if (page->is_whole) return THP_OK;"),
-    "zeros that are written": lambda c: c.replace("return call_runs(model, write, zeros, false);", "return write(model, 0, size_of(model));"),
+    "zeros that are written": lambda c: c.replace(
+        "return call_runs(model, write, zeros, false);", "return write(model, 0, size_of(model));"),
     "no code is heeded": lambda c: c.replace("if (code != THP_OK) return code; }", "(void)code; }").replace(
         "return thp_node_map_sub(&model->node, CALLER, model->number, first, count);", "return THP_OK;"),
 }

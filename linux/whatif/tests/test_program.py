@@ -2,6 +2,8 @@
 
 from __future__ import annotations
 
+import contextlib
+import io
 import json
 import os
 import shutil
@@ -11,7 +13,9 @@ import tempfile
 import unittest
 from pathlib import Path
 from typing import Sequence
+from unittest import mock
 
+from .. import program
 from .own_library import ROOT, lacking
 
 HERE = Path(__file__).resolve().parent
@@ -76,6 +80,19 @@ class Program(unittest.TestCase):
         self.assertTrue(done.stdout.endswith("left out: nothing\n"))
         twice = run("what-if", KNOWN, str(HERE / "stored" / "forks.json"), "--json")
         self.assertEqual(json.loads(twice.stdout)["rows"][1]["split"], 14 + 9)
+
+    @NEEDS
+    def test_no_other_program_runs(self) -> None:
+        """Nobody can forge the answer of a program that isn't started."""
+        started = AssertionError("a program is started")
+        with contextlib.ExitStack() as stack:
+            for name in ("subprocess.Popen", "os.fork", "os.posix_spawn", "os.system"):
+                stack.enter_context(mock.patch(name, side_effect=started))
+            stack.enter_context(mock.patch("sys.argv", ["thpwhatif", "what-if", KNOWN, "--by-process"]))
+            out = stack.enter_context(contextlib.redirect_stdout(io.StringIO()))
+            options = program.parser().parse_args()
+            self.assertEqual(program.COMMANDS[options.command](options), 0)
+        self.assertIn("<- today", out.getvalue())
 
     @NEEDS
     def test_a_target(self) -> None:

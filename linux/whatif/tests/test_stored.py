@@ -56,9 +56,10 @@ def made() -> Snapshot:
     """A snapshot with something in each field."""
     first, second = folio(3, totals=even_counts(1, 512)), holed_folio(3, 7)
     second.totals = compact_counts(second.totals)
+    pages = [folio(0, zero=5, totals=even_counts(1, 512)), folio(1, totals=even_counts(2, 512))]
     return Snapshot(
-        [folio(0, zero=5, totals=even_counts(1, 512)), folio(1, totals=even_counts(2, 512))], {100: "a", 101: "b c"}, Counter({"x": 2}), Counter({"groups": 1}), {5: "/g"}, today=3,
-        changed=2, sampled=2, changed_pages=[(first, second), (None, first)], spent={"walk": 0.5},
+        pages, {100: "a", 101: "b c"}, Counter({"x": 2}), Counter({"groups": 1}), {5: "/g"}, today=3, changed=2, sampled=2,
+        changed_pages=[(first, second), (None, first)], spent={"walk": 0.5},
     )
 
 
