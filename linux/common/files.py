@@ -58,14 +58,13 @@ def open_input(path: PathText) -> BinaryIO:
         return sys.stdin.buffer
     try:
         descriptor = os.open(path, os.O_RDONLY | os.O_NONBLOCK | os.O_NOCTTY | os.O_CLOEXEC)
-        file = open(descriptor, "rb")
     except (OSError, ValueError) as error:
         reason = getattr(error, "strerror", None) or str(error)
         raise InputFault(f"{escape(str(path))} can't be read: {reason}") from error
     if not stat.S_ISREG(os.fstat(descriptor).st_mode):
-        file.close()
+        os.close(descriptor)
         raise InputFault(f"{escape(str(path))} is no regular file")
-    return file
+    return open(descriptor, "rb")
 
 
 def read_input(path: PathText, most: int = MOST_INPUT) -> bytes:

@@ -245,7 +245,7 @@ def add_lines(outcome: Outcome, lines: Sequence[str]) -> None:
 
 def try_policies(policies: Sequence[Policy], recordings: Sequence[Recording]) -> list[Outcome]:
     """Tries all policies, as many at a time as there are processors."""
-    program = helper_with_libthp("whatif/policies.c")
+    program = helper_with_libthp("policies")
     with ThreadPoolExecutor(max_workers=max(1, len(os.sched_getaffinity(0)))) as pool:
         return list(pool.map(lambda policy: try_policy(program, policy, recordings), policies))
 

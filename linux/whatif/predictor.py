@@ -21,14 +21,12 @@ from .snapshot import Snapshot
 CHUNK = 2048  # pages that a thread predicts at a time
 SPLIT, UNDERUSED, PINNED = 1, 2, 4  # outcomes, as predict.c has them
 FATE = 8  # bytes of a fate
-SOURCE = "whatif/predict.c"
 
 
 class Library:
-    """predict.c, compiled with libthp. Unavailable where that isn't possible."""
+    """predict.c, compiled with libthp, at a path. Unavailable where it can't be loaded."""
 
-    def __init__(self, source: str = SOURCE) -> None:
-        path = helper_with_libthp(source, ["-shared", "-fPIC"])
+    def __init__(self, path: str) -> None:
         try:
             self._library = ctypes.CDLL(path)
         except OSError as error:
@@ -59,8 +57,8 @@ class ModelFault(Exception):
 
 @lru_cache(maxsize=None)
 def load_library() -> Library:
-    """Returns the library, loaded once."""
-    return Library()
+    """Returns the library, loaded once. Unavailable where it can't be."""
+    return Library(helper_with_libthp("predict.so"))
 
 
 class Predictor:

@@ -11,7 +11,7 @@ from functools import lru_cache
 from pathlib import Path
 
 from ...common.errors import InputFault, Unavailable
-from ..predictor import load_library
+from ..predictor import Library, load_library
 
 ROOT = Path(__file__).resolve().parents[3]
 
@@ -34,3 +34,13 @@ def lacking() -> str:
     except (Unavailable, InputFault) as error:
         return str(error)
     return ""
+
+
+def compile_library(text: str, folder: str) -> Library:
+    """Returns what a text of predict.c, which may be wrong, compiles to."""
+    source, archive = Path(folder) / "predict.c", Path(os.environ.get("THP_LIB") or ROOT / "c/out").absolute() / "libthp.a"
+    source.write_text(text, encoding="ascii")
+    built = source.with_name(f"predict{len(os.listdir(folder))}.so")
+    words = [shutil.which("cc") or "gcc", "-std=c11", "-O1", "-shared", "-fPIC", f"-I{ROOT}/c", "-o", str(built), str(source)]
+    subprocess.run([*words, str(archive) if archive.exists() else "-lthp", "-lpthread"], check=True)
+    return Library(str(built))

@@ -14,15 +14,14 @@ from unittest import mock
 
 from ...common.errors import RunFailed
 from ...common.folios import Folio, Mapping
-from ...common.helpers import LINUX
 from ...common.subpages import bits_of, size
 from ..page_plan import NotPredictable, plan_page
-from ..predictor import SOURCE, Library, Predictor
+from ..predictor import Library, Predictor, load_library
 from ..reference import given_back
 from ..rows import OFF, find_highest
 from ..snapshot import Snapshot
 from ..stored import fields_of, snapshot_of
-from .own_library import lacking
+from .own_library import compile_library, lacking
 from .sample_folios import any_folio, folio, holed_folio
 
 HERE = Path(__file__).resolve().parent
@@ -214,13 +213,11 @@ class Mutants(unittest.TestCase):
     def setUp(self) -> None:
         folder = tempfile.TemporaryDirectory()
         self.addCleanup(folder.cleanup)
-        self.folder, self.text = folder.name, (LINUX / SOURCE).read_text(encoding="ascii")
+        self.folder, self.text = folder.name, (HERE.parent / "predict.c").read_text(encoding="ascii")
         self.pages = made_up(300, 35)
 
     def library(self, text: str) -> Library:
-        path = Path(self.folder) / "predict.c"
-        path.write_text(text, encoding="ascii")
-        return Library(str(path))
+        return compile_library(text, self.folder)
 
     def test_each_error_is_found(self) -> None:
         self.assertEqual(differences(self.pages), [])
@@ -253,7 +250,7 @@ class Mutants(unittest.TestCase):
             assert found
             return int(found[1])
 
-        library, record = Library(), plan_page(folio(zero=7)).pack()
+        library, record = load_library(), plan_page(folio(zero=7)).pack()
         library.predict(record * 1000, 3)
         before = resident()
         library.predict(record * 20000, 3)

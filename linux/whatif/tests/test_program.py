@@ -16,6 +16,7 @@ from typing import Sequence
 from unittest import mock
 
 from .. import program
+from ..options import parser
 from .own_library import ROOT, lacking
 
 HERE = Path(__file__).resolve().parent
@@ -90,7 +91,7 @@ class Program(unittest.TestCase):
                 stack.enter_context(mock.patch(name, side_effect=started))
             stack.enter_context(mock.patch("sys.argv", ["thpwhatif", "what-if", KNOWN, "--by-process"]))
             out = stack.enter_context(contextlib.redirect_stdout(io.StringIO()))
-            options = program.parser().parse_args()
+            options = parser().parse_args()
             self.assertEqual(program.COMMANDS[options.command](options), 0)
         self.assertIn("<- today", out.getvalue())
 
