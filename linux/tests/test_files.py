@@ -6,7 +6,6 @@ import os
 import random
 import stat
 import subprocess
-import sys
 import tempfile
 import unittest
 from pathlib import Path
@@ -128,14 +127,39 @@ class UserTest(unittest.TestCase):
                 user.user_for(name)
 
     def test_programs_run_without_rights_in_an_empty_folder(self) -> None:
-        code = ("import os; print(os.getuid(), os.getgroups(), os.listdir('.'), sorted(os.environ), "
-                "os.path.exists('/proc/self/fd/9'))")
-        child = start(sys.executable if os.geteuid() else "/usr/bin/python3", ["-IS", "-c", code], stdout=subprocess.PIPE)
+        code = ("import os; print(os.getuid(), os.getgroups(), os.listdir('.'), sorted(os.environ), os.path.exists('/proc/self/fd/9'), "
+                "[each for each in open('/proc/self/status') if 'NoNewPrivs' in each or 'Max core' in each])")
+        child = start("/usr/bin/python3", ["-IS", "-c", code], stdout=subprocess.PIPE)
         output, _ = child.communicate()
-        number = os.geteuid() or user.NOBODY
         groups = os.getgroups() if os.geteuid() else []
         files = os.listdir("/") if os.geteuid() else []
-        self.assertEqual(output.decode().strip(), f"{number} {groups} {files} ['LC_ALL', 'PATH'] False")
+        number = user.user_without_rights().number
+        self.assertEqual(output.decode().strip(), f"{number} {groups} {files} ['LC_ALL', 'PATH'] False ['NoNewPrivs:\\t1\\n']")
+
+    @unittest.skipIf(os.geteuid(), "not root")
+    def test_no_account_and_no_process_has_the_number_of_a_user_without_rights(self) -> None:
+        found = user.user_without_rights()
+        self.assertIn(found.number, user.UNUSED)
+        with subprocess.Popen(["sleep", "60"], user=found.number, group=found.group, extra_groups=[]) as other:
+            user.user_without_rights.cache_clear()
+            numbers = iter([0, 0, 5, 0])
+            with mock.patch.object(os, "urandom", lambda _: (found.number - user.UNUSED.start + next(numbers)).to_bytes(8, "little")):
+                self.assertEqual(user.user_without_rights().number, found.number + 5)
+            other.kill()
+        user.user_without_rights.cache_clear()
+
+    @unittest.skipIf(os.geteuid(), "not root")
+    def test_a_program_is_not_traced_by_another_process_of_its_user(self) -> None:
+        found = user.user_without_rights()
+        child = start("/bin/sleep", ["60"])
+        try:
+            code = f"import os\nfor name in ('mem', 'environ', 'fd'):\n    print(os.access('/proc/{child.pid}/' + name, os.R_OK))"
+            done = subprocess.run(["/usr/bin/python3", "-c", code], capture_output=True, text=True, check=False, user=found.number,
+                                  group=found.group, extra_groups=[])
+        finally:
+            child.kill()
+            child.wait()
+        self.assertEqual(done.stdout, "False\n" * 3)
 
     def test_the_user_behind_sudo(self) -> None:
         if os.geteuid():
@@ -148,21 +172,25 @@ class UserTest(unittest.TestCase):
 
 
 class HelperTest(unittest.TestCase):
-    def test_a_compiler_that_fails_is_reported_in_a_line(self) -> None:
-        with tempfile.TemporaryDirectory() as name, mock.patch.object(helpers, "own_folder_of_helpers", lambda: Path(name)):
-            for compiler in ("false", "true", "no-such-compiler", "sh -c 'echo \x1b >&2; exit 1'"):
-                with mock.patch.dict(os.environ, {"CC": compiler}), self.assertRaises(Unavailable) as caught:
-                    helpers.helper("whatif/known.c")
-                self.assertNotIn("\n", str(caught.exception))
-            self.assertEqual(list(Path(name).iterdir()), [])
+    def test_what_is_not_built_is_named_with_how_to_build_it(self) -> None:
+        with self.assertRaises(Unavailable) as caught:
+            helpers.helper("nothing.so")
+        self.assertRegex(str(caught.exception), r"^nothing\.so isn't built: make -C .*linux builds it \(Debian: .*clang.*\)$")
 
     def test_only_what_nobody_else_can_write_is_trusted(self) -> None:
         with tempfile.TemporaryDirectory() as name:
-            path = Path(name) / "helper"
+            path = Path(name) / "out/helper"
+            path.parent.mkdir()
             path.write_text("")
-            self.assertEqual(helpers.is_trusted(path), os.geteuid() == 0)
-            path.chmod(0o777)
-            self.assertFalse(helpers.is_trusted(path))
+            self.assertEqual((helpers.is_trusted(path, True), helpers.is_trusted(path, False)), (os.geteuid() == 0, True))
+            for each in (path, path.parent):
+                was = each.stat().st_mode & 0o777
+                each.chmod(0o777)
+                self.assertFalse(helpers.is_trusted(path, False) or helpers.is_trusted(path, True))
+                each.chmod(was)
+            path.unlink()
+            path.symlink_to("/bin/true")
+            self.assertFalse(helpers.is_trusted(path, False))
 
 
 class ErrorsTest(unittest.TestCase):

@@ -15,7 +15,7 @@ import stat
 import subprocess
 from dataclasses import dataclass, field
 from pathlib import Path
-from typing import Dict, List, Sequence
+from typing import Sequence
 
 from ..common.errors import InputFault, Unavailable
 from ..common.helpers import LINUX, helper
@@ -37,8 +37,7 @@ SEARCHED = "/usr/local/sbin:/usr/local/bin:/usr/sbin:/usr/bin:/sbin:/bin"
 MERGED = re.compile("/(bin|sbin|lib|lib64)/")
 PASSWD = "root:x:0:0:root:/root:/bin/sh\nnobody:x:65534:65534:nobody:/nonexistent:/usr/sbin/nologin\n"
 GROUP = "root:x:0:\nnogroup:x:65534:\n"
-HELPERS = (("replay/mapper.c", ()), ("record/workload.c", ()), ("whatif/known.c", ()), ("common/btf.c", ("-shared", "-fPIC")),
-           ("common/pages.c", ("-shared", "-fPIC")))
+HELPERS = ("known", "mapper", "pages.so", "thpkernel.so", "workload")
 
 
 @dataclass(frozen=True)
@@ -49,10 +48,10 @@ class Plan:
     folder: str
     group_version: int
     files: Sequence[str] = ()
-    environment: Dict[str, str] = field(default_factory=dict)
+    environment: dict[str, str] = field(default_factory=dict)
 
 
-def libraries_of(path: str) -> List[str]:
+def libraries_of(path: str) -> list[str]:
     """Returns the libraries that a program or library needs. The loader only lists them: nothing of the file is run."""
     done = subprocess.run([LOADER, "--list", path], env=ENVIRONMENT, stdin=subprocess.DEVNULL, capture_output=True, check=False)
     return re.findall(r"^\s+(?:\S+ => )?(/\S+) \(0x", done.stdout.decode("utf-8", "surrogateescape"), re.MULTILINE)
@@ -74,7 +73,7 @@ class GuestFiles:
         self._archive = archive
         self._checkout = LINUX.parent
         self._is_checkout = (self._checkout / "linux/tests").is_dir()
-        self._programs: List[str] = []
+        self._programs: list[str] = []
 
     def path_in_guest(self, path: str) -> str:
         """Returns where a file of this machine is in the guest."""
@@ -143,9 +142,8 @@ class GuestFiles:
                 self._add_sources(str(path), f"{LIBRARY}/{name}")
         if self._is_checkout:
             self._archive.add_link(str(self._checkout), LIBRARY)
-        for source, flags in HELPERS:
-            name = Path(source).stem + (".so" if flags else "")
-            self._add_file(helper(source, flags), f"{LIBRARY}/linux/out/{name}")
+        for name in HELPERS:
+            self._add_file(helper(name), f"{LIBRARY}/linux/out/{name}")
         for name in TOOLS:
             self._add_tool(name)
         for name, built in (("thpsplit", BUILT), ("thpcheck", BUILT_CHECKER)):

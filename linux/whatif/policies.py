@@ -14,7 +14,7 @@ from concurrent.futures import ThreadPoolExecutor
 from dataclasses import dataclass, field
 from typing import IO, Any, Sequence
 
-from ..common.checker import JournalChecker, check_file
+from ..common.checker import JournalChecker
 from ..common.errors import USAGE, InputFault, RunFailed
 from ..common.files import PMD_ORDER, open_input
 from ..common.program import start
@@ -188,7 +188,7 @@ def reopened(file: IO[bytes]) -> IO[bytes]:
 def read_recording(path: str, times: str | None, by: JournalChecker) -> Recording:
     """Opens a journal, and checks it. InputFault where it is no journal, RunFailed where it isn't legal."""
     journal = open_again(path)
-    verdict = check_file(by, journal.fileno())
+    verdict = by.check(journal.fileno())
     if verdict.line is not None:
         why = "".join(f"; {escape(line)}" for line in text_lines(verdict.why) if line.startswith("why: "))
         raise IllegalJournal(f"{escape(path)}: {verdict.text}{why}")

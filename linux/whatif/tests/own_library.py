@@ -17,12 +17,21 @@ ROOT = Path(__file__).resolve().parents[3]
 
 
 def build_library() -> None:
-    """Builds libthp into a folder of its own where only its proved archive is there."""
-    if (ROOT / "crates/thp_c/out/libthp_c.a").exists() and "THP_LIB" not in os.environ and shutil.which("make"):
+    """Builds libthp, where only its proved archive is there, and the helpers with it."""
+    if not shutil.which("make"):
+        return
+    if (ROOT / "crates/thp_c/out/libthp_c.a").exists() and "THP_LIB" not in os.environ:
         folder = tempfile.mkdtemp(prefix="libthp-")
         atexit.register(shutil.rmtree, folder)
         if subprocess.run(["make", "-s", "-C", ROOT / "c", f"OUT={folder}"], capture_output=True, check=False).returncode == 0:
             os.environ["THP_LIB"] = folder
+    words = ["make", "-s", "-C", str(ROOT / "linux"), f"THP_LIB={archive().parent}", "out/predict.so", "out/policies"]
+    subprocess.run(words, capture_output=True, check=False)
+
+
+def archive() -> Path:
+    """Returns the path of libthp.a."""
+    return Path(os.environ.get("THP_LIB") or ROOT / "c/out").absolute() / "libthp.a"
 
 
 @lru_cache(maxsize=None)
@@ -38,9 +47,9 @@ def lacking() -> str:
 
 def compile_library(text: str, folder: str) -> Library:
     """Returns what a text of predict.c, which may be wrong, compiles to."""
-    source, archive = Path(folder) / "predict.c", Path(os.environ.get("THP_LIB") or ROOT / "c/out").absolute() / "libthp.a"
+    source = Path(folder) / "predict.c"
     source.write_text(text, encoding="ascii")
     built = source.with_name(f"predict{len(os.listdir(folder))}.so")
     words = [shutil.which("cc") or "gcc", "-std=c11", "-O1", "-shared", "-fPIC", f"-I{ROOT}/c", "-o", str(built), str(source)]
-    subprocess.run([*words, str(archive) if archive.exists() else "-lthp", "-lpthread"], check=True)
+    subprocess.run([*words, str(archive()), "-lpthread"], check=True)
     return Library(str(built))

@@ -15,7 +15,10 @@ from pathlib import Path
 from typing import Sequence
 from unittest import mock
 
+from ...common import helpers
+from ...common.errors import Unavailable
 from .. import program
+from ..libthp import helper_with_libthp
 from ..options import parser
 from .own_library import ROOT, lacking
 
@@ -69,9 +72,9 @@ class Program(unittest.TestCase):
             self.expect(done, 77, "not root")
 
     def test_no_library_is_reported(self) -> None:
-        for words in (("what-if", KNOWN), ("target", "10", KNOWN)):
-            done = run(*words, env=["CC=/bin/false", "THP_LIB=/nowhere"])
-            self.expect(done, 77, "a release has it; Debian: libthp-dev, gcc; in a checkout: make c")
+        with mock.patch.object(helpers, "LINUX", Path("/nowhere")):
+            with self.assertRaisesRegex(Unavailable, "a release has it; in a checkout: make c, then make -C linux"):
+                helper_with_libthp("predict.so")
 
     @NEEDS
     def test_a_stored_snapshot(self) -> None:
