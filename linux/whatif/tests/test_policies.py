@@ -2,11 +2,7 @@
 
 from __future__ import annotations
 
-import atexit
 import json
-import os
-import shutil
-import subprocess
 import tempfile
 import unittest
 from pathlib import Path
@@ -19,19 +15,9 @@ from ..policies import Outcome, Policy, best_of, find_helper, parse_scans, parse
 from .test_program import ROOT, run
 
 
-def build_library() -> None:
-    """Builds libthp into a folder of its own where only its proved archive is there."""
-    if (ROOT / "crates/thp_c/out/libthp_c.a").exists() and "THP_LIB" not in os.environ and shutil.which("make"):
-        folder = tempfile.mkdtemp(prefix="libthp-")
-        atexit.register(shutil.rmtree, folder)
-        if subprocess.run(["make", "-s", "-C", ROOT / "c", f"OUT={folder}"], capture_output=True, check=False).returncode == 0:
-            os.environ["THP_LIB"] = folder
-
-
 def lacking() -> str:
     """Returns what the tests lack on this machine."""
     try:
-        build_library()
         find_helper()
     except (Unavailable, InputFault) as error:
         return str(error)
