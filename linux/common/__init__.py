@@ -8,7 +8,6 @@
     files           files of sysfs, procfs and cgroupfs; a tool's inputs and outputs; the folders of huge pages
     keeper          Keeper: the lock that all tools share; restores settings and removes groups and processes at any end
     guardian        the small process that does so; started by Keeper, needs nothing of this package
-    hold            hold_processes: stops or freezes processes and control groups for a limited time
     user            the users as whom other programs are run
     groups          Groups: memory control groups of version 1 or 2, and a reclaim in one
     shrinker_debug  ShrinkerFile: scans of exactly so many pages of a queue, by debugfs

@@ -3,12 +3,12 @@
 from __future__ import annotations
 
 import argparse
-import math
 import re
-from typing import Callable, NoReturn
+from typing import Any, Callable, Mapping, NoReturn, Sequence
 
 from .errors import InputFault
 from .text import escape
+from .version import VERSION
 
 
 class OneLineParser(argparse.ArgumentParser):
@@ -16,6 +16,13 @@ class OneLineParser(argparse.ArgumentParser):
 
     def error(self, message: str) -> NoReturn:
         raise InputFault(f"{escape(message)} (--help has the options)")
+
+
+def tool_parser(name: str, about: str | None, **more: Any) -> OneLineParser:
+    """Returns the parser of a tool's words, with --help, which prints `about` as it is, and --version."""
+    parser = OneLineParser(prog=name, description=about, formatter_class=argparse.RawDescriptionHelpFormatter, **more)
+    parser.add_argument("--version", action="version", version=f"{name} {VERSION}", help="print the version")
+    return parser
 
 
 def whole(low: int, high: int) -> Callable[[str], int]:
@@ -29,13 +36,34 @@ def whole(low: int, high: int) -> Callable[[str], int]:
     return parse
 
 
+def wholes(low: int, high: int, word: str = "") -> Callable[[str], list[Any]]:
+    """Returns a type for lists of whole numbers, with commas; an item may be `word`, too, and is None then."""
+    parse = whole(low, high)
+    return lambda text: [None if word and each == word else parse(each) for each in text.split(",")]
+
+
 def seconds(low: float, high: float) -> Callable[[str], float]:
     """Returns a type for numbers from `low` to `high`, in decimal digits with a point or without."""
 
     def parse(text: str) -> float:
         is_number = re.fullmatch(r"[0-9]{1,12}(\.[0-9]{0,12})?|\.[0-9]{1,12}", text)
-        if not is_number or not math.isfinite(float(text)) or not low <= float(text) <= high:
+        if not is_number or not low <= float(text) <= high:
             raise argparse.ArgumentTypeError(f"{escape(text)[:40]!r} is no number from {low:g} to {high:g}")
         return float(text)
 
     return parse
+
+
+def parse_pairs(words: Sequence[str], types: Mapping[str, Callable[[str], Any]], what: str) -> dict[str, Any]:
+    """Returns the values of options, each `--NAME VALUE` or `--NAME=VALUE`, by their types. InputFault where there are other
+    words; it quotes none of them, since they may be from a file that isn't its reader's."""
+    out, rest = {}, iter(words)
+    for word in rest:
+        name, equals, value = word[2:].partition("=")
+        if not word.startswith("--") or name not in types:
+            raise InputFault(f"{what}: a word is none of the options --{', --'.join(types)}")
+        try:
+            out[name] = types[name](value if equals else next(rest, ""))
+        except argparse.ArgumentTypeError as error:
+            raise InputFault(f"{what}: --{name} has a value that can't be used") from error
+    return out

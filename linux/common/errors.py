@@ -29,13 +29,15 @@ class Busy(Exception):
 
 
 def end_by_signals() -> None:
-    """Makes SIGTERM and SIGHUP end the tool as an exception does, so that everything is put back on the way."""
+    """Makes SIGTERM and SIGHUP end the tool as an exception does, so that everything is put back on the way. One that the
+    caller ignores (nohup) stays ignored."""
 
     def stop(number: int, _frame: object) -> NoReturn:
         raise SystemExit(128 + number)
 
     for number in (signal.SIGTERM, signal.SIGHUP):
-        signal.signal(number, stop)
+        if signal.getsignal(number) != signal.SIG_IGN:
+            signal.signal(number, stop)
 
 
 def place_of(error: BaseException) -> str:

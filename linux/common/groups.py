@@ -1,21 +1,26 @@
 """Memory control groups of a tool's own, of version 1 or 2.
 
-Rules: Documentation/admin-guide/cgroup-v1/memory.rst and cgroup-v2.rst of the kernel. Groups are made below the
-tool's own group (version 1) or below the root (version 2), and go away at the tool's end (keeper.py).
+Rules: Documentation/admin-guide/cgroup-v1/memory.rst, freezer-subsystem.rst and cgroup-v2.rst of the kernel. Groups are made
+below the tool's own group (version 1) or below the root (version 2), and go away at the tool's end (keeper.py).
 """
 
 from __future__ import annotations
 
 import os
 import re
+import time
+from collections.abc import Callable, Iterator
+from contextlib import contextmanager, suppress
 from dataclasses import dataclass
-from typing import List, Optional
 
 from .errors import InputFault, Unavailable
 from .files import BASE, read, write
-from .guardian import hierarchies
+from .guardian import empty_groups, hierarchies
 from .keeper import Keeper
 from .text import escape, text_lines
+
+FREEZE_TIME = 2.0  # seconds that a group gets to freeze
+END_TIME = 2.0  # seconds that killed processes get to end
 
 
 @dataclass(frozen=True)
@@ -27,23 +32,24 @@ class Hierarchy:
     top: str
 
 
-def find_hierarchy(mounts: Optional[str] = None, own: Optional[str] = None) -> Hierarchy:
-    """Returns the memory hierarchy by /proc/mounts and /proc/self/cgroup (or texts in their form)."""
+def find_hierarchy(mounts: str | None = None, own: str | None = None, controller: str = "memory") -> Hierarchy:
+    """Returns the hierarchy of a controller by /proc/mounts and /proc/self/cgroup (or texts in their form). Each group of
+    version 2 has a freezer."""
     mounts = read("/proc/mounts") if mounts is None else mounts
     own = read("/proc/self/cgroup") if own is None else own
-    lines: List[List[str]] = [words for words in (line.split(" ") for line in text_lines(mounts)) if len(words) > 3]
+    lines = [words for words in (line.split(" ") for line in text_lines(mounts)) if len(words) > 3]
     for words in lines:
-        if words[2] == "cgroup" and "memory" in words[3].split(","):
-            place = re.search(r"^\d+:(?:[^:]*,)?memory(?:,[^:]*)?:(.*)$", own, re.MULTILINE)
+        if words[2] == "cgroup" and controller in words[3].split(","):
+            place = re.search(rf"^\d+:(?:[^:]*,)?{controller}(?:,[^:]*)?:(.*)$", own, re.MULTILINE)
             top = words[1] + (place[1] if place else "")
             return Hierarchy(1, words[1], (top if os.path.isdir(top) else words[1]).rstrip("/"))
     for words in lines:
         if words[2] == "cgroup2":
             path = f"{words[1]}/cgroup.controllers"
-            if os.path.exists(path) and "memory" in read(path).split():
+            if controller == "freezer" or (os.path.exists(path) and controller in read(path).split()):
                 return Hierarchy(2, words[1], words[1].rstrip("/"))
-            raise Unavailable(f"no memory control groups: {words[1]} has no memory controller")
-    raise Unavailable("no memory control groups: no hierarchy is mounted")
+            raise Unavailable(f"no {controller} control groups: {words[1]} has no {controller} controller")
+    raise Unavailable(f"no {controller} control groups: no hierarchy is mounted")
 
 
 def checked_group(path: str) -> str:
@@ -60,17 +66,53 @@ def checked_group(path: str) -> str:
     raise InputFault(f"{escape(path)} is no control group")
 
 
+@dataclass
+class Freeze:
+    """How processes of ours are held still. `problem`: why they weren't for the whole time, or nothing."""
+
+    problem: str = ""
+
+
+def freezer_of(group: str) -> tuple[str, str, str]:
+    """Returns the file that freezes a control group, of version 2 or 1, and the words that freeze and thaw it."""
+    if os.path.exists(f"{group}/freezer.state"):
+        return f"{group}/freezer.state", "FROZEN", "THAWED"
+    return f"{group}/cgroup.freeze", "1", "0"
+
+
+def is_frozen(group: str) -> bool:
+    """Returns whether all tasks of a control group are frozen, by cgroup.events or freezer.state."""
+    try:
+        if os.path.exists(f"{group}/freezer.state"):
+            return read(f"{group}/freezer.state").strip() == "FROZEN"
+        return "frozen 1" in text_lines(read(f"{group}/cgroup.events"))
+    except OSError:
+        return False
+
+
+def wait_until(is_so: Callable[[], bool], seconds: float) -> bool:
+    """Waits at most so many seconds until something is so; returns whether it is."""
+    until = time.monotonic() + seconds
+    while not is_so():
+        if time.monotonic() > until:
+            return False
+        time.sleep(0.002)
+    return True
+
+
 class Groups:
     """A group of the tool's own, and groups below it."""
 
     def __init__(self, keeper: Keeper, name: str) -> None:
         self.hierarchy = find_hierarchy()
         self.version = self.hierarchy.version
-        self._keeper = keeper
+        self._keeper, self._name = keeper, f"{name}-{os.getpid()}-{os.urandom(4).hex()}"
+        self._freezers: dict[str, str] = {}  # by group: the group that freezes its processes
+        self._inodes: dict[str, int] = {}
         if self.version == 2:
             self._give_memory(self.hierarchy.top)
-        self.path = f"{self.hierarchy.top}/{name}-{os.getpid()}"
-        keeper.make_group(self.path)
+        self.path = f"{self.hierarchy.top}/{self._name}"
+        self._make(self.path)
         if self.version == 2:
             write(f"{self.path}/cgroup.subtree_control", "+memory")
 
@@ -79,19 +121,66 @@ class Groups:
         if "memory" not in read(control).split():
             self._keeper.set(control, "+memory", undo="-memory")
 
-    def add(self, name: str) -> str:
-        """Returns the path of a new group below ours, from which nothing is swapped out."""
-        path = f"{self.path}/{name}"
+    def _make(self, path: str) -> None:
         self._keeper.make_group(path)
+        self._inodes[path] = os.stat(path).st_ino
+
+    def add(self, name: str, is_freezable: bool = False) -> str:
+        """Returns the path of a new group below ours, from which nothing is swapped out. `is_freezable`: `freeze` can hold its
+        processes, if this machine has a freezer."""
+        path = f"{self.path}/{name}"
+        self._make(path)
         if self.version == 1:
             write(f"{path}/memory.swappiness", 0)
         elif os.path.exists(f"{path}/memory.swap.max"):
             write(f"{path}/memory.swap.max", 0)
+        if is_freezable:
+            self._freezers[path] = path
+            if self.version == 1:
+                with suppress(Unavailable):
+                    self._freezers[path] = f"{find_hierarchy(controller='freezer').top}/{self._name}-{name}"
+                    self._make(self._freezers[path])
         return path
 
     def enter(self, path: str, process: int) -> None:
         """Moves a process into a group."""
-        write(f"{path}/cgroup.procs", process)
+        for group in dict.fromkeys((path, self._freezers.get(path, path))):
+            write(f"{group}/cgroup.procs", process)
+
+    @contextmanager
+    def freeze(self, path: str) -> Iterator[Freeze]:
+        """Holds the processes of a group still until the end of the `with`."""
+        file, frozen, thawed = freezer_of(self._freezers[path])
+        group, out = os.path.dirname(file), Freeze()
+        try:
+            try:
+                write(file, frozen)
+            except OSError as error:
+                out.problem = f"there is no freezer ({error.strerror})"
+            if not out.problem and not wait_until(lambda: is_frozen(group), FREEZE_TIME):
+                out.problem = f"the processes didn't freeze within {FREEZE_TIME:g} s"
+            yield out
+            if not out.problem and not is_frozen(group):
+                out.problem = "somebody else thawed the processes"
+        finally:
+            with suppress(OSError):
+                write(file, thawed)
+
+    def kill(self, path: str) -> bool:
+        """Kills the processes of a group and of those in it, and waits a while for their end; returns whether they have ended."""
+        entry = {"group": path, "inode": self._inodes[path]}
+        return empty_groups([entry], time.monotonic() + END_TIME)
+
+    def remove(self, path: str) -> None:
+        """Removes an empty group. What can't be removed yet goes at the tool's end."""
+
+        def is_gone(group: str) -> bool:
+            with suppress(OSError):
+                os.rmdir(group)
+            return not os.path.exists(group)
+
+        for group in dict.fromkeys((path, self._freezers.pop(path, path))):
+            wait_until(lambda: is_gone(group), END_TIME)
 
     def reclaim(self, path: str) -> None:
         """Has the kernel reclaim in a group, so that the shrinkers run over its lists.

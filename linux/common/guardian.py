@@ -1,31 +1,29 @@
 """The guardian of a run: puts the machine back when the tool ends, however it ends.
 
-The tool starts this file as a process of its own session, with a socket (SOCK_SEQPACKET) as standard input. Each packet is
-an order, one JSON object, which the guardian answers by `ok` or by what is wrong:
+It knows three things: settings, control groups that it made itself, and processes that the tool started. The tool starts
+this file as a process of its own session, with a socket (SOCK_SEQPACKET) as standard input; `ok` comes back once guardian
+and standby run. Each packet is an order, one JSON object, which the guardian answers by `ok` or by what is wrong:
 
     {"file": PATH, "text": TEXT, "set": TEXT}   at the end, write the first TEXT into PATH; the tool writes the second one now
-    {"group": PATH, "inode": N}                 at the end, kill the processes in this control group and remove it, with all
-                                                groups that they have made in it
+    {"group": PATH}                             make this control group; at the end, kill the processes in it, and remove it
+                                                with all groups in it
     {"keep": NUMBER}                            at the end, kill the process whose pidfd comes with this order
     {"forget": NUMBER}                          the process of that order has ended
-    {"hold": SECONDS}                           what follows holds processes, at most for so long; the answer has the numbers
-                                                of the processes that must not be held
-    {"freeze": PATH, "text": TEXT, "former": TEXT}  write TEXT into the freezer's file PATH
-    {"stop": [[PID, TICKS], ..]}                send SIGSTOP to the processes of these numbers that began at these times
-    {"release": 1}                              let all run on; the answer has the seconds, and `late` if the limit ended it
 
-Each order is first written to the file `undo` or `held` of the tools' folder and synced, so that whoever comes later can
-put back what was changed: a second process of this file (the standby), which takes over where the guardian is killed, and the
-next start of a tool, where all three are killed. The guardian and its standby leave the tool's control groups, so that
-what ends or freezes a group reaches neither.
+Settings and groups are first written to the file `undo` of the tools' folder and synced, whole or not at all: an order that
+can't be stored is refused, and changes nothing. So whoever comes later can put back what was changed: a second process of
+this file (the standby), which takes over if the guardian is killed, and the next start of a tool, if all three are killed.
+The guardian and its standby leave the tool's control groups, so that what ends or freezes a group reaches neither.
 
-The end is the end of the socket: it comes also where the tool is killed. The tool's lock is inherited, so no other tool
-begins before all is put back. What could not be put back is reported on standard error, and the status is then 1.
-Nothing of the package is imported, so that an error in the package can't keep the guardian from its work.
+The end is the end of the socket: it comes also if the tool is killed. The tool's lock is inherited, so no other tool
+begins before all is put back. What could not be put back is reported on standard error, the status is then 1, and the next
+start of a tool tries again. Nothing of the package is imported, so that an error in the package can't keep the guardian
+from its work.
 """
 
 from __future__ import annotations
 
+import errno
 import json
 import os
 import re
@@ -34,13 +32,15 @@ import signal
 import socket
 import sys
 import time
-from typing import Any, Dict, List, Optional, Tuple
+from collections.abc import Iterator
+from contextlib import contextmanager, suppress
+from typing import Any, Dict
 
-PATIENCE = 20.0  # seconds that processes get to end, and control groups to become empty
-GRACE = 0.5  # seconds after a hold's limit at which the standby ends it, where the guardian has not
+PATIENCE = 10.0  # seconds that processes get to end, and control groups to become empty
 STANDBY_PATIENCE = 2.0  # seconds that the standby gets to end
 PACKET = 1 << 17  # bytes of the longest order
-UNDO, HELD = "undo", "held"
+AT_ONCE = 100  # processes of which pidfds are open
+UNDO = "undo"
 HIERARCHIES = ("freezer", "memory")  # of version 1: those that end or freeze processes
 Entry = Dict[str, Any]
 
@@ -48,153 +48,64 @@ Entry = Dict[str, Any]
 # what is on disk
 
 
-def read_entries(path: str) -> List[Entry]:
-    """Returns the entries of a file of orders, oldest first; a line that a kill cut off is passed over."""
+def read_entries(path: str) -> tuple[list[Entry], list[str]]:
+    """Returns the entries of a file of orders, oldest first, and a line for each of its lines that can't be read."""
     try:
         with open(path, "rb") as file:
-            data = file.read()
-    except OSError:
-        return []
-    out: List[Entry] = []
-    for line in data.split(b"\n"):
+            lines = file.read().split(b"\n")
+    except FileNotFoundError:
+        return [], []
+    except OSError as error:
+        return [], [f"{path} can't be read: {error.strerror}"]
+    out: list[Entry] = []
+    problems = []
+    for number, line in enumerate(lines, 1):
         try:
-            entry = json.loads(line)
+            entry = json.loads(line) if line else None
         except (ValueError, RecursionError):
-            continue
+            entry = ()
         if isinstance(entry, dict):
             out.append(entry)
-    return out
+        elif line:
+            problems.append(f"line {number} of {path} can't be read: what it was to put back isn't known")
+    return out, problems
 
 
 def add_entry(path: str, entry: Entry) -> None:
-    """Adds an entry to a file of orders and waits until it is stored."""
+    """Adds an entry to a file of orders and waits until it is stored. OSError if not all of it can be; the file is then as it
+    was."""
+    data = json.dumps(entry).encode() + b"\n"
     descriptor = os.open(path, os.O_WRONLY | os.O_CREAT | os.O_APPEND | os.O_NOFOLLOW | os.O_CLOEXEC, 0o600)
     try:
-        os.write(descriptor, json.dumps(entry).encode() + b"\n")
-        os.fsync(descriptor)
-    finally:
-        os.close(descriptor)
-
-
-def clear(path: str) -> None:
-    """Removes a file of orders, if it exists."""
-    try:
-        os.unlink(path)
-    except FileNotFoundError:
-        pass
-
-
-# processes
-
-
-def start_of(number: int) -> int:
-    """Returns when a process began, in clock ticks since the start of the machine (proc(5), stat, field 22), or 0 where
-    it has ended."""
-    try:
-        with open(f"/proc/{number}/stat", "rb") as file:
-            return int(file.read().rsplit(b")", 1)[1].split()[19])
-    except (OSError, IndexError, ValueError):
-        return 0
-
-
-def send(number: int, start: int, what: signal.Signals) -> None:
-    """Sends a signal to the process of this number, if it is still the one that began at this time."""
-    try:
-        descriptor = os.pidfd_open(number)
-    except OSError:
-        return
-    try:
-        if start and start_of(number) == start:
-            signal.pidfd_send_signal(descriptor, what)
-    except OSError:
-        pass  # it ended
-    finally:
-        os.close(descriptor)
-
-
-def members(group: str) -> List[int]:
-    """Returns the processes of a control group."""
-    try:
-        with open(f"{group}/cgroup.procs", "rb") as file:
-            return [int(line) for line in file.read().split(b"\n") if line.isdigit() and int(line) > 0]
-    except OSError:
-        return []
-
-
-def kill_member(group: str, number: int) -> None:
-    """Kills a process, if it is in the control group."""
-    start = start_of(number)
-    if number in members(group):
-        send(number, start, signal.SIGKILL)
-
-
-def hierarchies() -> List[Tuple[str, str, str]]:
-    """Returns the mounted control group hierarchies as (folder, type, options)."""
-    out = []
-    with open("/proc/self/mounts", "rb") as file:
-        for line in file.read().split(b"\n"):
-            words = line.decode("utf-8", "surrogateescape").split(" ")
-            if len(words) > 3 and words[2] in ("cgroup", "cgroup2"):
-                folder = re.sub(r"\\([0-7]{3})", lambda found: chr(int(found[1], 8)), words[1])
-                out.append((folder, words[2], words[3]))
-    return out
-
-
-def leave_groups() -> None:
-    """Moves this process to the top of the hierarchies by which processes are ended or frozen, where that is allowed."""
-    for folder, kind, options in hierarchies():
-        if kind == "cgroup2" or set(HIERARCHIES) & set(options.split(",")):
-            write(f"{folder}/cgroup.procs", str(os.getpid()))
-
-
-def groups_of(number: int) -> List[str]:
-    """Returns the folders of the control groups that a process is in, of each hierarchy."""
-    with open(f"/proc/{number}/cgroup", "rb") as file:
-        lines = file.read().decode("utf-8", "surrogateescape").split("\n")
-    out = []
-    for line in lines:
-        _, _, rest = line.partition(":")
-        controllers, _, path = rest.partition(":")
-        for folder, kind, options in hierarchies():
-            is_there = kind == "cgroup2" if not controllers else set(controllers.split(",")) <= set(options.split(","))
-            if path.startswith("/") and is_there:
-                out.append((folder.rstrip("/") + path).rstrip("/"))
-    return out
-
-
-def is_below(path: str, group: str) -> bool:
-    """Returns whether a folder is this control group or lies in it."""
-    try:
-        found = os.stat(group)
-    except OSError:
-        return False
-    while path and path != "/":
+        before = os.fstat(descriptor).st_size
         try:
-            each = os.stat(path)
+            if os.write(descriptor, data) != len(data):
+                raise OSError(errno.ENOSPC, "it can't be written whole")
+            os.fsync(descriptor)
         except OSError:
-            each = None
-        if each and (each.st_dev, each.st_ino) == (found.st_dev, found.st_ino):
-            return True
-        path = os.path.dirname(path)
-    return False
+            os.ftruncate(descriptor, before)
+            raise
+    finally:
+        os.close(descriptor)
 
 
-def lies_in(number: int, group: str) -> bool:
-    """Returns whether a process is in a control group or in one below it."""
-    try:
-        folders = groups_of(number)
-    except OSError:
-        return False
-    if any(is_below(path, group) for path in folders):
-        return True
-    return any(number in members(folder) for folder, _, _ in os.walk(group))
+def replace_entries(path: str, entries: list[Entry]) -> None:
+    """Makes the file of orders have these entries alone; none: it is removed. If that isn't possible, it stays as it is."""
+    new = f"{path}.new"
+    with suppress(FileNotFoundError):
+        os.unlink(new if entries else path)
+    with suppress(OSError):
+        if entries:
+            for entry in entries:
+                add_entry(new, entry)
+            os.rename(new, path)
 
 
-# files and groups
+# settings
 
 
 def write(path: str, text: str) -> str:
-    """Writes a text into a file that exists; returns what is wrong, or nothing."""
+    """Writes a text into a file that exists, by one write; returns what is wrong, or nothing."""
     try:
         descriptor = os.open(path, os.O_WRONLY | os.O_TRUNC | os.O_CLOEXEC)
         try:
@@ -217,55 +128,139 @@ def value_of(path: str) -> str:
     return marked[1] if marked else text.strip()
 
 
-def release(entries: List[Entry]) -> List[str]:
-    """Lets held processes run on; returns what could not be done."""
-    problems = []
+def settings_of(entries: list[Entry]) -> dict[str, list[str]]:
+    """Returns for each setting the text that it first had, and all that were set, the setting that was changed last first.
+    A setting that doesn't show its value has its text alone."""
+    out: dict[str, list[str]] = {}
     for entry in entries:
-        if "freeze" in entry:
-            problem = write(str(entry["freeze"]), str(entry["former"]))
-            if problem and os.path.exists(str(entry["freeze"])):
-                problems.append(f"{entry['freeze']} could not be put back to {entry['former']!r}: {problem}")
-        for number, start in entry.get("stop", []):
-            send(int(number), int(start), signal.SIGCONT)
-    return problems
+        if "file" in entry:
+            texts = out.setdefault(str(entry["file"]), [str(entry["text"])])
+            texts += [str(entry["set"])] if entry.get("set") else []
+    return dict(reversed(list(out.items())))
 
 
-def groups_in(path: str) -> List[str]:
-    """Returns a control group and those below it, the lowest first; none where it has gone."""
-    return [folder for folder, _, _ in os.walk(path, topdown=False)]
+def restore(path: str, texts: list[str]) -> str:
+    """Gives a setting its first text back; returns what is wrong, or nothing. One that has none of these texts was changed by
+    somebody else, and is left as it is."""
+    former = texts[0]
+    if len(texts) > 1:
+        now = value_of(path)
+        if now == former:
+            return ""
+        if now and now not in texts:
+            return f"{path} has been changed since to {now!r}: left as it is (it was {former!r} before)"
+    problem = write(path, former)
+    return f"{path} could not be put back to {former!r}: {problem}" if problem and os.path.exists(path) else ""
 
 
-def empty_groups(groups: List[Entry]) -> None:
-    """Kills the processes of the tool's own control groups, and of those that these have made."""
-    until = time.monotonic() + PATIENCE
-    for entry in filter(is_same_group, groups):
-        path = str(entry["group"])
-        full = list(filter(members, groups_in(path)))
-        while full and time.monotonic() < until:
-            if write(f"{path}/cgroup.kill", "1"):
-                for group in full:
-                    for number in members(group):
-                        kill_member(group, number)
-            time.sleep(0.01)
-            full = list(filter(members, groups_in(path)))
+# control groups
 
 
-def is_same_group(entry: Entry) -> bool:
-    """Returns whether the folder of a control group is still the one that the tool made."""
+def hierarchies() -> list[tuple[str, str, str]]:
+    """Returns the mounted control group hierarchies as (folder, type, options)."""
+    out = []
+    with open("/proc/self/mounts", "rb") as file:
+        for line in file.read().split(b"\n"):
+            words = line.decode("utf-8", "surrogateescape").split(" ")
+            if len(words) > 3 and words[2] in ("cgroup", "cgroup2"):
+                folder = re.sub(r"\\([0-7]{3})", lambda found: chr(int(found[1], 8)), words[1])
+                out.append((folder, words[2], words[3]))
+    return out
+
+
+def leave_groups() -> None:
+    """Moves this process to the top of the hierarchies by which processes are ended or frozen, if that is allowed."""
+    for folder, kind, options in hierarchies():
+        if kind == "cgroup2" or set(HIERARCHIES) & set(options.split(",")):
+            write(f"{folder}/cgroup.procs", str(os.getpid()))
+
+
+def folders_below(path: str) -> list[str]:
+    """Returns a folder of cgroupfs and all folders below it, each before those in it, however deep they are. A folder that
+    can't be read has none."""
+    out = [path]
+    for folder in out:
+        with suppress(OSError), os.scandir(folder) as found:
+            out += [entry.path for entry in found if entry.is_dir(follow_symlinks=False)]
+    return out
+
+
+def members(group: str) -> list[int]:
+    """Returns the processes of a control group alone; 0 (a process of another namespace) isn't one."""
     try:
-        return int(entry.get("inode", 0)) in (0, os.stat(str(entry["group"])).st_ino)
+        with open(f"{group}/cgroup.procs", "rb") as file:
+            return [int(line) for line in file.read().split(b"\n") if line.isdigit() and int(line) > 0]
     except OSError:
-        return False
+        return []
 
 
-def remove_group(path: str) -> str:
+def kill_members(group: str) -> bool:
+    """Kills the processes of a control group alone; returns whether it has any. A process is killed by a pidfd that was taken
+    before the group still had its number."""
+    numbers = members(group)
+    for first in range(0, len(numbers), AT_ONCE):
+        pidfds = {}
+        try:
+            for number in numbers[first : first + AT_ONCE]:
+                with suppress(OSError):
+                    pidfds[number] = os.pidfd_open(number)
+            for number in pidfds.keys() & set(members(group)):
+                with suppress(OSError):
+                    signal.pidfd_send_signal(pidfds[number], signal.SIGKILL)
+        finally:
+            for descriptor in pidfds.values():
+                os.close(descriptor)
+    return bool(numbers)
+
+
+@contextmanager
+def opened(entry: Entry) -> Iterator[str]:
+    """Gives the path of the control group of an entry by an open descriptor, so that no other folder can take its place;
+    nothing if it isn't the one that was made, or isn't known to be."""
+    descriptor = -1
+    try:
+        with suppress(OSError):
+            descriptor = os.open(str(entry["group"]), os.O_RDONLY | os.O_DIRECTORY | os.O_NOFOLLOW | os.O_CLOEXEC)
+        is_ours = descriptor >= 0 and os.fstat(descriptor).st_ino == entry.get("inode", 0)
+        yield f"/proc/self/fd/{descriptor}" if is_ours else ""
+    finally:
+        if descriptor >= 0:
+            os.close(descriptor)
+
+
+def kill_group(entry: Entry) -> bool:
+    """Kills the processes of a control group of ours and of those in it; returns whether there were any. Processes of a group
+    that isn't known to be ours are left alone."""
+    with opened(entry) as path:
+        if not path:
+            return False
+        folders = folders_below(path)
+        for folder in folders:  # a frozen process of version 1 ends once it is thawed
+            for name, text in (("freezer.state", "THAWED"), ("cgroup.freeze", "0")):
+                if os.path.exists(f"{folder}/{name}"):
+                    write(f"{folder}/{name}", text)
+        write(f"{path}/cgroup.kill", "1")
+        return any([kill_members(folder) for folder in folders])
+
+
+def empty_groups(entries: list[Entry], until: float) -> bool:
+    """Kills the processes of control groups of ours, and waits until they have ended; returns whether they have."""
+    while any([kill_group(entry) for entry in entries]):
+        if time.monotonic() > until:
+            return False
+        time.sleep(0.01)
+    return True
+
+
+def remove_group(path: str, until: float) -> str:
     """Removes a control group and those in it, which may take a moment after the last process has ended; returns what is
-    wrong."""
-    until = time.monotonic() + PATIENCE
+    wrong. Only empty groups can be removed."""
     while True:
         try:
-            for group in groups_in(path):
+            for group in reversed(folders_below(path)):
                 os.rmdir(group)
+            return ""
+        except FileNotFoundError:
             return ""
         except OSError as error:
             if time.monotonic() > until:
@@ -273,196 +268,135 @@ def remove_group(path: str) -> str:
         time.sleep(0.01)
 
 
-def settings_of(entries: List[Entry]) -> Dict[str, Tuple[str, str]]:
-    """Returns for each setting the text that it first had, and the one that was set last."""
-    out: Dict[str, Tuple[str, str]] = {}
+def groups_of(entries: list[Entry]) -> list[Entry]:
+    """Returns the entry of each control group, with its inode if that is known; those in others first."""
+    out: dict[str, Entry] = {}
     for entry in entries:
-        if "file" in entry:
-            path = str(entry["file"])
-            first = out[path][0] if path in out else str(entry["text"])
-            out[path] = first, str(entry.get("set", ""))
-    return out
+        if "group" in entry:
+            out[str(entry["group"])] = entry
+    return sorted(out.values(), key=lambda entry: -str(entry["group"]).count("/"))
 
 
-def put_back(entries: List[Entry], is_later: bool = False) -> List[str]:
-    """Puts back what these entries contain, and returns what could not be put back. Processes come first (they hold pages and
-    groups), then settings, the newest change first, then control groups. A setting that a group of ours holds
-    (cgroup.subtree_control of version 2) is tried again after the groups. `is_later`: some time has gone by since; a
-    setting that no longer has the tool's value was changed by somebody else, and is left as it is."""
-    groups = [entry for entry in entries if "group" in entry and is_same_group(entry)]
-    empty_groups(groups)
-    problems, again = [], []
-    for path, (former, latest) in reversed(list(settings_of(entries).items())):
-        if is_later and latest and value_of(path) not in (latest, former):
-            problems.append(f"{path} has been changed since to {value_of(path)!r}: left as it is (it was {former!r} before)")
-        elif write(path, former):
-            again.append((path, former))
-    paths = dict.fromkeys(str(entry["group"]) for entry in groups)
-    problems += [text for text in map(remove_group, sorted(paths, key=lambda path: -path.count("/"))) if text]
-    for path, former in again:
-        problem = write(path, former)
-        if problem and os.path.exists(path):
-            problems.append(f"{path} could not be put back to {former!r}: {problem}")
-    return problems
+def is_another(entry: Entry) -> bool:
+    """Returns whether a control group has gone, or another one has its name."""
+    try:
+        return os.stat(str(entry["group"])).st_ino != entry.get("inode", 0) and bool(entry.get("inode"))
+    except OSError:
+        return True
+
+
+# all of it
+
+
+def put_back(entries: list[Entry], pidfds: list[int]) -> tuple[list[str], list[Entry]]:
+    """Puts back what these entries contain, and kills these processes; returns what could not be put back, and the entries of
+    control groups to try again. Settings come first, before anything is waited for. A setting that a group of ours holds
+    (cgroup.subtree_control of version 2) is tried again after the groups."""
+    settings = settings_of(entries)
+    problems = {path: restore(path, texts) for path, texts in settings.items()}
+    for descriptor in pidfds:
+        with suppress(OSError):
+            signal.pidfd_send_signal(descriptor, signal.SIGKILL)
+    until, left, lines = time.monotonic() + PATIENCE, [], []
+    groups = [entry for entry in groups_of(entries) if not is_another(entry)]
+    empty_groups(groups, until)
+    for entry in groups:
+        problem = remove_group(str(entry["group"]), until if entry.get("inode") else 0.0)
+        if problem:
+            left.append(entry)
+            lines.append(problem)
+    for path in filter(problems.get, settings):
+        problems[path] = restore(path, settings[path])
+    return [text for text in problems.values() if text] + lines, left
 
 
 class Guardian:
-    """What is to be put back, on disk below `folder`, and the processes to kill."""
+    """What is to be put back, in memory and on disk below `folder`, and the processes to kill."""
 
-    def __init__(self, folder: str, own: Dict[int, str], standby: Optional[socket.socket] = None) -> None:
-        self._undo, self._held = f"{folder}/{UNDO}", f"{folder}/{HELD}"
-        self._own, self._standby = own, standby  # the processes that must never be frozen, by number
-        self._kept: Dict[int, int] = {}  # pidfds by the tool's numbers
-        self._began = self._limit = 0.0
-        self.deadline: Optional[float] = None  # when the hold ends at the latest
-        self._is_late, self._lasted = False, 0.0
+    def __init__(self, folder: str) -> None:
+        self._undo = f"{folder}/{UNDO}"
+        self._entries: list[Entry] = []
+        self._kept: dict[int, int] = {}  # pidfds by the tool's numbers
 
-    def take(self, order: Entry, descriptors: List[int]) -> str:
+    def take(self, order: Entry, descriptors: list[int]) -> str:
         """Carries out one order, and returns the answer."""
-        for name in ("file", "group", "keep", "forget", "hold", "freeze", "stop", "release"):
-            if name in order:
-                act = getattr(self, f"_{name}")
-                return str(act(order, descriptors) or "ok")
-        raise ValueError("unknown order")
+        if "file" in order:
+            self._add({name: str(order[name]) for name in ("file", "text", "set")})
+        elif "group" in order:
+            self._make_group(str(order["group"]))
+        elif "keep" in order:
+            self._kept[int(order["keep"])] = os.dup(descriptors[0])
+        else:
+            descriptor = self._kept.pop(int(order["forget"]), None)
+            if descriptor is not None:
+                os.close(descriptor)
+        return "ok"
 
-    def _file(self, order: Entry, _descriptors: List[int]) -> None:
-        add_entry(self._undo, {"file": str(order["file"]), "text": str(order["text"]), "set": str(order["set"])})
+    def _add(self, entry: Entry) -> None:
+        try:
+            add_entry(self._undo, entry)
+        except OSError as error:
+            raise OSError(error.errno, f"{self._undo}: {error.strerror}: nothing is changed") from error
+        self._entries.append(entry)
 
-    def _group(self, order: Entry, _descriptors: List[int]) -> None:
-        add_entry(self._undo, {"group": str(order["group"]), "inode": int(order["inode"])})
+    def _make_group(self, path: str) -> None:
+        """Makes a control group. Until its inode is stored, it is removed if it is empty, and nothing in it is killed."""
+        self._add({"group": path})
+        try:
+            os.mkdir(path, 0o755)
+        except OSError:
+            self._entries.pop()
+            replace_entries(self._undo, self._entries)
+            raise
+        self._add({"group": path, "inode": os.stat(path).st_ino})
 
-    def _keep(self, order: Entry, descriptors: List[int]) -> None:
-        self._kept[int(order["keep"])] = os.dup(descriptors[0])
-
-    def _forget(self, order: Entry, _descriptors: List[int]) -> None:
-        descriptor = self._kept.pop(int(order["forget"]), None)
-        if descriptor is not None:
-            os.close(descriptor)
-
-    def _hold(self, order: Entry, _descriptors: List[int]) -> str:
-        self._limit = float(order["hold"])
-        self._began, self._is_late = time.monotonic(), False
-        self.deadline = self._began + self._limit
-        self._inform(f"limit {self._limit + GRACE}")
-        return json.dumps(list(self._own))
-
-    def _freeze(self, order: Entry, _descriptors: List[int]) -> str:
-        path, group = str(order["freeze"]), os.path.dirname(str(order["freeze"]))
-        if self.deadline is None:
-            return "nothing is held any more"
-        for number, who in self._own.items():
-            if lies_in(number, group):
-                return f"{who} is in {group}: freezing it would stop {who}"
-        add_entry(self._held, {"freeze": path, "former": str(order["former"])})
-        return write(path, str(order["text"]))
-
-    def _stop(self, order: Entry, _descriptors: List[int]) -> str:
-        if self.deadline is None:
-            return "nothing is held any more"
-        pairs = [(int(number), int(start)) for number, start in order["stop"]]
-        add_entry(self._held, {"stop": pairs})
-        for number, start in pairs:
-            send(number, start, signal.SIGSTOP)
-        return ""
-
-    def _release(self, _order: Entry, _descriptors: List[int]) -> str:
-        self.end_hold()
-        return json.dumps({"seconds": self._lasted, "late": self._is_late})
-
-    def end_hold(self, is_late: bool = False) -> None:
-        """Lets all that is held run on."""
-        if self.deadline is None:
-            return
-        problems = release(read_entries(self._held))
-        self.deadline, self._is_late, self._lasted = None, is_late, time.monotonic() - self._began
-        clear(self._held)
-        for problem in problems:
-            print(f"guardian: {problem}", file=sys.stderr, flush=True)
-        self._inform("released")
-
-    def end(self) -> List[str]:
+    def end(self) -> list[str]:
         """Puts everything back, and returns what could not be put back."""
-        self.end_hold()
-        for descriptor in self._kept.values():
-            try:
-                signal.pidfd_send_signal(descriptor, signal.SIGKILL)
-            except OSError:
-                pass  # it has ended
-        problems = put_back(read_entries(self._undo))
-        clear(self._undo)
-        self._inform("done")
+        problems, left = put_back(self._entries, list(self._kept.values()))
+        replace_entries(self._undo, left)
         return problems
 
-    def _inform(self, word: str) -> None:
-        """Informs the standby. If the standby was killed, the guardian works without it."""
-        try:
-            if self._standby:
-                self._standby.send(word.encode())
-        except OSError:
-            self._standby = None
 
-
-def put_back_all(folder: str, is_later: bool) -> Tuple[List[Entry], List[str]]:
+def put_back_all(folder: str) -> tuple[list[Entry], list[str]]:
     """Puts back what an ended run left below a folder; returns its entries, and what could not be put back."""
-    held, undo = read_entries(f"{folder}/{HELD}"), read_entries(f"{folder}/{UNDO}")
-    problems = release(held)
-    clear(f"{folder}/{HELD}")
-    problems += put_back(undo, is_later)
-    clear(f"{folder}/{UNDO}")
-    return held + undo, problems
+    entries, unread = read_entries(f"{folder}/{UNDO}")
+    problems, left = put_back(entries, [])
+    replace_entries(f"{folder}/{UNDO}", left)
+    return entries, unread + problems
 
 
-def stand_by(guardian: socket.socket, tool: int, folder: str) -> int:
-    """Waits until the guardian has ended. Where it was killed, this lets held processes run on at once, and puts the rest
-    back once the tool has ended (`tool` is its pidfd)."""
-    deadline: Optional[float] = None
-    while True:
-        patience = None if deadline is None else max(0.0, deadline - time.monotonic())
-        if not select.select([guardian], [], [], patience)[0]:
-            release(read_entries(f"{folder}/{HELD}"))  # the guardian itself is stopped
-            deadline = None
-            continue
-        word = guardian.recv(PACKET)
-        if word.startswith(b"limit "):
-            deadline = time.monotonic() + float(word[6:])
-        elif word == b"released":
-            deadline = None
-        elif word == b"done":
-            return 0
-        elif not word:
-            break
-    release(read_entries(f"{folder}/{HELD}"))
-    clear(f"{folder}/{HELD}")
-    select.select([tool], [], [])
-    problems = put_back_all(folder, False)[1]
+def report(problems: list[str]) -> int:
+    """Prints what could not be put back; returns the status."""
     for problem in problems:
         print(f"guardian: {problem}", file=sys.stderr, flush=True)
     return 1 if problems else 0
 
 
+def stand_by(guardian: socket.socket, tool: int, folder: str) -> int:
+    """Waits until the guardian has ended. If it was killed, this puts everything back once the tool has ended (`tool` is its
+    pidfd)."""
+    if guardian.recv(PACKET) == b"done":
+        return 0
+    select.select([tool], [], [])
+    return report(put_back_all(folder)[1])
+
+
 def serve(tool: socket.socket, guardian: Guardian) -> None:
     """Carries out the tool's orders until it ends."""
+    tool.send(b"ok")
     while True:
-        patience = None if guardian.deadline is None else max(0.0, guardian.deadline - time.monotonic())
-        if not select.select([tool], [], [], patience)[0]:
-            guardian.end_hold(is_late=True)
-            continue
-        try:
-            packet, descriptors, _, _ = socket.recv_fds(tool, PACKET, 4)
-        except OSError:
-            return
+        packet, descriptors, _, _ = socket.recv_fds(tool, PACKET, 4)
         if not packet:
             return
         try:
             answer = guardian.take(json.loads(packet), descriptors)
-        except (ValueError, KeyError, IndexError, TypeError, OSError) as error:
+        except OSError as error:
+            answer = error.strerror or str(error)
+        except (ValueError, KeyError, IndexError, TypeError) as error:
             answer = f"the guardian can't do that: {error}"
         for descriptor in descriptors:
             os.close(descriptor)
-        try:
-            tool.send(answer.encode("utf-8", "replace"))
-        except OSError:
-            return  # the tool ended between order and answer
+        tool.send(answer.encode("utf-8", "replace"))
 
 
 def await_standby(number: int) -> None:
@@ -473,14 +407,18 @@ def await_standby(number: int) -> None:
 
 
 def main() -> int:
-    """Starts the standby, and serves the tool: words are its number, its pidfd, and the tools' folder."""
+    """Starts the standby, and serves the tool: words are its pidfd and the tools' folder."""
     for each in (signal.SIGINT, signal.SIGTERM, signal.SIGHUP, signal.SIGQUIT, signal.SIGPIPE, signal.SIGTSTP):
         signal.signal(each, signal.SIG_IGN)
-    number, pidfd, folder = int(sys.argv[1]), int(sys.argv[2]), sys.argv[3]
+    pidfd, folder = int(sys.argv[1]), sys.argv[2]
     leave_groups()
     ours, theirs = socket.socketpair(socket.AF_UNIX, socket.SOCK_SEQPACKET)
     tool = socket.socket(fileno=0)
-    standby = os.fork()
+    try:
+        standby = os.fork()
+    except OSError as error:
+        tool.send(f"the guardian can't start its standby: {error.strerror}".encode())
+        return 1
     if standby == 0:
         os.setsid()
         ours.close()
@@ -488,15 +426,15 @@ def main() -> int:
         os.open(os.devnull, os.O_RDONLY)  # descriptor 0
         return stand_by(theirs, pidfd, folder)
     theirs.close()
-    own = {number: "this tool", os.getpid(): "the tool's guardian", standby: "the guardian's standby"}
-    guardian = Guardian(folder, own, ours)
-    serve(tool, guardian)
-    problems = guardian.end()
-    for problem in problems:
-        print(f"guardian: {problem}", file=sys.stderr, flush=True)
+    guardian = Guardian(folder)
+    with suppress(OSError):  # the tool ended between order and answer
+        serve(tool, guardian)
+    status = report(guardian.end())
+    with suppress(OSError):
+        ours.send(b"done")
     ours.close()
     await_standby(standby)
-    return 1 if problems else 0
+    return status
 
 
 if __name__ == "__main__":

@@ -4,7 +4,7 @@ from __future__ import annotations
 
 import re
 from dataclasses import dataclass, field
-from typing import Iterator, List, Optional, Protocol, Sequence
+from typing import Iterator, Protocol, Sequence
 
 from .errors import InputFault
 from .files import PMD_ORDER
@@ -21,7 +21,7 @@ class Event:
 
     caller: int
     word: str
-    page: Optional[int] = None
+    page: int | None = None
     first: int = 0
     count: int = 0
     outcome: str = ""  # stays, queued, freed; empty where a line has none
@@ -75,8 +75,8 @@ class NodeJournal:
 
     blocks: int
     order: int = PMD_ORDER
-    underused: Optional[int] = None
-    events: List[Event] = field(default_factory=list)
+    underused: int | None = None
+    events: list[Event] = field(default_factory=list)
 
     @property
     def fills(self) -> bool:
@@ -100,7 +100,7 @@ class Node(Protocol):
         """The order of its pages."""
 
     @property
-    def underused(self) -> Optional[int]:
+    def underused(self) -> int | None:
         """The threshold of zero-filled subpages; None: off."""
 
     @property
@@ -130,12 +130,12 @@ def journal_text(nodes: Sequence[Node]) -> str:
     return "".join(f"{line}\n" for line in journal_lines(nodes))
 
 
-def journal_of(text: str) -> List[NodeJournal]:
+def journal_of(text: str) -> list[NodeJournal]:
     """Returns the nodes of a journal's text. InputFault where it isn't one; its legality is not checked."""
     lines = text.split("\n")
     if not re.fullmatch("thp-journal [123]", lines[0]) or lines[-2:] != ["end", ""]:
         raise InputFault("this is no journal")
-    nodes: List[NodeJournal] = []
+    nodes: list[NodeJournal] = []
     for number, line in enumerate(lines[1:-2], 2):
         try:
             if line.startswith("node "):

@@ -6,15 +6,18 @@ import os
 import re
 import shutil
 import subprocess
+from contextlib import suppress
 from dataclasses import dataclass
+from functools import lru_cache
 from pathlib import Path
-from typing import IO, Dict, List, Optional, Sequence, Union
+from typing import IO, Sequence, Union
 
 from .errors import InputFault, RunFailed, Unavailable
+from .files import read_input
 from .journal import NodeJournal, journal_of
 from .keeper import FOLDER, open_folder
 from .text import escape, text_lines
-from .user import command_of, nobody
+from .user import give_up_rights, user_without_rights
 
 HERE = Path(__file__).resolve().parent
 CRATES = HERE.parent.parent / "crates"
@@ -41,12 +44,12 @@ class Verdict:
     explain an illegal one, where the check has such."""
 
     legal: bool
-    line: Optional[int]
+    line: int | None
     text: str
     why: str = ""
 
 
-def find(name: str, built: Path, given: Optional[str] = None) -> Optional[str]:
+def find(name: str, built: Path, given: str | None = None) -> str | None:
     """Returns the program of a name: the path given, the one that the environment names ($THPSPLIT, $THPCHECK), the one
     built in this repository or installed beside the tools, or the one on the path. None: there is none. Unavailable
     where one that is named isn't there."""
@@ -64,7 +67,7 @@ def find(name: str, built: Path, given: Optional[str] = None) -> Optional[str]:
     return os.path.abspath(found) if found else None
 
 
-def find_program(given: Optional[str] = None) -> str:
+def find_program(given: str | None = None) -> str:
     """Returns the path of `thpsplit`, as `find` looks for it; Unavailable where there is none."""
     found = find("thpsplit", BUILT, given)
     if not found:
@@ -73,30 +76,48 @@ def find_program(given: Optional[str] = None) -> str:
 
 
 Stream = Union[int, IO[bytes], None]
-ENVIRONMENT = {"PATH": os.defpath, "LC_ALL": "C.UTF-8"}  # of the programs that run as nobody: nothing of root's
+ENVIRONMENT = {"PATH": os.defpath, "LC_ALL": "C.UTF-8"}  # of the programs that run without rights: nothing of root's
+MFD_EXEC = 0x10  # include/uapi/linux/memfd.h, from Linux 6.3 on
 
 
 def start(
     path: str, options: Sequence[str], stdin: Stream = None, stdout: Stream = None, stderr: Stream = None,
     inherited: Sequence[int] = (),
 ) -> subprocess.Popen[bytes]:
-    """Starts a program that needs no rights: where this tool is root, as user nobody, in an empty folder. It inherits these
-    descriptors. Unavailable where it can't be run."""
-    user = nobody()
-    descriptors: List[int] = []
+    """Starts a program that needs no rights, in an empty folder: where this tool is root, as a user without any right. It
+    inherits these descriptors. Unavailable where it can't be run."""
+    user = user_without_rights()
     try:
-        word, descriptors = command_of(path, user)
+        image = [] if user.is_caller else [open_image(path)]
         return subprocess.Popen(
-            [word, *options], stdin=stdin, stdout=stdout, stderr=stderr, cwd=empty_folder(), pass_fds=[*descriptors, *inherited],
-            env=ENVIRONMENT, **user.rights(),
+            [path, *options], executable=f"/proc/self/fd/{image[0]}" if image else path, stdin=stdin, stdout=stdout,
+            stderr=stderr, cwd=empty_folder(), pass_fds=[*image, *inherited], env=ENVIRONMENT, preexec_fn=give_up_rights,
+            **user.rights(),
         )
     except (OSError, ValueError) as error:
         reason = getattr(error, "strerror", None) or str(error)
-        rights = "" if user.is_caller else " as user nobody (CAP_SETUID, CAP_SETGID)"
+        rights = "" if user.is_caller else " as a user without rights (CAP_SETUID, CAP_SETGID)"
         raise Unavailable(f"{escape(path)} can't be run{rights}: {reason}") from error
+
+
+@lru_cache(maxsize=None)
+def open_image(path: str) -> int:
+    """Returns the descriptor by which a program is started: of a copy that its user may run and can't read, so the kernel lets
+    no other process trace it (ptrace(2), PR_SET_DUMPABLE). A script's interpreter has to read it: the file itself."""
+    data = read_input(path)
+    if data.startswith(b"#!"):
+        return os.open(path, os.O_RDONLY | os.O_CLOEXEC)
+    try:
+        copy = os.memfd_create("program", os.MFD_CLOEXEC | MFD_EXEC)
+    except OSError:
+        copy = os.memfd_create("program", os.MFD_CLOEXEC)
+    try:
+        os.fchmod(copy, 0o711)
+        with open(copy, "wb", closefd=False) as file:
+            file.write(data)
+        return os.open(f"/proc/self/fd/{copy}", os.O_PATH | os.O_CLOEXEC)  # by which nobody reads or writes it
     finally:
-        for each in descriptors:
-            os.close(each)
+        os.close(copy)
 
 
 def empty_folder() -> str:
@@ -105,19 +126,18 @@ def empty_folder() -> str:
         return "/"
     open_folder(FOLDER)
     path = f"{FOLDER}/empty"
-    try:
+    with suppress(FileExistsError):
         os.mkdir(path, 0o555)
-    except FileExistsError:
-        pass
     return path
 
 
-def call(path: str, options: Sequence[str], text: str) -> subprocess.CompletedProcess[str]:
-    """Runs a program on a text, and returns what it wrote."""
-    pipe = subprocess.PIPE
-    child = start(path, options, pipe, pipe, pipe)
+def call(path: str, options: Sequence[str], given: str | int) -> subprocess.CompletedProcess[str]:
+    """Runs a program on a text or an open file, from its start, and returns what it wrote."""
+    if isinstance(given, int):
+        os.lseek(given, 0, os.SEEK_SET)
+    child = start(path, options, given if isinstance(given, int) else subprocess.PIPE, subprocess.PIPE, subprocess.PIPE)
     try:
-        out, problems = child.communicate(text.encode("utf-8", "surrogateescape"))
+        out, problems = child.communicate(None if isinstance(given, int) else given.encode("utf-8", "surrogateescape"))
     except BaseException:
         child.kill()
         child.wait()
@@ -126,41 +146,28 @@ def call(path: str, options: Sequence[str], text: str) -> subprocess.CompletedPr
     return subprocess.CompletedProcess([path, *options], child.returncode, *texts)
 
 
-def check(path: str, options: Sequence[str], journal: str) -> Verdict:
-    """Returns whether a journal's text is legal, by a program that checks it with these options."""
+def check(path: str, options: Sequence[str], journal: str | int) -> Verdict:
+    """Returns whether a journal, as a text or an open file, is legal, by a program that checks it with these options. RunFailed
+    where the program gives no verdict."""
     done = call(path, options, journal)
     output = (done.stdout or done.stderr).strip()
     found = re.fullmatch(r"illegal line ([0-9]{1,18})", output) if done.returncode == 1 else None
-    line = int(found[1]) if found else None
-    if done.returncode not in (0, 1, 2) or (done.returncode == 1 and line is None):
+    if done.returncode not in (0, 1, 2) or (done.returncode == 1 and not found):
         raise RunFailed(f"{escape(path)} ended with status {done.returncode}: {escape(output)[:200]}")
-    return Verdict(done.returncode == 0, line, output, done.stderr.strip() if line else "")
+    return Verdict(done.returncode == 0, int(found[1]) if found else None, output, done.stderr.strip() if found else "")
 
 
 class Program:
     """The program at a path, by default the one that `find_program` finds."""
 
-    def __init__(self, path: Optional[str] = None) -> None:
+    def __init__(self, path: str | None = None) -> None:
         self.path = find_program(path)
 
     def report(self, kind: str, text: str, options: Sequence[str] = ()) -> str:
         """Returns a report on a script: `totals`, `answers` or `journal`. TextError where the script has an error."""
         return self._run([*options, "--report", kind], text)
 
-    def totals(self, text: str, options: Sequence[str] = ()) -> List[Dict[str, int]]:
-        """Returns the totals of each node by their names."""
-        nodes: List[Dict[str, int]] = []
-        try:
-            for line in text_lines(self.report("totals", text, options)):
-                name, value = line.split(" ")
-                if name == "node":
-                    nodes.append({})
-                nodes[-1][name] = int(value)
-        except (ValueError, IndexError) as error:
-            raise RunFailed(f"{escape(self.path)} writes no totals") from error
-        return nodes
-
-    def answers(self, text: str, options: Sequence[str] = ()) -> List[Answer]:
+    def answers(self, text: str, options: Sequence[str] = ()) -> list[Answer]:
         """Returns the answers of all commands, in order."""
         split = (line.split(" ", 2) for line in text_lines(self.report("answers", text, options)))
         try:
@@ -168,12 +175,12 @@ class Program:
         except ValueError as error:
             raise RunFailed(f"{escape(self.path)} writes no answers") from error
 
-    def journal(self, text: str, options: Sequence[str] = ()) -> List[NodeJournal]:
+    def journal(self, text: str, options: Sequence[str] = ()) -> list[NodeJournal]:
         """Returns the journals of all nodes."""
         return journal_of(self.report("journal", text, options))
 
-    def check(self, journal: str) -> Verdict:
-        """Returns whether a journal's text is legal."""
+    def check(self, journal: str | int) -> Verdict:
+        """Returns whether a journal, as a text or an open file, is legal."""
         return check(self.path, ["--check"], journal)
 
     def _run(self, options: Sequence[str], text: str) -> str:

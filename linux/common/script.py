@@ -6,20 +6,26 @@ examples/), or in words given.
 
 from __future__ import annotations
 
-import argparse
+import os
 import re
+import stat
 from dataclasses import dataclass
 from pathlib import Path
-from typing import List, NoReturn, Optional, Sequence
+from typing import Any, Callable, Sequence
 
-from .arguments import whole
+from .arguments import parse_pairs, whole, wholes
 from .errors import InputFault
 from .files import PMD_ORDER, read_input
-from .text import text_lines
+from .text import escape, text_lines
 
 MARK = "# thpsplit "
 MOST_NODES, MOST_BLOCKS, MOST_WORKERS, LEAST_ORDER = 8, 4096, 63, 2  # docs/FORMATS.md
-
+MOST_SETTINGS = 1 << 16  # bytes of NAME.args
+OPTIONS: dict[str, Callable[[str], Any]] = {
+    "nodes": whole(1, MOST_NODES), "blocks": whole(1, MOST_BLOCKS), "workers": whole(1, MOST_WORKERS),
+    "orders": wholes(LEAST_ORDER, PMD_ORDER), "underused": wholes(0, (1 << PMD_ORDER) - 1, "off"), "report": str,
+}
+_SETTINGS = "settings of a script"
 _NUMBER = re.compile("[0-9]{1,20}")
 
 
@@ -31,9 +37,9 @@ class Options:
     blocks: int = 16
     workers: int = 1
     orders: Sequence[int] = (PMD_ORDER,)
-    underused: Sequence[Optional[int]] = (None,)
+    underused: Sequence[int | None] = (None,)
 
-    def words(self) -> List[str]:
+    def words(self) -> list[str]:
         """Returns the words of the command line."""
         switches = ["off" if threshold is None else str(threshold) for threshold in self.underused]
         out = ["--nodes", str(self.nodes), "--blocks", str(self.blocks), "--workers", str(self.workers)]
@@ -44,38 +50,17 @@ class Options:
         return out
 
 
-class _Words(argparse.ArgumentParser):
-    def error(self, message: str) -> NoReturn:
-        raise InputFault(f"settings of a script: {message}")
-
-
-def _number(text: str, high: int) -> int:
-    number = int(text) if _NUMBER.fullmatch(text) else high + 1
-    if number > high:
-        raise InputFault(f"settings of a script: {text[:40]!r} is no number up to {high}")
-    return number
-
-
 def options_of(words: Sequence[str]) -> Options:
     """Returns the settings in words of a command line; --report has no meaning here. InputFault where they can't be
     used."""
-    parser = _Words(add_help=False, allow_abbrev=False)
-    for name, default, most in (("nodes", 1, MOST_NODES), ("blocks", 16, MOST_BLOCKS), ("workers", 1, MOST_WORKERS)):
-        parser.add_argument(f"--{name}", type=whole(1, most), default=default)
-    for name in ("orders", "underused", "report"):
-        parser.add_argument(f"--{name}")
-    parser.add_argument("--check", action="store_true")
-    parsed = parser.parse_args(list(words))
-    if parsed.check:
-        raise InputFault("settings of a script: --check reads a journal")
-    orders = [_number(text, PMD_ORDER) for text in parsed.orders.split(",")] if parsed.orders else [PMD_ORDER] * parsed.nodes
-    switches = parsed.underused.split(",") if parsed.underused else ["off"] * parsed.nodes
-    if len(orders) != parsed.nodes or len(switches) != parsed.nodes:
-        raise InputFault("settings of a script: a list is as long as there are nodes")
-    if min(orders) < LEAST_ORDER:
-        raise InputFault(f"settings of a script: orders are {LEAST_ORDER} to {PMD_ORDER}")
-    underused = [None if text == "off" else _number(text, (1 << order) - 1) for text, order in zip(switches, orders)]
-    return Options(parsed.nodes, parsed.blocks, parsed.workers, tuple(orders), tuple(underused))
+    values = parse_pairs(words, OPTIONS, _SETTINGS)
+    nodes = values.get("nodes", 1)
+    orders, underused = values.get("orders", [PMD_ORDER] * nodes), values.get("underused", [None] * nodes)
+    if len(orders) != nodes or len(underused) != nodes:
+        raise InputFault(f"{_SETTINGS}: a list is as long as there are nodes")
+    if any(switch is not None and switch >= 1 << order for order, switch in zip(orders, underused)):
+        raise InputFault(f"{_SETTINGS}: a threshold is less than the subpages of a page")
+    return Options(nodes, values.get("blocks", 16), values.get("workers", 1), tuple(orders), tuple(underused))
 
 
 @dataclass(frozen=True)
@@ -94,7 +79,7 @@ class Script:
     text: str
     options: Options
 
-    def commands(self) -> List[Command]:
+    def commands(self) -> list[Command]:
         """Returns the commands in order. InputFault where a section has no number; `thpsplit` finds all other faults
         of a text."""
         out, section = [], 0
@@ -126,13 +111,28 @@ def _text_of(path: str) -> str:
         return read_input(path).decode("ascii")
     except UnicodeDecodeError as error:
         byte = error.object[error.start]
-        raise InputFault(f"{path} is no script: byte {byte:#04x} at offset {error.start} isn't ASCII") from error
+        raise InputFault(f"{escape(path)} is no script: byte {byte:#04x} at offset {error.start} isn't ASCII") from error
+
+
+def _settings_beside(path: str) -> list[str]:
+    """Returns the words of `NAME.args`. InputFault where it is no regular file of the script's owner: a link may refer to a
+    file that only the caller can read."""
+    try:
+        descriptor = os.open(f"{path}.args", os.O_RDONLY | os.O_NOFOLLOW | os.O_NONBLOCK | os.O_NOCTTY | os.O_CLOEXEC)
+        with open(descriptor, "rb") as file:
+            found = os.fstat(descriptor)
+            if not stat.S_ISREG(found.st_mode) or found.st_uid != os.stat(path).st_uid:
+                raise InputFault(f"{escape(path)}.args is no regular file of the script's owner")
+            return file.read(MOST_SETTINGS).decode("ascii", "replace").split()
+    except FileNotFoundError:
+        return []
+    except (OSError, ValueError) as error:
+        reason = getattr(error, "strerror", None) or str(error)
+        raise InputFault(f"{escape(path)}.args can't be read: {reason}") from error
 
 
 def read_script(path: str, given: Sequence[str] = ()) -> Script:
     """Reads a script from a file, with the settings beside it, or from standard input (`-`)."""
-    beside = f"{path}.args"
     if path == "-":
         return script_of("standard-input", _text_of(path), given)
-    words = _text_of(beside).split() if Path(beside).exists() else []
-    return script_of(Path(path).name, _text_of(path), [*words, *given])
+    return script_of(Path(path).name, _text_of(path), [*_settings_beside(path), *given])

@@ -2,7 +2,7 @@
 
 from __future__ import annotations
 
-from typing import List, Union
+from typing import Union
 
 _SHOWN = [chr(byte) if 32 <= byte < 127 else f"\\x{byte:02x}" for byte in range(256)]
 _SHOWN[ord("\\")] = "\\\\"
@@ -25,7 +25,7 @@ def is_from_bytes(text: str) -> bool:
     return all(not 0xD800 <= ord(letter) < 0xE000 or 0xDC80 <= ord(letter) <= 0xDCFF for letter in text)
 
 
-def lines(data: bytes) -> List[bytes]:
+def lines(data: bytes) -> list[bytes]:
     """Splits bytes at line feeds alone; a last line feed begins no line."""
     out = data.split(b"\n")
     if not out[-1]:
@@ -33,7 +33,7 @@ def lines(data: bytes) -> List[bytes]:
     return out
 
 
-def text_lines(text: str) -> List[str]:
+def text_lines(text: str) -> list[str]:
     """Splits a text at line feeds alone; a last line feed begins no line."""
     out = text.split("\n")
     if not out[-1]:

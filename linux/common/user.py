@@ -1,20 +1,28 @@
-"""The users as whom other programs are run: the caller of `sudo`, a named one, or nobody."""
+"""The users as whom other programs are run: the caller of `sudo`, a named one, or one without any right."""
 
 from __future__ import annotations
 
+import ctypes
+import glob
+import grp
 import os
 import pwd
 import re
 import resource
-import stat
+from contextlib import suppress
 from dataclasses import dataclass
-from pathlib import Path
-from typing import Any, Dict, List, Optional, Tuple
+from functools import lru_cache
+from typing import Any
 
 from .errors import InputFault, Unavailable
+from .files import read
 from .text import escape
 
-NOBODY = 65534  # of Debian's base-passwd
+NOBODY = 65534  # of Debian's base-passwd: many programs run as this user, so no program of these tools does
+UNUSED = range(0x78000000, 0x7FFE0000)  # above SSSD's and shadow's numbers, below systemd's foreign ones
+TRIES = 100
+PR_SET_NO_NEW_PRIVS = 38  # include/uapi/linux/prctl.h
+_LIBC = ctypes.CDLL(None)
 
 
 @dataclass(frozen=True)
@@ -23,7 +31,7 @@ class User:
 
     number: int
     group: int
-    groups: List[int]
+    groups: list[int]
     name: str
     home: str
 
@@ -40,11 +48,11 @@ class User:
             os.setresuid(self.number, self.number, self.number)
         resource.setrlimit(resource.RLIMIT_CORE, (0, resource.getrlimit(resource.RLIMIT_CORE)[1]))
 
-    def rights(self) -> Dict[str, Any]:
+    def rights(self) -> dict[str, Any]:
         """Returns the words of subprocess.Popen by which a program runs as this user."""
         return {} if self.is_caller else {"user": self.number, "group": self.group, "extra_groups": self.groups}
 
-    def environment(self) -> Dict[str, str]:
+    def environment(self) -> dict[str, str]:
         """Returns the environment of the user's programs: the caller's, with this user's name and home."""
         out = {name: value for name, value in os.environ.items() if not name.startswith("SUDO_")}
         if not self.is_caller:
@@ -52,12 +60,7 @@ class User:
         return out
 
 
-def _user(found: pwd.struct_passwd) -> User:
-    groups = os.getgrouplist(found.pw_name, found.pw_gid)
-    return User(found.pw_uid, found.pw_gid, groups, found.pw_name, found.pw_dir)
-
-
-def user_for(name: Optional[str]) -> User:
+def user_for(name: str | None) -> User:
     """Returns the user of a name or number; without one, the caller of `sudo`, or the caller. InputFault where there is
     no such user, Unavailable where the caller may not run programs as another user."""
     given = name if name is not None else os.environ.get("SUDO_UID") if os.geteuid() == 0 else None
@@ -70,31 +73,53 @@ def user_for(name: Optional[str]) -> User:
             found = pwd.getpwnam(given)
     except (KeyError, ValueError) as error:
         raise InputFault(f"no user {escape(given or str(os.geteuid()))[:40]}") from error
-    user = _user(found)
-    if os.geteuid() not in (0, user.number):
-        raise Unavailable(f"not root: programs can't be run as {user.name}")
-    return user
+    if os.geteuid() not in (0, found.pw_uid):
+        raise Unavailable(f"not root: programs can't be run as {found.pw_name}")
+    groups = os.getgrouplist(found.pw_name, found.pw_gid)
+    return User(found.pw_uid, found.pw_gid, groups, found.pw_name, found.pw_dir)
 
 
-def nobody() -> User:
-    """Returns the user without any rights, or the caller where this tool isn't root."""
+@lru_cache(maxsize=None)
+def user_without_rights() -> User:
+    """Returns the user of this run's programs: no account and no process has its number, so nobody can signal them. The
+    caller where this tool isn't root. Unavailable where there is no such number."""
     if os.geteuid() != 0:
         return User(os.geteuid(), os.getegid(), [], "", "/")
-    return User(NOBODY, NOBODY, [], "nobody", "/nonexistent")
+    high = min(UNUSED.stop, _count_mapped("uid"), _count_mapped("gid"))
+    low = max(high - len(UNUSED), high // 2)  # a user namespace may have few numbers
+    used = _numbers_of_processes()
+    for _ in range(TRIES):
+        number = low + int.from_bytes(os.urandom(8), "little") % (high - low)
+        if number not in used and not _has_account(number):
+            return User(number, number, [], "", "/")
+    raise Unavailable("no number of a user is unused here")
 
 
-def is_reachable(path: str) -> bool:
-    """Returns whether everybody may search all folders above a file."""
-    try:
-        return all(os.stat(folder).st_mode & stat.S_IXOTH for folder in Path(path).resolve().parents)
-    except OSError:
-        return False
+def _count_mapped(kind: str) -> int:
+    """Returns the end of the numbers of users or groups that this user namespace has."""
+    lines = [line.split() for line in read(f"/proc/self/{kind}_map").splitlines()]
+    return max(int(first) + int(count) for first, _, count in lines)
 
 
-def command_of(path: str, user: User) -> Tuple[str, List[int]]:
-    """Returns how a user can start the program at a path: its words' first, and the descriptors to pass on, which the caller
-    closes afterwards. A program in a folder that the user can't search is started by its descriptor."""
-    if user.is_caller or is_reachable(path):
-        return path, []
-    descriptor = os.open(path, os.O_RDONLY | os.O_CLOEXEC)
-    return f"/proc/self/fd/{descriptor}", [descriptor]
+def _numbers_of_processes() -> set[int]:
+    """Returns the numbers of users and groups that processes have."""
+    found: set[int] = set()
+    for path in glob.iglob("/proc/[0-9]*/status"):
+        with suppress(OSError):  # it has ended
+            for numbers in re.findall(r"^(?:[UG]id|Groups):(.*)$", read(path), re.MULTILINE):
+                found.update(map(int, numbers.split()))
+    return found
+
+
+def _has_account(number: int) -> bool:
+    for find in (pwd.getpwuid, grp.getgrgid):
+        with suppress(KeyError):
+            find(number)
+            return True
+    return False
+
+
+def give_up_rights() -> None:
+    """Has this process gain no right by any program, and write no core file. To be called in a child."""
+    _LIBC.prctl(PR_SET_NO_NEW_PRIVS, 1, 0, 0, 0)
+    resource.setrlimit(resource.RLIMIT_CORE, (0, 0))

@@ -5,7 +5,7 @@ from __future__ import annotations
 from dataclasses import dataclass
 from typing import IO, Sequence
 
-from ..common.checker import JournalChecker, check_file
+from ..common.checker import JournalChecker
 from ..common.errors import RunFailed
 from ..common.journal import Node, journal_lines
 from ..common.text import escape, text_lines
@@ -58,7 +58,7 @@ def check_journal(journal: JournalFile, events: int, by: JournalChecker) -> Jour
     """Checks a journal; an empty one isn't legal. RunFailed where the checker doesn't accept it."""
     if not events:
         return JournalVerdict(False, "empty: no huge page was followed")
-    verdict = check_file(by, journal.descriptor)
+    verdict = by.check(journal.descriptor)
     if not verdict.legal and verdict.line is None:
         raise RunFailed(f"{escape(by.path)} doesn't take the journal of {journal.size} bytes: {escape(verdict.text)}")
     line = f": {journal.line(verdict.line)}" if verdict.line and not verdict.why else ""

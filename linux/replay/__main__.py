@@ -7,7 +7,7 @@ import json
 import os
 import sys
 from collections import Counter as Tallies
-from typing import Dict, List, NoReturn, Optional, Set
+from typing import NoReturn
 
 from ..common.errors import DIFFERS, DONE, INCONCLUSIVE, Busy, InputFault, RunFailed, Unavailable, status_of
 from ..common.files import OwnFolder
@@ -29,7 +29,7 @@ class Folder:
 
     def __init__(self, path: str) -> None:
         self._folder = OwnFolder(path)
-        self._used: Set[str] = set()
+        self._used: set[str] = set()
 
     def stem(self, name: str) -> str:
         """Returns a name that no script of the run had before."""
@@ -52,11 +52,11 @@ class Sums:
     def __init__(self, options: argparse.Namespace) -> None:
         self._keep = Folder(options.keep) if options.keep else None
         self._store = Folder(options.store) if options.store else None
-        self.results: Dict[Result, int] = Tallies()
-        self._letters: Dict[str, int] = Tallies()
-        self._reasons: Dict[str, int] = Tallies()
+        self.results: dict[Result, int] = Tallies()
+        self._letters: dict[str, int] = Tallies()
+        self._reasons: dict[str, int] = Tallies()
 
-    def add(self, script: Script, outcome: Outcome, small: Optional[SmallScript], looks: Optional[List[Observation]]) -> None:
+    def add(self, script: Script, outcome: Outcome, small: SmallScript | None, looks: list[Observation] | None) -> None:
         """Counts an outcome, and writes the files that were asked for."""
         self.results[outcome.result] += 1
         for letter in outcome.known:
@@ -74,7 +74,7 @@ class Sums:
             head = "" if script.text.startswith(MARK) else f"{MARK}{' '.join(script.options.words())}\n"
             self._store.write(f"{name}.script", head + script.text)
 
-    def lines(self, sums: Dict[str, int]) -> List[SumLine]:
+    def lines(self, sums: dict[str, int]) -> list[SumLine]:
         """Returns the sums: how many, and of what."""
         lines = [(self.results[result], result.value) for result in Result]
         lines += [(many, f"with known difference {letter}") for letter, many in sorted(self._letters.items())]

@@ -5,7 +5,7 @@ from __future__ import annotations
 import os
 import resource
 from dataclasses import dataclass
-from typing import Dict, List, Optional
+
 
 from ..common.files import COLLAPSE_SLEEP, PMD_ORDER, PTES_NONE, SWITCH, size_folder
 from ..common.groups import Groups
@@ -27,7 +27,7 @@ class Server:
 
     path: str
     process: Mapper
-    group: Optional[int]
+    group: int | None
 
 
 def allow_descriptors() -> None:
@@ -39,16 +39,16 @@ def allow_descriptors() -> None:
 class Bench:
     """Made once; prepared for each script. `shrinker`: the file by which exactly so many pages are scanned, if that is asked."""
 
-    def __init__(self, keeper: Keeper, memory: Optional[KernelMemory], scans_exactly: bool = False) -> None:
+    def __init__(self, keeper: Keeper, memory: KernelMemory | None, scans_exactly: bool = False) -> None:
         allow_descriptors()
         self._keeper = keeper
         self.memory = memory
         keeper.set(COLLAPSE_SLEEP, QUIET)
         self.frames = Frames()
         self.groups = Groups(keeper, "thpreplay")
-        self.shrinker: Optional[ShrinkerFile] = find_shrinker(self.groups.version) if scans_exactly else None
+        self.shrinker: ShrinkerFile | None = find_shrinker(self.groups.version) if scans_exactly else None
         self.mappers = Mappers(keeper)
-        self.servers: List[Server] = []
+        self.servers: list[Server] = []
         self._groups_made = 0
 
     def renew(self) -> None:
@@ -88,7 +88,7 @@ class Bench:
             process.enter(path)
             self.servers.append(Server(path, process, self.memory.group(path) if self.memory else None))
 
-    def queues(self, node: int) -> Optional[Dict[int, List[int]]]:
+    def queues(self, node: int) -> dict[int, list[int]] | None:
         """Returns the first frames of the pages in a node's queue, oldest first, by NUMA node where the kernel has a queue
         for each; None where queues aren't read."""
         group, memory = self.servers[node].group, self.memory

@@ -8,15 +8,16 @@ which ends the bisection: words or files that can't be used.
 from __future__ import annotations
 
 import argparse
-from typing import NoReturn, Optional, Sequence
+from typing import NoReturn, Sequence
 
-from ..common.arguments import OneLineParser
+from ..common.arguments import tool_parser
 from ..common.errors import InputFault, status_of
 from ..common.machine import kernel
 from ..common.script import Script, read_script
 from ..common.text import escape
 from ..common.tool import run_tool
 from .letters import Finding, LetterScript, Match, find_letter, look_on, read_letter
+from .options import add_common
 from .runner import Outcome, Result, RunComparer, Runner, print_line
 from .session import open_session
 
@@ -24,16 +25,13 @@ NAME = "thpbisect"
 GOOD, BAD, UNDECIDED, ENDED = 0, 1, 125, 128  # git-bisect(1)
 
 
-def parse_words(given: Optional[Sequence[str]] = None) -> argparse.Namespace:
+def parse_words(given: Sequence[str] | None = None) -> argparse.Namespace:
     """Returns the options of a command line, by default this process's own."""
-    form = argparse.RawDescriptionHelpFormatter
-    parser = OneLineParser(prog=NAME, description=__doc__, formatter_class=form)
+    parser = tool_parser(NAME, __doc__)
     subject = parser.add_mutually_exclusive_group(required=True)
     subject.add_argument("--letter", metavar="X", help="a known difference that has a script in linux/letters")
     subject.add_argument("--script", metavar="FILE", help="a script, for example a smallest one of thpreplay --keep")
-    parser.add_argument("--program", metavar="PATH", help="the thpsplit to compare with")
-    parser.add_argument("--no-memory", action="store_true", help="leave kernel memory, and so the queues, unread")
-    parser.add_argument("--wait", action="store_true", help="wait until another tool has ended")
+    add_common(parser)
     return parser.parse_args(given)
 
 
@@ -47,7 +45,7 @@ def judge_outcome(outcome: Outcome) -> int:
     return {Result.AGREES: GOOD, Result.DIFFERS: BAD}.get(outcome.result, UNDECIDED)
 
 
-def decide(options: argparse.Namespace, letter: Optional[LetterScript], script: Optional[Script]) -> int:
+def decide(options: argparse.Namespace, letter: LetterScript | None, script: Script | None) -> int:
     """Runs a letter's script or another one on this kernel, prints what it shows, and returns the status."""
     with open_session(NAME, options.program, not options.no_memory, options.wait) as session:
         if letter:
@@ -62,7 +60,7 @@ def decide(options: argparse.Namespace, letter: Optional[LetterScript], script: 
     return status
 
 
-def bisect(given: Optional[Sequence[str]] = None) -> int:
+def bisect(given: Sequence[str] | None = None) -> int:
     """Carries out a command line, and returns the status."""
     try:
         options = parse_words(given)

@@ -12,7 +12,7 @@ from __future__ import annotations
 
 import re
 from collections import Counter as Tallies
-from typing import Dict, List, Optional, Sequence, Set
+from typing import Sequence
 
 from ..common.counters import Counter, SizeCounter
 from ..common.files import PMD_ORDER
@@ -60,15 +60,15 @@ class Comparison:
     takes, the oldest."""
 
     def __init__(
-        self, states: Sequence[NodeState], known: Set[KnownDifference], small: Set[int], scans_exactly: bool = False
+        self, states: Sequence[NodeState], known: set[KnownDifference], small: set[int], scans_exactly: bool = False
     ) -> None:
         self._states, self._small, self._scans_exactly = states, small, scans_exactly
-        self._queues: List[List[int]] = [[] for _ in states]  # the kernel's, as they should be
-        self._numa_nodes: List[Dict[int, int]] = [{} for _ in states]  # NUMA nodes of queued pages, where a node has several lists
-        self._failed: Dict[int, int] = Tallies()  # failed splits by order, as they should be
+        self._queues: list[list[int]] = [[] for _ in states]  # the kernel's, as they should be
+        self._numa_nodes: list[dict[int, int]] = [{} for _ in states]  # NUMA nodes of queued pages, where a node has several lists
+        self._failed: dict[int, int] = Tallies()  # failed splits by order, as they should be
         self.known = set(known)
-        self.counters: Optional[CounterDifference] = None
-        self.sums: Dict[str, int] = Tallies()
+        self.counters: CounterDifference | None = None
+        self.sums: dict[str, int] = Tallies()
         self._where, self._word, self._number = "", "", 0
 
     def update(self, expected: ExpectedAnswer, observed: Observation) -> None:
@@ -110,7 +110,7 @@ class Comparison:
             self.known.add(KnownDifference.F)
         self._queues[expected.node] = rest + (queue[::-1] if passes % 2 else queue)
 
-    def _scan_lists(self, node: int, order: int, once: int, queue: List[int], observed: Observation) -> List[int]:
+    def _scan_lists(self, node: int, order: int, once: int, queue: list[int], observed: Observation) -> list[int]:
         """Returns the queue after a scan whose pages that stayed are on lists of several NUMA nodes, each with passes of its
         own, as many as fit the failed splits and the order."""
         lists, shown = (lists_of(pages, self._numa_nodes[node]) for pages in (queue, observed.queues[node] or []))
@@ -129,20 +129,20 @@ class Comparison:
         return join_lists({numa_node: pages if turned[numa_node] is False else pages[::-1] for numa_node, pages in lists.items()})
 
     @staticmethod
-    def _failed_total(order: int, observed: Observation) -> Optional[int]:
+    def _failed_total(order: int, observed: Observation) -> int | None:
         """Returns the kernel's count of failed splits of an order."""
         total = observed.counts.sizes[SizeCounter.SPLIT_FAILED, order]
         return observed.counts.machine[Counter.SPLIT_FAILED] if total is None and order == PMD_ORDER else total
 
     @staticmethod
-    def _is_turned(queue: List[int], observed: Optional[List[int]]) -> Optional[bool]:
+    def _is_turned(queue: list[int], observed: list[int] | None) -> bool | None:
         """Returns whether the kernel's queue has the pages that stayed in reverse order, which an odd number of passes
         leaves; None where the queue can't show it."""
         if observed is None or queue == queue[::-1] or observed not in (queue, queue[::-1]):
             return None
         return observed != queue
 
-    def _passes(self, order: int, once: int, queue: List[int], turned: Optional[bool], observed: Observation) -> int:
+    def _passes(self, order: int, once: int, queue: list[int], turned: bool | None, observed: Observation) -> int:
         """Returns how many passes a scan made: by the failed splits where they are counted and no counter differed
         before, else by the queue: an odd or even number."""
         by_queue = 1 if turned is None or turned else 2
@@ -184,10 +184,10 @@ class Comparison:
                     self._compare_page(node, f"page {number} of node {node}", page, observed.pages[node, number])
             self._compare_queue(node, state, observed.queues[node])
 
-    def _sum(self, name: str, order: Optional[int] = None) -> int:
+    def _sum(self, name: str, order: int | None = None) -> int:
         return sum(getattr(state.event_counts, name) for state in self._states if order in (None, state.order))
 
-    def _deferred(self, kernel: Optional[int]) -> int:
+    def _deferred(self, kernel: int | None) -> int:
         """Returns how many pages of PMD size the kernel should have counted as deferred (A, G)."""
         least = self._sum("first_partly", PMD_ORDER) + self._sum("partly_by_split", PMD_ORDER)
         return min(max(least, kernel or 0), least + self._sum("perhaps_partly", PMD_ORDER))
@@ -246,7 +246,7 @@ class Comparison:
             if of >> i & 1:
                 require_equal(f"map count of {name}, subpage {i}", count, wanted)
 
-    def _compare_queue(self, node: int, state: NodeState, queue: Optional[List[int]]) -> None:
+    def _compare_queue(self, node: int, state: NodeState, queue: list[int] | None) -> None:
         if queue is None:
             return
         numa_nodes = self._numa_nodes[node]

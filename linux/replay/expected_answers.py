@@ -12,7 +12,7 @@ from __future__ import annotations
 
 import re
 from dataclasses import dataclass, replace
-from typing import Dict, List, Sequence, Set, Tuple
+from typing import Sequence
 
 from ..common.errors import InputFault
 from ..common.files import PMD_ORDER
@@ -55,7 +55,7 @@ class ExpectedAnswer:
     place: int
     words: Sequence[str]
     answer: str
-    events: Tuple[Event, ...]
+    events: tuple[Event, ...]
 
     @property
     def is_refused(self) -> bool:
@@ -71,10 +71,10 @@ class ExpectedRun:
     """What the kernel should do: by commands, under these options; the known differences that the run includes; the
     nodes whose pages aren't queued at their fault although the script's options ask for that."""
 
-    answers: List[ExpectedAnswer]
+    answers: list[ExpectedAnswer]
     options: Options
-    known: Set[KnownDifference]
-    small: Set[int]
+    known: set[KnownDifference]
+    small: set[int]
 
 
 def count_events(words: Sequence[str], answer: str) -> int:
@@ -83,13 +83,13 @@ def count_events(words: Sequence[str], answer: str) -> int:
         return 0
     if words[0] in ("scan", "take", "putback"):
         parts = answer.split()
-        numbers: Dict[str, int] = dict(zip(parts[::2], map(int, parts[1::2])))
+        numbers: dict[str, int] = dict(zip(parts[::2], map(int, parts[1::2])))
         tried = numbers["taken"] if words[0] == "scan" else 0
         return numbers.get("taken", 0) + tried + numbers.get("back", 0) + numbers.get("dropped", 0)
     return 1
 
 
-def read_expected_answers(steps: Sequence[Step], text: str, options: Options, program: Program) -> List[ExpectedAnswer]:
+def read_expected_answers(steps: Sequence[Step], text: str, options: Options, program: Program) -> list[ExpectedAnswer]:
     """Returns the program's answers and events of the steps of a text. InputFault where it has others."""
     answers = program.answers(text, options.words())
     if len(answers) != len(steps):
@@ -112,7 +112,7 @@ def expect_run(script: Script, program: Program) -> ExpectedRun:
     """Returns the run of a script that the kernel should show. Unsupported where workers share a node; TextError where
     the script has an error."""
     steps = [Step(i, command.section, command.words) for i, command in enumerate(script.commands(), 1)]
-    owners: Dict[str, int] = {}
+    owners: dict[str, int] = {}
     for step in steps:
         if step.section and owners.setdefault(" ".join(step.words[1:2]), step.section) != step.section:
             raise Unsupported("workers share a node: the kernel has no such schedule")
@@ -146,7 +146,7 @@ def _text(steps: Sequence[Step]) -> str:
     return "\n".join(lines) + "\n"
 
 
-def _without_underused(steps: Sequence[Step], answers: Sequence[ExpectedAnswer], options: Options) -> List[Step]:
+def _without_underused(steps: Sequence[Step], answers: Sequence[ExpectedAnswer], options: Options) -> list[Step]:
     """Returns the steps, with one subpage written around the first command that splits or tries an underused page at
     511.
 
@@ -167,7 +167,7 @@ def _without_underused(steps: Sequence[Step], answers: Sequence[ExpectedAnswer],
     return out
 
 
-def _around(steps: List[Step], pages: List[int], answers: ExpectedAnswer) -> List[Step]:
+def _around(steps: list[Step], pages: list[int], answers: ExpectedAnswer) -> list[Step]:
     """Returns the steps from a scan or take on; after it (or its putback) the subpage is zero again."""
     node, section = answers.words[1], steps[0].section
     end = 1
@@ -178,9 +178,9 @@ def _around(steps: List[Step], pages: List[int], answers: ExpectedAnswer) -> Lis
     return writes + steps[:end] + zeros + steps[end:]
 
 
-def fold_batches(answers: List[ExpectedAnswer]) -> List[ExpectedAnswer]:
+def fold_batches(answers: list[ExpectedAnswer]) -> list[ExpectedAnswer]:
     """Replaces each batch that is taken, tried to its end and put back without another command by the equivalent scan."""
-    out: List[ExpectedAnswer] = []
+    out: list[ExpectedAnswer] = []
     at = 0
     while at < len(answers):
         end = _end_of_batch(answers, at)
@@ -195,7 +195,7 @@ def fold_batches(answers: List[ExpectedAnswer]) -> List[ExpectedAnswer]:
     return out
 
 
-def _end_of_batch(answers: List[ExpectedAnswer], start: int) -> int:
+def _end_of_batch(answers: list[ExpectedAnswer], start: int) -> int:
     """Returns the place after the putback of the batch that begins here, or `start` where no such batch begins."""
     first = answers[start]
     if first.words[0] != "take" or first.is_refused:

@@ -4,14 +4,13 @@ from __future__ import annotations
 
 import random
 from dataclasses import dataclass, field
-from typing import Callable, Dict, Iterator, List, Optional, Sequence, Tuple
+from typing import Callable, Iterator, Sequence
 
 from ..common.files import PMD_ORDER
 from ..common.script import Options, Script, script_of
 from ..common.subpages import bits_of, runs
 
 MOST_PAGES = 12  # live pages of a node, 2 MiB each
-OFF = "off"
 
 
 @dataclass(frozen=True)
@@ -20,7 +19,7 @@ class Shape:
 
     nodes: Sequence[int] = (1, 1, 1, 2, 4)
     orders: Sequence[int] = (9, 9, 9, 2, 3, 4, 5, 6, 7, 8)
-    thresholds: Sequence[str] = (OFF,)
+    thresholds: Sequence[int | None] = (None,)
     length: int = 40  # commands at most, a few more where one step is several
     scans_parts: bool = False  # of a queue
 
@@ -31,7 +30,7 @@ class Sketch:
 
     subpages: int
     whole: int = 1
-    parts: List[int] = field(default_factory=list)
+    parts: list[int] = field(default_factory=list)
     pins: int = 0
     shared: bool = False
     split: bool = False
@@ -53,15 +52,15 @@ class Generator:
         self._nodes = chance.choice(shape.nodes)
         self._orders = [chance.choice(shape.orders) for _ in range(self._nodes)]
         switch = chance.choice(shape.thresholds)
-        if switch != OFF and int(switch) >= min(1 << order for order in self._orders):
+        if switch is not None and switch >= min(1 << order for order in self._orders):
             self._orders = [PMD_ORDER] * self._nodes
-        self._threshold: Optional[int] = None if switch == OFF else int(switch)
-        self._pages: List[List[Optional[Sketch]]] = [[] for _ in range(self._nodes)]
-        self._lines: List[str] = []
+        self._threshold = switch
+        self._pages: list[list[Sketch | None]] = [[] for _ in range(self._nodes)]
+        self._lines: list[str] = []
         self._scans = [MOST_PAGES, 64, 128] + ([1, 2, 3] if shape.scans_parts else [])
         self._length = chance.randint(8, shape.length)
         self._node = self._number = 0
-        self._kinds: Dict[str, Tuple[float, Callable[[Sketch], None]]] = {
+        self._kinds: dict[str, tuple[float, Callable[[Sketch], None]]] = {
             "partly": (5, self._partial_unmap),
             "splitpmd": (3, self._splitpmd),
             "unmap": (5, self._unmap),
@@ -106,7 +105,7 @@ class Generator:
     def _add(self, word: str, *operands: int, page: bool = True) -> None:
         self._lines.append(" ".join(map(str, [word, self._node, *([self._number] if page else []), *operands])))
 
-    def _range(self, low: int, count: int) -> Tuple[int, int]:
+    def _range(self, low: int, count: int) -> tuple[int, int]:
         """Returns a range inside the one given, often one that touches an end or has a round size."""
         chance = self._chance
         size = chance.choice([1, count // 2 or 1, count, chance.randint(1, count)])

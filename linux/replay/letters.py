@@ -17,7 +17,7 @@ import enum
 import re
 from dataclasses import dataclass
 from pathlib import Path
-from typing import Callable, Dict, List, Optional, Sequence, Tuple
+from typing import Callable, Sequence
 
 from ..common import machine
 from ..common.counters import Counter, SizeCounter
@@ -102,13 +102,13 @@ def read_letter(letter: str, folder: Path = FOLDER) -> LetterScript:
     path = folder / f"{letter}.script"
     script = read_script(str(path))
     found = [_COMMENT.fullmatch(line) for line in text_lines(script.text)]
-    comments: Dict[str, str] = {each[1]: each[2] for each in found if each}
+    comments: dict[str, str] = {each[1]: each[2] for each in found if each}
     if set(comments) != {"look", "model", "letter"}:
         raise InputFault(f"{path} needs the comments look, model and letter")
     return LetterScript(letter, script, comments["look"], comments["model"], comments["letter"])
 
 
-def letters(folder: Path = FOLDER) -> List[str]:
+def letters(folder: Path = FOLDER) -> list[str]:
     """Returns the letters that have a script."""
     return sorted(path.stem for path in folder.glob("[A-Z].script"))
 
@@ -116,7 +116,7 @@ def letters(folder: Path = FOLDER) -> List[str]:
 def read_look(look: str, observed: Observation) -> str:
     """Returns what a look shows. Unavailable where this kernel doesn't show it."""
     size, frames, queue = _SIZE.fullmatch(look), _FRAMES.fullmatch(look), _QUEUE.fullmatch(look)
-    value: Optional[int] = None
+    value: int | None = None
     if size:
         value = observed.counts.sizes.get((SizeCounter(size[1]), int(size[2])))
     elif frames:
@@ -132,7 +132,7 @@ def read_look(look: str, observed: Observation) -> str:
     return str(value)
 
 
-def _read_queue(queue: Optional[List[int]], observed: Observation) -> str:
+def _read_queue(queue: list[int] | None, observed: Observation) -> str:
     failed = observed.counts.sizes.get((SizeCounter.SPLIT_FAILED, PMD_ORDER))
     failed = observed.counts.machine[Counter.SPLIT_FAILED] if failed is None else failed
     if queue is None:
@@ -147,7 +147,7 @@ def _read_queue(queue: Optional[List[int]], observed: Observation) -> str:
 class LastLook(RunComparer):
     """Runs commands without a comparison, and keeps the last look."""
 
-    last: Optional[Observation] = None
+    last: Observation | None = None
 
     def compare_run(self, expected_run: ExpectedRun, zero_filled: bool, kernel: Kernel) -> str:
         """Returns no letters."""
@@ -181,7 +181,7 @@ def look_on(session: Session) -> Look:
 
 def find_letter(letter: LetterScript, look: Look) -> Finding:
     """Returns how a kernel does a letter: what two runs in a row show."""
-    seen: List[str] = []
+    seen: list[str] = []
     script, reason = letter.script, f"{letter.look} is another at each run: other programs move it"
     try:
         for _ in range(MOST_RUNS):
@@ -202,13 +202,13 @@ def with_last_again(script: Script) -> Script:
     return dataclasses.replace(script, text=script.text + text_lines(script.text)[-1] + "\n")
 
 
-def find_all(look: Look, folder: Path = FOLDER) -> List[Finding]:
+def find_all(look: Look, folder: Path = FOLDER) -> list[Finding]:
     """Returns how a kernel does each letter, those of recordings last."""
     found = [find_letter(read_letter(letter, folder), look) for letter in letters(folder)]
     return [*found, *(Finding(letter, Match.UNSEEN, "only recordings meet it") for letter in ONLY_RECORDINGS)]
 
 
-def markdown(findings: Sequence[Finding], version: str) -> List[str]:
+def markdown(findings: Sequence[Finding], version: str) -> list[str]:
     """Returns the column of a kernel as a table."""
-    rows: List[Tuple[str, str]] = [("Letter", version), ("-", "-"), *((each.letter, each.cell()) for each in findings)]
+    rows: list[tuple[str, str]] = [("Letter", version), ("-", "-"), *((each.letter, each.cell()) for each in findings)]
     return [f"|{letter}|{cell}|" for letter, cell in rows]

@@ -13,7 +13,7 @@ import re
 import select
 import socket
 import subprocess
-from typing import Dict, List, Optional, Tuple
+
 
 from ..common.errors import RunFailed, Unavailable
 from ..common.files import BASE
@@ -31,7 +31,7 @@ class Refusal(RunFailed):
     """A mapping process could not do a command; the text is the command and the kernel's reason."""
 
 
-def parse_reply(data: bytes) -> Tuple[bool, int]:
+def parse_reply(data: bytes) -> tuple[bool, int]:
     """Returns whether a command was done, and the number of the reply."""
     found = _REPLY.fullmatch(data)
     if not found:
@@ -46,7 +46,7 @@ def has_ended(pidfd: int) -> bool:
     return bool(poll.poll(0))
 
 
-def socket_pair() -> Tuple[socket.socket, socket.socket]:
+def socket_pair() -> tuple[socket.socket, socket.socket]:
     """Returns two connected sockets without names; messages keep their bounds."""
     return socket.socketpair(socket.AF_UNIX, socket.SOCK_SEQPACKET | socket.SOCK_CLOEXEC)
 
@@ -55,7 +55,7 @@ class MapperSocket:
     """The tool's end of a mapping process's socket. After the first failure nothing more can be asked of it."""
 
     def __init__(self, end: socket.socket) -> None:
-        self._end: Optional[socket.socket] = end
+        self._end: socket.socket | None = end
         end.settimeout(PATIENCE)
 
     @property
@@ -69,7 +69,7 @@ class MapperSocket:
         if end:
             end.close()
 
-    def ask(self, text: str, passed: Optional[int] = None) -> Tuple[int, Optional[int]]:
+    def ask(self, text: str, passed: int | None = None) -> tuple[int, int | None]:
         """Sends a command, with a descriptor or none; returns the number of the reply and the descriptor that it
         carries. Refusal where the process could not do it."""
         if self._end is None:
@@ -92,7 +92,7 @@ class MapperSocket:
         raise Refusal(f"{text}: {os.strerror(number)}")
 
     @staticmethod
-    def _receive(end: socket.socket) -> Tuple[bytes, Optional[int]]:
+    def _receive(end: socket.socket) -> tuple[bytes, int | None]:
         room = socket.CMSG_LEN(array.array("i").itemsize)
         data, control, flags, _ = end.recvmsg(MOST_REPLY, room, socket.MSG_CMSG_CLOEXEC)
         found = array.array("i")
@@ -110,15 +110,15 @@ class Mapper:
     """One process, and what it maps: `whole` by a PMD entry (or as one piece, below PMD size), `mapped` by subpages;
     `at` is the address of subpage 0."""
 
-    def __init__(self, line: MapperSocket, pidfd: int, like: Optional[Mapper] = None) -> None:
+    def __init__(self, line: MapperSocket, pidfd: int, like: Mapper | None = None) -> None:
         self._line, self.pidfd = line, pidfd
-        self._pagemap: Optional[NumberFile] = None
+        self._pagemap: NumberFile | None = None
         self.whole: bool = like.whole if like else False
         self.mapped: int = like.mapped if like else 0
         self.at: int = like.at if like else 0
         self.pins = 0
 
-    def request(self, text: str, passed: Optional[int] = None) -> int:
+    def request(self, text: str, passed: int | None = None) -> int:
         """Sends a command and returns the number of the reply."""
         number, carried = self._line.ask(text, passed)
         if carried is not None:
@@ -156,7 +156,7 @@ class Mapper:
         with open(f"{group}/cgroup.procs", "wb", 0) as members:
             self.request("enter", members.fileno())
 
-    def frames(self, count: int) -> List[Optional[int]]:
+    def frames(self, count: int) -> list[int | None]:
         """Returns the frame that each of its subpages has, or None where it maps none."""
         if self._pagemap is None:
             self._pagemap = self._open_pagemap()
@@ -199,7 +199,7 @@ class Mappers:
 
     def __init__(self, keeper: Keeper) -> None:
         path = helper("mapper")
-        empty: Dict[str, str] = {}
+        empty: dict[str, str] = {}
         mine, its = socket_pair()
         with its:
             self._process = subprocess.Popen([path], stdin=its.fileno(), stdout=subprocess.DEVNULL,

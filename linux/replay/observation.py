@@ -5,13 +5,13 @@ from __future__ import annotations
 import json
 import re
 from dataclasses import dataclass, field
-from typing import Any, Dict, List, Optional, Tuple
+from typing import Any
 
 from ..common.counters import Counter, Counts, SizeCounter
 from ..common.errors import InputFault
 from ..common.files import PMD_ORDER
 
-PageName = Tuple[int, int]  # node, page
+PageName = tuple[int, int]  # node, page
 
 MOST_SUBPAGES = 1 << PMD_ORDER
 
@@ -22,7 +22,7 @@ class PageObservation:
     split) the subpages at which the script's processes map those frames."""
 
     whole: int
-    counts: Tuple[int, ...]
+    counts: tuple[int, ...]
     mapped: int
 
 
@@ -34,9 +34,9 @@ class Observation:
     the NUMA node of each queued page that isn't on node 0."""
 
     counts: Counts
-    pages: Dict[PageName, PageObservation]
-    queues: List[Optional[List[int]]]
-    numa_nodes: Dict[PageName, int] = field(default_factory=dict)
+    pages: dict[PageName, PageObservation]
+    queues: list[list[int] | None]
+    numa_nodes: dict[PageName, int] = field(default_factory=dict)
 
     def line(self) -> str:
         """Returns the look as a line of JSON."""
@@ -50,7 +50,7 @@ class Observation:
 def parse_observation(line: str) -> Observation:
     """Returns the look of a line. InputFault where the line isn't one."""
     try:
-        parsed: Dict[str, Any] = json.loads(line)
+        parsed: dict[str, Any] = json.loads(line)
         machine = {Counter(key): _parse_optional(value) for key, value in parsed["machine"].items()}
         sizes = {(SizeCounter(key), _parse_index(order)): _parse_optional(value)
                  for key, order, value in parsed["sizes"]}
@@ -67,7 +67,7 @@ def parse_observation(line: str) -> Observation:
     return Observation(Counts(machine, sizes), pages, queues, numa_nodes)
 
 
-def _parse_optional(value: Any) -> Optional[int]:
+def _parse_optional(value: Any) -> int | None:
     return None if value is None else _parse_integer(value)
 
 
@@ -92,9 +92,9 @@ def _parse_set(text: str) -> int:
     return int(text, 16)
 
 
-def _pack_runs(counts: Tuple[int, ...]) -> List[List[int]]:
+def _pack_runs(counts: tuple[int, ...]) -> list[list[int]]:
     """Returns runs of equal counts, as [count, how many]."""
-    out: List[List[int]] = []
+    out: list[list[int]] = []
     for count in counts:
         if out and out[-1][0] == count:
             out[-1][1] += 1
@@ -103,7 +103,7 @@ def _pack_runs(counts: Tuple[int, ...]) -> List[List[int]]:
     return out
 
 
-def _unpack_runs(runs: List[List[int]]) -> Tuple[int, ...]:
+def _unpack_runs(runs: list[list[int]]) -> tuple[int, ...]:
     if sum(_parse_index(many) for _, many in runs) > MOST_SUBPAGES:
         raise ValueError("more subpages than a page has")
     return tuple(_parse_index(count) for count, many in runs for _ in range(many))

@@ -12,17 +12,16 @@ kselftest: 0 pass, 1 fail or error, 4 skip. With --fingerprint 1: this kernel do
 from __future__ import annotations
 
 import argparse
-import re
 from dataclasses import dataclass
+from functools import lru_cache
 from itertools import chain
-from typing import Iterator, List, Optional, Sequence
+from typing import Iterator, Sequence
 
-from ..common.arguments import OneLineParser, seconds, whole
+from ..common.arguments import OneLineParser, seconds, tool_parser, whole, wholes
 from ..common.errors import InputFault
 from ..common.files import PMD_ORDER, read_input
 from ..common.script import LEAST_ORDER, MOST_NODES, Script, read_script
 from ..common.text import escape, text_lines
-from ..common.version import add_version
 from .generator import Shape, scripts
 from .shrinking import SECONDS
 
@@ -30,26 +29,35 @@ NAME = "thpreplay"
 LEAST_LENGTH, MOST_LENGTH = 8, 10000  # commands of a random script
 MOST_SCRIPTS = 10 ** 9
 MOST_SEED = 10 ** 18 - 1
+MOST_SEEDS = 1 << 18  # bytes of a fixed set
 MOST_SHRINKING = 3600.0  # seconds
 
 
 def add_shape(parser: argparse.ArgumentParser) -> None:
     """Adds the options from which random scripts are drawn."""
-    parser.add_argument("--node-counts", default="1,1,1,2,4", metavar="LIST", help="random scripts draw from it")
-    parser.add_argument("--page-orders", default="9,9,9,2,3,4,5,6,7,8", metavar="LIST", help="and from it")
-    parser.add_argument("--thresholds", default="off", metavar="LIST", help="off or numbers, drawn for each script")
+    parser.add_argument("--node-counts", default="1,1,1,2,4", metavar="LIST", type=wholes(1, MOST_NODES),
+                        help="random scripts draw from it")
+    parser.add_argument("--page-orders", default="9,9,9,2,3,4,5,6,7,8", metavar="LIST", type=wholes(LEAST_ORDER, PMD_ORDER),
+                        help="and from it")
+    parser.add_argument("--thresholds", default="off", metavar="LIST", type=wholes(0, (1 << PMD_ORDER) - 1, "off"),
+                        help="off or numbers, drawn for each script")
     parser.add_argument("--length", type=whole(0, MOST_LENGTH), default=40,
                         help="most commands of a random script, at least 8")
 
 
-def parse_words(given: Optional[Sequence[str]] = None) -> argparse.Namespace:
+def add_common(parser: argparse.ArgumentParser) -> None:
+    """Adds the options that thpreplay and thpbisect share."""
+    parser.add_argument("--program", metavar="PATH", help="the thpsplit to compare with")
+    parser.add_argument("--no-memory", action="store_true", help="leave kernel memory, and so the queues, unread")
+    parser.add_argument("--wait", action="store_true", help="wait until another tool has ended")
+
+
+def parse_words(given: Sequence[str] | None = None) -> argparse.Namespace:
     """Returns the options of a command line, by default this process's own."""
-    form = argparse.RawDescriptionHelpFormatter
-    parser = OneLineParser(prog=NAME, description=__doc__, formatter_class=form)
+    parser = tool_parser(NAME, __doc__)
+    add_common(parser)
     parser.add_argument("script", nargs="*",
                         help="scripts (-: standard input); their settings are in the first line or in SCRIPT.args")
-    add_version(parser, NAME)
-    parser.add_argument("--program", metavar="PATH", help="the thpsplit to compare with")
     for name in ("nodes", "orders", "underused", "blocks"):
         parser.add_argument(f"--{name}", help="as for thpsplit, for scripts that are files")
     parser.add_argument("--random", type=whole(0, MOST_SCRIPTS), default=0, metavar="COUNT",
@@ -65,9 +73,7 @@ def parse_words(given: Optional[Sequence[str]] = None) -> argparse.Namespace:
     parser.add_argument("--store", metavar="FOLDER", help="write what the kernel showed there, a line for each look")
     parser.add_argument("--exact-scans", action="store_true",
                         help="scan exactly so many pages as a script specifies (SHRINKER_DEBUG); random scripts scan parts, too")
-    parser.add_argument("--no-memory", action="store_true", help="leave kernel memory, and so the queues, unread")
     parser.add_argument("--show", action="store_true", help="print the random scripts; nothing is run")
-    parser.add_argument("--wait", action="store_true", help="wait until another tool has ended")
     parser.add_argument("--fingerprint", action="store_true",
                         help="print how this kernel does each known difference, by the scripts of linux/letters")
     parser.add_argument("--markdown", action="store_true", help="the fingerprint as a table")
@@ -81,25 +87,10 @@ def parse_words(given: Optional[Sequence[str]] = None) -> argparse.Namespace:
     return parser.parse_args(given)
 
 
-def parse_numbers(text: str, what: str, low: int, high: int) -> List[int]:
-    """Returns the numbers of a list. InputFault where one isn't from `low` to `high`."""
-    out = []
-    for word in text.split(","):
-        if not re.fullmatch("[0-9]{1,4}", word) or not low <= int(word) <= high:
-            raise InputFault(f"--{what}: {word[:40]!r} is no whole number from {low} to {high}")
-        out.append(int(word))
-    return out
-
-
 def parse_shape(options: argparse.Namespace) -> Shape:
     """Returns what random scripts are drawn from."""
-    thresholds = options.thresholds.split(",")
-    for threshold in thresholds:
-        if threshold != "off":
-            parse_numbers(threshold, "thresholds", 0, (1 << PMD_ORDER) - 1)
-    return Shape(parse_numbers(options.node_counts, "node-counts", 1, MOST_NODES),
-                 parse_numbers(options.page_orders, "page-orders", LEAST_ORDER, PMD_ORDER), thresholds,
-                 max(options.length, LEAST_LENGTH), getattr(options, "exact_scans", False))
+    return Shape(options.node_counts, options.page_orders, options.thresholds, max(options.length, LEAST_LENGTH),
+                 getattr(options, "exact_scans", False))
 
 
 @dataclass(frozen=True)
@@ -114,30 +105,28 @@ def list_scripts(options: argparse.Namespace) -> FoundScripts:
     """Returns the files' scripts, all of them read, those of the seeds, then the random ones."""
     given = [f"--{name}={getattr(options, name)}" for name in ("nodes", "orders", "underused", "blocks")
              if getattr(options, name) is not None]
-    shape = parse_shape(options)
     named = [read_script(path, given) for path in options.script]
     fixed = read_seeds(options.seeds) if options.seeds else []
-    count = len(named) + len(fixed) + options.random
-    return FoundScripts(count, chain(named, fixed, scripts(options.random, options.seed, shape)))
+    of_seeds = (script for seed, shape in fixed for script in scripts(1, seed, shape))
+    return FoundScripts(len(named) + len(fixed) + options.random,
+                        chain(named, of_seeds, scripts(options.random, options.seed, parse_shape(options))))
 
 
-def read_seeds(path: str) -> List[Script]:
-    """Returns the scripts of a fixed set: for each line the first random script of its seed and options. InputFault names
-    the line that has others."""
+def read_seeds(path: str) -> list[tuple[int, Shape]]:
+    """Returns a fixed set: the seed and the shape of each line, whose first random script is meant. InputFault names the line
+    that has others."""
     parser = OneLineParser(prog="seeds", add_help=False, allow_abbrev=False)
-    parser.add_argument("seed", type=whole(0, MOST_SEED))
     add_shape(parser)
-    out: List[Script] = []
+    parse_options = lru_cache(maxsize=None)(lambda *words: parse_shape(parser.parse_args(words)))
+    parse_seed, out = whole(0, MOST_SEED), []
     try:
-        lines = text_lines(read_input(path).decode("ascii"))
+        lines = text_lines(read_input(path, MOST_SEEDS).decode("ascii"))
     except UnicodeDecodeError as error:
         raise InputFault(f"{escape(path)} is no list of seeds: it isn't ASCII") from error
     for place, line in enumerate(lines, 1):
-        words = line.partition("#")[0].split()
-        if words:
-            try:
-                found = parser.parse_args(words)
-                out += scripts(1, found.seed, parse_shape(found))
-            except InputFault as fault:
-                raise InputFault(f"{escape(path)}, line {place}: {fault}") from fault
+        seed, *words = line.partition("#")[0].split() or [""]
+        try:
+            out += [(parse_seed(seed), parse_options(*words))] if seed else []
+        except (InputFault, argparse.ArgumentTypeError) as fault:
+            raise InputFault(f"{escape(path)}, line {place}: {fault}") from fault
     return out

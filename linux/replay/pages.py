@@ -14,7 +14,7 @@ from __future__ import annotations
 
 import os
 from dataclasses import dataclass
-from typing import Dict, List, Optional, Sequence, Tuple
+from typing import Sequence
 
 from ..common.counters import Counter, Counts, counts
 from ..common.errors import RunFailed
@@ -41,7 +41,7 @@ def is_whole(mapper: Mapper) -> bool:
 class KernelPage:
     """A page on this kernel: its first frame, and the processes that map it."""
 
-    mappers: List[Mapper]
+    mappers: list[Mapper]
     order: int
     frame: int
     shared: bool = False  # some fork has mapped it, so that a write may copy
@@ -50,17 +50,17 @@ class KernelPage:
     def subpages(self) -> int:
         return 1 << self.order
 
-    def find_by_pmd(self) -> Optional[Mapper]:
+    def find_by_pmd(self) -> Mapper | None:
         """Returns a process that maps it whole."""
         return next((mapper for mapper in self.mappers if mapper.whole), None)
 
-    def find_covering(self, bits: int, whole: bool = True) -> Optional[Mapper]:
+    def find_covering(self, bits: int, whole: bool = True) -> Mapper | None:
         """Returns a process that maps all these subpages: by entries of their own if one does, by a PMD entry only if
         `whole`."""
         found = [mapper for mapper in self.mappers if mapper.mapped & bits == bits and (whole or not mapper.whole)]
         return next((mapper for mapper in found if not mapper.whole), found[0] if found else None)
 
-    def pieces(self, bits: int, whole: bool) -> List[Tuple[Mapper, int, int]]:
+    def pieces(self, bits: int, whole: bool) -> list[tuple[Mapper, int, int]]:
         """Processes with a first and a count that cover these subpages together; none where nobody maps one of them."""
         alone = self.find_covering(bits, whole)
         if alone and bits:
@@ -68,7 +68,7 @@ class KernelPage:
         out = []
         while bits:
             low = (bits & -bits).bit_length() - 1
-            best: Optional[Mapper] = None
+            best: Mapper | None = None
             most = 0
             for mapper in sorted(self.mappers, key=is_whole):
                 first, count = next(runs(mapper.mapped >> low & bits >> low), (1, 0))
@@ -88,11 +88,11 @@ class KernelPages:
         self._bench, self._options, self._fill = bench, options, fill
         self.drops_zeros = os.path.exists(SWITCH)  # both came with Linux 6.12
         self.scans_exactly = bench.shrinker is not None
-        self._pages: List[List[KernelPage]] = [[] for _ in range(options.nodes)]
+        self._pages: list[list[KernelPage]] = [[] for _ in range(options.nodes)]
         self._orders = sorted(set(options.orders))
         self._own_splits = 0
         self._before = counts(self._orders)
-        self._started: List[Mapper] = []
+        self._started: list[Mapper] = []
 
     def run_command(self, expected: ExpectedAnswer, state: NodeState) -> None:
         """Runs a command that wasn't refused; the node's state is that before it. Unsupported: nothing was done."""
@@ -104,7 +104,7 @@ class KernelPages:
 
     def close(self) -> None:
         """Ends the script's processes; their pages go with them. Where one fails, all others end nevertheless."""
-        failure: Optional[RunFailed] = None
+        failure: RunFailed | None = None
         for mapper in self._started:
             try:
                 mapper.exit()
@@ -120,12 +120,12 @@ class KernelPages:
         since = counts(self._orders).since(self._before)
         splits = since.machine[Counter.SPLIT_PMD]
         machine = {**since.machine, Counter.SPLIT_PMD: None if splits is None else splits - self._own_splits}
-        pages: Dict[PageName, PageObservation] = {}
+        pages: dict[PageName, PageObservation] = {}
         for node, state in enumerate(states):
             for number, page in enumerate(state.pages):
                 if page.live:
                     pages[node, number] = self._look_at(self._pages[node][number], page)
-        numa_nodes: Dict[PageName, int] = {}
+        numa_nodes: dict[PageName, int] = {}
         queues = [self._queue(node, state, numa_nodes) for node, state in enumerate(states)]
         return Observation(Counts(machine, since.sizes), pages, queues, numa_nodes)
 
@@ -140,13 +140,13 @@ class KernelPages:
         whole = 0 if page.split else frames.whole(held.frame, held.subpages)
         return PageObservation(whole, frames.counts(held.frame, held.subpages), mapped)
 
-    def _queue(self, node: int, state: NodeState, numa_nodes: Dict[PageName, int]) -> Optional[List[int]]:
+    def _queue(self, node: int, state: NodeState, numa_nodes: dict[PageName, int]) -> list[int] | None:
         """Returns a node's queue as page numbers, by NUMA node; puts the NUMA nodes other than 0 into `numa_nodes`."""
         queues = self._bench.queues(node)
         if queues is None:
             return None
         numbers = {held.frame: i for i, held in enumerate(self._pages[node]) if state.pages[i].live}
-        out: List[int] = []
+        out: list[int] = []
         for numa_node, frames in sorted(queues.items()):
             shown = [numbers.get(frame, -frame) for frame in frames]
             numa_nodes.update({(node, number): numa_node for number in shown if numa_node and number >= 0})

@@ -2,12 +2,12 @@
 
 from __future__ import annotations
 
-from typing import Dict, List, Optional, Sequence, Tuple
+from typing import Sequence
 
-Lists = Dict[int, List[int]]  # pages by NUMA node
+Lists = dict[int, list[int]]  # pages by NUMA node
 
 
-def lists_of(queue: Sequence[int], numa_nodes: Dict[int, int]) -> Lists:
+def lists_of(queue: Sequence[int], numa_nodes: dict[int, int]) -> Lists:
     """Returns the pages of a queue by NUMA node, in their order; a page whose node isn't known is on node 0."""
     out: Lists = {}
     for page in queue:
@@ -15,12 +15,12 @@ def lists_of(queue: Sequence[int], numa_nodes: Dict[int, int]) -> Lists:
     return {numa_node: out[numa_node] for numa_node in sorted(out)}
 
 
-def join_lists(lists: Lists) -> List[int]:
+def join_lists(lists: Lists) -> list[int]:
     """Returns the lists in the order of their NUMA nodes as one."""
     return [page for numa_node in sorted(lists) for page in lists[numa_node]]
 
 
-def can_fail(failed: int, lists: Sequence[Tuple[int, Optional[bool]]]) -> bool:
+def can_fail(failed: int, lists: Sequence[tuple[int, bool | None]]) -> bool:
     """Returns whether lists can fail so often together, if each is tried as a whole in one pass or more. A list is its number
     of pages, and whether its order was turned around, which an odd number of passes does (None: it can't be seen)."""
     rest = failed - sum(count * (2 if turned is False else 1) for count, turned in lists)

@@ -7,7 +7,7 @@ from __future__ import annotations
 
 import json
 from dataclasses import dataclass
-from typing import Dict, List, Optional, Protocol, Sequence, Tuple
+from typing import Protocol, Sequence
 
 from ..common import machine
 from ..common.errors import DIFFERS, DONE, INCONCLUSIVE
@@ -19,7 +19,7 @@ from .shrinking import SmallScript
 PASS, FAIL, SKIP = 0, 1, 4  # kselftest.h: KSFT_PASS, KSFT_FAIL, KSFT_SKIP
 KTAP = "KTAP version 1"
 
-SumLine = Tuple[int, str]
+SumLine = tuple[int, str]
 
 
 @dataclass(frozen=True)
@@ -31,7 +31,7 @@ class RunHead:
     queues: bool
     scripts: int
 
-    def lines(self) -> List[str]:
+    def lines(self) -> list[str]:
         """Returns the lines that people read at the start."""
         compared = "queues are compared" if self.queues else "queues are not compared"
         table = machine.table(list(self.parts)).split("\n")
@@ -47,10 +47,10 @@ class Report(Protocol):
     def print_command(self, line: str) -> None:
         """Prints a command before it is run (`--verbose`)."""
 
-    def print_script(self, script: Script, outcome: Outcome, small: Optional[SmallScript]) -> None:
+    def print_script(self, script: Script, outcome: Outcome, small: SmallScript | None) -> None:
         """Prints a script's outcome, and the smallest script that differs in the same way."""
 
-    def end(self, sums: List[SumLine]) -> None:
+    def end(self, sums: list[SumLine]) -> None:
         """Prints the sums."""
 
 
@@ -67,13 +67,13 @@ class TextReport:
     def print_command(self, line: str) -> None:
         print_line(line)
 
-    def print_script(self, script: Script, outcome: Outcome, small: Optional[SmallScript]) -> None:
+    def print_script(self, script: Script, outcome: Outcome, small: SmallScript | None) -> None:
         if not self._is_quiet or outcome.result in (Result.DIFFERS, Result.INCONCLUSIVE):
             print_line(f"{escape(script.name)}: {outcome.line()}")
         for line in small.lines() if small else []:
             print_line(f"  {line}")
 
-    def end(self, sums: List[SumLine]) -> None:
+    def end(self, sums: list[SumLine]) -> None:
         for many, what in sums:
             print(f"{many:9} {escape(what)}")
 
@@ -93,7 +93,7 @@ class KtapReport:
     def print_command(self, line: str) -> None:
         print_line(f"# {line.strip()}")
 
-    def print_script(self, script: Script, outcome: Outcome, small: Optional[SmallScript]) -> None:
+    def print_script(self, script: Script, outcome: Outcome, small: SmallScript | None) -> None:
         self._number += 1
         name = plain_name(script.name)
         commands = [plain_name(" ".join(command.words)) for command in script.commands()]
@@ -112,7 +112,7 @@ class KtapReport:
             print_line(f"# known differences: {' '.join(outcome.known)}")
         print_line(f"{'not ok' if outcome.result is Result.DIFFERS else 'ok'} {self._number} {name}")
 
-    def end(self, sums: List[SumLine]) -> None:
+    def end(self, sums: list[SumLine]) -> None:
         for many, what in sums:
             print_line(f"# {many} {escape(what)}")
 
@@ -130,7 +130,7 @@ def plain_name(text: str) -> str:
     return escape(text).replace("#", "\\x23")
 
 
-def command_lines(at: int, words: str, outcome: Outcome) -> List[str]:
+def command_lines(at: int, words: str, outcome: Outcome) -> list[str]:
     """Returns the lines of a command's test. A difference before the first command is that command's."""
     if outcome.result is not Result.DIFFERS or at < max(1, outcome.command):
         return [f"ok {at} {words}"]
@@ -155,16 +155,16 @@ class JsonReport:
     def print_command(self, line: str) -> None:
         self._print({"command": line.strip()})
 
-    def print_script(self, script: Script, outcome: Outcome, small: Optional[SmallScript]) -> None:
+    def print_script(self, script: Script, outcome: Outcome, small: SmallScript | None) -> None:
         self._print({
             "script": escape(script.name), "result": outcome.result.value, "known": list(outcome.known),
             "text": escape(outcome.text), "commands": len(script.commands()), "differs_at": outcome.command or None,
             "smallest": {"script": small.text(), "text": escape(small.outcome.text), "runs": small.runs} if small else None,
         })
 
-    def end(self, sums: List[SumLine]) -> None:
+    def end(self, sums: list[SumLine]) -> None:
         self._print({"sums": {escape(what): many for many, what in sums}})
 
     @staticmethod
-    def _print(document: Dict[str, object]) -> None:
+    def _print(document: dict[str, object]) -> None:
         print_line(json.dumps(document))

@@ -5,7 +5,7 @@ from __future__ import annotations
 import enum
 from collections import Counter as Tallies
 from dataclasses import dataclass, field
-from typing import Callable, Dict, List, Optional, Protocol, Sequence
+from typing import Callable, Protocol, Sequence
 
 from ..common.counters import CounterWatch
 from ..common.errors import InputFault
@@ -46,7 +46,7 @@ class StoredKernel:
 
     drops_zeros = True
 
-    def __init__(self, looks: List[Observation], scans_exactly: bool = False) -> None:
+    def __init__(self, looks: list[Observation], scans_exactly: bool = False) -> None:
         self._looks, self.scans_exactly = iter(looks), scans_exactly
 
     def run_command(self, expected: ExpectedAnswer, state: NodeState) -> None:
@@ -104,9 +104,9 @@ class RunComparer:
     """Compares runs. `sums` counts commands and comparisons; `report` is called with each command; `looks` keeps each
     look."""
 
-    sums: Dict[str, int] = field(default_factory=Tallies)
+    sums: dict[str, int] = field(default_factory=Tallies)
     report: Callable[[str], None] = ignore_line
-    looks: Optional[List[Observation]] = None
+    looks: list[Observation] | None = None
 
     def compare_run(self, expected_run: ExpectedRun, zero_filled: bool, kernel: Kernel) -> str:
         """Returns the letters of the known differences that were met. Difference names the command after which the own
@@ -166,13 +166,13 @@ class Runner:
     def __init__(self, bench: Bench, program: Program, comparer: RunComparer) -> None:
         self._bench, self._program, self._comparer = bench, program, comparer
 
-    def run(self, script: Script, zero_filled: Optional[bool] = None) -> Outcome:
+    def run(self, script: Script, zero_filled: bool | None = None) -> Outcome:
         """Runs one script. `zero_filled`: whether new pages stay so; by default where some node splits underused
         pages."""
         if zero_filled is None:
             zero_filled = any(switch is not None for switch in script.options.underused)
         watch = CounterWatch(script.options.orders)
-        differences: List[Difference] = []
+        differences: list[Difference] = []
         while len(differences) < TRIES:
             if self._comparer.looks is not None:
                 self._comparer.looks.clear()

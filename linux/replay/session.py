@@ -4,7 +4,7 @@ from __future__ import annotations
 
 from contextlib import contextmanager
 from dataclasses import dataclass
-from typing import Iterator, List, Optional, Tuple
+from typing import Iterator
 
 from ..common import machine
 from ..common.errors import Unavailable
@@ -22,7 +22,7 @@ NEEDED = ["root", "huge pages", "memory control groups", "frames", "counters"]
 class Session:
     """A bench on this kernel, and the program to compare with."""
 
-    parts: List[machine.Part]
+    parts: list[machine.Part]
     program: Program
     bench: Bench
 
@@ -31,7 +31,7 @@ class Session:
         return self.bench.memory is not None
 
 
-def find_comparable_parts(memory_wanted: bool) -> Tuple[List[machine.Part], Optional[KernelMemory]]:
+def find_comparable_parts(memory_wanted: bool) -> tuple[list[machine.Part], KernelMemory | None]:
     """Returns what this machine can compare, and kernel memory where the queues can be read."""
     parts = machine.common_parts()
     if not memory_wanted:
@@ -42,7 +42,7 @@ def find_comparable_parts(memory_wanted: bool) -> Tuple[List[machine.Part], Opti
 
 @contextmanager
 def open_session(
-    name: str, program: Optional[str], memory_wanted: bool, wait: bool, scans_exactly: bool = False
+    name: str, program: str | None, memory_wanted: bool, wait: bool, scans_exactly: bool = False
 ) -> Iterator[Session]:
     """Opens a session of a tool. Unavailable where the machine lacks what it needs; Busy where another tool runs."""
     parts, memory = find_comparable_parts(memory_wanted)

@@ -9,7 +9,7 @@ import time
 from dataclasses import dataclass, replace
 from functools import partial
 from itertools import islice
-from typing import Callable, Iterator, List, Optional, Sequence, Set, Tuple
+from typing import Callable, Iterator, Sequence
 
 from ..common.errors import RunFailed
 from ..common.machine import kernel
@@ -29,7 +29,7 @@ class Draft:
     """A script in parts."""
 
     options: Options
-    commands: Tuple[Command, ...]
+    commands: tuple[Command, ...]
 
     def script(self, name: str) -> Script:
         """Returns the script."""
@@ -55,7 +55,7 @@ class SmallScript:
         first, rest = self.script.text.split("\n", 1)
         return f"{first}\n# {kernel()}\n# {self.outcome.line()}\n{rest}"
 
-    def lines(self) -> List[str]:
+    def lines(self) -> list[str]:
         """Returns what people read."""
         words = [escape(" ".join(command.words)) for command in self.script.commands()]
         return [f"smallest, {len(words)} commands after {self.runs} runs: {'; '.join(words)}",
@@ -67,9 +67,9 @@ class Shrinker:
 
     def __init__(self, run: Run, seconds: float = SECONDS, clock: Callable[[], float] = time.monotonic) -> None:
         self._run, self._seconds, self._clock = run, seconds, clock
-        self._kinds: Set[str] = set()
+        self._kinds: set[str] = set()
 
-    def shrink_first(self, script: Script, outcome: Outcome) -> Optional[SmallScript]:
+    def shrink_first(self, script: Script, outcome: Outcome) -> SmallScript | None:
         """Returns the smallest script, or None where the script doesn't differ, or one of its kind was made small."""
         if outcome.result is not Result.DIFFERS or outcome.kind in self._kinds or self._seconds <= 0:
             return None
@@ -115,11 +115,11 @@ def number_at(command: Command, at: int) -> int:
     return int(command.words[at]) if len(command.words) > at and command.words[at].isdigit() else -1
 
 
-def drop(draft: Draft, gone: Set[int]) -> Draft:
+def drop(draft: Draft, gone: set[int]) -> Draft:
     """Returns a draft without some commands. A page whose `alloc` goes takes its commands along, and the numbers of later
     ones close up; the same for the pages of each node."""
-    kept: List[Command] = []
-    new_numbers: List[List[int]] = [[] for _ in range(draft.options.nodes)]  # -1: the page is gone
+    kept: list[Command] = []
+    new_numbers: list[list[int]] = [[] for _ in range(draft.options.nodes)]  # -1: the page is gone
     for at, command in enumerate(draft.commands):
         node, page = number_at(command, 1), number_at(command, 2)
         if not 0 <= node < draft.options.nodes:

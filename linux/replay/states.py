@@ -7,7 +7,7 @@ mm/huge_memory.c of the kernel).
 from __future__ import annotations
 
 from dataclasses import dataclass, field
-from typing import List, Optional, Tuple
+
 
 from ..common.errors import InputFault
 from ..common.journal import Event
@@ -33,7 +33,7 @@ class PageState:
     """A page; sets of subpages are numbers."""
 
     subpages: int
-    own: List[int]
+    own: list[int]
     zero: int
     whole: int = 1
     pins: int = 0
@@ -53,7 +53,7 @@ class PageState:
     def every(self) -> int:
         return bits_of(0, self.subpages)
 
-    def totals(self) -> Tuple[int, ...]:
+    def totals(self) -> tuple[int, ...]:
         """Returns the map count of each subpage."""
         return tuple(self.whole + own for own in self.own)
 
@@ -69,12 +69,12 @@ class NodeState:
     """A node with its pages by number and its queue in the model's order."""
 
     order: int
-    threshold: Optional[int]
+    threshold: int | None
     zero_filled: bool  # what a new page holds
     drops_zeros: bool = True  # the kernel gives mapped zero-filled subpages back at any split (B)
-    pages: List[PageState] = field(default_factory=list)
-    queue: List[int] = field(default_factory=list)
-    flight: List[int] = field(default_factory=list)
+    pages: list[PageState] = field(default_factory=list)
+    queue: list[int] = field(default_factory=list)
+    flight: list[int] = field(default_factory=list)
     event_counts: EventCounts = field(default_factory=EventCounts)
 
     @property

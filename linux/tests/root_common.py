@@ -1,69 +1,63 @@
 #!/usr/bin/env python3
-"""Held processes continue, and settings are restored, however the tool and its guardians end (root).
+"""Settings and control groups are put back however a tool and its guardians end, and nothing of others is touched (root).
 
     linux/tests/root_common.py
 
-Control groups of version 2 and of version 1's freezer are frozen, and processes are stopped, by a small tool of this file;
-then the tool, its guardian, or both with the standby are killed or stopped at ten moments each. The last line is
-`N passed, M failed`; 77 without root. What a machine lacks is named and counted neither way.
+A small tool of this file changes settings and makes groups; then the tool, its guardian, or both with the standby are killed at
+ten moments each, or lack what they need. The last line is `N passed, M failed`; 77 without root. What a machine lacks is named
+and counted neither way.
 """
 
 from __future__ import annotations
 
 import os
+import resource
 import signal
 import subprocess
 import sys
+import tempfile
 import time
-from contextlib import contextmanager
+from collections.abc import Callable, Iterator
+from contextlib import contextmanager, suppress
+from functools import partial
 from pathlib import Path
-from typing import Callable, Dict, Iterator, List, Optional
 
 ROOT = Path(__file__).resolve().parent.parent.parent
 sys.path.insert(0, str(ROOT))
 
-from linux.common import user  # noqa: E402
-from linux.common.errors import BUSY, SKIPPED, USAGE  # noqa: E402
+from linux.common.errors import BUSY, FAILED, SKIPPED  # noqa: E402
 from linux.common.files import PTES_NONE, SWITCH, read, write  # noqa: E402
-from linux.common.guardian import hierarchies  # noqa: E402
-from linux.common.hold import freezer_of, is_frozen, is_stopped  # noqa: E402
-from linux.common.keeper import FOLDER, Keeper, recover  # noqa: E402
+from linux.common.groups import find_hierarchy  # noqa: E402
+from linux.common.guardian import hierarchies, members  # noqa: E402
+from linux.common.keeper import FOLDER, Keeper, open_shared, recover  # noqa: E402
 from linux.tests.cases import Cases, Missing  # noqa: E402
 
-MOMENTS = [0.02 + 0.06 * number for number in range(10)]  # seconds after the hold's begin
-LIMIT = 2.0  # of each hold, seconds
-SLACK = 1.0  # seconds after the limit in which all must run on
-
-HOLDER = """
-import sys, time
-sys.path.insert(0, sys.argv[1])
-from linux.common.hold import hold_processes
-from linux.common.keeper import Keeper
-group, process, limit = sys.argv[2], int(sys.argv[3]), float(sys.argv[4])
-with Keeper("holder", wait=True) as keeper:
-    print("kept", flush=True)
-    with hold_processes(lambda: [process], [group] if group else [], keeper, limit) as hold:
-        print("held", flush=True)
-        time.sleep(30)
-"""
+WHATIF = str(ROOT / "linux/whatif/thpwhatif")
+MOMENTS = [0.01 + 0.03 * number for number in range(10)]  # seconds after the tool has the lock
+STRANGER, ANOTHER = 1234567, 1234568  # users that this machine doesn't have
 
 SETTER = """
-import sys, time
+import os, sys, time
 sys.path.insert(0, sys.argv[1])
 from linux.common.files import PTES_NONE, SWITCH
 from linux.common.groups import Groups
 from linux.common.keeper import Keeper
-with Keeper("setter", wait=True) as keeper:
-    print("kept", flush=True)
-    keeper.set(PTES_NONE, 77)
-    keeper.set(SWITCH, 1 - int(open(SWITCH).read()))
-    Groups(keeper, "thpsetter").add("node0")
-    keeper.set(PTES_NONE, 78)
-    time.sleep(30)
+from linux.common.tool import run_tool
+def main():
+    with Keeper("setter", wait=True) as keeper:
+        print("kept", flush=True)
+        keeper.set(PTES_NONE, 77)
+        keeper.set(SWITCH, 1 - int(open(SWITCH).read()))
+        Groups(keeper, "thpsetter").add("node0")
+        keeper.set(PTES_NONE, 78)
+        print("set", flush=True)
+        time.sleep(float(sys.argv[2]))
+    return 0
+run_tool("setter", main)
 """
 
 
-def descendants(number: int) -> List[int]:
+def descendants(number: int) -> list[int]:
     """Returns the processes that a process started, and those that they started."""
     try:
         children = [int(each) for each in read(f"/proc/{number}/task/{number}/children").split()]
@@ -72,23 +66,21 @@ def descendants(number: int) -> List[int]:
     return children + [each for child in children for each in descendants(child)]
 
 
-def start_program(program: str, *words: str) -> subprocess.Popen[str]:
-    """Starts one of the programs above, and waits until it has the lock."""
-    tool = subprocess.Popen([sys.executable, "-c", program, str(ROOT), *words], stdout=subprocess.PIPE, text=True,
-                            stderr=subprocess.DEVNULL)
+def setter(seconds: float) -> list[str]:
+    """Returns the words of the tool above, which ends after so many seconds."""
+    return [sys.executable, "-c", SETTER, str(ROOT), str(seconds)]
+
+
+def start_setter() -> subprocess.Popen[str]:
+    """Starts it, and waits until it has the lock."""
+    tool = subprocess.Popen(setter(30), stdout=subprocess.PIPE, text=True, stderr=subprocess.DEVNULL)
     assert tool.stdout
     tool.stdout.readline()
     return tool
 
 
 def end(tool: subprocess.Popen[str]) -> None:
-    """Kills a tool, and lets all that was stopped of it run on and end."""
-    own = descendants(tool.pid)
-    for number in [tool.pid, *own]:
-        try:
-            os.kill(number, signal.SIGCONT)
-        except OSError:
-            pass
+    """Kills a tool, and waits for its end."""
     tool.kill()
     tool.wait()
     if tool.stdout:
@@ -105,83 +97,13 @@ def until(is_so: Callable[[], bool], seconds: float) -> bool:
     return True
 
 
-@contextmanager
-def sleeper(group: str = "") -> Iterator[int]:
-    """A process, in a control group if one is named."""
-    child = subprocess.Popen(["sleep", "100"])
-    try:
-        if group:
-            write(f"{group}/cgroup.procs", child.pid)
-        yield child.pid
-    finally:
-        child.kill()
-        child.wait()
-
-
-def freezers() -> Dict[str, str]:
-    """Returns the folders of the hierarchies by which groups are frozen."""
-    out = {}
-    for folder, kind, options in hierarchies():
-        if kind == "cgroup2":
-            out["cgroup.freeze"] = folder
-        elif "freezer" in options.split(","):
-            out["freezer.state"] = folder
-    return out
-
-
-@contextmanager
-def group_with(file: str) -> Iterator[str]:
-    """A control group that has this freezer's file."""
-    top = freezers().get(file)
-    if not top:
-        raise Missing(f"no hierarchy with {file}")
-    path = f"{top}/thptest-{os.getpid()}"
-    os.mkdir(path)
-    try:
-        if not freezer_of(path):
-            raise Missing(f"no {file} in {top}")
-        yield path
-    finally:
-        until(lambda: not read(f"{path}/cgroup.procs").strip(), 3)
-        os.rmdir(path)
-
-
-def spared_after(kill: Callable[[subprocess.Popen[str]], None], file: str) -> Optional[str]:
-    """Holds a process, of a group that has this freezer's file or by SIGSTOP, and does something to the tool at ten
-    moments: what is held must run on within the limit."""
-    for moment in MOMENTS:
-        with group_with(file) if file else sleeper_only() as group, sleeper(group) as process:
-            tool = start_program(HOLDER, group, str(process), str(LIMIT))
-            time.sleep(moment)
-            kill(tool)
-
-            def is_free() -> bool:
-                return not (is_frozen(group) if group else is_stopped(process))
-
-            if kill in (stop_tool, stop_both):  # nothing but the clock says when the hold is over
-                time.sleep(LIMIT + SLACK - moment)
-            settled = until(lambda: not os.path.exists(f"{FOLDER}/held") and is_free(), LIMIT + SLACK - moment)
-            settled = settled or is_free()
-            end(tool)
-            if not settled:
-                return f"held for more than {LIMIT + SLACK:g} s, after {moment:.2f} s"
-    return None
-
-
-@contextmanager
-def sleeper_only() -> Iterator[str]:
-    """No group."""
-    yield ""
-
-
 def kill_tool(tool: subprocess.Popen[str]) -> None:
     tool.kill()
 
 
 def kill_both(tool: subprocess.Popen[str]) -> None:
     """The tool and its guardian, but not the standby."""
-    guardians = [number for number in descendants(tool.pid) if os.path.exists(f"/proc/{number}")]
-    for number in [tool.pid, *guardians[:1]]:
+    for number in [tool.pid, *descendants(tool.pid)[:1]]:
         os.kill(number, signal.SIGKILL)
 
 
@@ -191,20 +113,6 @@ def kill_standby(tool: subprocess.Popen[str]) -> None:
         os.kill(number, signal.SIGKILL)
     time.sleep(0.02)
     tool.kill()
-
-
-def kill_guardian(tool: subprocess.Popen[str]) -> None:
-    for number in descendants(tool.pid)[:1]:
-        os.kill(number, signal.SIGKILL)
-
-
-def stop_tool(tool: subprocess.Popen[str]) -> None:
-    tool.send_signal(signal.SIGSTOP)
-
-
-def stop_both(tool: subprocess.Popen[str]) -> None:
-    for number in [tool.pid, *descendants(tool.pid)[:1]]:
-        os.kill(number, signal.SIGSTOP)
 
 
 def kill_all(tool: subprocess.Popen[str]) -> None:
@@ -217,55 +125,38 @@ def kill_all(tool: subprocess.Popen[str]) -> None:
     tool.wait()
 
 
-def next_start_lets_run_on(file: str) -> Optional[str]:
-    """Where the standby is killed too, the next start of a tool ends the hold."""
-    for moment in MOMENTS:
-        with group_with(file) if file else sleeper_only() as group, sleeper(group) as process:
-            tool = start_program(HOLDER, group, str(process), str(LIMIT))
-            time.sleep(moment)
-            kill_all(tool)
-            end(tool)
-            with Keeper("test", wait=True):
-                pass
-            if not until(lambda: not (is_frozen(group) if group else is_stopped(process)), 1):
-                return f"still held, after {moment:.2f} s"
-    return None
-
-
-def settings() -> List[str]:
-    """Returns the settings that SETTER changes, and the groups that it leaves."""
+def settings() -> list[str]:
+    """Returns the settings that SETTER changes, and the groups that it leaves, once no tool runs."""
     with Keeper("test", wait=True):
         pass
-    return [read(PTES_NONE), read(SWITCH), *sorted(left_groups())]
+    left = [path for folder, _, _ in hierarchies() for path, _, _ in os.walk(folder) if "thpsetter" in path]
+    return [read(PTES_NONE), read(SWITCH), *sorted(left)]
 
 
-def left_groups() -> List[str]:
-    return [path for folder, _, options in hierarchies() if folder for path, _, _ in os.walk(folder) if "thpsetter" in path]
-
-
-def settings_are_put_back(kill: Callable[[subprocess.Popen[str]], None]) -> Optional[str]:
+def settings_are_put_back(kill: Callable[[subprocess.Popen[str]], None]) -> str | None:
     """Settings and groups are as before after one later start of a tool."""
-    before, busy = settings(), 0
+    before, changed = settings(), 0
     for moment in MOMENTS:
-        tool = start_program(SETTER)
-        time.sleep(moment / 2)
+        tool = start_setter()
+        time.sleep(moment)
         kill(tool)
-        busy += read(PTES_NONE) != before[0]
+        changed += read(PTES_NONE) != before[0]
         end(tool)
         if settings() != before:
-            return f"changed, after {moment / 2:.2f} s: {before} {settings()}"
-    return None if busy or kill is not kill_all else "nothing was changed at any moment"
+            return f"changed, after {moment:.2f} s: {before} {settings()}"
+    return None if changed or kill is not kill_all else "nothing was changed at any moment"
 
 
-def changed_since_is_left() -> Optional[str]:
+def changed_since_is_left() -> str | None:
     """A setting that an administrator changed after the tool was killed is left as it is."""
     former = read(PTES_NONE)
-    tool = start_program(SETTER)
-    time.sleep(0.4)
+    tool = start_setter()
+    assert tool.stdout
+    tool.stdout.readline()
     kill_all(tool)
     end(tool)
     write(PTES_NONE, 333)
-    found: List[str] = []
+    found: list[str] = []
 
     def has_recovered() -> bool:
         found.extend(recover("test"))
@@ -278,87 +169,229 @@ def changed_since_is_left() -> Optional[str]:
     return None if value == "333" and any("has been changed since" in line for line in found) else f"{value}: {found}"
 
 
-def own_group_is_refused(file: str) -> Optional[str]:
-    """A tool that would freeze itself refuses in one line, and nothing is frozen."""
-    with group_with(file) as group:
-        code = HOLDER.replace("with Keeper", f"open({group!r} + '/cgroup.procs', 'w').write('0')\nwith Keeper")
-        code = "from linux.common.tool import run_tool\ndef main():\n" + "".join(
-            f"    {line}\n" for line in code.strip().split("\n")) + "run_tool('holder', main)\n"
-        done = subprocess.run([sys.executable, "-c", code, str(ROOT), group, str(os.getpid()), "5"], cwd=ROOT,
-                              capture_output=True, text=True, timeout=20, check=False)
-        if is_frozen(group):
-            return "frozen"
-        lines = [line for line in done.stderr.split("\n") if line]
-        good = done.returncode == USAGE and len(lines) == 1 and "this tool runs in it" in lines[0]
-        return None if good else f"status {done.returncode}: {lines}"
+def changed_meanwhile_is_left() -> str | None:
+    """A setting that an administrator changes while a tool runs is left and named at the tool's own end."""
+    before = settings()
+    tool = subprocess.Popen(setter(0.5), stdout=subprocess.PIPE, stderr=subprocess.PIPE, text=True)
+    assert tool.stdout
+    tool.stdout.readline()
+    tool.stdout.readline()
+    write(PTES_NONE, 333)
+    problems, value = tool.communicate()[1], read(PTES_NONE).strip()
+    write(PTES_NONE, before[0])
+    if value != "333" or "has been changed since to '333': left as it is" not in problems:
+        return f"{value}: {problems}"
+    return None if settings() == before else f"changed: {before} {settings()}"
 
 
-def second_tool_is_busy() -> Optional[str]:
-    """A tool that finds the lock taken names the holder and ends with its own status."""
-    tool = start_program(SETTER)
+SECOND = ("import sys; sys.path.insert(0, sys.argv[1])\nfrom linux.common.tool import run_tool\n"
+          "from linux.common.keeper import Keeper\nrun_tool('second', lambda: Keeper('second') and 0)")
+
+
+def second_tool_is_busy(words: list[str], holder: str) -> str | None:
+    """A tool that finds the lock taken names the holder, if it can, and ends with its own status."""
+    tool = start_setter()
     try:
-        done = subprocess.run([sys.executable, "-c", "import sys; sys.path.insert(0, sys.argv[1])\n"
-                               "from linux.common.tool import run_tool\nfrom linux.common.keeper import Keeper\n"
-                               "run_tool('second', lambda: Keeper('second') and 0)", str(ROOT)],
-                              capture_output=True, text=True, timeout=20, check=False)
+        done = subprocess.run([*words, sys.executable, "-c", SECOND, str(ROOT)], capture_output=True, text=True, timeout=20,
+                              check=False)
     finally:
         end(tool)
-    wanted = f"second: setter, process {tool.pid}, is running (--wait waits until it has ended)\n"
+        settings()
+    wanted = f"second: {holder.format(tool.pid)} is running (--wait waits until it has ended)\n"
     return None if (done.returncode, done.stderr) == (BUSY, wanted) else f"status {done.returncode}: {done.stderr}"
 
 
-def nobody_reaches_the_folder() -> Optional[str]:
-    """Another user can neither list the tools' folder nor open the lock or what is to be put back."""
-    code = ("import os, sys\nfor path in sys.argv[1:]:\n    try:\n        os.open(path, os.O_RDONLY)\n"
-            "        print(path)\n    except PermissionError:\n        pass\n")
-    tool = start_program(SETTER)
-    time.sleep(0.3)
+def others_reach_nothing() -> str | None:
+    """Another user can neither list the tools' folder, nor open what is to be put back, nor take the machine's lock."""
+    code = ("import ctypes, fcntl, os, sys\nfor path in sys.argv[1:]:\n    try:\n        os.open(path, os.O_RDONLY)\n"
+            "        print(path)\n    except PermissionError:\n        pass\n"
+            "if ctypes.CDLL(None).syscall(430, b'tracefs', 1) >= 0: print('fsopen')\n")
+    tool = start_setter()
+    assert tool.stdout
+    tool.stdout.readline()
     try:
         paths = [FOLDER, f"{FOLDER}/lock", f"{FOLDER}/undo"]
         if not all(map(os.path.exists, paths)):
             return "nothing to open"
-        done = subprocess.run(["/usr/bin/python3", "-c", code, *paths], capture_output=True, text=True, timeout=20,
-                              check=False, **user.nobody().rights())
+        folders = [folder for folder in ("/sys/kernel/tracing", "/sys/kernel/debug") if os.path.ismount(folder)]
+        done = subprocess.run(["/usr/bin/python3", "-c", code, *paths, *folders], capture_output=True, text=True, timeout=20,
+                              check=False, user=STRANGER, group=STRANGER, extra_groups=[])
+        shared = os.fstat(open_shared("tracefs"))
+        if shared.st_mode & 0o077 or shared.st_uid:
+            return f"the lock's folder has mode {shared.st_mode:o}"
     finally:
         end(tool)
         settings()
     return done.stdout + done.stderr or None
 
 
+def refused(words: list[str], statuses: tuple[int, ...] = (FAILED, SKIPPED)) -> str | None:
+    """A tool that can't store what it is to put back changes nothing, and ends in one line."""
+    before = settings()
+    done = subprocess.run([*words, *setter(0.1)], capture_output=True, text=True, timeout=60, check=False)
+    after = settings()
+    lines = done.stderr.split("\n")[:-1]
+    if after != before:
+        return f"changed: {before} {after}"
+    if done.returncode not in statuses or len(lines) != 1 or "Traceback" in done.stderr:
+        return f"status {done.returncode}: {done.stderr[-300:]}"
+    return None
+
+
+FULL = """mount -t tmpfs -o size=64k tmpfs /run && mkdir -m 700 /run/leversorrel && : > /run/leversorrel/lock && chmod 600 \
+/run/leversorrel/lock && echo "setter, process 123456," > /run/leversorrel/lock
+cat /dev/zero > /run/filler 2> /dev/null
+exec "$@" """
+
+
+def full_folder() -> str | None:
+    """Where /run is full, a setting isn't changed."""
+    return refused(["unshare", "-m", "--propagation", "private", "sh", "-c", FULL, "sh"])
+
+
+def limits_of_files() -> str | None:
+    """A limit of file sizes cuts an entry: then the change that it is for isn't made, and those before are put back."""
+    for size in (0, 10, 50, 100, 150, 200, 250, 300, 400):
+        wrong = refused(["prlimit", f"--fsize={size}"], (0, FAILED, SKIPPED)) if size > 250 else refused(["prlimit", f"--fsize={size}"])
+        if wrong and not (size > 250 and wrong.startswith("status 0: ")):
+            return f"{size} bytes: {wrong}"
+    return None
+
+
+def limits_of_processes() -> str | None:
+    """A limit of processes ends the tool in one line before anything is changed."""
+    top = next((folder for folder, kind, options in hierarchies() if kind == "cgroup" and "pids" in options.split(",")), "")
+    if not top:
+        top = next((folder for folder, kind, _ in hierarchies() if kind == "cgroup2"), "")
+        if not top or "pids" not in read(f"{top}/cgroup.subtree_control").split():
+            raise Missing("no control groups that limit processes")
+    group = f"{top}/thptest-{os.getpid()}"
+    os.mkdir(group)
+    try:
+        for most in (1, 2):
+            write(f"{group}/pids.max", most)
+            wrong = refused(["sh", "-c", f"echo $$ > {group}/cgroup.procs && exec \"$@\"", "sh"])
+            if wrong:
+                return f"{most} processes: {wrong}"
+    finally:
+        until(lambda: not members(group), 3)
+        os.rmdir(group)
+    return None
+
+
+def group_of_another_is_spared() -> str | None:
+    """A control group that exists already is neither emptied nor removed."""
+    path, child = f"{find_hierarchy().top}/thptest-{os.getpid()}", subprocess.Popen(["sleep", "60"])
+    os.mkdir(path)
+    try:
+        for is_empty in (True, False):
+            if not is_empty:
+                write(f"{path}/cgroup.procs", child.pid)
+            with suppress(Exception), Keeper("test", wait=True) as keeper:
+                keeper.make_group(path)
+            if not os.path.isdir(path) or child.poll() is not None:
+                return "it was removed" if child.poll() is None else "its process was killed"
+    finally:
+        child.kill()
+        child.wait()
+        until(lambda: not members(path), 3)
+        os.rmdir(path)
+    return None
+
+
+@contextmanager
+def verifying(command: str, *options: str) -> Iterator[subprocess.Popen[str]]:
+    """Runs `thpwhatif verify` with a shell's command, as a user that this machine doesn't have."""
+    words = [WHATIF, "verify", "--wait", "--thresholds", "100", "--user", "nobody", *options]
+    tool = subprocess.Popen([*words, "--", "/bin/sh", "-c", command], stdout=subprocess.PIPE, stderr=subprocess.PIPE, text=True)
+    try:
+        yield tool
+    finally:
+        tool.terminate()
+        tool.communicate()
+        settings()
+
+
+def reused_number_is_spared() -> str | None:
+    """The command of a trial ends, and its number becomes another user's process group: that isn't killed."""
+    with tempfile.TemporaryDirectory() as folder:
+        os.chmod(folder, 0o777)
+        told = f"{folder}/number"
+        with verifying(f"echo $$ > {told}.part; mv {told}.part {told}; setsid sleep 60 & exit 0", "--after", "3") as tool:
+            if not until(lambda: os.path.exists(told) or tool.poll() is not None, 30) or not os.path.exists(told):
+                return f"the command didn't run: {tool.communicate()}"
+            number = int(read(told))
+            until(lambda: not os.path.exists(f"/proc/{number}"), 20)
+            for _ in range(200):
+                write("/proc/sys/kernel/ns_last_pid", number - 1)
+                stranger = subprocess.Popen(["sleep", "100"], start_new_session=True, user=STRANGER, group=STRANGER, extra_groups=[])
+                if stranger.pid == number:
+                    break
+                stranger.kill()
+                stranger.wait()
+            try:
+                if stranger.pid != number:
+                    raise Missing("the number can't be had again")
+                tool.wait(60)
+                return None if stranger.poll() is None else "a process of another user was killed"
+            finally:
+                stranger.kill()
+                stranger.wait()
+
+
+def looks_stop_nothing() -> str | None:
+    """The parent of a process that is looked at sees no stop of it, and the options that held processes are unknown."""
+    child = subprocess.Popen(["sleep", "60"])
+    try:
+        look = subprocess.Popen([WHATIF, "now", "--pid", str(child.pid), "--thresholds", "off"], stdout=subprocess.DEVNULL,
+                                stderr=subprocess.DEVNULL)
+        seen = 0
+        while look.poll() is None:
+            seen |= os.waitpid(child.pid, os.WNOHANG | os.WUNTRACED)[0]
+        if seen:
+            return "it was stopped"
+        done = subprocess.run([WHATIF, "now", "--pid", str(child.pid), "--freeze"], capture_output=True, text=True, check=False)
+        return None if done.returncode == 2 and "--freeze" in done.stderr else f"--freeze: status {done.returncode}"
+    finally:
+        child.kill()
+        child.wait()
+
+
+def ignored_hang_up() -> str | None:
+    """The hang-up of a terminal doesn't end a tool that nohup started."""
+    words = [WHATIF, "watch", "0.3", "--rounds", "4", "--pid", str(os.getpid()), "--thresholds", "off"]
+    tool = subprocess.Popen(words, stdout=subprocess.PIPE, stderr=subprocess.PIPE, text=True,
+                            preexec_fn=partial(signal.signal, signal.SIGHUP, signal.SIG_IGN))
+    assert tool.stdout
+    tool.stdout.readline()
+    tool.send_signal(signal.SIGHUP)
+    problems = tool.communicate(timeout=60)[1]
+    return None if tool.returncode in (0, 4) else f"status {tool.returncode}: {problems}"
+
+
 def main() -> int:
     if os.geteuid() != 0:
         print("root_common: skipped: not root", file=sys.stderr)
         return SKIPPED
+    resource.setrlimit(resource.RLIMIT_CORE, (0, 0))
     cases = Cases("root_common")
-    for file in ("cgroup.freeze", "freezer.state", ""):
-        what = file or "SIGSTOP"
-        for name, kill in (("the tool is killed", kill_tool), ("tool and guardian are killed", kill_both),
-                           ("the guardian is killed", kill_guardian), ("standby and tool are killed", kill_standby),
-                           ("the tool is stopped", stop_tool),
-                           ("tool and guardian are stopped", stop_both)):
-            if name.endswith("stopped"):
-                cases.run(f"{what}: {name}", lambda: once(kill, file))
-            else:
-                cases.run(f"{what}: {name}", lambda: spared_after(kill, file))
-        cases.run(f"{what}: all three are killed", lambda: next_start_lets_run_on(file))
     for name, kill in (("the tool", kill_tool), ("tool and guardian", kill_both), ("standby and tool", kill_standby),
                        ("all three", kill_all)):
-        cases.run(f"settings after {name} were killed", lambda: settings_are_put_back(kill))
+        cases.run(f"settings after {name} were killed", partial(settings_are_put_back, kill))
     cases.run("a setting that was changed since", changed_since_is_left)
-    for file in ("cgroup.freeze", "freezer.state"):
-        cases.run(f"{file}: a group that has the tool in it", lambda: own_group_is_refused(file))
-    cases.run("a second tool", second_tool_is_busy)
-    cases.run("another user and the tools' folder", nobody_reaches_the_folder)
+    cases.run("a setting that is changed meanwhile", changed_meanwhile_is_left)
+    cases.run("a second tool", partial(second_tool_is_busy, [], "setter, process {},"))
+    container = ["unshare", "-m", "--propagation", "private", "sh", "-c", "mount -t tmpfs tmpfs /run && exec \"$@\"", "sh"]
+    cases.run("a second tool in a mount namespace of its own", partial(second_tool_is_busy, container, "another tool"))
+    cases.run("another user, the tools' folder and the lock", others_reach_nothing)
+    cases.run("a full folder", full_folder)
+    cases.run("limits of file sizes", limits_of_files)
+    cases.run("limits of processes", limits_of_processes)
+    cases.run("a control group of somebody else", group_of_another_is_spared)
+    cases.run("a process number that is used again", reused_number_is_spared)
+    cases.run("a process that is looked at", looks_stop_nothing)
+    cases.run("a hang-up that is ignored", ignored_hang_up)
     return cases.end()
-
-
-def once(kill: Callable[[subprocess.Popen[str]], None], file: str) -> Optional[str]:
-    """As `spared_after`, at the last moment alone."""
-    moments, MOMENTS[:] = list(MOMENTS), MOMENTS[-1:]
-    try:
-        return spared_after(kill, file)
-    finally:
-        MOMENTS[:] = moments
 
 
 if __name__ == "__main__":

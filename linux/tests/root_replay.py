@@ -32,7 +32,7 @@ from linux.common.errors import DIFFERS, DONE, INCONCLUSIVE, SKIPPED, USAGE  # n
 from linux.common.files import read, read_bytes  # noqa: E402
 from linux.common.script import read_script  # noqa: E402
 from linux.common.text import lines  # noqa: E402
-from linux.common.user import nobody  # noqa: E402
+from linux.common.user import NOBODY  # noqa: E402
 from linux.tests.cases import Cases  # noqa: E402
 from linux.tests.git_repository import Git  # noqa: E402
 from linux.tests.matrix import DOCUMENT, find_wrong  # noqa: E402
@@ -67,7 +67,7 @@ class Attackers:
     def run_attacker(self, name: str, *words: str) -> Iterator[subprocess.Popen[bytes]]:
         """One of them as user nobody, until the end of the `with`."""
         process = subprocess.Popen([f"{self._folder}/{name}", *words], stdout=subprocess.PIPE, cwd="/",
-                                   **nobody().rights())
+                                   user=NOBODY, group=NOBODY, extra_groups=[])
         try:
             yield process
         finally:

@@ -4,7 +4,6 @@ from __future__ import annotations
 
 import os
 import signal
-import socket
 import subprocess
 import sys
 import tempfile
@@ -15,11 +14,10 @@ from typing import List
 from unittest import mock
 
 from ..common import program as programs
-from ..common.errors import Busy, InputFault, Unavailable
+from ..common.errors import Busy, InputFault, RunFailed, Unavailable
 from ..common.files import selected_word
 from ..common.groups import find_hierarchy
-from ..common.guardian import Entry, Guardian, put_back, write
-from ..common.hold import hold_processes
+from ..common.guardian import Entry, Guardian, add_entry, folders_below, put_back, read_entries, remove_group, write
 from ..common.journal import journal_of, journal_text
 from ..common.keeper import Keeper
 from ..common.script import options_of, read_script, script_of
@@ -182,52 +180,66 @@ class KeeperTest(unittest.TestCase):
                 time.sleep(0.01)
             self.assertFalse(alive(child), f"its process runs on after signal {number}")
 
-    def test_held_processes_run_on_at_the_end(self) -> None:
-        child = subprocess.Popen(["sleep", "60"])
-        try:
-            with Keeper("test", folder=self.run_folder) as keeper:
-                with hold_processes(lambda: [child.pid], [], keeper) as hold:
-                    self.assertEqual(state_of(child.pid, "T"), "T")
-                self.assertEqual((hold.count, hold.problem), (1, ""))
-            self.assertEqual(state_of(child.pid, "S"), "S")
-        finally:
-            child.kill()
-            child.wait()
-
-    def test_a_hold_ends_at_its_limit(self) -> None:
-        child = subprocess.Popen(["sleep", "60"])
-        try:
-            with Keeper("test", folder=self.run_folder) as keeper:
-                with hold_processes(lambda: [child.pid], [], keeper, 0.3) as hold:
-                    time.sleep(0.6)
-                    self.assertEqual(state_of(child.pid, "S"), "S")
-            self.assertIn("limit of 0.3 s", hold.problem)
-            self.assertLess(hold.seconds, 3)
-        finally:
-            child.kill()
-            child.wait()
-
     def test_a_setting_that_a_group_holds_goes_back_after_it(self) -> None:
         """Version 2: a group's subtree_control can't be taken back while a group of ours below it uses it."""
         (self.folder / "group").mkdir()
-        entries: List[Entry] = [{"file": str(self.folder / "setting"), "text": "former", "set": "new"},
-                                {"group": str(self.folder / "group"), "inode": 0}]
+        entries: list[Entry] = [{"file": str(self.folder / "setting"), "text": "former", "set": ""},
+                                {"group": str(self.folder / "group")}]
 
         def refused(path: str, text: str) -> str:
             return "busy" if (self.folder / "group").exists() else write(path, text)
 
         with mock.patch("linux.common.guardian.write", refused):
-            self.assertEqual(put_back(entries), [])
+            self.assertEqual(put_back(entries, []), ([], []))
         self.assertEqual((self.folder / "setting").read_text(), "former")
 
     def test_groups_that_processes_made_in_ours_go_with_it(self) -> None:
         (self.folder / "group" / "inner" / "innermost").mkdir(parents=True)
         entry: Entry = {"group": str(self.folder / "group"), "inode": (self.folder / "group").stat().st_ino}
         other: Entry = {"group": str(self.folder / "group"), "inode": 1}
-        self.assertEqual(put_back([other]), [])
+        self.assertEqual(put_back([other], []), ([], []))
         self.assertTrue((self.folder / "group" / "inner").exists(), "a group of that name that isn't the tool's stays")
-        self.assertEqual(put_back([entry]), [])
+        self.assertEqual(put_back([entry], []), ([], []))
         self.assertFalse((self.folder / "group").exists())
+
+    def test_a_deep_group_is_removed(self) -> None:
+        os.mkdir(self.folder / "group")
+        folder, depth = os.open(self.folder / "group", os.O_RDONLY), 1100
+        for _ in range(depth):
+            os.mkdir("a", dir_fd=folder)
+            below = os.open("a", os.O_RDONLY, dir_fd=folder)
+            os.close(folder)
+            folder = below
+        os.close(folder)
+        self.assertEqual(len(folders_below(str(self.folder / "group"))), depth + 1)
+        self.assertEqual(remove_group(str(self.folder / "group"), 0), "")
+        self.assertFalse((self.folder / "group").exists())
+
+    def test_a_group_that_is_not_known_to_be_ours_keeps_its_processes(self) -> None:
+        """It was made when the guardian was killed: its inode isn't stored."""
+        (self.folder / "group").mkdir()
+        child = subprocess.Popen(["sleep", "60"])
+        try:
+            (self.folder / "group" / "cgroup.procs").write_text(f"{child.pid}\n")
+            problems, left = put_back([{"group": str(self.folder / "group")}], [])
+            self.assertRegex(problems[0], "could not be removed")
+            self.assertEqual((len(left), child.poll()), (1, None))
+        finally:
+            child.kill()
+            child.wait()
+
+    def test_what_is_no_entry_is_named(self) -> None:
+        path = self.folder / "undo"
+        path.write_text('{"file": "a"}\n{"fi\n[]\n')
+        entries, problems = read_entries(str(path))
+        self.assertEqual((entries, len(problems)), ([{"file": "a"}], 2))
+
+    def test_an_entry_that_is_cut_refuses_the_change(self) -> None:
+        path = str(self.folder / "undo")
+        add_entry(path, {"file": "a"})
+        with mock.patch("os.write", lambda descriptor, data: 3), self.assertRaises(OSError):
+            add_entry(path, {"file": "b"})
+        self.assertEqual(read_entries(path), ([{"file": "a"}], []))
 
     def test_what_was_killed_with_its_guardians_is_put_back_by_the_next_tool(self) -> None:
         tool = subprocess.Popen([sys.executable, "-c", KILLED_TOOL, str(self.folder), "19"], cwd=ROOT,
@@ -245,23 +257,30 @@ class KeeperTest(unittest.TestCase):
         with Keeper("test", wait=True, folder=self.run_folder):
             self.assert_as_before()
 
-    def test_a_guardian_whose_standby_was_killed_puts_everything_back(self) -> None:
-        ours, theirs = socket.socketpair(socket.AF_UNIX, socket.SOCK_SEQPACKET)
-        theirs.close()
+    def test_a_guardian_restores_without_its_file(self) -> None:
         os.mkdir(self.run_folder)
-        guardian = Guardian(self.run_folder, {}, ours)
-        setting = str(self.folder / "setting")
+        guardian, setting = Guardian(self.run_folder), str(self.folder / "setting")
         guardian.take({"file": setting, "text": "old", "set": "new"}, [])
         Path(setting).write_text("new")
-        guardian.take({"hold": 5}, [])
+        os.unlink(f"{self.run_folder}/undo")
         self.assertEqual((guardian.end(), Path(setting).read_text()), ([], "old"))
-        ours.close()
 
     def test_a_setting_that_was_changed_since_is_left(self) -> None:
-        entries: List[Entry] = [{"file": str(self.folder / "setting"), "text": "former", "set": "new"}]
+        entries: list[Entry] = [{"file": str(self.folder / "setting"), "text": "former", "set": text} for text in ("new", "newer")]
         (self.folder / "setting").write_text("by an administrator\n")
-        self.assertRegex(put_back(entries, is_later=True)[0], "has been changed since to 'by an administrator'")
+        self.assertRegex(put_back(entries, [])[0][0], "has been changed since to 'by an administrator'")
         self.assertEqual((self.folder / "setting").read_text(), "by an administrator\n")
+        (self.folder / "setting").write_text("new\n")  # the tool was killed before it set the newer one
+        self.assertEqual(put_back(entries, []), ([], []))
+        self.assertEqual((self.folder / "setting").read_text(), "former")
+
+    def test_a_setting_that_cannot_be_noted_is_not_changed(self) -> None:
+        with Keeper("test", folder=self.run_folder) as keeper:
+            os.mkdir(f"{self.run_folder}/undo")
+            with self.assertRaisesRegex(RunFailed, "nothing is changed"):
+                keeper.set(self.folder / "setting", "new")
+            os.rmdir(f"{self.run_folder}/undo")
+        self.assertEqual((self.folder / "setting").read_text(), "old\n")
 
     def test_the_next_tool_finds_the_lock_free(self) -> None:
         for _ in range(5):
@@ -276,15 +295,6 @@ class KeeperTest(unittest.TestCase):
         with Keeper("test", folder=self.run_folder) as keeper:
             with self.assertRaisesRegex(Unavailable, "nothing/here"):
                 keeper.set(self.folder / "nothing/here", 1)
-
-
-def state_of(number: int, wanted: str) -> str:
-    """A process's state (proc(5)), once it is the expected one or a while has passed."""
-    state, until = "", time.monotonic() + 5
-    while state != wanted and time.monotonic() < until:
-        state = Path(f"/proc/{number}/stat").read_text().rsplit(")", 1)[1].split()[0]
-        time.sleep(0.01)
-    return state
 
 
 def descendants(number: int, spared: int) -> List[int]:

@@ -19,7 +19,7 @@ from ..replay.pages import KernelPages
 from ..replay.runner import Outcome, Result, RunComparer, StoredKernel
 from .model_kernel import InProcessProgram, ModelKernel
 
-SHAPE = Shape(nodes=(1,), orders=(9, 4), thresholds=("off",), scans_parts=True)
+SHAPE = Shape(nodes=(1,), orders=(9, 4), thresholds=(None,), scans_parts=True)
 PARTLY = [f"{word} 0 {page}{rest}" for page in range(4) for word, rest in (("splitpmd", ""), ("unmap", " 0 8"))]
 SCRIPT = script_of("parts", "\n".join([
     "# thpsplit --nodes 1", "setup", *["alloc 0"] * 4, *PARTLY, "pin 0 0", "pin 0 1", "scan 0 2", "scan 0 1", ""]))

@@ -6,7 +6,6 @@ import os
 import random
 import stat
 import subprocess
-import sys
 import tempfile
 import unittest
 from pathlib import Path
@@ -128,14 +127,39 @@ class UserTest(unittest.TestCase):
                 user.user_for(name)
 
     def test_programs_run_without_rights_in_an_empty_folder(self) -> None:
-        code = ("import os; print(os.getuid(), os.getgroups(), os.listdir('.'), sorted(os.environ), "
-                "os.path.exists('/proc/self/fd/9'))")
-        child = start(sys.executable if os.geteuid() else "/usr/bin/python3", ["-IS", "-c", code], stdout=subprocess.PIPE)
+        code = ("import os; print(os.getuid(), os.getgroups(), os.listdir('.'), sorted(os.environ), os.path.exists('/proc/self/fd/9'), "
+                "[each for each in open('/proc/self/status') if 'NoNewPrivs' in each or 'Max core' in each])")
+        child = start("/usr/bin/python3", ["-IS", "-c", code], stdout=subprocess.PIPE)
         output, _ = child.communicate()
-        number = os.geteuid() or user.NOBODY
         groups = os.getgroups() if os.geteuid() else []
         files = os.listdir("/") if os.geteuid() else []
-        self.assertEqual(output.decode().strip(), f"{number} {groups} {files} ['LC_ALL', 'PATH'] False")
+        number = user.user_without_rights().number
+        self.assertEqual(output.decode().strip(), f"{number} {groups} {files} ['LC_ALL', 'PATH'] False ['NoNewPrivs:\\t1\\n']")
+
+    @unittest.skipIf(os.geteuid(), "not root")
+    def test_no_account_and_no_process_has_the_number_of_a_user_without_rights(self) -> None:
+        found = user.user_without_rights()
+        self.assertIn(found.number, user.UNUSED)
+        with subprocess.Popen(["sleep", "60"], user=found.number, group=found.group, extra_groups=[]) as other:
+            user.user_without_rights.cache_clear()
+            numbers = iter([0, 0, 5, 0])
+            with mock.patch.object(os, "urandom", lambda _: (found.number - user.UNUSED.start + next(numbers)).to_bytes(8, "little")):
+                self.assertEqual(user.user_without_rights().number, found.number + 5)
+            other.kill()
+        user.user_without_rights.cache_clear()
+
+    @unittest.skipIf(os.geteuid(), "not root")
+    def test_a_program_is_not_traced_by_another_process_of_its_user(self) -> None:
+        found = user.user_without_rights()
+        child = start("/bin/sleep", ["60"])
+        try:
+            code = f"import os\nfor name in ('mem', 'environ', 'fd'):\n    print(os.access('/proc/{child.pid}/' + name, os.R_OK))"
+            done = subprocess.run(["/usr/bin/python3", "-c", code], capture_output=True, text=True, check=False, user=found.number,
+                                  group=found.group, extra_groups=[])
+        finally:
+            child.kill()
+            child.wait()
+        self.assertEqual(done.stdout, "False\n" * 3)
 
     def test_the_user_behind_sudo(self) -> None:
         if os.geteuid():

@@ -265,7 +265,7 @@ class ExpectedRunTest(unittest.TestCase):
 
 class GeneratorTest(unittest.TestCase):
     def test_a_seed_has_its_scripts_whatever_the_count(self) -> None:
-        shape = Shape(thresholds=("off", "100"))
+        shape = Shape(thresholds=(None, 100))
         few, many = list(scripts(3, 9, shape)), list(scripts(6, 9, shape))
         self.assertEqual([script.text for script in few], [script.text for script in many[:3]])
         self.assertEqual(len({script.text for script in many}), 6)

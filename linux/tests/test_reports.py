@@ -17,7 +17,7 @@ from ..common.errors import DIFFERS, DONE, FAILED, INCONCLUSIVE, Busy, InputFaul
 from ..common.machine import Part
 from ..common.script import Script, script_of
 from ..replay import __main__ as tool
-from ..replay.options import list_scripts, parse_words, read_seeds
+from ..replay.options import list_scripts, parse_words
 from ..replay.reports import JsonReport, KtapReport, Report, RunHead, TextReport, kselftest_status
 from ..replay.runner import Outcome, Result
 from ..replay.shrinking import SmallScript
@@ -107,7 +107,7 @@ class SeedsTest(unittest.TestCase):
         with tempfile.TemporaryDirectory() as folder:
             path = Path(folder) / "seeds"
             path.write_text(text, encoding="utf-8")
-            return read_seeds(str(path))
+            return list(list_scripts(parse_words(["--seeds", str(path)])).scripts)
 
     def test_a_line_is_the_first_script_of_its_seed(self) -> None:
         found = self.read("# two\n7\n\n9 --thresholds 100 --length 12  # short\n")
@@ -116,7 +116,7 @@ class SeedsTest(unittest.TestCase):
         self.assertEqual(found, wanted)
 
     def test_the_fixed_set_is_fixed(self) -> None:
-        found = read_seeds(str(SEEDS))
+        found = list(list_scripts(parse_words(["--seeds", str(SEEDS)])).scripts)
         self.assertEqual((len(found), len({script.name for script in found})), (200, 200))
         digest = hashlib.sha256("".join(script.text for script in found).encode("ascii")).hexdigest()
         self.assertEqual(digest, DIGEST, "a change of the generator or of linux/seeds.txt changes what results mean")

@@ -30,7 +30,7 @@ def find(bug: str) -> SmallScript:
 
 class ShrinkTest(unittest.TestCase):
     def test_the_stand_in_agrees_with_a_correct_program(self) -> None:
-        shape = Shape(orders=(3, 9), thresholds=("off", "3", "511"), length=30)
+        shape = Shape(orders=(3, 9), thresholds=(None, 3, 511), length=30)
         outcomes = [run_on_model(script, InProcessProgram()) for script in scripts(20, 5, shape)]
         self.assertEqual([each.text for each in outcomes if each.result is Result.DIFFERS], [])
         self.assertGreater(sum(each.result is Result.AGREES for each in outcomes), 15)

@@ -6,7 +6,7 @@ import argparse
 import os
 import sys
 import time
-from typing import NoReturn, Optional
+from typing import NoReturn
 
 from ..common.errors import RunFailed, Unavailable
 from ..common.tool import run_tool
@@ -53,7 +53,7 @@ class Host:
 
     def run(self) -> int:
         """Returns the command's status: with KVM where it works, else by emulation."""
-        problem: Optional[str] = "not wanted"
+        problem: str | None = "not wanted"
         if self._options.accel != "emulation":
             problem = find_kvm_problem()
             if not problem:

@@ -6,7 +6,7 @@ Rules: Documentation/driver-api/early-userspace/buffer-format.rst of the kernel.
 from __future__ import annotations
 
 import stat
-from typing import BinaryIO, Set
+from typing import BinaryIO
 
 _MAGIC, _END = "070701", "TRAILER!!!"
 _PROGRAM, _FILE, _FOLDER, _LINK = 0o755 | stat.S_IFREG, 0o644 | stat.S_IFREG, 0o755 | stat.S_IFDIR, 0o777 | stat.S_IFLNK
@@ -17,7 +17,7 @@ class Archive:
 
     def __init__(self, out: BinaryIO) -> None:
         self._out, self._number = out, 0
-        self._paths: Set[str] = set()
+        self._paths: set[str] = set()
 
     def __contains__(self, path: str) -> bool:
         return path in self._paths

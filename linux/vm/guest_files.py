@@ -15,7 +15,7 @@ import stat
 import subprocess
 from dataclasses import dataclass, field
 from pathlib import Path
-from typing import Dict, List, Sequence
+from typing import Sequence
 
 from ..common.errors import InputFault, Unavailable
 from ..common.helpers import LINUX, helper
@@ -48,10 +48,10 @@ class Plan:
     folder: str
     group_version: int
     files: Sequence[str] = ()
-    environment: Dict[str, str] = field(default_factory=dict)
+    environment: dict[str, str] = field(default_factory=dict)
 
 
-def libraries_of(path: str) -> List[str]:
+def libraries_of(path: str) -> list[str]:
     """Returns the libraries that a program or library needs. The loader only lists them: nothing of the file is run."""
     done = subprocess.run([LOADER, "--list", path], env=ENVIRONMENT, stdin=subprocess.DEVNULL, capture_output=True, check=False)
     return re.findall(r"^\s+(?:\S+ => )?(/\S+) \(0x", done.stdout.decode("utf-8", "surrogateescape"), re.MULTILINE)
@@ -73,7 +73,7 @@ class GuestFiles:
         self._archive = archive
         self._checkout = LINUX.parent
         self._is_checkout = (self._checkout / "linux/tests").is_dir()
-        self._programs: List[str] = []
+        self._programs: list[str] = []
 
     def path_in_guest(self, path: str) -> str:
         """Returns where a file of this machine is in the guest."""

@@ -7,7 +7,7 @@ import select
 import sys
 import time
 from dataclasses import dataclass
-from typing import Callable, Dict, Optional
+from typing import Callable
 
 from ..common.errors import RunFailed, Unavailable
 from ..common.text import escape
@@ -40,12 +40,12 @@ class GuestRun:
         self.console, self._messages, self._problems = Console(), MessageReader(), b""
         self._began = self._heard = time.monotonic()
         self.release, self.booted = "", 0.0
-        self._status: Optional[int] = None
+        self._status: int | None = None
 
     def run(self) -> int:
         """Returns the command's status. KvmFailed, Unavailable where the kernel lacks something, RunFailed where it doesn't
         boot or hangs."""
-        sources: Dict[int, Callable[[bytes], None]] = {
+        sources: dict[int, Callable[[bytes], None]] = {
             self._machine.console.fileno(): self.console.add,
             self._machine.line.fileno(): self._hear,
             self._machine.problems: self._hear_qemu,
@@ -57,7 +57,7 @@ class GuestRun:
                 self._check_limits()
         return self._status
 
-    def _read(self, sources: Dict[int, Callable[[bytes], None]], patience: float) -> bool:
+    def _read(self, sources: dict[int, Callable[[bytes], None]], patience: float) -> bool:
         """Reads what came within a time; returns whether anything did."""
         ready, _, _ = select.select(list(sources), [], [], patience)
         for descriptor in ready:
@@ -92,7 +92,7 @@ class GuestRun:
             if failure in self._problems and not self.release:
                 raise KvmFailed(escape(self._problems.split(b"\n")[0])[:200])
 
-    def _check_end(self, sources: Dict[int, Callable[[bytes], None]]) -> None:
+    def _check_end(self, sources: dict[int, Callable[[bytes], None]]) -> None:
         """RunFailed where qemu has ended before the command."""
         status = self._machine.find_status()
         if status < 0:

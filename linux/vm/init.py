@@ -24,7 +24,7 @@ import termios
 import time
 import traceback
 import tty
-from typing import Any, Dict, List, NoReturn
+from typing import Any, NoReturn
 
 PLAN = "/etc/thpvm.json"
 LINE = "/dev/ttyS1"
@@ -65,12 +65,12 @@ def send(line: int, letter: bytes, content: bytes) -> None:
         data = data[os.write(line, data):]
 
 
-def start(plan: Dict[str, Any], out: int, problems: int) -> int:
+def start(plan: dict[str, Any], out: int, problems: int) -> int:
     """Starts the command, and returns its process number."""
     child = os.fork()
     if child:
         return child
-    words: List[str] = plan["command"]
+    words: list[str] = plan["command"]
     try:
         os.setsid()
         for number, descriptor in enumerate((os.open(os.devnull, os.O_RDONLY), out, problems)):
@@ -85,7 +85,7 @@ def start(plan: Dict[str, Any], out: int, problems: int) -> int:
 class Follower:
     """Sends what the command writes until it has ended."""
 
-    def __init__(self, line: int, child: int, outputs: Dict[int, bytes]) -> None:
+    def __init__(self, line: int, child: int, outputs: dict[int, bytes]) -> None:
         self._line, self._child, self._outputs = line, child, outputs
         self.status = -1
 
@@ -131,7 +131,7 @@ class Follower:
 def run(line: int) -> None:
     """Carries out the plan."""
     with open(PLAN, encoding="utf-8") as file:
-        plan: Dict[str, Any] = json.load(file)
+        plan: dict[str, Any] = json.load(file)
     problem = mount_groups(plan["cgroup"])
     if problem:
         send(line, b"L", f"memory control groups of version {plan['cgroup']}: {problem}".encode())

@@ -5,7 +5,7 @@ from __future__ import annotations
 import os
 from dataclasses import dataclass
 from pathlib import Path
-from typing import Optional
+
 
 from ..common.errors import InputFault
 from ..common.files import read_input
@@ -36,7 +36,7 @@ def image_in_folder(folder: str) -> str:
     raise InputFault(f"{escape(folder)} has no kernel image ({', '.join(IN_FOLDER[:2])}, ..)")
 
 
-def find_kernel(text: str, suite: Optional[str]) -> Kernel:
+def find_kernel(text: str, suite: str | None) -> Kernel:
     """Returns the kernel of a path or package name. InputFault where it is none, Unavailable where a package can't be
     had."""
     if os.path.isdir(text):

@@ -5,7 +5,7 @@ from __future__ import annotations
 import re
 import struct
 from dataclasses import dataclass
-from typing import Iterator, List
+from typing import Iterator
 
 from ..common.errors import RunFailed
 from ..common.text import escape
@@ -68,7 +68,7 @@ class Console:
         """Adds bytes, and forgets the oldest."""
         self._kept = (self._kept + data)[-KEPT_CONSOLE:]
 
-    def lines(self) -> List[str]:
+    def lines(self) -> list[str]:
         """Returns the last lines, printable; of a kernel that panicked those up to the panic, since a trace follows."""
         lines = [escape(line)[:SHOWN_WIDTH] for line in re.split(rb"[\r\n]+", self._kept) if line.strip()]
         panics = [place for place, line in enumerate(lines) if PANIC in line]

@@ -14,12 +14,11 @@ from __future__ import annotations
 
 import argparse
 import sys
-from typing import List, Optional, Sequence
+from typing import Sequence
 
-from ..common.arguments import OneLineParser, seconds, whole
+from ..common.arguments import OneLineParser, seconds, tool_parser, whole
 from ..common.errors import InputFault
 from ..common.text import escape
-from ..common.version import add_version
 from .packages import SUITE
 
 NAME = "thpvm"
@@ -30,11 +29,8 @@ MOST_NODES, MOST_PROCESSORS = 16, 64
 
 def make_parser() -> OneLineParser:
     """Returns the parser of the words before the command."""
-    form = argparse.RawDescriptionHelpFormatter
-    parser = OneLineParser(prog=NAME, description=__doc__, formatter_class=form,
-                           usage="thpvm [options] KERNEL -- COMMAND [ARGS]")
+    parser = tool_parser(NAME, __doc__, usage="thpvm [options] KERNEL -- COMMAND [ARGS]")
     parser.add_argument("kernel", metavar="KERNEL", help="an image, a folder, or a package as linux-image-amd64")
-    add_version(parser, NAME)
     parser.add_argument("--suite", help="take the package from this Debian suite, as trixie-backports")
     parser.add_argument("--numa", type=whole(1, MOST_NODES), default=1, metavar="N", help="NUMA nodes")
     parser.add_argument("--memory", type=whole(LEAST_MEMORY, MOST_MEMORY), default=MEMORY, metavar="MIB",
@@ -57,9 +53,9 @@ def make_parser() -> OneLineParser:
     return parser
 
 
-def parse_words(given: Optional[Sequence[str]] = None) -> argparse.Namespace:
+def parse_words(given: Sequence[str] | None = None) -> argparse.Namespace:
     """Returns the options of a command line, by default this process's own; `command` are the words after `--`."""
-    words: List[str] = list(sys.argv[1:] if given is None else given)
+    words: list[str] = list(sys.argv[1:] if given is None else given)
     at = words.index("--") if "--" in words else len(words)
     options = make_parser().parse_args(words[:at])
     options.command = words[at + 1:]

@@ -7,13 +7,14 @@ from __future__ import annotations
 
 import os
 import re
+import resource
 import shutil
 import subprocess
-import tarfile
+import sys
 import tempfile
 import time
 from pathlib import Path
-from typing import List, Optional, Sequence
+from typing import Callable, Sequence
 
 from ..common.errors import RunFailed, Unavailable
 from ..common.keeper import open_folder
@@ -22,24 +23,31 @@ from ..common.text import escape
 PACKAGE = re.compile(r"linux-(?:image|binary)-[a-z0-9][a-z0-9.+~-]{0,80}")
 SUITE = re.compile(r"[a-z][a-z0-9-]{1,40}")
 MIRROR, KEYS = "http://deb.debian.org/debian", "/usr/share/keyrings/debian-archive-keyring.gpg"
-MOST_IMAGE = 256 << 20  # bytes of an image
+MOST_IMAGE, MOST_CONTROL = 256 << 20, 1 << 20  # bytes of an image, of a package's description
+MOST_MEMORY, MOST_SECONDS = 384 << 20, 300  # bytes of memory and seconds of processor time of what reads a package
 MOST_STEPS = 4  # packages that depend on one another until one has the image
 SECONDS = 600.0  # that a program of apt gets
 AGE = 86400.0  # seconds after which lists are fetched again
-_IMAGE = re.compile(r"(?:\./)?(?:boot/vmlinuz-[^/]+|(?:usr/)?lib/modules/[^/]+/vmlinuz)")
+_IMAGE, _CONTROL = r"(?:\./)?(?:boot/vmlinuz-[^/]+|(?:usr/)?lib/modules/[^/]+/vmlinuz)", r"(?:\./)?control"
+_DEPENDS = re.compile(rb"^Depends:(.*(?:\n .*)*)", re.MULTILINE)
+UNPACK = Path(__file__).with_name("unpack.py")
 _URI = re.compile(r"^'[^']+' ([A-Za-z0-9.+~_%-]+)\.deb ", re.MULTILINE)
 
 
-def call(words: Sequence[str], folder: Optional[str] = None) -> subprocess.CompletedProcess[bytes]:
-    """Runs a program of apt or dpkg. Unavailable where it isn't there or takes too long."""
+def call(words: Sequence[str], folder: str | None = None) -> subprocess.CompletedProcess[bytes]:
+    """Runs a program of apt. Unavailable where it isn't there or takes too long."""
     if not shutil.which(words[0]):
         raise Unavailable(f"no {words[0]}: packages can't be used here")
-    environment = {"PATH": "/usr/sbin:/usr/bin:/sbin:/bin", "LC_ALL": "C.UTF-8"}
+    return _run(words, folder)
+
+
+def _run(words: Sequence[str], folder: str | None = None, limit: Callable[[], None] | None = None) -> subprocess.CompletedProcess[bytes]:
+    environment = {"PATH": "/usr/sbin:/usr/bin:/sbin:/bin", "LC_ALL": "C.UTF-8", "DPKG_DEB_THREADS_MAX": "1"}
     try:
         return subprocess.run(words, cwd=folder, env=environment, stdin=subprocess.DEVNULL, capture_output=True, check=False,
-                              timeout=SECONDS)
+                              timeout=SECONDS, preexec_fn=limit)
     except subprocess.TimeoutExpired as error:
-        raise Unavailable(f"{words[0]} takes more than {SECONDS:.0f} s") from error
+        raise Unavailable(f"{escape(words[0])} takes more than {SECONDS:.0f} s") from error
 
 
 def reason_of(done: subprocess.CompletedProcess[bytes]) -> str:
@@ -64,11 +72,11 @@ def open_cache() -> Path:
 class PackageLists:
     """The lists of the machine, or those of a suite in a folder of the cache."""
 
-    def __init__(self, suite: Optional[str]) -> None:
+    def __init__(self, suite: str | None) -> None:
         self._folder = open_cache() / "kernels"
         open_folder(str(self._folder))
         self._suite = suite
-        self._options: List[str] = ["-o", "APT::Sandbox::User=root"] if os.geteuid() == 0 else []
+        self._options: list[str] = ["-o", "APT::Sandbox::User=root"] if os.geteuid() == 0 else []
         if suite:
             self._use_suite(suite)
 
@@ -129,8 +137,8 @@ class PackageLists:
 
 def next_package(package: str) -> str:
     """Returns the first package of a kernel on which a package without an image depends."""
-    depends = call(["dpkg-deb", "-f", package, "Depends"]).stdout.decode("utf-8", "replace")
-    for word in re.split(r"[,|]", depends):
+    depends = _DEPENDS.search(unpack(package, "--ctrl-tarfile", _CONTROL, MOST_CONTROL))
+    for word in re.split(r"[,|]", depends[1].decode("utf-8", "replace") if depends else ""):
         found = PACKAGE.match(word.strip())
         if found:
             return found[0]
@@ -139,18 +147,23 @@ def next_package(package: str) -> str:
 
 def extract_image(package: str) -> bytes:
     """Returns the kernel image in a package's file, or nothing. Only the image is unpacked."""
+    return unpack(package, "--fsys-tarfile", _IMAGE, MOST_IMAGE)
+
+
+def unpack(package: str, option: str, pattern: str, most: int) -> bytes:
+    """Returns the first file of a package that has such a name and size, or nothing. RunFailed where the package can't be read
+    within the limits."""
     if not shutil.which("dpkg-deb"):
         raise Unavailable("no dpkg-deb: packages can't be used here")
-    words = ["dpkg-deb", "--fsys-tarfile", package]
-    with subprocess.Popen(words, stdin=subprocess.DEVNULL, stdout=subprocess.PIPE, stderr=subprocess.DEVNULL) as child:
-        try:
-            with tarfile.open(fileobj=child.stdout, mode="r|") as archive:
-                for member in archive:
-                    if member.isfile() and _IMAGE.fullmatch(member.name) and member.size <= MOST_IMAGE:
-                        file = archive.extractfile(member)
-                        return file.read() if file else b""
-        except (tarfile.TarError, OSError, EOFError) as error:
-            raise RunFailed(f"{escape(package)} can't be read as a package: {escape(str(error))}") from error
-        finally:
-            child.kill()
-    return b""
+    done = _run([sys.executable, "-IBS", str(UNPACK), option, os.path.abspath(package), pattern, str(most)], limit=_limit)
+    if done.returncode:
+        reason = done.stderr.strip().split(b"\n")[-1] or f"status {done.returncode}".encode()
+        raise RunFailed(f"{escape(package)} can't be read as a package: {escape(reason)[:200]}")
+    return done.stdout
+
+
+def _limit() -> None:
+    """Bounds the memory and time of this process and of those that it starts."""
+    for which, most in ((resource.RLIMIT_AS, MOST_MEMORY), (resource.RLIMIT_CPU, MOST_SECONDS)):
+        _, hard = resource.getrlimit(which)
+        resource.setrlimit(which, (most if hard == resource.RLIM_INFINITY else min(most, hard), hard))

@@ -16,10 +16,11 @@ import socket
 import stat
 import subprocess
 from dataclasses import dataclass
-from typing import List
+
 
 from ..common.errors import Unavailable
-from ..common.user import User, nobody
+from ..common.program import ENVIRONMENT
+from ..common.user import User, give_up_rights, user_without_rights
 
 QEMU = "qemu-system-x86_64"
 KVM_DEVICE = "/dev/kvm"
@@ -39,7 +40,7 @@ class Shape:
     nodes: int
     processors: int
 
-    def words(self) -> List[str]:
+    def words(self) -> list[str]:
         """Returns qemu's words for it."""
         out = ["-smp", str(self.processors), "-m", f"{self.memory // self.nodes * self.nodes}M"]
         for node in range(self.nodes):
@@ -57,7 +58,7 @@ def find_qemu() -> str:
     return found
 
 
-def groups_for_kvm() -> List[int]:
+def groups_for_kvm() -> list[int]:
     """Returns the group that may use KVM, for a user without rights; none where that is root's."""
     try:
         found = os.stat(KVM_DEVICE)
@@ -68,11 +69,10 @@ def groups_for_kvm() -> List[int]:
 
 def find_kvm_problem() -> str:
     """Returns why a virtual machine of KVM can't be made here, or nothing. A machine that can be made may yet not run."""
-    user = nobody()
     try:
         mode = os.stat(KVM_DEVICE).st_mode
-        if not user.is_caller and not groups_for_kvm() and not (mode & stat.S_IROTH and mode & stat.S_IWOTH):
-            return f"{KVM_DEVICE} isn't for user nobody, as whom qemu runs"
+        if os.geteuid() == 0 and not groups_for_kvm() and not (mode & stat.S_IROTH and mode & stat.S_IWOTH):
+            return f"{KVM_DEVICE} isn't for the user without rights as whom qemu runs"
         device = os.open(KVM_DEVICE, os.O_RDWR | os.O_CLOEXEC)
     except OSError as error:
         return f"{KVM_DEVICE}: {error.strerror}"
@@ -94,7 +94,8 @@ def memory_file(name: str, data: bytes) -> int:
 
 
 def end_with_parent() -> None:
-    """Has the kernel end this process with its parent."""
+    """Has the kernel end this process with its parent, and give it no rights."""
+    give_up_rights()
     _LIBC.prctl(PR_SET_PDEATHSIG, signal.SIGKILL, 0, 0, 0)
 
 
@@ -111,19 +112,17 @@ class VirtualMachine:
         words += ["-append", f"{KERNEL_WORDS} {more}".strip()]
         for name, end in (("console", console), ("line", line)):
             words += ["-chardev", f"socket,id={name},fd={end.fileno()}", "-device", f"isa-serial,chardev={name}"]
-        user = nobody()
         with console, line:
-            self._process = self._start(words, passed, user, with_kvm)
+            self._process = self._start(words, passed, user_without_rights(), with_kvm)
 
     @staticmethod
-    def _start(words: List[str], passed: List[int], user: User, with_kvm: bool) -> subprocess.Popen[bytes]:
+    def _start(words: list[str], passed: list[int], user: User, with_kvm: bool) -> subprocess.Popen[bytes]:
         rights = user.rights()
         if rights and with_kvm:
             rights["extra_groups"] = groups_for_kvm()
-        environment = {"PATH": os.defpath, "LC_ALL": "C.UTF-8"}
         try:
             return subprocess.Popen(words, stdin=subprocess.DEVNULL, stdout=subprocess.DEVNULL, stderr=subprocess.PIPE, cwd="/",
-                                    pass_fds=passed, env=environment, start_new_session=True, preexec_fn=end_with_parent,
+                                    pass_fds=passed, env=ENVIRONMENT, start_new_session=True, preexec_fn=end_with_parent,
                                     **rights)
         except OSError as error:
             raise Unavailable(f"{words[0]} can't be run: {error.strerror}") from error

@@ -15,7 +15,7 @@ from concurrent.futures import ThreadPoolExecutor
 from dataclasses import dataclass, field
 from typing import IO, Any, Dict, List, Optional, Sequence, Tuple
 
-from ..common.checker import JournalChecker, check_file
+from ..common.checker import JournalChecker
 from ..common.errors import USAGE, InputFault, RunFailed, Unavailable
 from ..common.files import PMD_ORDER
 from ..common.helpers import helper
@@ -201,7 +201,7 @@ def reopened(file: IO[bytes]) -> IO[bytes]:
 def read_recording(path: str, times: Optional[str], by: JournalChecker) -> Recording:
     """Opens a journal, and checks it. InputFault where it is no journal, RunFailed where it isn't legal."""
     journal = open_input(path)
-    verdict = check_file(by, journal.fileno())
+    verdict = by.check(journal.fileno())
     if verdict.line is not None:
         why = "".join(f"; {escape(line)}" for line in text_lines(verdict.why) if line.startswith("why: "))
         raise IllegalJournal(f"{escape(path)}: {verdict.text}{why}")

@@ -17,11 +17,10 @@ import json
 import os
 import random
 import shutil
-import signal
 import subprocess
 import time
 from collections import Counter
-from contextlib import ExitStack, contextmanager
+from contextlib import ExitStack, contextmanager, suppress
 from dataclasses import dataclass, field
 from typing import Dict, Iterator, List, Optional, Sequence, Set, Tuple
 
@@ -30,8 +29,7 @@ from ..common.counters import CounterWatch, counts
 from ..common.errors import DIFFERS, DONE, INCONCLUSIVE, InputFault, RunFailed
 from ..common.files import BASE, COLLAPSE_SLEEP, PMD_ORDER, PTES_NONE, SWITCH, THP, OwnFolder, size_folder
 from ..common.folios import Folio
-from ..common.groups import Groups
-from ..common.hold import LIMIT, hold_processes
+from ..common.groups import END_TIME, Freeze, Groups
 from ..common.keeper import Keeper
 from ..common.page_files import Frames, PageFlag, frame_of_entry
 from ..common.proc import members
@@ -82,7 +80,6 @@ class TrialOptions:
     enabled: str = ""  # transparent_hugepage/enabled meanwhile
     change: int = 0  # microseconds between changes of known pages; 0: they stand still
     with_kernel: bool = True
-    freeze_limit: float = LIMIT  # seconds for which pages are held still at most
     wait: bool = False  # for another tool
     verbose: bool = False
     keep: str = ""  # a folder for what was seen
@@ -161,12 +158,12 @@ class Bench:
     def trial(self, threshold: int, chance: random.Random) -> Result:
         """Makes one trial on new pages."""
         self._made += 1
-        task, group = self.task, self.groups.add(f"trial{self._made}")
+        is_held = (self.task.command or self.task.change) and not self.task.running
+        group = self.groups.add(f"trial{self._made}", is_freezable=bool(is_held))
         self.keeper.set(PTES_NONE, threshold)
         with self._pages(group, threshold, chance), ExitStack() as stack:
-            is_undisturbed, hold = CounterWatch([]).watch_once(WINDOW), None
-            if (task.command or task.change) and not task.running:
-                hold = stack.enter_context(hold_processes(lambda: members(group), [], self.keeper, task.freeze_limit))
+            is_undisturbed = CounterWatch([]).watch_once(WINDOW)
+            held = stack.enter_context(self.groups.freeze(group)) if is_held else Freeze()
             snapshot = self._taker.take(ProcessChoice(groups=[group]))
             before = counts([])
             self.groups.reclaim(group)
@@ -176,11 +173,11 @@ class Bench:
             is_undisturbed = is_undisturbed and CounterWatch([]).watch_once(WINDOW)
             made = write_snapshot(snapshot)
             predicted = self._predict(made, threshold)
-        remove_group(group)
+        self.groups.remove(group)
         result = self._result(snapshot, made, predicted, returned, {k: v or 0 for k, v in added.items()}, threshold)
         result.moved = len(moved.intersection(result.differing))
         result.differing = [frame for frame in result.differing if frame not in moved]
-        result.is_undisturbed, result.problem = is_undisturbed, hold.problem if hold else ""
+        result.is_undisturbed, result.problem = is_undisturbed, held.problem
         if is_undisturbed and not result.differing and not result.are_counters_right:
             result.is_undisturbed = CounterWatch([]).watch_once(LONG_WINDOW)
         return result
@@ -206,8 +203,22 @@ class Bench:
                 self._wait(process, group)
             yield
         finally:
-            end_process(process)
+            self._end(process, group)
+
+    def _end(self, process: subprocess.Popen[str], group: str) -> None:
+        """Kills all processes of a trial, and waits for them. RunFailed where one doesn't end: settings are put back then."""
+        has_ended = self.groups.kill(group)
+        for stream in (process.stdin, process.stdout):
+            with suppress(OSError):  # what was still to be written found no reader
+                if stream:
+                    stream.close()
+        try:
+            process.wait(END_TIME)
             self.keeper.disown(process.pid)
+        except subprocess.TimeoutExpired:
+            has_ended = False
+        if not has_ended:
+            raise RunFailed("processes of the trial were killed, and didn't end: they wait for the kernel or a file system")
 
     def _wait(self, process: subprocess.Popen[str], group: str) -> None:
         """Lets the command run for a while. RunFailed where it ends before the look, and leaves no process."""
@@ -280,31 +291,6 @@ class Bench:
         return Result(snapshot, folios, partly, predicted, plain, own, unscripted, added, differing=differing)
 
 
-def end_process(process: subprocess.Popen[str]) -> None:
-    """Kills a process of ours with its session, and waits for it."""
-    try:
-        os.killpg(process.pid, signal.SIGKILL)
-    except OSError:
-        pass  # it has ended
-    process.wait()
-    for stream in (process.stdin, process.stdout):
-        try:
-            if stream:
-                stream.close()
-        except OSError:
-            pass  # what was still to be written found no reader
-
-
-def remove_group(path: str) -> None:
-    """Removes a group of a trial, whose processes were killed; the keeper tries again at the end."""
-    for _ in range(100):
-        try:
-            os.rmdir(path)
-            return
-        except OSError:
-            time.sleep(0.01)
-
-
 def find_returned(snapshot: Snapshot, frames: Frames) -> Tuple[Dict[int, int], Set[int]]:
     """Returns which frames came back, by page: of those that are no longer whole, each subpage that no process of the
     snapshot maps where it was. Frames that are a huge page, but nobody's where they were, came back altogether and are
@@ -336,7 +322,7 @@ def count_result(sums: Counter[str], result: Result) -> None:
     outcome = result.outcome
     sums["trials"] += 1
     sums["trials exact"] += outcome is Outcome.EXACT
-    sums["trials inconclusive: others moved counters or pages, or the hold ended"] += outcome is Outcome.INCONCLUSIVE
+    sums["trials inconclusive: others moved counters or pages, or these weren't held"] += outcome is Outcome.INCONCLUSIVE
     sums["trials that differ"] += outcome is Outcome.DIFFERS
     sums["trials in which the plain reading agrees with the kernel"] += result.plain == result.returned
     sums["pages"] += len(result.folios)
