@@ -35,7 +35,7 @@ MOST_RESIDENT = 64 << 10  # KiB
 SECONDS = 600  # that a case gets: enough on a loaded machine
 FAULTS, DROPS = 300000, 20000
 RECORDED = 1.5  # seconds of a recording that is interrupted
-PAGES, FOLLOWED, RUNS, TRIES = 48, 45, 5, 12  # of snapshots.py
+PAGES, FOLLOWED, RUNS, TRIES = 48, 45, 2, 8  # of snapshots.py
 EXAMPLES = ROOT / "linux/record/examples"
 CHECKER = program.find("thpcheck", checker.BUILT) or str(ROOT / "linux/tests/plain_checker.py")
 PYTHON = "/usr/bin/python3"
@@ -44,8 +44,9 @@ FOLDER = Path("/")  # of this run; set at its start
 INNER_GROUP = """
 import os, sys, time
 sys.path.insert(0, sys.argv[1])
-from linux.common.guardian import groups_of
-group = next(path for path in groups_of(os.getpid()) if "/thprecord-" in path)
+from linux.common.groups import find_hierarchy
+found = find_hierarchy()
+group = found.top if found.version == 1 else found.mount + open("/proc/self/cgroup").read().split("::")[1].strip()
 os.mkdir(group + "/inner")
 with open(group + "/inner/cgroup.procs", "w") as file:
     file.write(str(os.getpid()))
