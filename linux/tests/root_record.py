@@ -356,6 +356,18 @@ def one_that_cannot_be_run() -> Optional[str]:
     return run(["--", str(path)]).wrong(FAILED, "can't be started: Exec format error")
 
 
+def kernel_memory_needs_two_rights() -> Optional[str]:
+    """CAP_BPF and CAP_PERFMON, and no other; each is named where it is missing."""
+    code = "import sys; sys.path.insert(0, sys.argv[1]); from linux.common import machine; print(machine.table(machine.memory()[1]))"
+    for rights, wanted in (("bpf,+perfmon", "struct page in it     yes"), ("bpf", "no   the BPF programs are refused: CAP_PERFMON is missing"),
+                           ("perfmon", "no   the BPF programs are refused: CAP_BPF is missing")):
+        words = ["setpriv", "--bounding-set", f"-all,+{rights}", "--inh-caps=-all", sys.executable, "-c", code, str(ROOT)]
+        done = subprocess.run(words, capture_output=True, text=True, check=False)
+        if wanted not in done.stdout:
+            return f"{rights}: {done.stdout}{done.stderr}"
+    return None
+
+
 def settings() -> List[str]:
     """All settings of huge pages, the tool's control groups, and open temporary files of tools that have ended."""
     out = [f"{path} {read(path)}" for path in sorted(Path(THP).rglob("*"))
@@ -375,7 +387,7 @@ def main() -> int:
         pages_of_groups_of_its_own_are_counted, pages_of_two_sizes, workers_that_share_a_node,
         processes_that_share_a_node, runs_as_the_user, several_threads, bounded_without_events, bounded_with_events,
         copies_on_write, ended_by_seconds, ended_by_events, ended_though_it_ignores_that,
-        ended_by_the_limit_of_disk, files_that_cannot_be_written,
+        ended_by_the_limit_of_disk, files_that_cannot_be_written, kernel_memory_needs_two_rights,
     ]
     for case in each:
         cases.run(case.__name__.replace("_", " "), case)
