@@ -59,7 +59,7 @@ def build_journals(
         for number, order in enumerate(options.orders):
             builder = JournalBuilder(settings_for(recording, options, order, page_size, folios))
             records = store.records()
-            builder.add_linked_records(records if number else queues[-1].follow(records))
+            builder.add_records(records if number else queues[-1].follow(records))
             out.append(builder)
     return out, queues
 
@@ -144,7 +144,7 @@ class Run:
         if journal.size > MOST_TAMPERED:
             print(f"no altered copies: the journal has more than {MOST_TAMPERED >> 20} MiB")
         else:
-            try_copies([("the journal", journal.text())], self._by, self._options.tamper, 1)
+            try_copies(journal.text(), self._by, self._options.tamper, 1)
 
 
 def count_pages(builders: List[JournalBuilder]) -> Tuple[int, int]:

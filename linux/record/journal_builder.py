@@ -19,7 +19,7 @@ from .calls import COLLAPSE, COPIED, MADVISE, MADV_COLLAPSE, has_succeeded
 from .mappings import MappingEvents
 from .pages import Mapping, Page
 from .queue_matcher import QueueMatcher
-from .records import Kind, Record, link_records
+from .records import Kind, Record
 from .scans import ScanEvents
 from .state import Settings, State
 
@@ -112,13 +112,8 @@ class JournalBuilder:
 
     # records
 
-    def add_records(self, records: List[Record]) -> None:
-        """Adds all records of a run."""
-        link_records(records)
-        self.add_linked_records(records)
-
-    def add_linked_records(self, records: Iterable[Record]) -> None:
-        """Adds all records of a run; they are linked."""
+    def add_records(self, records: Iterable[Record]) -> None:
+        """Adds all records of a run; a Store has linked them."""
         state = self._state
         for record in records:
             state.now, state.task = record.time, record.task

@@ -36,7 +36,7 @@ SECONDS = 600  # that a case gets: enough on a loaded machine
 FAULTS, DROPS = 300000, 20000
 RECORDED = 1.5  # seconds of a recording that is interrupted
 PAGES, FOLLOWED, RUNS, TRIES = 48, 45, 2, 8  # of snapshots.py
-EXAMPLES = ROOT / "linux/record/examples"
+EXAMPLES = ROOT / "linux/tests/programs"
 CHECKER = program.find("thpcheck", checker.BUILT) or str(ROOT / "linux/tests/plain_checker.py")
 PYTHON = "/usr/bin/python3"
 USER = "nobody"
@@ -359,8 +359,9 @@ def one_that_cannot_be_run() -> Optional[str]:
 def kernel_memory_needs_two_rights() -> Optional[str]:
     """CAP_BPF and CAP_PERFMON, and no other; each is named where it is missing."""
     code = "import sys; sys.path.insert(0, sys.argv[1]); from linux.common import machine; print(machine.table(machine.memory()[1]))"
-    for rights, wanted in (("bpf,+perfmon", "struct page in it     yes"), ("bpf", "no   the BPF programs are refused: CAP_PERFMON is missing"),
-                           ("perfmon", "no   the BPF programs are refused: CAP_BPF is missing")):
+    refused = "no   the BPF programs are refused: {} is missing"
+    for rights, wanted in (("bpf,+perfmon", "struct page in it     yes"), ("bpf", refused.format("CAP_PERFMON")),
+                           ("perfmon", refused.format("CAP_BPF"))):
         words = ["setpriv", "--bounding-set", f"-all,+{rights}", "--inh-caps=-all", sys.executable, "-c", code, str(ROOT)]
         done = subprocess.run(words, capture_output=True, text=True, check=False)
         if wanted not in done.stdout:
