@@ -89,10 +89,6 @@ class JournalBuilder:
             latest = max(latest, time)
             yield latest
 
-    def list_mappings(self, space: int) -> list[Mapping]:
-        """Returns the mappings of an address space."""
-        return list(self._state.spaces.get(space, {}).values())
-
     @property
     def tallies(self) -> dict[str, int]:
         """How often each thing was observed, inferred or left out, by its description."""

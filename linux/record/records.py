@@ -132,14 +132,6 @@ def parse_record(raw: bytes, place: int = 0) -> Record:
     return out
 
 
-def record_from_json(to_json: list[Any]) -> Record:
-    """Returns a record by what `to_json` gave."""
-    kind, time, task, space, values, queue, *contents = to_json
-    out = Record(Kind(kind), time, task, space, tuple(values), without_repeats(queue))
-    out.contents = (contents[0][0], contents[0][1]) if contents else None
-    return out
-
-
 def pack_record(record: Record) -> bytes:
     """Returns the bytes of a record, as the trace programs make them; the task group's number is 0."""
     if record.contents is not None:

@@ -5,12 +5,20 @@ from __future__ import annotations
 import gzip
 import json
 from pathlib import Path
-from typing import List
+from typing import Any, List
 
-from ..record.records import Record, pack_record, record_from_json
+from ..record.records import Kind, Record, pack_record, without_repeats
 from ..record.store import Store
 
 STORED = Path(__file__).resolve().parent / "stored"
+
+
+def record_from_json(to_json: list[Any]) -> Record:
+    """Returns a record by what `to_json` gave."""
+    kind, time, task, space, values, queue, *contents = to_json
+    out = Record(Kind(kind), time, task, space, tuple(values), without_repeats(queue))
+    out.contents = (contents[0][0], contents[0][1]) if contents else None
+    return out
 
 
 def read_recording(name: str) -> List[Record]:

@@ -10,11 +10,11 @@ from typing import List, Optional, Sequence
 
 from ..common.program import Program
 from ..record.journal_builder import JournalBuilder
-from ..record.records import COUNT_AT, FOLIOS_AT, QUEUE_MOST, SIZE, Kind, Record, pack_record, parse_record, record_from_json
+from ..record.records import COUNT_AT, FOLIOS_AT, QUEUE_MOST, SIZE, Kind, Record, pack_record, parse_record
 from ..record.scans import batches_of
 from ..record.state import Settings
 from ..record.tampering import Alteration, alter_journal
-from .recordings import linked, read_recording
+from .recordings import linked, read_recording, record_from_json
 
 HERE = Path(__file__).resolve().parent
 PLAIN = str(HERE / "plain_program.py")
