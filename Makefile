@@ -1,7 +1,8 @@
 # make try:     builds thpsplit without proofs and runs the first script (SCRIPT=file: another)
 # make run:     proves thpsplit and every library below it, several at a time (prove.py), builds it, and runs the first script
 # make checker: the same for thpcheck, which checks journals of any length; make drawer: for thpdraw, which draws them
-# make deps:    installs by apt-get what building and testing need beside the Rattle toolchain (packages.txt; root)
+# make deps:    installs by apt-get what building and testing need beside the Rattle toolchain (packages.txt; root); KINDS=vm: for
+#               make linux-vm
 # make install: proves and installs the programs, the tools for the running kernel (thpreplay, thprecord, thpvm, thpwhatif),
 #               manual pages and completions, below PREFIX (default /usr/local; DESTDIR as usual); SYSTEMD=1 also installs
 #               thpwhatif.service and thpwhatif.timer. make uninstall removes them all
@@ -47,8 +48,10 @@ SEED ?= 1
 help:
 	@sed -n '/^[^#]/q; s/^# //p' Makefile
 
+KINDS ?= build package test
 deps:
-	apt-get install -y --no-install-recommends $$(sed -n 's/^[a-z]* //p' packages.txt)
+	apt-get -qq update
+	DEBIAN_FRONTEND=noninteractive apt-get -qq install -y --no-install-recommends $(foreach kind,$(KINDS),$$(sed -n 's/^$(kind) //p' packages.txt))
 
 # reports if the installed toolchain is not the one that everything was proved with
 toolchain:

@@ -165,6 +165,7 @@ def build_tools(gate: Gate, *targets: str) -> None:
     lacking = subprocess.run(["make", "-s", "--no-print-directory", "-C", "linux", "lacking"], cwd=ROOT, capture_output=True, text=True)
     if lacking.stdout.strip():
         gate.skip("make -C linux", f"no {lacking.stdout.strip()} (make deps)")
+        subprocess.run(["make", "-k", "-s", "-C", "linux"], cwd=ROOT, capture_output=True)  # the rest
         return
     for folder in (*targets, "linux"):
         gate.run(f"make -C {folder}", partial(built, folder))
