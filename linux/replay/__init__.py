@@ -9,7 +9,6 @@
     bench               what a run of scripts needs on this kernel
     pages               the commands, run by the mapping processes
     comparison          what the kernel should show, with the known differences worked out
-    passes              scans of a queue that has a list for each NUMA node
     runner              one script: command, look, comparison
     shrinking           a script that differs, made small by further runs
     session             what every run begins and ends with: machine, lock, bench

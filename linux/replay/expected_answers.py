@@ -98,12 +98,12 @@ def read_expected_answers(steps: Sequence[Step], text: str, options: Options, pr
     out = []
     for step, answer in zip(steps, answers):
         try:
-            node, count = node_of(step.words), count_events(step.words, answer.text)
+            node, count = node_of(step.words), count_events(step.words, answer)
         except (ValueError, KeyError) as error:
             raise InputFault(f"{program.path} gives an answer that is none (command {step.place})") from error
         if len(rest) <= node or len(rest[node]) < count:
             raise InputFault(f"{program.path} reports fewer events than its answers (command {step.place})")
-        out.append(ExpectedAnswer(step.place, step.words, answer.text, tuple(rest[node][:count])))
+        out.append(ExpectedAnswer(step.place, step.words, answer, tuple(rest[node][:count])))
         del rest[node][:count]
     return out
 

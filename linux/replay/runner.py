@@ -41,27 +41,6 @@ class Kernel(Protocol):
         """Notes that the last command split a page."""
 
 
-class StoredKernel:
-    """Looks that were stored, one for the beginning and one for each command."""
-
-    drops_zeros = True
-
-    def __init__(self, looks: list[Observation], scans_exactly: bool = False) -> None:
-        self._looks, self.scans_exactly = iter(looks), scans_exactly
-
-    def run_command(self, expected: ExpectedAnswer, state: NodeState) -> None:
-        pass
-
-    def look(self, states: Sequence[NodeState]) -> Observation:
-        look = next(self._looks, None)
-        if look is None:
-            raise InputFault("the recording has fewer looks than the script has commands")
-        return look
-
-    def note_split(self, node: int, number: int) -> None:
-        pass
-
-
 class Result(enum.Enum):
     """How a script ends; `inconclusive`: only counters differ, and something else may have moved them."""
 
