@@ -9,11 +9,10 @@ from __future__ import annotations
 
 import array
 import os
-import re
 import select
 import socket
+import struct
 import subprocess
-
 
 from ..common.errors import RunFailed, Unavailable
 from ..common.files import BASE
@@ -22,21 +21,12 @@ from ..common.keeper import Keeper, process_of
 from ..common.page_files import NumberFile, frame_of_entry
 
 PATIENCE = 20.0  # seconds until a reply
-MOST_REPLY = 64  # bytes
-
-_REPLY = re.compile(rb"(ok|error) (0|[1-9][0-9]{0,17})")
+WORDS = ("fork", "enter", "alloc", "unmap", "splitpmd", "fill", "pin", "unpin", "exit")  # mapper.c has the same order
+COMMAND, REPLY = struct.Struct("<4i"), struct.Struct("<q")
 
 
 class Refusal(RunFailed):
     """A mapping process could not do a command; the text is the command and the kernel's reason."""
-
-
-def parse_reply(data: bytes) -> tuple[bool, int]:
-    """Returns whether a command was done, and the number of the reply."""
-    found = _REPLY.fullmatch(data)
-    if not found:
-        raise RunFailed(f"a mapping process sends what is no reply: {data!r}")
-    return found[1] == b"ok", int(found[2])
 
 
 def has_ended(pidfd: int) -> bool:
@@ -69,15 +59,15 @@ class MapperSocket:
         if end:
             end.close()
 
-    def ask(self, text: str, passed: int | None = None) -> tuple[int, int | None]:
+    def ask(self, word: str, *operands: int, passed: int | None = None) -> tuple[int, int | None]:
         """Sends a command, with a descriptor or none; returns the number of the reply and the descriptor that it
         carries. Refusal where the process could not do it."""
         if self._end is None:
             raise RunFailed("a mapping process has failed before")
         try:
-            socket.send_fds(self._end, [text.encode()], [] if passed is None else [passed])
-            data, carried = self._receive(self._end)
-            is_done, number = parse_reply(data)
+            command = COMMAND.pack(WORDS.index(word), *operands, *[0] * (3 - len(operands)))
+            socket.send_fds(self._end, [command], [] if passed is None else [passed])
+            number, carried = self._receive(self._end)
         except BaseException as error:  # a signal, too: the reply to this command must not be taken for the next one's
             self.close()
             if isinstance(error, socket.timeout):
@@ -85,25 +75,25 @@ class MapperSocket:
             if isinstance(error, OSError):
                 raise RunFailed(f"a mapping process has ended: {error.strerror}") from error
             raise
-        if is_done:
+        if number >= 0:
             return number, carried
         if carried is not None:
             os.close(carried)
-        raise Refusal(f"{text}: {os.strerror(number)}")
+        raise Refusal(f"{' '.join(map(str, (word, *operands)))}: {os.strerror(-number)}")
 
     @staticmethod
-    def _receive(end: socket.socket) -> tuple[bytes, int | None]:
+    def _receive(end: socket.socket) -> tuple[int, int | None]:
         room = socket.CMSG_LEN(array.array("i").itemsize)
-        data, control, flags, _ = end.recvmsg(MOST_REPLY, room, socket.MSG_CMSG_CLOEXEC)
+        data, control, flags, _ = end.recvmsg(REPLY.size, room, socket.MSG_CMSG_CLOEXEC)
         found = array.array("i")
         for _, kind, part in control:
             if kind == socket.SCM_RIGHTS:
                 found.frombytes(part[: len(part) - len(part) % found.itemsize])
-        if not data or flags & (socket.MSG_TRUNC | socket.MSG_CTRUNC) or len(found) > 1:
+        if len(data) != REPLY.size or flags & (socket.MSG_TRUNC | socket.MSG_CTRUNC) or len(found) > 1:
             for descriptor in found:
                 os.close(descriptor)
-            raise RunFailed("a mapping process has ended" if not data else "a mapping process sends too much")
-        return data, found[0] if found else None
+            raise RunFailed("a mapping process sends what is no reply" if data else "a mapping process has ended")
+        return int(REPLY.unpack(data)[0]), found[0] if found else None
 
 
 class Mapper:
@@ -118,9 +108,9 @@ class Mapper:
         self.at: int = like.at if like else 0
         self.pins = 0
 
-    def request(self, text: str, passed: int | None = None) -> int:
+    def request(self, word: str, *operands: int, passed: int | None = None) -> int:
         """Sends a command and returns the number of the reply."""
-        number, carried = self._line.ask(text, passed)
+        number, carried = self._line.ask(word, *operands, passed=passed)
         if carried is not None:
             os.close(carried)
             raise RunFailed("a mapping process sends a descriptor that was not asked for")
@@ -128,7 +118,7 @@ class Mapper:
 
     def alloc(self, order: int, fill: int) -> None:
         """Allocates a page and fills it with a byte, unless that is 0."""
-        at = self.request(f"alloc {order} {fill}")
+        at = self.request("alloc", order, fill)
         if not at or at % (BASE << order):
             raise RunFailed(f"a mapping process maps a page at an address that isn't aligned: {at:#x}")
         self.at = at
@@ -142,7 +132,7 @@ class Mapper:
         line = MapperSocket(mine)
         try:
             with its:
-                _, pidfd = self._line.ask("fork", its.fileno())
+                _, pidfd = self._line.ask("fork", passed=its.fileno())
             if pidfd is None:
                 raise RunFailed("a mapping process sends no pidfd of its child")
         except BaseException:
@@ -154,7 +144,7 @@ class Mapper:
         """Moves the process into a control group. It moves itself, so no process number is used that another process
         may have by then."""
         with open(f"{group}/cgroup.procs", "wb", 0) as members:
-            self.request("enter", members.fileno())
+            self.request("enter", passed=members.fileno())
 
     def frames(self, count: int) -> list[int | None]:
         """Returns the frame that each of its subpages has, or None where it maps none."""

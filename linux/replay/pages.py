@@ -186,7 +186,7 @@ class KernelPages:
         mapper = page.find_by_pmd()
         if mapper is None:
             raise Unsupported("unmapwhole where nothing maps the page whole")
-        mapper.request(f"unmap 0 {page.subpages}")
+        mapper.request("unmap", 0, page.subpages)
         mapper.whole, mapper.mapped = False, 0
 
     def _map(self, node: int, _state: NodeState, number: int, first: int, count: int) -> None:
@@ -205,7 +205,7 @@ class KernelPages:
 
     def _drop(self, mapper: Mapper, bits: int) -> None:
         for first, count in runs(bits):
-            mapper.request(f"unmap {first} {count}")
+            mapper.request("unmap", first, count)
         mapper.mapped &= ~bits
 
     def _divide(self, mapper: Mapper, page: KernelPage) -> None:
@@ -238,7 +238,7 @@ class KernelPages:
         mapper = next((mapper for mapper in self._pages[node][number].mappers if mapper.mapped), None)
         if mapper is None:
             raise Unsupported("pin of a page that nothing maps")
-        mapper.request(f"pin {next(runs(mapper.mapped))[0]}")
+        mapper.request("pin", next(runs(mapper.mapped))[0])
         mapper.pins += 1
 
     def _unpin(self, node: int, _state: NodeState, number: int) -> None:
@@ -253,7 +253,7 @@ class KernelPages:
         mapper = page.find_covering(bits_of(first, count))
         if page.shared or mapper is None:
             raise Unsupported("a write to a page that was shared: the kernel may copy it")
-        mapper.request(f"fill {first} {count} {byte}")
+        mapper.request("fill", first, count, byte)
 
     def _zero(self, node: int, state: NodeState, number: int, first: int, count: int) -> None:
         self._write(node, state, number, first, count, 0)
