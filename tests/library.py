@@ -24,6 +24,7 @@ sys.path.insert(0, str(ROOT / "release"))
 import version as places  # noqa: E402
 from command import called  # noqa: E402
 from model import Node  # noqa: E402
+from null_pointers import program_text  # noqa: E402
 from protection import weaknesses  # noqa: E402
 from random_texts import Script, joined, likely_words, operands, random_shapes, script_of_one  # noqa: E402
 from script import Run  # noqa: E402
@@ -353,6 +354,12 @@ class Built:
             wrong = called([compiler, *words, *flags, *from_source, room / "thp.o", self.archive, "-o", room / name], C)
         return wrong or called([*under, room / name], room, TSAN_OPTIONS=f"suppressions={C / 'tsan.supp'}")
 
+    def null_pointers(self) -> str | None:
+        """Each call returns THP_NULL for each pointer that is null."""
+        source = self.folder / "null_pointers.c"
+        source.write_text(program_text((C / "thp.h").read_text()))
+        return self.test(str(source), "gcc", ["-std=gnu11", "-Wno-nonnull", *SANITIZED], [])
+
     def suppressed(self) -> str | None:
         """The suppressions suffice for the demo of a cell, with either library; the shared one as packages have it."""
         place = Path(tempfile.mkdtemp(dir=self.folder))
@@ -586,6 +593,7 @@ def builds(tally: Tally, built: Built) -> None:
             tally.run(f"{name}: {compiler} {' '.join(words)}", lambda: built.test(name, compiler, words, []))
     for name in ("demos/threads.c", "demos/cell.c", "tests/interrupted.c", "tests/busy.c", "tests/marks.c"):
         tally.run(f"{name}: gcc -fsanitize=thread", lambda: built.test(name, "gcc", RACING, []))
+    tally.run("each pointer of each call null in turn", built.null_pointers)
     tally.run("suppressions for the thread sanitizer", built.suppressed)
     # valgrind runs one thread at a time: without fair turns, on an idle machine, one that never blocks keeps all others waiting
     under = ["valgrind", "-q", "--fair-sched=try", "--error-exitcode=9", "--leak-check=full", "--errors-for-leak-kinds=all"]

@@ -3,8 +3,8 @@
     python3 tests/wrong_boundary.py ARCHIVE
 
 ARCHIVE is the result of `rt lib` for crates/thp_c. No proof sees these bodies. They concern the readers, whose results no later call
-shows, and which create makes which kind of node. In C the tests are c/tests/calls.c and passes.c; in Rust those of the crate, if there
-is cargo.
+shows, which create makes which kind of node, and each test of a pointer for null. In C the tests are c/tests/calls.c, passes.c and
+the program of null_pointers.py; in Rust those of the crate, if there is cargo.
 """
 
 from __future__ import annotations
@@ -19,6 +19,7 @@ from dataclasses import dataclass
 from functools import partial
 from pathlib import Path
 
+from null_pointers import null_tests, program_text
 from tally import Missing, Tally
 
 ROOT = Path(__file__).resolve().parent.parent
@@ -108,10 +109,7 @@ WRONG = (
     # the caller's own handle is written, or a pointer isn't tested
     *(Wrong(C, f"thp_{what}", "&copy", f"((void)copy, (thp_{what.split('_')[0]} *){what.split('_')[0]})")
       for what in ("node_page", "node_mapcount", "node_queue", "node_queue_length", "node_stats", "node_journal", "pass_callers")),
-    *(Wrong(C, "thp_node_page", old, "") for old in ("node == NULL || ", " || state == NULL")),
-    *(Wrong(C, "thp_node_mapcount", old, "") for old in ("node == NULL || ", " || own == NULL")),
-    *(Wrong(C, "thp_node_queue", old, "") for old in ("node == NULL || ", "(pages == NULL && room != 0) || ", " || count == NULL")),
-    *(Wrong(C, "thp_pass_callers", old, "") for old in ("pass == NULL || ", "first == NULL || ", " || end == NULL")),
+    *(Wrong(C, function, condition, "false") for function, condition in null_tests((ROOT / C).read_text())),
     Wrong(C, "thp_node_queue", "(pages == NULL && room != 0)", "pages == NULL"),
     # the same in Rust
     Wrong(NODE, "page", "page, &mut told", "page + 1, &mut told"),
@@ -151,9 +149,10 @@ class Boundary:
     def refuses_c(self) -> bool | None:
         """Whether a test in C fails on the copy; None if it isn't built."""
         source = self.folder / "c"
+        (source / "tests/null_pointers.c").write_text(program_text((ROOT / "c/thp.h").read_text()))
         if ended(["gcc", "-std=c11", "-O1", "-w", "-c", "thp.c", "-o", "thp.o"], source) != 0:
             return None
-        for name in ("calls", "passes"):
+        for name in ("null_pointers", "calls", "passes"):
             words: list[str | Path] = ["gcc", "-std=gnu11", "-O1", "-w", "-I.", f"tests/{name}.c", "thp.o", self.archive, "-o", name]
             if ended(words, source) != 0:
                 return None

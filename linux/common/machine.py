@@ -6,7 +6,7 @@ import ctypes
 import mmap
 import os
 from dataclasses import dataclass
-from typing import Callable, List, Optional, Tuple
+from typing import Callable
 
 from .errors import Unavailable
 from .files import BASE, PMD_ORDER, PTES_NONE, SWITCH, THP, read, selected_word, size_folder
@@ -37,7 +37,7 @@ def first_line(error: BaseException) -> str:
     return str(error).split("\n", 1)[0]
 
 
-def table(parts: List[Part]) -> str:
+def table(parts: list[Part]) -> str:
     """Returns one line for each part."""
     width = max(len(each.name) for each in parts)
     return "\n".join(f"{each.name:{width}}  {'yes' if each.here else 'no '}  {each.text}" for each in parts)
@@ -63,7 +63,7 @@ def huge_pages() -> str:
     return f"enabled: {mode}"
 
 
-def orders() -> List[int]:
+def orders() -> list[int]:
     """Returns the orders of which this kernel has pages with settings of their own."""
     return [order for order in range(2, PMD_ORDER + 1) if os.path.isdir(size_folder(order))]
 
@@ -121,7 +121,7 @@ def namespace_note() -> str:
     return "in a PID namespace: only the processes of this namespace are seen, others of the machine are not"
 
 
-def memory() -> Tuple[Optional[KernelMemory], List[Part]]:
+def memory() -> tuple[KernelMemory | None, list[Part]]:
     """Kernel memory where it can be read, and what of it: memory, control groups, queues, struct page."""
     try:
         found = KernelMemory()
@@ -129,19 +129,20 @@ def memory() -> Tuple[Optional[KernelMemory], List[Part]]:
         return None, [Part("kernel memory", False, first_line(lacking))]
 
     def locate_groups() -> str:
-        found.group_fields()
-        return f"{len(found.groups())} control groups"
+        found.group(find_hierarchy().top)
+        return "by the folder of each"
 
     def locate_pages() -> str:
-        return f"struct page of {found.vmemmap()[1]} bytes"
+        found.first_page()
+        return f"struct page of {found.page_size()} bytes"
 
     parts = [Part("kernel memory", True, "BPF, BTF"), probe_part("control groups in it", locate_groups)]
     return found, [*parts, probe_part("queues in it", found.locate_queues), probe_part("struct page in it", locate_pages)]
 
 
-def common_parts() -> List[Part]:
+def common_parts() -> list[Part]:
     """Returns the parts that every tool needs."""
-    looks: List[Tuple[str, Callable[[], str]]] = [
+    looks: list[tuple[str, Callable[[], str]]] = [
         ("root", privileged),
         ("huge pages", huge_pages),
         ("page sizes", sizes),
@@ -153,7 +154,7 @@ def common_parts() -> List[Part]:
     return [probe_part(name, look) for name, look in looks]
 
 
-def demand(parts: List[Part], names: List[str]) -> None:
+def demand(parts: list[Part], names: list[str]) -> None:
     """Unavailable, with the reason of the first of these parts that isn't here."""
     for each in parts:
         if each.name in names and not each.here:

@@ -80,8 +80,8 @@ assert PIECE.size == ctypes.sizeof(Piece)
 
 @lru_cache(maxsize=None)
 def load_library() -> ctypes.CDLL:
-    """Loads the C helper. Unavailable where it isn't built and there is no compiler."""
-    library = ctypes.CDLL(helper("common/pages.c", ["-shared", "-fPIC"]))
+    """Loads the C helper. Unavailable where it isn't built."""
+    library = ctypes.CDLL(helper("pages.so"))
     number, long, pointer = ctypes.c_int, ctypes.c_long, ctypes.c_void_p
     library.walk_process.argtypes = [number, number, number, pointer, pointer, long, pointer]
     library.walk_process.restype = long

@@ -10,7 +10,7 @@ The command runs as the caller of `sudo`; in a root shell it runs as root unless
 A node of the journal is a control group, an order and (Linux 7) a NUMA node. Prints the verdict, for an illegal journal its
 line and the explanation, and what was observed, inferred and left out. SIGINT ends the recording; the records until then are checked.
 The command's own status is printed and changes nothing. Needs root.
-Status 0: legal; 1: illegal, records were lost, or a queue didn't keep the order of all its pages (O); 2: an error in the
+Status 0: legal; 1: illegal, records are missing, or a queue didn't keep the order of all its pages (O); 2: an error in the
 options; 3: a system error; 75: another tool is running; 77: nothing could be recorded, or nothing was.
 """
 
@@ -44,7 +44,7 @@ def commands_for(options: RecordOptions, seed: int) -> List[List[str]]:
     """Returns the command given, or a workload for each order."""
     if options.command:
         return [options.command]
-    path, own = helper("record/workload.c"), options.own
+    path, own = helper("workload"), options.own
     return [[path, str(own.threads), str(own.steps), str(seed), str(order), *own.extra] for order in options.orders]
 
 
@@ -101,7 +101,7 @@ class Run:
 
     def _check(self, recording: Recording) -> None:
         self._outputs.write_records(recording.stores)
-        page_size = self._memory.types.struct_size("page")
+        page_size = self._memory.page_size()
         builders, queues = build_journals(self._options, recording, page_size)
         journal = JournalFile(builders)
         try:
@@ -119,7 +119,8 @@ class Run:
     def _report(self, recording: Recording, builders: List[JournalBuilder], journal: JournalFile) -> None:
         events = sum(builder.events for builder in builders)
         verdict = check_journal(journal, events, self._by)
-        complete = f"incomplete: {recording.lost} records were lost; " if recording.lost else ""
+        gaps = recording.gaps()
+        complete = f"incomplete: {', '.join(gaps)}; " if gaps else ""
         pages, followed = count_pages(builders)
         print(f"{complete}{verdict.text}, {recording.count} records, {followed} of {pages} pages followed")
         for why in verdict.why:
@@ -130,7 +131,7 @@ class Run:
         more = {"recordings": 1, "recordings that are legal": int(verdict.legal), "events in journals": events}
         self._count({**more, "pages": pages})
         self.lacking = recording.lacking
-        self.good = self.good and verdict.legal and not recording.lost
+        self.good = self.good and verdict.legal and not gaps
         self.events += events
         if self._options.tamper and verdict.legal:
             self._tamper(journal)
@@ -160,9 +161,9 @@ def record(options: RecordOptions) -> int:
         raise Unavailable(parts[0].text)
     machine.demand(parts, [part.name for part in parts])
     by = find_checker(options.checker, options.program)
-    options.check_nodes(memory.queue_count())
+    options.check_nodes(len(memory.numa_nodes()))
     options.check_command()
-    outputs = Outputs(options, options.groups * memory.queue_count())
+    outputs = Outputs(options, options.groups * len(memory.numa_nodes()))
     run = Run(options, by, memory, outputs)
     try:
         run.all()

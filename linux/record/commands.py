@@ -7,7 +7,7 @@ import signal
 import subprocess
 import time
 from types import FrameType, TracebackType
-from typing import Any, Callable, Dict, List, Optional, Sequence, Type
+from typing import Any, Callable, Sequence
 
 from ..common.errors import RunFailed
 from ..common.files import read, write
@@ -18,6 +18,7 @@ from ..common.user import User
 PATIENCE = 2.0  # seconds from SIGTERM to SIGKILL
 LINKS = 2  # of the folder of a control group without others in it
 PAUSE = 0.002  # seconds between two looks
+HELD = 100  # processes that are held at a time
 
 
 class Interrupts:
@@ -25,7 +26,7 @@ class Interrupts:
 
     def __init__(self) -> None:
         self.name = ""
-        self._former: Dict[signal.Signals, Any] = {}
+        self._former: dict[signal.Signals, Any] = {}
 
     def __enter__(self) -> Interrupts:
         for each in (signal.SIGINT, signal.SIGTERM):
@@ -33,12 +34,12 @@ class Interrupts:
         return self
 
     def __exit__(
-        self, kind: Optional[Type[BaseException]], error: Optional[BaseException], trace: Optional[TracebackType]
+        self, kind: type[BaseException] | None, error: BaseException | None, trace: TracebackType | None
     ) -> None:
         for each, former in self._former.items():
             signal.signal(each, former)
 
-    def _note(self, number: int, _frame: Optional[FrameType]) -> None:
+    def _note(self, number: int, _frame: FrameType | None) -> None:
         if self.name and number == signal.SIGINT:
             raise KeyboardInterrupt
         self.name = signal.Signals(number).name
@@ -49,11 +50,11 @@ class Commands:
 
     def __init__(self, keeper: Keeper, take: Callable[[], None]) -> None:
         self._keeper, self._take = keeper, take
-        self._children: List[subprocess.Popen[bytes]] = []
-        self._groups: List[str] = []
+        self._children: list[subprocess.Popen[bytes]] = []
+        self._groups: list[str] = []
         self.has_inner_groups = False  # their queues aren't recorded
 
-    def start(self, words: Sequence[str], group: str, user: Optional[User]) -> None:
+    def start(self, words: Sequence[str], group: str, user: User | None) -> None:
         """Starts a command in a group, as a user; None: as the tool."""
 
         def enter() -> None:
@@ -93,7 +94,7 @@ class Commands:
         for child in self._children:
             self._keeper.disown(child.pid)
 
-    def statuses(self) -> List[str]:
+    def statuses(self) -> list[str]:
         """Returns how each of them ended."""
         out = []
         for child in self._children:
@@ -112,32 +113,46 @@ class Commands:
             except OSError:
                 continue
 
-    def _members(self) -> List[int]:
+    def _members(self) -> list[int]:
         """Returns the processes of the groups, and of those that the commands have made in them."""
-        out = []
-        for top in set(self._groups):
-            for group, _, _ in os.walk(top):
-                try:
-                    out += [int(number) for number in read(f"{group}/cgroup.procs").split() if int(number) > 0]
-                except OSError:
-                    continue
+        out: list[int] = []
+        folders = list(set(self._groups))
+        while folders:
+            folder = folders.pop()
+            try:
+                out += [int(number) for number in read(f"{folder}/cgroup.procs").split() if int(number) > 0]
+                folders += [each.path for each in os.scandir(folder) if each.is_dir(follow_symlinks=False)]
+            except OSError:
+                continue
         return out
 
     def _send(self, number: signal.Signals) -> None:
-        """Signals all processes of the groups. A process is held by its descriptor while its group is looked up once
-        more, so that the signal reaches no other that has its number."""
-        for process in self._members():
-            try:
-                descriptor = os.pidfd_open(process)
-            except OSError:
-                continue
-            try:
-                if process in self._members():
-                    signal.pidfd_send_signal(descriptor, number)
-            except OSError:
-                pass
-            finally:
-                os.close(descriptor)
+        """Signals all processes of the groups, and the commands wherever they are, which nobody else reaps. A process is held by its
+        descriptor while the groups are looked up once more, so that the signal reaches no other that has its number."""
+        members = self._members()
+        for first in range(0, len(members), HELD):
+            held = {process: open_process(process) for process in members[first : first + HELD]}
+            still = {*self._members()}
+            for process, descriptor in held.items():
+                if descriptor is None:
+                    continue
+                try:
+                    if process in still:
+                        signal.pidfd_send_signal(descriptor, number)
+                except OSError:
+                    pass
+                finally:
+                    os.close(descriptor)
+        for child in self._children:
+            child.send_signal(number)  # nothing where it has ended
+
+
+def open_process(number: int) -> int | None:
+    """Returns a descriptor of a process; None where it has ended, or can't be held."""
+    try:
+        return os.pidfd_open(number)
+    except OSError:
+        return None
 
 
 def _signal_name(number: int) -> str:

@@ -4,7 +4,7 @@ from __future__ import annotations
 
 import os
 import time
-from typing import Iterator, List, Optional, Sequence
+from typing import Iterator, Sequence
 
 from ..common.direct_map import DirectMap
 from ..common.errors import Unavailable
@@ -18,12 +18,12 @@ MOST_MEMORY = 64  # MiB of one look
 
 
 class ContentLooks:
-    """Looks at control groups, one as often as the other. The kernel's types are needed when it is made, and not later."""
+    """Looks at control groups, one as often as the other."""
 
     def __init__(self, memory: KernelMemory, paths: Sequence[str], orders: Sequence[int], every: float) -> None:
         self._paths, self._orders, self._every = list(paths), set(orders), every
-        self._first_page, self._page_size = memory.vmemmap()
-        self._direct: Optional[DirectMap] = None
+        self._memory = memory
+        self._direct: DirectMap | None = None
         try:
             self._direct = DirectMap(memory)
         except Unavailable:
@@ -34,9 +34,9 @@ class ContentLooks:
         """Returns whether it is time for the next look."""
         return time.monotonic() >= self._due
 
-    def look(self) -> List[List[bytes]]:
-        """Returns for each group the records of what its pages contain."""
-        out = [[pack_record(record) for record in self._look_at(path)] for path in self._paths]
+    def look(self) -> dict[str, list[bytes]]:
+        """Returns for each group, by its path, the records of what its pages contain."""
+        out = {path: [pack_record(record) for record in self._look_at(path)] for path in self._paths}
         self._due = time.monotonic() + self._every
         return out
 
@@ -54,13 +54,13 @@ class ContentLooks:
             now = time.monotonic_ns()
             for frame, folio in reader.folios.items():
                 if folio.order in self._orders:
-                    values = (self._first_page + self._page_size * frame, began, *(0,) * 7)
+                    values = (self._memory.folio(frame), began, *(0,) * 7)
                     yield Record(Kind.CONTENTS, now, 0, 0, values, None, contents=(folio.known & ~folio.zero, folio.zero))
         finally:
             reader.close()
 
 
-def processes_of(path: str) -> List[int]:
+def processes_of(path: str) -> list[int]:
     """Returns the processes of a control group, without this tool."""
     try:
         found = [int(number) for number in read_bytes(f"{path}/cgroup.procs").split()]

@@ -2,9 +2,6 @@
 
 from __future__ import annotations
 
-import os
-import shutil
-import tempfile
 from dataclasses import dataclass
 from typing import IO, Sequence
 
@@ -12,7 +9,7 @@ from ..common.checker import JournalChecker
 from ..common.errors import RunFailed
 from ..common.journal import Node, journal_lines
 from ..common.text import escape, text_lines
-from .store import FOLDER
+from .scratch import ScratchFile
 
 SHOWN = 300  # letters of a line that is printed
 
@@ -21,37 +18,27 @@ class JournalFile:
     """A journal in an unnamed temporary file."""
 
     def __init__(self, nodes: Sequence[Node]) -> None:
-        try:
-            self._file: IO[bytes] = tempfile.TemporaryFile(dir=FOLDER)
-            self._file.writelines(line.encode("ascii") + b"\n" for line in journal_lines(nodes))
-            self._file.flush()
-        except OSError as error:
-            raise RunFailed(f"the journal can't be written to {FOLDER}: {error.strerror}") from error
-        self.size = os.fstat(self._file.fileno()).st_size
+        self._file = ScratchFile("the journal")
+        self._file.append_lines(journal_lines(nodes))
+        self.size = self._file.size
 
     @property
     def descriptor(self) -> int:
         """The open file."""
-        return self._file.fileno()
+        return self._file.descriptor
 
     def copy_to(self, file: IO[bytes]) -> None:
         """Writes the journal into another file."""
-        self._file.seek(0)
-        shutil.copyfileobj(self._file, file, 1 << 20)
+        file.writelines(self._file.pieces())
         file.flush()
 
     def line(self, number: int) -> str:
         """Returns a line, counted from 1; "" where there is none."""
-        self._file.seek(0)
-        for at, line in enumerate(self._file, 1):
-            if at == number:
-                return escape(line.rstrip(b"\n"))[:SHOWN]
-        return ""
+        return next((escape(line)[:SHOWN] for at, line in enumerate(self._file.lines(), 1) if at == number), "")
 
     def text(self) -> str:
         """Returns all of it."""
-        self._file.seek(0)
-        return self._file.read().decode("ascii")
+        return b"".join(self._file.pieces()).decode("ascii")
 
     def close(self) -> None:
         """Removes it."""

@@ -3,12 +3,10 @@ temporary file."""
 
 from __future__ import annotations
 
-import tempfile
-from typing import IO, Dict, Iterator, List, Optional, Tuple
+from typing import Dict, Iterator, List, Optional, Tuple
 
-from ..common.errors import RunFailed
 from .pages import JournalLine
-from .store import FOLDER
+from .scratch import ScratchFile
 
 WINDOW = 20000  # lines that can be reordered
 SLACK = 5000  # lines beyond these that are kept before the oldest go to the file
@@ -36,7 +34,7 @@ class JournalLines:
     def __init__(self) -> None:
         self.latest: List[JournalLine] = []
         self.final = 0  # how many lines went to the file
-        self._file: Optional[IO[bytes]] = None
+        self._file: Optional[ScratchFile] = None
 
     def add(self, line: JournalLine) -> None:
         """Appends a line, and makes the oldest ones final where there are many more than can be reordered."""
@@ -79,24 +77,17 @@ class JournalLines:
                 del numbers[number]  # this was its last line
 
     def _all(self) -> Iterator[Tuple[int, str]]:
-        if self._file:
-            self._file.flush()
-            self._file.seek(0)
-            for line in self._file:
-                time, _, text = line[:-1].decode("ascii").partition(" ")
-                yield int(time), text
+        for line in self._file.lines() if self._file else ():
+            time, _, text = line.decode("ascii").partition(" ")
+            yield int(time), text
         for each in self.latest:
             yield each.time, each.text
 
     def _write_oldest(self, count: int) -> None:
         """Writes the oldest lines to the file."""
-        try:
-            if not self._file:
-                self._file = tempfile.TemporaryFile(dir=FOLDER)
-            self._file.seek(0, 2)
-            self._file.writelines(f"{line.time} {line.text}\n".encode("ascii") for line in self.latest[:count])
-        except OSError as error:
-            raise RunFailed(f"the journal can't be written to {FOLDER}: {error.strerror}") from error
+        if not self._file:
+            self._file = ScratchFile("the journal")
+        self._file.append_lines(f"{line.time} {line.text}" for line in self.latest[:count])
         del self.latest[:count]
         self.final += count
 

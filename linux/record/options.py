@@ -7,7 +7,6 @@ import os
 import re
 import shutil
 from dataclasses import dataclass
-from typing import List, Optional, Union
 
 from ..common.arguments import OneLineParser, seconds, whole
 from ..common.errors import InputFault
@@ -30,7 +29,7 @@ class OwnWorkload:
     threads: int
     steps: int
     seed: int
-    extra: List[str]
+    extra: list[str]
 
 
 def parse_workload(text: str) -> OwnWorkload:
@@ -45,7 +44,7 @@ def parse_workload(text: str) -> OwnWorkload:
     return OwnWorkload(threads, steps, seed, words[3:])
 
 
-def parse_orders(text: str) -> List[int]:
+def parse_orders(text: str) -> list[int]:
     """Returns orders from text, each once."""
     orders = text.split(",")
     form = all(re.fullmatch("[0-9]{1,2}", order) and 2 <= int(order) <= PMD_ORDER for order in orders)
@@ -54,7 +53,7 @@ def parse_orders(text: str) -> List[int]:
     return [int(order) for order in orders]
 
 
-def parse_threshold(text: str) -> Union[str, int]:
+def parse_threshold(text: str) -> str | int:
     """Returns the value of --underused: off, as-is or a number."""
     if text in ("off", "as-is"):
         return text
@@ -63,37 +62,46 @@ def parse_threshold(text: str) -> Union[str, int]:
     return int(text)
 
 
+def parse_size(text: str) -> int:
+    """Returns bytes by their number with K, M, G or T, or without."""
+    found = re.fullmatch("([1-9][0-9]{0,11})([KMGT]?)", text)
+    if not found:
+        raise InputFault("--disk needs a number of bytes, or with K, M, G or T a multiple of 1024 bytes and so on")
+    return int(found[1]) << 10 * " KMGT".index(found[2] or " ")
+
+
 class RecordOptions:
     """The options of the command line."""
 
-    def __init__(self, text: str, name: str, words: Optional[List[str]] = None) -> None:
+    def __init__(self, text: str, name: str, words: list[str] | None = None) -> None:
         parsed = _parser(text, name).parse_args(words)
-        self.checker: Optional[str] = parsed.checker
-        self.program: Optional[str] = parsed.program
+        self.checker: str | None = parsed.checker
+        self.program: str | None = parsed.program
         self.own = parse_workload(parsed.own)
         self.orders = parse_orders(parsed.order)
         self.groups: int = parsed.groups
         self.underused = parse_threshold(parsed.underused)
         self.every: float = parsed.every
-        self.collapse: Optional[int] = parsed.collapse
+        self.collapse: int | None = parsed.collapse
         self.compact: bool = parsed.compact
         self.straighten: bool = parsed.straighten
-        self.out: Optional[str] = parsed.out
-        self.times: Optional[str] = parsed.times
-        self.contents: Optional[float] = parsed.contents
-        self.records: Optional[str] = parsed.records
+        self.out: str | None = parsed.out
+        self.times: str | None = parsed.times
+        self.contents: float | None = parsed.contents
+        self.records: str | None = parsed.records
         self.tamper: int = parsed.tamper
         self.least: int = parsed.least
-        self.seconds: Optional[float] = parsed.seconds
-        self.events: Optional[int] = parsed.events
+        self.seconds: float | None = parsed.seconds
+        self.events: int | None = parsed.events
+        self.disk = parse_size(parsed.disk)
         self.wait: bool = parsed.wait
-        self.command: List[str] = parsed.command
+        self.command: list[str] = parsed.command
         self.check_nodes(1)
         if self.command and self.groups > 1:
             raise InputFault("a command runs in one group")
         if parsed.user is not None and not self.command:
             raise InputFault("--user needs a command")
-        self.user: Optional[User] = user_for(parsed.user) if self.command else None
+        self.user: User | None = user_for(parsed.user) if self.command else None
 
     def check_nodes(self, queues: int) -> None:
         """InputFault where a journal with so many queues of each group has too many nodes."""
@@ -131,6 +139,7 @@ def _parser(text: str, name: str) -> argparse.ArgumentParser:
     add("--least", type=whole(0, MANY), default=0, metavar="EVENTS", help="more seeds until so many events")
     add("--seconds", type=seconds(0.001, LONG), metavar="N", help="end the recording, and the command, after N seconds")
     add("--events", type=whole(1, MANY), metavar="N", help="end them once N events of the kernel are recorded")
+    add("--disk", default="1G", metavar="SIZE", help="end them once the records take so many bytes on disk (K, M, G, T); 1G")
     add("--user", metavar="NAME", help="who runs the command; by default the caller of sudo")
     add("--wait", action="store_true", help="wait until no other tool is running")
     add("command", nargs="*", metavar="COMMAND", help="-- COMMAND ARGS..: runs instead of the own workload")

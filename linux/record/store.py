@@ -10,50 +10,50 @@ from __future__ import annotations
 
 import os
 import struct
-import tempfile
-from typing import Callable, Dict, Iterator, List, Optional, Tuple
+from typing import Callable, Iterator, Tuple
 
 from ..common.errors import RunFailed
 from .records import FOLIOS_AT, HEAD, IN_FAULT, QUEUE_MOST, WITH_QUEUE, Kind, Record, parse_record, without_repeats
-from .ring import DISCARDED, Bytes, room_of
-from .ring import HEAD as RING_HEAD
+from .scratch import FOLDER, ScratchFile
 
-FOLDER = "/var/tmp"
+RING_HEAD = 8  # bytes before a record: its length
 BLOCK = 1 << 20  # bytes that are read at a time
 DIES_AT, LINK_AT = 8 * 13, 8 * 15  # the words of a record that are its links
 _WORD, _LINKS = struct.Struct("<Q"), struct.Struct("<3Q")
 _LENGTH = struct.Struct("<I")
 _LINKED = frozenset([Kind.SCAN, Kind.SCANNED, Kind.ALLOC, Kind.FORK, Kind.EXIT_MMAP])
 
-OneLineParser = Tuple[int, ...]
+Words = Tuple[int, ...]
+
+
+def room_of(length: int) -> int:
+    """Returns the bytes that a record of this length takes in the file."""
+    return RING_HEAD + (length + 7 & ~7)
 
 
 class Store:
     """Records of one control group."""
 
     def __init__(self, folder: str = FOLDER) -> None:
-        try:
-            self._file = tempfile.TemporaryFile(dir=folder, buffering=0)
-        except OSError as error:
-            raise RunFailed(f"no temporary file in {folder}: {error.strerror}") from error
-        self._descriptor = self._file.fileno()
-        self._size = 0
-        self.count = 0  # of the records, kept by who writes them
+        self._file = ScratchFile("the records", folder)
+        self._descriptor = self._file.descriptor
+        self.size = 0  # bytes
+        self.count = 0  # of the records
 
-    def write(self, piece: Bytes) -> None:
-        """Appends bytes of the ring."""
-        while len(piece):
-            try:
-                written = os.write(self._descriptor, piece)
-            except OSError as error:
-                raise RunFailed(f"the records can't be written to disk: {error.strerror}") from error
-            self._size += written
-            piece = piece[written:]
+    @property
+    def descriptor(self) -> int:
+        """The open file, to whose end records may be written."""
+        return self._descriptor
+
+    def note_records(self, count: int) -> None:
+        """Notes that so many records were written to the file."""
+        self.count += count
+        self.size = self._file.size
 
     def append(self, raw: bytes) -> None:
         """Appends one record."""
-        self.write((_WORD.pack(len(raw)) + raw).ljust(room_of(len(raw)), b"\0"))
-        self.count += 1
+        self._file.append((_WORD.pack(len(raw)) + raw).ljust(room_of(len(raw)), b"\0"))
+        self.note_records(1)
 
     def link(self) -> None:
         """Links the records, all of which have come: what records.link_records does in memory."""
@@ -63,7 +63,7 @@ class Store:
 
     def records(self) -> Iterator[Record]:
         """Yields the linked records in order."""
-        ends: Dict[int, Record] = {}  # ends of scans, which were read with their scans, by their places
+        ends: dict[int, Record] = {}  # ends of scans, which were read with their scans, by their places
         for at, block, place in self._walk():
             record = ends.pop(at, None)
             if record is None:
@@ -105,19 +105,19 @@ class Store:
     def _word_at(self, at: int) -> int:
         return int(_WORD.unpack(os.pread(self._descriptor, 8, at))[0])
 
-    def _made(self, at: int, end: int) -> Dict[int, int]:
+    def _made(self, at: int, end: int) -> dict[int, int]:
         """Returns the folios that were allocated between a scan's start and end, and when last."""
-        out: Dict[int, int] = {}
+        out: dict[int, int] = {}
         for _, block, place in self._walk(at - RING_HEAD, end):
             kind, time, _, _, folio = struct.unpack_from("<5Q", block, place)
             if kind == Kind.ALLOC:
                 out[folio] = time
         return out
 
-    def _walk(self, at: int = 0, end: Optional[int] = None) -> Iterator[Tuple[int, bytes, int]]:
+    def _walk(self, at: int = 0, end: int | None = None) -> Iterator[tuple[int, bytes, int]]:
         """Yields the records from a place in the file to another, each as its place, a block of the file, and its place
         in the block."""
-        end = self._size if end is None else end
+        end = self.size if end is None else end
         while at < end:
             block, place = os.pread(self._descriptor, BLOCK, at), 0
             while place + RING_HEAD <= len(block) and at + place < end:
@@ -125,15 +125,17 @@ class Store:
                 room = room_of(head)
                 if place + room > len(block):
                     break
-                if not head & DISCARDED:
-                    yield at + place + RING_HEAD, block, place + RING_HEAD
+                yield at + place + RING_HEAD, block, place + RING_HEAD
                 place += room
             if not place:
                 raise RunFailed("the records on disk end within a record")
             at += place
 
     def _patch(self, at: int, value: int) -> None:
-        os.pwrite(self._descriptor, _WORD.pack(value), at)
+        try:
+            os.pwrite(self._descriptor, _WORD.pack(value), at)
+        except OSError as error:
+            raise self._file.failed(error) from error
 
 
 class _Linker:
@@ -141,14 +143,14 @@ class _Linker:
 
     def __init__(self, patch: Callable[[int, int], None]) -> None:
         self._patch = patch
-        self._scans: Dict[int, int] = {}  # those that run, by task: their places
-        self._allocated: Dict[int, Tuple[int, int]] = {}  # by task: place and folio
-        self._last: Dict[int, int] = {}  # by address space: the time of its last record
-        self._first: Dict[int, int] = {}  # by address space: where its end's place goes
-        self._torn: List[int] = []  # scans' ends without a copy: their places
+        self._scans: dict[int, int] = {}  # those that run, by task: their places
+        self._allocated: dict[int, tuple[int, int]] = {}  # by task: place and folio
+        self._last: dict[int, int] = {}  # by address space: the time of its last record
+        self._first: dict[int, int] = {}  # by address space: where its end's place goes
+        self._torn: list[int] = []  # scans' ends without a copy: their places
         self._torn_time = 0
 
-    def see(self, at: int, words: OneLineParser, block: bytes, place: int) -> None:
+    def see(self, at: int, words: Words, block: bytes, place: int) -> None:
         """Takes the next record."""
         kind, time, task, space = words[0], words[1], words[2] & 0xFFFFFFFF, words[3]
         if self._torn or kind == Kind.SCANNED:
@@ -186,7 +188,7 @@ class _Linker:
         if first:
             self._patch(first, at)
 
-    def _has_queue(self, words: OneLineParser, block: bytes, place: int) -> bool:
+    def _has_queue(self, words: Words, block: bytes, place: int) -> bool:
         count = words[14]
         if words[0] not in WITH_QUEUE or count > QUEUE_MOST:
             return False

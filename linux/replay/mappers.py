@@ -188,7 +188,7 @@ class Mappers:
     """All of them: forks of one root process, which maps nothing."""
 
     def __init__(self, keeper: Keeper) -> None:
-        path = helper("replay/mapper.c")
+        path = helper("mapper")
         empty: dict[str, str] = {}
         mine, its = socket_pair()
         with its:

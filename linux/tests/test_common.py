@@ -14,17 +14,14 @@ from typing import List
 from unittest import mock
 
 from ..common import program as programs
-from ..common.btf import VMLINUX, MissingType, Types
 from ..common.errors import Busy, InputFault, RunFailed, Unavailable
 from ..common.files import selected_word
 from ..common.groups import find_hierarchy
 from ..common.guardian import Entry, Guardian, add_entry, folders_below, put_back, read_entries, remove_group, write
 from ..common.journal import journal_of, journal_text
 from ..common.keeper import Keeper
-from ..common.kernel_memory import QueueFields
 from ..common.script import options_of, read_script, script_of
 from ..common.subpages import bits_of, runs, set_of, set_text
-from .sample_types import queue_types, tail_page_types
 
 ROOT = Path(__file__).resolve().parent.parent.parent
 
@@ -48,61 +45,6 @@ def heed_signals() -> None:
     """A shell's background job ignores SIGINT, and so would what it starts."""
     for number in (signal.SIGINT, signal.SIGTERM, signal.SIGCHLD):
         signal.signal(number, signal.SIG_DFL)
-
-
-class TypesTest(unittest.TestCase):
-    def test_fields_are_found_in_unnamed_structs(self) -> None:
-        fields = QueueFields.from_types(Types(queue_types()))
-        self.assertEqual((fields.head, fields.length, fields.link), (1536, 1552, 144))
-
-    def test_a_field_that_moved_is_found_where_it_is(self) -> None:
-        self.assertEqual(QueueFields.from_types(Types(queue_types(link_at=160))).link, 160)
-
-    def test_a_link_in_a_tail_page_is_found_from_the_folio(self) -> None:
-        self.assertEqual(QueueFields.from_types(Types(tail_page_types())).link, 2 * 64 + 24)
-
-    def test_a_field_taken_away_is_named(self) -> None:
-        with self.assertRaisesRegex(MissingType, r"no field folio\._deferred_list"):
-            QueueFields.from_types(Types(queue_types(link_name="_other_list")))
-
-    def test_a_field_of_another_size_is_named(self) -> None:
-        with self.assertRaisesRegex(MissingType, r"split_queue_len has 4 bytes in this kernel, not 8"):
-            QueueFields.from_types(Types(queue_types(length_size=4)))
-
-    def test_a_field_of_another_type_is_named(self) -> None:
-        types = Types(queue_types())
-        with self.assertRaisesRegex(MissingType, "folio.flags is long unsigned int in this kernel, not pointer"):
-            types.field("folio", "flags", "pointer")
-
-    def test_a_struct_or_enumerator_that_is_missing_is_named(self) -> None:
-        types = Types(queue_types())
-        self.assertEqual(types.enumerator("memory_cgrp_id"), 4)
-        with self.assertRaisesRegex(MissingType, "no enumerator hugetlb_cgrp_id"):
-            types.enumerator("hugetlb_cgrp_id")
-        with self.assertRaisesRegex(MissingType, "no struct page"):
-            types.struct_size("page")
-
-    def test_what_is_no_type_information_is_named(self) -> None:
-        for with_helper in (True, False):
-            for text in (b"\x7fELF" + bytes(60), queue_types()[:90], queue_types()[:40]):
-                with self.assertRaises(Unavailable):
-                    Types(text, with_helper)
-
-    def test_the_helper_finds_the_same(self) -> None:
-        found = []
-        for with_helper in (True, False):
-            types = Types(queue_types(), with_helper)
-            offsets = [types.offset("folio", "_deferred_list"), types.struct_size("list_head")]
-            found.append((offsets, types.enumerator("memory_cgrp_id"), types.field("mem_cgroup", "id")))
-        self.assertEqual(found[0], found[1])
-
-    @unittest.skipUnless(os.access(VMLINUX, os.R_OK), f"no {VMLINUX}")
-    def test_the_helper_finds_the_same_in_this_kernel(self) -> None:
-        found = []
-        for with_helper in (True, False):
-            types = Types(None, with_helper)
-            found.append((types.struct_size("page"), types.field("folio", "_refcount"), types.tracepoint("mm_page_free")))
-        self.assertEqual(found[0], found[1])
 
 
 class ProgramTest(unittest.TestCase):

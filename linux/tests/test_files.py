@@ -172,21 +172,25 @@ class UserTest(unittest.TestCase):
 
 
 class HelperTest(unittest.TestCase):
-    def test_a_compiler_that_fails_is_reported_in_a_line(self) -> None:
-        with tempfile.TemporaryDirectory() as name, mock.patch.object(helpers, "own_folder_of_helpers", lambda: Path(name)):
-            for compiler in ("false", "true", "no-such-compiler", "sh -c 'echo \x1b >&2; exit 1'"):
-                with mock.patch.dict(os.environ, {"CC": compiler}), self.assertRaises(Unavailable) as caught:
-                    helpers.helper("whatif/known.c")
-                self.assertNotIn("\n", str(caught.exception))
-            self.assertEqual(list(Path(name).iterdir()), [])
+    def test_what_is_not_built_is_named_with_how_to_build_it(self) -> None:
+        with self.assertRaises(Unavailable) as caught:
+            helpers.helper("nothing.so")
+        self.assertRegex(str(caught.exception), r"^nothing\.so isn't built: make -C .*linux builds it \(Debian: .*clang.*\)$")
 
     def test_only_what_nobody_else_can_write_is_trusted(self) -> None:
         with tempfile.TemporaryDirectory() as name:
-            path = Path(name) / "helper"
+            path = Path(name) / "out/helper"
+            path.parent.mkdir()
             path.write_text("")
-            self.assertEqual(helpers.is_trusted(path), os.geteuid() == 0)
-            path.chmod(0o777)
-            self.assertFalse(helpers.is_trusted(path))
+            self.assertEqual((helpers.is_trusted(path, True), helpers.is_trusted(path, False)), (os.geteuid() == 0, True))
+            for each in (path, path.parent):
+                was = each.stat().st_mode & 0o777
+                each.chmod(0o777)
+                self.assertFalse(helpers.is_trusted(path, False) or helpers.is_trusted(path, True))
+                each.chmod(was)
+            path.unlink()
+            path.symlink_to("/bin/true")
+            self.assertFalse(helpers.is_trusted(path, False))
 
 
 class ErrorsTest(unittest.TestCase):

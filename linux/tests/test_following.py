@@ -5,12 +5,10 @@ from __future__ import annotations
 import unittest
 from typing import List, Optional, Sequence
 
-from ..common.btf import MissingType, Types
 from ..record.calls import MREMAP
 from ..record.journal_builder import JournalBuilder
 from ..record.records import Kind, Record
 from ..record.state import Settings
-from .sample_types import SampleTypes
 from .test_record import BASE, DONTNEED, HUGE, MADVISE, MUNMAP, SPACE, RecordBuilder, folio_of, frames_of, verdict
 
 DAEMON = 90  # khugepaged, or a task that migrates: of no group that is recorded
@@ -376,23 +374,3 @@ class EndTest(unittest.TestCase):
         records.look([])
         records.daemon(Kind.EXIT_MMAP, [SPACE], [])
         self.assertEqual(build_journal(records).count_omitted(), 1)
-
-
-class TracepointTest(unittest.TestCase):
-    def types(self) -> Types:
-        made = SampleTypes()
-        number = made.integer("int", 4)
-        pointer = made.pointer(0)
-        function = made.prototype([("__data", pointer), ("mm", pointer), ("n", number)])
-        made.typedef("btf_trace_made", made.pointer(function))
-        return Types(made.text())
-
-    def test_arguments_are_found(self) -> None:
-        self.assertEqual(self.types().tracepoint("made"), ["pointer", "int"])
-        self.types().demand_tracepoint("made", ["pointer", "int"])
-
-    def test_one_that_is_not_there_or_is_another_is_named(self) -> None:
-        with self.assertRaisesRegex(MissingType, "no tracepoint other"):
-            self.types().tracepoint("other")
-        with self.assertRaisesRegex(MissingType, r"made has \(pointer, int\) in this kernel, not \(int\)"):
-            self.types().demand_tracepoint("made", ["int"])

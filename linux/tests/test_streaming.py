@@ -73,21 +73,6 @@ class StoreTest(unittest.TestCase):
                 self.assertEqual(first.events, first.text().count("\n") - 3)
             store.close()
 
-    def test_records_may_come_in_any_pieces(self) -> None:
-        whole, cut, chance = Store(), Store(), random.Random(1)
-        records = read_recording("one_thread")[:500]
-        for record in records:
-            whole.append(pack_record(record))
-        whole._file.seek(0)
-        raw = whole._file.read() or b""
-        while raw:
-            length = chance.randrange(1, 5000)
-            cut.write(raw[:length])
-            raw = raw[length:]
-        self.assertEqual([record.to_json() for record in cut.records()], [record.to_json() for record in records])
-        whole.close()
-        cut.close()
-
     def test_a_process_that_begins_again_where_one_has_ended(self) -> None:
         """Two address spaces in turn at one place: each gets its own end."""
         records = TwoTaskBuilder()

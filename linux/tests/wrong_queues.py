@@ -9,6 +9,7 @@
 
 from __future__ import annotations
 
+import os
 import sys
 from pathlib import Path
 from typing import Callable, Dict, List
@@ -16,6 +17,7 @@ from typing import Callable, Dict, List
 sys.path.insert(0, str(Path(__file__).resolve().parent.parent.parent))
 sys.dont_write_bytecode = True
 
+from linux.common.groups import find_hierarchy  # noqa: E402
 from linux.common.kernel_memory import KernelMemory, Queue  # noqa: E402
 from linux.replay.__main__ import start  # noqa: E402
 
@@ -30,7 +32,8 @@ def read_in_reverse(memory: KernelMemory, group: int) -> List[Queue]:
 def read_with_others(memory: KernelMemory, group: int) -> List[Queue]:
     """Returns a group's queues with those of all other groups."""
     out: Dict[int, Queue] = {}
-    for address in [group, *sorted(set(memory.groups().values()) - {group})]:
+    others = {memory.group(path) for path, _, _ in os.walk(find_hierarchy().mount)}
+    for address in [group, *sorted(others - {group})]:
         for each in READ(memory, address):
             former = out.get(each.numa_node, Queue([], 0, each.numa_node))
             out[each.numa_node] = Queue(former.folios + each.folios, former.length + each.length, each.numa_node)

@@ -16,7 +16,7 @@ from .guest_run import GuestRun, KvmFailed, Limits
 from .kernels import Kernel, find_kernel
 from .messages import Console
 from .options import NAME, parse_words
-from .virtual_machine import Shape, VirtualMachine, find_kvm_problem, find_qemu, memory_file
+from .virtual_machine import Shape, VirtualMachine, find_qemu, memory_file
 
 UNDECIDED = 125  # git-bisect(1): the commit is skipped
 
@@ -53,14 +53,12 @@ class Host:
 
     def run(self) -> int:
         """Returns the command's status: with KVM where it works, else by emulation."""
-        problem: str | None = "not wanted"
+        problem = "not wanted"
         if self._options.accel != "emulation":
-            problem = find_kvm_problem()
-            if not problem:
-                try:
-                    return self._run_once(True)
-                except KvmFailed as failure:
-                    problem = f"KVM can't run this guest: {failure}"
+            try:
+                return self._run_once(True)
+            except KvmFailed as failure:
+                problem = str(failure)
             if self._options.accel == "kvm":
                 raise Unavailable(f"no KVM: {problem}")
         if self._options.verbose:

@@ -37,8 +37,7 @@ SEARCHED = "/usr/local/sbin:/usr/local/bin:/usr/sbin:/usr/bin:/sbin:/bin"
 MERGED = re.compile("/(bin|sbin|lib|lib64)/")
 PASSWD = "root:x:0:0:root:/root:/bin/sh\nnobody:x:65534:65534:nobody:/nonexistent:/usr/sbin/nologin\n"
 GROUP = "root:x:0:\nnogroup:x:65534:\n"
-HELPERS = (("replay/mapper.c", ()), ("record/workload.c", ()), ("whatif/known.c", ()), ("common/btf.c", ("-shared", "-fPIC")),
-           ("common/pages.c", ("-shared", "-fPIC")))
+HELPERS = ("known", "mapper", "pages.so", "thpkernel.so", "workload")
 
 
 @dataclass(frozen=True)
@@ -143,9 +142,8 @@ class GuestFiles:
                 self._add_sources(str(path), f"{LIBRARY}/{name}")
         if self._is_checkout:
             self._archive.add_link(str(self._checkout), LIBRARY)
-        for source, flags in HELPERS:
-            name = Path(source).stem + (".so" if flags else "")
-            self._add_file(helper(source, flags), f"{LIBRARY}/linux/out/{name}")
+        for name in HELPERS:
+            self._add_file(helper(name), f"{LIBRARY}/linux/out/{name}")
         for name in TOOLS:
             self._add_tool(name)
         for name, built in (("thpsplit", BUILT), ("thpcheck", BUILT_CHECKER)):

@@ -17,7 +17,6 @@ from pathlib import Path
 from typing import Callable, Sequence
 
 from ..common.errors import RunFailed, Unavailable
-from ..common.helpers import own_folder_of_helpers
 from ..common.keeper import open_folder
 from ..common.text import escape
 
@@ -57,11 +56,24 @@ def reason_of(done: subprocess.CompletedProcess[bytes]) -> str:
     return escape(lines[-1])[:200]
 
 
+def open_cache() -> Path:
+    """Returns the caller's own folder of what was fetched, made where it is missing."""
+    cache = Path("/var/cache")
+    if os.geteuid() != 0:
+        cache = Path(os.environ.get("XDG_CACHE_HOME") or Path.home() / ".cache")
+    try:
+        cache.mkdir(mode=0o700, parents=True, exist_ok=True)
+    except OSError as error:
+        raise Unavailable(f"{cache} can't be made: {error.strerror}") from error
+    open_folder(str(cache / "leversorrel"))
+    return cache / "leversorrel"
+
+
 class PackageLists:
     """The lists of the machine, or those of a suite in a folder of the cache."""
 
     def __init__(self, suite: str | None) -> None:
-        self._folder = own_folder_of_helpers() / "kernels"
+        self._folder = open_cache() / "kernels"
         open_folder(str(self._folder))
         self._suite = suite
         self._options: list[str] = ["-o", "APT::Sandbox::User=root"] if os.geteuid() == 0 else []

@@ -22,7 +22,7 @@ class KnownPages:
     """The helper known.c, which makes huge pages on command."""
 
     def __init__(self, start: Callable[[Sequence[str]], subprocess.Popen[str]]) -> None:
-        self.process = start([helper("whatif/known.c")])
+        self.process = start([helper("known")])
         self.kinds: Counter[str] = Counter()
         self.failed = 0
 

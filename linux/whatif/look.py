@@ -63,7 +63,6 @@ class SnapshotTaker:
                 memory = KernelMemory()
                 self._queues, self.lacking = Queues(memory), ""
                 self._direct = DirectMap(memory)
-                memory.types.release()
             except (Unavailable, OSError) as error:
                 self.lacking = "" if self._queues else escape(str(error).partition("\n")[0])
 

@@ -13,13 +13,12 @@ import sys
 import tempfile
 from concurrent.futures import ThreadPoolExecutor
 from dataclasses import dataclass, field
-from pathlib import Path
 from typing import IO, Any, Dict, List, Optional, Sequence, Tuple
 
 from ..common.checker import JournalChecker
 from ..common.errors import USAGE, InputFault, RunFailed, Unavailable
 from ..common.files import PMD_ORDER
-from ..common.helpers import INSTALLED, LINUX, helper
+from ..common.helpers import helper
 from ..common.program import start
 from ..common.text import escape, one_line, text_lines
 from .table import FRAMES_A_MEBIBYTE, aligned
@@ -28,6 +27,7 @@ RECORDED, OFF, NEVER, ALL = "recorded", "off", "never", "all"
 AMOUNTS = {"events": (1.0, 1e15), "seconds": (0.001, 1e9), "held": (0.001, 1e9)}
 HEAD = ("threshold", "scans", "takes", "pages split", "failed", "frames back", "MiB back", "peak MiB", "huge at end")
 HOUR = 3600.0
+HOW = "a release has it; in a checkout make c, make -C linux"
 
 
 @dataclass(frozen=True)
@@ -154,18 +154,11 @@ def policies_of(thresholds: str, scans: str, take: str) -> List[Policy]:
 
 
 def find_helper() -> str:
-    """Returns the helper, compiled with the library of this checkout ($THP_LIB: another folder), beside the installed tools, or
-    of the machine. Unavailable where there is no library or no compiler."""
-    if LINUX.parts[-3:] == INSTALLED:
-        header, folder = LINUX.parents[2] / "include", LINUX.parents[1]
-    else:
-        header, folder = LINUX.parent / "c", LINUX.parent / "c/out"
-    archive = Path(os.environ.get("THP_LIB") or folder).absolute() / "libthp.a"
-    flags = [f"-I{header}"] if (header / "thp.h").exists() else []
+    """Returns the helper. Unavailable where it isn't built."""
     try:
-        return helper("whatif/policies.c", flags, [str(archive) if archive.exists() else "-lthp", "-lpthread"])
+        return helper("policies")
     except Unavailable as error:
-        raise Unavailable(f"no libthp and C compiler (Debian: libthp-dev, gcc; or make c): {error}") from error
+        raise Unavailable(f"no libthp ({HOW}): {error}") from error
 
 
 def open_input(path: str) -> IO[bytes]:

@@ -7,21 +7,12 @@ mm/huge_memory.c (folio_expected_ref_count: a reference for each mapping; any mo
 
 from __future__ import annotations
 
-import ctypes
-import struct
-from dataclasses import dataclass, replace
+from dataclasses import replace
 from typing import Callable, Dict, Iterable, List, Set
 
-from ..common.bpf import SLEEPABLE, ProgramType, load_program
-from ..common.btf import Types
 from ..common.errors import Unavailable
 from ..common.folios import Folio, even_counts
-from ..common.kernel_memory import KernelMemory, build_copier
-from ..common.reader import load_library
-
-HEADS = 4  # struct pages that a struct folio lies over
-BATCH = 1024  # pages that are read at a time
-NUMBER, COUNT = struct.Struct("<Q"), struct.Struct("<i")
+from ..common.kernel_memory import STATES, KernelMemory, PageState
 
 
 def keep_lasting_pins(folios: Iterable[Folio], look: Callable[[List[Folio]], object]) -> None:
@@ -34,89 +25,52 @@ def keep_lasting_pins(folios: Iterable[Folio], look: Callable[[List[Folio]], obj
         folio.pins = min(folio.pins or 0, again.pins or 0)
 
 
-@dataclass(frozen=True)
-class FolioFields:
-    """Offsets in struct folio, and the bit of the flags of its second page."""
-
-    references: int
-    flags: int
-    entire: int
-    large: int
-    link: int
-    partly: int
-
-    @staticmethod
-    def from_types(types: Types) -> FolioFields:
-        """By this kernel's types. Raises Unavailable where a field is missing (before Linux 6.12)."""
-        return FolioFields(
-            types.offset("folio", "_refcount"),
-            types.offset("folio", "_flags_1"),
-            types.offset("folio", "_entire_mapcount"),
-            types.offset("folio", "_large_mapcount"),
-            types.offset("folio", "_deferred_list", "struct list_head"),
-            1 << types.enumerator("PG_partially_mapped"),
-        )
-
-
 class Queues:
     """Reads the kernel's structures. Unavailable where this machine doesn't allow it."""
 
     def __init__(self, memory: KernelMemory) -> None:
         self._memory = memory
-        self._fields = FolioFields.from_types(memory.types)
+        self._groups: Dict[int, int] = {}  # addresses of control groups by their inodes, of pages that were looked at
+        memory.page_states([])
         try:
             memory.locate_queues()
-            memory.group_fields()
             self._ordered = True
         except Unavailable:  # queues of another form: that a page is in one is in the page
             self._ordered = False
-        self._start, self._size = memory.vmemmap()
-        self._copier = load_program(ProgramType.SYSCALL, build_copier(HEADS * self._size // 8), SLEEPABLE)
 
     def look(self, folios: List[Folio]) -> List[Folio]:
         """Fills in what the structures contain of pages; returns those that are no longer in use."""
         gone: List[Folio] = []
-        for first in range(0, len(folios), BATCH):
-            gone += self._look(folios[first : first + BATCH])
+        for first in range(0, len(folios), STATES):
+            some = folios[first : first + STATES]
+            for folio, state in zip(some, self._memory.page_states([folio.frame for folio in some])):
+                if state.group:
+                    self._groups[folio.cgroup] = state.group
+                if not fill(folio, state):
+                    gone.append(folio)
         return gone
-
-    def _look(self, folios: List[Folio]) -> List[Folio]:
-        each, gone = 8 + HEADS * self._size, []
-        contexts, failed = bytearray(each * len(folios)), bytearray(len(folios))
-        for index, folio in enumerate(folios):
-            struct.pack_into("<Q", contexts, each * index, self._start + self._size * folio.frame)
-        places = [ctypes.addressof(ctypes.c_char.from_buffer(room)) for room in (contexts, failed)]
-        load_library().run_each(self._copier, places[0], len(folios), each, places[1])
-        for index, folio in enumerate(folios):
-            if failed[index] or not self._fill(folio, contexts, each * index):  # failed: memory was taken from the machine
-                gone.append(folio)
-        return gone
-
-    def _fill(self, folio: Folio, raw: bytearray, start: int) -> bool:
-        """Fills in what a page's structure contains, whose address is at a place, and the structure after it; returns
-        whether the page is in use."""
-        at, here = self._fields, start + 8
-        (address,), (following,), (flags,) = (NUMBER.unpack_from(raw, o) for o in (start, here + at.link, here + at.flags))
-        (references,), (entire,), (large,) = (COUNT.unpack_from(raw, here + o) for o in (at.references, at.entire, at.large))
-        folio.is_queued = folio.order > 1 and following != address + at.link
-        folio.is_partly = bool(flags & at.partly)
-        whole = folio.whole = max(0, entire + 1)
-        if large == entire:  # no mapping by PTEs: each subpage has the same count
-            folio.totals = even_counts(whole, folio.size)
-        folio.pins = references - (large + 1) - (folio.size if folio.is_swap_cached else 0)
-        return bool(references > 0)
 
     def places(self, groups: List[int], wanted: Set[int]) -> Dict[int, int]:
         """Returns the place in its queue of each selected page (by frame) of these control groups (inodes). A queue that
         changes all the time, and a group that ended, are left out: their pages then have no order, which changes no
         row. So are all queues where this kernel has them in another form."""
         out: Dict[int, int] = {}
-        addresses = self._memory.groups() if self._ordered and groups else {}
-        for inode in groups:
-            if inode in addresses:
+        for inode in groups if self._ordered else ():
+            if inode in self._groups:
                 try:
-                    frames = self._memory.queue_frames(addresses[inode])
+                    frames = self._memory.queue_frames(self._groups[inode])
                 except Unavailable:
                     continue
                 out.update({frame: place for place, frame in enumerate(frames) if frame in wanted})
         return out
+
+
+def fill(folio: Folio, state: PageState) -> bool:
+    """Fills in what a page's structure contains; returns whether the page is in use."""
+    folio.is_queued = bool(folio.order > 1 and state.is_linked)
+    folio.is_partly = bool(state.is_partly)
+    whole = folio.whole = max(0, state.entire + 1)
+    if state.large == state.entire:  # no mapping by PTEs: each subpage has the same count
+        folio.totals = even_counts(whole, folio.size)
+    folio.pins = state.references - (state.large + 1) - (folio.size if folio.is_swap_cached else 0)
+    return bool(not state.has_failed and state.references > 0)  # failed: memory was taken from the machine

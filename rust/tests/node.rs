@@ -114,6 +114,8 @@ fn pages_and_the_queue_are_read() -> Result<(), Fault> {
 fn refusals_have_their_names() {
     assert_eq!(Node::new(0, 9, None).err(), Some(Fault::BadSize));
     assert_eq!(Node::new(1, 9, Some(512)).err(), Some(Fault::BadSize));
+    assert_eq!(Node::new(1, 9, Some(u32::MAX)).err(), Some(Fault::BadSize));
+    assert_eq!(Node::counting(1, 9, Some(u32::MAX)).err(), Some(Fault::BadSize));
     let mut node = Node::new(1, 2, None).unwrap();
     assert_eq!(node.map_whole(0, 3), Err(Fault::NoPage));
     assert_eq!(node.alloc(64), Err(Fault::BadCaller));

@@ -64,6 +64,8 @@ fn free<T>(mut call: impl FnMut() -> Result<T, Fault>) -> Result<T, Fault> {
 fn what_does_not_fit_is_handed_back() -> Result<(), Fault> {
     assert_eq!(NodeCell::new(1, 2, None, 65).err(), Some(Fault::BadSize));
     assert_eq!(NodeCell::new(1, 2, Some(512), 1).err(), Some(Fault::BadSize));
+    assert_eq!(NodeCell::new(1, 2, Some(u32::MAX), 1).err(), Some(Fault::BadSize));
+    assert_eq!(NodeCell::counting(1, 2, Some(u32::MAX), 1).err(), Some(Fault::BadSize));
     let mut one = NodeCell::new(1, 2, None, 2)?.into_pass();
     assert_eq!(one.split(0).err(), Some(Fault::BadCaller));
     assert_eq!(one.alloc(2), Err(Fault::BadCaller));
@@ -148,6 +150,7 @@ fn a_cell_is_made_of_its_passes_alone() -> Result<(), Fault> {
     let Err((passes, Fault::BadPass)) = NodeCell::from_passes(passes) else {
         panic!("a cell was made of some of its passes");
     };
+    assert_eq!(passes.iter().map(|pass| pass.callers()).collect::<Vec<_>>(), [0..1, 2..3]);
     let stranger = NodeCell::new(4, 2, None, 1)?.into_pass();
     assert!(matches!(NodeCell::from_passes(vec![stranger, last]), Err((_, Fault::BadPass))));
     assert!(matches!(NodeCell::from_passes(passes), Err((_, Fault::BadPass))));

@@ -1,0 +1,116 @@
+"""The library of BPF programs (linux/kernel), which libbpf fits to the running kernel when they are loaded."""
+
+from __future__ import annotations
+
+import ctypes
+import errno
+import os
+import re
+from functools import lru_cache
+
+from .errors import Unavailable
+from .helpers import helper
+
+ROOM = 1 << 16  # bytes of messages
+STATES, WINDOW, NAME = 1024, 1 << 16, 64  # linux/kernel/shared.h
+LACKING = re.compile(r"failed to resolve CO-RE relocation <[a-z_]+> \[[0-9]+\] (?:struct|enum|union) ([A-Za-z0-9_.]+)")
+SIZES = re.compile(r"^struct .* has [0-9]+ bytes in this kernel.*$", re.MULTILINE)
+RIGHTS = {"CAP_BPF": 39, "CAP_PERFMON": 38}  # include/uapi/linux/capability.h
+
+
+class Request(ctypes.Structure):
+    """struct thp_request."""
+
+    _fields_ = [(name, ctypes.c_uint64) for name in ("group", "numa_node", "at", "found", "length")]
+
+
+class PageState(ctypes.Structure):
+    """struct thp_page_state."""
+
+    _fields_ = [("frame", ctypes.c_uint64), ("group", ctypes.c_uint64),
+                *((name, ctypes.c_int32) for name in ("references", "large", "entire")),
+                *((name, ctypes.c_uint8) for name in ("is_linked", "is_partly", "has_failed", "unused"))]
+
+
+class Window(ctypes.Structure):
+    """struct thp_window."""
+
+    _fields_ = [*((name, ctypes.c_uint64) for name in ("first_page", "page_size", "scan_function", "queue_lists", "has_lists")),
+                ("lacking", ctypes.c_char * NAME), ("states", PageState * STATES), ("folios", ctypes.c_uint64 * WINDOW)]
+
+
+class Settings(ctypes.Structure):
+    """struct thp_settings."""
+
+    _fields_ = [*((name, ctypes.c_uint64) for name in ("group", "first_page", "scan_function", "queue_lists")),
+                ("orders", ctypes.c_uint32), ("room", ctypes.c_uint32), ("numa_node", ctypes.c_int32), ("unused", ctypes.c_uint32)]
+
+
+class Counters(ctypes.Structure):
+    """struct thp_counters."""
+
+    _fields_ = [(name, ctypes.c_uint64) for name in ("lost", "missed", "unfiltered", "inner_pages")]
+
+
+@lru_cache(maxsize=None)
+def load_library() -> ctypes.CDLL:
+    """Loads the library. Unavailable where it isn't built, or libbpf is missing."""
+    path = helper("thpkernel.so")
+    try:
+        library = ctypes.CDLL(path, use_errno=True)
+    except OSError as error:
+        missing = str(error).partition(":")[0]
+        package = " (Debian package libbpf1)" if missing.startswith("libbpf") else ""
+        raise Unavailable(f"the BPF programs need {missing}{package}") from error
+    number, size, pointer = ctypes.c_int, ctypes.c_size_t, ctypes.c_void_p
+    for name, kinds, result in (
+        ("thp_memory_open", [pointer, size], pointer),
+        ("thp_memory_run", [pointer, ctypes.c_char_p, pointer], number),
+        ("thp_memory_window", [pointer], ctypes.POINTER(Window)),
+        ("thp_memory_zero_program", [pointer], number),
+        ("thp_record_open", [pointer, pointer, size], pointer),
+        ("thp_record_take", [pointer, number, size, pointer], number),
+        ("thp_record_counters", [pointer, pointer], None),
+        ("thp_record_close", [pointer], None),
+    ):
+        function = getattr(library, name)
+        function.argtypes, function.restype = kinds, result
+    return library
+
+
+def open_programs(name: str, *words: object) -> tuple[int, list[str]]:
+    """Returns what a function of the library opens, and its messages, a line each. Unavailable where it can't, with the reason."""
+    text = ctypes.create_string_buffer(ROOM)
+    opened = getattr(load_library(), name)(*words, text, ROOM)
+    number = ctypes.get_errno()
+    said = text.value.decode(errors="replace").strip()
+    if not opened:
+        raise Unavailable(explain(said, number))
+    return opened, said.splitlines()
+
+
+def explain(said: str, number: int) -> str:
+    """Returns in a line why programs aren't loaded, and in further ones the end of what libbpf and the verifier said."""
+    for line in said.splitlines():
+        if line.startswith("this kernel has no "):
+            return line
+    lacking, sizes = LACKING.search(said), SIZES.search(said)
+    if lacking:
+        return f"this kernel has no {lacking[1].replace('.counter', '')}"
+    if sizes:
+        return sizes[0]
+    if not os.path.exists("/sys/kernel/btf/vmlinux"):
+        return "no type information: no /sys/kernel/btf/vmlinux (DEBUG_INFO_BTF)"
+    rights = lacking_rights()
+    if rights:
+        return f"the BPF programs are refused: {' and '.join(rights)} missing"
+    reason = os.strerror(number or errno.EPERM)
+    return f"the BPF programs are refused: {reason} (BPF_SYSCALL, lockdown)\n{said[-1500:]}"
+
+
+def lacking_rights() -> list[str]:
+    """Returns the capabilities that the programs need and this process lacks; CAP_SYS_ADMIN has both."""
+    with open("/proc/self/status", encoding="ascii", errors="replace") as file:
+        found = re.search("^CapEff:\\s*([0-9a-f]+)$", file.read(), re.MULTILINE)
+    bits = int(found[1], 16) if found else 0
+    return [] if bits >> 21 & 1 else [name for name, bit in RIGHTS.items() if not bits >> bit & 1]

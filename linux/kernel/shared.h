@@ -1,0 +1,76 @@
+/* SPDX-License-Identifier: MIT OR GPL-2.0 */
+/* What the programs, the loader and the tools in Python (linux/common/kernel_library.py, linux/record/records.py) share. */
+#ifndef SHARED_H
+#define SHARED_H
+
+enum { PMD_ORDER = 9, BASE_BITS = 12 };
+
+/* records of a recording: linux/record/records.py, Kind */
+
+enum { QUEUE_MOST = 500 };	/* pages of a queue that a record has room for */
+enum kind { ENTER, EXIT, FAULT, ALLOC, FREE, FORK, EXIT_MMAP, SCAN, SCANNED, COPY, COLLAPSED, MOVED, KINDS };
+enum how { IN_FAULT = 1, IN_NONE = 2 };
+
+struct thp_record {
+	unsigned long long kind, time, task, space, values[9];
+	unsigned long long space_end;	/* 0; linux/record/store.py links records here .. */
+	unsigned long long count;	/* pages of the queue; more than QUEUE_MOST: its walk didn't end where it began */
+	unsigned long long link;	/* .. and here */
+	unsigned long long folios[QUEUE_MOST];
+};
+
+/* what a recording is loaded with */
+struct thp_settings {
+	unsigned long long group;		/* address of its struct mem_cgroup */
+	unsigned long long first_page;		/* struct page of frame 0 */
+	unsigned long long scan_function;	/* deferred_split_scan */
+	unsigned long long queue_lists;		/* deferred_split_lru; 0: none */
+	unsigned int orders;			/* a bit for each that is followed */
+	unsigned int room;			/* bytes of the ring */
+	int numa_node;				/* whose pages are in the queue; -1: those of all nodes */
+	unsigned int unused;
+};
+
+struct thp_counters {
+	unsigned long long lost;	/* records that found no room */
+	unsigned long long missed;	/* runs that the kernel left out, since they would have interrupted the same program */
+	unsigned long long unfiltered;	/* not 0: too many address spaces, so that all records are sent */
+	unsigned long long inner_pages;	/* huge pages of groups in the recorded one */
+};
+
+/* readers of kernel memory */
+
+enum answer { FINE, CHANGED, NO_QUEUE, NO_FIELD, NO_NUMBER, UNREADABLE };
+enum { WINDOW = 1 << 16, STATES = 1024, NAME = 64 };
+
+/* What a run is given, and what it returns. */
+struct thp_request {
+	unsigned long long group, numa_node;
+	unsigned long long at;	/* where the walk of a queue continues (0: its head); a descriptor; the address that was found */
+	unsigned long long found, length;
+};
+
+/* What the kernel's structures of one huge page contain. */
+struct thp_page_state {
+	unsigned long long frame;	/* set by the caller */
+	unsigned long long group;	/* address of its struct mem_cgroup; 0: none */
+	int references, large, entire;
+	unsigned char is_linked, is_partly, has_failed, unused;
+};
+
+/* The memory that programs and caller share. */
+struct thp_window {
+	unsigned long long first_page;		/* struct page of frame 0, set by the caller */
+	unsigned long long page_size;		/* bytes of struct page */
+	unsigned long long scan_function;	/* deferred_split_scan; 0: its address is hidden */
+	unsigned long long queue_lists;		/* deferred_split_lru; 0: none, or hidden */
+	unsigned long long has_lists;		/* whether the queues are in deferred_split_lru */
+	char lacking[NAME];			/* the field that a run needs and this kernel lacks */
+	struct thp_page_state states[STATES];
+	unsigned long long folios[WINDOW];	/* of a queue, oldest first */
+};
+
+/* Which of at most 64 base pages from an address on are zero-filled: a run's context in linux/common/pages.c. */
+struct thp_zeros { unsigned long long address, count, zero, unused; };
+
+#endif

@@ -1,0 +1,80 @@
+"""An unnamed temporary file, written at its end and read back in passes."""
+
+from __future__ import annotations
+
+import os
+import tempfile
+from typing import IO, Iterable, Iterator
+
+from ..common.errors import RunFailed
+
+FOLDER = "/var/tmp"
+PIECE = 1 << 20  # bytes that are written or read at a time
+
+
+class ScratchFile:
+    """Gone when it is closed. RunFailed, which names `what`, where it can't be made or written. Nothing is buffered, so that no
+    error comes late."""
+
+    def __init__(self, what: str, folder: str = FOLDER) -> None:
+        self._what = what
+        try:
+            self._file: IO[bytes] = tempfile.TemporaryFile(dir=folder, buffering=0)
+        except OSError as error:
+            raise RunFailed(f"no temporary file in {folder}: {error.strerror}") from error
+
+    @property
+    def descriptor(self) -> int:
+        """The open file."""
+        return self._file.fileno()
+
+    @property
+    def size(self) -> int:
+        """Its bytes."""
+        return os.fstat(self.descriptor).st_size
+
+    def append(self, data: bytes) -> None:
+        """Writes bytes at its end."""
+        try:
+            os.lseek(self.descriptor, 0, os.SEEK_END)
+            while data:
+                data = data[os.write(self.descriptor, data) :]
+        except OSError as error:
+            raise self.failed(error) from error
+
+    def append_lines(self, lines: Iterable[str]) -> None:
+        """Writes ASCII lines, given without their ends."""
+        piece: list[str] = []
+        length = 0
+        for line in lines:
+            piece.append(line)
+            length += len(line) + 1
+            if length >= PIECE:
+                self.append("\n".join([*piece, ""]).encode("ascii"))
+                piece, length = [], 0
+        self.append("\n".join([*piece, ""]).encode("ascii") if piece else b"")
+
+    def pieces(self) -> Iterator[bytes]:
+        """Yields its content."""
+        at = 0
+        while True:
+            piece = os.pread(self.descriptor, PIECE, at)
+            if not piece:
+                return
+            yield piece
+            at += len(piece)
+
+    def lines(self) -> Iterator[bytes]:
+        """Yields its lines without their ends."""
+        rest = b""
+        for piece in self.pieces():
+            *lines, rest = (rest + piece).split(b"\n")
+            yield from lines
+
+    def failed(self, error: OSError) -> RunFailed:
+        """Returns what a refused write means."""
+        return RunFailed(f"{self._what} can't be written to disk: {error.strerror}")
+
+    def close(self) -> None:
+        """Removes it."""
+        self._file.close()
