@@ -28,7 +28,8 @@ from ..common.subpages import set_text
 from ..common.text import escape, text_lines
 from .expected_answers import ExpectedRun
 from .observation import Observation
-from .runner import Kernel, Result, RunComparer, Runner
+from .pages import KernelPages
+from .runner import Result, RunComparer, Runner
 from .session import Session
 from .states import NodeState
 
@@ -149,7 +150,7 @@ class LastLook(RunComparer):
 
     last: Observation | None = None
 
-    def compare_run(self, expected_run: ExpectedRun, zero_filled: bool, kernel: Kernel) -> str:
+    def compare_run(self, expected_run: ExpectedRun, zero_filled: bool, kernel: KernelPages) -> str:
         """Returns no letters."""
         options = expected_run.options
         states = [NodeState(order, switch, zero_filled) for order, switch in zip(options.orders, options.underused)]

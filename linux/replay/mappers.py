@@ -7,7 +7,6 @@ files of /proc, and the pidfd shows afterwards that they are its own.
 
 from __future__ import annotations
 
-import array
 import os
 import select
 import socket
@@ -83,12 +82,7 @@ class MapperSocket:
 
     @staticmethod
     def _receive(end: socket.socket) -> tuple[int, int | None]:
-        room = socket.CMSG_LEN(array.array("i").itemsize)
-        data, control, flags, _ = end.recvmsg(REPLY.size, room, socket.MSG_CMSG_CLOEXEC)
-        found = array.array("i")
-        for _, kind, part in control:
-            if kind == socket.SCM_RIGHTS:
-                found.frombytes(part[: len(part) - len(part) % found.itemsize])
+        data, found, flags, _ = socket.recv_fds(end, REPLY.size, 1, socket.MSG_CMSG_CLOEXEC)
         if len(data) != REPLY.size or flags & (socket.MSG_TRUNC | socket.MSG_CTRUNC) or len(found) > 1:
             for descriptor in found:
                 os.close(descriptor)

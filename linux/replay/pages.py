@@ -82,7 +82,9 @@ class KernelPage:
 
 
 class KernelPages:
-    """One script's pages on a bench. `fill`: the byte that new pages are filled with; 0: they stay zero-filled."""
+    """One script's pages on a bench. `fill`: the byte that new pages are filled with; 0: they stay zero-filled. `drops_zeros`: this
+    kernel gives mapped zero-filled subpages back at any split (B). `scans_exactly`: a scan takes so many pages as it specifies,
+    in one pass."""
 
     def __init__(self, bench: Bench, options: Options, fill: int) -> None:
         self._bench, self._options, self._fill = bench, options, fill

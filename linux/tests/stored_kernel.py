@@ -11,6 +11,7 @@ from ..common.errors import InputFault
 from ..common.script import Script, read_script
 from ..replay.expected_answers import ExpectedAnswer
 from ..replay.observation import Observation, PageObservation
+from ..replay.pages import KernelPages
 from ..replay.states import NodeState
 
 STORED = Path(__file__).resolve().parent / "stored"
@@ -33,7 +34,7 @@ def load(name: str) -> tuple[Script, list[Observation]]:
     return read_script(str(STORED / f"{name}.script")), [parse_observation(line) for line in lines]
 
 
-class StoredKernel:
+class StoredKernel(KernelPages):
     """Looks, one for the beginning and one for each command."""
 
     drops_zeros = True
