@@ -18,9 +18,7 @@ from ..common.counters import Counter, SizeCounter
 from ..common.files import PMD_ORDER
 from ..common.subpages import set_text
 from .expected_answers import NEVER, ExpectedAnswer
-from .known_differences import KnownDifference
-from .observation import Observation, PageObservation
-from .states import NodeState, PageState
+from .states import KnownDifference, NodeState, Observation, PageObservation, PageState
 
 Lists = dict[int, list[int]]  # pages by NUMA node
 _NUMBERS = re.compile(r"\[[^]]*\]|[0-9]+(?:[-,][0-9]+)*")

@@ -19,8 +19,7 @@ from ..common.files import PMD_ORDER
 from ..common.journal import Event
 from ..common.program import Program
 from ..common.script import Options, Script
-from .known_differences import KnownDifference
-from .states import NodeState
+from .states import KnownDifference, NodeState
 
 NEVER = 511  # max_ptes_none at which no page is underused (mm/huge_memory.c: thp_underused)
 INSERTED = 0  # the place of a command that only expresses D

@@ -26,8 +26,7 @@ from ..common.subpages import bits_of, runs
 from .bench import Bench
 from .expected_answers import ExpectedAnswer, Unsupported
 from .mappers import Mapper, Refusal
-from .observation import Observation, PageName, PageObservation
-from .states import NodeState, PageState
+from .states import NodeState, Observation, PageName, PageObservation, PageState
 
 DATA = 90  # the byte that subpages with data are filled with
 

@@ -15,10 +15,8 @@ from ..common.text import escape
 from .bench import Bench
 from .comparison import Comparison, CounterDifference, Difference, kind_of
 from .expected_answers import ExpectedAnswer, ExpectedRun, Unsupported, expect_run
-from .known_differences import join_letters
-from .observation import Observation
 from .pages import DATA, KernelPages
-from .states import NodeState
+from .states import NodeState, Observation, join_letters
 
 TRIES = 3  # a difference counts where each run of the script has one
 LAST_WINDOWS = 1.0  # seconds in which the counters are watched before a difference of theirs alone counts

@@ -17,9 +17,8 @@ from ..common.program import Program
 from ..common.script import Script
 from ..replay.comparison import Difference
 from ..replay.expected_answers import NEVER, ExpectedAnswer, Unsupported, expect_run
-from ..replay.observation import Observation, PageObservation
 from ..replay.runner import Outcome, Result, RunComparer
-from ..replay.states import NodeState
+from ..replay.states import NodeState, Observation, PageObservation
 from .plain_program import report_of
 from .stored_kernel import StoredKernel
 

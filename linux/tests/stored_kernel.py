@@ -10,9 +10,8 @@ from ..common.counters import Counter, Counts, SizeCounter
 from ..common.errors import InputFault
 from ..common.script import Script, read_script
 from ..replay.expected_answers import ExpectedAnswer
-from ..replay.observation import Observation, PageObservation
 from ..replay.pages import KernelPages
-from ..replay.states import NodeState
+from ..replay.states import NodeState, Observation, PageObservation
 
 STORED = Path(__file__).resolve().parent / "stored"
 

@@ -9,9 +9,7 @@ from ..common.counters import Counter, Counts, SizeCounter
 from ..common.journal import Event
 from ..replay.comparison import Comparison, Difference, can_fail, join_lists, lists_of
 from ..replay.expected_answers import ExpectedAnswer
-from ..replay.known_differences import KnownDifference
-from ..replay.observation import Observation, PageObservation
-from ..replay.states import NodeState
+from ..replay.states import KnownDifference, NodeState, Observation, PageObservation
 from .stored_kernel import parse_observation
 
 

@@ -20,10 +20,8 @@ from ..replay.options import parse_shape, parse_words
 from ..replay.comparison import CounterDifference, Difference
 from ..replay.expected_answers import Unsupported, expect_run
 from ..replay.generator import Generator, Shape, scripts
-from ..replay.known_differences import KnownDifference
-from ..replay.observation import Observation, PageObservation
 from ..replay.runner import Result, RunComparer, Runner, judge_tries
-from ..replay.states import NodeState
+from ..replay.states import KnownDifference, NodeState, Observation, PageObservation
 from .plain_program import inject_bug
 from .stored_kernel import StoredKernel, load, parse_observation
 

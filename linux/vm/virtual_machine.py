@@ -15,7 +15,6 @@ import socket
 import subprocess
 from dataclasses import dataclass
 
-
 from ..common.errors import Unavailable
 from ..common.program import ENVIRONMENT
 from ..common.user import User, give_up_rights, user_without_rights
