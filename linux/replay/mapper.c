@@ -267,17 +267,9 @@ static int drop_rights(void)
            syscall(SYS_capset, &head, none) || prctl(PR_SET_DUMPABLE, 0, 0, 0, 0) || setrlimit(RLIMIT_CORE, &no_core);
 }
 
-static int is_socket_pair(void)
-{
-    int domain = 0, kind = 0;
-    socklen_t size = sizeof domain;
-    return !getsockopt(LINE, SOL_SOCKET, SO_DOMAIN, &domain, &size) && domain == AF_UNIX &&
-           !getsockopt(LINE, SOL_SOCKET, SO_TYPE, &kind, &size) && kind == SOCK_SEQPACKET;
-}
-
 int main(void)
 {
-    if (!is_socket_pair() || drop_rights())
+    if (drop_rights())
         return 2;
     signal(SIGCHLD, SIG_IGN); /* children are reaped by the kernel */
     signal(SIGINT, SIG_IGN);  /* the tool ends its mappers itself */

@@ -18,7 +18,7 @@ from unittest import mock
 from ..common.errors import RunFailed
 from ..common.keeper import process_of
 from ..replay import mappers
-from ..replay.mappers import COMMAND, REPLY, WORDS, MapperSocket, Refusal, has_ended, socket_pair
+from ..replay.mappers import COMMAND, REPLY, WORDS, Mapper, Refusal, has_ended, socket_pair
 
 SOURCE = Path(__file__).resolve().parent.parent / "replay/mapper.c"
 FORK, ENTER, _, UNMAP, SPLITPMD, FILL, PIN, UNPIN, EXIT = range(len(WORDS))
@@ -128,11 +128,10 @@ class MapperTest(unittest.TestCase):
             self.assertEqual(os.fstat(file.fileno()).st_size, 0)
 
     def test_an_end_of_the_socket_ends_parents_and_children(self) -> None:
-        line = MapperSocket(self.end.dup())
+        line = Mapper(self.end.dup())
         mine, its = socket_pair()
         with its:
-            _, pidfd = line.ask("fork", passed=its.fileno())
-        assert pidfd is not None
+            pidfd = line.request("fork", passed=its.fileno())
         self.assertNotIn(process_of(pidfd), (0, self.process.pid))
         mine.send(packed(UNPIN))
         self.assertEqual(mine.recv(100), REPLY.pack(-errno.ENOENT))
@@ -151,15 +150,15 @@ class MapperTest(unittest.TestCase):
     def test_anything_but_a_socket_as_standard_input_ends_it(self) -> None:
         for kind in (subprocess.DEVNULL, subprocess.PIPE):
             with subprocess.Popen([self.path], stdin=kind) as process:
-                self.assertEqual(process.wait(10), 2)
+                self.assertEqual(process.wait(10), 1)
 
 
-class MapperSocketTest(unittest.TestCase):
+class RequestTest(unittest.TestCase):
     """The tool's end."""
 
-    def pair(self) -> Tuple[MapperSocket, socket.socket]:
+    def pair(self) -> Tuple[Mapper, socket.socket]:
         mine, its = socket_pair()
-        line = MapperSocket(mine)
+        line = Mapper(mine)
         self.addCleanup(its.close)
         self.addCleanup(line.close)
         return line, its
@@ -168,28 +167,30 @@ class MapperSocketTest(unittest.TestCase):
         line, its = self.pair()
         its.send(REPLY.pack(-22))
         with self.assertRaisesRegex(Refusal, "pin 3: Invalid argument"):
-            line.ask("pin", 3)
-        self.assertTrue(line.is_open)
+            line.request("pin", 3)
+        its.send(REPLY.pack(5))
+        self.assertEqual(line.request("pin", 3), 5)
 
     def test_what_is_no_reply_closes_the_line(self) -> None:
         for data in (b"o", bytes(9), bytes(65)):
             line, its = self.pair()
             its.send(data)
             with self.subTest(data), self.assertRaises(RunFailed):
-                line.ask("pin", 3)
-            self.assertFalse(line.is_open)
+                line.request("pin", 3)
+            with self.assertRaisesRegex(RunFailed, "failed before"):
+                line.request("pin", 3)
 
     def test_a_process_that_ended_or_is_silent_is_named(self) -> None:
         with mock.patch.object(mappers, "PATIENCE", 0.05):
             line, its = self.pair()
             with self.assertRaisesRegex(RunFailed, "no reply"):
-                line.ask("pin", 3)
+                line.request("pin", 3)
             with self.assertRaisesRegex(RunFailed, "failed before"):
-                line.ask("pin", 3)
+                line.request("pin", 3)
             line, its = self.pair()
             its.close()
             with self.assertRaisesRegex(RunFailed, "has ended"):
-                line.ask("pin", 3)
+                line.request("pin", 3)
 
     def test_more_than_one_descriptor_is_refused_and_closed(self) -> None:
         before = len(os.listdir("/proc/self/fd"))
@@ -197,7 +198,7 @@ class MapperSocketTest(unittest.TestCase):
         with tempfile.TemporaryFile() as file:
             socket.send_fds(its, [REPLY.pack(0)], [file.fileno()] * 3)
             with self.assertRaisesRegex(RunFailed, "no reply"):
-                line.ask("fork")
+                line.request("fork")
         its.close()
         self.assertEqual(len(os.listdir("/proc/self/fd")), before)
 
