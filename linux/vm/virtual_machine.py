@@ -1,8 +1,8 @@
 """qemu: its words, its start and its end.
 
 The kernel, the file system and both serial lines are descriptors without names, so nothing is left on the machine after
-any end. qemu has no network, no disk and no rights: where this tool is root, it runs as nobody. The kernel ends it with
-this tool (PR_SET_PDEATHSIG).
+any end. qemu has no network, no disk and no rights: where this tool is root, it runs as a user without any. The kernel ends it
+with this tool (PR_SET_PDEATHSIG).
 """
 
 from __future__ import annotations
