@@ -22,6 +22,7 @@ from ..common.script import Options, Script
 from .states import KnownDifference, NodeState
 
 NEVER = 511  # max_ptes_none at which no page is underused (mm/huge_memory.c: thp_underused)
+PAGE_COMMANDS = {"mapwhole", "unmapwhole", "map", "unmap", "splitpmd", "pin", "unpin", "write", "zero"}
 INSERTED = 0  # the place of a command that only expresses D
 
 _NODE = re.compile("[0-7]")

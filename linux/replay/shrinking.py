@@ -14,6 +14,7 @@ from ..common.errors import RunFailed
 from ..common.machine import kernel
 from ..common.script import Command, Options, Script, script_of
 from ..common.text import escape
+from .expected_answers import PAGE_COMMANDS
 from .runner import Outcome, Result
 
 SECONDS = 60.0  # that a script gets
@@ -134,9 +135,6 @@ def drop(draft: Draft, gone: set[int]) -> Draft:
             words[2] = str(numbers[page])
         kept.append(Command(command.section, tuple(words)))
     return replace(draft, commands=tuple(kept))
-
-
-PAGE_COMMANDS = {"mapwhole", "unmapwhole", "map", "unmap", "splitpmd", "pin", "unpin", "write", "zero"}
 
 
 def cut_end(draft: Draft, outcome: Outcome) -> Iterator[Draft]:
