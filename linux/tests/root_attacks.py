@@ -49,7 +49,7 @@ STAND_IN = 7  # the status of a command in the stand-in for qemu
 CALLER = 1  # the user behind sudo: Debian's daemon
 PIECE, PIECES = 1 << 20, 2000  # bytes, and their number: what a package unpacks to
 MOST_MEMORY = 1 << 30  # bytes of a tool that reads such a package; without a limit it takes twice what the package unpacks to
-MOST_SEEDS_SECONDS = 60.0  # of processor time, of which all scripts take several hundred
+MOST_SEEDS_SECONDS = 15.0  # of processor time, of which all scripts take about a minute
 
 
 class CallResult:
@@ -237,7 +237,7 @@ def seeds_are_read_at_once() -> str | None:
     """A file of long scripts' seeds is not worked off before the first of them is shown."""
     with tempfile.TemporaryDirectory() as folder:
         path = Path(folder) / "seeds"
-        path.write_text("".join(f"{seed} --length 10000\n" for seed in range(3000)))
+        path.write_text("".join(f"{seed} --length 10000\n" for seed in range(1000)))
         before = resource.getrusage(resource.RUSAGE_CHILDREN).ru_utime
         with subprocess.Popen([*REPLAY, "--seeds", str(path), "--show"], stdout=subprocess.PIPE, stderr=subprocess.DEVNULL) as tool:
             assert tool.stdout
