@@ -3,8 +3,9 @@
     tests/repeats.py CHECKER PROGRAM [--cases N] [--seed S]
 
 The journals are those of the model in model.py. For one caller, and for callers whose batches are not open at once, the script must
-repeat the journal byte for byte, except for the callers' numbers. For others it must make the same calls, and the number of tries in
-another order than the takes must be reported. For an illegal journal it must be the script of the events before the illegal one.
+repeat the journal byte for byte, except for the callers' numbers. For others it must make the same calls, its commands and the lines
+about what it moves must be those of a plain reading (plain_scripts.py), and the number of tries in another order than the takes must be
+reported. For an illegal journal it must be the script of the events before the illegal one.
 """
 
 from __future__ import annotations
@@ -18,6 +19,7 @@ from random import Random
 from typing import Callable, Optional
 
 from model import Refused
+from plain_scripts import BATCH_EVENTS, CALLS, OPERANDS, TRIES, plain_script
 from random_texts import (
     Script, changed_journal, joined, likely_words, operands, random_commands, random_shapes, script_of_many, script_of_one,
 )
@@ -26,11 +28,6 @@ from tally import Tally
 from texts import journal_fault
 
 SECONDS = 60
-CALLS = {"mapsub": "map", "unmapsub": "unmap"}
-"""Events of calls whose command has another word."""
-
-TRIES = ("split", "pinned", "used")
-BATCH_EVENTS = ("taken", *TRIES, "back", "dropped")
 BATCH_COMMANDS = ("scan", "take", "splitnext", "putback")
 CALLERS = (0, 1, 2, 63)
 
@@ -66,15 +63,18 @@ def calls_of(journal: list[str]) -> list[str]:
         if words[0] == "node":
             node = words[1]
         elif words[1] not in BATCH_EVENTS:
-            count = {"alloc": 0, "close": 0, "mapsub": 3, "unmapsub": 3, "write": 3, "zero": 3}.get(words[1], 1)
-            commands.append(" ".join((CALLS.get(words[1], words[1]), node, *words[2:2 + count])))
+            commands.append(" ".join((CALLS.get(words[1], words[1]), node, *words[2:2 + OPERANDS.get(words[1], 1)])))
     return commands
+
+
+def commands_in(script: bytes) -> list[str]:
+    """The commands of a script."""
+    return [line for line in script.decode().split("\n") if line and line != "setup" and line[0] != "#"]
 
 
 def calls_in(script: bytes) -> list[str]:
     """The calls among the commands of a script."""
-    lines = script.decode().split("\n")
-    return [line for line in lines if line and line != "setup" and line[0] != "#" and line.split()[0] not in BATCH_COMMANDS]
+    return [line for line in commands_in(script) if line.split()[0] not in BATCH_COMMANDS]
 
 
 def out_of_turn(journal: list[str]) -> int:
@@ -150,6 +150,11 @@ def makes_same_calls(checker: Path, program: Path, journal: list[str]) -> Option
         return f"status {status}, {errors!r}"
     if not errors.endswith(turns_message(journal)) or errors.count(b"another order") > 1:
         return f"{out_of_turn(journal)} tries out of turn, {errors!r}"
+    commands, notes = plain_script(journal)
+    if commands_in(script) != commands:
+        return "other commands than by a plain reading"
+    if errors != "".join(f"{line}\n" for line in notes).encode() + turns_message(journal):
+        return f"{notes} by a plain reading, {errors!r}"
     if calls_in(script) != calls_of(journal):
         return "other calls"
     again = repeated(program, script)

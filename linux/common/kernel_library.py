@@ -12,7 +12,7 @@ from .errors import Unavailable
 from .helpers import helper
 
 ROOM = 1 << 16  # bytes of messages
-STATES, WINDOW, NAME = 1024, 1 << 16, 64  # linux/kernel/shared.h
+STATES, WINDOW, NAME, TABLES, ENTRIES = 1024, 1 << 16, 64, 32, 512  # linux/kernel/shared.h
 LACKING = re.compile(r"failed to resolve CO-RE relocation <[a-z_]+> \[[0-9]+\] (?:struct|enum|union) ([A-Za-z0-9_.]+)")
 SIZES = re.compile(r"^struct .* has [0-9]+ bytes in this kernel.*$", re.MULTILINE)
 RIGHTS = {"CAP_BPF": 39, "CAP_PERFMON": 38}  # include/uapi/linux/capability.h
@@ -36,7 +36,8 @@ class Window(ctypes.Structure):
     """struct thp_window."""
 
     _fields_ = [*((name, ctypes.c_uint64) for name in ("first_page", "page_size", "scan_function", "queue_lists", "has_lists")),
-                ("lacking", ctypes.c_char * NAME), ("states", PageState * STATES), ("folios", ctypes.c_uint64 * WINDOW)]
+                ("lacking", ctypes.c_char * NAME), ("states", PageState * STATES), ("folios", ctypes.c_uint64 * WINDOW),
+                ("tables", ctypes.c_uint64 * ENTRIES * TABLES)]
 
 
 class Settings(ctypes.Structure):
@@ -67,7 +68,7 @@ def load_library() -> ctypes.CDLL:
         ("thp_memory_open", [pointer, size], pointer),
         ("thp_memory_run", [pointer, ctypes.c_char_p, pointer], number),
         ("thp_memory_window", [pointer], ctypes.POINTER(Window)),
-        ("thp_memory_zero_program", [pointer], number),
+        ("thp_memory_program", [pointer, ctypes.c_char_p], number),
         ("thp_record_open", [pointer, pointer, size], pointer),
         ("thp_record_take", [pointer, number, size, pointer], number),
         ("thp_record_counters", [pointer, pointer], None),

@@ -10,13 +10,11 @@ import ctypes
 import mmap
 import os
 from dataclasses import dataclass
-from typing import Sequence
+from typing import NamedTuple, Sequence
 
 from .errors import Unavailable
 from .files import BASE, read
 from .kernel_library import STATES, WINDOW, PageState, Request, load_library, open_programs
-from .page_files import frames_at
-
 __all__ = ["STATES", "KernelMemory", "ListChanged", "PageState", "Queue", "numa_nodes"]
 
 TRIES = 20  # walks of a list that changes
@@ -32,6 +30,16 @@ REASONS = {
 
 class ListChanged(Unavailable):
     """A list changed during each of the walks."""
+
+
+class Tables(NamedTuple):
+    """What reads page tables: two programs, where their copies are, where the map of all memory begins, the levels of tables."""
+
+    find: int
+    copy: int
+    copies: int
+    map: int
+    levels: int
 
 
 @dataclass(frozen=True)
@@ -54,6 +62,7 @@ class KernelMemory:
         self._window = self._library.thp_memory_window(self._programs).contents
         self._answer = self._try("describe_kernel", Request())  # of the queues; all else works without
         self._numa_nodes: list[int] = []
+        self._map = self._levels = 0
 
     def _try(self, name: str, request: Request) -> int:
         answer = int(self._library.thp_memory_run(self._programs, name.encode(), ctypes.byref(request)))
@@ -138,9 +147,8 @@ class KernelMemory:
         return int(self._window.page_size)
 
     def first_page(self) -> int:
-        """Returns where the struct page of frame 0 is: by a page of our own, known both ways."""
-        if not self._window.first_page:
-            self._window.first_page = self._find_first_page()
+        """Returns where the struct page of frame 0 is."""
+        self._find_own_page()
         return int(self._window.first_page)
 
     def frame(self, folio: int) -> int:
@@ -161,38 +169,48 @@ class KernelMemory:
         self._run("look_at_pages", found=len(frames))
         return states[: len(frames)]
 
-    # contents
+    # page tables and contents
 
-    def memory_map(self) -> int:
-        """Returns where the kernel's map of all memory begins: content by frame."""
-        self.first_page()
-        return int(self._run("find_map").at)
+    def tables(self) -> Tables:
+        """Returns what reads page tables."""
+        self._find_own_page()
+        window = ctypes.addressof(self._window.tables)
+        return Tables(self.program("find_tables"), self.program("copy_table"), window, self._map, self._levels)
+
+    def content_of(self, frame: int) -> int:
+        """Returns where the content of a frame is in the kernel's map of all memory."""
+        self._find_own_page()
+        return self._map + frame * BASE
 
     def is_zero(self, address: int) -> bool:
         """Returns whether the base page at an address is zero-filled."""
         return bool(self._run("find_zeros", group=address, numa_node=1).at)  # struct thp_zeros: address, count, zero
 
-    def zero_program(self) -> int:
-        """Returns the program that finds zero-filled base pages: see struct thp_zeros."""
-        return int(self._library.thp_memory_zero_program(self._programs))
+    def program(self, name: str) -> int:
+        """Returns the descriptor of a program of linux/kernel/memory.bpf.c."""
+        return int(self._library.thp_memory_program(self._programs, name.encode()))
 
-    def _find_first_page(self) -> int:
+    def _find_own_page(self) -> None:
+        """Finds the map of all memory and the struct page of frame 0, once: by a page of ours, which is found by our page tables and
+        its content, and by the file that it belongs to."""
+        if self._window.first_page:
+            return
         descriptor = os.memfd_create("thpsplit", os.MFD_CLOEXEC)
         try:
             os.ftruncate(descriptor, BASE)
             memory = mmap.mmap(descriptor, BASE)
-            memory[0] = 1
+            memory[:8] = content = os.urandom(8)
             view = ctypes.c_char.from_buffer(memory)
-            frame = frames_at(os.getpid(), ctypes.addressof(view), 1)[0]
-            del view
+            found = self._run("find_map", group=ctypes.addressof(view), numa_node=int.from_bytes(content, "little"))
             page = int(self._run("find_page", at=descriptor).at)
+            del view
             memory.close()
         finally:
             os.close(descriptor)
-        start = page - self.page_size() * (frame or 0)
-        if not frame or page & 3 or start & (BASE - 1):
+        start = page - self.page_size() * found.length
+        if page & 3 or start & (BASE - 1):
             raise Unavailable("struct page isn't found: the kernel's memory map isn't one array (SPARSEMEM_VMEMMAP)")
-        return start
+        self._window.first_page, self._map, self._levels = start, int(found.at), int(found.found)
 
 
 def numa_nodes() -> list[int]:

@@ -62,7 +62,11 @@ struct task_struct {
 struct xarray { void *xa_head; };
 struct address_space { struct xarray i_pages; };
 struct inode { void *i_private; };
-struct file { struct address_space *f_mapping; struct inode *f_inode; };
+struct file { struct address_space *f_mapping; struct inode *f_inode; void *private_data; };
+struct seq_file { void *private; };
+struct proc_maps_private { struct mm_struct *mm; };
+struct proc_maps_locking_ctx { struct mm_struct *mm; };
+struct proc_maps_private___locking { struct proc_maps_locking_ctx lock_ctx; }; /* Linux 6.18 */
 struct fdtable { struct file **fd; };
 struct files_struct { struct fdtable *fdt; };
 
@@ -77,7 +81,6 @@ struct folio {
 };
 struct folio___number { unsigned long flags; };
 struct folio___memdesc { memdesc_flags_t flags; };	/* Linux 6.18 */
-struct ptdesc { struct mm_struct *pt_mm; };
 enum pageflags { PG_head = 6 };
 enum pageflags___6_12 { PG_partially_mapped = 9 };
 enum scan_result { SCAN_SUCCEED = 1 };

@@ -1,7 +1,7 @@
 // SPDX-License-Identifier: MIT OR GPL-2.0
 /*
- * Readers of kernel memory: a control group's address, deferred split queues, the structures of huge pages, zero-filled base
- * pages. linux/common/kernel_memory.py runs them.
+ * Readers of kernel memory: a control group's address, deferred split queues, the structures of huge pages, page tables, zero-filled
+ * base pages. linux/common/kernel_memory.py runs them.
  *
  * All are of type syscall: the caller runs them when it needs an answer, and they are attached to nothing. What they return is
  * in their context (struct thp_request) and in `window`. Nothing is locked, and kernel memory is only read, by a helper that
@@ -173,36 +173,86 @@ int look_at_pages(struct thp_request *request)
 	return FINE;
 }
 
-/* contents: what pages contain doesn't leave the kernel */
+/* page tables of x86-64 (arch/x86/include/asm/pgtable_types.h) */
 
-struct thp_search { __u64 table, space, base, found; };
+enum { PRESENT = 1, LEAF = 1 << 7, TABLE_BITS = 9, ENTRIES = 1 << TABLE_BITS };
+#define FRAME_BITS 0x000ffffffffff000ULL
 
-/* Whether the kernel's map of all memory begins at a base: then the struct page of our page table names its owner. */
+struct thp_search { __u64 table, address, content, base, levels, frame, found; };
+
+/* Whether our own page tables lead to the page at our address, whose content is known, if the map of all memory begins at a base. */
+static __always_inline bool leads_to_page(struct thp_search *search, int levels)
+{
+	__u64 at = search->table, entry = 0, content = 0;
+
+	for (int level = levels - 1; level >= 0; level--) {
+		__u64 index = search->address >> (BASE_BITS + TABLE_BITS * level) & (ENTRIES - 1);
+
+		if (bpf_probe_read_kernel(&entry, sizeof(entry), (void *)(at + sizeof(entry) * index)))
+			return false;
+		if (!(entry & PRESENT) || (level && entry & LEAF))
+			return false;
+		at = search->base + (entry & FRAME_BITS);
+	}
+	search->levels = levels;
+	search->frame = (entry & FRAME_BITS) >> BASE_BITS;
+	return !bpf_probe_read_kernel(&content, sizeof(content), (void *)at) && content == search->content;
+}
+
 static long try_base(__u32 index, struct thp_search *search)
 {
-	struct ptdesc *page = (void *)(window.first_page + (search->table - search->base) / BASE * bpf_core_type_size(struct page));
-
-	search->found = (__u64)READ(&page->pt_mm) == search->space;
+	search->found = leads_to_page(search, 4) || leads_to_page(search, 5);
 	if (search->found)
 		return 1;
 	search->base -= GIB;
 	return 0;
 }
 
-/* Where the kernel's map of all memory begins. */
+/*
+ * Where the kernel's map of all memory begins (`at`), how many levels page tables have (`found`), and the frame of a page of ours
+ * (`length`), whose address is `group` and which begins with `numa_node`.
+ */
 SEC("syscall")
 int find_map(struct thp_request *request)
 {
-	struct mm_struct *mm = bpf_get_current_task_btf()->mm;
-	struct thp_search search = { .space = (__u64)mm };
+	struct thp_search search = { .address = request->group, .content = request->numa_node };
 
-	NEED(bpf_core_field_exists(struct ptdesc, pt_mm), "ptdesc.pt_mm");
-	search.table = (__u64)READ(&mm->pgd);
+	search.table = (__u64)READ(&bpf_get_current_task_btf()->mm->pgd);
 	search.base = search.table & -(__u64)GIB;
 	bpf_loop(FARTHEST, try_base, &search, 0);
 	request->at = search.base;
+	request->found = search.levels;
+	request->length = search.frame;
 	return search.found ? FINE : UNREADABLE;
 }
+
+/* The top page table of the process whose open /proc/PID/maps is `at`; the file keeps that table. */
+SEC("syscall")
+int find_tables(struct thp_request *request)
+{
+	void *state = READ(&((struct seq_file *)READ(&file_of(request->at)->private_data))->private);
+	struct mm_struct *mm;
+
+	if (bpf_core_field_exists(struct proc_maps_private, mm))
+		mm = READ(&((struct proc_maps_private *)state)->mm);
+	else
+		mm = READ(&((struct proc_maps_private___locking *)state)->lock_ctx.mm);
+	request->at = mm ? (__u64)READ(&mm->pgd) : 0;
+	return request->at ? FINE : UNREADABLE;
+}
+
+/* Copies the table at `at` to the window's tables, at place `found`. linux/common/pages.c runs it in workers. */
+SEC("syscall")
+int copy_table(struct thp_request *request)
+{
+	__u64 place = request->found;
+
+	if (place >= TABLES)
+		return UNREADABLE;
+	return bpf_probe_read_kernel(window.tables[place], sizeof(window.tables[0]), (void *)request->at) ? UNREADABLE : FINE;
+}
+
+/* contents: what pages contain doesn't leave the kernel */
 
 /*
  * Whether memory is all 0; -1: it can't be read. Places are read in ascending order: a look at a later one first makes the

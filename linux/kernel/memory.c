@@ -42,8 +42,8 @@ struct thp_window *thp_memory_window(struct memory_bpf *programs)
 	return &programs->bss->window;
 }
 
-/* Returns the descriptor of the program that finds zero-filled base pages, which pages.c runs in threads. */
-int thp_memory_zero_program(struct memory_bpf *programs)
+/* Returns the descriptor of a program, which pages.c runs. */
+int thp_memory_program(struct memory_bpf *programs, const char *name)
 {
-	return bpf_program__fd(programs->progs.find_zeros);
+	return bpf_program__fd(bpf_object__find_program_by_name(programs->obj, name));
 }

@@ -112,7 +112,6 @@ def place_target(path: Path, kind: str, target: Path) -> None:
 KINDS = ("a link", "a dangling link", "a hard link", "a pipe", "a device", "a folder", "a file")
 OUTPUTS: dict[str, list[str]] = {
     "thpwhatif -o": [WHATIF, "snapshot", "--pid", str(os.getpid()), "-o"],
-    "thpwhatif --facts": [WHATIF, "snapshot", "--pid", str(os.getpid()), "--facts"],
     "thpwhatif --svg": [WHATIF, "now", "--pid", str(os.getpid()), "--svg"],
     "thpwhatif --prometheus": [WHATIF, "watch", "1", "--rounds", "1", "--pid", str(os.getpid()), "--prometheus"],
     "thprecord --out": [*RECORD, "--own", "1,5,1", "--out"],
