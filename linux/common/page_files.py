@@ -9,8 +9,9 @@ from __future__ import annotations
 import enum
 import os
 import struct
+from array import array
 from types import TracebackType
-from typing import List, Optional, Tuple, Type
+from typing import Sequence
 
 from .errors import Unavailable
 from .files import BASE
@@ -35,6 +36,14 @@ class PageFlag(enum.IntFlag):
 _HEAD, _TAIL = int(PageFlag.COMPOUND_HEAD), int(PageFlag.COMPOUND_TAIL)  # the operators of plain numbers are faster
 
 
+def read_numbers(file: int, first: int, count: int) -> Sequence[int]:
+    """Returns `count` numbers from place `first` on of an open file. EOFError where it ends before."""
+    raw = os.pread(file, 8 * count, 8 * first)
+    if len(raw) != 8 * count:
+        raise EOFError
+    return array("Q", raw)
+
+
 class NumberFile:
     """A file of 64-bit numbers, open until `close` or the end of a `with`."""
 
@@ -45,7 +54,7 @@ class NumberFile:
             raise Unavailable(f"{path} can't be read: {error.strerror} (PROC_PAGE_MONITOR, root)") from error
         self.path = path
 
-    def at(self, first: int, count: int) -> Tuple[int, ...]:
+    def at(self, first: int, count: int) -> tuple[int, ...]:
         """`count` numbers from place `first` on; a short read (a process that ended) is an OSError."""
         raw = os.pread(self._file.fileno(), 8 * count, 8 * first)
         if len(raw) != 8 * count:
@@ -59,17 +68,17 @@ class NumberFile:
         return self
 
     def __exit__(
-        self, kind: Optional[Type[BaseException]], error: Optional[BaseException], trace: Optional[TracebackType]
+        self, kind: type[BaseException] | None, error: BaseException | None, trace: TracebackType | None
     ) -> None:
         self.close()
 
 
-def frame_of_entry(entry: int) -> Optional[int]:
+def frame_of_entry(entry: int) -> int | None:
     """Returns the frame of a pagemap entry, or None where nothing is present."""
     return entry & _FRAME if entry & _PRESENT else None
 
 
-def frames_at(process: int, address: int, count: int) -> List[Optional[int]]:
+def frames_at(process: int, address: int, count: int) -> list[int | None]:
     """Returns the frames that a process maps at `count` base pages from an address on; None where none is present."""
     with NumberFile(f"/proc/{process}/pagemap") as pagemap:
         return [frame_of_entry(entry) for entry in pagemap.at(address // BASE, count)]
@@ -81,11 +90,11 @@ class Frames:
     def __init__(self) -> None:
         self._flags, self._counts = NumberFile("/proc/kpageflags"), NumberFile("/proc/kpagecount")
 
-    def flags(self, first: int, count: int) -> Tuple[int, ...]:
+    def flags(self, first: int, count: int) -> tuple[int, ...]:
         """Returns the flags (PageFlag) of `count` frames."""
         return self._flags.at(first, count)
 
-    def counts(self, first: int, count: int) -> Tuple[int, ...]:
+    def counts(self, first: int, count: int) -> tuple[int, ...]:
         """Returns how often each of `count` frames is mapped."""
         return self._counts.at(first, count)
 
@@ -97,3 +106,34 @@ class Frames:
     def close(self) -> None:
         self._flags.close()
         self._counts.close()
+
+
+class OpenFiles:
+    """A file of numbers of each of some processes, at most `most` at a time, all closed at the end of a `with`."""
+
+    def __init__(self, name: str, most: int = 64) -> None:
+        self._name, self._most = name, most
+        self._open: dict[int, int] = {}
+
+    def numbers(self, process: int, first: int, count: int) -> Sequence[int]:
+        """Returns `count` 64-bit numbers of the process's file from place `first` on; none where they can't be read."""
+        try:
+            if process not in self._open:
+                if len(self._open) >= self._most:
+                    self.close()
+                self._open[process] = os.open(f"/proc/{process}/{self._name}", os.O_RDONLY | os.O_CLOEXEC)
+            return read_numbers(self._open[process], first, count)
+        except (OSError, EOFError):
+            return ()
+
+    def close(self) -> None:
+        """Closes all files."""
+        for file in self._open.values():
+            os.close(file)
+        self._open = {}
+
+    def __enter__(self) -> OpenFiles:
+        return self
+
+    def __exit__(self, *_: object) -> None:
+        self.close()

@@ -6,7 +6,6 @@ from __future__ import annotations
 import ctypes
 import mmap
 import os
-from typing import Iterable
 
 from ..common.errors import Unavailable
 from ..common.files import BASE
@@ -29,18 +28,6 @@ def demand_frames() -> None:
         (entry,) = pagemap.at(address // BASE, 1)
     if not frame_of_entry(entry):
         raise Unavailable("frame numbers read as 0: CAP_SYS_ADMIN is missing")
-
-
-def demand_signals(processes: Iterable[int]) -> None:
-    """Unavailable where one of these processes may not be stopped."""
-    for process in processes:
-        try:
-            os.kill(process, 0)
-        except PermissionError as error:
-            why = "CAP_KILL is missing" if missing_capabilities("CAP_KILL") else "Operation not permitted"
-            raise Unavailable(f"process {process} can't be held still: {why}") from error
-        except OSError:
-            continue  # it ended
 
 
 def demand_reading(process: int) -> None:

@@ -35,6 +35,7 @@ class Snapshot:
     folios: List[Folio]
     processes: Dict[int, str]  # names of those that map huge pages
     left_out: Counter[str]
+    unread: Counter[str] = field(default_factory=Counter)  # what couldn't be read and could change the answer, by reason
     names: Dict[int, str] = field(default_factory=dict)  # of control groups, by inode
     chosen: str = ""
     note: str = ""  # what a look from inside a PID namespace can't see
@@ -50,6 +51,7 @@ class Snapshot:
     at: str = ""
     sampled: int = 0  # pages that were read twice
     changed: int = 0  # of these, how many had changed
+    changed_pages: list[tuple[Folio | None, Folio | None]] = field(default_factory=list)  # these, at both readings
     seconds: float = 0.0
     spent: Dict[str, float] = field(default_factory=dict)
 

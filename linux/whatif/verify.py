@@ -31,10 +31,9 @@ from ..common.files import BASE, COLLAPSE_SLEEP, PMD_ORDER, PTES_NONE, SWITCH, T
 from ..common.folios import Folio
 from ..common.groups import END_TIME, Freeze, Groups
 from ..common.keeper import Keeper
-from ..common.page_files import Frames, PageFlag, frame_of_entry
+from ..common.page_files import Frames, OpenFiles, PageFlag, frame_of_entry
 from ..common.proc import members
 from ..common.program import Program
-from ..common.reader import OpenFiles
 from ..common.subpages import size
 from ..common.text import escape
 from ..common.user import User
