@@ -204,7 +204,7 @@ static void walk_table(struct walk *w, uint64_t table, int level, uint64_t begin
         uint64_t at = begin + i * size;
         if (at + size <= start || at >= end) continue;
         if (entries[i] & LEAF) {
-            if (level == 1) take_whole(w, at, frame_of(entries[i], LEAF));
+            if (level == 1) take_whole(w, at, frame_of(entries[i], LEAF) / BLOCK * BLOCK); /* other bits below are set */
         } else if (entries[i] & PRESENT) {
             walk_table(w, entries[i] & FRAME_BITS, level - 1, at, start, end);
         }
