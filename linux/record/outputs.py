@@ -4,10 +4,10 @@ from __future__ import annotations
 
 import json
 import os
-from typing import IO, Iterable, List, Optional
+from typing import IO, Iterable
 
 from ..common.errors import InputFault, RunFailed
-from ..common.files import create
+from ..common.files import NewFile
 from ..common.text import escape
 from .journal_file import JournalFile
 from .options import RecordOptions
@@ -18,8 +18,8 @@ class Output:
     """A new file of a name."""
 
     def __init__(self, path: str) -> None:
-        self._path = path
-        self._file: IO[bytes] = create(path).detach()  # type: ignore[attr-defined]
+        self._path, self._new = path, NewFile(path)
+        self._file: IO[bytes] = self._new.file.buffer
 
     def begin(self) -> IO[bytes]:
         """Returns the file, empty."""
@@ -31,10 +31,9 @@ class Output:
         """Closes the file, and removes it where nothing was written."""
         try:
             self._file.flush()
-            own, found = os.fstat(self._file.fileno()), os.lstat(self._path)
-            if own.st_size == 0 and (own.st_dev, own.st_ino) == (found.st_dev, found.st_ino):
-                os.unlink(self._path)
-            self._file.close()
+            if os.fstat(self._file.fileno()).st_size == 0:
+                self._new.remove()
+            self._new.close()
         except OSError as error:
             raise RunFailed(f"{escape(self._path)} can't be written: {error.strerror}") from error
 
@@ -43,9 +42,9 @@ class Outputs:
     """The files of --out, --times and --records, of the last one for each of a number of queues."""
 
     def __init__(self, options: RecordOptions, queues: int) -> None:
-        self._journal: Optional[Output] = None
-        self._times: Optional[Output] = None
-        self._records: List[Output] = []
+        self._journal: Output | None = None
+        self._times: Output | None = None
+        self._records: list[Output] = []
         try:
             self._journal = Output(options.out) if options.out is not None else None
             self._times = Output(options.times) if options.times is not None else None
@@ -68,7 +67,7 @@ class Outputs:
             file.writelines(b"%d.%09d\n" % divmod(time, 10 ** 9) for time in times)
             file.flush()
 
-    def write_records(self, stores: List[Store]) -> None:
+    def write_records(self, stores: list[Store]) -> None:
         """Writes the records of each queue, a line of JSON for each, and replaces earlier ones."""
         for output, store in zip(self._records, stores):
             file = output.begin()
