@@ -8,9 +8,7 @@ from __future__ import annotations
 
 import enum
 import os
-import struct
 from array import array
-from types import TracebackType
 from typing import Sequence
 
 from .errors import Unavailable
@@ -36,40 +34,35 @@ class PageFlag(enum.IntFlag):
 _HEAD, _TAIL = int(PageFlag.COMPOUND_HEAD), int(PageFlag.COMPOUND_TAIL)  # the operators of plain numbers are faster
 
 
-def read_numbers(file: int, first: int, count: int) -> Sequence[int]:
-    """Returns `count` numbers from place `first` on of an open file. EOFError where it ends before."""
-    raw = os.pread(file, 8 * count, 8 * first)
-    if len(raw) != 8 * count:
-        raise EOFError
-    return array("Q", raw)
+class TooShort(OSError):
+    """A file ends before what is to be read: the process has ended, or memory was taken from the machine."""
 
 
 class NumberFile:
-    """A file of 64-bit numbers, open until `close` or the end of a `with`."""
+    """A file of 64-bit numbers, open until `close` or the end of a `with`. Unavailable where there is none for the caller."""
 
     def __init__(self, path: str) -> None:
         try:
-            self._file = open(path, "rb", 0)
-        except OSError as error:
+            self.descriptor = os.open(path, os.O_RDONLY | os.O_CLOEXEC)
+        except (FileNotFoundError, PermissionError) as error:
             raise Unavailable(f"{path} can't be read: {error.strerror} (PROC_PAGE_MONITOR, root)") from error
         self.path = path
 
-    def at(self, first: int, count: int) -> tuple[int, ...]:
-        """`count` numbers from place `first` on; a short read (a process that ended) is an OSError."""
-        raw = os.pread(self._file.fileno(), 8 * count, 8 * first)
+    def at(self, first: int, count: int) -> Sequence[int]:
+        """Returns `count` numbers from place `first` on. TooShort where the file ends before."""
+        raw = os.pread(self.descriptor, 8 * count, 8 * first)
         if len(raw) != 8 * count:
-            raise OSError(0, f"{self.path} ends early", self.path)
-        return struct.unpack(f"<{count}Q", raw)
+            raise TooShort(0, f"{self.path} ends early", self.path)
+        return array("Q", raw)
 
     def close(self) -> None:
-        self._file.close()
+        """Closes the file."""
+        os.close(self.descriptor)
 
     def __enter__(self) -> NumberFile:
         return self
 
-    def __exit__(
-        self, kind: type[BaseException] | None, error: BaseException | None, trace: TracebackType | None
-    ) -> None:
+    def __exit__(self, *_: object) -> None:
         self.close()
 
 
@@ -90,13 +83,13 @@ class Frames:
     def __init__(self) -> None:
         self._flags, self._counts = NumberFile("/proc/kpageflags"), NumberFile("/proc/kpagecount")
 
-    def flags(self, first: int, count: int) -> tuple[int, ...]:
+    def flags(self, first: int, count: int) -> Sequence[int]:
         """Returns the flags (PageFlag) of `count` frames."""
         return self._flags.at(first, count)
 
     def counts(self, first: int, count: int) -> tuple[int, ...]:
         """Returns how often each of `count` frames is mapped."""
-        return self._counts.at(first, count)
+        return tuple(self._counts.at(first, count))
 
     def whole(self, first: int, count: int) -> int:
         """Returns how many of these frames are still parts of one compound page that begins at the first."""
@@ -113,23 +106,23 @@ class OpenFiles:
 
     def __init__(self, name: str, most: int = 64) -> None:
         self._name, self._most = name, most
-        self._open: dict[int, int] = {}
+        self._open: dict[int, NumberFile] = {}
 
     def numbers(self, process: int, first: int, count: int) -> Sequence[int]:
-        """Returns `count` 64-bit numbers of the process's file from place `first` on; none where they can't be read."""
+        """Returns `count` numbers of the process's file from place `first` on; none where they can't be read."""
         try:
             if process not in self._open:
                 if len(self._open) >= self._most:
                     self.close()
-                self._open[process] = os.open(f"/proc/{process}/{self._name}", os.O_RDONLY | os.O_CLOEXEC)
-            return read_numbers(self._open[process], first, count)
-        except (OSError, EOFError):
+                self._open[process] = NumberFile(f"/proc/{process}/{self._name}")
+            return self._open[process].at(first, count)
+        except (OSError, Unavailable):
             return ()
 
     def close(self) -> None:
         """Closes all files."""
         for file in self._open.values():
-            os.close(file)
+            file.close()
         self._open = {}
 
     def __enter__(self) -> OpenFiles:

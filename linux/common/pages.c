@@ -211,13 +211,36 @@ static void walk_table(struct walk *w, uint64_t table, int level, uint64_t begin
     }
 }
 
+struct span { uint64_t low, high; };
+
+static int has_bit(const uint64_t *set, long i) {
+    return set[i / 64] >> i % 64 & 1;
+}
+
+/* The blocks of addresses that a piece lies in. */
+static struct span blocks_of(const struct piece *p) {
+    long first = 0, last = (1l << p->order) - 1;
+    while (first < last && !has_bit(p->set, first)) first++;
+    while (last > first && !has_bit(p->set, last)) last--;
+    return (struct span){ (p->address + first * BASE) & -(uint64_t)(BLOCK * BASE),
+                          ((p->address + last * BASE) | (BLOCK * BASE - 1)) + 1 };
+}
+
+/* Takes what is mapped where `count` pieces, ascending, were found before. */
+static void walk_again(struct walk *w, uint64_t table, const struct piece *old, long count) {
+    for (long i = 0, next; i < count; i = next) {
+        struct span here = blocks_of(&old[i]), more;
+        for (next = i + 1; next < count && (more = blocks_of(&old[next])).low <= here.high; next++)
+            if (more.high > here.high) here.high = more.high;
+        walk_table(w, table, (int)w->tables->levels - 1, 0, here.low, here.high);
+    }
+}
+
 static int open_file(int thread, const char *name) {
     char path[64];
     snprintf(path, sizeof path, "/proc/%d/%s", thread, name);
     return open(path, O_RDONLY | O_CLOEXEC);
 }
-
-struct span { uint64_t low, high; };
 
 static int is_digit(char c) {
     return c && strchr("0123456789abcdef", c);
@@ -319,20 +342,19 @@ struct reply { int64_t found, lost, small, others, changed, spans, huge; };
 
 /* Reads how a process maps huge pages: `found` pieces, or -errno. Counts pieces that had no room, pages below PMD size that
  * weren't asked for, anonymous base pages beside huge ones, and base pages whose flags don't fit their page table. Then its
- * locked areas, and AnonHugePages. With `count` spans only there. */
+ * locked areas, and AnonHugePages. With `count` pieces, which are the last ones of the room: only where these are. */
 static struct reply walk(const struct room *room, int flags_file, const struct request *q) {
     struct walk w = { .known = q->count ? NULL : room->known, .tables = &room->tables, .flags_file = flags_file,
-                      .process = q->process, .with_small = q->with_small, .out = room->pieces, .most = q->most, .block = ~0ul,
-                      .order = -1 };
-    int maps = open_file(q->thread, "maps"), top = (int)room->tables.levels - 1;
+                      .process = q->process, .with_small = q->with_small, .out = room->pieces, .block = ~0ul, .order = -1,
+                      .most = q->count ? room->most_pieces - q->count : q->most };
+    int maps = open_file(q->thread, "maps");
     struct table_request request = { .at = (uint64_t)maps };
     struct reply out = { .found = -errno };
     if (maps < 0) return out;
     int has_tables = run_program(room->tables.find, &request, sizeof request);
     uint64_t table = request.at - room->tables.map;
-    for (long i = 0; i < q->count && has_tables; i++)
-        walk_table(&w, table, top, 0, room->spans[i].low, room->spans[i].high);
-    if (!q->count && has_tables) walk_table(&w, table, top, 0, 0, ~0ul);
+    if (has_tables && q->count) walk_again(&w, table, room->pieces + w.most, q->count);
+    else if (has_tables) walk_table(&w, table, (int)room->tables.levels - 1, 0, 0, ~0ul);
     close(maps);
     out = (struct reply){ has_tables ? w.found : -ESRCH, w.lost, w.small, 0, w.changed, 0, 0 };
     if (out.found < 0 || q->count) return out;

@@ -95,9 +95,12 @@ def missing_capabilities(*names: str) -> list[str]:
 
 
 def folders_below(path: str) -> Iterator[int]:
-    """Yields an open descriptor of a folder, and of each folder below it, however deep. One that ended meanwhile has none.
-    OSError where one can't be read."""
-    here = os.open(path, FOLDER)
+    """Yields an open descriptor of a folder, and of each folder below it, however deep. One that ended has none. OSError where
+    one can't be read."""
+    try:
+        here = os.open(path, FOLDER)
+    except FileNotFoundError:
+        return
     try:
         todo = [list_folders(here)]
         yield here

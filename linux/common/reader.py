@@ -18,7 +18,7 @@ from .contents import Contents, Progress
 from .files import BASE
 from .folios import Folio, Mapping, compact_counts
 from .kernel_memory import KernelMemory
-from .page_files import PageFlag, read_numbers
+from .page_files import NumberFile, PageFlag, TooShort
 from .proc import Unreadable, describe
 from .spaces import Space, find_spaces
 from .subpages import bits_of
@@ -46,6 +46,7 @@ class Spans:
 
     def subpages(self, address: int, size: int) -> int:
         """Returns the set of those of `size` subpages from an address on that lie in these areas."""
+        address -= address >> 63 << 64  # which may be below 0
         out, end = 0, address + size * BASE
         for index in range(bisect_right(self.highs, address), len(self.lows)):
             low, high = max(self.lows[index], address), min(self.highs[index], end)
@@ -69,11 +70,11 @@ class Reader:
         threads = threads or min(4, os.cpu_count() or 1)
         self._progress = progress or (lambda what, done, of: None)
         self._memory, self._used = memory << 20, 0
-        self._files = [os.open(f"/proc/kpage{name}", os.O_RDONLY | os.O_CLOEXEC) for name in ("flags", "count")]
+        self._files = [NumberFile(f"/proc/kpage{name}") for name in ("flags", "count")]
         if os.path.exists("/proc/kpagecgroup"):  # else a kernel without memory control groups: all pages are in one node
-            self._files.append(os.open("/proc/kpagecgroup", os.O_RDONLY | os.O_CLOEXEC))
-        most = self._memory // (PIECE_COST + FOLIO_COST)
-        self._workers = Workers(self._files[0], kernel.tables(), threads, most, with_small)
+            self._files.append(NumberFile("/proc/kpagecgroup"))
+        self._most = self._memory // (PIECE_COST + FOLIO_COST)
+        self._workers = Workers(self._files[0].descriptor, kernel.tables(), threads, self._most, with_small)
         self.contents = Contents(kernel, threads, self._progress)
         self.spaces: dict[int, Space] = {}  # by process
         self.walked: dict[int, bytes] = {}  # the pieces of each process that has any
@@ -95,7 +96,7 @@ class Reader:
         self._workers.close()
         self.contents.close()
         for file in self._files:
-            os.close(file)
+            file.close()
         self._files = []
 
     def answers(self, todo: Deque[Request]) -> Iterator[tuple[Request, Answer]]:
@@ -130,6 +131,11 @@ class Reader:
             self._add(request.process, answer)
             self._progress("walking page tables", done, len(spaces))
         self.spent["walk"] += time.monotonic() - began
+
+    def request_again(self, process: int) -> Request:
+        """Returns the request to look again at what a process maps: at all of it where a worker has no room for both."""
+        pieces, self._workers.most = self.walked[process], self._most
+        return self.spaces[process].request(pieces if 2 * len(pieces) <= self._most * PIECE.size else b"")
 
     def _add(self, process: int, answer: Answer) -> None:
         """Adds what a process maps, as far as the limit of memory lets."""
@@ -174,8 +180,8 @@ class Reader:
         began, gone = time.monotonic(), []
         for folio in folios if len(self._files) > 2 else ():
             try:
-                folio.cgroup = read_numbers(self._files[2], folio.frame, 1)[0]
-            except EOFError:
+                folio.cgroup = self._files[2].at(folio.frame, 1)[0]
+            except TooShort:
                 gone.append(folio)
         self.spent["groups"] += time.monotonic() - began
         return gone
@@ -186,8 +192,8 @@ class Reader:
         began, gone = time.monotonic(), []
         for folio in (folio for folio in folios if not folio.totals):
             try:
-                folio.totals = compact_counts(read_numbers(self._files[1], folio.frame, folio.size))
-            except EOFError:
+                folio.totals = compact_counts(self._files[1].at(folio.frame, folio.size))
+            except TooShort:
                 gone.append(folio)
         self.spent["counts"] += time.monotonic() - began
         return gone

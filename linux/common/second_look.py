@@ -7,22 +7,18 @@ has changed; the second reading then counts.
 from __future__ import annotations
 
 import time
-from array import array
 from collections import deque
 from dataclasses import dataclass, replace
 from typing import Callable
 
-from .files import BASE, PMD_ORDER
 from .folios import Folio, Mapping
 from .reader import FREED, Reader
-from .workers import MOST_SPANS, PIECE
+from .workers import PIECE
 
 MOVED = "huge pages that changed while they were read"
 SAMPLE = 64  # huge pages whose content is read twice
 MOST_AGAIN = 1 << 16  # huge pages that are read a second time
 BATCH = 1024  # huge pages that are compared at a time
-BLOCK = BASE << PMD_ORDER  # bytes of addresses
-ADDRESSES = 1 << 64
 COMPARED = ("totals", "whole", "is_queued", "is_partly", "cgroup")  # by `_count`
 
 Look = Callable[[list[Folio]], list[Folio]]  # fills in queue state; returns the pages that are no longer in use
@@ -67,7 +63,7 @@ class SecondLook:
         """Finds which mappings differ."""
         reader = self._reader
         missing = set(reader.walked)
-        todo = deque(reader.spaces[process].request(ranges_of(pieces)) for process, pieces in reader.walked.items())
+        todo = deque(reader.request_again(process) for process in reader.walked)
         for request, answer in reader.answers(todo):
             missing.discard(request.process)
             if answer.data != reader.walked[request.process]:
@@ -146,17 +142,3 @@ def split(pieces: bytes) -> list[bytes]:
 def frame_of(piece: bytes) -> int:
     """Returns the first frame of a piece's page."""
     return int.from_bytes(piece[8:16], "little")
-
-
-def ranges_of(pieces: bytes) -> bytes:
-    """Returns the addresses in which pieces are, as an array of struct span of pages.c; nothing where these are too many."""
-    out: list[int] = []
-    for address, _, _, _, _, _, _, raw in PIECE.iter_unpack(pieces):
-        subset = int.from_bytes(raw, "little")
-        first = address + ((subset & -subset).bit_length() - 1) * BASE & ADDRESSES - BLOCK
-        last = address + subset.bit_length() * BASE - 1 & ADDRESSES - BLOCK
-        if out and first <= out[-1]:
-            out[-1] = max(out[-1], last + BLOCK)
-        else:
-            out += [first, last + BLOCK]
-    return array("Q", out if len(out) <= 2 * MOST_SPANS else ()).tobytes()

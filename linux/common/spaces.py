@@ -9,17 +9,19 @@ from __future__ import annotations
 import os
 from array import array
 from collections import Counter, defaultdict, deque
+from contextlib import suppress
 from dataclasses import dataclass
 from typing import Iterable, NamedTuple
 
 from . import proc
 from .proc import FLAGS, RESIDENT, SIZE, Unreadable, stat_fields
-from .workers import COMPARE, SECONDS, WALK, Request, Workers
+from .workers import COMPARE, PIECE, SECONDS, WALK, Request, Workers
 
-NO_KCMP = "processes that share an address space are counted each, since the kernel has no kcmp (KCMP)"
+COUNTED_EACH = "processes that share an address space are counted each: "
 KTHREAD = 0x200000  # include/linux/sched.h: PF_KTHREAD, a thread of the kernel
 MANY = 1 << 18  # base pages, a GiB
 SECONDS_A_PAGE = 0.1 / MANY  # that a walk may take longer
+SECONDS_A_PROCESS = 1e-4  # that a comparison may take longer
 TRIES = 3  # threads of an address space that end while it is read
 
 
@@ -40,10 +42,10 @@ class Space:
     others: list[int]
     tries: int = 0
 
-    def request(self, ranges: bytes = b"") -> Request:
-        """Returns the request to walk it, or some ranges of it."""
+    def request(self, pieces: bytes = b"") -> Request:
+        """Returns the request to walk it, or to look at some pieces again."""
         seconds = SECONDS + SECONDS_A_PAGE * self.thread.pages
-        return Request(self.process, WALK, seconds, len(ranges) // 16, ranges)
+        return Request(self.process, WALK, seconds, len(pieces) // PIECE.size, pieces)
 
     def is_alive(self) -> bool:
         """Returns whether it has a thread that lives, after the one that was used has ended."""
@@ -74,8 +76,9 @@ def thread_of(number: int, fields: list[bytes]) -> Thread | None:
         return None
     pages = int(fields[RESIDENT])
     if pages > MANY:
-        resident, shared = proc.read_file(number, "statm").split()[1:3]
-        pages = int(resident) - int(shared)
+        with suppress(FileNotFoundError, ProcessLookupError):  # it ended
+            resident, shared = proc.read_file(number, "statm").split()[1:3]
+            pages = int(resident) - int(shared)
     return Thread(number, max(0, pages), (*fields[23:26], *fields[42:49]))
 
 
@@ -94,14 +97,17 @@ def find_spaces(processes: Iterable[int], workers: Workers, unread: Counter[str]
             threads[process] = thread
             alike[thread.key].append(process)
     groups = {group[0]: group for group in alike.values() if len(group) > 1}
-    first, notes = {process: process for process in threads}, []
+    first = {process: process for process in threads}
+    notes: list[str] = []
     for request, answer in workers.ask(deque(compare_request(group, threads) for group in groups.values())):
         if answer and answer.found < 0:
-            notes = [NO_KCMP]
+            notes = [f"{COUNTED_EACH}kcmp can't be used: {os.strerror(-answer.found)}"]
         elif answer:  # else they are walked each, and wait so
             group = groups[request.process]
             number_of = {threads[process].number: process for process in group}
             first.update(zip(group, (number_of[number] for number in array("i", answer.data))))
+    if groups and proc.missing_capabilities("CAP_SYS_PTRACE"):
+        notes = [f"{COUNTED_EACH}CAP_SYS_PTRACE is missing"]
     spaces = {process: Space(process, thread, []) for process, thread in threads.items() if first[process] == process}
     for process, lowest in first.items():
         if process != lowest:
@@ -112,4 +118,4 @@ def find_spaces(processes: Iterable[int], workers: Workers, unread: Counter[str]
 def compare_request(group: list[int], threads: dict[int, Thread]) -> Request:
     """Returns the request to find which of these processes share an address space."""
     numbers = array("i", (threads[process].number for process in group))
-    return Request(group[0], COMPARE, entries=len(group), data=numbers.tobytes())
+    return Request(group[0], COMPARE, SECONDS + SECONDS_A_PROCESS * len(group), len(group), numbers.tobytes())

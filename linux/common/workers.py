@@ -27,7 +27,7 @@ SECONDS = 2.0  # that an answer may take
 LEAST = 0.1  # seconds, for a user who made the tool wait often
 SLOW = 0.1  # seconds after which a reading counts as waiting: another worker then goes on beside it
 MOST_WORKERS = TABLES
-MOST_SPANS = 1 << 18  # locked areas, or ranges to walk, of a process
+MOST_SPANS = 1 << 18  # locked areas of a process
 MAP_NORESERVE = 0x4000
 LEAST_ROOM = 1 << 24  # bytes for pieces and what else is read
 KNOWN = 8 << 18  # bytes that pages.c has for blocks of frames
@@ -104,7 +104,7 @@ class Worker:
 
     def begin(self, request: Request, with_small: bool, most: int) -> None:
         """Begins a request."""
-        place = self._size if request.what == WALK else 0
+        place = (self._most - request.entries) * PIECE.size if request.what == WALK else 0
         self._room.memory[place : place + len(request.data)] = request.data
         words = (request.what, request.thread, request.process, with_small, min(most, self._most), request.entries)
         self.request = request

@@ -9,7 +9,7 @@ from dataclasses import dataclass, field
 from ..common import proc
 from ..common.errors import InputFault
 from ..common.groups import checked_group
-from ..common.proc import is_ended, members
+from ..common.proc import is_own, members
 from ..common.text import escape
 
 
@@ -41,8 +41,9 @@ class ProcessChoice:
             try:
                 out |= set(members(path))
             except OSError as error:
-                if not is_ended(error):
-                    unread[f"control group {escape(path)}: {error.strerror}"] += 1
+                if is_own(error):
+                    raise
+                unread[f"control group {escape(path)}: {error.strerror}"] += 1
         if self.everything:
             out |= set(proc.processes())
             out.discard(os.getpid())
