@@ -338,11 +338,11 @@ struct room {
 
 enum { WALK, COMPARE };
 struct request { int32_t what, thread, process, with_small; int64_t most, count; };
-struct reply { int64_t found, lost, small, others, changed, spans, huge; };
+struct reply { int64_t found, lost, small, others, changed, spans; };
 
 /* Reads how a process maps huge pages: `found` pieces, or -errno. Counts pieces that had no room, pages below PMD size that
  * weren't asked for, anonymous base pages beside huge ones, and base pages whose flags don't fit their page table. Then its
- * locked areas, and AnonHugePages. With `count` pieces, which are the last ones of the room: only where these are. */
+ * locked areas. With `count` pieces, which are the last ones of the room: only where these are. */
 static struct reply walk(const struct room *room, int flags_file, const struct request *q) {
     struct walk w = { .known = q->count ? NULL : room->known, .tables = &room->tables, .flags_file = flags_file,
                       .process = q->process, .with_small = q->with_small, .out = room->pieces, .block = ~0ul, .order = -1,
@@ -356,7 +356,7 @@ static struct reply walk(const struct room *room, int flags_file, const struct r
     if (has_tables && q->count) walk_again(&w, table, room->pieces + w.most, q->count);
     else if (has_tables) walk_table(&w, table, (int)room->tables.levels - 1, 0, 0, ~0ul);
     close(maps);
-    out = (struct reply){ has_tables ? w.found : -ESRCH, w.lost, w.small, 0, w.changed, 0, 0 };
+    out = (struct reply){ has_tables ? w.found : -ESRCH, w.lost, w.small, 0, w.changed, 0 };
     if (out.found < 0 || q->count) return out;
     out.others = read_amount(open_file(q->thread, "status"), "RssAnon:") / BASE;
     for (long i = 0; i < w.found; i++)
@@ -369,8 +369,6 @@ static struct reply walk(const struct room *room, int flags_file, const struct r
         out.spans = file < 0 ? -errno : find_locked(file, room->spans, room->most_spans);
         if (file >= 0) close(file);
     }
-    for (long i = 0; i < w.found && !out.huge; i++) out.huge = w.out[i].by_pmd;
-    if (out.huge) out.huge = read_amount(open_file(q->thread, "smaps_rollup"), "AnonHugePages:");
     return out;
 }
 

@@ -88,7 +88,6 @@ class Reader:
         self.denied: set[int] = set()  # processes that may not be read
         self.others = 0  # anonymous pages that aren't huge, base pages
         self.by_pmd = 0  # PMD mappings
-        self.kernel = 0  # the same by the kernel's own count, in bytes
         self.spent: dict[str, float] = defaultdict(float)  # seconds by step
 
     def close(self) -> None:
@@ -152,7 +151,6 @@ class Reader:
         self._used += len(pieces) // PIECE.size * PIECE_COST + len(answer.locked)
         self._workers.most = max(0, left - len(pieces) // PIECE.size)
         self.others += answer.others
-        self.kernel += answer.huge
         beyond = f"parts of huge pages beyond the limit of memory (--memory {self._memory >> 20})"
         self.is_limited |= lost > 0
         for counter, why, count in (
@@ -223,5 +221,5 @@ def error_of(answer: Answer | None) -> Exception | None:
         return Unreadable("it can't be read in time")
     if answer.spans > MOST_SPANS:
         return Unreadable(f"it has more than {MOST_SPANS} locked areas")
-    number = -min(answer.found, answer.spans, answer.huge)
+    number = -min(answer.found, answer.spans)
     return OSError(number, os.strerror(number)) if number > 0 else None

@@ -35,7 +35,7 @@ WALK, COMPARE = range(2)  # what a request asks for
 
 PIECE = struct.Struct("<QQQIIII64s")  # struct piece of pages.c
 CONTENT = struct.Struct("<QQ64s64s")  # struct content
-REQUEST, REPLY = struct.Struct("<iiiiqq"), struct.Struct("<7q")
+REQUEST, REPLY = struct.Struct("<iiiiqq"), struct.Struct("<6q")
 UNITS = {WALK: PIECE.size, COMPARE: 4}  # bytes of what an answer has `found` of
 
 
@@ -80,7 +80,6 @@ class Answer(NamedTuple):
     others: int = 0
     changed: int = 0
     spans: int = 0  # or an error's number below 0
-    huge: int = 0  # or an error's number below 0
     data: bytes = b""
     locked: bytes = b""
 

@@ -68,7 +68,7 @@ class SnapshotTaker:
             for process in sorted(reader.denied):
                 demand_reading(process)
             page = BASE << PMD_ORDER
-            sums = Sums(by_pmd=reader.by_pmd * page, kernel=reader.kernel)
+            sums = Sums(by_pmd=reader.by_pmd * page)
             changes, places = self._read_pages(reader)
             sums.machine = machine_huge() if choice.everything and not namespace_note() else None
         finally:
