@@ -99,34 +99,3 @@ class Frames:
     def close(self) -> None:
         self._flags.close()
         self._counts.close()
-
-
-class OpenFiles:
-    """A file of numbers of each of some processes, at most `most` at a time, all closed at the end of a `with`."""
-
-    def __init__(self, name: str, most: int = 64) -> None:
-        self._name, self._most = name, most
-        self._open: dict[int, NumberFile] = {}
-
-    def numbers(self, process: int, first: int, count: int) -> Sequence[int]:
-        """Returns `count` numbers of the process's file from place `first` on; none where they can't be read."""
-        try:
-            if process not in self._open:
-                if len(self._open) >= self._most:
-                    self.close()
-                self._open[process] = NumberFile(f"/proc/{process}/{self._name}")
-            return self._open[process].at(first, count)
-        except (OSError, Unavailable):
-            return ()
-
-    def close(self) -> None:
-        """Closes all files."""
-        for file in self._open.values():
-            file.close()
-        self._open = {}
-
-    def __enter__(self) -> OpenFiles:
-        return self
-
-    def __exit__(self, *_: object) -> None:
-        self.close()

@@ -18,7 +18,7 @@ from ..common.kernel_memory import KernelMemory
 from ..common.machine import namespace_note
 from ..common.proc import group_names, machine_huge, name_of
 from ..common.reader import FREED, HIDDEN, MEMORY, Reader
-from ..common.second_look import MOVED, Changes, SecondLook
+from ..common.second_look import Changes, SecondLook
 from ..common.text import escape
 from .processes import ProcessChoice
 from .queues import Queues, keep_lasting_pins
@@ -150,11 +150,6 @@ def names_of_groups(wanted: set[int]) -> dict[int, str]:
         return group_names(find_hierarchy().mount, wanted)
     except Unavailable:
         return {}
-
-
-def count_moved(snapshot: Snapshot) -> int:
-    """Returns how many huge pages changed while they were read."""
-    return snapshot.left_out[MOVED] + snapshot.left_out[FREED]
 
 
 def show_progress(what: str, done: int, of: int) -> None:
