@@ -38,6 +38,7 @@ MERGED = re.compile("/(bin|sbin|lib|lib64)/")
 PASSWD = "root:x:0:0:root:/root:/bin/sh\nnobody:x:65534:65534:nobody:/nonexistent:/usr/sbin/nologin\n"
 GROUP = "root:x:0:\nnogroup:x:65534:\n"
 HELPERS = ("known", "mapper", "pages.so", "thpkernel.so", "workload")
+OVER_LIBTHP = ("policies", "predict.so")  # built only where libthp is
 
 
 @dataclass(frozen=True)
@@ -142,7 +143,7 @@ class GuestFiles:
                 self._add_sources(str(path), f"{LIBRARY}/{name}")
         if self._is_checkout:
             self._archive.add_link(str(self._checkout), LIBRARY)
-        for name in HELPERS:
+        for name in [*HELPERS, *(each for each in OVER_LIBTHP if (LINUX / "out" / each).exists())]:
             self._add_file(helper(name), f"{LIBRARY}/linux/out/{name}")
         for name in TOOLS:
             self._add_tool(name)
