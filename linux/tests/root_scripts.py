@@ -36,7 +36,7 @@ Stream = Union[int, IO[bytes]]
 SECONDS = 600  # that a case gets: enough on a loaded machine
 PYTHON = "/usr/bin/python3"
 LARGE = ("env", "GLIBC_TUNABLES=glibc.malloc.hugetlb=1")
-RECORDER, WHATIF = ROOT / "linux/record/examples", ROOT / "linux/whatif/examples"
+RECORDER, WHATIF = ROOT / "linux/tests/programs", ROOT / "linux/whatif/examples"
 NUMBERS = "seq 2000000 | sort -R | sort -n -S 300M > /dev/null"
 
 
