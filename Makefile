@@ -1,6 +1,8 @@
 # make try:     builds thpsplit without proofs and runs the first script (SCRIPT=file: another)
 # make run:     proves thpsplit and every library below it, several at a time (prove.py), builds it, and runs the first script
 # make checker: the same for thpcheck, which checks journals of any length; make drawer: for thpdraw, which draws them
+# make deps:    installs by apt-get what building and testing need beside the Rattle toolchain (packages.txt; root); KINDS=vm: for
+#               make linux-vm
 # make install: proves and installs the programs, the tools for the running kernel (thpreplay, thprecord, thpvm, thpwhatif),
 #               manual pages and completions, below PREFIX (default /usr/local; DESTDIR as usual); SYSTEMD=1 also installs
 #               thpwhatif.service and thpwhatif.timer. make uninstall removes them all
@@ -41,10 +43,15 @@ DEBS ?= out
 CASES ?= 2000
 SEED ?= 1
 
-.PHONY: help try run checker drawer install put put-tools uninstall deb dist reproduce dist-test cross-test test outside toolchain fuzz memory c edits believe linux linux-vm root-tests bench
+.PHONY: help deps try run checker drawer install put put-tools uninstall deb dist reproduce dist-test cross-test test outside toolchain fuzz memory c edits believe linux linux-vm root-tests bench
 
 help:
 	@sed -n '/^[^#]/q; s/^# //p' Makefile
+
+KINDS ?= build package test
+deps:
+	apt-get -qq update
+	DEBIAN_FRONTEND=noninteractive apt-get -qq install -y --no-install-recommends $(foreach kind,$(KINDS),$$(sed -n 's/^$(kind) //p' packages.txt))
 
 # reports if the installed toolchain is not the one that everything was proved with
 toolchain:
@@ -78,7 +85,7 @@ INSTALLED = bin/thpsplit=$(PROGRAM) share/man/man1/thpsplit.1=docs/thpsplit.1 sh
 	share/zsh/site-functions/_thpdraw=completions/_thpdraw \
 	share/fish/vendor_completions.d/thpdraw.fish=completions/thpdraw.fish
 
-install: run checker drawer put put-tools
+install: run checker drawer $(ARCHIVE) put put-tools
 
 # installs the files as they are
 put:
@@ -88,13 +95,15 @@ put:
 		echo "$(DESTDIR)$(PREFIX)/$${pair%%=*}" || exit 1; \
 	done
 
-# installs the tools for the running kernel, and compiles their helpers
+# installs the tools for the running kernel with their helpers, those over libthp if its archive is built
 TOOLS = thpreplay thprecord thpvm thpwhatif
 put-tools:
-	@if command -v $(CC) > /dev/null; then \
+	@lacking="$$($(MAKE) --no-print-directory -s -C linux lacking CC="$(CC)")"; \
+	if test -z "$$lacking"; then \
+		{ test ! -e $(ARCHIVE) || $(MAKE) --no-print-directory -s -C c; } && \
 		$(MAKE) --no-print-directory -s -C linux install PREFIX="$(PREFIX)" DESTDIR="$(abspath $(DESTDIR))" && \
 		for tool in $(TOOLS); do echo "$(abspath $(DESTDIR))$(PREFIX)/bin/$$tool"; done; \
-	else echo "$(TOOLS) aren't installed: no C compiler ($(CC))"; fi
+	else echo "$(TOOLS) aren't installed: no $$lacking (Debian packages)"; fi
 
 uninstall:
 	@for pair in $(INSTALLED); do rm -f "$(DESTDIR)$(PREFIX)/$${pair%%=*}"; done

@@ -36,10 +36,13 @@ TOOLS = {"dpkg-buildpackage": "dpkg-dev", "dh": "debhelper", "cc": "gcc"}
 """Each program that is wanted, and the package that has it."""
 
 CROSS: dict[str, dict[str, str]] = {
-    "amd64": {},
+    "amd64": {"clang": "clang", "bpftool": "bpftool"},
     "arm64": {"aarch64-linux-gnu-gcc": "gcc-aarch64-linux-gnu", "aarch64-linux-gnu-strip": "binutils-aarch64-linux-gnu"},
 }
 """What is wanted beside them for each architecture. The packages are built on amd64."""
+
+HEADERS: dict[str, dict[str, str]] = {"amd64": {"/usr/include/bpf/libbpf.h": "libbpf-dev"}, "arm64": {}}
+"""Each header that is wanted, and the package that has it."""
 
 LACKS = 77
 """The status where this machine lacks a tool."""
@@ -100,7 +103,7 @@ def copy(tree: Path, built: list[Path], stated: str) -> None:
 
 def build(built: list[Path], folder: Path, stated: str, architecture: str) -> list[Path]:
     """The packages, put into the folder, with a text as PROOF unless it is empty."""
-    words = ["dpkg-buildpackage", "-b", "-us", "-uc", *(["-a", architecture] if CROSS[architecture] else [])]
+    words = ["dpkg-buildpackage", "-b", "-us", "-uc", *(["-a", architecture] if architecture != "amd64" else [])]
     with tempfile.TemporaryDirectory(prefix="thp-deb-") as name:
         tree = Path(name) / f"leversorrel-{version()}"
         tree.mkdir()
@@ -129,6 +132,7 @@ def main() -> None:
         if not os.access(program, os.X_OK):
             sys.exit(f"{program} is no program")
     lacks = [package for tool, package in {**TOOLS, **CROSS[asked.arch]}.items() if shutil.which(tool) is None]
+    lacks += [package for path, package in HEADERS[asked.arch].items() if not os.path.exists(path)]
     if lacks:
         print(f"no package: this machine lacks {', '.join(lacks)}")
         sys.exit(LACKS)

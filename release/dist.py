@@ -44,8 +44,8 @@ def install(source: Path, stage: Path, built: list[Path], platform: Platform) ->
     """Puts into a folder what `make install` and `make -C c install` install, with an empty prefix, and the texts."""
     programs = [f"{name}={path}" for name, path in zip(("PROGRAM", "CHECKER", "DRAWER"), built)]
     where, targets = ["PREFIX=", f"DESTDIR={stage}"], ["put", "put-tools"] if platform.has_tools else ["put"]
-    called(["make", "-s", *targets, *where, *programs], source)
     called(["make", "-s", "-C", "c", "install", "LIBDIR=lib", *where, f"ARCHIVE={built[-1]}", *platform.variables()], source)
+    called(["make", "-s", *targets, *where, *programs], source)
     for name, other in TEXTS.items():
         place = stage / (other or name)
         place.parent.mkdir(parents=True, exist_ok=True)

@@ -32,7 +32,8 @@ class Platform:
         """Each program that a release needs, and the Debian package that has it."""
         end = f"-{self.gnu[:-1]}" if self.gnu else ""
         tools = {self.tool("cc"): f"gcc{end}", self.tool("strip"): f"binutils{end}"}
-        return {"git": "git", "make": "make", **tools, "readelf": "binutils"}
+        own = {"clang": "clang", "bpftool": "bpftool"} if self.has_tools else {}
+        return {"git": "git", "make": "make", **tools, **own, "readelf": "binutils"}
 
     def variables(self) -> list[str]:
         """What make is given so that it uses the tools."""

@@ -32,7 +32,7 @@ from protection import oldest_glibc  # noqa: E402
 
 SUITES, MIRROR = ("bookworm", "bullseye"), "http://deb.debian.org/debian"
 INCLUDED = "gcc,libc6-dev,pkg-config,cmake,make,python3,xz-utils"
-"""The packages that the root has beside the essential ones."""
+"""The packages that the root has beside the essential ones, and libbpf1, which Debian 11 lacks."""
 
 SECONDS = 1800
 """The greatest time that one command may take."""
@@ -110,7 +110,8 @@ class Root:
         if asked.root:
             done = called(["cp", "-a", "--reflink=auto", asked.root, str(self.path)])
         else:
-            words = ["debootstrap", "--variant=minbase", f"--include={INCLUDED}", suite, str(self.path), asked.mirror]
+            included = INCLUDED if suite == "bullseye" else f"{INCLUDED},libbpf1"
+            words = ["debootstrap", "--variant=minbase", f"--include={included}", suite, str(self.path), asked.mirror]
             done = called(words)
         if done.returncode != 0:
             told = (done.stdout + done.stderr).strip().splitlines()

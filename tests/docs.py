@@ -381,6 +381,18 @@ def dialogues_are_true() -> str | None:
     return None
 
 
+def packages_are_named() -> str | None:
+    """README.md, debian/control and linux/common/helpers.py name the packages of packages.txt that building needs."""
+    needed = re.findall(r"^build (\S+)$", text_of("packages.txt"), re.M)
+    needed.remove("python3")
+    own = [name for name in needed if name not in ("gcc", "make")]  # which each machine has that builds packages
+    named = re.findall(r" ([a-z-]+) \[amd64\]", text_of("debian/control"))
+    wrong = [f"README.md lacks {name}" for name in needed if not re.search(rf"\b{name}\b", text_of("README.md"), re.I)]
+    wrong += [f"linux/common/helpers.py lacks {name}" for name in needed if name not in text_of("linux/common/helpers.py")]
+    wrong += [] if own == named else [f"debian/control has {named}, not {own}"]
+    return "; ".join(wrong) or None
+
+
 def main() -> None:
     """Runs all tests, or checks the toolchain alone."""
     if sys.argv[1:] == ["toolchain"]:
@@ -408,6 +420,7 @@ def main() -> None:
     tally.run("docs/TESTING.md's counts", counts_are_right)
     tally.run("docs/PERFORMANCE.md's ceilings", ceilings_are_current)
     tally.run("limits in help and manual pages", limits_are_stated)
+    tally.run("packages that building needs", packages_are_named)
     tally.run("files of definitions", definitions_exist)
     for document in DOCUMENTS:
         tally.run(f"paths of {document}", partial(paths_exist, document))

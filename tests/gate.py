@@ -15,6 +15,7 @@ import subprocess
 import sys
 import time
 from collections.abc import Callable
+from functools import partial
 from pathlib import Path
 
 from tally import SKIPPED, Tally
@@ -161,6 +162,23 @@ class Gate(Tally):
         super().end()
 
 
+def build_tools(gate: Gate, *targets: str) -> None:
+    """Builds what the tools for the running kernel have in C, and before it these targets. Packages that this machine lacks are named."""
+    lacking = subprocess.run(["make", "-s", "--no-print-directory", "-C", "linux", "lacking"], cwd=ROOT, capture_output=True, text=True)
+    if lacking.stdout.strip():
+        gate.skip("make -C linux", f"no {lacking.stdout.strip()} (make deps)")
+        subprocess.run(["make", "-k", "-s", "-C", "linux"], cwd=ROOT, capture_output=True)  # the rest
+        return
+    for folder in (*targets, "linux"):
+        gate.run(f"make -C {folder}", partial(built, folder))
+
+
+def built(folder: str) -> str | None:
+    """What is wrong when `make` builds a folder, or None."""
+    done = subprocess.run(["make", "-s", "--no-print-directory", "-C", folder], cwd=ROOT, capture_output=True, text=True)
+    return None if done.returncode == 0 else f"status {done.returncode}: {done.stderr.strip()[-400:]}"
+
+
 def made_since(began: float, names: tuple[str, ...]) -> list[str]:
     """The built programs of these names that were built since then: none of an earlier run."""
     paths = [ROOT / name for name in names]
@@ -186,6 +204,8 @@ def test_library(gate: Gate, programs: list[str], archives: list[str]) -> None:
     gate.add("library.py", [sys.executable, "tests/library.py", *archives, *(programs[:1] if archives else [])])
     for archive in archives:
         gate.add("bench/calls/run", [sys.executable, "bench/calls/run", archive, "--ceilings"])
+    if archives:
+        build_tools(gate, "c")
     gate.add("predictions", [sys.executable, "linux/whatif/tests/__main__.py", *PREDICTIONS])
 
 
@@ -213,6 +233,7 @@ def main() -> None:
     verdicts = Verdicts()
     gate.add("rt ci", ["rt", "ci"], verdicts.see)
     verdicts.keep()
+    build_tools(gate)
     for script in WITHOUT:
         gate.add(script, [sys.executable, script])
     programs = made_since(began, BUILT)

@@ -24,6 +24,7 @@ ROOT = Path(__file__).resolve().parent.parent
 sys.path[:0] = [str(ROOT / "debian"), str(ROOT / "release")]
 
 from build import PARTS  # noqa: E402
+from installed import HELPERS, OVER_LIBTHP  # noqa: E402
 from library import elf_differs, header, soname, version  # noqa: E402
 from process import Call, Ended, run  # noqa: E402
 from protection import is_elf, is_stripped, weaknesses  # noqa: E402
@@ -39,7 +40,7 @@ TOOLS = ("thpreplay", "thprecord", "thpvm", "thpwhatif")
 
 PUT = ("usr/bin/thpsplit", "usr/bin/thpcheck", "usr/bin/thpdraw", *(f"usr/bin/{name}" for name in TOOLS),
        *(f"usr/share/man/man1/{name}.1.gz" for name in TOOLS),
-       *(f"usr/lib/thpsplit/linux/out/{name}" for name in ("btf.so", "known", "mapper", "pages.so", "workload")),
+       *(f"usr/lib/thpsplit/linux/out/{name}" for name in (*HELPERS, *OVER_LIBTHP)),
        "usr/lib/systemd/system/thpwhatif.service", "usr/lib/systemd/system/thpwhatif.timer",
        "usr/share/man/man1/thpcheck.1.gz", "usr/share/man/man1/thpdraw.1.gz",
        "usr/share/man/man1/thpsplit.1.gz", "usr/share/man/man5/thpsplit.5.gz",
@@ -55,7 +56,8 @@ OF_LIBRARY = (f"libthp{soname().rpartition('.')[2]}", "libthp-dev")
 """The packages with the library's version; the others have that of the programs."""
 
 DEPENDENCIES = {
-    "thp-linux-tools": ("python3", "thpsplit (= ", "libc6 (>= 2."), "thpsplit": ("libc6 (>= 2.",), OF_LIBRARY[0]: ("libc6 (>= 2.",),
+    "thp-linux-tools": ("python3", "thpsplit (= ", "libbpf1 (>= ", "libc6 (>= 2."), "thpsplit": ("libc6 (>= 2.",),
+    OF_LIBRARY[0]: ("libc6 (>= 2.",),
     "libthp-dev": (f"{OF_LIBRARY[0]} (= {version()})",),
 }
 """Each package, after those that need it, and what its dependencies begin with."""
@@ -201,8 +203,8 @@ def library_differs(packages: list[Path], folder: Path) -> Optional[str]:
     return ", ".join(wrong) or elf_differs(place / name)
 
 
-BINARIES = 9
-"""The binaries of all packages: three programs, the library, and five helpers of the kernel tools."""
+BINARIES = 4 + len(HELPERS) + len(OVER_LIBTHP)
+"""The binaries of all packages: three programs, the library, and what the kernel tools have in C."""
 
 
 def binaries_differ(packages: list[Path], folder: Path) -> Optional[str]:

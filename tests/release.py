@@ -25,11 +25,12 @@ sys.path[:0] = [str(ROOT), str(ROOT / "release")]
 
 import version  # noqa: E402
 from gate import Verdicts  # noqa: E402
+from installed import HELPERS, OVER_LIBTHP  # noqa: E402
 from prove import RELEASED, below, released  # noqa: E402
 from protection import is_elf, is_stripped, weaknesses  # noqa: E402
 from tally import Missing, Tally  # noqa: E402
 
-NEEDED = ("git", "cc", "make", "ar", "objcopy", "readelf", "tar")
+NEEDED = ("git", "cc", "make", "ar", "objcopy", "readelf", "tar", "clang", "bpftool")
 LINE = "logic=proved functions=7 sum=00 native=nat,char,string logic-built=trusted libraries-built=trusted statements=trusted"
 """A verdict line."""
 
@@ -38,7 +39,8 @@ HELD = (
     "bin/thpsplit", "bin/thpcheck", "bin/thpdraw", "bin/thpreplay", "bin/thprecord", "bin/thpvm", "bin/thpwhatif", "lib/libthp.a",
     "lib/libthp.so", "lib/pkgconfig/thp.pc", "lib/cmake/thp/thp-config.cmake", "include/thp.h", "share/man/man1/thpsplit.1",
     "share/man/man3/libthp.3", "share/man/man3/thp_node_create.3", "share/bash-completion/completions/thpwhatif",
-    "lib/thpsplit/linux/out/pages.so", "examples/first.script", "examples/c/first.c", "examples/c/CMakeLists.txt",
+    *(f"lib/thpsplit/linux/out/{name}" for name in (*HELPERS, *OVER_LIBTHP)),
+    "examples/first.script", "examples/c/first.c", "examples/c/CMakeLists.txt",
     "docs/C.md", "rust/Cargo.toml", "rust/examples/first.rs", "rust/leversorrel-sys/build.rs",
     "LICENSE-MIT", "LICENSE-APACHE", "CHANGELOG.md", "README.md", "PROOF",
 )

@@ -17,13 +17,11 @@
     reader          Reader: the huge pages that processes map, how they map them, and which subpages are zero-filled
     direct_map      content of page frames, read by the kernel's map of all memory
     counters        the statistics of /proc/vmstat and of each page size; CounterWatch: whether others move them
-    bpf             the bpf system call, an assembler of BPF programs, maps
-    btf             the running kernel's types: offsets and sizes of fields, values of enumerators
-    list_lru        ListLru: queues that the kernel has as a list for each control group and NUMA node
     numa            the frames of each NUMA node
-    kernel_memory   KernelMemory: kernel memory read by a BPF program; control groups, queues, struct page
+    kernel_library  the library of BPF programs (linux/kernel), and why it can't be loaded
+    kernel_memory   KernelMemory: kernel memory read by BPF programs; control groups, queues, struct page, page tables
     machine         Part: what this machine can run and why not, as a table
-    helpers         the C helpers: installed, or compiled at need
+    helpers         where the built helpers in C are, installed or in the checkout
     subpages        sets of subpages as numbers, and as text
     journal         NodeJournal, Event: journals as text
     program         Program: `thpsplit` found and called; its totals, answers and journals read

@@ -104,7 +104,7 @@ def explain(said: str, number: int) -> str:
         return "no type information: no /sys/kernel/btf/vmlinux (DEBUG_INFO_BTF)"
     rights = lacking_rights()
     if rights:
-        return f"the BPF programs are refused: {' and '.join(rights)} missing"
+        return f"the BPF programs are refused: {' and '.join(rights)} {'is' if len(rights) == 1 else 'are'} missing"
     reason = os.strerror(number or errno.EPERM)
     return f"the BPF programs are refused: {reason} (BPF_SYSCALL, lockdown)\n{said[-1500:]}"
 

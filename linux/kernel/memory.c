@@ -12,16 +12,19 @@ struct memory_bpf *thp_memory_open(char *problem, size_t size)
 {
 	struct memory_bpf *programs = NULL;
 	struct btf *kernel;
+	bool fits = false;
 
 	begin_messages(problem, size);
 	kernel = btf__load_vmlinux_btf();
 	if (kernel)
 		programs = memory_bpf__open();
-	if (programs && (!has_kernel_sizes(programs->obj, kernel) || memory_bpf__load(programs))) {
+	if (programs)
+		fits = has_kernel_sizes(programs->obj, kernel);
+	btf__free(kernel);	/* several MiB, and loading has a copy of its own */
+	if (programs && (!fits || memory_bpf__load(programs))) {
 		memory_bpf__destroy(programs);
 		programs = NULL;
 	}
-	btf__free(kernel);
 	end_messages();
 	return programs;
 }

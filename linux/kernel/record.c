@@ -107,6 +107,7 @@ struct recorder *thp_record_open(const struct thp_settings *settings, char *prob
 {
 	struct recorder *recorder = calloc(1, sizeof(*recorder));
 	struct btf *kernel;
+	bool fits = false;
 
 	if (!recorder)
 		return NULL;
@@ -114,10 +115,11 @@ struct recorder *thp_record_open(const struct thp_settings *settings, char *prob
 	kernel = btf__load_vmlinux_btf();
 	if (kernel)
 		recorder->programs = record_bpf__open();
-	if (recorder->programs && configure(recorder->programs, settings, kernel) && !record_bpf__load(recorder->programs) &&
-	    !record_bpf__attach(recorder->programs))
+	if (recorder->programs)
+		fits = configure(recorder->programs, settings, kernel);
+	btf__free(kernel);	/* several MiB, and loading has a copy of its own */
+	if (fits && !record_bpf__load(recorder->programs) && !record_bpf__attach(recorder->programs))
 		recorder->ring = ring_buffer__new(bpf_map__fd(recorder->programs->maps.ring), take_one, recorder, NULL);
-	btf__free(kernel);
 	end_messages();
 	if (recorder->ring)
 		return recorder;

@@ -3,11 +3,8 @@
     options          the command line
     recorder         a recording: control groups, trace programs, the commands that run
         commands         commands in control groups, from their start to their end
-    trace_programs   BPF programs on raw tracepoints, and the ring of their records
-        program_builder  a program for each tracepoint
-        program_parts    parts that programs share; which records are sent
-        queue_places     where programs find the queue
-        ring             reads records from the ring in bulk
+    trace_programs   the BPF programs (linux/kernel/record.bpf.c), whose records it takes
+    scratch          a temporary file without a name
     store            records on disk, read back in passes
     records          the kinds and fields of records
     calls            effects of system calls on mappings
@@ -23,6 +20,5 @@
     outputs          the output files
     tampering        altered copies of a journal
     workload.c  threads that make, divide and drop huge pages
-    examples    programs to record
     __main__    recordings, one after another, and what is printed
 """

@@ -18,7 +18,7 @@ from __future__ import annotations
 
 import sys
 from collections import Counter as Tallies
-from typing import Dict, List, NoReturn, Tuple
+from typing import NoReturn
 
 from ..common import machine
 from ..common.checker import JournalChecker, find_checker
@@ -40,7 +40,7 @@ NEEDED = ["root", "huge pages", "page sizes", "memory control groups", "frames"]
 MOST_TAMPERED = 16 << 20  # bytes of a journal of which altered copies are made
 
 
-def commands_for(options: RecordOptions, seed: int) -> List[List[str]]:
+def commands_for(options: RecordOptions, seed: int) -> list[list[str]]:
     """Returns the command given, or a workload for each order."""
     if options.command:
         return [options.command]
@@ -50,7 +50,7 @@ def commands_for(options: RecordOptions, seed: int) -> List[List[str]]:
 
 def build_journals(
     options: RecordOptions, recording: Recording, page_size: int
-) -> Tuple[List[JournalBuilder], List[QueueOrder]]:
+) -> tuple[list[JournalBuilder], list[QueueOrder]]:
     """Returns a journal of each queue and order, built from the records, and the order of each queue's pages."""
     out, queues = [], []
     for store, folios in zip(recording.stores, recording.folios):
@@ -59,7 +59,7 @@ def build_journals(
         for number, order in enumerate(options.orders):
             builder = JournalBuilder(settings_for(recording, options, order, page_size, folios))
             records = store.records()
-            builder.add_linked_records(records if number else queues[-1].follow(records))
+            builder.add_records(records if number else queues[-1].follow(records))
             out.append(builder)
     return out, queues
 
@@ -78,8 +78,8 @@ class Run:
 
     def __init__(self, options: RecordOptions, by: JournalChecker, memory: KernelMemory, outputs: Outputs) -> None:
         self._options, self._by, self._memory, self._outputs = options, by, memory, outputs
-        self.sums: Dict[str, int] = Tallies()
-        self.lacking: List[str] = []
+        self.sums: dict[str, int] = Tallies()
+        self.lacking: list[str] = []
         self.good = True
         self.events = 0
 
@@ -116,7 +116,7 @@ class Run:
             for builder in builders:
                 builder.close()
 
-    def _report(self, recording: Recording, builders: List[JournalBuilder], journal: JournalFile) -> None:
+    def _report(self, recording: Recording, builders: list[JournalBuilder], journal: JournalFile) -> None:
         events = sum(builder.events for builder in builders)
         verdict = check_journal(journal, events, self._by)
         gaps = recording.gaps()
@@ -136,7 +136,7 @@ class Run:
         if self._options.tamper and verdict.legal:
             self._tamper(journal)
 
-    def _count(self, tallies: Dict[str, int]) -> None:
+    def _count(self, tallies: dict[str, int]) -> None:
         for what, many in tallies.items():
             self.sums[what] += many
 
@@ -144,10 +144,10 @@ class Run:
         if journal.size > MOST_TAMPERED:
             print(f"no altered copies: the journal has more than {MOST_TAMPERED >> 20} MiB")
         else:
-            try_copies([("the journal", journal.text())], self._by, self._options.tamper, 1)
+            try_copies(journal.text(), self._by, self._options.tamper, 1)
 
 
-def count_pages(builders: List[JournalBuilder]) -> Tuple[int, int]:
+def count_pages(builders: list[JournalBuilder]) -> tuple[int, int]:
     """Returns the pages of all nodes, and how many of them were followed."""
     pages = sum(builder.pages() for builder in builders)
     return pages, pages - sum(builder.count_omitted() for builder in builders)

@@ -7,7 +7,6 @@ from __future__ import annotations
 
 import enum
 from dataclasses import dataclass
-from typing import List, Optional
 
 from ..common.files import BASE
 from .records import Record
@@ -62,7 +61,7 @@ def has_succeeded(call: Record, answer: int) -> bool:
     return not error or (number == MADVISE and error == NO_MEMORY)
 
 
-def list_effects(call: Record, answer: Optional[int] = None) -> List[Effect]:
+def list_effects(call: Record, answer: int | None = None) -> list[Effect]:
     """Returns the effects of a call, in order. Without a return value the call still runs: its effects if it succeeds,
     except moves."""
     number, start, length, third, program_break = call.values[:5]
@@ -80,7 +79,7 @@ def list_effects(call: Record, answer: Optional[int] = None) -> List[Effect]:
     return [Effect(MappingChange.LOSES, start, end)] if number == MADVISE and third in LOSING else []
 
 
-def _list_mremap_effects(start: int, old: int, new: int, answer: Optional[int]) -> List[Effect]:
+def _list_mremap_effects(start: int, old: int, new: int, answer: int | None) -> list[Effect]:
     """Effects of mremap: removes what is beyond the new length, then what is at the new place; then moves the rest."""
     edge, end = _round_up(start + new), _round_up(start + old)
     out = [Effect(MappingChange.REMOVES, edge, end)] if edge < end else []

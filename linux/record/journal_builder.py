@@ -10,7 +10,7 @@ event that isn't understood is left out, with a reason. docs/LINUX.md has the ta
 from __future__ import annotations
 
 from collections import defaultdict, deque
-from typing import Callable, Deque, Dict, Iterable, Iterator, List, Optional
+from typing import Callable, Deque, Iterable, Iterator
 
 from ..common.files import BASE, PMD_ORDER
 from ..common.journal import journal_text
@@ -19,7 +19,7 @@ from .calls import COLLAPSE, COPIED, MADVISE, MADV_COLLAPSE, has_succeeded
 from .mappings import MappingEvents
 from .pages import Mapping, Page
 from .queue_matcher import QueueMatcher
-from .records import Kind, Record, link_records
+from .records import Kind, Record
 from .scans import ScanEvents
 from .state import Settings, State
 
@@ -35,10 +35,10 @@ class JournalBuilder:
         self._mappings = MappingEvents(self._state)
         self._matcher = QueueMatcher(self._state, self._mappings)
         self._scans = ScanEvents(self._state, self._mappings, self._matcher)
-        self._faults: Dict[int, Record] = {}  # the last one of each task
-        self._fault_pages: Dict[int, Page] = {}  # by tasks whose last record was this allocation
-        self._moves: Dict[int, Deque[Record]] = defaultdict(lambda: deque(maxlen=MOVES))  # by tasks: mapped again
-        self._steps: Dict[Kind, Callable[[Record], None]] = {
+        self._faults: dict[int, Record] = {}  # the last one of each task
+        self._fault_pages: dict[int, Page] = {}  # by tasks whose last record was this allocation
+        self._moves: dict[int, Deque[Record]] = defaultdict(lambda: deque(maxlen=MOVES))  # by tasks: mapped again
+        self._steps: dict[Kind, Callable[[Record], None]] = {
             Kind.ENTER: self._handle_enter, Kind.EXIT: self._handle_exit, Kind.FAULT: self._handle_fault,
             Kind.ALLOC: self._handle_alloc,
             Kind.FREE: self._handle_free, Kind.FORK: self._mappings.fork, Kind.EXIT_MMAP: self._handle_exit_mmap,
@@ -63,7 +63,7 @@ class JournalBuilder:
         return self._state.settings.order
 
     @property
-    def underused(self) -> Optional[int]:
+    def underused(self) -> int | None:
         """The threshold of zero-filled subpages; None: off."""
         return self._state.settings.threshold
 
@@ -89,12 +89,8 @@ class JournalBuilder:
             latest = max(latest, time)
             yield latest
 
-    def list_mappings(self, space: int) -> List[Mapping]:
-        """Returns the mappings of an address space."""
-        return list(self._state.spaces.get(space, {}).values())
-
     @property
-    def tallies(self) -> Dict[str, int]:
+    def tallies(self) -> dict[str, int]:
         """How often each thing was observed, inferred or left out, by its description."""
         return self._state.tallies
 
@@ -112,13 +108,8 @@ class JournalBuilder:
 
     # records
 
-    def add_records(self, records: List[Record]) -> None:
-        """Adds all records of a run."""
-        link_records(records)
-        self.add_linked_records(records)
-
-    def add_linked_records(self, records: Iterable[Record]) -> None:
-        """Adds all records of a run; they are linked."""
+    def add_records(self, records: Iterable[Record]) -> None:
+        """Adds all records of a run; a Store has linked them."""
         state = self._state
         for record in records:
             state.now, state.task = record.time, record.task

@@ -3,7 +3,7 @@ temporary file."""
 
 from __future__ import annotations
 
-from typing import Dict, Iterator, List, Optional, Tuple
+from typing import Iterator
 
 from .pages import JournalLine
 from .scratch import ScratchFile
@@ -32,9 +32,9 @@ class JournalLines:
     """All lines in order. `latest` may be replaced by a list of the same lines in another order."""
 
     def __init__(self) -> None:
-        self.latest: List[JournalLine] = []
+        self.latest: list[JournalLine] = []
         self.final = 0  # how many lines went to the file
-        self._file: Optional[ScratchFile] = None
+        self._file: ScratchFile | None = None
 
     def add(self, line: JournalLine) -> None:
         """Appends a line, and makes the oldest ones final where there are many more than can be reordered."""
@@ -42,14 +42,14 @@ class JournalLines:
         if len(self.latest) >= WINDOW + SLACK:
             self._write_oldest(len(self.latest) - WINDOW)
 
-    def find(self, line: Optional[JournalLine]) -> int:
+    def find(self, line: JournalLine | None) -> int:
         """Returns where a line is among the latest; -1: nowhere."""
         for at in range(len(self.latest) - 1, -1, -1):
             if self.latest[at] is line:
                 return at
         return -1
 
-    def move_behind(self, line: Optional[JournalLine], count: int) -> None:
+    def move_behind(self, line: JournalLine | None, count: int) -> None:
         """Moves the latest `count` lines behind a line, and to its time, unless that is final."""
         place = self.find(line)
         if line is not None and 0 <= place < len(self.latest) - count:
@@ -59,10 +59,10 @@ class JournalLines:
                 each.time = line.time
             self.latest[place + 1 : place + 1] = moved
 
-    def timed_texts(self, omitted: OmittedPages) -> Iterator[Tuple[int, str]]:
+    def timed_texts(self, omitted: OmittedPages) -> Iterator[tuple[int, str]]:
         """Yields the time (ns) and the text of all lines except those of omitted pages. Pages are numbered by their first lines;
         omitted pages get no number."""
-        numbers: Dict[int, str] = {}  # of the pages that live, by their numbers in `latest` and in the file
+        numbers: dict[int, str] = {}  # of the pages that live, by their numbers in `latest` and in the file
         given = 0
         for time, text in self._all():
             caller, word, page, *rest = text.split(" ", 3)
@@ -76,7 +76,7 @@ class JournalLines:
             if rest and rest[0].rpartition(" ")[0].endswith("freed"):
                 del numbers[number]  # this was its last line
 
-    def _all(self) -> Iterator[Tuple[int, str]]:
+    def _all(self) -> Iterator[tuple[int, str]]:
         for line in self._file.lines() if self._file else ():
             time, _, text = line.decode("ascii").partition(" ")
             yield int(time), text

@@ -3,7 +3,7 @@
 from __future__ import annotations
 
 from dataclasses import replace
-from typing import Iterator, List, Optional, Set, Tuple
+from typing import Iterator
 
 from ..common.files import BASE, PMD_ORDER
 from ..common.subpages import bits_of, runs
@@ -18,9 +18,9 @@ class MappingEvents:
 
     def __init__(self, state: State) -> None:
         self._state = state
-        self._remapped: Set[int] = set()  # address spaces in which mremap moved an area
+        self._remapped: set[int] = set()  # address spaces in which mremap moved an area
 
-    def apply(self, record: Record, queue: Optional[List[int]], answer: int = 0) -> None:
+    def apply(self, record: Record, queue: list[int] | None, answer: int = 0) -> None:
         """Emits what a system call did to the pages that it reaches."""
         for effect in list_effects(record, answer):
             for page in self._pages_in(record.space, effect):
@@ -30,7 +30,7 @@ class MappingEvents:
         if record.values[0] == COLLAPSE:
             self._add_collapsed_page(record)
 
-    def apply_early(self, record: Record, page: Page, queue: Optional[List[int]]) -> None:
+    def apply_early(self, record: Record, page: Page, queue: list[int] | None) -> None:
         """Emits what a running call has done to one page. Events of the other pages that the call reaches follow at its
         end, or as soon as something shows them."""
         for effect in list_effects(record):
@@ -44,7 +44,7 @@ class MappingEvents:
         taking = [effect for effect in list_effects(call) if effect.change in REMOVING]
         return mapping is not None and any(self._subpages_in_range(call, each, page) & mapping.bits for each in taking)
 
-    def calls_reaching(self, page: Page) -> List[Record]:
+    def calls_reaching(self, page: Page) -> list[Record]:
         """Returns the running calls that remove mappings of a page."""
         return [call for call in self._state.pending.values() if self.reaches(call, page)]
 
@@ -73,13 +73,13 @@ class MappingEvents:
         for page, mapping in sorted(state.spaces.pop(space, {}).items(), key=lambda each: each[1].base):
             self.unmap(record, page, mapping, page.every, record.queue)
 
-    def end_early(self, page: Page, queue: List[int]) -> None:
+    def end_early(self, page: Page, queue: list[int]) -> None:
         """Removes a page whose processes have ended, before their end is recorded."""
         for space, mapping in list(page.maps.items()):
             self.unmap(self._state.ends[space], page, mapping, page.every, queue)
         self._state.tallies["pages followed before their process's end"] += 1
 
-    def begin_end(self, page: Page, queue: List[int]) -> None:
+    def begin_end(self, page: Page, queue: list[int]) -> None:
         """Unmaps a page that is in the queue in address spaces that are ending, one after the other until it is partly mapped. Of
         the last mapping the part that lies in the first of two page tables goes."""
         state = self._state
@@ -90,9 +90,9 @@ class MappingEvents:
         if page in state.queue:
             state.tallies["pages followed before their process's end"] += 1
 
-    def unmap(self, record: Record, page: Page, mapping: Mapping, bits: int, queue: Optional[List[int]]) -> None:
+    def unmap(self, record: Record, page: Page, mapping: Mapping, bits: int, queue: list[int] | None) -> None:
         """Removes one address space's mappings of these subpages."""
-        steps: List[Optional[Tuple[int, int]]] = [None]
+        steps: list[tuple[int, int] | None] = [None]
         if not mapping.whole or bits != page.every:
             if mapping.whole:
                 self._split_pmd(record, page, mapping)
@@ -154,13 +154,13 @@ class MappingEvents:
         if record.space in self._remapped:
             self._state.omit(page, "made by a collapse in an area that mremap may have moved")
 
-    def _pages_in(self, space: int, effect: Effect) -> List[Page]:
+    def _pages_in(self, space: int, effect: Effect) -> list[Page]:
         """Returns the pages that an address space maps in a range, by their addresses."""
         found = [(mapping.base, page) for page, mapping in self._state.spaces.get(space, {}).items()
                  if mapping.base < effect.end and mapping.base + page.subpages * BASE > effect.start]
         return [page for _, page in sorted(found, key=lambda each: each[0])]
 
-    def _apply_effect(self, record: Record, effect: Effect, page: Page, queue: Optional[List[int]]) -> None:
+    def _apply_effect(self, record: Record, effect: Effect, page: Page, queue: list[int] | None) -> None:
         """Applies an effect of a call to one page."""
         mapping, bits = page.maps[record.space], self._subpages_in_range(record, effect, page)
         if not bits:
@@ -202,7 +202,7 @@ class MappingEvents:
         page.own.add(page.every)
         self._state.emit(record.task, page, "splitpmd")
 
-    def _unmap_steps(self, page: Page, mapping: Mapping, bits: int) -> Iterator[Tuple[int, int]]:
+    def _unmap_steps(self, page: Page, mapping: Mapping, bits: int) -> Iterator[tuple[int, int]]:
         """Yields the runs that the kernel unmaps one by one: a page that was moved may lie in two page tables."""
         first = self._in_first_table(mapping)
         yield from runs(bits & first)
@@ -213,8 +213,8 @@ class MappingEvents:
         return bits_of(0, -mapping.base // BASE % (1 << PMD_ORDER))
 
     def _outcome(
-        self, record: Record, page: Page, before: int, queue: Optional[List[int]], last: bool
-    ) -> Tuple[str, int]:
+        self, record: Record, page: Page, before: int, queue: list[int] | None, last: bool
+    ) -> tuple[str, int]:
         """Returns the outcome of an unmap, and the frames given back."""
         after = page.used_subpages()
         if page.split:
@@ -253,7 +253,7 @@ class MappingEvents:
                 return True
         return False
 
-    def _last_unmap(self, record: Record, page: Page) -> Tuple[str, int]:
+    def _last_unmap(self, record: Record, page: Page) -> tuple[str, int]:
         """Returns the outcome of a page's last unmap, and the frames given back."""
         if not page.is_freed and not page.pins and any(page in scan.pages for scan in self._state.scans.values()):
             self._state.tallies["last unmaps while a scan held the page (R)"] += 1

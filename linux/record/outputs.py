@@ -4,7 +4,7 @@ from __future__ import annotations
 
 import json
 import os
-from typing import IO, Iterable, List, Optional
+from typing import IO, Iterable
 
 from ..common.errors import InputFault, RunFailed
 from ..common.files import NewFile
@@ -42,9 +42,9 @@ class Outputs:
     """The files of --out, --times and --records, of the last one for each of a number of queues."""
 
     def __init__(self, options: RecordOptions, queues: int) -> None:
-        self._journal: Optional[Output] = None
-        self._times: Optional[Output] = None
-        self._records: List[Output] = []
+        self._journal: Output | None = None
+        self._times: Output | None = None
+        self._records: list[Output] = []
         try:
             self._journal = Output(options.out) if options.out is not None else None
             self._times = Output(options.times) if options.times is not None else None
@@ -67,7 +67,7 @@ class Outputs:
             file.writelines(b"%d.%09d\n" % divmod(time, 10 ** 9) for time in times)
             file.flush()
 
-    def write_records(self, stores: List[Store]) -> None:
+    def write_records(self, stores: list[Store]) -> None:
         """Writes the records of each queue, a line of JSON for each, and replaces earlier ones."""
         for output, store in zip(self._records, stores):
             file = output.begin()

@@ -3,7 +3,6 @@
 from __future__ import annotations
 
 from dataclasses import dataclass, field
-from typing import Dict, List, Optional, Tuple
 
 from ..common.files import PMD_ORDER
 from ..common.subpages import bits_of, size
@@ -36,7 +35,7 @@ class MapCounts:
     __slots__ = ("_planes",)
 
     def __init__(self) -> None:
-        self._planes: List[int] = []
+        self._planes: list[int] = []
 
     def add(self, bits: int) -> None:
         """Adds a mapping of these subpages."""
@@ -76,7 +75,7 @@ class Page:
     own: MapCounts = field(default_factory=MapCounts)
     whole: int = 1
     held: int = 0
-    maps: Dict[int, Mapping] = field(default_factory=dict)
+    maps: dict[int, Mapping] = field(default_factory=dict)
     pins: int = 0
     is_partly_mapped: bool = False
     partly_since: int = 0  # when that was recorded
@@ -87,13 +86,13 @@ class Page:
     freed_frames: int = 0
     written: int = 0
     born: int = 0  # when its allocation was recorded
-    first: Optional[JournalLine] = None  # its allocation
+    first: JournalLine | None = None  # its allocation
     is_seen: bool = False  # its contents were looked at
     is_tried: bool = False  # a scan tried it
     has_joined: bool = False  # a copy of the queue showed it before its task's next record
     is_perhaps_taken: bool = False  # it joined at its fault while a scan ran, which took it then or not
     last_change: int = 0  # when the last call that reached it was recorded
-    join: Optional[JournalLine] = None  # the event by which it joined the queue
+    join: JournalLine | None = None  # the event by which it joined the queue
     events: int = 0  # how many were emitted
     fills: int = 0  # of these, the ones that only version 3 of a journal has
 
@@ -109,7 +108,7 @@ class Page:
     def used_subpages(self) -> int:
         return self.every if self.whole else self.own.used_subpages()
 
-    def counts(self) -> Tuple[int, int, int]:
+    def counts(self) -> tuple[int, int, int]:
         """Returns what the kernel counts: mappings by PMD entries, all mappings, subpages that PTEs map. A page below
         their size is mapped by PTEs alone."""
         if self.subpages == 1 << PMD_ORDER:

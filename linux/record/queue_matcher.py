@@ -2,7 +2,6 @@
 
 from __future__ import annotations
 
-from typing import List, Optional
 
 from .mappings import MappingEvents
 from .pages import Page
@@ -16,7 +15,7 @@ class QueueMatcher:
     def __init__(self, state: State, mappings: MappingEvents) -> None:
         self._state, self._mappings = state, mappings
 
-    def match(self, queue: Optional[List[int]]) -> None:
+    def match(self, queue: list[int] | None) -> None:
         """Emits events of running calls until the journal's queue matches a copy of the kernel's, and compares both."""
         if queue is None:
             return
@@ -47,7 +46,7 @@ class QueueMatcher:
             self._state.tallies["queues compared"] += 1
             self._state.tallies["queues that differ"] += differs
 
-    def _is_journal_queue(self, queue: List[int]) -> bool:
+    def _is_journal_queue(self, queue: list[int]) -> bool:
         """Returns whether a copy equals the journal's queue and nothing runs that it could show: the usual case, and
         quick."""
         state = self._state
@@ -57,7 +56,7 @@ class QueueMatcher:
         same = all(page.folio == folio and at.get(folio) is page for page, folio in zip(state.queue, queue))
         return same and all(call.kind is not Kind.COLLAPSED for call in state.pending.values())
 
-    def emit_early_joins(self, queue: List[int]) -> None:
+    def emit_early_joins(self, queue: list[int]) -> None:
         """Emits events of pages that are in the kernel's queue but not in ours: collapses and calls that still run, and
         processes that are ending."""
         state = self._state
@@ -79,7 +78,7 @@ class QueueMatcher:
             if page not in state.queue and page.is_live:
                 state.omit(page, "queued for no reason seen")
 
-    def _emit_leave(self, page: Page, queue: List[int]) -> None:
+    def _emit_leave(self, page: Page, queue: list[int]) -> None:
         """Emits the event by which a page of our queue has left the kernel's."""
         state = self._state
         running = [call for call in state.pending.values() if call.space in page.maps]
@@ -125,7 +124,7 @@ class QueueMatcher:
                 return True
         return False
 
-    def _reorder(self, kernels: List[Page]) -> None:
+    def _reorder(self, kernels: list[Page]) -> None:
         """Moves events of a page to an earlier place: pages of two tasks may join in another order than that in which
         their calls end."""
         state = self._state

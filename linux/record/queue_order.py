@@ -8,7 +8,7 @@ from __future__ import annotations
 
 from collections import Counter as Tallies
 from dataclasses import dataclass, field
-from typing import Dict, Iterable, Iterator, List, Sequence, Set, Tuple
+from typing import Iterable, Iterator, Sequence
 
 from .records import Kind, Record
 from .scans import batches_of
@@ -24,10 +24,10 @@ MIXED = "of these, scans of pages of several orders"
 class _Scan:
     """A scan that runs: the queue at its start, how many pages it takes, and the frames that its task freed."""
 
-    queue: List[int]
+    queue: list[int]
     count: int
-    sizes: Dict[int, int]  # the orders of its pages, by folio
-    freed: Set[int] = field(default_factory=set)
+    sizes: dict[int, int]  # the orders of its pages, by folio
+    freed: set[int] = field(default_factory=set)
     is_alone: bool = True
 
 
@@ -36,13 +36,13 @@ class QueueOrder:
 
     def __init__(self, page_size: int) -> None:
         self._page_size = page_size
-        self.tallies: Dict[str, int] = Tallies()
-        self._sizes: Dict[int, int] = {}  # the orders of live pages, by folio
-        self._scans: Dict[int, _Scan] = {}  # those that run, by task
-        self._known: List[int] = []  # the last copy
+        self.tallies: dict[str, int] = Tallies()
+        self._sizes: dict[int, int] = {}  # the orders of live pages, by folio
+        self._scans: dict[int, _Scan] = {}  # those that run, by task
+        self._known: list[int] = []  # the last copy
         self._time = 0  # its time
-        self._changed: Set[int] = set()  # folios freed or allocated since
-        self._suspects: List[Tuple[int, int]] = []  # pages of which the first should follow the second
+        self._changed: set[int] = set()  # folios freed or allocated since
+        self._suspects: list[tuple[int, int]] = []  # pages of which the first should follow the second
 
     @property
     def is_kept(self) -> bool:

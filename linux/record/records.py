@@ -5,7 +5,7 @@ from __future__ import annotations
 import enum
 import struct
 from dataclasses import dataclass
-from typing import Any, Dict, List, Optional, Tuple
+from typing import Any
 
 QUEUE_MOST = 500  # pages of a queue that a record carries
 VALUES_AT, COUNT_AT, FOLIOS_AT = 32, 112, 128
@@ -58,28 +58,28 @@ class FolioCounts:
 @dataclass(eq=False)
 class Record:
     """`queue`: folios, oldest first; None where none was copied, or its walk didn't end where it began. The last fields
-    are set by `link_records` or by a Store."""
+    are set by a Store."""
 
     kind: Kind
     time: int  # ns
     task: int
     space: int  # address of the mm
-    values: Tuple[int, ...]
-    queue: Optional[List[int]]
+    values: tuple[int, ...]
+    queue: list[int] | None
     is_applied: bool = False  # its events are emitted
-    end: Optional[Record] = None  # of a scan: its end; of an allocation: the collapse that it was for
+    end: Record | None = None  # of a scan: its end; of an allocation: the collapse that it was for
     last_activity: int = 0  # of an address space's end: when the last of its tasks' other records was made
-    next_queue: Optional[List[int]] = None  # of a scan's end without a copy: the next copy, if no scan began before it
-    folios_made: Optional[Dict[int, int]] = None  # of a scan: folios that were allocated until its end, and when last
-    space_end: Optional[Record] = None  # of the first record of an address space (`first_record`): the end of that space
-    child_space_end: Optional[Record] = None  # of a fork: the end of the child's space
-    contents: Optional[Tuple[int, int]] = None  # of a look: the subpages with data, the zero-filled ones
+    next_queue: list[int] | None = None  # of a scan's end without a copy: the next copy, if no scan began before it
+    folios_made: dict[int, int] | None = None  # of a scan: folios that were allocated until its end, and when last
+    space_end: Record | None = None  # of the first record of an address space (`first_record`): the end of that space
+    child_space_end: Record | None = None  # of a fork: the end of the child's space
+    contents: tuple[int, int] | None = None  # of a look: the subpages with data, the zero-filled ones
 
-    def queue_at_end(self) -> Optional[List[int]]:
+    def queue_at_end(self) -> list[int] | None:
         """Returns the queue at a scan's end, by its own copy or the next."""
         return self.next_queue if self.queue is None else self.queue
 
-    def fault(self, last: Optional[Record]) -> Optional[Fault]:
+    def fault(self, last: Record | None) -> Fault | None:
         """Returns the fault in which an ALLOC or COPY was made, where `last` is the task's last FAULT record."""
         at = _HOW_AT[self.kind]
         if self.values[at] == IN_FAULT:
@@ -92,14 +92,14 @@ class Record:
         """Returns the address space that has pages after this record at the latest; 0: none."""
         return self.values[0] if self.kind is Kind.COLLAPSED else 0 if self.kind is Kind.FREE else self.space
 
-    def counts(self) -> Optional[FolioCounts]:
+    def counts(self) -> FolioCounts | None:
         """Returns the map counts of the page at a call's address, if one was known there and it wasn't split."""
         folio, total, whole, mapped = self.values[5:9]
         if self.kind is not Kind.EXIT or not folio or mapped > _WORD:
             return None
         return FolioCounts(folio, _count(whole), _count(total), mapped & _SUBPAGES)
 
-    def to_json(self) -> List[Any]:
+    def to_json(self) -> list[Any]:
         """Returns the record as JSON can write it."""
         out = [int(self.kind), self.time, self.task, self.space, list(self.values), self.queue]
         return out if self.contents is None else [*out, list(self.contents)]
@@ -132,14 +132,6 @@ def parse_record(raw: bytes, place: int = 0) -> Record:
     return out
 
 
-def record_from_json(to_json: List[Any]) -> Record:
-    """Returns a record by what `to_json` gave."""
-    kind, time, task, space, values, queue, *contents = to_json
-    out = Record(Kind(kind), time, task, space, tuple(values), without_repeats(queue))
-    out.contents = (contents[0][0], contents[0][1]) if contents else None
-    return out
-
-
 def pack_record(record: Record) -> bytes:
     """Returns the bytes of a record, as the trace programs make them; the task group's number is 0."""
     if record.contents is not None:
@@ -151,45 +143,6 @@ def pack_record(record: Record) -> bytes:
     return head + struct.pack(f"<{len(queue)}Q", *queue)
 
 
-def without_repeats(queue: Optional[List[int]]) -> Optional[List[int]]:
+def without_repeats(queue: list[int] | None) -> list[int] | None:
     """Returns a queue, if no page is in it twice: a walk of a list that changes may meet one again."""
     return queue if queue is not None and len({*queue}) == len(queue) else None
-
-
-def link_records(records: List[Record]) -> None:
-    """Links each scan and each allocation for a collapse with its end, a scan with what was allocated until then, a
-    scan's end without a copy with the next one, and the first record of each address space with the space's end, which
-    gets the time from when on nothing else was recorded of the space. A Store does the same for records on disk."""
-    open_scans: Dict[int, Record] = {}
-    allocated: Dict[int, Record] = {}
-    last: Dict[int, int] = {}
-    first: Dict[int, Tuple[Record, str]] = {}
-    torn: List[Record] = []
-    for record in records:
-        if torn and record.queue is not None and record.time > torn[-1].time:
-            for end in torn:
-                end.next_queue = record.queue
-            torn = []
-        if record.kind is Kind.EXIT_MMAP:
-            record.last_activity = last.pop(record.values[0], 0)
-            if record.values[0] in first:
-                first_record, name = first.pop(record.values[0])
-                setattr(first_record, name, record)
-        elif record.kind not in (Kind.FREE, Kind.CONTENTS):
-            last[record.space] = record.time
-            first.setdefault(record.space_with_pages(), (record, "space_end"))
-        if record.kind is Kind.FORK:
-            first.setdefault(record.values[1], (record, "child_space_end"))
-        if record.kind is Kind.SCAN:
-            open_scans[record.task], record.folios_made, torn = record, {}, []
-        elif record.kind is Kind.SCANNED and record.task in open_scans:
-            open_scans.pop(record.task).end = record
-            torn += [record] if record.queue is None else []
-        elif record.kind is Kind.ALLOC:
-            allocated[record.task] = record
-            for scan in open_scans.values():
-                assert scan.folios_made is not None
-                scan.folios_made[record.values[0]] = record.time
-        elif record.kind is Kind.COLLAPSED and record.task in allocated:
-            alloc = allocated.pop(record.task)
-            alloc.end = record if alloc.values[0] == record.values[2] else None

@@ -2,7 +2,7 @@
 
 from __future__ import annotations
 
-from typing import Iterator, List, Optional, Set, Tuple
+from typing import Iterator
 
 from ..common.subpages import runs, size
 from .mappings import MappingEvents
@@ -14,7 +14,7 @@ from .state import Scan, State
 BATCH = 128  # pages that a scan takes at most at a time
 
 
-def batches_of(total: int, freeable: int) -> Iterator[Tuple[int, int]]:
+def batches_of(total: int, freeable: int) -> Iterator[tuple[int, int]]:
     """Yields the batches of one scan, as (first, count): so many pages of the queue as the shrinkers' core asks for at
     a time (mm/shrinker.c: do_shrink_slab)."""
     first = 0
@@ -42,7 +42,7 @@ class ScanEvents:
         joining = [page for page in state.joining.values() if page.folio not in record.queue]
         state.scans[record.task] = Scan(record, [state.at.get(folio) for folio in record.queue], joining)
 
-    def end(self, record: Record, observed: Optional[List[int]] = None) -> None:
+    def end(self, record: Record, observed: list[int] | None = None) -> None:
         """Emits a scan that has ended; `observed`: the queue that shows it, if its end isn't recorded yet."""
         state, scan = self._state, self._state.scans.pop(record.task, None)
         if not scan:
@@ -64,8 +64,8 @@ class ScanEvents:
         self._emit_joins(scan.pages[:total], queue)
         self._put_first(scan.pages[:total])
         found = [state.at.get(folio) for folio in queue]
-        back: List[Page] = []
-        stays: List[Page] = []
+        back: list[Page] = []
+        stays: list[Page] = []
         for first, count in batches_of(total, freeable):
             batch = [page for page in scan.pages[first : first + count] if page and page in state.queue]
             stay = [page for page in found if page and page in batch]
@@ -78,7 +78,7 @@ class ScanEvents:
         self._put_between(stays, kernels)
         self._matcher.match(own)
 
-    def end_early(self, queue: Optional[List[int]]) -> None:
+    def end_early(self, queue: list[int] | None) -> None:
         """Emits a scan that another task still runs, if the pages that it puts back precede a page that is new in the
         queue. The queue shows these pages now: when the scan's end is recorded, one of them may have been freed, and
         its folio may be another page's, elsewhere in the queue."""
@@ -99,7 +99,7 @@ class ScanEvents:
                 start.end.is_applied = True
                 self.end(start.end, queue)
 
-    def _emit_batch(self, record: Record, pages: List[Page], scan: Scan, stay: List[Page], queue: List[int]) -> None:
+    def _emit_batch(self, record: Record, pages: list[Page], scan: Scan, stay: list[Page], queue: list[int]) -> None:
         """Emits one batch of a scan: `stay` are the pages put back, in the kernel's order."""
         state = self._state
         for page in pages:
@@ -124,7 +124,7 @@ class ScanEvents:
         state.queue += stay
         state.journal_queue += back
 
-    def _omit_requeued(self, start: Record, stay: List[Page], found: List[Optional[Page]]) -> None:
+    def _omit_requeued(self, start: Record, stay: list[Page], found: list[Page | None]) -> None:
         """Omits a page that a call has queued again. A scan puts its pages back in one step: if another page is between
         them, one was not put back. The scan found it in use and dropped it; a call then unmapped a part of it. Linux 7 puts
         them back one by one: a page that became partly mapped during the scan may then be left out needlessly."""
@@ -134,7 +134,7 @@ class ScanEvents:
                 if page.partly_since >= start.time:
                     self._state.omit(page, "found in use by a scan, and queued again while it ran (U)")
 
-    def _add_faulted(self, scan: Scan, queue: List[int]) -> None:
+    def _add_faulted(self, scan: Scan, queue: list[int]) -> None:
         """Adds pages that joined at their faults after the scan's start was recorded and before it took its pages: it takes
         more than were in the queue then, and these aren't in the queue at its end."""
         state = self._state
@@ -149,7 +149,7 @@ class ScanEvents:
                 scan.pages.append(page)
                 state.tallies["pages that joined between a scan's start and its taking"] += 1
 
-    def _emit_frees(self, pages: List[Optional[Page]], queue: List[int]) -> None:
+    def _emit_frees(self, pages: list[Page | None], queue: list[int]) -> None:
         """Emits the frees of pages during a scan that no event shows yet: a running call freed the page, or a process
         that is ending."""
         for page in [page for page in pages if page and page.is_freed]:
@@ -159,12 +159,12 @@ class ScanEvents:
             if page.is_live and self._state.is_ending(page):
                 self._mappings.end_early(page, queue)
 
-    def _emit_joins(self, pages: List[Optional[Page]], queue: List[int]) -> None:
+    def _emit_joins(self, pages: list[Page | None], queue: list[int]) -> None:
         """Emits joins of pages that precede one that was put back: running calls queued them before that."""
         places = [queue.index(page.folio) for page in pages if page and page.is_live and page.folio in queue]
         self._matcher.emit_early_joins(queue[: max(places, default=0)])
 
-    def _put_first(self, pages: List[Optional[Page]]) -> None:
+    def _put_first(self, pages: list[Page | None]) -> None:
         """Moves events of pages that the scan didn't take, and that precede one that it took, after that page's join: it took
         the oldest pages, so these joined later, though the record of their join came first."""
         state = self._state
@@ -172,7 +172,7 @@ class ScanEvents:
         early = {page for page in state.journal_queue[: max(taken, default=0)] if page not in pages and page.join}
         self._move_to_end(early, "pages that joined after a scan's taking, moved after it")
 
-    def _put_between(self, back: List[Page], kernels: List[Page]) -> None:
+    def _put_between(self, back: list[Page], kernels: list[Page]) -> None:
         """Gives the pages put back their places among those that joined while the scan ran: Linux 7 puts pages back one by
         one, so that another can join between them."""
         state, places = self._state, {page: i for i, page in enumerate(kernels)}
@@ -183,7 +183,7 @@ class ScanEvents:
             queue.append(page)
         state.queue = queue + rest
 
-    def _emit_partial_unmaps(self, page: Page, queue: List[int]) -> None:
+    def _emit_partial_unmaps(self, page: Page, queue: list[int]) -> None:
         """Emits the partial unmap of a page that is put back, or split with too few zeros, if a running call made it and
         no event shows it yet."""
         for call in self._mappings.calls_reaching(page):
@@ -195,7 +195,7 @@ class ScanEvents:
         given = size(page.freed_frames & page.held)
         return bool(given) and not page.is_freed and given <= (self._state.settings.threshold or page.subpages)
 
-    def _postpone_joins(self, kernels: List[Page], stay: List[Page]) -> None:
+    def _postpone_joins(self, kernels: list[Page], stay: list[Page]) -> None:
         """Moves events of pages that joined while the scan ran, and follow the pages put back, after the scan."""
         if not stay:
             return
@@ -204,7 +204,7 @@ class ScanEvents:
         later = {page for page in kernels[edge + 1 :] if page in state.queue[:mine]}
         self._move_to_end(later, "pages that joined while a scan ran, moved after it")
 
-    def _move_to_end(self, later: Set[Page], what: str) -> None:
+    def _move_to_end(self, later: set[Page], what: str) -> None:
         """Moves the events of pages, from their joins on, to the journal's end, unless one is final."""
         state = self._state
         places = {page: state.place_of_join(page) for page in later}
@@ -219,7 +219,7 @@ class ScanEvents:
             queue.sort(key=lambda page: page in later)  # stable: the later ones go to the end
         state.tallies[what] += len(later)
 
-    def _straighten(self, pages: List[Page], scan: Scan, stay: List[Page]) -> Tuple[List[Page], List[Page]]:
+    def _straighten(self, pages: list[Page], scan: Scan, stay: list[Page]) -> tuple[list[Page], list[Page]]:
         """Returns the pages of a batch in the journal's order: those taken, those put back."""
         state = self._state
         mine = {page for page in pages if not page.omission}

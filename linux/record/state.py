@@ -6,7 +6,7 @@ from __future__ import annotations
 from collections import Counter as Tallies
 from collections import defaultdict
 from dataclasses import dataclass, field
-from typing import Dict, Iterator, List, Optional, Tuple
+from typing import Iterator
 
 from ..common.files import BASE, PMD_ORDER
 from ..common.journal import FILLING, Event
@@ -27,10 +27,10 @@ class Settings:
     the queue's NUMA node are (none: pages of all nodes are in the queue)."""
 
     order: int
-    threshold: Optional[int]
+    threshold: int | None
     straighten: bool
     page_size: int = 64  # bytes of struct page
-    folios: Tuple[range, ...] = ()
+    folios: tuple[range, ...] = ()
 
     def has_in_queue(self, folio: int) -> bool:
         """Returns whether the queue is the one of a page's NUMA node."""
@@ -43,8 +43,8 @@ class Scan:
     known), and those that joined at that time."""
 
     start: Record
-    pages: List[Optional[Page]]
-    joining: List[Page] = field(default_factory=list)
+    pages: list[Page | None]
+    joining: list[Page] = field(default_factory=list)
 
 
 @dataclass(eq=False)
@@ -53,20 +53,20 @@ class State:
 
     settings: Settings
     lines: JournalLines = field(default_factory=JournalLines)  # the journal
-    tallies: Dict[str, int] = field(default_factory=Tallies)  # what was seen, inferred and left out, by words
+    tallies: dict[str, int] = field(default_factory=Tallies)  # what was seen, inferred and left out, by words
     pages: int = 0  # all that ever lived
     never_mapped: int = 0  # of these
     left_out: int = 0  # of these too, for other reasons
     events: int = 0  # the lines of pages that aren't left out
     fills: int = 0  # of these, the ones that only version 3 of a journal has
-    at: Dict[int, Page] = field(default_factory=dict)  # the pages that live, by folio
-    queue: List[Page] = field(default_factory=list)  # the kernel's, oldest first
-    journal_queue: List[Page] = field(default_factory=list)  # the journal's, which differs where it is straightened
-    joining: Dict[int, Page] = field(default_factory=dict)  # pages that join the queue before their task's next record
-    spaces: Dict[int, Dict[Page, Mapping]] = field(default_factory=lambda: defaultdict(dict))  # by address space
-    ends: Dict[int, Record] = field(default_factory=dict)  # the next end of each address space that has pages
-    pending: Dict[Tuple[int, Kind], Record] = field(default_factory=dict)  # calls, collapses, copies that run, by task
-    scans: Dict[int, Scan] = field(default_factory=dict)  # those that run, by task
+    at: dict[int, Page] = field(default_factory=dict)  # the pages that live, by folio
+    queue: list[Page] = field(default_factory=list)  # the kernel's, oldest first
+    journal_queue: list[Page] = field(default_factory=list)  # the journal's, which differs where it is straightened
+    joining: dict[int, Page] = field(default_factory=dict)  # pages that join the queue before their task's next record
+    spaces: dict[int, dict[Page, Mapping]] = field(default_factory=lambda: defaultdict(dict))  # by address space
+    ends: dict[int, Record] = field(default_factory=dict)  # the next end of each address space that has pages
+    pending: dict[tuple[int, Kind], Record] = field(default_factory=dict)  # calls, collapses, copies that run, by task
+    scans: dict[int, Scan] = field(default_factory=dict)  # those that run, by task
     is_missing: bool = False  # a scan wasn't followed
     now: int = 0  # the time of the current record
     task: int = 0  # and its task
@@ -81,7 +81,7 @@ class State:
         """The blocks that the journal's node needs."""
         return min(MOST_BLOCKS, self._most + SPARE_BLOCKS)
 
-    def timed_texts(self) -> Iterator[Tuple[int, str]]:
+    def timed_texts(self) -> Iterator[tuple[int, str]]:
         """Returns the times and texts of the journal's lines, without the pages that are left out."""
         return self.lines.timed_texts(self._omitted)
 
@@ -174,7 +174,7 @@ class State:
         self.emit(task, page, "unpin", outcome="freed", given=page.held)
         self.remove_page(page)
 
-    def ending_spaces(self, page: Page) -> List[int]:
+    def ending_spaces(self, page: Page) -> list[int]:
         """Returns the address spaces that map a page and are ending, the first to end first: nothing else of them comes any more."""
         ends = [(self.ends[space], space) for space in page.maps if space in self.ends]
         return [space for end, space in sorted(ends, key=lambda each: each[0].time) if end.last_activity < self.now]

@@ -56,7 +56,9 @@ class Store:
         self.note_records(1)
 
     def link(self) -> None:
-        """Links the records, all of which have come: what records.link_records does in memory."""
+        """Links the records, all of which have come: each scan and each allocation for a collapse with its end, a scan's end without a
+        copy of the queue with the next one, and the first record of each address space with the space's end, which gets the time from
+        when on nothing else was recorded of the space."""
         linker = _Linker(self._patch)
         for at, block, place in self._walk():
             linker.see(at, HEAD.unpack_from(block, place), block, place)

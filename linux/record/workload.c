@@ -134,9 +134,10 @@ static void by_break(struct range range)
         return;
     madvise(at, size, MADV_HUGEPAGE);
     memset(at, 90, size);
-    brk(at + range.first);
-    usleep(2000);
-    brk(old);
+    if (brk(at + range.first) == 0)
+        usleep(2000);
+    if (brk(old))
+        abort();
 }
 
 static struct range a_range(unsigned *chance)

@@ -19,13 +19,13 @@ import tempfile
 import time
 from dataclasses import dataclass
 from pathlib import Path
-from typing import Callable, List, Optional
+from typing import Callable, List, Optional, Sequence, Tuple
 
 ROOT = Path(__file__).resolve().parent.parent.parent
 sys.path.insert(0, str(ROOT))
 
 from linux.common import checker, program  # noqa: E402
-from linux.common.errors import DONE, FAILED, SKIPPED, USAGE  # noqa: E402
+from linux.common.errors import DIFFERS, DONE, FAILED, SKIPPED, USAGE  # noqa: E402
 from linux.common.files import THP, read  # noqa: E402
 from linux.common.groups import find_hierarchy  # noqa: E402
 from linux.common.helpers import helper  # noqa: E402
@@ -35,8 +35,8 @@ MOST_RESIDENT = 64 << 10  # KiB
 SECONDS = 600  # that a case gets: enough on a loaded machine
 FAULTS, DROPS = 300000, 20000
 RECORDED = 1.5  # seconds of a recording that is interrupted
-PAGES, FOLLOWED, RUNS, TRIES = 48, 45, 5, 12  # of snapshots.py
-EXAMPLES = ROOT / "linux/record/examples"
+PAGES, FOLLOWED, RUNS, TRIES = 48, 45, 2, 8  # of snapshots.py
+EXAMPLES = ROOT / "linux/tests/programs"
 CHECKER = program.find("thpcheck", checker.BUILT) or str(ROOT / "linux/tests/plain_checker.py")
 PYTHON = "/usr/bin/python3"
 USER = "nobody"
@@ -44,8 +44,9 @@ FOLDER = Path("/")  # of this run; set at its start
 INNER_GROUP = """
 import os, sys, time
 sys.path.insert(0, sys.argv[1])
-from linux.common.guardian import groups_of
-group = next(path for path in groups_of(os.getpid()) if "/thprecord-" in path)
+from linux.common.groups import find_hierarchy
+found = find_hierarchy()
+group = found.top if found.version == 1 else found.mount + open("/proc/self/cgroup").read().split("::")[1].strip()
 os.mkdir(group + "/inner")
 with open(group + "/inner/cgroup.procs", "w") as file:
     file.write(str(os.getpid()))
@@ -82,11 +83,11 @@ def resident_of(number: int) -> int:
 
 
 def run(words: List[str], meanwhile: Callable[[subprocess.Popen[bytes], float], None] = lambda tool, since: None,
-        folder: Optional[str] = None) -> RunResult:
-    """Runs the tool, looks at its memory, and calls `meanwhile` with the seconds since its start."""
+        folder: Optional[str] = None, before: Sequence[str] = ()) -> RunResult:
+    """Runs the tool, looks at its memory, and calls `meanwhile` with the seconds since its start. `before`: words that start it."""
     began, resident = time.monotonic(), 0
     with tempfile.TemporaryFile() as out, tempfile.TemporaryFile() as problems:
-        tool = subprocess.Popen([str(ROOT / "linux/thprecord"), "--wait", "--checker", CHECKER, "--straighten", *words],
+        tool = subprocess.Popen([*before, str(ROOT / "linux/thprecord"), "--wait", "--checker", CHECKER, "--straighten", *words],
                                 stdin=subprocess.DEVNULL, stdout=out, stderr=problems, cwd=folder,
                                 preexec_fn=lambda: signal.signal(signal.SIGINT, signal.default_int_handler) and None)
         try:
@@ -107,12 +108,15 @@ def run(words: List[str], meanwhile: Callable[[subprocess.Popen[bytes], float], 
 
 def busy(*words: str) -> List[str]:
     """The test program of many calls."""
-    return ["--user", USER, "--", reachable(helper("record/examples/busy.c")), *words]
+    path = FOLDER / "busy"
+    if not path.exists():
+        subprocess.run(["cc", "-O2", "-o", str(path), str(EXAMPLES / "busy.c"), "-lpthread"], check=True)
+    return ["--user", USER, "--", str(path), *words]
 
 
 def steps() -> List[str]:
     """The own workload as a command that doesn't end by itself."""
-    return ["--user", USER, "--", reachable(helper("record/workload.c")), "1", "1000000000", "1", "9"]
+    return ["--user", USER, "--", reachable(helper("workload")), "1", "1000000000", "1", "9"]
 
 
 def reachable(path: str) -> str:
@@ -204,6 +208,41 @@ def interrupted(sent: signal.Signals) -> Optional[str]:
     done = run(["--out", str(journal), *steps()], interrupt)
     wrong = done.wrong(DONE, f"the recording was ended by {sent.name}", "legal (")
     return wrong or (None if journal.read_bytes().endswith(b"\nend\n") else "no whole journal")
+
+
+def ended_by_the_limit_of_disk() -> Optional[str]:
+    largest = [0]
+
+    def look(tool: subprocess.Popen[bytes], _: float) -> None:
+        for path in Path(f"/proc/{tool.pid}/fd").glob("*"):
+            try:
+                if os.readlink(path).startswith("/var/tmp/") and os.readlink(path).endswith("(deleted)"):
+                    largest[0] = max(largest[0], path.stat().st_size)
+            except OSError:
+                continue
+
+    done = run(["--disk", "300K", *steps()], look)
+    wrong = done.wrong(DIFFERS, "the recording was ended at the limit of --disk", "the command was killed by SIGTERM",
+                       "incomplete: the records reached the limit of --disk; legal (")
+    return wrong or (None if 0 < largest[0] <= 300 << 10 else f"{largest[0]} bytes on disk")
+
+
+def files_that_cannot_be_written() -> Optional[str]:
+    """A full disk, and limits of the size of files: one line on standard error."""
+    small = FOLDER / "small"
+    small.mkdir()
+    mounted = ["unshare", "--mount", "--propagation", "private", "sh", "-c", f'mount -t tmpfs -o size=300k none {small} && exec "$0" "$@"']
+    rows: List[Tuple[List[str], List[str], str]] = [
+        (mounted, ["--records", f"{small}/records"], "No space left on device"),
+        (["prlimit", "--fsize=20000"], [], "File too large"),
+        (["prlimit", "--fsize=2000000"], ["--seconds", "5"], "File too large"),
+    ]
+    for before, words, text in rows:
+        done = run([*words, *steps()], before=before)
+        wrong = done.wrong(FAILED, text)
+        if wrong or done.problems.count("\n") != 1:
+            return f"{before[:2]}: {wrong or done.problems!r}"
+    return None
 
 
 def no_such_command() -> Optional[str]:
@@ -317,6 +356,19 @@ def one_that_cannot_be_run() -> Optional[str]:
     return run(["--", str(path)]).wrong(FAILED, "can't be started: Exec format error")
 
 
+def kernel_memory_needs_two_rights() -> Optional[str]:
+    """CAP_BPF and CAP_PERFMON, and no other; each is named where it is missing."""
+    code = "import sys; sys.path.insert(0, sys.argv[1]); from linux.common import machine; print(machine.table(machine.memory()[1]))"
+    refused = "no   the BPF programs are refused: {} is missing"
+    for rights, wanted in (("bpf,+perfmon", "struct page in it     yes"), ("bpf", refused.format("CAP_PERFMON")),
+                           ("perfmon", refused.format("CAP_BPF"))):
+        words = ["setpriv", "--bounding-set", f"-all,+{rights}", "--inh-caps=-all", sys.executable, "-c", code, str(ROOT)]
+        done = subprocess.run(words, capture_output=True, text=True, check=False)
+        if wanted not in done.stdout:
+            return f"{rights}: {done.stdout}{done.stderr}"
+    return None
+
+
 def settings() -> List[str]:
     """All settings of huge pages, the tool's control groups, and open temporary files of tools that have ended."""
     out = [f"{path} {read(path)}" for path in sorted(Path(THP).rglob("*"))
@@ -336,6 +388,7 @@ def main() -> int:
         pages_of_groups_of_its_own_are_counted, pages_of_two_sizes, workers_that_share_a_node,
         processes_that_share_a_node, runs_as_the_user, several_threads, bounded_without_events, bounded_with_events,
         copies_on_write, ended_by_seconds, ended_by_events, ended_though_it_ignores_that,
+        ended_by_the_limit_of_disk, files_that_cannot_be_written, kernel_memory_needs_two_rights,
     ]
     for case in each:
         cases.run(case.__name__.replace("_", " "), case)

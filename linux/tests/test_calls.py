@@ -110,7 +110,7 @@ class AreasTest(unittest.TestCase):
     def test_a_page_that_moves_to_an_aligned_place(self) -> None:
         builder = self.move_page(OTHER)
         self.assertEqual(event_words(builder)[1:], ["splitpmd 0", "unmapsub 0 8 8 queued -"])
-        self.assertEqual([mapping.base for mapping in builder.list_mappings(SPACE)], [OTHER])
+        self.assertEqual([mapping.base for mapping in builder._state.spaces[SPACE].values()], [OTHER])
 
     def test_a_page_that_moves_to_another_place_loses_its_pmd_entry(self) -> None:
         records = Calls()

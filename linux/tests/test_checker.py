@@ -11,8 +11,7 @@ from pathlib import Path
 from typing import Tuple
 from unittest import mock
 
-from ..common import checker as checkers
-from ..common import program as programs
+from ..common import checker as checkers, program as programs
 from ..common.checker import Checker, find_checker
 from ..common.errors import InputFault, Unavailable
 from ..common.journal import journal_of
@@ -21,8 +20,8 @@ from ..common.text import text_lines
 from ..record.journal_builder import JournalBuilder
 from ..record.journal_file import JournalFile, JournalVerdict, check_journal
 from ..record.state import Settings
-from ..record.tampering import Alteration, alter_journal, read_journal
-from .recordings import read_recording
+from ..record.tampering import Alteration, alter_journal
+from .recordings import linked, read_recording
 
 HERE = Path(__file__).resolve().parent
 PLAIN, PLAIN_CHECKER = str(HERE / "plain_program.py"), str(HERE / "plain_checker.py")
@@ -32,7 +31,7 @@ BUILT = programs.find("thpcheck", checkers.BUILT)
 def journal_of_one_thread() -> str:
     """The journal of a stored recording, which is legal."""
     builder = JournalBuilder(Settings(9, None, True))
-    builder.add_records(read_recording("one_thread"))
+    builder.add_records(linked(read_recording("one_thread")))
     return builder.text()
 
 
@@ -148,16 +147,13 @@ class FoundTest(unittest.TestCase):
             find_checker(checker="nowhere")
 
 
-class TamperingTest(unittest.TestCase):
-    """Journals are read from files that can hold anything."""
+class JournalTextTest(unittest.TestCase):
+    """Texts that can be anything."""
 
     def refused(self, content: bytes) -> str:
-        with tempfile.NamedTemporaryFile() as file:
-            file.write(content)
-            file.flush()
-            with self.assertRaises(InputFault) as caught:
-                read_journal(file.name)
-            return str(caught.exception).replace(file.name, "FILE")
+        with self.assertRaises(InputFault) as caught:
+            journal_of(content.decode("latin-1"))
+        return str(caught.exception)
 
     def test_bytes_that_are_no_journal(self) -> None:
         chance, text = random.Random(4), journal_of_one_thread().encode()
@@ -168,12 +164,6 @@ class TamperingTest(unittest.TestCase):
             place = chance.randrange(len(text) - 1)
             self.refused(text[:place] + bytes([chance.choice(b"\x00\x80\xff\n\r\x1c x")]) + text[place:])
         self.assertEqual(self.refused(b"thp-journal 1\nnode 0 blocks 8\n0 split 0 0-99999999999\nend\n"),
-                         "FILE: line 3 of the journal is neither a node nor an event")
-        self.assertEqual(self.refused(b"thp-journal 1\n0 alloc 0\nend\n"),
-                         "FILE: line 2 of the journal is neither a node nor an event")
-
-    def test_one_that_is_a_journal(self) -> None:
-        with tempfile.NamedTemporaryFile() as file:
-            file.write(journal_of_one_thread().encode())
-            file.flush()
-            self.assertEqual(read_journal(file.name)[1], journal_of_one_thread())
+                         "line 3 of the journal is neither a node nor an event")
+        self.assertEqual(self.refused(b"thp-journal 1\n0 alloc 0\nend\n"), "line 2 of the journal is neither a node nor an event")
+        self.assertEqual(len(journal_of(text.decode())), 1)

@@ -9,6 +9,7 @@ from ..record.calls import MREMAP
 from ..record.journal_builder import JournalBuilder
 from ..record.records import Kind, Record
 from ..record.state import Settings
+from .recordings import linked
 from .test_record import BASE, DONTNEED, HUGE, MADVISE, MUNMAP, SPACE, RecordBuilder, folio_of, frames_of, verdict
 
 DAEMON = 90  # khugepaged, or a task that migrates: of no group that is recorded
@@ -17,7 +18,7 @@ DAEMON = 90  # khugepaged, or a task that migrates: of no group that is recorded
 def build_journal(records: RecordBuilder, threshold: Optional[int] = None) -> JournalBuilder:
     """Builds the journal of records; it is legal, and its queues equal the kernel's."""
     builder = JournalBuilder(Settings(9, threshold, True))
-    builder.add_records(records.records)
+    builder.add_records(linked(records.records))
     assert verdict(builder.text()) == "legal", builder.text()
     assert not builder.tallies["queues that differ"], builder.tallies
     return builder

@@ -9,6 +9,7 @@ from ..record.journal_builder import JournalBuilder
 from ..record.records import Kind, Record
 from ..record.state import Settings
 from .played_kernel import PlayedKernel
+from .recordings import linked
 from .test_record import BASE, DONTNEED, HUGE, MADVISE, SPACE, TASK, RecordBuilder, folio_of, frames_of, verdict
 
 SCANNER, OTHER = TASK + 1, TASK + 2
@@ -18,7 +19,7 @@ THRESHOLD, THREADS, STEPS = 100, 4, 400
 def build_journal(records: List[Record], threshold: "int | None" = None) -> JournalBuilder:
     """Builds the journal of records; it is legal, and its queues equal the kernel's."""
     builder = JournalBuilder(Settings(9, threshold, True))
-    builder.add_records(records)
+    builder.add_records(linked(records))
     assert verdict(builder.text()) == "legal", builder.text()
     assert not builder.tallies["queues that differ"], builder.tallies
     return builder

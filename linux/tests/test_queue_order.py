@@ -6,9 +6,10 @@ import unittest
 from typing import List, Optional
 
 from ..record.queue_order import COMPARED, MIXED, UNKNOWN, WRONG_JOINS, WRONG_SCANS, QueueOrder
-from ..record.records import IN_FAULT, Kind, Record, link_records
+from ..record.records import IN_FAULT, Kind, Record
 from ..record.scans import BATCH
 from .played_kernel import PlayedKernel
+from .recordings import linked
 from .test_record import FOLIO, SPACE, TASK
 
 PAGE, PAGES = 64, BATCH + 12  # bytes of struct page; pages of a queue, of which one scan takes a part
@@ -22,8 +23,8 @@ def folio_of(number: int) -> int:
 def follow(records: List[Record]) -> QueueOrder:
     """Follows records, all of which come out again."""
     order = QueueOrder(PAGE)
-    link_records(records)
-    assert list(order.follow(records)) == records
+    whole = linked(records)
+    assert list(order.follow(whole)) == whole
     return order
 
 

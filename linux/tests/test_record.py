@@ -10,11 +10,11 @@ from typing import List, Optional, Sequence
 
 from ..common.program import Program
 from ..record.journal_builder import JournalBuilder
-from ..record.records import COUNT_AT, FOLIOS_AT, QUEUE_MOST, SIZE, Kind, Record, pack_record, parse_record, record_from_json
+from ..record.records import COUNT_AT, FOLIOS_AT, QUEUE_MOST, SIZE, Kind, Record, pack_record, parse_record
 from ..record.scans import batches_of
 from ..record.state import Settings
 from ..record.tampering import Alteration, alter_journal
-from .recordings import read_recording
+from .recordings import linked, read_recording, record_from_json
 
 HERE = Path(__file__).resolve().parent
 PLAIN = str(HERE / "plain_program.py")
@@ -30,7 +30,7 @@ class RecordBuilder:
         self.records: List[Record] = []
 
     def add(self, kind: Kind, values: Sequence[int], queue: Optional[List[int]] = None) -> None:
-        padded = (*values, *[0] * (9 - len(values)))
+        padded = (*(value & (1 << 64) - 1 for value in values), *[0] * (9 - len(values)))
         self.records.append(Record(kind, len(self.records), TASK, SPACE, padded, queue))
 
     def page(self, number: int) -> int:
@@ -57,7 +57,7 @@ class RecordBuilder:
 
     def journal(self, straighten: bool = False) -> str:
         builder = JournalBuilder(Settings(9, None, straighten))
-        builder.add_records(self.records)
+        builder.add_records(linked(self.records))
         self.tallies = builder.tallies
         return builder.text()
 
@@ -158,7 +158,7 @@ class WrittenRecordsTest(unittest.TestCase):
         records.drop(1, 0, 256, [folio_of(1)])
         records.drop(0, 0, 512, [folio_of(1)])
         builder = JournalBuilder(Settings(9, None, False))
-        builder.add_records(records.records)
+        builder.add_records(linked(records.records))
         times, texts = list(builder.times()), list(builder.texts())
         self.assertEqual(len(times), len(texts))
         self.assertEqual(times, sorted(times))
@@ -226,7 +226,7 @@ class StoredTest(unittest.TestCase):
 
     def build_journal(self, name: str, straighten: bool) -> JournalBuilder:
         builder = JournalBuilder(Settings(9, None, straighten))
-        builder.add_records(read_recording(name))
+        builder.add_records(linked(read_recording(name)))
         self.assertEqual(builder.tallies["queues that differ"], 0)
         return builder
 
@@ -276,7 +276,7 @@ class ScanTest(unittest.TestCase):
         records.add(Kind.EXIT, [MADVISE, 0, 0, 0, 0], [first, second])
         records.records.append(Record(Kind.SCANNED, 101, TASK + 1, SPACE, (0,) * 9, [first, second]))
         builder = JournalBuilder(Settings(9, 100, True))
-        builder.add_records(records.records)
+        builder.add_records(linked(records.records))
         self.assertEqual(builder.tallies["queues that differ"], 0)
         self.assertEqual(builder.tallies["pages that joined while a scan ran, moved after it"], 1)
         event_words = [line.split(" ", 1)[1] for line in builder.text().split("\n")[2:-2]]
@@ -286,14 +286,14 @@ class ScanTest(unittest.TestCase):
     def build_journal(self, records: RecordBuilder, threshold: Optional[int], seen: str) -> List[str]:
         """Returns the words of the journal, which is legal; `seen` was counted once."""
         builder = JournalBuilder(Settings(9, threshold, True))
-        builder.add_records(records.records)
+        builder.add_records(linked(records.records))
         self.assertEqual(verdict(builder.text()), "legal")
         self.assertEqual((builder.tallies[seen], builder.tallies["queues that differ"]), (1, 0))
         return [line.split(" ", 1)[1] for line in builder.text().split("\n")[2:-2]]
 
     def by_another(self, records: RecordBuilder, kind: Kind, values: Sequence[int], queue: List[int]) -> None:
         """A record of the task that scans."""
-        padded = (*values, *[0] * (9 - len(values)))
+        padded = (*(value & (1 << 64) - 1 for value in values), *[0] * (9 - len(values)))
         records.records.append(Record(kind, len(records.records), TASK + 1, SPACE, padded, queue))
 
     def test_batches(self) -> None:

@@ -15,10 +15,9 @@ from ..record import lines
 from ..record.journal_builder import JournalBuilder
 from ..record.journal_file import JournalFile
 from ..record.pages import MapCounts
-from ..record.records import BY_FAULT, IN_FAULT, IN_NONE, Kind, Record, pack_record
+from ..record.records import BY_FAULT, IN_FAULT, IN_NONE, Kind
 from ..record.state import TOO_OLD, Settings
-from ..record.store import Store
-from .recordings import read_recording
+from .recordings import linked, read_recording, stored
 from .sample_records import RECORDS_OF_A_PAGE
 from .test_following import TwoTaskBuilder, build_journal, event_words
 from .test_record import BASE, HUGE, SPACE, RecordBuilder, folio_of, frames_of, verdict
@@ -40,19 +39,10 @@ def resident():
 store, builder, before = Store(), JournalBuilder(Settings(9, None, True)), resident()
 make_pages(store, int(sys.argv[2]))
 store.link()
-builder.add_linked_records(store.records())
+builder.add_records(store.records())
 count = sum(1 for line in journal_lines([builder]))
 print(store.count, count, builder.count_omitted(), resident() - before)
 """
-
-
-def stored(records: List[Record]) -> Store:
-    """The records on disk, linked."""
-    store = Store()
-    for record in records:
-        store.append(pack_record(record))
-    store.link()
-    return store
 
 
 def outcome(builder: JournalBuilder) -> Tuple[str, List[Tuple[str, int]], int, int]:
@@ -67,8 +57,8 @@ class StoreTest(unittest.TestCase):
             for straighten, threshold in ((True, None), (False, None), (True, 100)):
                 settings = Settings(9, threshold, straighten)
                 first, second = JournalBuilder(settings), JournalBuilder(settings)
-                first.add_records(read_recording(name))
-                second.add_linked_records(store.records())
+                first.add_records(linked(read_recording(name)))
+                second.add_records(store.records())
                 self.assertEqual(outcome(first), outcome(second), (name, settings))
                 self.assertEqual(first.events, first.text().count("\n") - 3)
             store.close()
@@ -83,7 +73,7 @@ class StoreTest(unittest.TestCase):
         store = stored(records.records)
         first = build_journal(records)
         second = JournalBuilder(Settings(9, None, True))
-        second.add_linked_records(store.records())
+        second.add_records(store.records())
         self.assertEqual(outcome(first), outcome(second))
         self.assertEqual(event_words(first), ["alloc 0", "unmapwhole 0 freed 0-511", "alloc 1", "unmapwhole 1 freed 0-511"])
         store.close()
@@ -93,12 +83,12 @@ class LinesTest(unittest.TestCase):
     def build_in_window(self, name: str, window: int) -> JournalBuilder:
         with mock.patch.object(lines, "WINDOW", window), mock.patch.object(lines, "SLACK", 10):
             builder = JournalBuilder(Settings(9, None, True))
-            builder.add_records(read_recording(name))
+            builder.add_records(linked(read_recording(name)))
         return builder
 
     def test_a_small_window_gives_the_same_journal(self) -> None:
         whole = JournalBuilder(Settings(9, None, True))
-        whole.add_records(read_recording("one_thread"))
+        whole.add_records(linked(read_recording("one_thread")))
         small = self.build_in_window("one_thread", 40)
         self.assertEqual(outcome(small), outcome(whole))
         self.assertGreater(small._state.lines.final, 100)
@@ -118,7 +108,7 @@ class LinesTest(unittest.TestCase):
         records.add(Kind.EXIT, [28, 0, 0, 0, 0], queue)
         with mock.patch.object(lines, "WINDOW", 10), mock.patch.object(lines, "SLACK", 5):
             builder = JournalBuilder(Settings(9, None, True))
-            builder.add_records(records.records)
+            builder.add_records(linked(records.records))
         self.assertGreater(builder.tallies[f"pages left out: {TOO_OLD}"], 0)
         self.assertEqual((verdict(builder.text()), builder.tallies["queues that differ"]), ("legal", 0))
         builder.close()

@@ -1,0 +1,232 @@
+/* SPDX-License-Identifier: MIT OR GPL-2.0 */
+/* What the programs of a recording know of tasks, address spaces and pages, and how they send records. */
+#ifndef RECORD_BPF_H
+#define RECORD_BPF_H
+
+const volatile struct thp_settings settings;
+const volatile __u32 nomemalloc, movable;	/* ___GFP_*: of an enumeration without a name, which CO-RE doesn't find */
+const volatile bool has_collapse_order;		/* an argument of a tracepoint, since Linux 7 */
+
+struct thp_counters counters;			/* except `missed` */
+__u64 caught;					/* runs of on_free that were left out, and on_free_in_interrupt ran instead */
+
+enum { SPACES = 8192, HOMES = 65536, TRACKED = 65536, BLOCKS = 4096, RANGE = 32, INNER_LEVELS = 8, TRIES = 3, LARGE = 512 };
+
+struct thp_task {
+	__u64 address, code;	/* its last fault; 0: a call began since */
+	__u64 fresh;		/* the huge page that it allocated last */
+	bool is_next;		/* its next event is sent in any case */
+	bool has_entered;	/* the begin of its call was sent */
+	bool scans;
+};
+
+struct thp_space {
+	__u64 all;		/* not 0: all of it matters */
+	__u64 bits[BLOCKS / 64];
+};
+
+struct thp_home { __u64 space, block; };
+struct thp_seen { __u64 bits[LARGE / 64]; };
+struct thp_frees { __u64 first, last; };	/* runs of on_free; of these, what on_free_in_interrupt has seen */
+
+struct {
+	__uint(type, BPF_MAP_TYPE_RINGBUF);
+	__uint(max_entries, 1 << 24);
+} ring SEC(".maps");
+
+struct {
+	__uint(type, BPF_MAP_TYPE_TASK_STORAGE);
+	__uint(map_flags, BPF_F_NO_PREALLOC);
+	__type(key, int);
+	__type(value, struct thp_task);
+} tasks SEC(".maps");
+
+struct {
+	__uint(type, BPF_MAP_TYPE_HASH);
+	__uint(max_entries, SPACES);
+	__type(key, __u64);
+	__type(value, struct thp_space);
+} spaces SEC(".maps");
+
+/* the folio at a place of its order */
+struct {
+	__uint(type, BPF_MAP_TYPE_LRU_HASH);
+	__uint(max_entries, HOMES);
+	__type(key, struct thp_home);
+	__type(value, __u64);
+} homes SEC(".maps");
+
+/* blocks whose frees are recorded, and a bit for each frame whose free was */
+struct {
+	__uint(type, BPF_MAP_TYPE_HASH);
+	__uint(max_entries, TRACKED);
+	__type(key, __u64);
+	__type(value, struct thp_seen);
+} tracked SEC(".maps");
+
+struct {
+	__uint(type, BPF_MAP_TYPE_PERCPU_ARRAY);
+	__uint(max_entries, 1);
+	__type(key, __u32);
+	__type(value, struct thp_frees);
+} free_runs SEC(".maps");
+
+/* records with a queue, one of each kind, since an interrupt may send another */
+struct {
+	__uint(type, BPF_MAP_TYPE_PERCPU_ARRAY);
+	__uint(max_entries, KINDS);
+	__type(key, __u32);
+	__type(value, struct thp_record);
+} scratch SEC(".maps");
+
+static const struct thp_space blank;
+
+/* tasks and address spaces */
+
+static __always_inline __u64 group_of(struct task_struct *task)
+{
+	return (__u64)task->cgroups->subsys[bpf_core_enum_value(enum cgroup_subsys_id, memory_cgrp_id)];
+}
+
+/* What is known of a task. Where there is no room for it, what it does isn't recorded and counts as lost. */
+static __always_inline struct thp_task *state_of(struct task_struct *task)
+{
+	struct thp_task *state = bpf_task_storage_get(&tasks, task, 0, BPF_LOCAL_STORAGE_GET_F_CREATE);
+
+	if (!state)
+		__sync_fetch_and_add(&counters.lost, 1);
+	return state;
+}
+
+static __always_inline struct thp_space *space_of(__u64 mm)
+{
+	return bpf_map_lookup_elem(&spaces, &mm);
+}
+
+/* Whether a task is in the group, or has left it and has pages of it. */
+static __always_inline bool is_own(struct task_struct *task)
+{
+	return group_of(task) == settings.group || space_of((__u64)task->mm);
+}
+
+/* Notes that an address space has a page at an address. */
+static __always_inline void add_page(__u64 mm, __u64 address)
+{
+	__u64 block = address >> (BASE_BITS + PMD_ORDER);
+	struct thp_space *space = space_of(mm);
+
+	if (!space) {
+		bpf_map_update_elem(&spaces, &mm, &blank, BPF_ANY);
+		space = space_of(mm);
+	}
+	if (space)
+		__sync_fetch_and_or(&space->bits[block % BLOCKS / 64], 1ull << block % 64);
+	else
+		counters.unfiltered = 1;
+}
+
+/* Whether an address space may have a page in one of these blocks. */
+static __always_inline bool may_have(struct thp_space *space, __u64 block, __u64 last)
+{
+	for (int i = 0; i < RANGE; i++, block++) {
+		if (space->bits[block % BLOCKS / 64] >> block % 64 & 1)
+			return true;
+		if (block >= last)
+			return false;
+	}
+	return true;
+}
+
+/* records */
+
+static __always_inline void fill(struct thp_record *record, enum kind kind, struct task_struct *task)
+{
+	record->kind = kind;
+	record->time = bpf_ktime_get_ns();
+	record->task = bpf_get_current_pid_tgid();
+	record->space = (__u64)task->mm;
+	__builtin_memset(record->values, 0, sizeof(record->values) + 3 * sizeof(__u64));
+}
+
+/* Sends a record with up to five values; whether there was room. */
+static __always_inline bool try_to_send(enum kind kind, struct task_struct *task, __u64 a, __u64 b, __u64 c, __u64 d, __u64 e)
+{
+	struct thp_record *record = bpf_ringbuf_reserve(&ring, __builtin_offsetof(struct thp_record, folios), 0);
+
+	if (!record)
+		return false;
+	fill(record, kind, task);
+	record->values[0] = a;
+	record->values[1] = b;
+	record->values[2] = c;
+	record->values[3] = d;
+	record->values[4] = e;
+	bpf_ringbuf_submit(record, 0);
+	return true;
+}
+
+/* The same, tried again: the ring's lock may be refused once, to a processor that waited long for it. */
+static __always_inline int send(enum kind kind, struct task_struct *task, __u64 a, __u64 b, __u64 c, __u64 d, __u64 e)
+{
+	for (int i = 0; i < TRIES; i++)
+		if (try_to_send(kind, task, a, b, c, d, e))
+			return 0;
+	__sync_fetch_and_add(&counters.lost, 1);
+	return 0;
+}
+
+static __always_inline struct thp_record *begin_with_queue(__u32 kind, struct task_struct *task)
+{
+	struct thp_record *record = bpf_map_lookup_elem(&scratch, &kind);
+
+	if (record)
+		fill(record, kind, task);
+	return record;
+}
+
+extern void *bpf_rdonly_cast(const void *address, __u32 type) __ksym __weak;	/* Linux 6.2 */
+
+struct thp_walk { struct thp_record *record; __u64 head, at; __u32 count; };
+
+static long step(__u32 index, struct thp_walk *walk)
+{
+	struct list_head *link = (void *)walk->at;
+
+	if (walk->at == walk->head || index >= QUEUE_MOST)
+		return 1;
+	walk->record->folios[index] = walk->at - link_offset();
+	if (bpf_rdonly_cast)	/* a load instead of a call of a helper for each page */
+		walk->at = (__u64)((struct list_head *)bpf_rdonly_cast(link, bpf_core_type_id_kernel(struct list_head)))->next;
+	else
+		walk->at = (__u64)READ(&link->next);
+	walk->count = index + 1;
+	return 0;
+}
+
+/* Sends a record with a copy of the queue, which is made again where the walk didn't end where it began. */
+static __always_inline int send_with_queue(struct thp_record *record)
+{
+	__u32 numa_node = settings.numa_node < 0 ? 0 : settings.numa_node;
+	struct thp_walk walk = { .record = record };
+	__u64 count = QUEUE_MOST + 1, size;
+
+	walk.head = find_queue(settings.queue_lists, settings.group, false, numa_node, 0);
+	if (!walk.head)
+		count = 0;
+	for (int i = 0; i < TRIES && count > QUEUE_MOST; i++) {
+		walk.at = (__u64)READ(&((struct list_head *)walk.head)->next);
+		walk.count = 0;
+		bpf_loop(QUEUE_MOST + 1, step, &walk, 0);
+		if (walk.at == walk.head)
+			count = walk.count;
+	}
+	record->count = count;
+	size = __builtin_offsetof(struct thp_record, folios) + (count > QUEUE_MOST ? 0 : 8 * count);
+	for (int i = 0; i < TRIES; i++)
+		if (!bpf_ringbuf_output(&ring, record, size, 0))
+			return 0;
+	__sync_fetch_and_add(&counters.lost, 1);
+	return 0;
+}
+
+#endif
