@@ -12,7 +12,7 @@ import time
 from contextlib import ExitStack, contextmanager
 from typing import Callable, Iterator
 
-from ..common.errors import DONE, FAILED, INCONCLUSIVE, SKIPPED, Unavailable
+from ..common.errors import DONE, FAILED, INCONCLUSIVE, SKIPPED
 from ..common.files import BASE
 from ..common.groups import find_hierarchy
 from ..whatif.look import LookOptions, SnapshotTaker, names_of_groups
