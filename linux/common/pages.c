@@ -15,24 +15,17 @@
 #include <stdio.h>
 #include <stdlib.h>
 #include <string.h>
-#include <sys/ioctl.h>
 #include <sys/prctl.h>
 #include <sys/socket.h>
 #include <sys/syscall.h>
 #include <unistd.h>
 
-enum { BASE = 4096, BLOCK = 512, PMD_ORDER = 9, CHUNK = 64, REGIONS = 256, RECENT = 64, TEXT = 1 << 16,
-       LINE = 256, BLOCKS = 1 << 18, TOUCHES = 16, CLONE_WITH_PIDFD = 4096, SYS_CLOSE_RANGE = 436 };
-#define WIDE 0x7ffffffff000ul     /* where a process's addresses end with page tables of four levels, and of five */
-#define WIDEST 0xfffffffffff000ul
+enum { BASE = 4096, BLOCK = 512, PMD_ORDER = 9, RECENT = 64, TEXT = 1 << 16, LINE = 256, BLOCKS = 1 << 18, TOUCHES = 16,
+       CLONE_WITH_PIDFD = 4096, SYS_CLOSE_RANGE = 436 };
 
-/* include/uapi/linux/fs.h: PAGEMAP_SCAN (Linux 6.7), for machines whose headers are older */
-enum { IS_FILE = 4, IS_PRESENT = 8, IS_ZERO_FRAME = 32, IS_HUGE = 64 };
-struct scan_argument {
-    uint64_t size, flags, start, end, walk_end, vec, vec_len, max_pages, inverted, mask, anyof, returned;
-};
-struct region { uint64_t start, end, categories; };
-#define SCAN_PAGEMAP _IOWR('f', 16, struct scan_argument)
+/* arch/x86/include/asm/pgtable_types.h */
+enum { PRESENT = 1, LEAF = 1 << 7, NO_ACCESS = 1 << 8, ENTRIES = 512, TABLE_BITS = 9 };
+#define FRAME_BITS 0x000ffffffffff000ul
 
 /* include/uapi/linux/kernel-page-flags.h */
 enum { ANON = 1 << 12, HEAD = 1 << 15, TAIL = 1 << 16, HUGETLB = 1 << 17, THP = 1 << 22, ZERO_PAGE = 1 << 24 };
@@ -52,19 +45,47 @@ typedef uint64_t known;
 
 struct walk {
     known *known;                       /* BLOCKS of them, of all processes of a look, or NULL */
-    int map, flags_file, process, with_small;
+    const struct tables *tables;
+    int flags_file, process, with_small;
     struct piece *out;
-    long found, most, lost, small, others, changed;
+    long found, most, lost, small, changed;
     long recent[RECENT];                /* pieces found last, by their pages: parts of one page become one piece */
     uint64_t block, block_flags[BLOCK]; /* the flags that were read last, and of which block of frames */
     uint64_t head;                      /* the huge page that was found last in that block, and its order or -1 */
     int order;
-    uint64_t entries_at, entries[BLOCK]; /* the page table entries that were read last, and from which address on */
-    long have;
 };
 
-static uint64_t frame_of(uint64_t entry) {
-    return entry >> 63 ? entry & ((1ul << 55) - 1) : 0;
+/* What reads page tables: no lock is taken, and no right to frame numbers is needed. */
+struct tables {
+    int32_t find, copy;                 /* programs of linux/kernel/memory.bpf.c */
+    uint64_t (*copies)[ENTRIES];        /* shared with `copy` */
+    uint64_t map;                       /* where the kernel's map of all memory begins */
+    int64_t levels, place;              /* levels of tables; which copy is ours */
+};
+
+/* include/uapi/linux/bpf.h: BPF_PROG_TEST_RUN */
+enum { SYS_BPF = 321, TEST_RUN = 10, WORD = 64, MOST_THREADS = 16 };
+struct test_run {
+    uint32_t program, answer, in_size, out_size;
+    uint64_t in, out;
+    uint32_t repeat, duration, context_size, context_out_size;
+    uint64_t context, context_out;
+    uint32_t flags, cpu, batch_size, unused;
+};
+
+/* Runs a BPF program once; returns whether its answer is 0. */
+static int run_program(int program, void *context, long size) {
+    struct test_run run = { .program = (uint32_t)program, .context_size = (uint32_t)size, .context = (uintptr_t)context };
+    return syscall(SYS_BPF, TEST_RUN, &run, sizeof run) >= 0 && !run.answer;
+}
+
+/* linux/kernel/shared.h: struct thp_request */
+struct table_request { uint64_t group, numa_node, at, found, length; };
+
+/* The frame of an entry that has one of these bits, or 0. That of an entry that isn't present is stored inverted
+ * (arch/x86/include/asm/pgtable-invert.h). */
+static uint64_t frame_of(uint64_t entry, uint64_t bits) {
+    return entry & bits ? ((entry & PRESENT ? entry : ~entry) & FRAME_BITS) / BASE : 0;
 }
 
 /* Whether these are flags of an anonymous huge page. */
@@ -129,89 +150,68 @@ static int order_around(struct walk *w, uint64_t frame, uint64_t *head) {
 }
 
 /* Takes `count` subpages at `address` in consecutive frames of one block. */
-static void take_frames(struct walk *w, uint64_t address, uint64_t frame, long count, int by_pmd) {
+static void take_frames(struct walk *w, uint64_t address, uint64_t frame, long count) {
     uint64_t flags[BLOCK];
-    if (!by_pmd && w->known && is_plain(w, frame / BLOCK)) { w->others += count; return; }
+    if (w->known && is_plain(w, frame / BLOCK)) return;
     if (w->block == frame / BLOCK)
         memcpy(flags, w->block_flags + frame % BLOCK, count * 8);
-    else if (pread(w->flags_file, flags, count * 8, frame * 8) != count * 8) { w->changed += count; return; }
+    else if (pread(w->flags_file, flags, count * 8, frame * 8) != count * 8)
+        return; /* a device's memory */
     for (long i = 0, taken; i < count; i += taken) {
         uint64_t head;
-        int order = -1;
         taken = 1;
-        if (is_ours(flags[i]) && !read_block(w, frame / BLOCK)) order = order_around(w, frame + i, &head);
-        if (order < 0) {
-            if (by_pmd || is_ours(flags[i])) w->changed++;
-            else w->others++;
-            continue;
-        }
+        if (!is_ours(flags[i])) continue;
+        int order = read_block(w, frame / BLOCK) ? -1 : order_around(w, frame + i, &head);
+        if (order < 0) { w->changed++; continue; }
         taken = (long)(head + (1ul << order) - (frame + i));
         if (taken > count - i) taken = count - i;
         long first = (long)(frame + i - head);
-        put_piece(w, address + (i - first) * BASE, head, w->block_flags[head % BLOCK], first, taken, order, by_pmd);
+        put_piece(w, address + (i - first) * BASE, head, w->block_flags[head % BLOCK], first, taken, order, 0);
     }
 }
 
-/* Takes a block of addresses that one PMD entry maps: one huge page, so its first entry and first flags describe it. */
-static void take_whole(struct walk *w, uint64_t at) {
-    uint64_t entry, flags;
-    if (pread(w->map, &entry, 8, at / BASE * 8) != 8 || !frame_of(entry)) { w->changed += BLOCK; return; }
-    uint64_t frame = frame_of(entry);
-    int have = pread(w->flags_file, &flags, 8, frame * 8) == 8;
-    if (have && flags & (HUGETLB | ZERO_PAGE)) return; /* pages of hugetlbfs aren't the shrinker's */
-    if (!have || frame % BLOCK || !is_ours(flags) || !(flags & HEAD)) { w->changed += BLOCK; return; }
+/* Takes a block of addresses that one PMD entry maps: one huge page, so its first flags describe it. */
+static void take_whole(struct walk *w, uint64_t at, uint64_t frame) {
+    uint64_t flags;
+    if (pread(w->flags_file, &flags, 8, frame * 8) != 8 || !(flags & ANON) || flags & (HUGETLB | ZERO_PAGE)) return;
+    if (frame % BLOCK || !is_ours(flags) || !(flags & HEAD)) { w->changed += BLOCK; return; }
     put_piece(w, at, frame, flags, 0, BLOCK, PMD_ORDER, 1);
 }
 
-/* Reads the page table entries of a block of addresses, once for all ranges in it. Flags that were read before them
- * don't count. Returns how many entries there are. */
-static long read_entries(struct walk *w, uint64_t at) {
-    if (w->entries_at != at) {
-        long got = pread(w->map, w->entries, sizeof w->entries, at / BASE * 8);
-        w->entries_at = at;
-        w->have = got < 0 ? 0 : got / 8;
-        w->block = ~0ul;
+/* Takes a block of addresses that a table of PTEs maps. Flags that were read before the table don't count. */
+static void take_entries(struct walk *w, uint64_t at, const uint64_t *entries) {
+    w->block = ~0ul;
+    for (long i = 0, count; i < BLOCK; i += count) {
+        uint64_t frame = frame_of(entries[i], PRESENT | NO_ACCESS);
+        count = 1;
+        if (!frame) continue;
+        while (i + count < BLOCK && (frame + count) % BLOCK && frame_of(entries[i + count], PRESENT | NO_ACCESS) == frame + count)
+            count++;
+        take_frames(w, at + i * BASE, frame, count);
     }
-    return w->have;
 }
 
-/* Takes what a range of at most one block of addresses maps. */
-static void take_range(struct walk *w, uint64_t at, uint64_t end, int by_pmd) {
-    uint64_t begin = at / BASE / BLOCK * BLOCK * BASE;
-    if (by_pmd && end - at == BLOCK * BASE) { take_whole(w, at); return; }
-    long have = read_entries(w, begin), first = (at - begin) / BASE, last = (end - begin) / BASE;
-    if (have < last) w->changed += last - (have > first ? have : first);
-    if (have > last) have = last;
-    for (long i = first; i < have;) {
-        uint64_t frame = frame_of(w->entries[i]);
-        long count = 1;
-        if (!frame) { i++; continue; }
-        while (i + count < have && frame_of(w->entries[i + count]) == frame + count && (frame + count) % BLOCK) count++;
-        take_frames(w, begin + i * BASE, frame, count, by_pmd);
-        i += count;
+/* Takes what a page table that is so many levels above PTEs maps, and begins at an address, between `start` and `end`. A table
+ * that changes meanwhile has frames whose flags don't fit, or that a second look doesn't find. */
+static void walk_table(struct walk *w, uint64_t table, int level, uint64_t begin, uint64_t start, uint64_t end) {
+    uint64_t entries[ENTRIES], size = (uint64_t)BASE << TABLE_BITS * level;
+    struct table_request request = { .at = w->tables->map + table, .found = (uint64_t)w->tables->place };
+    long count = level + 1 == w->tables->levels ? ENTRIES / 2 : ENTRIES; /* the other half is the kernel's */
+    if (!run_program(w->tables->copy, &request, sizeof request)) { w->changed += BLOCK; return; }
+    memcpy(entries, w->tables->copies[w->tables->place], sizeof entries);
+    if (!level) { take_entries(w, begin, entries); return; }
+    for (long i = 0; i < count; i++) {
+        uint64_t at = begin + i * size;
+        if (at + size <= start || at >= end) continue;
+        if (entries[i] & LEAF) {
+            if (level == 1) take_whole(w, at, frame_of(entries[i], LEAF) / BLOCK * BLOCK); /* other bits below are set */
+        } else if (entries[i] & PRESENT) {
+            walk_table(w, entries[i] & FRAME_BITS, level - 1, at, start, end);
+        }
     }
 }
 
 struct span { uint64_t low, high; };
-
-/* Takes what a range of addresses maps. Returns 0, or -errno. */
-static long walk_range(struct walk *w, uint64_t start, uint64_t last) {
-    struct region regions[REGIONS];
-    struct scan_argument a = { .size = sizeof a, .start = start, .end = last, .vec = (uintptr_t)regions, .vec_len = REGIONS,
-                               .inverted = IS_FILE | IS_ZERO_FRAME, .mask = IS_PRESENT | IS_FILE | IS_ZERO_FRAME,
-                               .returned = IS_HUGE };
-    for (long got = REGIONS; got == REGIONS && a.start < a.end; a.start = a.walk_end) {
-        got = ioctl(w->map, SCAN_PAGEMAP, &a);
-        if (got < 0) return -errno;
-        for (long r = 0; r < got; r++)
-            for (uint64_t at = regions[r].start, end; at < regions[r].end; at = end) {
-                end = (at / BASE / BLOCK + 1) * BLOCK * BASE;
-                if (end > regions[r].end) end = regions[r].end;
-                take_range(w, at, end, (regions[r].categories & IS_HUGE) != 0);
-            }
-    }
-    return 0;
-}
 
 static int has_bit(const uint64_t *set, long i) {
     return set[i / 64] >> i % 64 & 1;
@@ -226,32 +226,14 @@ static struct span blocks_of(const struct piece *p) {
                           ((p->address + last * BASE) | (BLOCK * BASE - 1)) + 1 };
 }
 
-/* Whether PTEs map the subpages of a piece as before, and its frames are still one huge page. */
-static int is_unchanged(const struct walk *w, const struct piece *p) {
-    uint64_t entries[BLOCK], front[2], last;
-    long size = 1l << p->order;
-    if (p->by_pmd || pread(w->map, entries, size * 8, p->address / BASE * 8) != size * 8) return 0;
-    for (long i = 0; i < size; i++)
-        if ((frame_of(entries[i]) == p->head + i) != has_bit(p->set, i)) return 0;
-    if (pread(w->flags_file, front, 16, p->head * 8) != 16) return 0;
-    if (pread(w->flags_file, &last, 8, (p->head + size - 1) * 8) != 8) return 0;
-    return is_ours(front[0]) && front[0] & HEAD && (front[0] & KEPT) == p->flags && front[1] & last & TAIL;
-}
-
-/* Takes `count` pieces that were found before, ascending, once more: of blocks in which one has changed, what is mapped now. */
-static long walk_again(struct walk *w, const struct piece *old, long count) {
-    long error = 0;
-    for (long i = 0, next; i < count && !error; i = next) {
+/* Takes what is mapped where `count` pieces, ascending, were found before. */
+static void walk_again(struct walk *w, uint64_t table, const struct piece *old, long count) {
+    for (long i = 0, next; i < count; i = next) {
         struct span here = blocks_of(&old[i]), more;
-        int is_same = is_unchanged(w, &old[i]);
-        for (next = i + 1; next < count && (more = blocks_of(&old[next])).low < here.high; next++) {
-            is_same = is_same && is_unchanged(w, &old[next]);
+        for (next = i + 1; next < count && (more = blocks_of(&old[next])).low <= here.high; next++)
             if (more.high > here.high) here.high = more.high;
-        }
-        if (!is_same) error = walk_range(w, here.low, here.high);
-        else for (long j = i; j < next && w->found < w->most; j++) w->out[w->found++] = old[j];
+        walk_table(w, table, (int)w->tables->levels - 1, 0, here.low, here.high);
     }
-    return error;
 }
 
 static int open_file(int thread, const char *name) {
@@ -340,29 +322,7 @@ long find_locked(int file, struct span *out, long most) {
     return error ? error : l.found;
 }
 
-static const char zero_page[BASE];
-
-/* Sets bit i of `zero` where subpage i of the range at `address` is zero-filled, for those of `wanted`; what can't be
- * read is taken from `wanted`. `memory` is an open /proc/PID/mem; count is at most 512. */
-void find_zeros(int memory, uint64_t address, long count, uint64_t *wanted, uint64_t *zero) {
-    static char buffer[CHUNK * BASE];
-    for (long done = 0, got; done < count; done += got) {
-        got = 1;
-        if (!has_bit(wanted, done)) continue;
-        long want = 1;
-        while (want < CHUNK && done + want < count && has_bit(wanted, done + want)) want++;
-        long bytes = pread(memory, buffer, want * BASE, address + done * BASE);
-        if (bytes < BASE) {
-            wanted[done / 64] &= ~(1ul << done % 64);
-            continue;
-        }
-        got = bytes / BASE;
-        for (long i = done; i < done + got; i++)
-            if (!memcmp(buffer + (i - done) * BASE, zero_page, BASE)) zero[i / 64] |= 1ul << i % 64;
-    }
-}
-
-/* A huge page: where its content is, its subpages, which of them are to be read or were read, and which are zero-filled. */
+/* A huge page: where its content is, its subpages, which of them were read, and which are zero-filled. */
 struct content {
     uint64_t address, count, read[BLOCK / 64], zero[BLOCK / 64];
 };
@@ -373,50 +333,43 @@ struct room {
     struct span *spans;
     known *known;
     int64_t most_pieces, most_spans;
+    struct tables tables;
 };
 
-enum { WALK, READ, COMPARE };
+enum { WALK, COMPARE };
 struct request { int32_t what, thread, process, with_small; int64_t most, count; };
-struct reply { int64_t found, lost, small, others, changed, spans, huge; };
+struct reply { int64_t found, lost, small, others, changed, spans; };
 
 /* Reads how a process maps huge pages: `found` pieces, or -errno. Counts pieces that had no room, pages below PMD size that
- * weren't asked for, anonymous base pages beside them, and base pages whose flags no longer fit their page table. Then its
- * locked areas, and AnonHugePages. With `count` pieces, which are the last ones of the room: only these again. */
+ * weren't asked for, anonymous base pages beside huge ones, and base pages whose flags don't fit their page table. Then its
+ * locked areas. With `count` pieces, which are the last ones of the room: only where these are. */
 static struct reply walk(const struct room *room, int flags_file, const struct request *q) {
-    struct walk w = { .known = q->count ? NULL : room->known, .flags_file = flags_file, .process = q->process,
-                      .with_small = q->with_small, .out = room->pieces, .block = ~0ul, .order = -1,
-                      .most = q->count ? room->most_pieces - q->count : q->most,
-                      .entries_at = ~0ul, .map = open_file(q->thread, "pagemap") };
+    struct walk w = { .known = q->count ? NULL : room->known, .tables = &room->tables, .flags_file = flags_file,
+                      .process = q->process, .with_small = q->with_small, .out = room->pieces, .block = ~0ul, .order = -1,
+                      .most = q->count ? room->most_pieces - q->count : q->most };
+    int maps = open_file(q->thread, "maps");
+    struct table_request request = { .at = (uint64_t)maps };
     struct reply out = { .found = -errno };
-    uint64_t entry;
-    long error = 0;
-    if (w.map < 0) return out;
-    if (pread(w.map, &entry, 8, 0) != 8) error = -ESRCH; /* it ended; kernels before 6.15 can't bear a scan then */
-    if (q->count && !error) error = walk_again(&w, room->pieces + w.most, q->count);
-    else if (!error && (error = walk_range(&w, 0, WIDEST)) == -EFAULT) error = walk_range(&w, 0, WIDE);
-    close(w.map);
-    out = (struct reply){ error ? error : w.found, w.lost, w.small, w.others, w.changed, 0, 0 };
-    if (out.found <= 0 || q->count) return out;
+    if (maps < 0) return out;
+    int has_tables = run_program(room->tables.find, &request, sizeof request);
+    uint64_t table = request.at - room->tables.map;
+    if (has_tables && q->count) walk_again(&w, table, room->pieces + w.most, q->count);
+    else if (has_tables) walk_table(&w, table, (int)room->tables.levels - 1, 0, 0, ~0ul);
+    close(maps);
+    out = (struct reply){ has_tables ? w.found : -ESRCH, w.lost, w.small, 0, w.changed, 0 };
+    if (out.found < 0 || q->count) return out;
+    out.others = read_amount(open_file(q->thread, "status"), "RssAnon:") / BASE;
+    for (long i = 0; i < w.found; i++)
+        for (int j = 0; j < BLOCK / 64; j++) out.others -= __builtin_popcountl(w.out[i].set[j]);
+    if (out.others < 0) out.others = 0; /* the kernel's count lags behind */
+    if (!out.found) return out;
     out.spans = read_amount(open_file(q->thread, "status"), "VmLck:");
     if (out.spans > 0) {
         int file = open_file(q->thread, "smaps");
         out.spans = file < 0 ? -errno : find_locked(file, room->spans, room->most_spans);
         if (file >= 0) close(file);
     }
-    for (long i = 0; i < w.found && !out.huge; i++) out.huge = w.out[i].by_pmd;
-    if (out.huge) out.huge = read_amount(open_file(q->thread, "smaps_rollup"), "AnonHugePages:");
     return out;
-}
-
-/* Reads the content of `count` pages of a process. */
-static struct reply read_content(const struct room *room, const struct request *q) {
-    struct content *pages = (struct content *)room->pieces;
-    int memory = open_file(q->thread, "mem");
-    if (memory < 0) return (struct reply){ .found = -errno };
-    for (long i = 0; i < q->count; i++)
-        find_zeros(memory, pages[i].address, (long)pages[i].count, pages[i].read, pages[i].zero);
-    close(memory);
-    return (struct reply){ .found = q->count };
 }
 
 static long compare_spaces(int a, int b) {
@@ -452,18 +405,18 @@ static struct reply find_same(const struct room *room, const struct request *q) 
     return (struct reply){ .found = q->count };
 }
 
-/* Answers requests until there is nobody who asks. Descriptor 0 is a socket, 1 is /proc/kpageflags. */
+/* Answers requests until there is nobody who asks. Descriptor 0 is a socket, 1 is /proc/kpageflags, 2 and 3 are programs. */
 static void serve(const struct room *room) {
     struct request q;
     while (read(0, &q, sizeof q) == sizeof q) {
-        struct reply out = q.what == WALK ? walk(room, 1, &q) : q.what == READ ? read_content(room, &q) : find_same(room, &q);
+        struct reply out = q.what == WALK ? walk(room, 1, &q) : find_same(room, &q);
         if (write(0, &out, sizeof out) != sizeof out) break;
     }
 }
 
-/* Starts a worker, which ends with the thread that called, and holds two descriptors: `ends` becomes our end of its socket,
+/* Starts a worker, which ends with the thread that called, and holds four descriptors: `ends` becomes our end of its socket,
  * its pidfd and its number. Returns 0, or -errno. No lock of the C library is taken in it, whatever other threads do. */
-int start_worker(const struct room *room, int flags_file, int *ends) {
+int start_worker(struct room *room, int flags_file, int *ends) {
     sigset_t all, before;
     int sockets[2], parent = getpid();
     if (socketpair(AF_UNIX, SOCK_SEQPACKET | SOCK_CLOEXEC, 0, sockets)) return -errno;
@@ -472,8 +425,11 @@ int start_worker(const struct room *room, int flags_file, int *ends) {
     long child = syscall(SYS_clone, CLONE_WITH_PIDFD | SIGCHLD, 0, &ends[1], 0, 0), error = errno;
     if (!child) {
         if (!prctl(PR_SET_PDEATHSIG, SIGKILL) && getppid() == parent && dup2(sockets[1], 0) == 0 && dup2(flags_file, 1) == 1 &&
-            !syscall(SYS_CLOSE_RANGE, 2, ~0u, 0))
+            dup2(room->tables.find, 2) == 2 && dup2(room->tables.copy, 3) == 3 && !syscall(SYS_CLOSE_RANGE, 4, ~0u, 0)) {
+            room->tables.find = 2;
+            room->tables.copy = 3;
             serve(room);
+        }
         _exit(0);
     }
     pthread_sigmask(SIG_SETMASK, &before, NULL);
@@ -482,22 +438,6 @@ int start_worker(const struct room *room, int flags_file, int *ends) {
     ends[2] = (int)child;
     if (child < 0) close(sockets[0]);
     return child < 0 ? (int)-error : 0;
-}
-
-/* include/uapi/linux/bpf.h: BPF_PROG_TEST_RUN */
-enum { SYS_BPF = 321, TEST_RUN = 10, WORD = 64, MOST_THREADS = 16 };
-struct test_run {
-    uint32_t program, answer, in_size, out_size;
-    uint64_t in, out;
-    uint32_t repeat, duration, context_size, context_out_size;
-    uint64_t context, context_out;
-    uint32_t flags, cpu, batch_size, unused;
-};
-
-/* Runs a BPF program once; returns whether its answer is 0. */
-static int run_program(int program, void *context, long size) {
-    struct test_run run = { .program = (uint32_t)program, .context_size = (uint32_t)size, .context = (uintptr_t)context };
-    return syscall(SYS_BPF, TEST_RUN, &run, sizeof run) >= 0 && !run.answer;
 }
 
 struct scan {
@@ -523,7 +463,7 @@ static void *scan_some(void *argument) {
     return NULL;
 }
 
-/* Fills in what is zero-filled in many pages, by the BPF program of linux/common/direct_map.py, in so many threads. */
+/* Fills in what is zero-filled in many pages, by the BPF program of linux/kernel/memory.bpf.c, in so many threads. */
 void scan_frames(int program, struct content *pages, long count, int threads) {
     struct scan s = { .program = program, .pages = pages, .count = count };
     pthread_t others[MOST_THREADS];

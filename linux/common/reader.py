@@ -1,12 +1,11 @@
 """Finds the huge anonymous pages that processes map, how each subpage is mapped, and which subpages are zero-filled.
 
-Nothing is changed by it: page tables by PAGEMAP_SCAN and /proc/PID/pagemap in worker processes, frames by /proc/kpageflags,
-kpagecount and kpagecgroup, content as contents.py has it. second_look.py reads again what has changed meanwhile.
+Nothing is changed by it: page tables and content are read by BPF, in worker processes and threads, frames by /proc/kpageflags,
+kpagecount and kpagecgroup. second_look.py reads again what has changed meanwhile.
 """
 
 from __future__ import annotations
 
-import errno
 import os
 import time
 from array import array
@@ -16,20 +15,19 @@ from typing import Deque, Iterable, Iterator
 
 from . import proc
 from .contents import Contents, Progress
-from .direct_map import DirectMap
-from .errors import Unavailable
 from .files import BASE
 from .folios import Folio, Mapping, compact_counts
+from .kernel_memory import KernelMemory
 from .page_files import NumberFile, PageFlag, TooShort
 from .proc import Unreadable, describe
 from .spaces import Space, find_spaces
 from .subpages import bits_of
-from .workers import MOST_SPANS, PIECE, WALK, Answer, Request, Workers
+from .workers import MOST_SPANS, PIECE, Answer, Request, Workers
 
 PARTS_MOVED = "parts of huge pages that changed while they were read"
 SMALL = "huge pages below PMD size (--orders has them)"
 FREED = "huge pages that were freed while they were read"
-HIDDEN = "huge pages with subpages that couldn't be read"
+HIDDEN = "huge pages whose content couldn't be read"
 MLOCKED, POISONED = int(PageFlag.MLOCKED), int(PageFlag.HWPOISON)
 SWAP_CACHE, SWAP_BACKED = int(PageFlag.SWAPCACHE), int(PageFlag.SWAPBACKED)
 MEMORY = 512  # MiB that a look keeps at most, if no other limit is given
@@ -63,10 +61,10 @@ class Reader:
 
     def __init__(
         self,
+        kernel: KernelMemory,
         with_small: bool = False,
         threads: int = 0,
         progress: Progress | None = None,
-        direct: DirectMap | None = None,
         memory: int = MEMORY,
     ) -> None:
         threads = threads or min(4, os.cpu_count() or 1)
@@ -76,8 +74,8 @@ class Reader:
         if os.path.exists("/proc/kpagecgroup"):  # else a kernel without memory control groups: all pages are in one node
             self._files.append(NumberFile("/proc/kpagecgroup"))
         self._most = self._memory // (PIECE_COST + FOLIO_COST)
-        self._workers = Workers(self._files[0].descriptor, threads, self._most, with_small)
-        self.contents = Contents(direct, threads, self.answers, self._progress)
+        self._workers = Workers(self._files[0].descriptor, kernel.tables(), threads, self._most, with_small)
+        self.contents = Contents(kernel, threads, self._progress)
         self.spaces: dict[int, Space] = {}  # by process
         self.walked: dict[int, bytes] = {}  # the pieces of each process that has any
         self._locked: dict[int, Spans] = {}  # by process
@@ -90,7 +88,6 @@ class Reader:
         self.denied: set[int] = set()  # processes that may not be read
         self.others = 0  # anonymous pages that aren't huge, base pages
         self.by_pmd = 0  # PMD mappings
-        self.kernel = 0  # the same by the kernel's own count, in bytes
         self.spent: dict[str, float] = defaultdict(float)  # seconds by step
 
     def close(self) -> None:
@@ -106,7 +103,7 @@ class Reader:
         nothing."""
         todo = deque(request._replace(thread=self.spaces[request.process].thread.number) for request in todo)
         for request, answer in self._workers.ask(todo):
-            error = error_of(request, answer)
+            error = error_of(answer)
             if not error:
                 yield request, answer or Answer(0)
                 continue
@@ -154,7 +151,6 @@ class Reader:
         self._used += len(pieces) // PIECE.size * PIECE_COST + len(answer.locked)
         self._workers.most = max(0, left - len(pieces) // PIECE.size)
         self.others += answer.others
-        self.kernel += answer.huge
         beyond = f"parts of huge pages beyond the limit of memory (--memory {self._memory >> 20})"
         self.is_limited |= lost > 0
         for counter, why, count in (
@@ -219,13 +215,11 @@ class Reader:
         self.left_out[why] += 1
 
 
-def error_of(request: Request, answer: Answer | None) -> Exception | None:
-    """Returns why a process can't be read. Unavailable where none can be walked."""
+def error_of(answer: Answer | None) -> Exception | None:
+    """Returns why a process can't be read."""
     if answer is None:
         return Unreadable("it can't be read in time")
     if answer.spans > MOST_SPANS:
         return Unreadable(f"it has more than {MOST_SPANS} locked areas")
-    number = -min(answer.found, answer.spans, answer.huge)
-    if request.what == WALK and number in (errno.ENOTTY, errno.EINVAL):
-        raise Unavailable("this kernel has no PAGEMAP_SCAN (before Linux 6.7)")
+    number = -min(answer.found, answer.spans)
     return OSError(number, os.strerror(number)) if number > 0 else None

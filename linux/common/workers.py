@@ -1,4 +1,4 @@
-"""Worker processes for what may wait for another process's mmap_lock: a user can hold that of his own processes for ever.
+"""Worker processes that read others, since that may wait for another process's mmap_lock: a user can hold his own for ever.
 
 A worker is a fork of the tool that runs pages.c alone. One that doesn't answer in time is killed and replaced. Readings that
 wait do so side by side, and a user whose processes make the tool wait is waited for ever more shortly.
@@ -20,23 +20,25 @@ from typing import Deque, Iterator, NamedTuple
 
 from .files import read_bytes
 from .helpers import helper
+from .kernel_library import TABLES
+from .kernel_memory import Tables
 from .proc import ROOT
 
 SECONDS = 2.0  # that a worker may wait
 WORKED, PATIENCE = 0.01, 5  # part of that time in which it ran, if it doesn't wait, and how often it then may go on
 LEAST = 0.1  # seconds, for a user who made the tool wait often
 SLOW = 0.1  # seconds after which a reading counts as waiting: another worker then goes on beside it
-MOST_WORKERS = 32
+MOST_WORKERS = TABLES
 MOST_SPANS = 1 << 18  # locked areas of a process
 MAP_NORESERVE = 0x4000
 LEAST_ROOM = 1 << 24  # bytes for pieces and what else is read
 KNOWN = 8 << 18  # bytes that pages.c has for blocks of frames
-WALK, READ, COMPARE = range(3)  # what a request asks for
+WALK, COMPARE = range(2)  # what a request asks for
 
 PIECE = struct.Struct("<QQQIIII64s")  # struct piece of pages.c
 CONTENT = struct.Struct("<QQ64s64s")  # struct content
-REQUEST, REPLY = struct.Struct("<iiiiqq"), struct.Struct("<7q")
-UNITS = {WALK: PIECE.size, READ: CONTENT.size, COMPARE: 4}  # bytes of what an answer has `found` of
+REQUEST, REPLY = struct.Struct("<iiiiqq"), struct.Struct("<6q")
+UNITS = {WALK: PIECE.size, COMPARE: 4}  # bytes of what an answer has `found` of
 
 
 @lru_cache(maxsize=None)
@@ -47,7 +49,6 @@ def load_library() -> ctypes.CDLL:
     library.start_worker.argtypes = [pointer, number, pointer]
     library.find_locked.argtypes = [number, pointer, long]
     library.find_locked.restype = long
-    library.find_zeros.argtypes = [number, ctypes.c_uint64, long, pointer, pointer]
     library.scan_frames.argtypes = [number, pointer, long, number]
     return library
 
@@ -81,7 +82,6 @@ class Answer(NamedTuple):
     others: int = 0
     changed: int = 0
     spans: int = 0  # or an error's number below 0
-    huge: int = 0  # or an error's number below 0
     data: bytes = b""
     locked: bytes = b""
 
@@ -89,17 +89,17 @@ class Answer(NamedTuple):
 class Worker:
     """One worker process. OSError where none can be started."""
 
-    def __init__(self, flags: int, known: Room, most: int) -> None:
+    def __init__(self, flags: int, known: Room, most: int, tables: Tables, place: int) -> None:
         self._most, self._size = most, max(most * PIECE.size, LEAST_ROOM)
         self._room = Room(self._size + 16 * MOST_SPANS)
         at = self._room.address
-        words = struct.pack("<QQQqq", at, at + self._size, known.address, most, MOST_SPANS)
+        words = struct.pack("<QQQqqiiQQqq", at, at + self._size, known.address, most, MOST_SPANS, *tables, place)
         ends = (ctypes.c_int * 3)()
         error = load_library().start_worker(words, flags, ends)
         if error:
             raise OSError(-error, os.strerror(-error))
         self.socket, self._handle, self._number = ends
-        self.request = Request(0, WALK)
+        self.request, self.place = Request(0, WALK), place
         self.wake = self.until = self.last = 0.0  # from when on it counts as waiting, when it is killed if it does, when in any case
         self.limit = 0.0  # seconds
         self._ran: float | None = None  # seconds, when it began to count as waiting
@@ -164,8 +164,8 @@ class Worker:
 class Workers:
     """Worker processes: `count` that read, and more beside those that wait. `most`: pieces of a process."""
 
-    def __init__(self, flags: int, count: int, most: int, with_small: bool = False) -> None:
-        self._flags, self._count, self._with_small = flags, count, with_small
+    def __init__(self, flags: int, tables: Tables, count: int, most: int, with_small: bool = False) -> None:
+        self._flags, self._tables, self._count, self._with_small = flags, tables, count, with_small
         self._known, self._poll = Room(KNOWN), select.poll()
         self._idle: list[Worker] = []
         self._busy: dict[int, Worker] = {}  # by socket
@@ -206,8 +206,9 @@ class Workers:
             are_reading = sum(each.wake > now and not each.is_suspect for each in self._busy.values())
             if are_reading >= self._count or len(self._busy) >= self._limit:
                 return False
+            place = next(iter(set(range(TABLES)) - {each.place for each in self._busy.values()}))
             try:
-                self._idle.append(Worker(self._flags, self._known, self._room))
+                self._idle.append(Worker(self._flags, self._known, self._room, self._tables, place))
             except OSError:
                 if not self._busy:
                     raise

@@ -59,12 +59,7 @@ static __always_inline int send_enter(long number, struct pt_regs *regs, struct 
 	return send(ENTER, task, number, regs->di, regs->si, regs->dx, task->mm->brk);
 }
 
-/*
- * sys_enter: the begin of a call that may change mappings (ENTER). Forgets the task's last fault, to which a call's allocations
- * don't belong. tp_btf: reads registers and the task.
- */
-SEC("tp_btf/sys_enter")
-int BPF_PROG(on_enter, struct pt_regs *regs, long number)
+static __always_inline int begin_call(struct pt_regs *regs, long number)
 {
 	struct task_struct *task;
 	struct thp_space *space;
@@ -89,6 +84,23 @@ int BPF_PROG(on_enter, struct pt_regs *regs, long number)
 			space->all = 1;	/* where the mapping goes isn't known yet */
 	}
 	return send_enter(number, regs, task);
+}
+
+/*
+ * sys_enter: the begin of a call that may change mappings (ENTER). Forgets the task's last fault, to which a call's allocations
+ * don't belong. tp_btf: reads registers and the task.
+ */
+SEC("tp_btf/sys_enter")
+int BPF_PROG(on_enter, struct pt_regs *regs, long number)
+{
+	begin_call(regs, number);
+	return end_first(AT_ENTER);
+}
+
+SEC("tp_btf/sys_enter")
+int BPF_PROG(on_enter_again, struct pt_regs *regs, long number)
+{
+	return was_left_out(AT_ENTER) ? begin_call(regs, number) : 0;
 }
 
 /* The folio that is known at an address, and in `home` its place; 0: none. */
@@ -154,12 +166,7 @@ static __always_inline void add_counts(struct thp_record *record, long result)
 	bpf_map_update_elem(&homes, &home, &found, BPF_ANY);
 }
 
-/*
- * sys_exit: the end of such a call, with map counts and the queue (EXIT). A call that reached no page at its begin may reach one
- * at its end: then both are sent. tp_btf: reads registers and the task.
- */
-SEC("tp_btf/sys_exit")
-int BPF_PROG(on_exit, struct pt_regs *regs, long result)
+static __always_inline int end_call(struct pt_regs *regs, long result)
 {
 	long number = regs->orig_ax;
 	struct thp_record *record;
@@ -192,6 +199,23 @@ int BPF_PROG(on_exit, struct pt_regs *regs, long result)
 	return send_with_queue(record);
 }
 
+/*
+ * sys_exit: the end of such a call, with map counts and the queue (EXIT). A call that reached no page at its begin may reach one
+ * at its end: then both are sent. tp_btf: reads registers and the task.
+ */
+SEC("tp_btf/sys_exit")
+int BPF_PROG(on_exit, struct pt_regs *regs, long result)
+{
+	end_call(regs, result);
+	return end_first(AT_EXIT);
+}
+
+SEC("tp_btf/sys_exit")
+int BPF_PROG(on_exit_again, struct pt_regs *regs, long result)
+{
+	return was_left_out(AT_EXIT) ? end_call(regs, result) : 0;
+}
+
 /* faults, allocations, frees */
 
 /* Keeps the fault; sends it only where the task has allocated something that matters in an earlier one. */
@@ -217,14 +241,28 @@ static __always_inline int on_fault(unsigned long address, unsigned long code)
 SEC("tp_btf/page_fault_user")
 int BPF_PROG(on_user_fault, unsigned long address, struct pt_regs *regs, unsigned long code)
 {
-	return on_fault(address, code);
+	on_fault(address, code);
+	return end_first(AT_USER_FAULT);
+}
+
+SEC("tp_btf/page_fault_user")
+int BPF_PROG(on_user_fault_again, unsigned long address, struct pt_regs *regs, unsigned long code)
+{
+	return was_left_out(AT_USER_FAULT) ? on_fault(address, code) : 0;
 }
 
 /* page_fault_kernel: the same for a fault in a call, as of copy_from_user. */
 SEC("tp_btf/page_fault_kernel")
 int BPF_PROG(on_kernel_fault, unsigned long address, struct pt_regs *regs, unsigned long code)
 {
-	return on_fault(address, code);
+	on_fault(address, code);
+	return end_first(AT_KERNEL_FAULT);
+}
+
+SEC("tp_btf/page_fault_kernel")
+int BPF_PROG(on_kernel_fault_again, unsigned long address, struct pt_regs *regs, unsigned long code)
+{
+	return was_left_out(AT_KERNEL_FAULT) ? on_fault(address, code) : 0;
 }
 
 /* The first struct page of the block of 2 MiB that a page is in. */
@@ -276,17 +314,11 @@ static __always_inline int on_base_page(__u64 page, __u32 flags)
 	return send(COPY, task, page, IN_FAULT, state->address, state->code, 0);
 }
 
-/*
- * mm_page_alloc: huge pages of the group's tasks, and of kernel threads, which may be khugepaged's (ALLOC); base pages that can
- * be copies (COPY). Huge pages have __GFP_NOMEMALLOC, and all except the huge zero page are movable. raw_tp: it computes with
- * the address of the page.
- */
-SEC("raw_tp/mm_page_alloc")
-int BPF_PROG(on_alloc, struct page *page, unsigned int order, __u32 flags)
+static __always_inline int note_alloc(__u64 folio, unsigned int order, __u32 flags)
 {
-	__u64 folio = (__u64)page, mm;
 	struct task_struct *task;
 	struct thp_task *state;
+	__u64 mm;
 
 	if (!folio || order == 1)
 		return 0;
@@ -316,6 +348,24 @@ int BPF_PROG(on_alloc, struct page *page, unsigned int order, __u32 flags)
 }
 
 /*
+ * mm_page_alloc: huge pages of the group's tasks, and of kernel threads, which may be khugepaged's (ALLOC); base pages that can
+ * be copies (COPY). Huge pages have __GFP_NOMEMALLOC, and all except the huge zero page are movable. raw_tp: it computes with
+ * the address of the page.
+ */
+SEC("raw_tp/mm_page_alloc")
+int BPF_PROG(on_alloc, struct page *page, unsigned int order, __u32 flags)
+{
+	note_alloc((__u64)page, order, flags);
+	return end_first(AT_ALLOC);
+}
+
+SEC("raw_tp/mm_page_alloc")
+int BPF_PROG(on_alloc_again, struct page *page, unsigned int order, __u32 flags)
+{
+	return was_left_out(AT_ALLOC) ? note_alloc((__u64)page, order, flags) : 0;
+}
+
+/*
  * Sends the free of a page in a block where a huge page of ours was made. A frame that is freed again was another's meanwhile, and
  * so is a block once it was freed whole. For the same free a second call sends nothing.
  */
@@ -342,29 +392,15 @@ static __always_inline int send_free(__u64 page, unsigned int order)
 SEC("raw_tp/mm_page_free")
 int BPF_PROG(on_free, struct page *page, unsigned int order)
 {
-	struct thp_frees *frees = bpf_map_lookup_elem(&free_runs, &(__u32){ 0 });
-
-	if (frees)
-		frees->first++;
-	return send_free((__u64)page, order);
+	send_free((__u64)page, order);
+	return end_first(AT_FREE);
 }
 
-/*
- * mm_page_free, a second time: the kernel leaves on_free out in an interrupt that interrupts it, as at the end of a transfer from
- * or to a device, and then this program runs instead. Counts how often: only a free that both are left out of is missed.
- */
+/* Interrupts free pages often, as at the end of a transfer from or to a device: this one doesn't rely on which run was left out. */
 SEC("raw_tp/mm_page_free")
-int BPF_PROG(on_free_in_interrupt, struct page *page, unsigned int order)
+int BPF_PROG(on_free_again, struct page *page, unsigned int order)
 {
-	struct thp_frees *frees = bpf_map_lookup_elem(&free_runs, &(__u32){ 0 });
-	__u64 first;
-
-	if (frees) {
-		first = frees->first;
-		if (first == frees->last)
-			__sync_fetch_and_add(&caught, 1);
-		frees->last = first;
-	}
+	was_left_out(AT_FREE);
 	return send_free((__u64)page, order);
 }
 

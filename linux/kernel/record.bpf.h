@@ -8,7 +8,7 @@ const volatile __u32 nomemalloc, movable;	/* ___GFP_*: of an enumeration without
 const volatile bool has_collapse_order;		/* an argument of a tracepoint, since Linux 7 */
 
 struct thp_counters counters;			/* except `missed` */
-__u64 caught;					/* runs of on_free that were left out, and on_free_in_interrupt ran instead */
+__u64 caught;					/* runs that were left out of a first program, and a second one ran */
 
 enum { SPACES = 8192, HOMES = 65536, TRACKED = 65536, BLOCKS = 4096, RANGE = 32, INNER_LEVELS = 8, TRIES = 3, LARGE = 512 };
 
@@ -27,7 +27,6 @@ struct thp_space {
 
 struct thp_home { __u64 space, block; };
 struct thp_seen { __u64 bits[LARGE / 64]; };
-struct thp_frees { __u64 first, last; };	/* runs of on_free; of these, what on_free_in_interrupt has seen */
 
 struct {
 	__uint(type, BPF_MAP_TYPE_RINGBUF);
@@ -64,13 +63,6 @@ struct {
 	__type(value, struct thp_seen);
 } tracked SEC(".maps");
 
-struct {
-	__uint(type, BPF_MAP_TYPE_PERCPU_ARRAY);
-	__uint(max_entries, 1);
-	__type(key, __u32);
-	__type(value, struct thp_frees);
-} free_runs SEC(".maps");
-
 /* records with a queue, one of each kind, since an interrupt may send another */
 struct {
 	__uint(type, BPF_MAP_TYPE_PERCPU_ARRAY);
@@ -80,6 +72,48 @@ struct {
 } scratch SEC(".maps");
 
 static const struct thp_space blank;
+
+/*
+ * Pairs of programs. The kernel leaves a program out where it would run within itself on a processor: in an interrupt, and where programs
+ * can be preempted (Linux 7), in another task. So tracepoints that matter have a second program, which does the same if the first one
+ * was left out. A run that both are left out of is missed, and counted.
+ */
+enum pair { AT_ENTER, AT_EXIT, AT_USER_FAULT, AT_KERNEL_FAULT, AT_ALLOC, AT_FREE, PAIRS };
+struct thp_pair { __u64 done, seen; };	/* runs of the first program, and how many of them the second one has seen */
+
+struct {
+	__uint(type, BPF_MAP_TYPE_PERCPU_ARRAY);
+	__uint(max_entries, PAIRS);
+	__type(key, __u32);
+	__type(value, struct thp_pair);
+} pairs SEC(".maps");
+
+/* The end of a first program. */
+static __always_inline int end_first(__u32 which)
+{
+	struct thp_pair *pair = bpf_map_lookup_elem(&pairs, &which);
+
+	if (pair)
+		pair->done++;
+	return 0;
+}
+
+/* Whether the first program was left out, for the second one. */
+static __always_inline bool was_left_out(__u32 which)
+{
+	struct thp_pair *pair = bpf_map_lookup_elem(&pairs, &which);
+	__u64 done;
+	bool left_out;
+
+	if (!pair)
+		return false;
+	done = pair->done;
+	left_out = done == pair->seen;
+	pair->seen = done;
+	if (left_out)
+		__sync_fetch_and_add(&caught, 1);
+	return left_out;
+}
 
 /* tasks and address spaces */
 

@@ -152,19 +152,16 @@ static uint64_t count_misses(const struct bpf_program *program)
 	return info.recursion_misses;
 }
 
-/*
- * Runs that the kernel left out, since the same program ran on the processor, count as missed with two exceptions. Those of on_alloc
- * are allocations in interrupts or for the programs' own maps, of no huge page and no copy. Those of on_free are caught by the
- * second program of frees, except where that was left out, too.
- */
+/* Of programs in pairs a run is missed if both were left out. */
 void thp_record_counters(const struct recorder *recorder, struct thp_counters *counters)
 {
 	const struct record_bpf *programs = recorder->programs;
+	uint64_t missed = 0, caught = programs->bss->caught;
 	struct bpf_program *program;
 
 	*counters = programs->bss->counters;
 	bpf_object__for_each_program(program, programs->obj)
-		if (program != programs->progs.on_alloc && program != programs->progs.on_free_in_interrupt)
-			counters->missed += count_misses(program);
-	counters->missed -= programs->bss->caught < counters->missed ? programs->bss->caught : counters->missed;
+		if (!strstr(bpf_program__name(program), "_again"))
+			missed += count_misses(program);
+	counters->missed = caught < missed ? missed - caught : 0;
 }

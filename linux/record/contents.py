@@ -6,8 +6,6 @@ import os
 import time
 from typing import Iterator, Sequence
 
-from ..common.direct_map import DirectMap
-from ..common.errors import Unavailable
 from ..common.files import PMD_ORDER, read_bytes
 from ..common.kernel_memory import KernelMemory
 from ..common.reader import Reader
@@ -23,11 +21,6 @@ class ContentLooks:
     def __init__(self, memory: KernelMemory, paths: Sequence[str], orders: Sequence[int], every: float) -> None:
         self._paths, self._orders, self._every = list(paths), set(orders), every
         self._memory = memory
-        self._direct: DirectMap | None = None
-        try:
-            self._direct = DirectMap(memory)
-        except Unavailable:
-            pass  # contents are read through the processes
         self._due = time.monotonic() + every
 
     def is_due(self) -> bool:
@@ -42,7 +35,7 @@ class ContentLooks:
 
     def _look_at(self, path: str) -> Iterator[Record]:
         began = time.monotonic_ns()
-        reader = Reader(min(self._orders) < PMD_ORDER, 1, direct=self._direct, memory=MOST_MEMORY)
+        reader = Reader(self._memory, min(self._orders) < PMD_ORDER, 1, memory=MOST_MEMORY)
         try:
             reader.read_processes(processes_of(path))
             reader.read_groups(reader.folios.values())

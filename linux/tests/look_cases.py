@@ -12,15 +12,12 @@ import time
 from contextlib import ExitStack, contextmanager
 from typing import Callable, Iterator
 
-from ..common.direct_map import DirectMap
-from ..common.errors import DONE, FAILED, INCONCLUSIVE, SKIPPED, Unavailable
+from ..common.errors import DONE, FAILED, INCONCLUSIVE, SKIPPED
 from ..common.files import BASE
 from ..common.groups import find_hierarchy
-from ..common.kernel_memory import KernelMemory
 from ..whatif.look import LookOptions, SnapshotTaker, names_of_groups
 from ..whatif.processes import ProcessChoice
 from ..whatif.snapshot import Snapshot
-from .cases import Missing
 from .whatif_calls import SECONDS, USER, Call, Pages
 
 HOLDERS = 70  # processes that hold their mmap_lock: more than may wait side by side
@@ -105,18 +102,20 @@ def step(here: int, name: str) -> int:
 
 
 def check_hang(pages: Pages) -> str | None:
-    """Processes of a user that hold their mmap_lock don't hold up a look: they are named as unread, and all others are seen."""
+    """Processes of a user that hold their mmap_lock don't hold up a look: those whose locked areas can't be read are named as unread,
+    and the pages of all others are seen."""
     with pages.hold_locks(HOLDERS) as holder, pages.run("plain", 16, SECONDS) as other:
         began = time.monotonic()
         seen = look(everything=True)
         lasted = time.monotonic() - began
-        held = next(int(why.split()[1]) for why in seen.unread if "(fuse_holder)" in why)
-        call = Call(["now", "--pid", str(held), "--pid", str(other)])
+        named = [int(why.split()[1]) for why in seen.unread if "(fuse_holder): it can't be read in time" in why]
+        call = Call(["now", "--pid", str(named[0]), "--pid", str(other)]) if named else None
         dead = look(holder)
-    named = [why for why in seen.unread if "(fuse_holder): it can't be read in time" in why]
-    print(f"   the look took {lasted:.1f} s; {len(named)} processes aren't read")
-    if len(named) < HOLDERS or not any(mapping.process == other for folio in seen.folios for mapping in folio.mappings):
-        return f"{len(named)} of {HOLDERS} are named, {len(seen.folios)} pages are seen"
+    owners = {mapping.process for folio in seen.folios for mapping in folio.mappings}
+    free = [number for number in owners if seen.processes[number] == "fuse_holder"]
+    print(f"   the look took {lasted:.1f} s; {len(named)} processes aren't read, {len(free)} are")
+    if not call or len(named) != HOLDERS // 2 or len(free) < HOLDERS // 4 or other not in owners:
+        return f"{len(named)} of {HOLDERS // 2} are named, {len(free)} are seen, {len(seen.folios)} pages"
     if lasted > SECONDS / 2 or dead.unread:
         return f"the look took {lasted:.1f} s; {dead.unread}"
     return call.wrong(INCONCLUSIVE)
@@ -144,15 +143,9 @@ def check_shared(pages: Pages) -> str | None:
 
 
 def check_part(pages: Pages) -> str | None:
-    """Content that only a process outside the look maps is read by the kernel's map of memory; else it is named as unread."""
+    """Content that only a process outside the look maps is read, too."""
     with pages.run("part", 16, SECONDS) as number:
-        seen, plain = look(number), look(number, with_kernel=False)
-    if not any("couldn't be read" in why and count >= 8 for why, count in plain.unread.items()):
-        return f"without the kernel's map nothing is named as unread: {plain.unread}"
-    try:
-        DirectMap(KernelMemory())
-    except (Unavailable, OSError) as lacking:
-        raise Missing(str(lacking)) from lacking
+        seen = look(number)
     zeros = {bin(folio.zeros).count("1") for folio in seen.folios}
     return None if zeros == {384} and len(seen.folios) >= 8 else f"{len(seen.folios)} pages with {zeros} zero-filled subpages"
 

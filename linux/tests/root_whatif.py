@@ -14,6 +14,7 @@ from __future__ import annotations
 
 import argparse
 import ctypes
+import itertools
 import json
 import mmap
 import os
@@ -30,7 +31,6 @@ ROOT = Path(__file__).resolve().parent.parent.parent
 sys.path.insert(0, str(ROOT))
 sys.dont_write_bytecode = True
 
-from linux.common.direct_map import DirectMap  # noqa: E402
 from linux.common.errors import DONE, INCONCLUSIVE, SKIPPED, Unavailable  # noqa: E402
 from linux.common.files import BASE, PMD_ORDER  # noqa: E402
 from linux.common.folios import full_set  # noqa: E402
@@ -157,19 +157,18 @@ def check_freed(pages: Pages) -> str | None:
 
 
 def check_capabilities(pages: Pages) -> str | None:
-    """Names each capability that is missing."""
+    """Three capabilities are enough for a look; each of them that is missing is named."""
     if not shutil.which("setpriv"):
         raise Missing("no setpriv")
+    names = ["bpf", "perfmon", "sys_ptrace"]
     with pages.run("plain", 4, SECONDS) as own, pages.run("plain", 4, SECONDS, user=USER) as other:
-        for name, process in (("sys_admin", own), ("sys_ptrace", own), ("sys_ptrace", other)):
-            before = ["setpriv", f"--bounding-set=-{name}", f"--inh-caps=-{name}"]
-            look = Call(["now", "--pid", str(process), "--json"], before)
-            if look.status == DONE and name == "sys_ptrace" and look.json()["rows"][0]["pages"] >= 2:
-                continue  # CAP_PERFMON is enough since Linux 6.12 where content is read by the kernel's map of memory
-            if not look.wrong(SKIPPED) and name == "sys_admin" and "the machine's lock" in look.problems:
-                continue  # which is needed where a tool was killed and left anything
-            if look.wrong(SKIPPED) or f"CAP_{name.upper()} is missing" not in look.problems:
-                return f"without CAP_{name.upper()}: " + (look.wrong(SKIPPED) or look.problems)
+        for missing, process in itertools.product(["", *names], (own, other)):
+            kept = ",".join(["-all", *(f"+{name}" for name in names if name != missing)])
+            call = Call(["now", "--pid", str(process), "--json"], ["setpriv", f"--bounding-set={kept}", "--inh-caps=-all"])
+            if call.status == DONE and missing in ("", "sys_ptrace") and call.json()["rows"][0]["pages"] >= 2:
+                continue  # CAP_PERFMON is enough to read page tables since Linux 6.13
+            if not missing or call.wrong(SKIPPED) or f"CAP_{missing.upper()}" not in call.problems:
+                return f"without CAP_{missing.upper()}: {call.status} {call.problems}"
     return None
 
 
@@ -219,7 +218,7 @@ def check_noise(pages: Pages) -> str | None:
 def check_content(pages: Pages) -> str | None:
     """Finds the zero-filled subpages of a huge page of our own by the kernel's map of memory, in two threads."""
     try:
-        direct = DirectMap(KernelMemory())
+        kernel = KernelMemory()
     except Unavailable as lacking:
         raise Missing(str(lacking)) from lacking
     size = 1 << PMD_ORDER
@@ -234,8 +233,8 @@ def check_content(pages: Pages) -> str | None:
     head = frames[0]
     if head is None or frames != list(range(head, head + size)):
         raise Missing("the kernel gave no huge page: memory is in pieces")
-    raw = bytearray().join(CONTENT.pack(at, size, b"", b"") for at in (direct.address_of(head), 0))
-    load_library().scan_frames(direct.program, ctypes.addressof(ctypes.c_char.from_buffer(raw)), 2, 2)
+    raw = bytearray().join(CONTENT.pack(at, size, b"", b"") for at in (kernel.content_of(head), 0))
+    load_library().scan_frames(kernel.program("find_zeros"), ctypes.addressof(ctypes.c_char.from_buffer(raw)), 2, 2)
     (_, _, read, zero), (_, _, nothing, _) = CONTENT.iter_unpack(raw)
     wanted = full_set(PMD_ORDER) & ~sum(1 << 33 * number for number in range(len(places)))
     if read != b"\xff" * 64 or int.from_bytes(zero, "little") != wanted:
@@ -253,7 +252,7 @@ def check_memory(pages: Pages, gibibytes: int) -> str | None:
         look = Call(["now", "--all", "--by-process", "--json"])
     if look.wrong(*ALL):
         return look.wrong(*ALL)
-    seen, counted = look.json()["rows"][0]["pages"], look.json()["sums"]["kernel"] >> 21
+    seen, counted = look.json()["rows"][0]["pages"], look.json()["sums"]["machine"] >> 21
     print(f"   {gibibytes} GiB: {seen} huge pages, {look.seconds:.1f} s, {look.peak:.0f} MiB")
     if seen < counted * 0.95:
         return f"{seen} huge pages are seen, {counted} are mapped by the kernel's own count"

@@ -19,42 +19,23 @@ from unittest import mock
 
 from ..common import proc, spaces
 from ..common.contents import begin
+from ..common.errors import Unavailable
 from ..common.files import BASE
 from ..common.folios import Folio
+from ..common.kernel_memory import KernelMemory
 from ..common.reader import Reader, Spans
 from ..common.second_look import SecondLook
-from ..common.workers import WALK, Answer, Request, Workers, load_library
+from ..common.workers import WALK, Answer, Request, Workers
 
 HUGE = 1 << 21
 
 
-class Zeros(unittest.TestCase):
-    def setUp(self) -> None:
-        self.memory = mmap.mmap(-1, 80 * BASE, flags=mmap.MAP_PRIVATE | mmap.MAP_ANONYMOUS)
-        self.at = ctypes.addressof(ctypes.c_char.from_buffer(self.memory))
-
-    def found(self, count: int, skipped: int = 0) -> tuple[int, int]:
-        """The zero-filled subpages, and those that couldn't be read."""
-        wanted = (1 << count) - 1 & ~skipped
-        read, zero = ctypes.create_string_buffer(wanted.to_bytes(64, "little"), 64), ctypes.create_string_buffer(64)
-        file = os.open("/proc/self/mem", os.O_RDONLY)
-        try:
-            load_library().find_zeros(file, self.at, count, read, zero)
-        finally:
-            os.close(file)
-        return int.from_bytes(zero.raw, "little"), wanted & ~int.from_bytes(read.raw, "little")
-
-    def test_data_at_each_end_of_a_subpage(self) -> None:
-        for number, place in ((1, 0), (3, BASE - 1), (70, 2048)):
-            self.memory[number * BASE + place] = 1
-        self.assertEqual(self.found(80), ((1 << 80) - 1 & ~(1 << 1 | 1 << 3 | 1 << 70), 0))
-
-    def test_what_is_skipped_is_not_zero(self) -> None:
-        self.assertEqual(self.found(10, 0b1100000110), (0b0011111001, 0))
-
-    def test_what_is_not_mapped_is_not_known(self) -> None:
-        self.at = 0
-        self.assertEqual(self.found(3), (0, 7))
+def kernel() -> KernelMemory:
+    """What reads kernel memory; a test that needs it is skipped where that isn't possible."""
+    try:
+        return KernelMemory()
+    except Unavailable as lacking:
+        raise unittest.SkipTest(str(lacking)) from lacking
 
 
 @unittest.skipUnless(os.geteuid() == 0, "not root")
@@ -67,7 +48,7 @@ class Changes(unittest.TestCase):
         self.memory.madvise(10)  # MADV_DONTFORK: workers map none of it
         for number in range(4):
             self.memory[self.first + number * HUGE] = 1
-        self.reader = Reader(threads=1)
+        self.reader = Reader(kernel(), threads=1)
         self.addCleanup(self.reader.close)
         self.reader.read_processes([os.getpid()])
         self.reader.read_groups(self.reader.folios.values())
@@ -112,7 +93,7 @@ class Waiting(unittest.TestCase):
     def setUp(self) -> None:
         flags = os.open("/proc/kpageflags", os.O_RDONLY | os.O_CLOEXEC)
         self.addCleanup(os.close, flags)
-        self.workers = Workers(flags, 2, 1000)
+        self.workers = Workers(flags, kernel().tables(), 2, 1000)
         self.addCleanup(self.workers.close)
 
     def answered(self, count: int) -> Counter[bool]:
@@ -150,7 +131,8 @@ class Waiting(unittest.TestCase):
                     self.assertEqual(worker.has_worked(begun - 2 + now), may_go_on, now)
 
     def test_workers_end_with_the_tool(self) -> None:
-        code = "import os,time; from linux.common.reader import Reader; r=Reader(threads=2); r.read_processes([os.getpid()]);" \
+        code = "import os,time; from linux.common.kernel_memory import KernelMemory; from linux.common.reader import Reader;" \
+               "r=Reader(KernelMemory(), threads=2); r.read_processes([os.getpid()]);" \
                "print(*open(f'/proc/self/task/{os.getpid()}/children').read().split(), flush=True); time.sleep(60)"
         tool = subprocess.Popen([sys.executable, "-c", code], stdout=subprocess.PIPE, text=True)
         assert tool.stdout

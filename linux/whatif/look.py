@@ -10,14 +10,13 @@ from functools import partial
 from typing import Any
 
 from ..common.contents import Progress
-from ..common.direct_map import DirectMap
 from ..common.errors import Unavailable
 from ..common.files import BASE, PMD_ORDER, PTES_NONE, SWITCH, read
 from ..common.folios import Folio
 from ..common.groups import find_hierarchy
 from ..common.kernel_memory import KernelMemory
-from ..common.machine import demand_frame_numbers, namespace_note
-from ..common.proc import group_names, is_own, machine_huge, name_of
+from ..common.machine import namespace_note
+from ..common.proc import group_names, machine_huge, name_of
 from ..common.reader import FREED, HIDDEN, MEMORY, Reader
 from ..common.second_look import Changes, SecondLook
 from ..common.text import escape
@@ -50,31 +49,26 @@ class SnapshotTaker:
     def __init__(self, how: LookOptions, progress: Progress | None = None) -> None:
         self.how = how
         self._progress = progress or (lambda what, done, of: None)
+        self._kernel = KernelMemory()
         self._queues: Queues | None = None
         self.lacking = "not asked for"
-        self._direct: DirectMap | None = None
-        demand_frame_numbers()
         if how.with_kernel:
             try:
-                memory = KernelMemory()
-                self._queues, self.lacking = Queues(memory), ""
-                self._direct = DirectMap(memory)
-            except (Unavailable, OSError) as error:
-                if is_own(error):
-                    raise
-                self.lacking = "" if self._queues else escape(str(error).partition("\n")[0])
+                self._queues, self.lacking = Queues(self._kernel), ""
+            except Unavailable as error:
+                self.lacking = escape(str(error).partition("\n")[0])
 
     def take(self, choice: ProcessChoice) -> Snapshot:
         """Looks once. What can't be read is counted; a process that ends meanwhile isn't."""
         began = time.monotonic()
         choice.check()
-        reader = Reader(self.how.with_small, self.how.threads, self._progress, self._direct, self.how.memory)
+        reader = Reader(self._kernel, self.how.with_small, self.how.threads, self._progress, self.how.memory)
         try:
             reader.read_processes(choice.find(reader.unread))
             for process in sorted(reader.denied):
                 demand_reading(process)
             page = BASE << PMD_ORDER
-            sums = Sums(by_pmd=reader.by_pmd * page, kernel=reader.kernel)
+            sums = Sums(by_pmd=reader.by_pmd * page)
             changes, places = self._read_pages(reader)
             sums.machine = machine_huge() if choice.everything and not namespace_note() else None
         finally:
@@ -125,7 +119,7 @@ class SnapshotTaker:
         for folio in folios:
             self._place(folio, places)
             folio.mappings.sort()
-            if folio.known != folio.full and is_hidden(folio):
+            if folio.known != folio.full:
                 reader.unread[HIDDEN] += 1
         numbers = sorted({mapping.process for folio in folios for mapping in folio.mappings})
         page = BASE << PMD_ORDER
@@ -148,11 +142,6 @@ class SnapshotTaker:
             spent=dict(reader.spent),
             **read_settings(),
         )
-
-
-def is_hidden(folio: Folio) -> bool:
-    """Returns whether a subpage is mapped whose content isn't known."""
-    return any(total and not folio.known >> place & 1 for place, total in enumerate(folio.totals))
 
 
 def names_of_groups(wanted: set[int]) -> dict[int, str]:

@@ -1,7 +1,8 @@
 /* Processes that hold their own mmap_lock until they are killed, as any user with a FUSE device can: an mmap of a file waits,
  * with that lock, for a page that the file's daemon never delivers. For linux/tests/root_whatif.py.
  *
- *   fuse_holder DEVICE FOLDER COUNT    DEVICE: as /dev/fuse, open to all; prints `ready` once COUNT processes wait
+ *   fuse_holder DEVICE FOLDER COUNT    DEVICE: as /dev/fuse, open to all; prints `ready` once COUNT processes wait. Each has a huge
+ *                                      page; the first half of them has locked it, so that its locked areas have to be read
  */
 #define _GNU_SOURCE
 #include <errno.h>
@@ -19,7 +20,7 @@
 #include <sys/stat.h>
 #include <unistd.h>
 
-enum { BASE = 4096, MOST = 256, TENTH = 100000, PATIENCE = 300 };
+enum { BASE = 4096, HUGE = 1 << 21, MOST = 256, TENTH = 100000, PATIENCE = 300 };
 
 static void fail(const char *what) {
     perror(what);
@@ -116,6 +117,10 @@ int main(int count, char **words) {
     for (int i = 0; i < many; i++)
         if (!(holders[i] = start())) {
             int file = open(path, O_RDONLY);
+            char *room = mmap(NULL, 2 * HUGE, PROT_READ | PROT_WRITE, MAP_PRIVATE | MAP_ANONYMOUS, -1, 0);
+            if (room == MAP_FAILED || madvise(room, 2 * HUGE, MADV_HUGEPAGE)) _exit(1);
+            for (long at = 0; at < 2 * HUGE; at += BASE) room[at] = 1;
+            if (i < many / 2 && mlock(room, BASE)) _exit(1);
             mmap(NULL, BASE, PROT_READ, MAP_PRIVATE, file, 0);
             _exit(0);
         }
