@@ -9,7 +9,7 @@ import time
 from types import FrameType, TracebackType
 from typing import Any, Callable, Sequence
 
-from ..common.errors import RunFailed
+from ..common.errors import RunFailed, signals_wait
 from ..common.files import read, write
 from ..common.keeper import Keeper
 from ..common.text import escape
@@ -61,12 +61,13 @@ class Commands:
             write(f"{group}/cgroup.procs", os.getpid())
             if user:
                 user.enter()
+            signal.pthread_sigmask(signal.SIG_SETMASK, former)
 
+        environment = user.environment() if user else None
+        is_apart = user is not None and not user.is_caller  # no way to root's terminal
         try:
-            child = subprocess.Popen(
-                list(words), preexec_fn=enter, env=user.environment() if user else None, close_fds=True,
-                start_new_session=user is not None and not user.is_caller,  # no way to root's terminal
-            )
+            with signals_wait() as former:
+                child = subprocess.Popen(list(words), preexec_fn=enter, env=environment, start_new_session=is_apart)
         except (OSError, subprocess.SubprocessError, ValueError) as error:
             reason = getattr(error, "strerror", None) or str(error)
             raise RunFailed(f"{escape(words[0])} can't be started: {reason}") from error

@@ -86,15 +86,16 @@ class Pages:
         enter = (lambda: Path(os.fsdecode(group), "cgroup.procs").write_text(str(os.getpid()))) if group else None
         return self.start([f"{self.folder}/hostile_pages", *map(str, words)], user, preexec_fn=enter)
 
-    def hold_locks(self, count: int) -> Any:
-        """Runs fuse_holder.c until the end of a `with`: so many processes of a user hold their mmap_lock."""
+    def hold_locks(self, count: int, user: int = USER) -> Any:
+        """Runs fuse_holder.c until the end of a `with`: so many processes of a user hold their mmap_lock, and reads of the file of its
+        file system don't end."""
         device, mount = f"{self.folder}/fuse", f"{self.folder}/mount"
         if not os.path.exists(device):
             os.mkdir(mount)
-            os.chown(mount, USER, USER)
+            os.chown(mount, user, user)
             os.mknod(device, stat.S_IFCHR | 0o666, os.makedev(10, 229))  # as /dev/fuse is on Debian
             os.chmod(device, 0o666)
-        return self.start([f"{self.folder}/fuse_holder", device, mount, str(count)], USER)
+        return self.start([f"{self.folder}/fuse_holder", device, mount, str(count)], user)
 
     @contextmanager
     def start(self, command: Sequence[str], user: int = 0, **more: Any) -> Iterator[int]:

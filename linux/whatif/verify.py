@@ -17,6 +17,7 @@ import json
 import os
 import random
 import shutil
+import signal
 import subprocess
 import time
 from collections import Counter
@@ -26,7 +27,7 @@ from typing import Dict, Iterator, List, Optional, Sequence, Set, Tuple
 
 from ..common.counters import Counter as Statistic
 from ..common.counters import CounterWatch, counts
-from ..common.errors import DIFFERS, DONE, INCONCLUSIVE, InputFault, RunFailed, Unavailable
+from ..common.errors import DIFFERS, DONE, INCONCLUSIVE, InputFault, RunFailed, Unavailable, signals_wait
 from ..common.files import COLLAPSE_SLEEP, PMD_ORDER, PTES_NONE, SWITCH, THP, OwnFolder, size_folder
 from ..common.folios import Folio
 from ..common.groups import END_TIME, Freeze, Groups
@@ -235,17 +236,14 @@ class Bench:
             self.groups.enter(group, os.getpid())
             if user:
                 user.enter()
+            signal.pthread_sigmask(signal.SIG_SETMASK, former)
 
+        environment = user.environment() if user else None
         try:
-            process = subprocess.Popen(
-                list(command),
-                stdin=stdin,
-                stdout=stdout,
-                text=True,
-                start_new_session=True,
-                env=user.environment() if user else None,
-                preexec_fn=enter,
-            )
+            with signals_wait() as former:
+                process = subprocess.Popen(
+                    list(command), stdin=stdin, stdout=stdout, text=True, start_new_session=True, env=environment, preexec_fn=enter
+                )
         except (OSError, ValueError) as error:
             reason = getattr(error, "strerror", None) or error
             raise InputFault(f"{escape(command[0])} can't be run: {reason}") from error

@@ -11,6 +11,7 @@
 #include <stdio.h>
 #include <stdlib.h>
 #include <sys/ptrace.h>
+#include <sys/wait.h>
 #include <unistd.h>
 
 enum { MOST = 1 << 22, SEEN = 1, DONE = 2 };
@@ -54,5 +55,7 @@ int main(int count, char **words)
                 fclose(file);
         }
         globfree(&found);
+        while (waitpid(-1, NULL, __WALL | WNOHANG) > 0) /* of a traced process that was killed: its parent learns of it then */
+            ;
     }
 }
