@@ -1,11 +1,11 @@
 #!/usr/bin/env python3
 """How long `thpwhatif now --all` takes, and how much memory, by the size of the huge pages that are mapped (root).
 
-    bench/looks.py [--sizes LIST] [--rounds N] [--one] PROGRAM TOOL..
+    bench/looks.py [--sizes LIST] [--rounds N] [--one] TOOL..
 
 For each size, in GiB, a process maps huge pages, each second subpage of which is zero-filled. Each TOOL, a path of thpwhatif, then looks
-with PROGRAM, a thpsplit, in turn. A line has the median and the least time by the clock, the processor time of the tool and of what it ran,
-the resident memory of the largest of these processes, and what the look saw. --one: `now --pid` of that process alone, where others have
+in turn. A line has the median and the least time by the clock, the processor time of the tool and of what it ran, the resident memory of
+the largest of these processes, and what the look saw. --one: `now --pid` of that process alone, where others have
 much memory. Status 77 without root or memory.
 """
 
@@ -28,7 +28,7 @@ from typing import Any, Iterator
 
 BASE, HUGE = 4096, 1 << 21
 MADV_HUGEPAGE = 14
-LACKS = 77
+LACKS, NOT_ALL = 77, 4
 
 
 @dataclass(frozen=True)
@@ -67,18 +67,18 @@ def mapped(gibibytes: float) -> Iterator[int]:
         child.wait()
 
 
-def look(tool: str, program: str, at: list[str]) -> Look:
+def look(tool: str, at: list[str]) -> Look:
     """Looks once at all processes or at one."""
     reader, writer = os.pipe()
     began = time.perf_counter()
     streams = [(os.POSIX_SPAWN_DUP2, writer, 1), (os.POSIX_SPAWN_CLOSE, reader), (os.POSIX_SPAWN_OPEN, 2, os.devnull, os.O_WRONLY, 0)]
-    child = os.posix_spawn(tool, [tool, "now", *at, "--json", "--program", program], os.environ, file_actions=streams)
+    child = os.posix_spawn(tool, [tool, "now", *at, "--json"], os.environ, file_actions=streams)
     os.close(writer)
     with open(reader, "rb") as text:
         out = text.read()
     _, status, used = os.wait4(child, 0)
     seconds = time.perf_counter() - began
-    if status:
+    if os.waitstatus_to_exitcode(status) not in (0, NOT_ALL):
         sys.exit(f"{tool} ended with status {os.waitstatus_to_exitcode(status)}")
     return Look(seconds, used.ru_utime + used.ru_stime, used.ru_maxrss / 1024, json.loads(out))
 
@@ -107,7 +107,7 @@ def main() -> None:
     parser.add_argument("--rounds", type=int, default=5)
     parser.add_argument("--one", action="store_true")
     parser.add_argument("--map", type=int, help=argparse.SUPPRESS)
-    parser.add_argument("programs", nargs="*", metavar="PROGRAM TOOL")
+    parser.add_argument("tools", nargs="*", metavar="TOOL")
     words = parser.parse_args()
     if words.map is not None:
         return map_pages(words.map)
@@ -115,16 +115,15 @@ def main() -> None:
     if os.geteuid() != 0 or available() < max(sizes) + 2:
         print(f"looks: skipped: not root, or less than {max(sizes) + 2:g} GiB of memory", file=sys.stderr)
         sys.exit(LACKS)
-    program, *tools = words.programs
     for size in sizes:
-        looks: dict[str, list[Look]] = {tool: [] for tool in tools}
+        looks: dict[str, list[Look]] = {tool: [] for tool in words.tools}
         with mapped(size) as process:
             time.sleep(1.0)
             at = ["--pid", str(process)] if words.one else ["--all"]
             for _ in range(words.rounds):
-                for tool in tools:
-                    looks[tool].append(look(tool, program, at))
-        for tool in tools:
+                for tool in words.tools:
+                    looks[tool].append(look(tool, at))
+        for tool in words.tools:
             print(f"{size:g} GiB, load {os.getloadavg()[0]:.1f}, {tool}: {describe(looks[tool])}", flush=True)
 
 

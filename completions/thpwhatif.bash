@@ -1,7 +1,7 @@
 # bash completion for thpwhatif
 _thpwhatif() {
     local word=${COMP_WORDS[COMP_CWORD]} before=${COMP_WORDS[COMP_CWORD - 1]} command=${COMP_WORDS[1]} words
-    local choice='--pid --cgroup --all --freeze --freeze-limit --wait --memory --orders --queued --no-kernel'
+    local choice='--pid --cgroup --all --memory --orders --queued --no-kernel'
     if [ "$COMP_CWORD" -eq 1 ]; then
         COMPREPLY=($(compgen -W 'now snapshot what-if target watch verify policies --help --version' -- "$word"))
         return
@@ -9,20 +9,20 @@ _thpwhatif() {
     case $before in
     --pid) COMPREPLY=($(compgen -W "$(cd /proc && echo [0-9]*)" -- "$word")); return ;;
     --cgroup | --keep) COMPREPLY=($(compgen -d -- "$word")); return ;;
-    --svg | --facts | --times | --checker | -o | --output | --program | --prometheus) COMPREPLY=($(compgen -f -- "$word")); return ;;
+    --svg | --times | --checker | -o | --output | --prometheus) COMPREPLY=($(compgen -f -- "$word")); return ;;
     --queued) COMPREPLY=($(compgen -W 'seen all' -- "$word")); return ;;
     --enabled) COMPREPLY=($(compgen -W 'always madvise' -- "$word")); return ;;
     --take) COMPREPLY=($(compgen -W 'recorded all' -- "$word")); return ;;
     --user) COMPREPLY=($(compgen -u -- "$word")); return ;;
-    --thresholds | --threshold | --scan | --best | --rounds | --seed | --pages | --change | --after | --freeze-limit | --memory) COMPREPLY=(); return ;;
+    --thresholds | --threshold | --scan | --best | --rounds | --seed | --pages | --change | --after | --memory) COMPREPLY=(); return ;;
     esac
     case $command in
-    now) words="$choice --thresholds --json --by-process --by-cgroup --svg --program" ;;
-    snapshot) words="$choice --output --facts" ;;
-    what-if) words='--thresholds --json --by-process --by-cgroup --svg --program' ;;
-    target) words="$choice --json --program" ;;
-    watch) words="$choice --rounds --thresholds --json --prometheus --program" ;;
-    verify) words='--thresholds --rounds --seed --pages --change --after --user --freeze-limit --wait --running --enabled --no-kernel --keep --verbose --program' ;;
+    now) words="$choice --thresholds --json --by-process --by-cgroup --svg" ;;
+    snapshot) words="$choice --output" ;;
+    what-if) words='--memory --thresholds --json --by-process --by-cgroup --svg' ;;
+    target) words="$choice --json" ;;
+    watch) words="$choice --rounds --thresholds --json --prometheus" ;;
+    verify) words='--thresholds --rounds --seed --pages --change --after --user --wait --running --enabled --no-kernel --keep --verbose' ;;
     policies) words='--threshold --scan --take --times --best --json --svg --checker' ;;
     esac
     COMPREPLY=($(compgen -W "$words --help" -- "$word"))

@@ -29,8 +29,10 @@ WITHOUT = (
     "tests/docs.py", "tests/surface.py", "tests/installed.py", "tests/release.py", "tests/lint.py", "linux/tests/run.py",
     "linux/whatif/tests/__main__.py",
 )
-"""The tests of the tree only, and of the tools for the running kernel with stored data. Those of `thpwhatif` use the built program if
-there is one."""
+"""The tests of the tree only, and of the tools for the running kernel with stored data; without those of PREDICTIONS that need libthp."""
+
+PREDICTIONS = ("test_policies.py", "test_predict.py", "test_program.py", "test_stored.py")
+"""The tests of `thpwhatif` that call libthp."""
 
 BUILT = ("crates/thpsplit/out/thpsplit", "crates/thpsplit/out/thpsplit.by-rattle")
 """Where `rt ci` leaves the program, built with LLVM and with Rattle's own compiler."""
@@ -204,7 +206,7 @@ def test_library(gate: Gate, programs: list[str], archives: list[str]) -> None:
         gate.add("bench/calls/run", [sys.executable, "bench/calls/run", archive, "--ceilings"])
     if archives:
         build_tools(gate, "c")
-    gate.add("policies", [sys.executable, "linux/whatif/tests/__main__.py", "test_policies.py"])
+    gate.add("predictions", [sys.executable, "linux/whatif/tests/__main__.py", *PREDICTIONS])
 
 
 def test_journal_tools(gate: Gate, programs: list[str], checkers: list[str], drawers: list[str]) -> None:

@@ -10,7 +10,7 @@ import stat
 import sys
 from contextlib import suppress
 from pathlib import Path
-from typing import TextIO, Union
+from typing import BinaryIO, TextIO, Union
 
 from .errors import InputFault
 from .text import escape
@@ -51,21 +51,33 @@ def write(path: PathText, text: object) -> None:
         os.close(descriptor)
 
 
+def open_input(path: PathText) -> BinaryIO:
+    """Opens a file that a user named, or standard input (`-`), for reading. InputFault where it can't be read, or is no regular
+    file."""
+    if str(path) == "-":
+        return sys.stdin.buffer
+    try:
+        descriptor = os.open(path, os.O_RDONLY | os.O_NONBLOCK | os.O_NOCTTY | os.O_CLOEXEC)
+    except (OSError, ValueError) as error:
+        reason = getattr(error, "strerror", None) or str(error)
+        raise InputFault(f"{escape(str(path))} can't be read: {reason}") from error
+    if not stat.S_ISREG(os.fstat(descriptor).st_mode):
+        os.close(descriptor)
+        raise InputFault(f"{escape(str(path))} is no regular file")
+    return open(descriptor, "rb")
+
+
 def read_input(path: PathText, most: int = MOST_INPUT) -> bytes:
     """Returns all bytes of a file that a user named, or of standard input (`-`). InputFault where it can't be read, is
     no regular file, or has more than `most` bytes."""
-    if str(path) == "-":
-        data = sys.stdin.buffer.read(most + 1)
-    else:
-        try:
-            descriptor = os.open(path, os.O_RDONLY | os.O_NONBLOCK | os.O_NOCTTY | os.O_CLOEXEC)
-            with open(descriptor, "rb") as file:
-                if not stat.S_ISREG(os.fstat(descriptor).st_mode):
-                    raise InputFault(f"{escape(str(path))} is no regular file")
-                data = file.read(most + 1)
-        except (OSError, ValueError) as error:
-            reason = getattr(error, "strerror", None) or str(error)
-            raise InputFault(f"{escape(str(path))} can't be read: {reason}") from error
+    file = open_input(path)
+    try:
+        data = file.read(most + 1)
+    except OSError as error:
+        raise InputFault(f"{escape(str(path))} can't be read: {error.strerror}") from error
+    finally:
+        if file is not sys.stdin.buffer:
+            file.close()
     if len(data) > most:
         raise InputFault(f"{escape(str(path))} has more than {most >> 20} MiB")
     return data
@@ -77,14 +89,45 @@ def create(path: PathText) -> TextIO:
     return _created(path, None)
 
 
-def _created(path: PathText, folder: Union[int, None]) -> TextIO:
+def _created(path: PathText, folder: Union[int, None], shown: Union[PathText, None] = None) -> TextIO:
+    name = escape(str(shown or path))
     try:
         return open(os.open(path, _NEW, 0o600, dir_fd=folder), "w", encoding="utf-8", newline="\n")
     except FileExistsError as error:
-        raise InputFault(f"{escape(str(path))} exists already") from error
+        raise InputFault(f"{name} exists already") from error
     except (OSError, ValueError) as error:
         reason = getattr(error, "strerror", None) or str(error)
-        raise InputFault(f"{escape(str(path))} can't be made: {reason}") from error
+        raise InputFault(f"{name} can't be made: {reason}") from error
+
+
+class NewFile:
+    """A new file, as `create` makes it. Its folder stays open, so that the file can be removed wherever its path leads by then."""
+
+    def __init__(self, path: PathText) -> None:
+        folder, self._name = os.path.split(str(path))
+        try:
+            self._folder = os.open(folder or ".", os.O_PATH | os.O_DIRECTORY | os.O_CLOEXEC)
+        except (OSError, ValueError) as error:
+            reason = getattr(error, "strerror", None) or str(error)
+            raise InputFault(f"{escape(str(path))} can't be made: {reason}") from error
+        try:
+            self.file = _created(self._name, self._folder, path)
+        except BaseException:
+            os.close(self._folder)
+            raise
+
+    def remove(self) -> None:
+        """Removes the file, unless something else has its name."""
+        own = os.fstat(self.file.fileno())
+        with suppress(FileNotFoundError):
+            found = os.stat(self._name, dir_fd=self._folder, follow_symlinks=False)
+            if (own.st_dev, own.st_ino) == (found.st_dev, found.st_ino):
+                os.unlink(self._name, dir_fd=self._folder)
+
+    def close(self) -> None:
+        """Closes the file and its folder."""
+        os.close(self._folder)
+        self.file.close()
 
 
 def own_folder(path: PathText) -> int:

@@ -30,15 +30,6 @@ class TextError(InputFault):
 
 
 @dataclass(frozen=True)
-class Answer:
-    """The answer of one command: section, place in it from 1, and the text."""
-
-    section: int
-    place: int
-    text: str
-
-
-@dataclass(frozen=True)
 class Verdict:
     """The result of a check of a journal: legal, illegal at a line (from 1), or an error of the text. `why`: lines that
     explain an illegal one, where the check has such."""
@@ -164,16 +155,20 @@ class Program:
         self.path = find_program(path)
 
     def report(self, kind: str, text: str, options: Sequence[str] = ()) -> str:
-        """Returns a report on a script: `totals`, `answers` or `journal`. TextError where the script has an error."""
-        return self._run([*options, "--report", kind], text)
+        """Returns a report on a script: `answers` or `journal`. TextError where the script has an error."""
+        done = call(self.path, [*options, "--report", kind], text)
+        if done.returncode == 2:
+            raise TextError(escape(done.stderr.strip()))
+        if done.returncode:
+            raise RunFailed(f"{escape(self.path)} ended with status {done.returncode}: {escape(done.stderr.strip())[:200]}")
+        return done.stdout
 
-    def answers(self, text: str, options: Sequence[str] = ()) -> list[Answer]:
-        """Returns the answers of all commands, in order."""
-        split = (line.split(" ", 2) for line in text_lines(self.report("answers", text, options)))
-        try:
-            return [Answer(int(section), int(place), words) for section, place, words in split]
-        except ValueError as error:
-            raise RunFailed(f"{escape(self.path)} writes no answers") from error
+    def answers(self, text: str, options: Sequence[str] = ()) -> list[str]:
+        """Returns the answers of all commands, in order, without their sections and places."""
+        split = [line.split(" ", 2) for line in text_lines(self.report("answers", text, options))]
+        if any(len(words) < 3 for words in split):
+            raise RunFailed(f"{escape(self.path)} writes no answers")
+        return [words[2] for words in split]
 
     def journal(self, text: str, options: Sequence[str] = ()) -> list[NodeJournal]:
         """Returns the journals of all nodes."""
@@ -182,12 +177,3 @@ class Program:
     def check(self, journal: str | int) -> Verdict:
         """Returns whether a journal, as a text or an open file, is legal."""
         return check(self.path, ["--check"], journal)
-
-    def _run(self, options: Sequence[str], text: str) -> str:
-        done = call(self.path, options, text)
-        if done.returncode == 2:
-            raise TextError(escape(done.stderr.strip()))
-        if done.returncode:
-            output = escape(done.stderr.strip())[:200]
-            raise RunFailed(f"{escape(self.path)} ended with status {done.returncode}: {output}")
-        return done.stdout

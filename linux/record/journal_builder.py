@@ -17,7 +17,7 @@ from ..common.journal import journal_text
 from ..common.subpages import runs
 from .calls import COLLAPSE, COPIED, MADVISE, MADV_COLLAPSE, has_succeeded
 from .mappings import MappingEvents
-from .pages import Mapping, Page
+from .pages import Page
 from .queue_matcher import QueueMatcher
 from .records import Kind, Record
 from .scans import ScanEvents

@@ -7,7 +7,7 @@ import os
 from typing import IO, Iterable
 
 from ..common.errors import InputFault, RunFailed
-from ..common.files import create
+from ..common.files import NewFile
 from ..common.text import escape
 from .journal_file import JournalFile
 from .options import RecordOptions
@@ -18,8 +18,8 @@ class Output:
     """A new file of a name."""
 
     def __init__(self, path: str) -> None:
-        self._path = path
-        self._file: IO[bytes] = create(path).detach()  # type: ignore[attr-defined]
+        self._path, self._new = path, NewFile(path)
+        self._file: IO[bytes] = self._new.file.buffer
 
     def begin(self) -> IO[bytes]:
         """Returns the file, empty."""
@@ -31,10 +31,9 @@ class Output:
         """Closes the file, and removes it where nothing was written."""
         try:
             self._file.flush()
-            own, found = os.fstat(self._file.fileno()), os.lstat(self._path)
-            if own.st_size == 0 and (own.st_dev, own.st_ino) == (found.st_dev, found.st_ino):
-                os.unlink(self._path)
-            self._file.close()
+            if os.fstat(self._file.fileno()).st_size == 0:
+                self._new.remove()
+            self._new.close()
         except OSError as error:
             raise RunFailed(f"{escape(self._path)} can't be written: {error.strerror}") from error
 

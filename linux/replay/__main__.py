@@ -15,13 +15,13 @@ from ..common.keeper import recover
 from ..common.script import MARK, Script
 from ..common.text import escape, one_line, text_lines
 from ..common.tool import run_tool
+from .bench import open_session
 from .letters import Match, find_all, look_on, markdown
-from .observation import Observation
 from .options import NAME, FoundScripts, list_scripts, parse_words
-from .reports import FAIL, SKIP, JsonReport, KtapReport, Report, RunHead, SumLine, TextReport, kselftest_status
+from .reports import FAIL, SKIP, JsonReport, KtapReport, Report, RunHead, SumLine, kselftest_status
 from .runner import Outcome, Result, RunComparer, Runner, ignore_line
-from .session import open_session
 from .shrinking import Shrinker, SmallScript
+from .states import Observation
 
 
 class Folder:
@@ -167,7 +167,7 @@ def replay(options: argparse.Namespace) -> int:
         return DONE
     if options.json:
         return run_all(options, found, JsonReport())
-    return run_all(options, found, TextReport(options.quiet))
+    return run_all(options, found, Report(options.quiet))
 
 
 def start() -> NoReturn:

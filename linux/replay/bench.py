@@ -1,22 +1,27 @@
-"""What runs of scripts need on this kernel: settings, a control group and a server process for each node."""
+"""What runs of scripts begin and end with: the machine, the lock, settings, a control group and a server process for each node."""
 
 from __future__ import annotations
 
 import os
 import resource
+from collections.abc import Iterator
+from contextlib import contextmanager
 from dataclasses import dataclass
 
-
+from ..common import machine
+from ..common.errors import Unavailable
 from ..common.files import COLLAPSE_SLEEP, PMD_ORDER, PTES_NONE, SWITCH, size_folder
-from ..common.groups import Groups
+from ..common.groups import Groups, find_hierarchy
 from ..common.keeper import Keeper
 from ..common.kernel_memory import KernelMemory
 from ..common.page_files import Frames
+from ..common.program import Program
 from ..common.script import Options
 from ..common.shrinker_debug import ShrinkerFile, find_shrinker
 from .expected_answers import Unsupported
 from .mappers import Mapper, Mappers
 
+NEEDED = ["root", "huge pages", "memory control groups", "frames", "counters"]
 QUIET = 3600000  # milliseconds between khugepaged's rounds: it collapses nothing meanwhile
 
 
@@ -101,3 +106,45 @@ class Bench:
         self.renew()
         self.mappers.close()
         self.frames.close()
+
+
+@dataclass(frozen=True)
+class Session:
+    """A bench on this kernel, and the program to compare with."""
+
+    parts: list[machine.Part]
+    program: Program
+    bench: Bench
+
+    @property
+    def reads_queues(self) -> bool:
+        return self.bench.memory is not None
+
+
+def find_comparable_parts(memory_wanted: bool) -> tuple[list[machine.Part], KernelMemory | None]:
+    """Returns what this machine can compare, and kernel memory where the queues can be read."""
+    parts = machine.common_parts()
+    if not memory_wanted:
+        return [*parts, machine.Part("kernel memory", False, "not wanted (--no-memory)")], None
+    memory, more = machine.memory()
+    return [*parts, *more], memory if all(part.here for part in more) else None
+
+
+@contextmanager
+def open_session(
+    name: str, program: str | None, memory_wanted: bool, wait: bool, scans_exactly: bool = False
+) -> Iterator[Session]:
+    """Opens a session of a tool. Unavailable where the machine lacks what it needs; Busy where another tool runs."""
+    parts, memory = find_comparable_parts(memory_wanted)
+    machine.demand(parts, NEEDED)
+    if scans_exactly:
+        find_shrinker(find_hierarchy().version)
+        if memory is None:
+            raise Unavailable("exact scans need queues, which are in kernel memory")
+    found = Program(program)
+    with Keeper(name, wait) as keeper:
+        bench = Bench(keeper, memory, scans_exactly)
+        try:
+            yield Session(parts, found, bench)
+        finally:
+            bench.close()

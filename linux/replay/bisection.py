@@ -16,10 +16,10 @@ from ..common.machine import kernel
 from ..common.script import Script, read_script
 from ..common.text import escape
 from ..common.tool import run_tool
+from .bench import open_session
 from .letters import Finding, LetterScript, Match, find_letter, look_on, read_letter
 from .options import add_common
 from .runner import Outcome, Result, RunComparer, Runner, print_line
-from .session import open_session
 
 NAME = "thpbisect"
 GOOD, BAD, UNDECIDED, ENDED = 0, 1, 125, 128  # git-bisect(1)

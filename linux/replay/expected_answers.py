@@ -19,10 +19,10 @@ from ..common.files import PMD_ORDER
 from ..common.journal import Event
 from ..common.program import Program
 from ..common.script import Options, Script
-from .known_differences import KnownDifference
-from .states import NodeState
+from .states import KnownDifference, NodeState
 
 NEVER = 511  # max_ptes_none at which no page is underused (mm/huge_memory.c: thp_underused)
+PAGE_COMMANDS = {"mapwhole", "unmapwhole", "map", "unmap", "splitpmd", "pin", "unpin", "write", "zero"}
 INSERTED = 0  # the place of a command that only expresses D
 
 _NODE = re.compile("[0-7]")
@@ -98,12 +98,12 @@ def read_expected_answers(steps: Sequence[Step], text: str, options: Options, pr
     out = []
     for step, answer in zip(steps, answers):
         try:
-            node, count = node_of(step.words), count_events(step.words, answer.text)
+            node, count = node_of(step.words), count_events(step.words, answer)
         except (ValueError, KeyError) as error:
             raise InputFault(f"{program.path} gives an answer that is none (command {step.place})") from error
         if len(rest) <= node or len(rest[node]) < count:
             raise InputFault(f"{program.path} reports fewer events than its answers (command {step.place})")
-        out.append(ExpectedAnswer(step.place, step.words, answer.text, tuple(rest[node][:count])))
+        out.append(ExpectedAnswer(step.place, step.words, answer, tuple(rest[node][:count])))
         del rest[node][:count]
     return out
 

@@ -26,11 +26,11 @@ from ..common.files import PMD_ORDER
 from ..common.script import Script, read_script
 from ..common.subpages import set_text
 from ..common.text import escape, text_lines
+from .bench import Session
 from .expected_answers import ExpectedRun
-from .observation import Observation
-from .runner import Kernel, Result, RunComparer, Runner
-from .session import Session
-from .states import NodeState
+from .pages import KernelPages
+from .runner import Result, RunComparer, Runner
+from .states import NodeState, Observation
 
 FOLDER = Path(__file__).resolve().parent.parent / "letters"
 ONLY_RECORDINGS = "KMURZL"  # collapses, migrations and other tasks: no script has them (docs/LINUX.md)
@@ -149,7 +149,7 @@ class LastLook(RunComparer):
 
     last: Observation | None = None
 
-    def compare_run(self, expected_run: ExpectedRun, zero_filled: bool, kernel: Kernel) -> str:
+    def compare_run(self, expected_run: ExpectedRun, zero_filled: bool, kernel: KernelPages) -> str:
         """Returns no letters."""
         options = expected_run.options
         states = [NodeState(order, switch, zero_filled) for order, switch in zip(options.orders, options.underused)]

@@ -7,13 +7,11 @@ files of /proc, and the pidfd shows afterwards that they are its own.
 
 from __future__ import annotations
 
-import array
 import os
-import re
 import select
 import socket
+import struct
 import subprocess
-
 
 from ..common.errors import RunFailed, Unavailable
 from ..common.files import BASE
@@ -22,21 +20,12 @@ from ..common.keeper import Keeper, process_of
 from ..common.page_files import NumberFile, frame_of_entry
 
 PATIENCE = 20.0  # seconds until a reply
-MOST_REPLY = 64  # bytes
-
-_REPLY = re.compile(rb"(ok|error) (0|[1-9][0-9]{0,17})")
+WORDS = ("fork", "enter", "alloc", "unmap", "splitpmd", "fill", "pin", "unpin", "exit")  # mapper.c has the same order
+COMMAND, REPLY = struct.Struct("<4i"), struct.Struct("<q")
 
 
 class Refusal(RunFailed):
     """A mapping process could not do a command; the text is the command and the kernel's reason."""
-
-
-def parse_reply(data: bytes) -> tuple[bool, int]:
-    """Returns whether a command was done, and the number of the reply."""
-    found = _REPLY.fullmatch(data)
-    if not found:
-        raise RunFailed(f"a mapping process sends what is no reply: {data!r}")
-    return found[1] == b"ok", int(found[2])
 
 
 def has_ended(pidfd: int) -> bool:
@@ -51,33 +40,34 @@ def socket_pair() -> tuple[socket.socket, socket.socket]:
     return socket.socketpair(socket.AF_UNIX, socket.SOCK_SEQPACKET | socket.SOCK_CLOEXEC)
 
 
-class MapperSocket:
-    """The tool's end of a mapping process's socket. After the first failure nothing more can be asked of it."""
+class Mapper:
+    """One process, and what it maps: `whole` by a PMD entry (or as one piece, below PMD size), `mapped` by subpages;
+    `at` is the address of subpage 0. After the first failure nothing more can be asked of it."""
 
-    def __init__(self, end: socket.socket) -> None:
+    def __init__(self, end: socket.socket, pidfd: int = -1, like: Mapper | None = None) -> None:
         self._end: socket.socket | None = end
         end.settimeout(PATIENCE)
+        self.pidfd, self.pins = pidfd, 0
+        self._pagemap: NumberFile | None = None
+        self.whole: bool = like.whole if like else False
+        self.mapped: int = like.mapped if like else 0
+        self.at: int = like.at if like else 0
 
-    @property
-    def is_open(self) -> bool:
-        """Whether the process can be asked."""
-        return self._end is not None
-
-    def close(self) -> None:
-        """Closes the socket, which ends the process."""
-        end, self._end = self._end, None
-        if end:
-            end.close()
-
-    def ask(self, text: str, passed: int | None = None) -> tuple[int, int | None]:
-        """Sends a command, with a descriptor or none; returns the number of the reply and the descriptor that it
+    def request(self, word: str, *operands: int, passed: int | None = None) -> int:
+        """Sends a command, with a descriptor or none, and returns the number of the reply; of `fork`, the descriptor that it
         carries. Refusal where the process could not do it."""
         if self._end is None:
             raise RunFailed("a mapping process has failed before")
         try:
-            socket.send_fds(self._end, [text.encode()], [] if passed is None else [passed])
-            data, carried = self._receive(self._end)
-            is_done, number = parse_reply(data)
+            command = COMMAND.pack(WORDS.index(word), *operands, *[0] * (3 - len(operands)))
+            socket.send_fds(self._end, [command], [] if passed is None else [passed])
+            data, carried, flags, _ = socket.recv_fds(self._end, REPLY.size, 1, socket.MSG_CMSG_CLOEXEC)
+            number = REPLY.unpack(data)[0] if len(data) == REPLY.size else 0
+            is_reply = len(data) == REPLY.size and not flags & (socket.MSG_TRUNC | socket.MSG_CTRUNC)
+            if not is_reply or len(carried) != (word == "fork" and number >= 0):
+                for descriptor in carried:
+                    os.close(descriptor)
+                raise RunFailed("a mapping process sends what is no reply" if data else "a mapping process has ended")
         except BaseException as error:  # a signal, too: the reply to this command must not be taken for the next one's
             self.close()
             if isinstance(error, socket.timeout):
@@ -85,50 +75,13 @@ class MapperSocket:
             if isinstance(error, OSError):
                 raise RunFailed(f"a mapping process has ended: {error.strerror}") from error
             raise
-        if is_done:
-            return number, carried
-        if carried is not None:
-            os.close(carried)
-        raise Refusal(f"{text}: {os.strerror(number)}")
-
-    @staticmethod
-    def _receive(end: socket.socket) -> tuple[bytes, int | None]:
-        room = socket.CMSG_LEN(array.array("i").itemsize)
-        data, control, flags, _ = end.recvmsg(MOST_REPLY, room, socket.MSG_CMSG_CLOEXEC)
-        found = array.array("i")
-        for _, kind, part in control:
-            if kind == socket.SCM_RIGHTS:
-                found.frombytes(part[: len(part) - len(part) % found.itemsize])
-        if not data or flags & (socket.MSG_TRUNC | socket.MSG_CTRUNC) or len(found) > 1:
-            for descriptor in found:
-                os.close(descriptor)
-            raise RunFailed("a mapping process has ended" if not data else "a mapping process sends too much")
-        return data, found[0] if found else None
-
-
-class Mapper:
-    """One process, and what it maps: `whole` by a PMD entry (or as one piece, below PMD size), `mapped` by subpages;
-    `at` is the address of subpage 0."""
-
-    def __init__(self, line: MapperSocket, pidfd: int, like: Mapper | None = None) -> None:
-        self._line, self.pidfd = line, pidfd
-        self._pagemap: NumberFile | None = None
-        self.whole: bool = like.whole if like else False
-        self.mapped: int = like.mapped if like else 0
-        self.at: int = like.at if like else 0
-        self.pins = 0
-
-    def request(self, text: str, passed: int | None = None) -> int:
-        """Sends a command and returns the number of the reply."""
-        number, carried = self._line.ask(text, passed)
-        if carried is not None:
-            os.close(carried)
-            raise RunFailed("a mapping process sends a descriptor that was not asked for")
-        return number
+        if number < 0:
+            raise Refusal(f"{' '.join(map(str, (word, *operands)))}: {os.strerror(-number)}")
+        return carried[0] if carried else int(number)
 
     def alloc(self, order: int, fill: int) -> None:
         """Allocates a page and fills it with a byte, unless that is 0."""
-        at = self.request(f"alloc {order} {fill}")
+        at = self.request("alloc", order, fill)
         if not at or at % (BASE << order):
             raise RunFailed(f"a mapping process maps a page at an address that isn't aligned: {at:#x}")
         self.at = at
@@ -139,22 +92,18 @@ class Mapper:
             mine, its = socket_pair()
         except OSError as error:
             raise Refusal(f"fork: {error.strerror}") from error
-        line = MapperSocket(mine)
         try:
             with its:
-                _, pidfd = self._line.ask("fork", its.fileno())
-            if pidfd is None:
-                raise RunFailed("a mapping process sends no pidfd of its child")
+                return Mapper(mine, self.request("fork", passed=its.fileno()), self)
         except BaseException:
-            line.close()
+            mine.close()
             raise
-        return Mapper(line, pidfd, self)
 
     def enter(self, group: str) -> None:
         """Moves the process into a control group. It moves itself, so no process number is used that another process
         may have by then."""
         with open(f"{group}/cgroup.procs", "wb", 0) as members:
-            self.request("enter", members.fileno())
+            self.request("enter", passed=members.fileno())
 
     def frames(self, count: int) -> list[int | None]:
         """Returns the frame that each of its subpages has, or None where it maps none."""
@@ -178,17 +127,17 @@ class Mapper:
     def exit(self) -> None:
         """Has the process drop its mappings and end. One that failed before ends without a reply."""
         try:
-            if self._line.is_open:
+            if self._end:
                 self.request("exit")
         finally:
             self.close()
 
     def close(self) -> None:
         """Closes the tool's descriptors of the process, which ends it."""
-        self._line.close()
-        if self._pagemap:
-            self._pagemap.close()
-            self._pagemap = None
+        for each in (self._end, self._pagemap):
+            if each:
+                each.close()
+        self._end = self._pagemap = None
         if self.pidfd >= 0:
             os.close(self.pidfd)
             self.pidfd = -1
@@ -205,7 +154,7 @@ class Mappers:
             self._process = subprocess.Popen([path], stdin=its.fileno(), stdout=subprocess.DEVNULL,
                                              stderr=subprocess.DEVNULL, cwd="/", env=empty, start_new_session=True)
         keeper.own(self._process.pid)
-        self.root = Mapper(MapperSocket(mine), os.pidfd_open(self._process.pid))
+        self.root = Mapper(mine, os.pidfd_open(self._process.pid))
 
     def close(self) -> None:
         """Ends the root process."""

@@ -24,17 +24,11 @@ from ..common.script import Options
 from ..common.shrinker_debug import ShrinkerFile
 from ..common.subpages import bits_of, runs
 from .bench import Bench
-from .expected_answers import ExpectedAnswer, Unsupported
+from .expected_answers import PAGE_COMMANDS, ExpectedAnswer, Unsupported
 from .mappers import Mapper, Refusal
-from .observation import Observation, PageName, PageObservation
-from .states import NodeState, PageState
+from .states import NodeState, Observation, PageName, PageObservation, PageState
 
 DATA = 90  # the byte that subpages with data are filled with
-
-
-def is_whole(mapper: Mapper) -> bool:
-    """Returns whether a process maps its page as one piece."""
-    return mapper.whole
 
 
 @dataclass
@@ -70,7 +64,7 @@ class KernelPage:
             low = (bits & -bits).bit_length() - 1
             best: Mapper | None = None
             most = 0
-            for mapper in sorted(self.mappers, key=is_whole):
+            for mapper in sorted(self.mappers, key=lambda mapper: mapper.whole):
                 first, count = next(runs(mapper.mapped >> low & bits >> low), (1, 0))
                 if (whole or not mapper.whole) and first == 0 and count > most:
                     best, most = mapper, count
@@ -82,7 +76,9 @@ class KernelPage:
 
 
 class KernelPages:
-    """One script's pages on a bench. `fill`: the byte that new pages are filled with; 0: they stay zero-filled."""
+    """One script's pages on a bench. `fill`: the byte that new pages are filled with; 0: they stay zero-filled. `drops_zeros`: this
+    kernel gives mapped zero-filled subpages back at any split (B). `scans_exactly`: a scan takes so many pages as it specifies,
+    in one pass."""
 
     def __init__(self, bench: Bench, options: Options, fill: int) -> None:
         self._bench, self._options, self._fill = bench, options, fill
@@ -98,7 +94,10 @@ class KernelPages:
         """Runs a command that wasn't refused; the node's state is that before it. Unsupported: nothing was done."""
         word, operands = expected.words[0], [int(text) for text in expected.words[2:]]
         try:
-            getattr(self, f"_{word}")(expected.node, state, *operands)
+            if word in PAGE_COMMANDS:
+                getattr(self, f"_{word}")(self._pages[expected.node][operands[0]], state.pages[operands[0]], *operands[1:])
+            else:
+                getattr(self, f"_{word}")(expected.node, state, *operands)
         except Refusal as refusal:
             raise Unsupported(str(refusal)) from refusal
 
@@ -173,24 +172,21 @@ class KernelPages:
         self._started.append(child)
         return child
 
-    def _mapwhole(self, node: int, _state: NodeState, number: int) -> None:
-        page = self._pages[node][number]
+    def _mapwhole(self, page: KernelPage, _before: PageState) -> None:
         source = page.find_by_pmd()
         if source is None:
             raise Unsupported("mapwhole where no PMD entry is left to be copied")
         page.mappers.append(self._fork(source))
         page.shared = True
 
-    def _unmapwhole(self, node: int, _state: NodeState, number: int) -> None:
-        page = self._pages[node][number]
+    def _unmapwhole(self, page: KernelPage, _before: PageState) -> None:
         mapper = page.find_by_pmd()
         if mapper is None:
             raise Unsupported("unmapwhole where nothing maps the page whole")
-        mapper.request(f"unmap 0 {page.subpages}")
+        mapper.request("unmap", 0, page.subpages)
         mapper.whole, mapper.mapped = False, 0
 
-    def _map(self, node: int, _state: NodeState, number: int, first: int, count: int) -> None:
-        page = self._pages[node][number]
+    def _map(self, page: KernelPage, _before: PageState, first: int, count: int) -> None:
         pieces = page.pieces(bits_of(first, count), True)
         if not pieces:
             raise Unsupported("map of a subpage that nothing maps")
@@ -205,7 +201,7 @@ class KernelPages:
 
     def _drop(self, mapper: Mapper, bits: int) -> None:
         for first, count in runs(bits):
-            mapper.request(f"unmap {first} {count}")
+            mapper.request("unmap", first, count)
         mapper.mapped &= ~bits
 
     def _divide(self, mapper: Mapper, page: KernelPage) -> None:
@@ -213,50 +209,45 @@ class KernelPages:
             mapper.request("splitpmd")
         mapper.whole = False
 
-    def _unmap(self, node: int, state: NodeState, number: int, first: int, count: int) -> None:
-        page, before = self._pages[node][number], state.pages[number]
+    def _unmap(self, page: KernelPage, before: PageState, first: int, count: int) -> None:
         pieces = page.pieces(bits_of(first, count), False)
         if not pieces:
             raise Unsupported("unmap of subpages that only whole mappings have")
-        left = before.own[:]
-        for i in range(first, first + count):
-            left[i] -= 1
+        left = [own - (first <= i < first + count) for i, own in enumerate(before.own)]
         frees = not before.whole and not any(left)
         if len(pieces) > 1 and frees and not before.split and not before.partly:
             raise Unsupported("the last mappings lie in several processes: the kernel would see the page partly mapped")
         for mapper, low, length in pieces:
             self._drop(mapper, bits_of(low, length))
 
-    def _splitpmd(self, node: int, _state: NodeState, number: int) -> None:
-        page = self._pages[node][number]
+    def _splitpmd(self, page: KernelPage, _before: PageState) -> None:
         mapper = page.find_by_pmd()
         if mapper is None:
             raise Unsupported("splitpmd where nothing maps the page whole")
         self._divide(mapper, page)
 
-    def _pin(self, node: int, _state: NodeState, number: int) -> None:
-        mapper = next((mapper for mapper in self._pages[node][number].mappers if mapper.mapped), None)
+    def _pin(self, page: KernelPage, _before: PageState) -> None:
+        mapper = next((mapper for mapper in page.mappers if mapper.mapped), None)
         if mapper is None:
             raise Unsupported("pin of a page that nothing maps")
-        mapper.request(f"pin {next(runs(mapper.mapped))[0]}")
+        mapper.request("pin", next(runs(mapper.mapped))[0])
         mapper.pins += 1
 
-    def _unpin(self, node: int, _state: NodeState, number: int) -> None:
-        mapper = next((mapper for mapper in self._pages[node][number].mappers if mapper.pins), None)
+    def _unpin(self, page: KernelPage, _before: PageState) -> None:
+        mapper = next((mapper for mapper in page.mappers if mapper.pins), None)
         if mapper is None:
             raise Unsupported("unpin where no process holds a pin")
         mapper.request("unpin")
         mapper.pins -= 1
 
-    def _write(self, node: int, _state: NodeState, number: int, first: int, count: int, byte: int = DATA) -> None:
-        page = self._pages[node][number]
+    def _write(self, page: KernelPage, _before: PageState, first: int, count: int, byte: int = DATA) -> None:
         mapper = page.find_covering(bits_of(first, count))
         if page.shared or mapper is None:
             raise Unsupported("a write to a page that was shared: the kernel may copy it")
-        mapper.request(f"fill {first} {count} {byte}")
+        mapper.request("fill", first, count, byte)
 
-    def _zero(self, node: int, state: NodeState, number: int, first: int, count: int) -> None:
-        self._write(node, state, number, first, count, 0)
+    def _zero(self, page: KernelPage, before: PageState, first: int, count: int) -> None:
+        self._write(page, before, first, count, 0)
 
     def _scan(self, node: int, state: NodeState, most: int) -> None:
         if self._bench.shrinker:

@@ -7,7 +7,7 @@ from __future__ import annotations
 
 import json
 from dataclasses import dataclass
-from typing import Protocol, Sequence
+from typing import Sequence
 
 from ..common import machine
 from ..common.errors import DIFFERS, DONE, INCONCLUSIVE
@@ -38,52 +38,39 @@ class RunHead:
         return [machine.kernel(), *table, f"program {escape(self.program)}; {compared}"]
 
 
-class Report(Protocol):
-    """How a run is printed."""
+class Report:
+    """How a run is printed: lines for people. `quiet`: of the scripts only those that differ or are inconclusive."""
 
-    def begin(self, head: RunHead) -> None:
-        """Prints what is compared."""
-
-    def print_command(self, line: str) -> None:
-        """Prints a command before it is run (`--verbose`)."""
-
-    def print_script(self, script: Script, outcome: Outcome, small: SmallScript | None) -> None:
-        """Prints a script's outcome, and the smallest script that differs in the same way."""
-
-    def end(self, sums: list[SumLine]) -> None:
-        """Prints the sums."""
-
-
-class TextReport:
-    """Lines for people. `quiet`: of the scripts only those that differ or are inconclusive."""
-
-    def __init__(self, quiet: bool) -> None:
+    def __init__(self, quiet: bool = False) -> None:
         self._is_quiet = quiet
 
     def begin(self, head: RunHead) -> None:
+        """Prints what is compared."""
         for line in head.lines():
             print_line(line)
 
     def print_command(self, line: str) -> None:
+        """Prints a command before it is run (`--verbose`)."""
         print_line(line)
 
     def print_script(self, script: Script, outcome: Outcome, small: SmallScript | None) -> None:
+        """Prints a script's outcome, and the smallest script that differs in the same way."""
         if not self._is_quiet or outcome.result in (Result.DIFFERS, Result.INCONCLUSIVE):
             print_line(f"{escape(script.name)}: {outcome.line()}")
         for line in small.lines() if small else []:
             print_line(f"  {line}")
 
     def end(self, sums: list[SumLine]) -> None:
+        """Prints the sums."""
         for many, what in sums:
             print(f"{many:9} {escape(what)}")
 
 
-class KtapReport:
+class KtapReport(Report):
     """KTAP version 1: a test for each script, and in it one for each command up to the first difference. A script that
     is skipped or inconclusive is a skipped test."""
 
-    def __init__(self) -> None:
-        self._number, self._has_plan = 0, False
+    _number, _has_plan = 0, False
 
     def begin(self, head: RunHead) -> None:
         self._has_plan = True
@@ -144,7 +131,7 @@ def kselftest_status(status: int) -> int:
     return {DONE: PASS, DIFFERS: FAIL, INCONCLUSIVE: SKIP}.get(status, FAIL)
 
 
-class JsonReport:
+class JsonReport(Report):
     """A JSON document a line: one for the run, one for each script, one for the sums."""
 
     def begin(self, head: RunHead) -> None:

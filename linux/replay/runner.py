@@ -5,7 +5,7 @@ from __future__ import annotations
 import enum
 from collections import Counter as Tallies
 from dataclasses import dataclass, field
-from typing import Callable, Protocol, Sequence
+from typing import Callable, Sequence
 
 from ..common.counters import CounterWatch
 from ..common.errors import InputFault
@@ -15,51 +15,11 @@ from ..common.text import escape
 from .bench import Bench
 from .comparison import Comparison, CounterDifference, Difference, kind_of
 from .expected_answers import ExpectedAnswer, ExpectedRun, Unsupported, expect_run
-from .known_differences import join_letters
-from .observation import Observation
 from .pages import DATA, KernelPages
-from .states import NodeState
+from .states import NodeState, Observation, join_letters
 
 TRIES = 3  # a difference counts where each run of the script has one
 LAST_WINDOWS = 1.0  # seconds in which the counters are watched before a difference of theirs alone counts
-
-
-class Kernel(Protocol):
-    """A kernel that runs commands and can be looked at: the running one (pages.py), or a stored one. `drops_zeros`: it gives
-    mapped zero-filled subpages back at any split (B). `scans_exactly`: a scan takes so many pages as it specifies, in one pass."""
-
-    drops_zeros: bool
-    scans_exactly: bool
-
-    def run_command(self, expected: ExpectedAnswer, state: NodeState) -> None:
-        """Runs a command; the node's state is that before it."""
-
-    def look(self, states: Sequence[NodeState]) -> Observation:
-        """Returns what the kernel shows now."""
-
-    def note_split(self, node: int, number: int) -> None:
-        """Notes that the last command split a page."""
-
-
-class StoredKernel:
-    """Looks that were stored, one for the beginning and one for each command."""
-
-    drops_zeros = True
-
-    def __init__(self, looks: list[Observation], scans_exactly: bool = False) -> None:
-        self._looks, self.scans_exactly = iter(looks), scans_exactly
-
-    def run_command(self, expected: ExpectedAnswer, state: NodeState) -> None:
-        pass
-
-    def look(self, states: Sequence[NodeState]) -> Observation:
-        look = next(self._looks, None)
-        if look is None:
-            raise InputFault("the recording has fewer looks than the script has commands")
-        return look
-
-    def note_split(self, node: int, number: int) -> None:
-        pass
 
 
 class Result(enum.Enum):
@@ -108,7 +68,7 @@ class RunComparer:
     report: Callable[[str], None] = ignore_line
     looks: list[Observation] | None = None
 
-    def compare_run(self, expected_run: ExpectedRun, zero_filled: bool, kernel: Kernel) -> str:
+    def compare_run(self, expected_run: ExpectedRun, zero_filled: bool, kernel: KernelPages) -> str:
         """Returns the letters of the known differences that were met. Difference names the command after which the own
         state is another; CounterDifference, raised at the end, that of a counter where nothing else differs."""
         options = expected_run.options
@@ -139,13 +99,13 @@ class RunComparer:
             raise comparison.counters
         return join_letters(comparison.known)
 
-    def _look(self, kernel: Kernel, states: Sequence[NodeState]) -> Observation:
+    def _look(self, kernel: KernelPages, states: Sequence[NodeState]) -> Observation:
         observed = kernel.look(states)
         if self.looks is not None:
             self.looks.append(observed)
         return observed
 
-    def run_command(self, expected: ExpectedAnswer, states: Sequence[NodeState], kernel: Kernel) -> None:
+    def run_command(self, expected: ExpectedAnswer, states: Sequence[NodeState], kernel: KernelPages) -> None:
         """Runs one command, and applies its events to its node."""
         state = states[expected.node]
         if not expected.is_refused:

@@ -7,7 +7,6 @@ from __future__ import annotations
 
 import time
 from dataclasses import dataclass, replace
-from functools import partial
 from itertools import islice
 from typing import Callable, Iterator, Sequence
 
@@ -15,6 +14,7 @@ from ..common.errors import RunFailed
 from ..common.machine import kernel
 from ..common.script import Command, Options, Script, script_of
 from ..common.text import escape
+from .expected_answers import PAGE_COMMANDS
 from .runner import Outcome, Result
 
 SECONDS = 60.0  # that a script gets
@@ -87,10 +87,10 @@ class Shrinker:
             for step in STEPS:
                 at, attempts = 0, step(draft, best.outcome)
                 while runs < MOST_RUNS and self._clock() < end:
-                    attempt = next(attempts, None)
-                    if attempt is None:
+                    smaller = next(attempts, None)
+                    if smaller is None:
                         break
-                    at, smaller = at + 1, attempt()
+                    at += 1
                     if smaller == draft or not smaller.commands:
                         continue
                     runs += 1
@@ -105,9 +105,8 @@ class Shrinker:
         return replace(best, runs=runs)
 
 
-Attempt = Callable[[], Draft]
-Step = Callable[[Draft, Outcome], Iterator[Attempt]]
-"""The smaller drafts that a step tries, each made when it is tried."""
+Step = Callable[[Draft, Outcome], Iterator[Draft]]
+"""The smaller drafts that a step tries."""
 
 
 def number_at(command: Command, at: int) -> int:
@@ -138,18 +137,15 @@ def drop(draft: Draft, gone: set[int]) -> Draft:
     return replace(draft, commands=tuple(kept))
 
 
-PAGE_COMMANDS = {"mapwhole", "unmapwhole", "map", "unmap", "splitpmd", "pin", "unpin", "write", "zero"}
-
-
-def cut_end(draft: Draft, outcome: Outcome) -> Iterator[Attempt]:
+def cut_end(draft: Draft, outcome: Outcome) -> Iterator[Draft]:
     """The commands after the one that differs."""
-    yield lambda: replace(draft, commands=draft.commands[:max(1, outcome.command)])
+    yield replace(draft, commands=draft.commands[:max(1, outcome.command)])
 
 
-def join_sections(draft: Draft, _outcome: Outcome) -> Iterator[Attempt]:
+def join_sections(draft: Draft, _outcome: Outcome) -> Iterator[Draft]:
     """All commands in one section."""
     one = tuple(Command(0, command.words) for command in draft.commands)
-    yield lambda: Draft(replace(draft.options, workers=1), one)
+    yield Draft(replace(draft.options, workers=1), one)
 
 
 def without_node(draft: Draft, gone: int) -> Draft:
@@ -167,10 +163,10 @@ def without_node(draft: Draft, gone: int) -> Draft:
     return Draft(fewer, tuple(commands))
 
 
-def drop_node(draft: Draft, _outcome: Outcome) -> Iterator[Attempt]:
+def drop_node(draft: Draft, _outcome: Outcome) -> Iterator[Draft]:
     """A node and its commands."""
     if draft.options.nodes > 1:
-        yield from (partial(without_node, draft, node) for node in range(draft.options.nodes))
+        yield from (without_node(draft, node) for node in range(draft.options.nodes))
 
 
 def with_scan(draft: Draft, first: int, last: int) -> Draft:
@@ -180,7 +176,7 @@ def with_scan(draft: Draft, first: int, last: int) -> Draft:
     return replace(draft, commands=(*draft.commands[:first], scan, *draft.commands[last + 1:]))
 
 
-def scan_batch(draft: Draft, _outcome: Outcome) -> Iterator[Attempt]:
+def scan_batch(draft: Draft, _outcome: Outcome) -> Iterator[Draft]:
     """A scan instead of a batch that is taken, tried and put back."""
     commands = draft.commands
     for first, take in enumerate(commands):
@@ -188,23 +184,23 @@ def scan_batch(draft: Draft, _outcome: Outcome) -> Iterator[Attempt]:
         while end < len(commands) and [*commands[end].words] == ["splitnext", *node]:
             end += 1
         if take.words[0] == "take" and end < len(commands) and [*commands[end].words] == ["putback", *node]:
-            yield partial(with_scan, draft, first, end)
+            yield with_scan(draft, first, end)
 
 
-def drop_part(draft: Draft, _outcome: Outcome) -> Iterator[Attempt]:
+def drop_part(draft: Draft, _outcome: Outcome) -> Iterator[Draft]:
     """A run of commands, long ones first."""
     size = len(draft.commands) // 2
     while size:
         for first in range(len(draft.commands) - size, -1, -size):
-            yield partial(drop, draft, set(range(first, first + size)))
+            yield drop(draft, set(range(first, first + size)))
         size //= 2
 
 
-def drop_pair(draft: Draft, _outcome: Outcome) -> Iterator[Attempt]:
+def drop_pair(draft: Draft, _outcome: Outcome) -> Iterator[Draft]:
     """Two commands that aren't neighbours, such as a pin and its end; of short scripts only."""
     count = len(draft.commands)
     if count <= MOST_FOR_PAIRS:
-        yield from (partial(drop, draft, {i, j}) for i in range(count) for j in range(i + 2, count))
+        yield from (drop(draft, {i, j}) for i in range(count) for j in range(i + 2, count))
 
 
 def with_number(draft: Draft, place: int, operand: int, number: int) -> Draft:
@@ -214,20 +210,20 @@ def with_number(draft: Draft, place: int, operand: int, number: int) -> Draft:
     return replace(draft, commands=(*draft.commands[:place], changed, *draft.commands[place + 1:]))
 
 
-def lower_number(draft: Draft, _outcome: Outcome) -> Iterator[Attempt]:
+def lower_number(draft: Draft, _outcome: Outcome) -> Iterator[Draft]:
     """A number that is neither a node nor a page: 0, 1, half of it, one less."""
     for place, command in enumerate(draft.commands):
         for operand in range(3 if command.words[0] in PAGE_COMMANDS else 2, len(command.words)):
             number = number_at(command, operand)
             for lower in sorted({0, 1, number // 2, number - 1}):
                 if 0 <= lower < number:
-                    yield partial(with_number, draft, place, operand, lower)
+                    yield with_number(draft, place, operand, lower)
 
 
-def switch_off(draft: Draft, _outcome: Outcome) -> Iterator[Attempt]:
+def switch_off(draft: Draft, _outcome: Outcome) -> Iterator[Draft]:
     """The thresholds of underused pages."""
     options = draft.options
-    yield lambda: replace(draft, options=replace(options, underused=(None,) * options.nodes))
+    yield replace(draft, options=replace(options, underused=(None,) * options.nodes))
 
 
 STEPS: Sequence[Step] = (cut_end, join_sections, drop_node, scan_batch, drop_part, drop_pair, switch_off, lower_number)

@@ -1,4 +1,6 @@
-"""A node by its journal: map counts, frames, the queue, and what is counted in the model's way and in the kernel's.
+"""What a script is compared by: what the kernel shows after a command, the known differences between kernel and model by letter
+(docs/LINUX.md names the kernel's function for each), and a node by its journal: map counts, frames, the queue, and what is counted
+in the model's way and in the kernel's.
 
 The model's rules are those of docs/MODEL.md; the kernel's are described where a field needs them (mm/rmap.c and
 mm/huge_memory.c of the kernel).
@@ -6,12 +8,68 @@ mm/huge_memory.c of the kernel).
 
 from __future__ import annotations
 
+import enum
+import json
+from collections.abc import Iterable
 from dataclasses import dataclass, field
+from itertools import groupby
 
-
+from ..common.counters import Counts
 from ..common.errors import InputFault
 from ..common.journal import Event
 from ..common.subpages import bits_of
+
+PageName = tuple[int, int]  # node, page
+
+
+class KnownDifference(enum.Enum):
+    """Each is worked out beforehand for each script; a kernel that does anything else differs."""
+
+    A = "counts a page as deferred when it first becomes partly mapped, though it was queued since its fault"
+    B = "gives mapped zero-filled subpages back at any split, the switch being off"
+    C = "queues only pages of PMD size at their fault"
+    D = "takes the threshold 511 as never"
+    E = "puts pages back in reverse order, the newest tried first"
+    F = "makes several passes in one reclaim, so pinned pages fail several times"
+    G = "counts an underused page as deferred when its own split takes PTE mappings away"
+    W = "has thp_split_page and its fellows for PMD size only; below, the statistics of the size"
+
+
+def join_letters(known: Iterable[KnownDifference]) -> str:
+    """Returns the letters in order."""
+    return "".join(sorted(each.name for each in known))
+
+
+@dataclass(frozen=True)
+class PageObservation:
+    """A live page: its frames that are parts of one huge page, the map count of each subpage's frame, and (once it is
+    split) the subpages at which the script's processes map those frames."""
+
+    whole: int
+    counts: tuple[int, ...]
+    mapped: int
+
+
+@dataclass(frozen=True)
+class Observation:
+    """The kernel at one moment. Counters since the script's start, the PMD splits that only served to map less than
+    a whole page taken off. A queue lists page numbers, oldest first, and a frame of no page as its negative; None: it
+    wasn't read. Where the kernel has a queue for each NUMA node, they are joined in the order of these nodes; `numa_nodes` has
+    the NUMA node of each queued page that isn't on node 0."""
+
+    counts: Counts
+    pages: dict[PageName, PageObservation]
+    queues: list[list[int] | None]
+    numa_nodes: dict[PageName, int] = field(default_factory=dict)
+
+    def line(self) -> str:
+        """Returns the look as a line of JSON."""
+        machine = {key.value: value for key, value in self.counts.machine.items()}
+        sizes = [[key.value, order, value] for (key, order), value in self.counts.sizes.items()]
+        pages = [[*name, page.whole, [[count, len([*run])] for count, run in groupby(page.counts)], hex(page.mapped)]
+                 for name, page in self.pages.items()]
+        numa_nodes = {"numa_nodes": [[*name, numa_node] for name, numa_node in self.numa_nodes.items()]} if self.numa_nodes else {}
+        return json.dumps({"machine": machine, "sizes": sizes, "pages": pages, "queues": self.queues, **numa_nodes})
 
 
 @dataclass

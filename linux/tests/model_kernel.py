@@ -17,10 +17,10 @@ from ..common.program import Program
 from ..common.script import Script
 from ..replay.comparison import Difference
 from ..replay.expected_answers import NEVER, ExpectedAnswer, Unsupported, expect_run
-from ..replay.observation import Observation, PageObservation
-from ..replay.runner import Outcome, Result, RunComparer, StoredKernel
-from ..replay.states import NodeState
+from ..replay.runner import Outcome, Result, RunComparer
+from ..replay.states import NodeState, Observation, PageObservation
 from .plain_program import report_of
+from .stored_kernel import StoredKernel
 
 
 class InProcessProgram(Program):
@@ -29,8 +29,8 @@ class InProcessProgram(Program):
     def __init__(self, bug: str = "") -> None:
         self.path, self._bug = "plain", bug
 
-    def _run(self, options: Sequence[str], text: str) -> str:
-        return report_of(options[-1], text, list(options[:-2]), self._bug)
+    def report(self, kind: str, text: str, options: Sequence[str] = ()) -> str:
+        return report_of(kind, text, list(options), self._bug)
 
 
 class ModelKernel:

@@ -1,16 +1,18 @@
 #!/usr/bin/env python3
 """Attacks on the tools that run as root, by another user and by what surrounds them (root).
 
-    linux/tests/root_attacks.py [PROGRAM]
+    linux/tests/root_attacks.py [PROGRAM [CHECKER]]
 
-Outputs that another user has prepared, folders that pretend to be control groups, namespaces,
-environments, closed and full streams, limits, many processes, and signals at random moments. PROGRAM is a thpsplit; without
-it the one that the tools find. The last line is `N passed, M failed`; 77 without root. What a machine lacks is named and
-counted neither way.
+Programs that are traced and killed, files that another user has prepared, folders that pretend to be control groups, namespaces,
+environments, closed and full streams, limits, packages that unpack to gigabytes, and signals at random moments. PROGRAM is a
+thpsplit and CHECKER a thpcheck, by default the plain ones of this folder. The last line is `N passed, M failed`; 77 without root.
+What a machine lacks is named and counted neither way.
 """
 
 from __future__ import annotations
 
+import gzip
+import io
 import os
 import random
 import resource
@@ -19,27 +21,35 @@ import signal
 import stat
 import subprocess
 import sys
+import tarfile
 import tempfile
 import time
+from collections.abc import Callable, Iterator, Sequence
 from contextlib import contextmanager
 from functools import partial
 from pathlib import Path
-from typing import Callable, Dict, Iterator, List, Optional, Sequence
 
 ROOT = Path(__file__).resolve().parent.parent.parent
 sys.path.insert(0, str(ROOT))
 
-from linux.common.errors import BUSY, FAILED, SKIPPED, USAGE  # noqa: E402
+from linux.common.errors import DIFFERS, DONE, FAILED, INCONCLUSIVE, SKIPPED, USAGE  # noqa: E402
 from linux.common.files import THP, read  # noqa: E402
 from linux.common.keeper import Keeper  # noqa: E402
 from linux.common.user import NOBODY  # noqa: E402
+from linux.tests.attackers import attacker  # noqa: E402
 from linux.tests.cases import Cases, Missing  # noqa: E402
 
-REPLAY, RECORD = str(ROOT / "linux/thpreplay"), str(ROOT / "linux/thprecord")
-WHATIF = str(ROOT / "linux/whatif/thpwhatif")
-SCRIPT = str(ROOT / "examples/first.script")
-SECONDS = 30  # that a call gets
-MANY = 3000  # processes of another user
+HERE = Path(__file__).resolve().parent
+REPLAY, RECORD = [str(ROOT / "linux/thpreplay"), "--wait"], [str(ROOT / "linux/thprecord"), "--wait"]
+WHATIF, VM = str(ROOT / "linux/whatif/thpwhatif"), str(ROOT / "linux/thpvm")
+SCRIPT, JOURNAL = str(ROOT / "examples/first.script"), str(ROOT / "examples/kernel.journal")
+OWN = [WHATIF, "now", "--pid", str(os.getpid())]
+HANGS = 600  # seconds after which a call hangs, however loaded the machine is
+STAND_IN = 7  # the status of a command in the stand-in for qemu
+CALLER = 1  # the user behind sudo: Debian's daemon
+PIECE, PIECES = 1 << 20, 2000  # bytes, and their number: what a package unpacks to
+MOST_MEMORY = 1 << 30  # bytes of a tool that reads such a package; without a limit it takes twice what the package unpacks to
+MOST_SEEDS_SECONDS = 15.0  # of processor time, of which all scripts take about a minute
 
 
 class CallResult:
@@ -49,10 +59,11 @@ class CallResult:
         self.status = done.returncode
         self.out, self.problems = done.stdout or b"", done.stderr or b""
 
-    def wrong(self, statuses: Sequence[int], text: str = "") -> Optional[str]:
+    def wrong(self, statuses: Sequence[int], text: str = "") -> str | None:
         """What is wrong where it ended otherwise than with one of these statuses and one line on standard error, which
         has this text."""
-        message = self.problems.decode("ascii", "backslashreplace")
+        told = self.problems.decode("ascii", "backslashreplace").split("\n")
+        message = "\n".join(line for line in told if ": waiting until " not in line)
         if "Traceback" in message or b"Traceback" in self.out:
             return f"a traceback: {message[-300:]}"
         if self.status not in statuses:
@@ -64,8 +75,8 @@ class CallResult:
 
 def call(words: Sequence[str], **more: object) -> CallResult:
     """Runs a tool to its end."""
-    how: Dict[str, object] = {"stdin": subprocess.DEVNULL, "stdout": subprocess.PIPE, "stderr": subprocess.PIPE}
-    done = subprocess.run(list(words), timeout=SECONDS, check=False, **{**how, **more})  # type: ignore[call-overload]
+    how: dict[str, object] = {"stdin": subprocess.DEVNULL, "stdout": subprocess.PIPE, "stderr": subprocess.PIPE}
+    done = subprocess.run(list(words), timeout=HANGS, check=False, **{**how, **more})  # type: ignore[call-overload]
     return CallResult(done)
 
 
@@ -99,22 +110,21 @@ def place_target(path: Path, kind: str, target: Path) -> None:
 
 
 KINDS = ("a link", "a dangling link", "a hard link", "a pipe", "a device", "a folder", "a file")
-OUTPUTS: Dict[str, List[str]] = {
+OUTPUTS: dict[str, list[str]] = {
     "thpwhatif -o": [WHATIF, "snapshot", "--pid", str(os.getpid()), "-o"],
-    "thpwhatif --facts": [WHATIF, "snapshot", "--pid", str(os.getpid()), "--facts"],
     "thpwhatif --svg": [WHATIF, "now", "--pid", str(os.getpid()), "--svg"],
     "thpwhatif --prometheus": [WHATIF, "watch", "1", "--rounds", "1", "--pid", str(os.getpid()), "--prometheus"],
-    "thprecord --out": [RECORD, "--own", "1,5,1", "--out"],
-    "thprecord --records": [RECORD, "--own", "1,5,1", "--records"],
+    "thprecord --out": [*RECORD, "--own", "1,5,1", "--out"],
+    "thprecord --records": [*RECORD, "--own", "1,5,1", "--records"],
 }
-FOLDERS: Dict[str, List[str]] = {
-    "thpwhatif --keep": [WHATIF, "verify", "--pages", "2", "--thresholds", "0", "--keep"],
-    "thpreplay --keep": [REPLAY, SCRIPT, "--keep"],
-    "thpreplay --store": [REPLAY, SCRIPT, "--store"],
+FOLDERS: dict[str, list[str]] = {
+    "thpwhatif --keep": [WHATIF, "verify", "--wait", "--pages", "2", "--thresholds", "0", "--keep"],
+    "thpreplay --keep": [*REPLAY, SCRIPT, "--keep"],
+    "thpreplay --store": [*REPLAY, SCRIPT, "--store"],
 }
 
 
-def outputs_are_refused(words: List[str]) -> Optional[str]:
+def outputs_are_refused(words: list[str]) -> str | None:
     """A tool writes through nothing that another user has put where its output is to go."""
     for kind in KINDS:
         with folder_of_nobody() as folder:
@@ -128,7 +138,7 @@ def outputs_are_refused(words: List[str]) -> Optional[str]:
     return None
 
 
-def folders_are_refused(words: List[str]) -> Optional[str]:
+def folders_are_refused(words: list[str]) -> str | None:
     """A tool writes into no folder that isn't its caller's own."""
     for kind in (*KINDS[:5], "a file", "another's folder", "a folder for all"):
         with folder_of_nobody() as folder:
@@ -146,7 +156,7 @@ def folders_are_refused(words: List[str]) -> Optional[str]:
     return None
 
 
-def pretended_groups_are_refused() -> Optional[str]:
+def pretended_groups_are_refused() -> str | None:
     """A folder with the files of a control group, which are links, is none: nothing is read from it or written to it."""
     for words in ([WHATIF, "now"], [WHATIF, "snapshot"]):
         with folder_of_nobody() as folder:
@@ -160,12 +170,12 @@ def pretended_groups_are_refused() -> Optional[str]:
     return None
 
 
-def user_namespace() -> Optional[str]:
+def user_namespace() -> str | None:
     """Root of a user namespace has no rights: each tool reports that in one line."""
     unshare = shutil.which("unshare") or ""
     if not unshare or call([unshare, "-Ur", "true"], user=NOBODY, group=NOBODY, extra_groups=[]).status:
         raise Missing("no user namespaces for other users")
-    for words in ([WHATIF, "now", "--all"], [WHATIF, "verify"], [REPLAY, SCRIPT], [RECORD]):
+    for words in ([WHATIF, "now", "--all"], [WHATIF, "verify"], [*REPLAY, SCRIPT], RECORD):
         ended = call([unshare, "-Ur", *words], user=NOBODY, group=NOBODY, extra_groups=[], cwd="/")
         wrong = ended.wrong([SKIPPED], "skipped: ")
         if wrong:
@@ -173,29 +183,146 @@ def user_namespace() -> Optional[str]:
     return None
 
 
-def environments() -> Optional[str]:
-    """Modules in the working folder, and what Python's variables name, are not imported."""
+# programs that a tool starts
+
+
+def programs_beside(words: list[str], statuses: Sequence[int], user: int) -> str | None:
+    """A process of a user can neither trace nor kill what a tool starts, and the answer is that without it."""
+    environment = {**os.environ, "SUDO_UID": str(CALLER), "SUDO_GID": str(CALLER)}
+    with subprocess.Popen(words, stdin=subprocess.DEVNULL, stdout=subprocess.PIPE, stderr=subprocess.PIPE, env=environment) as tool:
+        with attacker("forge", str(tool.pid), user=user) as output:
+            out, problems = tool.communicate(timeout=HANGS)
+            found = output().decode("ascii").split("\n")
+    tried = [line for line in found if line.startswith("seen ")]
+    reached = [line for line in found if line and line not in tried]
+    if reached or tool.returncode not in statuses:
+        return f"{reached}; status {tool.returncode}: {problems[-300:]!r} {out[-300:]!r}"
+    return None if tried else "no process was tried"
+
+
+def programs_are_spared(words: list[str], statuses: Sequence[int]) -> str | None:
+    """Neither user nobody nor the caller of sudo reaches them."""
+    if words[0] == WHATIF and call(words).status == SKIPPED:
+        raise Missing("no libthp (make c, or THP_LIB)")
+    return programs_beside(words, statuses, NOBODY) or programs_beside(words, statuses, CALLER)
+
+
+# files of others
+
+
+def settings_of_others() -> str | None:
+    """Of a file beside a script that is a link, or of another form than settings, no word is printed."""
+    secret = "root:$6$secret:1"
+    with folder_of_nobody() as folder:
+        target, script, beside = folder.parent / "target", folder / "x.script", folder / "x.script.args"
+        target.write_text(secret)
+        shutil.copy(SCRIPT, script)
+        os.chown(script, NOBODY, NOBODY)
+        for kind in ("a link", "a hard link", "a file"):
+            if kind == "a file":
+                beside.write_text(secret)
+                os.chown(beside, NOBODY, NOBODY)
+            else:
+                place_target(beside, kind, target)
+            ended = call([*REPLAY, str(script)])
+            wrong = ended.wrong([USAGE], "settings of a script: " if kind == "a file" else "x.script.args ")
+            if wrong or secret[:8].encode() in ended.problems + ended.out:
+                return f"{kind}: {wrong or ended.problems!r}"
+            beside.unlink()
+    return None
+
+
+def seeds_are_read_at_once() -> str | None:
+    """A file of long scripts' seeds is not worked off before the first of them is shown."""
+    with tempfile.TemporaryDirectory() as folder:
+        path = Path(folder) / "seeds"
+        path.write_text("".join(f"{seed} --length 10000\n" for seed in range(1000)))
+        before = resource.getrusage(resource.RUSAGE_CHILDREN).ru_utime
+        with subprocess.Popen([*REPLAY, "--seeds", str(path), "--show"], stdout=subprocess.PIPE, stderr=subprocess.DEVNULL) as tool:
+            assert tool.stdout
+            line = tool.stdout.readline()
+            tool.kill()
+        used = resource.getrusage(resource.RUSAGE_CHILDREN).ru_utime - before
+    return None if line.startswith(b"# thpsplit ") and used < MOST_SEEDS_SECONDS else f"{line!r} after {used:.1f} s"
+
+
+def part(name: str, data: bytes) -> bytes:
+    """Returns a member of a package (ar(5))."""
+    return name.ljust(48).encode() + str(len(data)).ljust(10).encode() + b"`\n" + data + b"\n" * (len(data) % 2)
+
+
+def make_bomb(path: Path, kind: bytes) -> None:
+    """Writes a package whose first header has gigabytes."""
+    control, content = io.BytesIO(), b"Package: x\nVersion: 1\nArchitecture: all\nMaintainer: x <x@x>\nDescription: x\n"
+    with tarfile.open(fileobj=control, mode="w:gz") as archive:
+        info = tarfile.TarInfo("./control")
+        info.size = len(content)
+        archive.addfile(info, io.BytesIO(content))
+    head = tarfile.TarInfo("./boot/vmlinuz-1")
+    head.type, head.size = kind, PIECE * PIECES
+    data = gzip.compress(head.tobuf(tarfile.USTAR_FORMAT)) + gzip.compress(bytes(PIECE)) * PIECES + gzip.compress(bytes(1024))
+    path.write_bytes(b"!<arch>\n" + part("debian-binary", b"2.0\n") + part("control.tar.gz", control.getvalue())
+                     + part("data.tar.gz", data))
+
+
+@contextmanager
+def stand_in_for_qemu() -> Iterator[tuple[Path, dict[str, str]]]:
+    """A folder with a stand-in for qemu and an image of a kernel, and the environment that finds it."""
+    with tempfile.TemporaryDirectory() as name:
+        folder = Path(name)
+        folder.chmod(0o755)
+        shutil.copy(HERE / "qemu_stand_in.py", folder / "qemu-system-x86_64")
+        (folder / "qemu-system-x86_64").chmod(0o755)
+        (folder / "image").write_bytes(bytes(0x202) + b"HdrS" + b"the rest")
+        yield folder, {**os.environ, "PATH": f"{folder}:{os.environ['PATH']}"}
+
+
+def packages_are_bounded() -> str | None:
+    """A package of which a header, or a file, unpacks to gigabytes is refused in little memory."""
+    if not shutil.which("dpkg-deb"):
+        raise Missing("no dpkg-deb")
+    with stand_in_for_qemu() as (folder, environment):
+        for kind in (tarfile.XHDTYPE, tarfile.GNUTYPE_LONGNAME, tarfile.REGTYPE):
+            make_bomb(folder / "bomb.deb", kind)
+            with subprocess.Popen([VM, str(folder / "bomb.deb"), "--", "true"], stderr=subprocess.PIPE, env=environment) as tool:
+                assert tool.stderr
+                message = tool.stderr.read()
+                _, status, usage = os.wait4(tool.pid, 0)
+                tool.returncode = os.waitstatus_to_exitcode(status)
+            if tool.returncode not in (USAGE, FAILED) or message.count(b"\n") != 1 or usage.ru_maxrss << 10 > MOST_MEMORY:
+                return f"{kind!r}: status {tool.returncode}, {usage.ru_maxrss >> 10} MiB: {message[-300:]!r}"
+    return None
+
+
+# what surrounds a tool
+
+
+def environments() -> str | None:
+    """Modules in the working folder, and what Python's variables name, are not imported; a compiler that is none, and a cache from
+    which nothing can be run, end no tool badly."""
+    tools = [(OWN, [DONE]), ([*REPLAY, SCRIPT], [DONE, INCONCLUSIVE]), ([*RECORD, "--own", "1,5,1"], [DONE])]
+    no_cache = ["unshare", "-m", "sh", "-c", 'mkdir -p /var/cache/leversorrel && mount -t tmpfs -o noexec,mode=700 none '
+                '/var/cache/leversorrel && exec "$@"', "sh"]
     with folder_of_nobody() as folder:
         for name in ("json", "argparse", "socket", "sitecustomize", "usercustomize"):
             (folder / f"{name}.py").write_text(f"open({str(folder / 'imported')!r}, 'w')\n")
         more = {"PYTHONPATH": str(folder), "PYTHONHOME": str(folder), "PYTHONUSERBASE": str(folder), "PYTHONINSPECT": "1"}
-        for words in ([WHATIF, "now", "--pid", str(os.getpid())], [REPLAY, SCRIPT], [RECORD, "--own", "1,5,1"]):
-            ended = call(words, cwd=folder, env={**os.environ, **more})
-            if (folder / "imported").exists():
-                return f"{Path(words[0]).name} imports another's module"
-            wrong = ended.wrong([0, BUSY])
-            if wrong:
-                return wrong
+        for words, statuses in tools:
+            wrong = call(words, cwd=folder, env={**os.environ, **more}).wrong(statuses)
+            wrong = wrong or call(words, env={**os.environ, "CC": '"'}).wrong([*statuses, SKIPPED])
+            wrong = wrong or call([*no_cache, *words]).wrong([*statuses, SKIPPED])
+            if wrong or (folder / "imported").exists():
+                return wrong or f"{Path(words[0]).name} imports another's module"
     return None
 
 
-def spoilt_streams() -> Optional[str]:
+def spoilt_streams() -> str | None:
     """Closed streams end nothing badly, and a full one is reported."""
-    for words in ([WHATIF, "now", "--pid", str(os.getpid())], [REPLAY, SCRIPT]):
+    for words in (OWN, [*REPLAY, SCRIPT], [*RECORD, "--own", "1,5,1"]):
         for closed in ((0,), (1,), (2,), (0, 1, 2)):
             shell = " ".join(f"{number}>&-" if number else "0<&-" for number in closed)
             ended = call(["sh", "-c", f'exec "$@" {shell}', "sh", *words])
-            wrong = ended.wrong([0, FAILED])
+            wrong = ended.wrong([DONE, FAILED, INCONCLUSIVE])
             if wrong:
                 return f"{closed} closed: {wrong}"
         with open("/dev/full", "wb") as full:
@@ -205,53 +332,35 @@ def spoilt_streams() -> Optional[str]:
     return None
 
 
-def limits() -> Optional[str]:
-    """With few descriptors, processes, bytes of memory or of files a tool ends by itself, in a line, and all is put back."""
-    cases = {resource.RLIMIT_NOFILE: (5, 8, 12, 20), resource.RLIMIT_AS: (60 << 20, 200 << 20),
-             resource.RLIMIT_FSIZE: (0, 4096), resource.RLIMIT_STACK: (1 << 20,)}
-    for which, values in cases.items():
-        for value in values:
-            for words in ([WHATIF, "now", "--pid", str(os.getpid())], [REPLAY, SCRIPT]):
-                set_limit = partial(resource.setrlimit, which, (value, value))
-                ended = call(words, preexec_fn=set_limit)
-                message = ended.problems
-                if ended.status < 0 or b"Traceback" in message and b"linux/common" in message:
-                    return f"limit {which} of {value}: status {ended.status}: {message[-200:]!r}"
+LIMITS = {
+    resource.RLIMIT_NOFILE: (3, 4, 5, 6, 8, 10, 12, 14, 16, 18, 20), resource.RLIMIT_FSIZE: (0, 100, 4096),
+    resource.RLIMIT_AS: (60 << 20, 200 << 20), resource.RLIMIT_NPROC: (0, 1), resource.RLIMIT_STACK: (1 << 20,),
+}
+
+
+def limits(words: list[str], answer: bytes) -> str | None:
+    """With few descriptors, processes, bytes of memory or of files a tool gives its answer, or ends with one line."""
+    with stand_in_for_qemu() as (folder, environment):
+        words = [word.replace("FOLDER", str(folder)) for word in words]
+        for which, values in LIMITS.items():
+            for value in values:
+                ended = call(words, preexec_fn=partial(resource.setrlimit, which, (value, value)), env=environment)
+                wrong = ended.wrong([FAILED, SKIPPED, 1, 127], ": ")  # 1, 127: Python can't begin
+                if answer in ended.out:
+                    wrong = ended.wrong([DONE, INCONCLUSIVE, STAND_IN])
+                if wrong:
+                    return f"limit {which} of {value}: {wrong}"
     return None
 
 
-@contextmanager
-def processes_of_nobody(count: int) -> Iterator[int]:
-    """Processes of another user, as many as he may have."""
-    code = ("import os, signal, sys\nfor _ in range(int(sys.argv[1])):\n    try:\n        if os.fork() == 0:\n"
-            "            signal.pause()\n    except OSError:\n        break\nprint('ready', flush=True)\nsignal.pause()\n")
-    child = subprocess.Popen(["/usr/bin/python3", "-c", code, str(count)], stdout=subprocess.PIPE, start_new_session=True,
-                             user=NOBODY, group=NOBODY, extra_groups=[])
-    try:
-        assert child.stdout
-        child.stdout.readline()
-        yield child.pid
-    finally:
-        os.killpg(child.pid, signal.SIGKILL)
-        child.wait()
-        child.stdout.close() if child.stdout else None
+# signals
 
 
-def many_processes() -> Optional[str]:
-    """A look at thousands of processes ends in time."""
-    with processes_of_nobody(MANY):
-        began = time.monotonic()
-        wrong = call([WHATIF, "now", "--all"]).wrong([0])
-        lasted = time.monotonic() - began
-        return wrong or (f"{lasted:.0f} s" if lasted > 20 else None)
-
-
-def settings() -> List[str]:
-    """Every setting of transparent huge pages, once no tool runs."""
-    with Keeper("test", wait=True):
-        pass
+def settings() -> list[str]:
+    """Every setting of transparent huge pages, while no tool runs."""
     paths = sorted(path for path in Path(THP).rglob("*") if path.is_file() and path.stat().st_mode & 0o200)
-    return [read(path) for path in paths if "stats" not in path.parts]
+    with Keeper("test", wait=True):
+        return [read(path) for path in paths if "stats" not in path.parts]
 
 
 def end_of(child: subprocess.Popen[bytes]) -> bytes:
@@ -261,13 +370,13 @@ def end_of(child: subprocess.Popen[bytes]) -> bytes:
     except subprocess.TimeoutExpired:
         child.send_signal(signal.SIGTERM)
     try:
-        return child.communicate(timeout=SECONDS)[1]
+        return child.communicate(timeout=HANGS)[1]
     except subprocess.TimeoutExpired:
         child.kill()
         return child.communicate()[1] + b"Traceback: SIGTERM didn't end it"
 
 
-def signals_at_random(words: List[str], rounds: int) -> Optional[str]:
+def signals_at_random(words: list[str], rounds: int) -> str | None:
     """Any signal at any moment: no traceback, and all is put back."""
     chance, before = random.Random(1), settings()
     kinds = [signal.SIGINT, signal.SIGTERM, signal.SIGHUP, signal.SIGQUIT, signal.SIGPIPE, signal.SIGALRM, signal.SIGUSR1,
@@ -290,27 +399,34 @@ def main() -> int:
     if os.geteuid() != 0:
         print("root_attacks: skipped: not root", file=sys.stderr)
         return SKIPPED
-    if len(sys.argv) > 1:
-        os.environ["THPSPLIT"] = str(Path(sys.argv[1]).resolve())
-    cases = Cases("root_attacks")
+    plain = [str(HERE / "plain_program.py"), str(HERE / "plain_checker.py")]
+    os.environ["THPSPLIT"], os.environ["THPCHECK"] = [os.path.abspath(path) for path in [*sys.argv[1:3], *plain[len(sys.argv) - 1:]]]
+    cases = Cases("root_attacks", 2 * HANGS)
+    judged = {"thpreplay": ([*REPLAY, "--random", "6", "--quiet"], [DONE, INCONCLUSIVE]),
+              "thprecord": ([*RECORD, "--own", "1,50,1"], [DONE]),
+              "thpwhatif policies": ([WHATIF, "policies", JOURNAL], [DONE, DIFFERS])}
+    for name, (words, statuses) in judged.items():
+        cases.run(f"programs of {name}", partial(programs_are_spared, words, statuses))
     for name, words in OUTPUTS.items():
         cases.run(f"planted outputs of {name}", partial(outputs_are_refused, words))
     for name, words in FOLDERS.items():
         cases.run(f"planted folders of {name}", partial(folders_are_refused, words))
-    several: Dict[str, Callable[[], Optional[str]]] = {
-        "folders that pretend to be control groups": pretended_groups_are_refused,
-        "user namespaces": user_namespace,
-        "environments": environments,
-        "closed and full streams": spoilt_streams,
-        "limits": limits,
-        f"{MANY} processes": many_processes,
+    several: dict[str, Callable[[], str | None]] = {
+        "settings beside a script that are another's": settings_of_others, "seeds": seeds_are_read_at_once,
+        "packages that unpack to gigabytes": packages_are_bounded,
+        "folders that pretend to be control groups": pretended_groups_are_refused, "user namespaces": user_namespace,
+        "environments": environments, "closed and full streams": spoilt_streams,
     }
     for name, case in several.items():
         cases.run(name, case)
-    tools = {"thpwhatif now": [WHATIF, "now", "--all"], "thpwhatif verify": [WHATIF, "verify", "--rounds", "9"],
-             "thpreplay": [REPLAY, "--random", "1000", "--quiet"], "thprecord": [RECORD, "--own", "1,100000,1"]}
+    limited = {"thpreplay": ([*REPLAY, SCRIPT], b"first.script: "), "thprecord": ([*RECORD, "--own", "1,5,1"], b"legal"),
+               "thpvm": ([VM, "--accel", "emulation", "FOLDER/image", "--", "true"], b"out\n")}
+    for name, (words, answer) in limited.items():
+        cases.run(f"limits of {name}", partial(limits, words, answer))
+    tools = {"thpwhatif verify": [WHATIF, "verify", "--wait", "--rounds", "9"],
+             "thpreplay": [*REPLAY, "--random", "1000", "--quiet"], "thprecord": [*RECORD, "--own", "1,100000,1"]}
     for name, words in tools.items():
-        cases.run(f"signals to {name}", partial(signals_at_random, words, 10))
+        cases.run(f"signals to {name}", partial(signals_at_random, words, 6))
     return cases.end()
 
 

@@ -7,7 +7,7 @@ Each case records a workload, has `thpcheck --script` write the journal's script
 many pages as the recorded ones, and give back as many frames. A line has these numbers, the events of the recording, and the pins that
 the recorder inferred; it ends in `exact` if the script's journal is the recording's, except for callers and blocks. Else the messages of
 `thpcheck` follow, and the first line that differs. The last line is `N passed, M failed`; 77 without root or the programs. A case whose
-workload isn't installed is skipped. Takes about three minutes.
+workload isn't installed is skipped. Takes about two minutes.
 """
 
 from __future__ import annotations
@@ -22,7 +22,7 @@ import tempfile
 from dataclasses import dataclass, field
 from functools import partial
 from pathlib import Path
-from typing import IO, Dict, List, NamedTuple, Optional, Sequence, Tuple, Union
+from typing import IO, NamedTuple, Sequence, Union
 
 ROOT = Path(__file__).resolve().parent.parent.parent
 sys.path.insert(0, str(ROOT))
@@ -51,13 +51,13 @@ class Workload(NamedTuple):
 UNDERUSED = "--underused 100 "
 JAVA = ("java", "-XX:+UseTransparentHugePages", "-Xms16m", "-Xmx600m", str(RECORDER / "Heap.java"))
 COMPILER = ("g++", "-std=c++17", "-O2", "-c", "-o", "/dev/null", str(WHATIF / "heavy.cpp"))
-WORKLOADS: Dict[str, Workload] = {
+WORKLOADS: dict[str, Workload] = {
     "python3": Workload(UNDERUSED, (*LARGE, PYTHON, str(RECORDER / "strings.py"), "1", "40"), PYTHON),
-    "sqlite3": Workload(UNDERUSED + "--seconds 6", (*LARGE, "sh", "-c", f"sqlite3 :memory: < {WHATIF / 'blobs.sql'}"), "sqlite3"),
+    "sqlite3": Workload(UNDERUSED + "--seconds 4", (*LARGE, "sh", "-c", f"sqlite3 :memory: < {WHATIF / 'blobs.sql'}"), "sqlite3"),
     # a reclaim also takes the pages of the programs, which are read again from disk
     "sort": Workload(UNDERUSED + "--every 0.1", (*LARGE, "sh", "-c", NUMBERS), "sort"),
-    "gcc": Workload(UNDERUSED + "--every 0.5 --seconds 15", (*LARGE, *COMPILER), "g++"),
-    "java": Workload(UNDERUSED + "--seconds 15", JAVA, "java"),
+    "gcc": Workload(UNDERUSED + "--every 0.5 --seconds 8", (*LARGE, *COMPILER), "g++"),
+    "java": Workload(UNDERUSED + "--seconds 8", JAVA, "java"),
     "fork": Workload("--own 1,2000,1"),
     "copy on write": Workload("", (PYTHON, str(RECORDER / "snapshots.py"), "1"), PYTHON),
     "threads": Workload("--own 4,3000,1"),
@@ -75,7 +75,7 @@ class Outcome:
     split: int = 0
     frames: int = 0
     pins: int = 0
-    lines: List[str] = field(default_factory=list)
+    lines: list[str] = field(default_factory=list)
 
     def add(self, line: str) -> None:
         """Adds a line of the journal."""
@@ -105,13 +105,13 @@ def outcome_of(path: Path) -> Outcome:
     return out
 
 
-def run(words: List[str], stdin: Stream = subprocess.DEVNULL, stdout: Stream = subprocess.DEVNULL) -> Tuple[int, List[str]]:
+def run(words: list[str], stdin: Stream = subprocess.DEVNULL, stdout: Stream = subprocess.DEVNULL) -> tuple[int, list[str]]:
     """Runs a program; returns its status and messages."""
     done = subprocess.run(words, stdin=stdin, stdout=stdout, stderr=subprocess.PIPE, text=True, errors="replace", check=False)
     return done.returncode, [line for line in done.stderr.split("\n") if line]
 
 
-def record(path: Path, workload: Workload) -> Optional[str]:
+def record(path: Path, workload: Workload) -> str | None:
     """Records a workload into a journal; returns what is wrong. Missing where it can't be recorded here."""
     if workload.needed and not shutil.which(workload.needed):
         raise Missing(f"no {workload.needed}")
@@ -123,7 +123,7 @@ def record(path: Path, workload: Workload) -> Optional[str]:
     return None if status == DONE else f"status {status}: {printable('; '.join(messages))}"
 
 
-def repeat(path: Path, judge: str, splitter: str) -> Tuple[Path, List[str]]:
+def repeat(path: Path, judge: str, splitter: str) -> tuple[Path, list[str]]:
     """Runs the script of a journal; returns where its journal is, and all messages."""
     script, again = path.with_suffix(".script"), path.with_suffix(".again")
     with path.open("rb") as source, script.open("wb") as out:
@@ -140,7 +140,7 @@ def printable(text: str) -> str:
     return re.sub("[^ -~]", "?", text)[:200]
 
 
-def compare(path: Path, workload: Workload, judge: str, splitter: str) -> Optional[str]:
+def compare(path: Path, workload: Workload, judge: str, splitter: str) -> str | None:
     """Records a workload, and compares it with its script."""
     wrong = record(path, workload)
     if wrong:
@@ -156,7 +156,7 @@ def compare(path: Path, workload: Workload, judge: str, splitter: str) -> Option
     return None if (recorded.split, recorded.frames) == (again.split, again.frames) else "other splits or frames"
 
 
-def main(names: List[str]) -> int:
+def main(names: list[str]) -> int:
     """Runs all cases, or those that are named."""
     if unknown := set(names) - set(WORKLOADS):
         print(f"root_scripts: no case {printable(unknown.pop())}; there are: {', '.join(WORKLOADS)}", file=sys.stderr)

@@ -11,8 +11,7 @@ from pathlib import Path
 from typing import Tuple
 from unittest import mock
 
-from ..common import checker as checkers
-from ..common import program as programs
+from ..common import checker as checkers, program as programs
 from ..common.checker import Checker, find_checker
 from ..common.errors import InputFault, Unavailable
 from ..common.journal import journal_of

@@ -16,8 +16,9 @@ from ..replay.comparison import Difference
 from ..replay.expected_answers import Unsupported, expect_run
 from ..replay.generator import Shape, scripts
 from ..replay.pages import KernelPages
-from ..replay.runner import Outcome, Result, RunComparer, StoredKernel
+from ..replay.runner import Outcome, Result, RunComparer
 from .model_kernel import InProcessProgram, ModelKernel
+from .stored_kernel import StoredKernel
 
 SHAPE = Shape(nodes=(1,), orders=(9, 4), thresholds=(None,), scans_parts=True)
 PARTLY = [f"{word} 0 {page}{rest}" for page in range(4) for word, rest in (("splitpmd", ""), ("unmap", " 0 8"))]

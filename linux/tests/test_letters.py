@@ -19,15 +19,13 @@ from ..common.errors import InputFault, Unavailable
 from ..common.script import MARK, Script
 from ..replay import bisection
 from ..replay.expected_answers import Step, read_expected_answers
-from ..replay.known_differences import KnownDifference
 from ..replay.letters import (
     MOST_RUNS, ONLY_RECORDINGS, Finding, LetterScript, Look, Match, find_all, find_letter, letters, markdown, read_letter,
     read_look,
 )
-from ..replay.observation import Observation, PageObservation
 from ..replay.runner import Outcome, Result
 from ..replay.shrinking import Draft, drop
-from ..replay.states import NodeState
+from ..replay.states import KnownDifference, NodeState, Observation, PageObservation
 from .git_repository import Git
 from .matrix import columns_of, find_wrong
 from .model_kernel import InProcessProgram, ModelKernel

@@ -20,19 +20,13 @@ from ..replay.options import parse_shape, parse_words
 from ..replay.comparison import CounterDifference, Difference
 from ..replay.expected_answers import Unsupported, expect_run
 from ..replay.generator import Generator, Shape, scripts
-from ..replay.known_differences import KnownDifference
-from ..replay.observation import Observation, PageObservation, parse_observation
-from ..replay.runner import Result, RunComparer, Runner, StoredKernel, judge_tries
-from ..replay.states import NodeState
+from ..replay.runner import Result, RunComparer, Runner, judge_tries
+from ..replay.states import KnownDifference, NodeState, Observation, PageObservation
 from .plain_program import inject_bug
+from .stored_kernel import StoredKernel, load, parse_observation
 
 HERE = Path(__file__).resolve().parent
 PLAIN = str(HERE / "plain_program.py")
-
-
-def load(name: str) -> Tuple[Script, List[Observation]]:
-    script = read_script(str(HERE / f"stored/{name}.script"))
-    return script, [parse_observation(line) for line in (HERE / f"stored/{name}.looks").read_text().split("\n")[:-1]]
 
 
 def replay(script: Script, looks: List[Observation], program: str = PLAIN) -> str:
@@ -63,23 +57,6 @@ class StoredTest(unittest.TestCase):
     def test_looks_are_read_as_they_were_written(self) -> None:
         for look in load("fork")[1]:
             self.assertEqual(parse_observation(look.line()), look)
-
-    def test_lines_that_are_no_looks_are_refused(self) -> None:
-        line = load("fork")[1][3].line()
-        chance = random.Random(3)
-        bad = ["", "{}", "[" * 100000, "null", "NaN", '{"machine": 1}', line[:-5], line.replace("0x", "0x" + "f" * 200),
-               line.replace('"queues": [', '"queues": [[1e99], ')]
-        for text in bad:
-            with self.subTest(text[:40]), self.assertRaises(InputFault):
-                parse_observation(text)
-        for _ in range(2000):
-            at = chance.randrange(len(line))
-            letter = chr(chance.choice([chance.randrange(32, 127), 0x2028]))
-            text = line[:at] + letter + line[at + chance.randint(0, 2):]
-            try:
-                parse_observation(text)
-            except InputFault:
-                pass
 
     def differs_if(self, name: str, at: int, spoil: Callable[[Observation], Observation], pattern: str) -> None:
         script, looks = load(name)
@@ -330,7 +307,7 @@ class WordsTest(unittest.TestCase):
     def test_a_program_that_answers_nonsense_is_refused(self) -> None:
         for answer in ("taken x", "taken", "", "taken 9 split 9 pinned 9 back"):
             program = mock.Mock(path="x")
-            program.answers.return_value = [mock.Mock(text=answer)]
+            program.answers.return_value = [answer]
             program.journal.return_value = [mock.Mock(events=[])]
             with self.subTest(answer), self.assertRaises(InputFault):
                 expect_run(script_of("x", "setup\nscan 0 8\n"), program)

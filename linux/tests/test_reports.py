@@ -18,7 +18,7 @@ from ..common.machine import Part
 from ..common.script import Script, script_of
 from ..replay import __main__ as tool
 from ..replay.options import list_scripts, parse_words
-from ..replay.reports import JsonReport, KtapReport, Report, RunHead, TextReport, kselftest_status
+from ..replay.reports import JsonReport, KtapReport, Report, RunHead, kselftest_status
 from ..replay.runner import Outcome, Result
 from ..replay.shrinking import SmallScript
 
@@ -98,7 +98,7 @@ class JsonTest(unittest.TestCase):
 
 class TextTest(unittest.TestCase):
     def test_quiet_prints_what_is_wrong(self) -> None:
-        lines = [line for line in printed(TextReport(True)) if ".script: " in line]
+        lines = [line for line in printed(Report(True)) if ".script: " in line]
         self.assertEqual([line.split(": ")[1] for line in lines], ["differs", "inconclusive"])
 
 

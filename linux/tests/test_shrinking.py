@@ -93,7 +93,7 @@ class ShrinkTest(unittest.TestCase):
     def test_a_batch_becomes_a_scan(self) -> None:
         batch = "take 0 9\nsplitnext 0\nsplitnext 0\nputback 0\n"
         script = script_of("x", f"# thpsplit --nodes 2\nsetup\nalloc 0\n{batch}count 0\n{batch.replace('splitnext 0', 'splitnext 1', 1)}")
-        found = [attempt() for attempt in scan_batch(Draft(script.options, tuple(script.commands())), Outcome(Result.DIFFERS))]
+        found = list(scan_batch(Draft(script.options, tuple(script.commands())), Outcome(Result.DIFFERS)))
         self.assertEqual([" ".join(each.words) for each in found[0].commands[:3]], ["alloc 0", "scan 0 9", "count 0"])
         self.assertEqual([len(each.commands) for each in found], [7])
         program = InProcessProgram("splits-pinned")

@@ -20,7 +20,7 @@ from ..vm import init
 from ..vm.archive import Archive
 from ..vm.guest_files import LIBRARY, GuestFiles, libraries_of
 from ..vm.kernels import find_kernel
-from ..vm.messages import Console, MessageReader
+from ..vm.messages import Console, MessageReader, parse_status
 from ..vm.options import parse_words
 from ..vm.packages import extract_image, next_package
 from ..vm.guest_run import GuestRun, KvmFailed, Limits
@@ -79,7 +79,7 @@ class MessageTests(unittest.TestCase):
             reader, found = MessageReader(), []
             for at in range(0, len(data), size):
                 found += list(reader.add(data[at : at + size]))
-            self.assertEqual([(each.letter, each.content) for each in found], [(b"O", b"abc"), (b"S", b"4")])
+            self.assertEqual(found, [(b"O", b"abc"), (b"S", b"4")])
 
     def test_other_bytes_are_no_message(self) -> None:
         for data in (b"x\x00\x00\x00\x00", b"O\xff\xff\xff\xff"):
@@ -88,9 +88,8 @@ class MessageTests(unittest.TestCase):
 
     def test_a_status_is_a_number_up_to_255(self) -> None:
         for content in (b"", b"-1", b"256", b"1\n", b"0x1"):
-            message = next(MessageReader().add(b"S" + len(content).to_bytes(4, "little") + content))
             with self.assertRaises(RunFailed):
-                self.assertIsNone(message.status)
+                parse_status(content)
 
     def test_the_console_ends_at_a_panic_and_is_printable(self) -> None:
         console = Console()
@@ -185,7 +184,7 @@ class FirstProcessTests(unittest.TestCase):
         status = init.Follower(line_end, child, {out: b"O", problems: b"E"}).follow()
         os.close(line_end)
         with open(line, "rb") as file:
-            found = [(each.letter, each.content) for each in MessageReader().add(file.read())]
+            found = list(MessageReader().add(file.read()))
         os.close(out)
         os.close(problems)
         return status, [each for each in found if each[0] != b"B"]

@@ -13,10 +13,9 @@ from ..common.tool import run_tool
 from .archive import Archive
 from .guest_files import GuestFiles, Plan
 from .guest_run import GuestRun, KvmFailed, Limits
-from .kernels import Kernel, find_kernel
-from .messages import Console
+from .kernels import find_kernel
 from .options import NAME, parse_words
-from .virtual_machine import Shape, VirtualMachine, find_kvm_problem, find_qemu, memory_file
+from .virtual_machine import Shape, VirtualMachine, find_qemu, memory_file
 
 UNDECIDED = 125  # git-bisect(1): the commit is skipped
 
@@ -24,12 +23,6 @@ UNDECIDED = 125  # git-bisect(1): the commit is skipped
 def report(text: str) -> None:
     """Writes a line on standard error."""
     print(f"{NAME}: {text}", file=sys.stderr, flush=True)
-
-
-def print_console(console: Console) -> None:
-    """Writes the end of a guest's console on standard error."""
-    for line in console.lines():
-        report(f"console: {line}")
 
 
 def make_files(plan: Plan) -> int:
@@ -40,55 +33,40 @@ def make_files(plan: Plan) -> int:
     return descriptor
 
 
-class Host:
-    """Runs the guest of a command line."""
-
-    def __init__(self, options: argparse.Namespace, kernel: Kernel) -> None:
-        self._options, self._kernel = options, kernel
-        self._shape = Shape(options.memory, options.numa, options.processors)
-        self._limits = Limits(options.boot_limit, options.limit, options.silence)
-        variables = dict(each.split("=", 1) for each in options.set)
-        plan = Plan(options.command, os.getcwd(), options.cgroup, options.file, variables)
-        self._image, self._files = memory_file("kernel", kernel.image), make_files(plan)
-
-    def run(self) -> int:
-        """Returns the command's status: with KVM where it works, else by emulation."""
-        problem: str | None = "not wanted"
-        if self._options.accel != "emulation":
-            problem = find_kvm_problem()
-            if not problem:
-                try:
-                    return self._run_once(True)
-                except KvmFailed as failure:
-                    problem = f"KVM can't run this guest: {failure}"
-            if self._options.accel == "kvm":
-                raise Unavailable(f"no KVM: {problem}")
-        if self._options.verbose:
-            report(f"emulation, without KVM: {problem}")
-        return self._run_once(False)
-
-    def _run_once(self, with_kvm: bool) -> int:
-        began = time.monotonic()
-        machine = VirtualMachine(self._shape, self._image, self._files, with_kvm, self._options.append)
-        try:
-            run = GuestRun(machine, self._kernel.name, self._limits)
-            try:
-                status = run.run()
-            except RunFailed:
-                print_console(run.console)
-                raise
-            if self._options.verbose:
-                report(f"{run.release}: booted in {run.booted:.1f} s, ended after {time.monotonic() - began:.1f} s")
-            return status
-        finally:
-            machine.end()
+def run_guest(machine: VirtualMachine, name: str, options: argparse.Namespace) -> int:
+    """Runs a guest to its end; returns the command's status. Where that fails, the end of the console is written."""
+    run, began = GuestRun(machine, name, Limits(options.boot_limit, options.limit, options.silence)), time.monotonic()
+    try:
+        status = run.run()
+    except RunFailed:
+        for line in run.console.lines():
+            report(f"console: {line}")
+        raise
+    finally:
+        machine.end()
+    if options.verbose:
+        report(f"{run.release}: booted in {run.booted:.1f} s, ended after {time.monotonic() - began:.1f} s")
+    return status
 
 
 def run_command() -> int:
-    """Carries out the command line, and returns the command's status."""
-    options = parse_words()
+    """Carries out the command line, and returns the command's status: with KVM where it works, else by emulation."""
+    options, problem = parse_words(), "not wanted"
     find_qemu()
-    return Host(options, find_kernel(options.kernel, options.suite)).run()
+    kernel, shape = find_kernel(options.kernel, options.suite), Shape(options.memory, options.numa, options.processors)
+    variables = dict(each.split("=", 1) for each in options.set)
+    files = make_files(Plan(options.command, os.getcwd(), options.cgroup, options.file, variables))
+    image = memory_file("kernel", kernel.image)
+    if options.accel != "emulation":
+        try:
+            return run_guest(VirtualMachine(shape, image, files, True, options.append), kernel.name, options)
+        except KvmFailed as failure:
+            problem = str(failure)
+        if options.accel == "kvm":
+            raise Unavailable(f"no KVM: {problem}")
+    if options.verbose:
+        report(f"emulation, without KVM: {problem}")
+    return run_guest(VirtualMachine(shape, image, files, False, options.append), kernel.name, options)
 
 
 def start() -> NoReturn:

@@ -15,7 +15,7 @@ import stat
 import subprocess
 from dataclasses import dataclass, field
 from pathlib import Path
-from typing import Sequence
+from typing import Callable, Sequence
 
 from ..common.errors import InputFault, Unavailable
 from ..common.helpers import LINUX, helper
@@ -30,6 +30,7 @@ LOADER = "/lib64/ld-linux-x86-64.so.2"
 TOOLS = ("thpreplay", "thprecord", "thpbisect", "thpwhatif")
 COMMANDS = ("cat", "cp", "dmesg", "echo", "env", "false", "grep", "head", "id", "ls", "mkdir", "nproc", "rm", "sh", "sleep",
             "tail", "true", "uname")
+NOT_SOURCES = {"__pycache__", "out", "target"}
 FOLDERS_OF_CHECKOUT = ("linux", "tests", "examples", "bench")
 UNUSED = {"__pycache__", "out", "test", "tests", "idlelib", "lib2to3", "ensurepip", "tkinter", "turtledemo", "pydoc_data"}
 MOST_FILE, MOST_FILES = 64 << 20, 100000  # bytes of a file, files of a folder
@@ -37,8 +38,6 @@ SEARCHED = "/usr/local/sbin:/usr/local/bin:/usr/sbin:/usr/bin:/sbin:/bin"
 MERGED = re.compile("/(bin|sbin|lib|lib64)/")
 PASSWD = "root:x:0:0:root:/root:/bin/sh\nnobody:x:65534:65534:nobody:/nonexistent:/usr/sbin/nologin\n"
 GROUP = "root:x:0:\nnogroup:x:65534:\n"
-HELPERS = ("known", "mapper", "pages.so", "thpkernel.so", "workload")
-OVER_LIBTHP = ("policies", "predict.so")  # built only where libthp is
 
 
 @dataclass(frozen=True)
@@ -117,11 +116,11 @@ class GuestFiles:
         if data[:4] == b"\x7fELF":
             self._programs.append(path)
 
-    def _add_folder(self, path: str, place: str, is_wanted: bool = True) -> None:
-        """Adds a folder's files; `is_wanted`: also those that the guest rarely needs."""
+    def _add_folder(self, path: str, place: str, unused: Callable[[str], bool] = lambda name: False) -> None:
+        """Adds a folder's files, without the folders whose names are unused in the guest."""
         count = 0
         for folder, folders, names in os.walk(path):
-            folders[:] = sorted(name for name in folders if is_wanted or name not in UNUSED and not name.startswith("config-"))
+            folders[:] = sorted(name for name in folders if not unused(name))
             count += len(names)
             if count > MOST_FILES:
                 raise InputFault(f"{escape(path)} has more than {MOST_FILES} files")
@@ -133,17 +132,17 @@ class GuestFiles:
     def _add_python(self) -> None:
         self._add_found(PYTHON)
         place = standard_library()
-        self._add_folder(place, self.path_in_guest(place), False)
+        self._add_folder(place, self.path_in_guest(place), lambda name: name in UNUSED or name.startswith("config-"))
 
     def _add_tools(self) -> None:
         folders = FOLDERS_OF_CHECKOUT if self._is_checkout else ("linux",)
         for name in folders:
             path = self._checkout / name
             if path.is_dir():
-                self._add_sources(str(path), f"{LIBRARY}/{name}")
+                self._add_folder(str(path), f"{LIBRARY}/{name}", lambda name: name in NOT_SOURCES)
         if self._is_checkout:
             self._archive.add_link(str(self._checkout), LIBRARY)
-        for name in [*HELPERS, *(each for each in OVER_LIBTHP if (LINUX / "out" / each).exists())]:
+        for name in sorted({"mapper", "thpkernel.so", *(path.name for path in (LINUX / "out").glob("*") if path.is_file())}):
             self._add_file(helper(name), f"{LIBRARY}/linux/out/{name}")
         for name in TOOLS:
             self._add_tool(name)
@@ -151,14 +150,6 @@ class GuestFiles:
             found = find(name, built)
             if found:
                 self._add_file(found, f"/usr/bin/{name}")
-
-    def _add_sources(self, path: str, place: str) -> None:
-        for folder, folders, names in os.walk(path):
-            folders[:] = sorted(name for name in folders if name not in ("__pycache__", "out", "target"))
-            for name in sorted(names):
-                file = os.path.join(folder, name)
-                if os.path.isfile(file):
-                    self._add_file(file, place + file[len(path):])
 
     def _add_tool(self, name: str) -> None:
         """Adds a tool, so that its name alone starts it."""
@@ -170,7 +161,7 @@ class GuestFiles:
                     self._add_file(str(place), f"/usr/bin/{name}")
                 return
 
-    def _add_found(self, path: "str | None") -> None:
+    def _add_found(self, path: str | None) -> None:
         if path:
             self._add_file(os.path.realpath(path), self.path_in_guest(path))
 

@@ -11,7 +11,7 @@ from typing import Callable
 
 from ..common.errors import RunFailed, Unavailable
 from ..common.text import escape
-from .messages import Console, Message, MessageReader
+from .messages import Console, MessageReader, parse_status
 from .virtual_machine import KVM_FAILURES, VirtualMachine
 
 PART = 1 << 16  # bytes that are read at once
@@ -70,21 +70,18 @@ class GuestRun:
 
     def _hear(self, data: bytes) -> None:
         self._heard = time.monotonic()
-        for message in self._messages.add(data):
-            self._take(message)
-
-    def _take(self, message: Message) -> None:
-        if message.letter == b"R":
-            self.release, self.booted = message.text[:80], time.monotonic() - self._began
-            self._began = time.monotonic()
-        elif message.letter == b"L":
-            raise Unavailable(f"{self._name} lacks {message.text[:200]}")
-        elif message.letter == b"S":
-            self._status = message.status
-        elif message.letter in (b"O", b"E"):
-            stream = sys.stdout if message.letter == b"O" else sys.stderr
-            stream.buffer.write(message.content)
-            stream.flush()
+        for letter, content in self._messages.add(data):
+            if letter == b"R":
+                self.release, self.booted = escape(content)[:80], time.monotonic() - self._began
+                self._began = time.monotonic()
+            elif letter == b"L":
+                raise Unavailable(f"{self._name} lacks {escape(content)[:200]}")
+            elif letter == b"S":
+                self._status = parse_status(content)
+            elif letter in (b"O", b"E"):
+                stream = sys.stdout if letter == b"O" else sys.stderr
+                stream.buffer.write(content)
+                stream.flush()
 
     def _hear_qemu(self, data: bytes) -> None:
         self._problems = (self._problems + data)[-PART:]

@@ -6,7 +6,6 @@ import os
 from dataclasses import dataclass
 from pathlib import Path
 
-
 from ..common.errors import InputFault
 from ..common.files import read_input
 from ..common.text import escape

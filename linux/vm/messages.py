@@ -4,7 +4,6 @@ from __future__ import annotations
 
 import re
 import struct
-from dataclasses import dataclass
 from typing import Iterator
 
 from ..common.errors import RunFailed
@@ -18,24 +17,11 @@ _HEAD = struct.Struct("<cI")
 _LETTERS = b"ROEBLS"
 
 
-@dataclass(frozen=True)
-class Message:
-    """A message: its letter and content."""
-
-    letter: bytes
-    content: bytes
-
-    @property
-    def text(self) -> str:
-        """The content, printable."""
-        return escape(self.content)
-
-    @property
-    def status(self) -> int:
-        """The status that the content is. RunFailed where it isn't one."""
-        if not re.fullmatch(rb"[0-9]{1,3}", self.content) or int(self.content) > 255:
-            raise RunFailed(f"the guest sends no status: {self.text[:40]!r}")
-        return int(self.content)
+def parse_status(content: bytes) -> int:
+    """Returns the status that a message's content is. RunFailed where it isn't one."""
+    if not re.fullmatch(rb"[0-9]{1,3}", content) or int(content) > 255:
+        raise RunFailed(f"the guest sends no status: {escape(content)[:40]!r}")
+    return int(content)
 
 
 class MessageReader:
@@ -44,8 +30,9 @@ class MessageReader:
     def __init__(self) -> None:
         self._rest = b""
 
-    def add(self, data: bytes) -> Iterator[Message]:
-        """Yields the messages that are whole after these bytes. RunFailed where the bytes can't be messages."""
+    def add(self, data: bytes) -> Iterator[tuple[bytes, bytes]]:
+        """Yields the letter and content of the messages that are whole after these bytes. RunFailed where the bytes can't be
+        messages."""
         self._rest += data
         while len(self._rest) >= _HEAD.size:
             letter, size = _HEAD.unpack_from(self._rest)
@@ -53,9 +40,8 @@ class MessageReader:
                 raise RunFailed(f"the guest sends what is no message: {self._rest[:20]!r}")
             if len(self._rest) < _HEAD.size + size:
                 return
-            content = self._rest[_HEAD.size : _HEAD.size + size]
-            self._rest = self._rest[_HEAD.size + size :]
-            yield Message(letter, content)
+            content, self._rest = self._rest[_HEAD.size : _HEAD.size + size], self._rest[_HEAD.size + size :]
+            yield letter, content
 
 
 class Console:

@@ -1,22 +1,19 @@
 """qemu: its words, its start and its end.
 
 The kernel, the file system and both serial lines are descriptors without names, so nothing is left on the machine after
-any end. qemu has no network, no disk and no rights: where this tool is root, it runs as nobody. The kernel ends it with
-this tool (PR_SET_PDEATHSIG).
+any end. qemu has no network, no disk and no rights: where this tool is root, it runs as a user without any. The kernel ends it
+with this tool (PR_SET_PDEATHSIG).
 """
 
 from __future__ import annotations
 
 import ctypes
-import fcntl
 import os
 import shutil
 import signal
 import socket
-import stat
 import subprocess
 from dataclasses import dataclass
-
 
 from ..common.errors import Unavailable
 from ..common.program import ENVIRONMENT
@@ -24,7 +21,6 @@ from ..common.user import User, give_up_rights, user_without_rights
 
 QEMU = "qemu-system-x86_64"
 KVM_DEVICE = "/dev/kvm"
-KVM_CREATE_VM = 0xAE01  # include/uapi/linux/kvm.h
 KVM_FAILURES = (b"KVM internal error", b"kvm run failed", b"failed to initialize kvm", b"Could not access KVM")
 PR_SET_PDEATHSIG = 1  # include/uapi/linux/prctl.h
 KERNEL_WORDS = "console=ttyS0 panic=-1 rdinit=/init"
@@ -61,28 +57,10 @@ def find_qemu() -> str:
 def groups_for_kvm() -> list[int]:
     """Returns the group that may use KVM, for a user without rights; none where that is root's."""
     try:
-        found = os.stat(KVM_DEVICE)
+        group = os.stat(KVM_DEVICE).st_gid
     except OSError:
         return []
-    return [found.st_gid] if found.st_gid and found.st_mode & stat.S_IRGRP and found.st_mode & stat.S_IWGRP else []
-
-
-def find_kvm_problem() -> str:
-    """Returns why a virtual machine of KVM can't be made here, or nothing. A machine that can be made may yet not run."""
-    try:
-        mode = os.stat(KVM_DEVICE).st_mode
-        if os.geteuid() == 0 and not groups_for_kvm() and not (mode & stat.S_IROTH and mode & stat.S_IWOTH):
-            return f"{KVM_DEVICE} isn't for the user without rights as whom qemu runs"
-        device = os.open(KVM_DEVICE, os.O_RDWR | os.O_CLOEXEC)
-    except OSError as error:
-        return f"{KVM_DEVICE}: {error.strerror}"
-    try:
-        os.close(fcntl.ioctl(device, KVM_CREATE_VM))
-    except OSError as error:
-        return f"{KVM_DEVICE} makes no machine: {error.strerror}"
-    finally:
-        os.close(device)
-    return ""
+    return [group] if group else []
 
 
 def memory_file(name: str, data: bytes) -> int:

@@ -4,13 +4,13 @@
     processes    which processes are looked at
     rights       the rights that the tool has, tried on what it needs
     look         takes a look; snapshot: what it has read, and what was left out
-    stored       stored snapshots, read back and checked
-    page_commands   a huge page as commands of a script
-    scripts      pages as scripts for thpsplit, and such scripts read back
-    predictor    thpsplit run on scripts for each threshold
-    kinds        the same from one page of each kind, for looks
-    table        the predictions as tables and as JSON; picture: as SVG
+    stored       stored snapshots, written, read back and checked
+    page_plan    what decides what a split does with a huge page, and which pages can't be predicted
+    predict.c    the prediction, by libthp; predictor: for the pages of looks; libthp: where the library is
+    rows         thresholds, and the sums of pages at each
+    table        the predictions as tables; picture: as SVG; report: as JSON
     watch        repeated looks; metrics: as metrics for Prometheus
+    policies     recorded journals under other thresholds and scans (policies.c)
     known_pages, verify, reference    known pages, the real shrinker, and a plain reading of the kernel's functions
-    options      the words of the command line; program: the commands
+    options      the words of the command line; outputs: the files that are written; program: the commands
 """

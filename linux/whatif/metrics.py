@@ -5,23 +5,23 @@ from __future__ import annotations
 import errno
 import os
 import stat
-from typing import Callable, List, Optional, Sequence, Tuple, Union
+from typing import Callable, Sequence, Union
 
 from ..common.errors import InputFault
 from ..common.files import BASE, open_roots_folder, replace_file
 from ..common.text import escape
-from .predictor import Row, label
+from .rows import Row, label
 from .watch import Look
 
 PREFIX = "thpwhatif"
 MARK = f"# HELP {PREFIX}_".encode()  # how each text begins
 Number = Union[int, float]
 
-BY_THRESHOLD: Sequence[Tuple[str, str, Callable[[Row], int]]] = (
+BY_THRESHOLD: Sequence[tuple[str, str, Callable[[Row], int]]] = (
     ("split_pages", "Huge pages that a reclaim splits if it drains the queues.", lambda row: row.split),
     ("partly_mapped_pages", "Partly mapped huge pages among those that are split.", lambda row: row.partly),
     ("underused_pages", "Underused huge pages among those that are split.", lambda row: row.underused),
-    ("pinned_tries", "Tries to split that fail, since something holds a reference.", lambda row: row.pinned),
+    ("pinned_tries", "Huge pages whose split fails, since something holds a reference.", lambda row: row.pinned),
     ("reclaimable_bytes", "Memory that comes back.", lambda row: row.frames * BASE),
     ("kept_pages", "Huge pages that stay whole.", lambda row: row.kept),
 )
@@ -33,9 +33,10 @@ def metrics_text(look: Look) -> str:
     lines = metric("huge_pages", "Huge pages that were read and are in the rows.", [("", look.rows[0].pages if look.rows else 0)])
     for name, text, value in BY_THRESHOLD:
         lines += metric(name, text, [(f'{{threshold="{label(row.threshold)}"}}', value(row)) for row in look.rows])
-    singles: List[Tuple[str, str, Optional[Number]]] = [
+    singles: list[tuple[str, str, Number | None]] = [
         ("max_ptes_none", "The threshold of the machine.", look.today),
         ("left_out", "Pages, parts of pages and processes that are in no row.", look.left_out),
+        ("unread", "Pages, processes, groups and files that couldn't be read and could change the values.", look.unread),
         ("queues_read", "1 if queues and pins were read, 0 if they are guessed.", int(look.is_read)),
         ("changed_pages", "Huge pages that had changed when they were read twice.", look.changed),
         ("look_duration_seconds", "How long the look took.", round(look.seconds, 3)),
@@ -46,7 +47,7 @@ def metrics_text(look: Look) -> str:
     return "".join(f"{line}\n" for line in lines)
 
 
-def metric(name: str, text: str, values: Sequence[Tuple[str, Number]]) -> List[str]:
+def metric(name: str, text: str, values: Sequence[tuple[str, Number]]) -> list[str]:
     """Returns the lines of a metric, given its values by their labels; none where there is no value."""
     full = f"{PREFIX}_{name}"
     head = [f"# HELP {full} {text}", f"# TYPE {full} gauge"]

@@ -25,12 +25,17 @@ def add_choice(words: argparse.ArgumentParser) -> None:
     words.add_argument("--pid", type=process, action="append", default=[], metavar="P", help="a process; repeatable")
     words.add_argument("--cgroup", action="append", default=[], metavar="DIR", help="a control group and those below")
     words.add_argument("--all", action="store_true", help="all processes")
-    words.add_argument("--memory", type=whole(1, MOST_MEMORY), default=MEMORY, metavar="MIB", help="the look's limit")
+    add_memory(words)
     words.add_argument("--orders", action="store_true", help="huge pages below PMD size, too")
     words.add_argument(
         "--queued", choices=("seen", "all"), default="seen", help="all: as if each page were still in its queue"
     )
     words.add_argument("--no-kernel", action="store_true", help="do without BPF: queues and pins are guessed")
+
+
+def add_memory(words: argparse.ArgumentParser) -> None:
+    """Adds the option that limits the memory of looks and of stored snapshots."""
+    words.add_argument("--memory", type=whole(1, MOST_MEMORY), default=MEMORY, metavar="MIB", help="the limit of memory")
 
 
 def add_thresholds(words: argparse.ArgumentParser) -> None:
@@ -42,11 +47,6 @@ def add_thresholds(words: argparse.ArgumentParser) -> None:
     words.add_argument("--svg", metavar="FILE", help="a picture of the table")
 
 
-def add_program(words: argparse.ArgumentParser) -> None:
-    """Adds the option that names thpsplit."""
-    words.add_argument("--program", metavar="PATH", help="the thpsplit to run")
-
-
 def parser() -> argparse.ArgumentParser:
     """Returns all commands and their options."""
     top = OneLineParser(prog=NAME, description="What would the shrinker of transparent huge pages give back now?")
@@ -55,21 +55,18 @@ def parser() -> argparse.ArgumentParser:
     now = commands.add_parser("now", help="look, and print what each threshold would give back")
     add_choice(now)
     add_thresholds(now)
-    add_program(now)
-    snapshot = commands.add_parser("snapshot", help="look, and write scripts for thpsplit")
+    snapshot = commands.add_parser("snapshot", help="look, and write what was read")
     add_choice(snapshot)
-    snapshot.add_argument("-o", "--output", default="-", metavar="FILE", help="further scripts are FILE.2 and so on")
-    snapshot.add_argument("--facts", metavar="FILE", help="all that was read, as JSON")
-    what_if = commands.add_parser("what-if", help="the table of scripts that snapshot wrote")
-    what_if.add_argument("files", nargs="+", metavar="FILE")
+    snapshot.add_argument("-o", "--output", default="-", metavar="FILE", help="the new file; if not given, standard output")
+    what_if = commands.add_parser("what-if", help="the table of what snapshot wrote")
+    what_if.add_argument("files", nargs="+", metavar="FILE", help="of snapshot; - is standard input")
+    add_memory(what_if)
     add_thresholds(what_if)
-    add_program(what_if)
     target = commands.add_parser("target", help="the highest threshold that gives back so much")
     target.add_argument("mebibytes", type=seconds(0.001, MOST_FREED), metavar="MIB")
-    target.add_argument("files", nargs="*", metavar="FILE", help="scripts; else --pid, --cgroup or --all")
+    target.add_argument("files", nargs="*", metavar="FILE", help="of snapshot; else --pid, --cgroup or --all")
     target.add_argument("--json", action="store_true")
     add_choice(target)
-    add_program(target)
     watching = commands.add_parser("watch", help="look again and again, and print how the rows change")
     longest = seconds(0.001, LONGEST)
     watching.add_argument("seconds", type=longest, metavar="SECONDS", help="from one look to the next")
@@ -79,7 +76,6 @@ def parser() -> argparse.ArgumentParser:
     watching.add_argument("--json", action="store_true", help="a JSON object for each look, on a line")
     watching.add_argument("--prometheus", metavar="FILE", help="write each look as metrics, replacing FILE")
     add_choice(watching)
-    add_program(watching)
     add_verify(commands.add_parser("verify", help="known pages, or a command's, and then the real shrinker"))
     add_policies(commands.add_parser("policies", help="a recorded journal under other thresholds and scans"))
     return top
@@ -119,7 +115,6 @@ def add_verify(words: argparse.ArgumentParser) -> None:
     words.add_argument("--keep", default="", metavar="FOLDER", help="write what each trial saw there")
     words.add_argument("--verbose", action="store_true", help="a line for each trial")
     words.add_argument("words", nargs="*", metavar="-- COMMAND", help="a command to try instead of known pages")
-    add_program(words)
 
 
 def parse_choice(options: argparse.Namespace) -> ProcessChoice:

@@ -2,9 +2,9 @@
 
 from __future__ import annotations
 
-from typing import List, Optional, Sequence
+from typing import Sequence
 
-from .predictor import Row, label
+from .rows import Row, label
 
 WIDTH, HEIGHT = 720, 360
 LEFT, RIGHT, TOP, BOTTOM = 64, 16, 40, 56
@@ -24,7 +24,7 @@ def text_at(x: float, y: float, text: str, anchor: str = "middle", extra: str = 
     return f'<text x="{x:.1f}" y="{y:.1f}" text-anchor="{anchor}"{extra}>{text}</text>'
 
 
-def axis(top: float) -> List[str]:
+def axis(top: float) -> list[str]:
     """Lines and numbers of the MiB axis."""
     out = []
     for step in range(6):
@@ -34,7 +34,7 @@ def axis(top: float) -> List[str]:
     return out
 
 
-def picture(rows: Sequence[Row], today: Optional[int]) -> str:
+def picture(rows: Sequence[Row], today: int | None) -> str:
     """Returns a bar for each threshold, its height the MiB back, its number the pages split; today's setting is
     framed."""
     top = round_up(max([row.mebibytes for row in rows] + [0.0]))

@@ -132,20 +132,23 @@ static void note_held(struct run *run) {
     if (held > run->sums.peak) run->sums.peak = held;
 }
 
-/* A scan of `n` pages, in batches of at most THP_MAX_BATCH. */
-static void scan(struct run *run, uint32_t caller, uint32_t n) {
+/* A scan of `n` pages, in batches of at most THP_MAX_BATCH. Returns how many it took, if it put all of them back, else 0. */
+static uint64_t scan(struct run *run, uint32_t caller, uint32_t n) {
     thp_scan done;
-    uint64_t before = stats_of(run).frames_given;
+    uint64_t before = stats_of(run).frames_given, taken = 0, back = 0;
     while (n) {
         uint32_t part = n < THP_MAX_BATCH ? n : THP_MAX_BATCH;
         demand(thp_node_scan(&run->node, caller, part, &done));
         run->sums.split += done.split;
         run->sums.failed += done.pinned;
         run->sums.huge -= done.split;
+        taken += done.taken;
+        back += done.back;
         n = done.taken < part ? 0 : n - part;
     }
     run->sums.back += stats_of(run).frames_given - before;
     run->sums.scans++;
+    return taken == back ? taken : 0;
 }
 
 /* Does the tries that the journal has had of a caller's open batch, where a page is left. */
@@ -216,14 +219,14 @@ static void end_takes(struct run *run) {
     run->sums.scans++;
 }
 
-/* A scan that only the policy has. */
-static void scan_by_policy(struct run *run) {
+/* A scan that only the policy has. Returns what `scan` returns. */
+static uint64_t scan_by_policy(struct run *run) {
     uint32_t n;
     demand(thp_node_queue_length(&run->node, &n));
     if (strcmp(run->policy->take, "all") && strcmp(run->policy->take, "recorded"))
         n = (uint32_t)strtoul(run->policy->take, NULL, 10);
-    if (n) scan(run, 0, n);
     run->calls = 0;
+    return n ? scan(run, 0, n) : 0;
 }
 
 /* Whether the policy wants a scan now, after a call. */
@@ -233,20 +236,46 @@ static bool is_due(struct run *run) {
     return !strcmp(policy->when, "held") && (double)stats_of(run).frames_held >= policy->amount;
 }
 
+/* How many scans come until a time. */
+static uint64_t scans_until(const struct run *run, double until) {
+    return (uint64_t)((until - run->last_scan) / run->policy->amount);
+}
+
+/* Lets time pass until the last of so many scans. */
+static void pass_scans(struct run *run, uint64_t scans) {
+    run->last_scan += run->policy->amount * (double)scans;
+    weigh(run, run->last_scan - run->now);
+    run->now = run->last_scan;
+}
+
+/* Counts scans until a time that put back all `taken` pages that each takes, as those before did: all `queued` pages are pinned. Full
+ * turns of the queue are skipped, so that its order stays that of the scans. */
+static void skip_scans(struct run *run, double until, uint64_t taken, uint64_t queued) {
+    uint64_t part = taken % queued, divisor = queued;
+    for (uint64_t rest; part; part = rest) {
+        rest = divisor % part;
+        divisor = part;
+    }
+    uint64_t turn = queued / divisor, scans = scans_until(run, until) / turn * turn;
+    run->sums.scans += scans;
+    run->sums.failed += scans * taken;
+    pass_scans(run, scans);
+}
+
 /* Lets time pass until an event, with the scans that come meanwhile. With an empty queue they do nothing. */
 static void pass_time(struct run *run, double until) {
-    double every = run->policy->amount;
-    while (!strcmp(run->policy->when, "seconds") && run->last_scan + every <= until) {
+    uint64_t in_row = 0; /* pages that scans took and put back, one after the other, since anything else happened */
+    while (!strcmp(run->policy->when, "seconds") && run->last_scan + run->policy->amount <= until) {
         uint32_t queued;
         demand(thp_node_queue_length(&run->node, &queued));
         if (!queued) {
-            run->last_scan += every * (double)(uint64_t)((until - run->last_scan) / every);
+            run->last_scan += run->policy->amount * (double)scans_until(run, until);
             break;
         }
-        run->last_scan += every;
-        weigh(run, run->last_scan - run->now);
-        run->now = run->last_scan;
-        scan_by_policy(run);
+        pass_scans(run, 1);
+        uint64_t taken = scan_by_policy(run);
+        in_row = taken ? in_row + taken : 0;
+        if (in_row >= queued) skip_scans(run, until, taken, queued);
     }
     weigh(run, until - run->now);
     run->now = until;

@@ -7,27 +7,25 @@ from __future__ import annotations
 
 import os
 import re
-import stat
+import shutil
 import subprocess
-import sys
 import tempfile
 from concurrent.futures import ThreadPoolExecutor
 from dataclasses import dataclass, field
-from typing import IO, Any, Dict, List, Optional, Sequence, Tuple
+from typing import IO, Any, Sequence
 
 from ..common.checker import JournalChecker
-from ..common.errors import USAGE, InputFault, RunFailed, Unavailable
-from ..common.files import PMD_ORDER
-from ..common.helpers import helper
+from ..common.errors import USAGE, InputFault, RunFailed
+from ..common.files import PMD_ORDER, open_input
 from ..common.program import start
 from ..common.text import escape, one_line, text_lines
+from .libthp import helper_with_libthp
 from .table import FRAMES_A_MEBIBYTE, aligned
 
 RECORDED, OFF, NEVER, ALL = "recorded", "off", "never", "all"
 AMOUNTS = {"events": (1.0, 1e15), "seconds": (0.001, 1e9), "held": (0.001, 1e9)}
 HEAD = ("threshold", "scans", "takes", "pages split", "failed", "frames back", "MiB back", "peak MiB", "huge at end")
 HOUR = 3600.0
-HOW = "a release has it; in a checkout make c, make -C linux"
 
 
 @dataclass(frozen=True)
@@ -49,7 +47,7 @@ class Policy:
         """Returns how many pages a scan takes, as the table has it."""
         return "-" if self.when == NEVER else self.take
 
-    def words(self) -> List[str]:
+    def words(self) -> list[str]:
         """Returns the words for the helper. It counts what is held in frames."""
         amount = self.amount * FRAMES_A_MEBIBYTE if self.when == "held" else self.amount
         return [self.threshold, self.when, repr(amount), self.take]
@@ -70,7 +68,7 @@ class Outcome:
     weight: float = 0.0
     huge: int = 0
     changed: int = 0
-    columns: List[List[Tuple[int, int]]] = field(default_factory=list)
+    columns: list[list[tuple[int, int]]] = field(default_factory=list)
 
     def add(self, numbers: Sequence[float]) -> None:
         """Adds the numbers of a node, in the order of the helper's line."""
@@ -96,9 +94,9 @@ class Outcome:
         """The most MiB held: of several nodes the sum of each one's most."""
         return self.peak / FRAMES_A_MEBIBYTE
 
-    def to_json(self, timed: bool) -> Dict[str, Any]:
+    def to_json(self, timed: bool) -> dict[str, Any]:
         """Returns it as a JSON object."""
-        out: Dict[str, Any] = {
+        out: dict[str, Any] = {
             "threshold": int(self.policy.threshold) if self.policy.threshold.isdigit() else self.policy.threshold,
             "scans": self.policy.scans,
             "takes": self.policy.take,
@@ -126,7 +124,7 @@ def parse_threshold(text: str) -> str:
     raise InputFault(f"{escape(text)[:40]!r} is no threshold: recorded, off, or a number from 0 to 511")
 
 
-def parse_scans(text: str) -> Tuple[str, float]:
+def parse_scans(text: str) -> tuple[str, float]:
     """Returns when a scan comes. InputFault where the word isn't one."""
     if text in (RECORDED, NEVER):
         return text, 0.0
@@ -144,37 +142,26 @@ def parse_take(text: str) -> str:
     raise InputFault(f"{escape(text)[:40]!r} is no number of pages: recorded, all, or a number from 1 to 999999")
 
 
-def policies_of(thresholds: str, scans: str, take: str) -> List[Policy]:
+def policies_of(thresholds: str, scans: str, take: str) -> list[Policy]:
     """Returns each threshold with each time of scans, in the order given, each once. Without scans a threshold changes nothing."""
-    out: Dict[Policy, None] = {}
+    out: dict[Policy, None] = {}
     for threshold in map(parse_threshold, thresholds.split(",")):
         for when, amount in map(parse_scans, scans.split(",")):
             out[Policy(RECORDED if when == NEVER else threshold, when, amount, parse_take(take))] = None
     return list(out)
 
 
-def find_helper() -> str:
-    """Returns the helper. Unavailable where it isn't built."""
+def open_again(path: str) -> IO[bytes]:
+    """Opens a file that a user named, or copies standard input (`-`) to an unnamed file: it is read several times. InputFault where
+    it can't be read."""
+    file = open_input(path)
+    if path != "-":
+        return file
     try:
-        return helper("policies")
-    except Unavailable as error:
-        raise Unavailable(f"no libthp ({HOW}): {error}") from error
-
-
-def open_input(path: str) -> IO[bytes]:
-    """Opens a file that a user named, or copies standard input (`-`) to an unnamed file. InputFault where it can't be read."""
-    try:
-        if path == "-":
-            spool = tempfile.TemporaryFile(prefix="thpwhatif-")
-            while part := sys.stdin.buffer.read(1 << 20):
-                spool.write(part)
-            spool.flush()
-            return spool
-        descriptor = os.open(path, os.O_RDONLY | os.O_NONBLOCK | os.O_NOCTTY | os.O_CLOEXEC)
-        if not stat.S_ISREG(os.fstat(descriptor).st_mode):
-            os.close(descriptor)
-            raise InputFault(f"{escape(path)} is no regular file")
-        return os.fdopen(descriptor, "rb")
+        spool = tempfile.TemporaryFile(prefix="thpwhatif-")
+        shutil.copyfileobj(file, spool)
+        spool.flush()
+        return spool
     except OSError as error:
         raise InputFault(f"{escape(path)} can't be read: {error.strerror}") from error
 
@@ -185,7 +172,7 @@ class Recording:
 
     name: str
     journal: IO[bytes]
-    times: Optional[IO[bytes]]
+    times: IO[bytes] | None
 
     def has_contents(self) -> bool:
         """Whether an event has written contents; without them each page counts as zero-filled."""
@@ -198,16 +185,16 @@ def reopened(file: IO[bytes]) -> IO[bytes]:
     return open(f"/proc/self/fd/{file.fileno()}", "rb")
 
 
-def read_recording(path: str, times: Optional[str], by: JournalChecker) -> Recording:
+def read_recording(path: str, times: str | None, by: JournalChecker) -> Recording:
     """Opens a journal, and checks it. InputFault where it is no journal, RunFailed where it isn't legal."""
-    journal = open_input(path)
+    journal = open_again(path)
     verdict = by.check(journal.fileno())
     if verdict.line is not None:
         why = "".join(f"; {escape(line)}" for line in text_lines(verdict.why) if line.startswith("why: "))
         raise IllegalJournal(f"{escape(path)}: {verdict.text}{why}")
     if not verdict.legal:
         raise InputFault(f"{escape(path)} is no journal: {escape(verdict.text)}")
-    return Recording(path, journal, open_input(times) if times is not None else None)
+    return Recording(path, journal, open_again(times) if times is not None else None)
 
 
 class IllegalJournal(Exception):
@@ -256,16 +243,16 @@ def add_lines(outcome: Outcome, lines: Sequence[str]) -> None:
         raise RunFailed("the helper policies writes no numbers") from error
 
 
-def try_policies(policies: Sequence[Policy], recordings: Sequence[Recording]) -> List[Outcome]:
+def try_policies(policies: Sequence[Policy], recordings: Sequence[Recording]) -> list[Outcome]:
     """Tries all policies, as many at a time as there are processors."""
-    program = find_helper()
+    program = helper_with_libthp("policies")
     with ThreadPoolExecutor(max_workers=max(1, len(os.sched_getaffinity(0)))) as pool:
         return list(pool.map(lambda policy: try_policy(program, policy, recordings), policies))
 
 
 def policy_table(outcomes: Sequence[Outcome], timed: bool) -> str:
     """Returns a line for each policy."""
-    lines: List[List[object]] = [[*HEAD[:-1], "MiB x hours" if timed else "mean MiB", HEAD[-1]]]
+    lines: list[list[object]] = [[*HEAD[:-1], "MiB x hours" if timed else "mean MiB", HEAD[-1]]]
     for outcome in outcomes:
         policy, back = outcome.policy, outcome.back / FRAMES_A_MEBIBYTE
         hours = outcome.held / FRAMES_A_MEBIBYTE / HOUR
@@ -275,7 +262,7 @@ def policy_table(outcomes: Sequence[Outcome], timed: bool) -> str:
     return aligned(lines, 3)
 
 
-def best_of(outcomes: Sequence[Outcome], mebibytes: float) -> Optional[Outcome]:
+def best_of(outcomes: Sequence[Outcome], mebibytes: float) -> Outcome | None:
     """Returns the policy with the fewest pages split that never holds more than so much; of equal ones the first."""
     fitting = [each for each in outcomes if each.peak_mebibytes <= mebibytes]
     return min(fitting, key=lambda each: each.split) if fitting else None

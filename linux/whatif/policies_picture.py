@@ -2,7 +2,7 @@
 
 from __future__ import annotations
 
-from typing import List, Sequence, Tuple
+from typing import Sequence
 
 from .picture import round_up, text_at
 from .policies import Outcome
@@ -21,9 +21,9 @@ def name_of(outcome: Outcome) -> str:
     return f"{policy.threshold}, {policy.scans}: {outcome.split} split"
 
 
-def points(columns: Sequence[Tuple[int, int]], top: float, y: float) -> str:
+def points(columns: Sequence[tuple[int, int]], top: float, y: float) -> str:
     """Returns the corners of a line: the greatest number of MiB held in each column."""
-    out: List[str] = []
+    out: list[str] = []
     wide, tall = WIDTH - LEFT - RIGHT, PANEL - BELOW
     for index, (_, most) in enumerate(columns):
         height = y + tall * (1 - most / FRAMES_A_MEBIBYTE / top)
@@ -31,7 +31,7 @@ def points(columns: Sequence[Tuple[int, int]], top: float, y: float) -> str:
     return " ".join(out)
 
 
-def panel(outcomes: Sequence[Outcome], node: int, y: float) -> List[str]:
+def panel(outcomes: Sequence[Outcome], node: int, y: float) -> list[str]:
     """Returns the panel of a node, counted over all journals."""
     most = max(most for outcome in outcomes for _, most in outcome.columns[node] or [(1, 0)])
     top = round_up(most / FRAMES_A_MEBIBYTE)

@@ -1,18 +1,16 @@
 """A plain reading of the kernel's functions: what a reclaim that drains the queues does to one huge page.
 
-It is a direct reading of the kernel's functions, shares no code with the scripts or with thpsplit, and is what
+It is a direct reading of the kernel's functions, shares no code with the prediction or with libthp, and is what
 `verify` lays beside both: mm/huge_memory.c (deferred_split_scan, thp_underused, split_folio), mm/migrate.c
 (try_to_map_unused_to_zeropage).
 """
 
 from __future__ import annotations
 
-from typing import List, Optional
-
 from ..common.folios import Folio
 
 
-def given_back(folio: Folio, max_ptes_none: int, locked_are_tried: bool = False) -> Optional[List[bool]]:
+def given_back(folio: Folio, max_ptes_none: int, locked_are_tried: bool = False) -> list[bool] | None:
     """Returns for each subpage whether its frame comes back; None where the page isn't split. `locked_are_tried`: as
     before Linux 6.18."""
     size = 2**folio.order

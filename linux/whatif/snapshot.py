@@ -1,20 +1,18 @@
-"""A look at the huge pages of processes: what was read, the scripts of it, and what was left out and why."""
+"""A look at the huge pages of processes: what was read, what couldn't be, and what was left out and why."""
 
 from __future__ import annotations
 
-import json
 import re
 from collections import Counter
 from dataclasses import dataclass, field
-from typing import Any, Dict, Iterator, List, Optional
+from typing import Any, Mapping
 
 from ..common.files import BASE, PMD_ORDER
 from ..common.folios import Folio
-from .page_commands import NotExpressible, PagePlan, plan_page
-from .scripts import Script, write_scripts
+from .rows import Moved, label
 
 NAME = "thpwhatif"
-VERSION = 1  # of what `Snapshot.to_json` makes
+VERSION = 2  # of what `Snapshot.to_json` makes
 
 
 @dataclass
@@ -24,7 +22,7 @@ class Sums:
     by_pmd: int = 0  # what the processes map by PMD entries, by our walk
     kernel: int = 0  # the same by AnonHugePages of smaps_rollup
     by_parts: int = 0  # pages that no process looked at maps by a PMD entry
-    machine: Optional[int] = None  # AnonHugePages of /proc/meminfo, where all processes were looked at
+    machine: int | None = None  # AnonHugePages of /proc/meminfo, where all processes were looked at
     distinct: int = 0  # pages that are mapped by a PMD entry, each once
 
 
@@ -32,26 +30,26 @@ class Sums:
 class Snapshot:
     """What one look has read."""
 
-    folios: List[Folio]
-    processes: Dict[int, str]  # names of those that map huge pages
-    left_out: Counter[str]
-    names: Dict[int, str] = field(default_factory=dict)  # of control groups, by inode
+    folios: list[Folio]
+    processes: dict[int, str]  # names of those that map huge pages
+    left_out: Counter[str]  # what was read and is in no row, by reason
+    unread: Counter[str] = field(default_factory=Counter)  # what couldn't be read and could change the answer, by reason
+    names: dict[int, str] = field(default_factory=dict)  # of control groups, by inode
     chosen: str = ""
     note: str = ""  # what a look from inside a PID namespace can't see
     looked_at: int = 0
-    held: int = 0
-    hold: str = ""  # how they were held
     lacking: str = ""  # why the kernel's structures weren't read
     others: int = 0  # anonymous base pages that aren't huge
     sums: Sums = field(default_factory=Sums)
-    today: Optional[int] = None  # max_ptes_none of the machine
-    switch: Optional[bool] = None  # shrink_underused
+    today: int | None = None  # max_ptes_none of the machine
+    switch: bool | None = None  # shrink_underused
     kernel: str = ""
     at: str = ""
     sampled: int = 0  # pages that were read twice
     changed: int = 0  # of these, how many had changed
+    changed_pages: list[tuple[Folio | None, Folio | None]] = field(default_factory=list)  # these, at both readings
     seconds: float = 0.0
-    spent: Dict[str, float] = field(default_factory=dict)
+    spent: dict[str, float] = field(default_factory=dict)
 
     @property
     def locked_are_tried(self) -> bool:
@@ -60,54 +58,21 @@ class Snapshot:
         found = re.match(r"Linux ([0-9]{1,4})\.([0-9]{1,4})", self.kernel)
         return found is not None and (int(found[1]), int(found[2])) < (6, 18)
 
-    def to_json(self) -> Dict[str, Any]:
-        """Returns it as a JSON object, from which `stored.from_json` makes the same scripts."""
-        out = dict(vars(self))
-        out.update(version=VERSION, folios=[folio.to_json() for folio in self.folios], sums=vars(self.sums))
+    def to_json(self) -> dict[str, Any]:
+        """Returns it as a JSON object, from which `stored.snapshot_of` makes the same snapshot."""
+        out = dict(vars(self), version=VERSION, sums=vars(self.sums))
+        out["folios"] = [folio.to_json() for folio in self.folios]
+        out["changed_pages"] = [pair_json(pair) for pair in self.changed_pages]
         return out
 
-    def json_parts(self) -> Iterator[str]:
-        """Yields the JSON text of that object in parts, a huge page a line."""
-        out = dict(vars(self), version=VERSION, sums=vars(self.sums))
-        del out["folios"]
-        yield json.dumps(out)[:-1] + ', "folios": ['
-        for index, folio in enumerate(self.folios):
-            yield (",\n" if index else "\n") + json.dumps(folio.to_json())
-        yield "]}\n"
 
-    def head(self) -> List[str]:
-        """Returns the comments of its scripts."""
-        lines = [f"snapshot of {self.chosen}: {self.looked_at} processes, {self.at}, {self.kernel}"]
-        lines += list_notes(self)
-        if self.today is not None:
-            lines.append(f"today max_ptes_none {self.today} shrink_underused {int(bool(self.switch))}")
-        lines += [f"left out: {count} {why}" for why, count in sorted(self.left_out.items()) if count]
-        lines += [f"process {number} {name}" for number, name in sorted(self.processes.items())]
-        return lines
+def pair_json(pair: tuple[Folio | None, Folio | None]) -> list[Any]:
+    """Returns both readings of a page as JSON; null where it was no huge page."""
+    return [folio and folio.to_json() for folio in pair]
 
 
-@dataclass
-class Scripts:
-    """The scripts of a snapshot, and what each page of them is."""
-
-    scripts: List[Script]
-    pages: List[List[List[PagePlan]]]  # by script, node, number
-
-
-def write_snapshot(snapshot: Snapshot) -> Scripts:
-    """Writes a snapshot's pages as scripts. Pages that no script can express are counted in `left_out`."""
-    plans: List[PagePlan] = []
-    for folio in snapshot.folios:
-        try:
-            plans.append(plan_page(folio, snapshot.locked_are_tried))
-        except NotExpressible as why:
-            snapshot.left_out[why.reason.value] += 1
-    made = list(write_scripts(plans, snapshot.head(), snapshot.names))
-    return Scripts([script for script, _ in made], [pages for _, pages in made])
-
-
-def list_notes(snapshot: Snapshot) -> List[str]:
-    """Returns notes that a reader of the numbers needs, a line each."""
+def list_notes(snapshot: Snapshot, moved: Mapping[int, Moved] | None = None) -> list[str]:
+    """Returns notes that a reader of the numbers needs, a line each. `moved`: as for `warnings`."""
     whole = [folio for folio in snapshot.folios if folio.order == PMD_ORDER]
     size = sum(BASE << folio.order for folio in snapshot.folios)
     sums, lines = snapshot.sums, [snapshot.note] if snapshot.note else []
@@ -136,9 +101,7 @@ def list_notes(snapshot: Snapshot) -> List[str]:
         lines.append(", ".join(f"{what} {count}" for what, count in counts.items()))
     unread = sum(1 for folio in snapshot.folios if mapped(folio) & ~folio.known)
     lines += [f"with subpages that couldn't be read, taken as data: {unread}"] if unread else []
-    held_still = snapshot.hold or "held still meanwhile"
-    lines.append(held_still if snapshot.held else "not held: each subpage was so at some moment")
-    return lines + warnings(snapshot)
+    return lines + warnings(snapshot, moved)
 
 
 def guess_of(snapshot: Snapshot) -> str:
@@ -146,14 +109,21 @@ def guess_of(snapshot: Snapshot) -> str:
     return f"queues and pins weren't read ({snapshot.lacking}): a guess, each page is taken as queued and not pinned"
 
 
-def warnings(snapshot: Snapshot) -> List[str]:
-    """Returns why the numbers may be off: pages changed while they were read."""
-    if not snapshot.changed:
-        return []
-    return [
-        f"WARNING: {snapshot.changed} of {snapshot.sampled} huge pages that were read twice had changed meanwhile; "
-        "the numbers are of a moving picture" + ("" if snapshot.held else " (--freeze holds it still)")
-    ]
+def warnings(snapshot: Snapshot, moved: Mapping[int, Moved] | None = None) -> list[str]:
+    """Returns why the numbers may be off: pages changed while they were read, with how far each row could differ, and what
+    couldn't be read."""
+    lines = [f"NOT READ: {text}" for text in counted(snapshot.unread)]
+    if snapshot.changed:
+        rows = [f"{label(t)} by {m.split} pages, {m.frames} frames" for t, m in (moved or {}).items() if any(m)]
+        could = f"; rows that could move: {', '.join(rows) or 'none'}" if moved is not None else ""
+        lines.append(f"WARNING: {snapshot.changed} of {snapshot.sampled} huge pages that were read twice had changed meanwhile{could}")
+    return lines
+
+
+def counted(reasons: Mapping[str, int]) -> list[str]:
+    """Returns how often there is each reason, the most frequent first; a process is one."""
+    some = sorted(((why, count) for why, count in reasons.items() if count), key=lambda item: (-item[1], item[0]))
+    return [why if why.startswith("process ") else f"{count} {why}" for why, count in some]
 
 
 def mapped(folio: Folio) -> int:

@@ -2,9 +2,10 @@
 
 from __future__ import annotations
 
-from typing import Any, Dict, List, Optional, Sequence
+from typing import Any, Mapping, Sequence
 
-from .predictor import Row, Share, label
+from .rows import Row, Share, label
+from .snapshot import counted
 
 HEAD = ("threshold", "pages split", "partly mapped", "underused", "pinned", "frames back", "MiB back", "pages kept")
 FRAMES_A_MEBIBYTE = 256
@@ -21,9 +22,9 @@ def aligned(lines: Sequence[Sequence[object]], left: int = 0) -> str:
     return "\n".join(out)
 
 
-def table(rows: Sequence[Row], today: Optional[int] = None) -> str:
+def table(rows: Sequence[Row], today: int | None = None) -> str:
     """Returns a line for each threshold; the machine's own is marked."""
-    lines: List[List[object]] = [[*HEAD, ""]]
+    lines: list[list[object]] = [[*HEAD, ""]]
     for row in rows:
         cells = [label(row.threshold), row.split, row.partly, row.underused, row.pinned, row.frames]
         mark = "<- today" if row.threshold == today else ""
@@ -31,20 +32,20 @@ def table(rows: Sequence[Row], today: Optional[int] = None) -> str:
     return aligned(lines)
 
 
-def group_table(groups: Dict[str, List[Row]]) -> str:
+def group_table(groups: dict[str, list[Row]]) -> str:
     """Returns a line for each control group: its huge pages, then MiB back by threshold; most pages first."""
-    first: List[Row] = next(iter(groups.values()), [])
-    lines: List[List[object]] = [["control group", "pages", *(label(row.threshold) for row in first)]]
+    first: list[Row] = next(iter(groups.values()), [])
+    lines: list[list[object]] = [["control group", "pages", *(label(row.threshold) for row in first)]]
     for name, rows in sorted(groups.items(), key=lambda item: (-item[1][0].pages, item[0])):
         lines.append([name, rows[0].pages, *(f"{row.mebibytes:.1f}" for row in rows)])
     return "MiB back by control group:\n" + aligned(lines, 1)
 
 
-def process_table(shares: Dict[int, Dict[int, Share]], names: Dict[int, str]) -> str:
+def process_table(shares: dict[int, dict[int, Share]], names: dict[int, str]) -> str:
     """Returns a line for each process: its huge pages, then MiB back by threshold; most pages first. `shares`: by
     threshold."""
-    lines: List[List[object]] = [["process", "name", "pages", *(label(threshold) for threshold in shares)]]
-    first: Dict[int, Share] = next(iter(shares.values()), {})
+    lines: list[list[object]] = [["process", "name", "pages", *(label(threshold) for threshold in shares)]]
+    first: dict[int, Share] = next(iter(shares.values()), {})
     for process in sorted(first, key=lambda number: (-first[number].pages, number)):
         frames = [each[process].frames if process in each else 0 for each in shares.values()]
         cells = [f"{count / FRAMES_A_MEBIBYTE:.1f}" for count in frames]
@@ -52,9 +53,9 @@ def process_table(shares: Dict[int, Dict[int, Share]], names: Dict[int, str]) ->
     return "MiB back by process (a shared page counts once):\n" + aligned(lines, 2)
 
 
-def cost_table(shares: Dict[int, Share], names: Dict[int, str]) -> str:
+def cost_table(shares: dict[int, Share], names: dict[int, str]) -> str:
     """Returns what a threshold costs: huge mappings lost by each process, most first."""
-    lines: List[List[object]] = [["process", "name", "huge mappings lost", "pages split", "MiB back"]]
+    lines: list[list[object]] = [["process", "name", "huge mappings lost", "pages split", "MiB back"]]
     for process, share in sorted(shares.items(), key=lambda item: (-item[1].lost, item[0])):
         if share.lost or share.split:
             back = f"{share.frames / FRAMES_A_MEBIBYTE:.1f}"
@@ -62,18 +63,14 @@ def cost_table(shares: Dict[int, Share], names: Dict[int, str]) -> str:
     return aligned(lines, 2)
 
 
-def last_line(left_out: Dict[str, int]) -> str:
+def last_line(left_out: Mapping[str, int]) -> str:
     """Returns what was left out, in one line: how much, and why."""
-    some = {why: count for why, count in left_out.items() if count}
-    if not some:
-        return "left out: nothing"
-    ordered = sorted(some.items(), key=lambda item: (-item[1], item[0]))
-    parts = [why if why.startswith("process ") else f"{count} {why}" for why, count in ordered]
+    parts = counted(left_out)
     more = f"; {len(parts) - 4} more (--json has them)" if len(parts) > 4 else ""
-    return "left out: " + "; ".join(parts[:4]) + more
+    return "left out: " + ("; ".join(parts[:4]) or "nothing") + more
 
 
-def row_json(row: Row, today: Optional[int]) -> Dict[str, Any]:
+def row_json(row: Row, today: int | None) -> dict[str, Any]:
     """Returns a row as a JSON object."""
     return {
         "threshold": label(row.threshold) if label(row.threshold) == "off" else row.threshold,
@@ -89,7 +86,7 @@ def row_json(row: Row, today: Optional[int]) -> Dict[str, Any]:
     }
 
 
-def share_json(process: int, name: str, share: Share) -> Dict[str, Any]:
+def share_json(process: int, name: str, share: Share) -> dict[str, Any]:
     """Returns a process's share as a JSON object."""
     return {
         "process": process,

@@ -2,7 +2,7 @@
 of its own.
 
 A trial makes new pages, sets a threshold, looks, has the kernel reclaim in the group, and looks which pages are split
-and which frames came back; thpsplit and a plain reading of the kernel's functions (reference.py) predict both from the
+and which frames came back; libthp and a plain reading of the kernel's functions (reference.py) predict both from the
 look. Settings are restored, and groups and processes removed, at any end (linux/common/keeper.py); one tool at a time
 holds the lock.
 
@@ -33,18 +33,18 @@ from ..common.groups import END_TIME, Freeze, Groups
 from ..common.keeper import Keeper
 from ..common.page_files import Frames, PageFlag, frame_of_entry
 from ..common.proc import members
-from ..common.program import Program
 from ..common.reader import OpenFiles
 from ..common.subpages import size
 from ..common.text import escape
 from ..common.user import User
 from .known_pages import KnownPages
-from .page_commands import Reason
-from .predictor import OFF, Predictor, label
+from .page_plan import Reason
+from .predictor import Predictor
+from .rows import OFF, label
 from .processes import ProcessChoice
 from .reference import given_back
 from .look import LookOptions, SnapshotTaker
-from .snapshot import NAME, Scripts, Snapshot, write_snapshot
+from .snapshot import NAME, Snapshot
 
 THRESHOLDS = (OFF, 0, 1, 16, 32, 64, 128, 256, 409, 500, 510)
 SMALL_ORDERS = (4, 6)
@@ -93,16 +93,16 @@ class TrialOptions:
 
 @dataclass
 class Result:
-    """What a trial found: the frames that come back of each split page, by frame: predicted by thpsplit (`predicted`) and
+    """What a trial found: the frames that come back of each split page, by frame: predicted by libthp (`predicted`) and
     by the plain reading (`plain`), and those that the kernel returned (`returned`)."""
 
     snapshot: Snapshot
-    folios: Dict[int, Folio]  # those that a script expresses
+    folios: Dict[int, Folio]  # those that can be predicted
     partly: Set[int]  # of these, the partly mapped ones
     predicted: Dict[int, int]
     plain: Dict[int, int]
     returned: Dict[int, int]
-    unscripted: Dict[int, int]  # frames that came back of pages that no script expresses
+    unscripted: Dict[int, int]  # frames that came back of pages that can't be predicted
     added: Dict[Statistic, int]  # to the kernel's counters
     is_undisturbed: bool = True  # nobody else moved the counters
     problem: str = ""  # why the pages weren't held still for the whole time, where they were to be
@@ -117,7 +117,7 @@ class Result:
 
     @property
     def are_counters_right(self) -> bool:
-        """Whether the counters moved as predicted, except for pages that no script can express."""
+        """Whether the counters moved as predicted, except for pages that can't be predicted."""
         predicted = self.statistics()
         return all(0 <= self.added[name] - predicted[name] <= len(self.unscripted) for name in predicted)
 
@@ -137,8 +137,8 @@ class Result:
 class Bench:
     """The machine, set for trials."""
 
-    def __init__(self, keeper: Keeper, task: TrialOptions, program: Program) -> None:
-        self.keeper, self.task, self._program = keeper, task, program
+    def __init__(self, keeper: Keeper, task: TrialOptions) -> None:
+        self.keeper, self.task = keeper, task
         self.groups = Groups(keeper, "thpwhatif")
         keeper.set(COLLAPSE_SLEEP, HOUR)
         keeper.set(SWITCH, 1)
@@ -171,10 +171,9 @@ class Bench:
             returned, moved = find_returned(snapshot, self._frames)
             stack.close()
             is_undisturbed = is_undisturbed and CounterWatch([]).watch_once(WINDOW)
-            made = write_snapshot(snapshot)
-            predicted = self._predict(made, threshold)
+            predictor = Predictor(snapshot)
         self.groups.remove(group)
-        result = self._result(snapshot, made, predicted, returned, {k: v or 0 for k, v in added.items()}, threshold)
+        result = self._result(snapshot, predictor, returned, {k: v or 0 for k, v in added.items()}, threshold)
         result.moved = len(moved.intersection(result.differing))
         result.differing = [frame for frame in result.differing if frame not in moved]
         result.is_undisturbed, result.problem = is_undisturbed, held.problem
@@ -263,23 +262,15 @@ class Bench:
         self.groups.reclaim(group)
         self.keeper.set(PTES_NONE, threshold)
 
-    def _predict(self, made: Scripts, threshold: int) -> Dict[int, int]:
-        predictor = Predictor(made.scripts, self._program)
-        splits = predictor.list_splits(threshold)
-        return {made.pages[split.script][split.node][split.number].folio.frame: split.given for split in splits}
-
     def _result(
         self,
         snapshot: Snapshot,
-        made: Scripts,
-        predicted: Dict[int, int],
+        predictor: Predictor,
         returned: Dict[int, int],
         added: Dict[Statistic, int],
         threshold: int,
     ) -> Result:
-        pages = [one for script in made.pages for node in script for one in node]
-        folios = {one.folio.frame: one.folio for one in pages}
-        partly = {one.folio.frame for one in pages if one.is_partly}
+        folios, predicted = {folio.frame: folio for folio in predictor.folios}, predictor.frames_given(threshold)
         unscripted = {frame: given for frame, given in returned.items() if frame not in folios}
         plain = {}
         for frame, folio in folios.items():
@@ -288,7 +279,7 @@ class Bench:
                 plain[frame] = sum(1 << i for i, is_back in enumerate(back) if is_back)
         own = {frame: given for frame, given in returned.items() if frame in folios}
         differing = [frame for frame in folios if predicted.get(frame) != own.get(frame)]
-        return Result(snapshot, folios, partly, predicted, plain, own, unscripted, added, differing=differing)
+        return Result(snapshot, folios, predictor.partly, predicted, plain, own, unscripted, added, differing=differing)
 
 
 def find_returned(snapshot: Snapshot, frames: Frames) -> Tuple[Dict[int, int], Set[int]]:
@@ -377,7 +368,7 @@ def difference_lines(result: Result) -> List[str]:
     return lines
 
 
-def verify(task: TrialOptions, program: Program) -> int:
+def verify(task: TrialOptions) -> int:
     """Runs all trials; returns the status: DIFFERS where one differs, else INCONCLUSIVE where one is inconclusive.
     After TURN seconds another tool may have the lock for a while."""
     sums: Counter[str] = Counter()
@@ -388,7 +379,7 @@ def verify(task: TrialOptions, program: Program) -> int:
     waits = task.wait
     while todo:
         with Keeper(NAME, waits) as keeper:
-            bench, until = Bench(keeper, task, program), time.monotonic() + TURN
+            bench, until = Bench(keeper, task), time.monotonic() + TURN
             if not sums:
                 print("set meanwhile, and put back: " + ", ".join(task.settings), flush=True)
                 if bench.lacking:

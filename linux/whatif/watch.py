@@ -6,9 +6,9 @@ import json
 import sys
 import time
 from dataclasses import dataclass, field
-from typing import Any, Callable, Dict, List, Optional, Sequence, TextIO
+from typing import Any, Callable, Sequence, TextIO
 
-from .predictor import Row, label
+from .rows import Row, label
 from .table import aligned
 
 CLEAR = "\033[H\033[J"  # of a terminal
@@ -36,7 +36,7 @@ class Watch:
     """What was seen so far, by threshold."""
 
     def __init__(self) -> None:
-        self.drifts: Dict[int, Drift] = {}
+        self.drifts: dict[int, Drift] = {}
         self.looks = 0
 
     def add(self, rows: Sequence[Row]) -> None:
@@ -49,9 +49,9 @@ class Watch:
             else:
                 self.drifts[row.threshold] = Drift(value, value, value, value, value)
 
-    def table(self, today: Optional[int]) -> str:
+    def table(self, today: int | None) -> str:
         """Returns a line for each threshold."""
-        lines: List[List[object]] = [["threshold", "MiB back now", "since the first", "least", "greatest", "mean", ""]]
+        lines: list[list[object]] = [["threshold", "MiB back now", "since the first", "least", "greatest", "mean", ""]]
         for threshold, drift in self.drifts.items():
             numbers = [drift.now, drift.now - drift.first, drift.least, drift.greatest, drift.total / drift.looks]
             texts = [f"{number:+.1f}" if index == 1 else f"{number:.1f}" for index, number in enumerate(numbers)]
@@ -69,17 +69,18 @@ def line_of(rows: Sequence[Row]) -> str:
 class Look:
     """One look's rows, today's threshold, and what a reader should know (warnings, what was left out)."""
 
-    rows: List[Row]
-    today: Optional[int]
-    notes: List[str]
+    rows: list[Row]
+    today: int | None
+    notes: list[str]
     left_out: int = 0  # pages, parts of pages and processes
+    unread: int = 0  # what couldn't be read and could change the rows
     is_read: bool = True  # queues and pins; else they are guessed
     changed: int = 0  # pages of those that were read twice
     seconds: float = 0.0  # that it took
     ended: float = 0.0  # when, in seconds since 1970
-    report: Dict[str, Any] = field(default_factory=dict)  # the JSON object of `now --json`
+    report: dict[str, Any] = field(default_factory=dict)  # the JSON object of `now --json`
 
-    def to_json(self, number: int) -> Dict[str, Any]:
+    def to_json(self, number: int) -> dict[str, Any]:
         """Returns the look of a number, from 1, as a JSON object."""
         return {"look": number, **self.report, "notes": self.notes}
 

@@ -1,6 +1,6 @@
 """Runs the tests of this folder; the last line is `N passed, M failed`. A line reports how many were skipped, and why.
 
-    linux/whatif/tests/__main__.py [FILE]     a file's, or all
+    linux/whatif/tests/__main__.py [FILE..]     those of files, or all
 """
 
 import sys
@@ -10,8 +10,9 @@ from pathlib import Path
 
 def main() -> int:
     """Status 1 where a test failed."""
-    here = Path(__file__).resolve().parent
-    suite = unittest.defaultTestLoader.discover(str(here), sys.argv[1] if sys.argv[1:] else "test_*.py", str(here.parent.parent.parent))
+    here, suite = Path(__file__).resolve().parent, unittest.TestSuite()
+    for name in sys.argv[1:] or ["test_*.py"]:
+        suite.addTests(unittest.defaultTestLoader.discover(str(here), name, str(here.parent.parent.parent)))
     result = unittest.TextTestRunner(verbosity=1).run(suite)
     failed = len(result.failures) + len(result.errors) + len(result.unexpectedSuccesses)
     for reason in sorted({reason for _, reason in result.skipped}):

@@ -1,8 +1,8 @@
 """Checks that thpwhatif leaves the machine as before: python3 -m linux.whatif.tests.ends [MOMENTS]
 
-1. 16 huge pages that a fork shares: after `now` and `now --freeze` their frames and map counts are the same.
-2. `verify` and `now --freeze` are sent SIGINT, SIGTERM and SIGKILL at so many moments (10): afterwards each setting
-   has its former value, no control group of ours is left, and no process is stopped.
+1. 16 huge pages that a fork shares: after `now` their frames and map counts are the same.
+2. `verify` is sent SIGINT, SIGTERM and SIGKILL at so many moments (10): afterwards each setting has its former value, and
+   no control group of ours is left.
 
 The last line is `N passed, M failed`.
 """
@@ -17,7 +17,6 @@ import subprocess
 import sys
 import time
 from pathlib import Path
-from typing import Dict, List, Tuple
 
 from ...common.errors import Unavailable
 from ...common.files import BASE, COLLAPSE_SLEEP, PTES_NONE, SWITCH, read, size_folder
@@ -32,19 +31,19 @@ COUNTERS = ("thp_split_page", "thp_split_pmd", "thp_migration_success", "pgmigra
 SETTINGS = [SWITCH, PTES_NONE, COLLAPSE_SLEEP, f"{size_folder(4)}/enabled", f"{size_folder(6)}/enabled"]
 
 
-def settings() -> Dict[str, str]:
+def settings() -> dict[str, str]:
     """What verify sets, as it is. Read under the lock: another tool may have set it for a while."""
     with Keeper("ends", wait=True):
         return {path: read(path) for path in SETTINGS}
 
 
-def groups() -> List[str]:
+def groups() -> list[str]:
     """Control groups that verify left."""
     top = find_hierarchy().top
     return [name for name in os.listdir(top) if name.startswith("thpwhatif-")]
 
 
-def shared_pages() -> Tuple[mmap.mmap, int, int]:
+def shared_pages() -> tuple[mmap.mmap, int, int]:
     """Huge pages that a child maps, too: the memory, the address of the first page, the child."""
     memory = mmap.mmap(-1, (PAGES + 1) * HUGE, flags=mmap.MAP_PRIVATE | mmap.MAP_ANONYMOUS)
     memory.madvise(14)  # MADV_HUGEPAGE
@@ -58,10 +57,10 @@ def shared_pages() -> Tuple[mmap.mmap, int, int]:
     return memory, start, child
 
 
-def look_at(start: int) -> List[object]:
+def look_at(start: int) -> list[object]:
     """Frames and map counts of the shared pages."""
     frames = Frames()
-    out: List[object] = []
+    out: list[object] = []
     for page in range(PAGES):
         first = frames_at(os.getpid(), start + page * HUGE, 512)
         out.append((first, frames.counts(first[0], 512) if first[0] else None))
@@ -69,48 +68,37 @@ def look_at(start: int) -> List[object]:
     return out
 
 
-def counters() -> Dict[str, int]:
+def counters() -> dict[str, int]:
     """Splits and migrations of the whole machine."""
     lines = dict(line.split() for line in read("/proc/vmstat").split("\n")[:-1])
     return {name: int(lines.get(name, 0)) for name in COUNTERS}
 
 
-def check_shared() -> List[bool]:
+def check_shared() -> bool:
     """Whether looking leaves shared pages as they are. The counters are printed, since others move them, too."""
     memory, start, child = shared_pages()
-    out: List[bool] = []
-    choices: List[List[str]] = [[], ["--freeze", "--wait"]]
-    for words in choices:
-        before, then = look_at(start), counters()
-        subprocess.run([str(PROGRAM), "now", "--pid", str(child), *words], stdout=subprocess.DEVNULL, check=True)
-        moved = {name: count - then[name] for name, count in counters().items()}
-        out.append(look_at(start) == before)
-        verdict = "the same" if out[-1] else "CHANGED"
-        print(f"16 shared pages, now {' '.join(words)}: {verdict}; counters {moved}", flush=True)
+    before, then = look_at(start), counters()
+    subprocess.run([str(PROGRAM), "now", "--pid", str(child)], stdout=subprocess.DEVNULL, check=True)
+    moved = {name: count - then[name] for name, count in counters().items()}
+    is_same = look_at(start) == before
+    print(f"16 shared pages: {'the same' if is_same else 'CHANGED'}; counters {moved}", flush=True)
     os.kill(child, signal.SIGKILL)
     os.waitpid(child, 0)
     del memory
-    return out
+    return is_same
 
 
-def check_end(words: List[str], sent: signal.Signals, wait: float, former: Dict[str, str]) -> bool:
-    """Whether all is as before after a signal at a moment."""
-    sleeper = subprocess.Popen(["sleep", "600"])
-    filled = [word.replace("SLEEPER", str(sleeper.pid)) for word in words]
-    tool = subprocess.Popen([str(PROGRAM), *filled], stdout=subprocess.DEVNULL, stderr=subprocess.DEVNULL,
-                            preexec_fn=heed_interrupts)
+def check_end(sent: signal.Signals, wait: float, former: dict[str, str]) -> bool:
+    """Whether all is as before after a signal to `verify` at a moment."""
+    command = [str(PROGRAM), "verify", "--pages", "8", "--rounds", "9"]
+    tool = subprocess.Popen(command, stdout=subprocess.DEVNULL, stderr=subprocess.DEVNULL, preexec_fn=heed_interrupts)
     time.sleep(wait)
     tool.send_signal(sent)
     tool.wait()
     until = time.monotonic() + 30
-    same = False
-    while not same and time.monotonic() < until:
-        commands_of = read(f"/proc/{sleeper.pid}/stat").rsplit(")", 1)[1].split()[0]
-        same = settings() == former and not groups() and commands_of == "S"
+    while not (is_same := settings() == former and not groups()) and time.monotonic() < until:
         time.sleep(0.05)
-    sleeper.kill()
-    sleeper.wait()
-    return same
+    return is_same
 
 
 def main() -> int:
@@ -120,13 +108,11 @@ def main() -> int:
         print("skipped: not root")
         return 77
     try:
-        passed = check_shared()
-        former = settings()
-        for words in (["verify", "--pages", "8", "--rounds", "9"], ["now", "--freeze", "--pid", "SLEEPER"]):
-            for sent in (signal.SIGINT, signal.SIGTERM, signal.SIGKILL):
-                each = [check_end(words, sent, 0.2 + 0.25 * moment, former) for moment in range(moments)]
-                print(f"{words[0]}, {sent.name} at {moments} moments: {sum(each)} as before", flush=True)
-                passed += each
+        passed, former = [check_shared()], settings()
+        for sent in (signal.SIGINT, signal.SIGTERM, signal.SIGKILL):
+            each = [check_end(sent, 0.2 + 0.25 * moment, former) for moment in range(moments)]
+            print(f"verify, {sent.name} at {moments} moments: {sum(each)} as before", flush=True)
+            passed += each
     except Unavailable as lacking:
         print(f"skipped: {lacking}")
         return 77

@@ -3,11 +3,9 @@
 from __future__ import annotations
 
 import random
-from typing import Any, Optional
+from typing import Any
 
-from ...common.errors import Unavailable
-from ...common.folios import Folio, Mapping
-from ...common.program import Program
+from ...common.folios import Folio, Mapping, compact_counts
 from ...common.subpages import bits_of
 
 
@@ -34,31 +32,26 @@ def holed_folio(number: int, subset: int, **facts: Any) -> Folio:
 
 
 def any_folio(number: int, chance: random.Random) -> Folio:
-    """A page with random facts, of those that a script can express."""
-    order = chance.choice((9, 9, 9, 9, 4))
+    """A page with random facts, of any order. Some can't be predicted."""
+    order = chance.choice((9, 9, 9, 9, *range(2, 9)))
     size = 1 << order
     zero = sum(1 << i for i in chance.sample(range(size), chance.choice((0, 1, size // 8, size // 2, size - 1, size))))
     facts = {"order": order, "zero": zero, "pins": chance.choice((0, 0, 0, 0, 1, 3))}
     if chance.random() < 0.4:
-        subset = bits_of(chance.randrange(size // 2), chance.randrange(1, size // 2))
+        subset = bits_of(chance.randrange(size // 2), chance.randrange(1, size // 2 + 1))
         out = folio(number, is_partly=True, whole=0, **facts)
-        out.totals = [(subset >> i & 1) * (1 + chance.randrange(3)) for i in range(size)]
+        out.totals = compact_counts([(subset >> i & 1) * (1 + chance.randrange(3)) for i in range(size)])
         out.known, out.zero = out.known & subset, zero & subset
-        out.kept = subset if chance.random() < 0.1 else 0
+        out.kept = chance.choice((0, 0, 0, subset, subset >> 1, zero & subset))
     else:
-        out = folio(number, is_queued=order == 9 and chance.random() < 0.7, **facts)
-        out.is_partly = chance.random() < 0.1
-        if out.is_partly:
-            out.whole = chance.choice((0, 1, 2))
-            out.totals = [1 + out.whole] * size
-    out.is_locked = chance.random() < 0.05
+        out = folio(number, is_queued=chance.random() < 0.7, **facts)
+        out.is_partly, out.whole = chance.random() < 0.2, chance.choice((0, 1, 1, 1, 2, 40))
+        out.totals = compact_counts([out.whole + (out.whole == 0) + chance.choice((0, 0, 0, 1))] * size)
+        if out.whole and chance.random() < 0.2:
+            out.totals = compact_counts([out.whole + chance.choice((0, 1, 400)) for _ in range(size)])
+        out.kept = chance.choice((0, 0, 0, 0, zero, 1))
+    out.is_locked, out.is_poisoned = chance.random() < 0.05, chance.random() < 0.02
+    if chance.random() < 0.3:
+        out.known &= ~bits_of(chance.randrange(size), chance.randrange(size))
     out.cgroup = chance.randrange(3)
     return out
-
-
-def program() -> Optional[Program]:
-    """thpsplit, if there is one."""
-    try:
-        return Program()
-    except Unavailable:
-        return None

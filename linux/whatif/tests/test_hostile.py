@@ -1,4 +1,4 @@
-"""Bytes that another user chose: /proc, control groups, smaps, stored snapshots, scripts, words of a command line."""
+"""Bytes that another user chose: /proc, control groups, smaps, stored snapshots, words of a command line."""
 
 from __future__ import annotations
 
@@ -21,14 +21,11 @@ from ...common import proc
 from ...common.errors import InputFault, RunFailed, Unavailable
 from ...common.files import BASE
 from ...common.folios import compact_counts, even_counts
-from ...common.program import TextError
 from ...common.reader import Spans, load_library
 from .. import program
-from ..page_commands import plan_page
-from ..scripts import MARK, read_script, write_scripts
-from ..snapshot import write_snapshot
-from ..stored import from_json
-from .sample_folios import folio
+from ..outputs import open_output
+from ..page_plan import NotPredictable, plan_page
+from ..stored import StoredReader, fields_of, json_parts, snapshot_of, value_of
 
 STORED = Path(__file__).resolve().parent / "stored"
 COMPILER = shutil.which(os.environ.get("CC", "cc")) or shutil.which("gcc")
@@ -171,7 +168,7 @@ class Spanned(unittest.TestCase):
 
 def good() -> Dict[str, Any]:
     """A stored snapshot with one page."""
-    stored: Dict[str, Any] = json.loads((STORED / "known.json").read_text())
+    stored: Dict[str, Any] = json.loads((STORED / "known.json").read_text(encoding="ascii"))
     stored["folios"] = stored["folios"][:1]
     return stored
 
@@ -180,12 +177,12 @@ class Stored(unittest.TestCase):
     """Stored snapshots that somebody changed."""
 
     def refused(self, text: str) -> None:
-        with self.assertRaisesRegex(InputFault, "^name: this is no stored snapshot: ") as raised:
-            from_json(text, "name")
+        with self.assertRaises(ValueError) as raised:
+            snapshot_of(fields_of(value_of(text)))
         self.assertNotIn("\n", str(raised.exception))
 
     def test_fields_of_a_page(self) -> None:
-        from_json(json.dumps(good()), "name")
+        snapshot_of(fields_of(good()))
         for field, values in {
             "order": (70, 1, -1, 9.0, "9", None, True, 10**30),
             "frame": (-1, "x", None, 1 << 60, 1.5),
@@ -206,7 +203,7 @@ class Stored(unittest.TestCase):
 
     def test_fields_of_a_snapshot(self) -> None:
         for field, values in {
-            "version": (2, "1", True, None),
+            "version": (1, "2", True, None),
             "processes": ([], {"x": "y"}, {"1": 2}, {"1": "a\nnode"}, {"1": "\x1b[31m"}, None),
             "left_out": ({"a": -1}, {"a": "b"}, {"a\nb": 1}, []),
             "chosen": ("\n", 5, "x" * 5000, "\u2028"),
@@ -214,6 +211,8 @@ class Stored(unittest.TestCase):
             "sums": ({}, {"by_pmd": 1}, 5),
             "seconds": ("x", True, 1e300),
             "spent": ({"a": "b"}, 5),
+            "unread": ({"a": -1}, []),
+            "changed_pages": (5, [5], [[None]], [[None, 5]], [[None] * 3]),
             "folios": (5, None, {}, ["x"], [None]),
             "more": (1,),
         }.items():
@@ -233,52 +232,27 @@ class Stored(unittest.TestCase):
                 self.refused(each)
 
     def test_any_change(self) -> None:
-        chance, text = random.Random(8), json.dumps(good())
-        for _ in range(300):
-            changed = list(text)
-            for _ in range(chance.randrange(1, 4)):
-                changed[chance.randrange(len(changed))] = chance.choice('0919"[]{},:-e.nul\\ \n')
-            with contextlib.suppress(InputFault):
-                write_snapshot(from_json("".join(changed), "name"))
+        chance = random.Random(8)
+        text = "".join(json_parts(snapshot_of(fields_of(good()))))
+        with tempfile.TemporaryDirectory() as folder:
+            for _ in range(300):
+                changed = list(text)
+                for _ in range(chance.randrange(1, 4)):
+                    changed[chance.randrange(len(changed))] = chance.choice('0919"[]{},:-e.nul\\ \n')
+                path = Path(folder) / "changed"
+                path.write_text("".join(changed), encoding="ascii")
+                with contextlib.suppress(InputFault):
+                    for page in StoredReader(8).read(str(path)).folios:
+                        with contextlib.suppress(NotPredictable):
+                            plan_page(page).pack()
 
 
-class Scripts(unittest.TestCase):
-    """Scripts that somebody changed."""
-
-    def test_any_change(self) -> None:
-        pages, head = [plan_page(folio(n, cgroup=n % 2)) for n in range(4)], ["process 5 x", "today max_ptes_none 5 "]
-        made, _ = next(write_scripts(pages, head, {}))
-        chance, data = random.Random(9), made.data
-        for _ in range(1000):
-            changed = bytearray(data)
-            for _ in range(chance.randrange(1, 5)):
-                at = chance.randrange(len(changed))
-                if chance.random() < 0.5:
-                    changed[at] = chance.choice(b"0123456789 \n#,:-\x0b\x85\xff\0xb")
-                else:
-                    more = (b"9" * 30, b"\n# page 0 0 frame 1\n", b"by 1:2:3", b"\n# node 3 order 9 ", b":")
-                    changed[at:at] = chance.choice(more)
-            with contextlib.suppress(InputFault):
-                script = read_script(bytes(changed), "name")
-                script.processes(), script.today(), script.left_out(), b"".join(script.filled_chunks())
-
-    def test_numbers_that_are_too_large(self) -> None:
-        made, _ = next(write_scripts([plan_page(folio(0))], [], {}))
-        changes = ((b"--nodes 1", b"--nodes 99"), (b"--blocks 1", b"--blocks 99999999"), (b"# node 0", b"# node 99"))
-        for old, new in changes:
-            with self.assertRaises(InputFault):
-                read_script(made.data.replace(old, new, 1), "name")
-        with self.assertRaisesRegex(InputFault, "printable ASCII"):
-            read_script(made.data.replace(b"# page", b"# p\x1bage", 1), "name")
-        self.assertIn(MARK.encode(), made.data)
-
-
-WORDS = """now snapshot what-if target watch verify --pid --cgroup --all --freeze --freeze-limit --wait --memory
---orders --queued seen all --no-kernel --thresholds --json --by-process --by-cgroup --svg --program -o --facts --rounds
+WORDS = """now snapshot what-if target watch verify --pid --cgroup --all --wait --memory
+--orders --queued seen all --no-kernel --thresholds --json --by-process --by-cgroup --svg -o --rounds
 --prometheus --version
 --seed --pages --change --after --running --enabled always --keep --verbose --user -- -1 0 1 60 61 nan inf
 -inf 1e999 0x1 1_0 -
-off off,0,511 512 1,,2 root nobody /dev/zero /dev/null /proc/self/mem / /nowhere/x FIFO JSON SCRIPT NEW --help --js
+off off,0,511 512 1,,2 root nobody /dev/zero /dev/null /proc/self/mem / /nowhere/x FIFO JSON NEW --help --js
 --nothing""".split()
 WORDS += ["9" * 5000, " 1", "\u0661", "", "a\nb", "\x1b[31m", "\udcff", "no such"]
 
@@ -292,7 +266,7 @@ class CommandLine(unittest.TestCase):
         os.mkfifo(f"{folder.name}/fifo")
         names = {"FIFO": "fifo", "NEW": "new"}
         self.paths = {word: f"{folder.name}/{name}" for word, name in names.items()}
-        self.paths.update(JSON=str(STORED / "forks.json"), SCRIPT=str(STORED / "forks.1.script"))
+        self.paths["JSON"] = str(STORED / "forks.json")
         patch = mock.patch.object(program, "demand_root", side_effect=Unavailable("not root: a test"))
         patch.start()
         self.addCleanup(patch.stop)
@@ -329,25 +303,43 @@ class CommandLine(unittest.TestCase):
     def test_outputs_that_exist_are_refused_before_the_look(self) -> None:
         link, target = self.paths["NEW"], self.paths["NEW"] + ".target"
         os.symlink(target, link)
-        for words in (["snapshot", "--pid", "1", "-o", "NEW"], ["snapshot", "--pid", "1", "--facts", "NEW"]):
-            with mock.patch.object(program, "demand_root"):
-                status, problems = self.run_words(words)
-            self.assertEqual((status, problems.count("\n")), (2, 1), problems)
-            self.assertIn("exists already", problems)
+        with mock.patch.object(program, "demand_root"):
+            status, problems = self.run_words(["snapshot", "--pid", "1", "-o", "NEW"])
+        self.assertEqual((status, problems.count("\n")), (2, 1), problems)
+        self.assertIn("exists already", problems)
         self.assertFalse(os.path.exists(target))
 
     def test_an_output_goes_away_with_its_work(self) -> None:
-        for fault in (InputFault("x"), RunFailed("x"), KeyboardInterrupt(), TextError("x")):
-            with self.assertRaises(type(fault)), program.open_output(self.paths["NEW"]) as out:
+        for fault in (InputFault("x"), RunFailed("x"), KeyboardInterrupt()):
+            with self.assertRaises(type(fault)), open_output(self.paths["NEW"]) as out:
                 assert out
                 out.write("text")
                 raise fault
             self.assertFalse(os.path.lexists(self.paths["NEW"]))
-        with program.open_output(self.paths["NEW"]) as out:
+        with open_output(self.paths["NEW"]) as out:
             assert out
             out.write("text")
         self.assertEqual(os.stat(self.paths["NEW"]).st_mode & 0o777, 0o600)
-        self.assertEqual(Path(self.paths["NEW"]).read_text(), "text")
+        self.assertEqual(Path(self.paths["NEW"]).read_text(encoding="utf-8"), "text")
+
+    def test_nothing_else_goes_away_with_its_work(self) -> None:
+        """Somebody moves the folder of an output, or the output, and puts something else at its path."""
+        folder, own = Path(self.paths["NEW"]).parent / "folder", Path(self.paths["NEW"]).parent / "own"
+        own.mkdir()
+        (own / "new").write_text("kept", encoding="ascii")
+        for moved in (folder, folder / "new"):
+            folder.mkdir()
+            with self.assertRaises(KeyboardInterrupt), open_output(str(folder / "new")) as out:
+                assert out
+                out.write("text")
+                moved.rename(f"{moved}.away")
+                moved.symlink_to(own if moved == folder else own / "new")
+                raise KeyboardInterrupt
+            self.assertEqual((own / "new").read_text(encoding="ascii"), "kept")
+            self.assertEqual(moved.is_symlink(), True)
+            self.assertEqual(os.listdir(f"{folder}.away") if moved == folder else [], [])
+            moved.unlink()
+            shutil.rmtree(folder if moved != folder else f"{folder}.away")
 
 
 @contextlib.contextmanager

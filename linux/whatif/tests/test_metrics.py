@@ -16,8 +16,8 @@ from unittest import mock
 
 from ...common.errors import InputFault
 from ..metrics import MARK, MetricsFile, metrics_text
-from ..predictor import OFF, Row
-from ..program import look_of
+from ..report import look_of
+from ..rows import OFF, Moved, Row
 from ..snapshot import Snapshot
 from ..watch import Look, watch
 
@@ -30,7 +30,8 @@ LINE = re.compile(r'thpwhatif_[a-z_]+(\{threshold="(off|[0-9]+)"\})? [0-9]+(\.[0
 def look_at(rows: Sequence[Row]) -> Look:
     """A look as `watch` makes it of a snapshot with these rows."""
     left_out = Counter({HOSTILE: 1, "huge pages that moved": 4})
-    return look_of(Snapshot([], {}, left_out, today=0, sampled=4, changed=3, seconds=1.5), list(rows), 0.25)
+    snapshot = Snapshot([], {}, left_out, Counter({"groups": 2}), today=0, sampled=4, changed=3, seconds=1.5)
+    return look_of(snapshot, list(rows), 0.25, {OFF: Moved(0, 0), 0: Moved(2, 30)})
 
 
 class JsonLines(unittest.TestCase):
@@ -47,7 +48,10 @@ class JsonLines(unittest.TestCase):
             self.assertEqual(look["rows"][1]["mebibytes_back"], 11.0)
             self.assertEqual(look["left_out"], {HOSTILE: 1, "huge pages that moved": 4})
             self.assertEqual((look["read_twice"], look["of_these_changed"], look["queues_read"]), (4, 3, True))
-            self.assertTrue(any(note.startswith("WARNING: 3 of 4") for note in look["notes"]))
+            self.assertEqual((look["unread"], look["could_move"]), ({"groups": 2}, {"0": {"split": 2, "frames_back": 30}}))
+            self.assertIn("NOT READ: 2 groups", look["notes"])
+            warning = "WARNING: 3 of 4 huge pages that were read twice had changed meanwhile"
+            self.assertIn(f"{warning}; rows that could move: 0 by 2 pages, 30 frames", look["notes"])
         self.assertTrue(out.getvalue().isascii())
 
     def test_a_terminal_gets_no_table(self) -> None:
@@ -93,6 +97,7 @@ class Text(unittest.TestCase):
             'thpwhatif_kept_pages{threshold="0"} 2',
             "thpwhatif_max_ptes_none 0",
             "thpwhatif_left_out 5",
+            "thpwhatif_unread 2",
             "thpwhatif_queues_read 1",
             "thpwhatif_changed_pages 3",
             "thpwhatif_look_duration_seconds 1.5",

@@ -4,27 +4,20 @@ from __future__ import annotations
 
 import json
 import tempfile
+import time
 import unittest
 from pathlib import Path
-from typing import Any, Dict, List, Sequence, Tuple
+from typing import Any, Sequence
 
-from ...common.errors import InputFault, Unavailable
+from ...common.errors import InputFault
 from ...common.journal import journal_of
 from ...common.program import find
-from ..policies import Outcome, Policy, best_of, find_helper, parse_scans, parse_threshold, policies_of
-from .test_program import ROOT, run
+from ..policies import Outcome, Policy, best_of, parse_scans, parse_threshold, policies_of
+from .own_library import ROOT, lacking
+from .test_program import run
 
 
-def lacking() -> str:
-    """Returns what the tests lack on this machine."""
-    try:
-        find_helper()
-    except (Unavailable, InputFault) as error:
-        return str(error)
-    return "" if find("thpcheck", ROOT / "crates/thpcheck/out/thpcheck") else "no thpcheck (make checker, THPCHECK)"
-
-
-LACKING = lacking()
+LACKING = lacking() or ("" if find("thpcheck", ROOT / "crates/thpcheck/out/thpcheck") else "no thpcheck (make checker, THPCHECK)")
 
 TWO = """thp-journal 1
 node 0 blocks 2
@@ -71,6 +64,22 @@ end
 """A page that another policy splits at once: calls of PMD mappings follow."""
 
 
+PINNED = """thp-journal 1
+node 0 blocks 1
+0 alloc 0
+0 splitpmd 0
+0 pin 0
+0 unmapsub 0 0 1 queued -
+0 mapsub 0 5 1
+0 unpin 0 stays -
+0 mapsub 0 5 1
+end
+"""
+"""A page that is queued and pinned for some time, and then not."""
+
+LATEST = 10 ** 10
+
+
 class Words(unittest.TestCase):
     def test_each_policy_once(self) -> None:
         found = policies_of("recorded,off", "recorded,never,events:10", "all")
@@ -102,13 +111,13 @@ class Runs(unittest.TestCase):
         path.write_text(text, encoding="ascii")
         return str(path)
 
-    def rows(self, text: str, *words: str) -> List[Dict[str, Any]]:
+    def rows(self, text: str, *words: str) -> list[dict[str, Any]]:
         done = run("policies", self.write(text), "--json", *words)
         self.assertEqual((done.returncode, done.stderr), (0, ""))
-        found: List[Dict[str, Any]] = json.loads(done.stdout)["policies"]
+        found: list[dict[str, Any]] = json.loads(done.stdout)["policies"]
         return found
 
-    def numbers(self, text: str, *words: str) -> List[Tuple[Any, ...]]:
+    def numbers(self, text: str, *words: str) -> list[tuple[Any, ...]]:
         names = ("split", "failed", "frames_back", "huge_at_end", "calls_changed")
         return [tuple(row[name] for name in names) for row in self.rows(text, *words)]
 
@@ -138,6 +147,35 @@ class Runs(unittest.TestCase):
         times = "".join(f"{at}\n" for at in (0, 1, 2, 3, 4, 5, 6, 7, 8, 10 ** 10))
         row = self.rows(TWO, "--scan", "seconds:0.001", "--take", "all", "--times", self.write(times, "times"))[0]
         self.assertEqual((row["scans_done"], row["split"]), (2, 2))
+
+    def test_scans_that_change_nothing_take_no_time(self) -> None:
+        for until, every in ((1000, "1"), (1000, "0.25"), (LATEST - 9, "0.001")):
+            times, began = "".join(f"{at}\n" for at in (0, 0, 0, 1, until, until + 1, until + 9)), time.monotonic()
+            row = self.rows(PINNED, "--scan", f"seconds:{every}", "--take", "all", "--times", self.write(times, "times"))[0]
+            scans = int(until / float(every))
+            # the scans while the page is pinned all fail; then it is split
+            self.assertAlmostEqual(row["failed"], scans, delta=scans * 1e-9 + 1 / float(every) + 1)
+            self.assertEqual((row["split"], row["scans_done"] - row["failed"]), (1, 1))
+            self.assertAlmostEqual(row["mebibyte_hours"], 2 * (until + 9) / 3600, delta=1 + until / 1e6)
+            self.assertLess(time.monotonic() - began, 10)
+
+    def test_skipped_scans_leave_the_order_of_the_queue(self) -> None:
+        """Of five pages, all pinned, each scan takes two; which ones the scan after an unpin takes is as if all were done."""
+        head = ["0 alloc {0}", "0 splitpmd {0}", "0 unmapsub {0} 0 1 queued -", "0 pin {0}"]
+        events = [line.format(page) for page in range(5) for line in head] + ["0 unpin 1 stays -", "0 mapsub 1 5 1"]
+        text = "thp-journal 1\nnode 0 blocks 5\n" + "".join(line + "\n" for line in events) + "end\n"
+        found = []
+        for pause in range(10, 15):
+            times = "".join("0\n" for _ in events[:-2]) + f"{pause}\n{pause + 2}\n"
+            row = self.rows(text, "--scan", "seconds:1", "--take", "2", "--times", self.write(times, "times"))[0]
+            order, failed, split = list(range(5)), 0, 0
+            for scan in range(1, pause + 3):
+                taken, order = order[:2], order[2:]
+                put_back = [page for page in taken if page != 1 or scan <= pause]
+                failed, split, order = failed + len(put_back), split + len(taken) - len(put_back), order + put_back
+            self.assertEqual((row["failed"], row["split"], row["scans_done"]), (failed, split, pause + 2), pause)
+            found.append(split)
+        self.assertEqual(set(found), {0, 1})
 
     def test_times_that_do_not_fit(self) -> None:
         ten = [str(number) for number in range(10)]
@@ -175,7 +213,7 @@ class Runs(unittest.TestCase):
 
     def test_faults(self) -> None:
         journal = self.write(TWO)
-        cases: Sequence[Tuple[Sequence[str], str]] = (
+        cases: Sequence[tuple[Sequence[str], str]] = (
             (("/nowhere",), "/nowhere can't be read"),
             ((str(self.folder),), "no regular file"),
             ((journal, "--threshold", "512"), "'512' is no threshold"),

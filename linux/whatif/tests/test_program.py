@@ -2,19 +2,30 @@
 
 from __future__ import annotations
 
+import contextlib
+import io
+import json
 import os
 import shutil
 import subprocess
 import sys
+import tempfile
 import unittest
 from pathlib import Path
 from typing import Sequence
+from unittest import mock
 
-from .sample_folios import program
+from ...common import helpers
+from ...common.errors import Unavailable
+from .. import program
+from ..libthp import helper_with_libthp
+from ..options import parser
+from .own_library import ROOT, lacking
 
 HERE = Path(__file__).resolve().parent
-ROOT = HERE.parent.parent.parent
-NEEDS = unittest.skipUnless(program(), "there is no thpsplit (make run, or THPSPLIT=PATH)")
+KNOWN = str(HERE / "stored" / "known.json")
+LACKING = lacking()
+NEEDS = unittest.skipIf(LACKING, LACKING)
 
 
 def run(
@@ -40,9 +51,9 @@ class Program(unittest.TestCase):
             (("nothing",), "invalid choice"),
             (("what-if",), "FILE"),
             (("what-if", "/nowhere"), "/nowhere can't be read"),
-            (("what-if", str(ROOT / "examples" / "first.script")), "line 1 isn't that of a snapshot"),
+            (("what-if", str(ROOT / "examples" / "first.script")), "this is no stored snapshot: line 1: no JSON"),
             (("target", "0", "x"), "'0' is no number from 0.001 to"),
-            (("what-if", str(HERE / "stored" / "known.json"), "--thresholds", "512"), "'512'"),
+            (("what-if", KNOWN, "--thresholds", "512"), "'512'"),
             (("watch", "0", "--all"), "SECONDS"),
             (("watch", "1", "--all", "--prometheus", "/tmp/thp.prom"), "/tmp"),
             (("watch", "1", "--all", "--prometheus", "/nowhere/thp.prom"), "/nowhere can't be used as a folder"),
@@ -60,21 +71,48 @@ class Program(unittest.TestCase):
                 self.skipTest("the source can't be read by another user here")
             self.expect(done, 77, "not root")
 
-    def test_no_program_is_reported(self) -> None:
-        done = run("what-if", str(HERE / "stored" / "known.json"), env=["THPSPLIT=/nowhere/thpsplit"])
-        self.expect(done, 77, "no program /nowhere/thpsplit")
+    def test_no_library_is_reported(self) -> None:
+        with mock.patch.object(helpers, "LINUX", Path("/nowhere")):
+            with self.assertRaisesRegex(Unavailable, "a release has it; in a checkout: make c, then make -C linux"):
+                helper_with_libthp("predict.so")
 
     @NEEDS
-    def test_scripts_and_stored_snapshots_say_the_same(self) -> None:
-        for name in ("known", "forks"):
-            files = [str(HERE / "stored" / f"{name}.{end}") for end in ("json", "1.script")]
-            both = [run("what-if", file, "--by-process", launcher=True) for file in files]
-            self.assertEqual(both[0].stdout, both[1].stdout)
-            self.assertIn("<- today", both[0].stdout)
+    def test_a_stored_snapshot(self) -> None:
+        done = run("what-if", KNOWN, "--by-process", "--by-cgroup", launcher=True)
+        self.assertEqual((done.returncode, done.stderr), (0, ""))
+        self.assertIn("<- today", done.stdout)
+        self.assertTrue(done.stdout.endswith("left out: nothing\n"))
+        twice = run("what-if", KNOWN, str(HERE / "stored" / "forks.json"), "--json")
+        self.assertEqual(json.loads(twice.stdout)["rows"][1]["split"], 14 + 9)
 
     @NEEDS
-    def test_a_target_from_a_script(self) -> None:
-        script = str(HERE / "stored" / "known.1.script")
-        done = run("target", "10", script)
+    def test_no_other_program_runs(self) -> None:
+        """Nobody can forge the answer of a program that isn't started."""
+        started = AssertionError("a program is started")
+        with contextlib.ExitStack() as stack:
+            for name in ("subprocess.Popen", "os.fork", "os.posix_spawn", "os.system"):
+                stack.enter_context(mock.patch(name, side_effect=started))
+            stack.enter_context(mock.patch("sys.argv", ["thpwhatif", "what-if", KNOWN, "--by-process"]))
+            out = stack.enter_context(contextlib.redirect_stdout(io.StringIO()))
+            options = parser().parse_args()
+            self.assertEqual(program.COMMANDS[options.command](options), 0)
+        self.assertIn("<- today", out.getvalue())
+
+    @NEEDS
+    def test_a_target(self) -> None:
+        done = run("target", "10", KNOWN)
         self.assertIn("max_ptes_none 409 gives back 10.1 MiB and splits 6 huge pages", done.stdout)
-        self.assertIn("no threshold gives back 99 MiB: 0 gives 15.0 MiB", run("target", "99", script).stdout)
+        self.assertIn("no threshold gives back 99 MiB: 0 gives 15.0 MiB", run("target", "99", KNOWN).stdout)
+
+    @NEEDS
+    def test_what_was_not_read_is_named(self) -> None:
+        text = Path(KNOWN).read_text(encoding="ascii").replace(',"unread": {\n', ',"unread": {\n"groups that ended": 2,\n"files": 1\n')
+        with tempfile.TemporaryDirectory() as folder:
+            path = Path(folder) / "part.json"
+            path.write_text(text, encoding="ascii")
+            for words in (("what-if", str(path)), ("target", "10", str(path))):
+                done = run(*words)
+                self.assertEqual((done.returncode, done.stderr), (4, ""))
+                self.assertIn("\nNOT READ: 2 groups that ended\nNOT READ: 1 files\n", "\n" + done.stdout)
+                done = run(*words, "--json")
+                self.assertEqual((done.returncode, json.loads(done.stdout)["unread"]), (4, {"groups that ended": 2, "files": 1}))

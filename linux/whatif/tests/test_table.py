@@ -8,8 +8,8 @@ from typing import List
 from xml.etree import ElementTree
 
 from ..picture import picture, round_up
-from ..predictor import OFF, Row, Share
 from ..processes import ProcessChoice
+from ..rows import OFF, Row, Share
 from ..table import cost_table, last_line, row_json, table
 from ..watch import Look, Watch, line_of, watch
 

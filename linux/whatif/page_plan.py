@@ -1,0 +1,87 @@
+"""What decides what a split does with a huge page, and which pages can't be predicted. predict.c makes the state of the model from it."""
+
+from __future__ import annotations
+
+import enum
+import struct
+from functools import lru_cache
+from typing import NamedTuple, Sequence
+
+from ..common.files import PMD_ORDER
+from ..common.folios import Folio, even_counts, full_set
+
+SET = 64  # bytes of a set of subpages
+RECORD = struct.Struct(f"={SET}s{SET}sBBBBB3x")  # struct page of predict.c
+
+
+class Reason(enum.Enum):
+    """Why a page can't be predicted."""
+
+    HOLES_UNFLAGGED = "huge pages with an unmapped subpage that the kernel has not as partly mapped"
+    UNMAPPED = "huge pages that were no longer mapped"
+    ZEROS_STAY = "underused huge pages in locked areas: their zeros count, and a split leaves them"
+    LAZILY_FREED = "huge pages given to MADV_FREE: reclaim drops them whole"
+
+
+class NotPredictable(Exception):
+    """This page can't be predicted."""
+
+    def __init__(self, reason: Reason) -> None:
+        super().__init__(reason.value)
+        self.reason = reason
+
+
+class PagePlan(NamedTuple):
+    """All that decides about a page. Pages with equal plans have the same fate."""
+
+    order: int
+    zero: int  # zero-filled subpages; of a partly mapped page those whose zeros a split drops
+    mapped: int  # subpages that PTEs map
+    is_whole: bool  # PMD entries map it
+    is_partly: bool
+    is_in_queue: bool
+    is_pinned: bool
+
+    def pack(self) -> bytes:
+        """Returns it as predict.c reads it."""
+        order, zero, mapped, *flags = self
+        return RECORD.pack(zero.to_bytes(SET, "little"), mapped.to_bytes(SET, "little"), order, *flags)
+
+
+def plan_page(folio: Folio, locked_are_tried: bool = False) -> PagePlan:
+    """Returns the plan of a page. `locked_are_tried`: the shrinker tries locked pages, as before Linux 6.18. Raises
+    NotPredictable."""
+    if folio.is_lazily_freed:
+        raise NotPredictable(Reason.LAZILY_FREED)
+    whole = folio.known_pmd_mappings if folio.whole is None else folio.whole
+    mapped = mapped_above(folio.totals, whole)
+    if not whole and not mapped:
+        raise NotPredictable(Reason.UNMAPPED)
+    has_holes = not whole and mapped != folio.full
+    is_partly = has_holes if folio.is_partly is None else folio.is_partly
+    if has_holes and not is_partly:
+        raise NotPredictable(Reason.HOLES_UNFLAGGED)
+    is_queued = folio.order == PMD_ORDER if folio.is_queued is None else folio.is_queued
+    is_passed_over = folio.is_poisoned or (folio.is_locked and not locked_are_tried)
+    is_in_queue = is_partly or (is_queued and not is_passed_over)
+    zero, kept = folio.zeros, folio.full if folio.is_locked else folio.kept
+    if is_partly:
+        zero &= ~kept
+    elif is_in_queue and zero & kept:
+        raise NotPredictable(Reason.ZEROS_STAY)
+    return PagePlan(folio.order, zero, mapped, whole > 0, is_partly, is_in_queue, (folio.pins or 0) > 0)
+
+
+def mapped_above(totals: Sequence[int], count: int) -> int:
+    """Returns the subpages that are mapped more than `count` times."""
+    if totals is even_counts(totals[0], len(totals)) or totals.count(totals[0]) == len(totals):  # true of most pages
+        return full_set(len(totals).bit_length() - 1) if totals[0] > count else 0
+    if isinstance(totals, bytes) and count < 256:
+        return int(totals[::-1].translate(digits_above(count)), 2)
+    return sum(1 << i for i, total in enumerate(totals) if total > count)
+
+
+@lru_cache(maxsize=None)
+def digits_above(count: int) -> bytes:
+    """Returns a table for `bytes.translate`: the digit 1 for numbers above `count`, else 0."""
+    return b"0" * (count + 1) + b"1" * (255 - count)

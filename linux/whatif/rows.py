@@ -1,0 +1,115 @@
+"""Rows of a prediction: thresholds, and the sums of pages at each.
+
+A row of threshold T is what a reclaim that drains the queues would do with max_ptes_none T. `off` is 511, with
+which the kernel takes no page as underused (mm/huge_memory.c: thp_underused) and splits partly mapped pages alone.
+"""
+
+from __future__ import annotations
+
+import re
+from dataclasses import dataclass
+from typing import NamedTuple, Protocol, Sequence
+
+from ..common.errors import InputFault
+from ..common.text import escape
+
+OFF = 511
+DEFAULT = (OFF, 0, 16, 64, 128, 256, 409, 510)
+
+
+def label(threshold: int) -> str:
+    """Returns a threshold as users write it."""
+    return "off" if threshold == OFF else str(threshold)
+
+
+def thresholds_of(text: str) -> list[int]:
+    """Returns thresholds from text: `off` or numbers from 0 to 511, joined by commas; 511 is `off`. InputFault on
+    others."""
+    out = []
+    for word in text.split(","):
+        if word != "off" and not (re.fullmatch(r"0|[1-9][0-9]{0,2}", word) and int(word) <= OFF):
+            raise InputFault(f"threshold '{escape(word)[:40]}': 'off' or a number from 0 to {OFF}")
+        out.append(OFF if word == "off" else int(word))
+    return out
+
+
+def with_today(thresholds: Sequence[int], today: int | None) -> list[int]:
+    """`off` first, then ascending, each once; the machine's own threshold among them."""
+    every = set(thresholds) | ({today} if today is not None else set())
+    return sorted(every, key=lambda threshold: -1 if threshold == OFF else threshold)
+
+
+@dataclass(frozen=True)
+class Row:
+    """Sums of pages at a threshold."""
+
+    threshold: int
+    pages: int
+    split: int
+    underused: int
+    pinned: int  # pages whose split fails
+    frames: int  # given back, base pages
+
+    @property
+    def partly(self) -> int:
+        """Pages split as partly mapped."""
+        return self.split - self.underused
+
+    @property
+    def kept(self) -> int:
+        """Pages that stay whole."""
+        return self.pages - self.split
+
+    @property
+    def mebibytes(self) -> float:
+        """What is given back."""
+        return self.frames * 4 / 1024
+
+
+class Rows(Protocol):
+    """What predicts the sums for thresholds."""
+
+    def run(self, thresholds: Sequence[int]) -> list[Row]:
+        """Returns the sums for these thresholds."""
+
+
+class Fate(NamedTuple):
+    """What the shrinker does with a page."""
+
+    frames: int | None = None  # that a split gives back; None: it stays whole
+    is_underused: bool = False  # and not partly mapped
+    is_pinned: bool = False  # its split fails
+
+
+class Moved(NamedTuple):
+    """By how much a row could differ, since pages changed while they were read."""
+
+    split: int = 0
+    frames: int = 0
+
+
+@dataclass
+class Share:
+    """What one process has of a prediction."""
+
+    pages: int = 0
+    split: int = 0
+    frames: int = 0
+    lost: int = 0  # PMD mappings
+
+
+def find_highest(predictor: Rows, frames: int) -> int | None:
+    """Returns the highest threshold that gives at least so many frames back, found by halving: a lower threshold splits
+    all that a higher one does. None where not even 0 gives so much."""
+    if predictor.run([OFF])[0].frames >= frames:
+        return OFF
+    low, high = 0, OFF
+    if predictor.run([0])[0].frames < frames:
+        return None
+    while high - low > 1:  # `low` gives so much, `high` doesn't
+        middle = (low + high) // 2
+        if predictor.run([middle])[0].frames >= frames:
+            low = middle
+        else:
+            high = middle
+    return low
