@@ -14,7 +14,11 @@
     page_files      pagemap of a process, kpageflags, kpagecount, kpagecgroup; the flags by name
     proc            files of processes and of control groups, read as bytes
     folios          Folio: a huge page as it was read
-    reader          Reader: the huge pages that processes map, how they map them, and which subpages are zero-filled
+    workers         Workers: processes that read what may wait for another process's mmap_lock
+    spaces          Space: an address space, which processes share it, and by which thread it is read
+    contents        Contents: which subpages are zero-filled
+    reader          Reader: the huge pages that processes map, and how they map them
+    second_look     SecondLook: reads again what has changed meanwhile
     direct_map      content of page frames, read by the kernel's map of all memory
     counters        the statistics of /proc/vmstat and of each page size; CounterWatch: whether others move them
     numa            the frames of each NUMA node

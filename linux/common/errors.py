@@ -4,8 +4,9 @@ from __future__ import annotations
 
 import signal
 import sys
+from contextlib import contextmanager
 from pathlib import Path
-from typing import NoReturn
+from typing import Iterator, NoReturn
 
 from .text import one_line
 
@@ -38,6 +39,17 @@ def end_by_signals() -> None:
     for number in (signal.SIGTERM, signal.SIGHUP):
         if signal.getsignal(number) != signal.SIG_IGN:
             signal.signal(number, stop)
+
+
+@contextmanager
+def signals_wait() -> Iterator[set[signal.Signals]]:
+    """Has the signals that end the tool wait until the end of the `with`; gives those that waited before. An exception that a signal
+    raises is lost in what Python calls by itself, as around a fork, and may leave its locks held."""
+    former = signal.pthread_sigmask(signal.SIG_BLOCK, (signal.SIGINT, signal.SIGTERM, signal.SIGHUP))
+    try:
+        yield {signal.Signals(number) for number in former}
+    finally:
+        signal.pthread_sigmask(signal.SIG_SETMASK, former)
 
 
 def place_of(error: BaseException) -> str:

@@ -6,18 +6,11 @@ import re
 from array import array
 from dataclasses import dataclass, field
 from functools import lru_cache
-from typing import Any, Callable, Dict, Iterable, Iterator, List, NamedTuple, Optional, Sequence, Tuple
+from typing import Any, Callable, Iterable, NamedTuple, Sequence
 
 from .files import PMD_ORDER
 
 MOST_MAPPED = (1 << 32) - 1  # mappings of a subpage that are counted
-
-
-def runs(subset: int) -> Iterator[Tuple[int, int]]:
-    """Returns the maximal runs of a set, ascending, as (first, count): linux.common.subpages.runs in a form that is
-    several times faster on scattered sets, since a snapshot needs them of each page."""
-    for run in re.finditer("1+", bin(subset)[:1:-1]):
-        yield run.start(), run.end() - run.start()
 
 
 @lru_cache(maxsize=16)
@@ -27,7 +20,7 @@ def full_set(order: int) -> int:
 
 
 @lru_cache(maxsize=64)
-def even_counts(count: int, size: int) -> Tuple[int, ...]:
+def even_counts(count: int, size: int) -> tuple[int, ...]:
     """Returns the map counts of a page whose `size` subpages are all mapped `count` times: one object for all such
     pages."""
     return (count,) * size
@@ -45,7 +38,7 @@ class Mapping(NamedTuple):
     """How one process maps a huge page, or a part of it."""
 
     process: int  # its number (pid)
-    address: int  # of subpage 0, whether that one is mapped or not
+    address: int  # of subpage 0, whether that one is mapped or not; modulo 2**64
     subset: int  # the subpages
     by_pmd: bool  # by one PMD entry; else by PTEs
 
@@ -57,7 +50,7 @@ class Folio:
     frame: int  # the number of its first frame
     order: int
     cgroup: int = 0  # the inode of its memory cgroup's directory (/proc/kpagecgroup), 0: none
-    mappings: List[Mapping] = field(default_factory=list)
+    mappings: list[Mapping] = field(default_factory=list)
     totals: Sequence[int] = ()  # map counts by subpage, all processes (/proc/kpagecount); see `compact_counts`
     zero: int = 0  # zero-filled subpages
     known: int = 0  # subpages whose content was read
@@ -66,11 +59,11 @@ class Folio:
     is_poisoned: bool = False
     is_swap_cached: bool = False  # the swap cache holds a reference for each subpage
     is_lazily_freed: bool = False  # given to MADV_FREE: reclaim drops it whole, if nothing writes it before
-    is_queued: Optional[bool] = None  # in a deferred split queue
-    is_partly: Optional[bool] = None  # flagged as partly mapped
-    whole: Optional[int] = None  # its mappings by PMD entries, all processes
-    pins: Optional[int] = None  # references beyond those of its mappings
-    place: Optional[int] = None  # in its queue, from the oldest on
+    is_queued: bool | None = None  # in a deferred split queue
+    is_partly: bool | None = None  # flagged as partly mapped
+    whole: int | None = None  # its mappings by PMD entries, all processes
+    pins: int | None = None  # references beyond those of its mappings
+    place: int | None = None  # in its queue, from the oldest on
 
     @property
     def size(self) -> int:
@@ -92,7 +85,7 @@ class Folio:
         """The subpages known to be zero-filled."""
         return self.zero & self.known
 
-    def to_json(self) -> Dict[str, Any]:
+    def to_json(self) -> dict[str, Any]:
         """Returns it as a JSON object; sets as hexadecimal text. `folio_of` reads it back."""
         out = dict(vars(self))
         out.update({name: format(out[name], "x") for name in SETS})
@@ -101,9 +94,9 @@ class Folio:
         return out
 
 
-def pack(numbers: Iterable[int]) -> List[List[int]]:
+def pack(numbers: Iterable[int]) -> list[list[int]]:
     """Returns runs of equal numbers, as pairs of how often and which."""
-    out: List[List[int]] = []
+    out: list[list[int]] = []
     for number in numbers:
         if out and out[-1][1] == number:
             out[-1][0] += 1
@@ -117,7 +110,8 @@ FLAGS = ("is_locked", "is_poisoned", "is_swap_cached", "is_lazily_freed")
 MAYBE_FLAGS = ("is_queued", "is_partly")
 NUMBERS = {"frame": 1 << 52, "cgroup": (1 << 64) - 1}  # and the most that each may be
 LEAST = {"whole": 0, "pins": -MOST_MAPPED, "place": 0}  # pins: references dropped between two reads make it negative
-MOST_PROCESS, MOST_ADDRESS = 1 << 31, 1 << 57
+MOST_PROCESS = 1 << 31
+MOST_ADDRESS = (1 << 64) - 1  # a page whose first subpages aren't mapped may begin below address 0
 
 
 def number_of(value: Any, name: str, most: int, least: int = 0) -> int:
@@ -143,7 +137,7 @@ def hexadecimal(value: Any, name: str, most: int) -> int:
 
 def counts_of(pairs: Any, size: int) -> Sequence[int]:
     """Returns the map counts that `pack` packed, of a page of `size` subpages. Raises ValueError on anything else."""
-    totals: List[int] = []
+    totals: list[int] = []
     if type(pairs) is not list or len(pairs) > size:
         raise ValueError("totals is no list of at most as many pairs as there are subpages")
     for pair in pairs:
@@ -181,7 +175,7 @@ def folio_of(stored: Any) -> Folio:
     if type(listed) is not list:
         raise ValueError("mappings is no list")
     out.mappings = [mapping_of(one, full) for one in listed]
-    readers: Dict[str, Callable[[Any, str], Any]] = {name: lambda v, n: hexadecimal(v, n, full) for name in SETS}
+    readers: dict[str, Callable[[Any, str], Any]] = {name: lambda v, n: hexadecimal(v, n, full) for name in SETS}
     readers.update({name: flag_of for name in FLAGS + MAYBE_FLAGS})
     readers["cgroup"] = lambda v, n: number_of(v, n, NUMBERS["cgroup"])
     readers.update({name: lambda v, n: number_of(v, n, MOST_MAPPED, LEAST[n]) for name in LEAST})

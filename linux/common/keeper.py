@@ -132,12 +132,12 @@ def put_back_what_was_left(folder: str) -> list[str]:
 
 def recover(name: str, folder: str = FOLDER) -> list[str]:
     """Puts back what an earlier run left that was killed with its guardian, and returns lines that report it. Does
-    nothing without root, and while another tool runs."""
+    nothing without the rights for it, and while another tool runs."""
     if os.geteuid() != 0 or not os.path.exists(f"{folder}/{UNDO}"):
         return []
     try:
         lock = take_lock(folder, name, False)
-    except Busy:
+    except (Busy, Unavailable):
         return []
     try:
         return put_back_what_was_left(folder)

@@ -33,7 +33,8 @@ class ListChanged(Unavailable):
 
 
 class Tables(NamedTuple):
-    """What reads page tables: two programs, where their copies are, where the map of all memory begins, the levels of tables."""
+    """What reads page tables (struct tables of pages.c): two programs, where their copies are, where the map of all memory begins, the
+    levels of tables."""
 
     find: int
     copy: int

@@ -8,9 +8,8 @@ from __future__ import annotations
 
 import enum
 import os
-import struct
-from types import TracebackType
-from typing import List, Optional, Tuple, Type
+from array import array
+from typing import Sequence
 
 from .errors import Unavailable
 from .files import BASE
@@ -35,41 +34,44 @@ class PageFlag(enum.IntFlag):
 _HEAD, _TAIL = int(PageFlag.COMPOUND_HEAD), int(PageFlag.COMPOUND_TAIL)  # the operators of plain numbers are faster
 
 
+class TooShort(OSError):
+    """A file ends before what is to be read: the process has ended, or memory was taken from the machine."""
+
+
 class NumberFile:
-    """A file of 64-bit numbers, open until `close` or the end of a `with`."""
+    """A file of 64-bit numbers, open until `close` or the end of a `with`. Unavailable where there is none for the caller."""
 
     def __init__(self, path: str) -> None:
         try:
-            self._file = open(path, "rb", 0)
-        except OSError as error:
+            self.descriptor = os.open(path, os.O_RDONLY | os.O_CLOEXEC)
+        except (FileNotFoundError, PermissionError) as error:
             raise Unavailable(f"{path} can't be read: {error.strerror} (PROC_PAGE_MONITOR, root)") from error
         self.path = path
 
-    def at(self, first: int, count: int) -> Tuple[int, ...]:
-        """`count` numbers from place `first` on; a short read (a process that ended) is an OSError."""
-        raw = os.pread(self._file.fileno(), 8 * count, 8 * first)
+    def at(self, first: int, count: int) -> Sequence[int]:
+        """Returns `count` numbers from place `first` on. TooShort where the file ends before."""
+        raw = os.pread(self.descriptor, 8 * count, 8 * first)
         if len(raw) != 8 * count:
-            raise OSError(0, f"{self.path} ends early", self.path)
-        return struct.unpack(f"<{count}Q", raw)
+            raise TooShort(0, f"{self.path} ends early", self.path)
+        return array("Q", raw)
 
     def close(self) -> None:
-        self._file.close()
+        """Closes the file."""
+        os.close(self.descriptor)
 
     def __enter__(self) -> NumberFile:
         return self
 
-    def __exit__(
-        self, kind: Optional[Type[BaseException]], error: Optional[BaseException], trace: Optional[TracebackType]
-    ) -> None:
+    def __exit__(self, *_: object) -> None:
         self.close()
 
 
-def frame_of_entry(entry: int) -> Optional[int]:
+def frame_of_entry(entry: int) -> int | None:
     """Returns the frame of a pagemap entry, or None where nothing is present."""
     return entry & _FRAME if entry & _PRESENT else None
 
 
-def frames_at(process: int, address: int, count: int) -> List[Optional[int]]:
+def frames_at(process: int, address: int, count: int) -> list[int | None]:
     """Returns the frames that a process maps at `count` base pages from an address on; None where none is present."""
     with NumberFile(f"/proc/{process}/pagemap") as pagemap:
         return [frame_of_entry(entry) for entry in pagemap.at(address // BASE, count)]
@@ -81,13 +83,13 @@ class Frames:
     def __init__(self) -> None:
         self._flags, self._counts = NumberFile("/proc/kpageflags"), NumberFile("/proc/kpagecount")
 
-    def flags(self, first: int, count: int) -> Tuple[int, ...]:
+    def flags(self, first: int, count: int) -> Sequence[int]:
         """Returns the flags (PageFlag) of `count` frames."""
         return self._flags.at(first, count)
 
-    def counts(self, first: int, count: int) -> Tuple[int, ...]:
+    def counts(self, first: int, count: int) -> tuple[int, ...]:
         """Returns how often each of `count` frames is mapped."""
-        return self._counts.at(first, count)
+        return tuple(self._counts.at(first, count))
 
     def whole(self, first: int, count: int) -> int:
         """Returns how many of these frames are still parts of one compound page that begins at the first."""

@@ -6,15 +6,22 @@ line feeds alone, a line counts by its first characters, and a name is escaped b
 
 from __future__ import annotations
 
+import ctypes
+import errno
 import os
 import re
-from typing import Dict, Iterator, List, Optional, Set
+import struct
+from contextlib import suppress
+from typing import Iterable, Iterator
 
 from .files import read_bytes
 from .text import escape, lines
 
 ROOT = "/proc"  # tests put another folder here
 CAPABILITIES = {"CAP_KILL": 5, "CAP_SYS_PTRACE": 19, "CAP_SYS_ADMIN": 21, "CAP_PERFMON": 38, "CAP_BPF": 39}
+FLAGS, SIZE, RESIDENT, FIELDS = 6, 20, 21, 49  # places of fields of /proc/PID/stat after the name, and how many there are
+FOLDER = os.O_RDONLY | os.O_DIRECTORY | os.O_NOFOLLOW | os.O_CLOEXEC
+KERNFS_HANDLE = 0xFE  # include/linux/exportfs.h: FILEID_KERNFS
 
 
 class Unreadable(Exception):
@@ -31,109 +38,129 @@ def read_file(process: int, name: str) -> bytes:
     return read_bytes(path_of(process, name))
 
 
-def kilobytes(data: bytes, name: bytes) -> Optional[int]:
-    """Returns the number of the first line `NAME: 12 kB` of a text, in bytes; None where it has none."""
-    for line in lines(data):
-        if line.startswith(name + b":"):
-            found = re.fullmatch(rb"[ \t]*([0-9]{1,15}) kB", line[len(name) + 1 :])
-            if not found:
-                raise Unreadable(f"{name.decode()} is no number of kB")
-            return int(found[1]) << 10
-    return None
-
-
-def locked_bytes(process: int) -> int:
-    """Returns how much memory of a process is locked (VmLck)."""
-    return kilobytes(read_file(process, "status"), b"VmLck") or 0
-
-
-def anonymous_huge(process: int) -> int:
-    """Returns the kernel's own count of what a process maps by PMD entries (AnonHugePages), in bytes."""
-    return kilobytes(read_file(process, "smaps_rollup"), b"AnonHugePages") or 0
-
-
 def machine_huge() -> int:
     """Returns the kernel's own count of huge pages mapped by PMD entries on the whole machine, in bytes."""
-    return kilobytes(read_bytes(f"{ROOT}/meminfo"), b"AnonHugePages") or 0
-
-
-def has_memory(process: int) -> bool:
-    """Returns whether a process has memory of its own: threads of the kernel and ended processes don't."""
-    try:
-        words = read_file(process, "statm").split()
-    except OSError:
-        return False
-    return bool(words) and words[0] != b"0"
+    found = re.search(rb"^AnonHugePages: *([0-9]{1,15}) kB$", read_bytes(f"{ROOT}/meminfo"), re.MULTILINE)
+    return int(found[1]) << 10 if found else 0
 
 
 def name_of(process: int) -> str:
     """Returns the name of a process (comm), escaped."""
     try:
         name = read_file(process, "comm")
-    except OSError:
-        return "ended"
+    except OSError as error:
+        return "ended" if is_ended(error) else "?"
     return escape(name[:-1] if name.endswith(b"\n") else name) or "?"
 
 
-def stat_fields(process: int) -> List[bytes]:
-    """Returns the fields of /proc/PID/stat after the name, the state first; none where the process has ended."""
+def is_ended(error: Exception) -> bool:
+    """Returns whether an error means that the process has ended."""
+    return isinstance(error, (FileNotFoundError, ProcessLookupError))
+
+
+def is_own(error: Exception) -> bool:
+    """Returns whether an error is the tool's own: it lacks descriptors or memory."""
+    return isinstance(error, OSError) and error.errno in (errno.EMFILE, errno.ENFILE, errno.ENOMEM)
+
+
+def describe(process: int, why: Exception) -> str:
+    """Returns that a process isn't read, and why, in words. Raises an error that is the tool's own."""
+    if is_own(why):
+        raise why
+    return f"process {process} ({name_of(process)}): {getattr(why, 'strerror', None) or why}"
+
+
+def stat_fields(process: int) -> list[bytes]:
+    """Returns the fields of /proc/PID/stat after the name, the state first; none where the process has ended. Unreadable where
+    they aren't the kernel's."""
     try:
-        return read_file(process, "stat").rpartition(b")")[2].split()
-    except OSError:
+        fields = read_file(process, "stat").rpartition(b")")[2].split()
+    except (FileNotFoundError, ProcessLookupError):
         return []
+    if len(fields) < FIELDS or not all(fields[place].isdigit() for place in (FLAGS, SIZE, RESIDENT)):
+        raise Unreadable("its stat doesn't have the kernel's form")
+    return fields
 
 
-def state_of(process: int) -> str:
-    """Returns the letter of /proc/PID/stat; X where it has ended."""
-    return (stat_fields(process) or [b"X"])[0].decode("ascii", "replace")
-
-
-def processes() -> List[int]:
+def processes() -> list[int]:
     """Returns the numbers of all processes."""
     return [int(name) for name in os.listdir(ROOT) if re.fullmatch("[1-9][0-9]{0,9}", name)]
 
 
-def missing_capabilities(*names: str) -> List[str]:
+def missing_capabilities(*names: str) -> list[str]:
     """Returns those of some capabilities that this process doesn't have in effect."""
     found = re.search(rb"^CapEff:\t([0-9a-f]{1,16})$", read_bytes("/proc/self/status"), re.MULTILINE)
     held = int(found[1], 16) if found else 0
     return [name for name in names if not held >> CAPABILITIES[name] & 1]
 
 
-def folders_below(path: str) -> Iterator[str]:
-    """Yields a folder of cgroupfs and all folders below it, however deep they are. A folder that can't be read, or
-    ended meanwhile, has none."""
-    todo = [path]
-    while todo:
-        folder = todo.pop()
-        yield folder
-        try:
-            with os.scandir(folder) as found:
-                todo += sorted((entry.path for entry in found if entry.is_dir(follow_symlinks=False)), reverse=True)
-        except OSError:
-            continue
+def folders_below(path: str) -> Iterator[int]:
+    """Yields an open descriptor of a folder, and of each folder below it, however deep. One that ended has none. OSError where
+    one can't be read."""
+    try:
+        here = os.open(path, FOLDER)
+    except FileNotFoundError:
+        return
+    try:
+        todo = [list_folders(here)]
+        yield here
+        while todo[-1] or len(todo) > 1:
+            name = todo[-1].pop() if todo[-1] else ".."
+            try:
+                found = os.open(name, FOLDER, dir_fd=here)
+            except FileNotFoundError:
+                if name == "..":
+                    raise
+                continue
+            os.close(here)
+            here = found
+            if name == "..":
+                todo.pop()
+            else:
+                todo.append(list_folders(here))
+                yield here
+    finally:
+        os.close(here)
 
 
-def members(path: str) -> List[int]:
-    """Returns the processes of a control group and of those below it; 0 (a process of another namespace) isn't one."""
-    out: List[int] = []
+def list_folders(folder: int) -> list[str]:
+    """Returns the names of the folders in an open folder; none where it ended."""
+    try:
+        with os.scandir(folder) as found:
+            return sorted((entry.name for entry in found if entry.is_dir(follow_symlinks=False)), reverse=True)
+    except FileNotFoundError:
+        return []
+
+
+def members(path: str) -> list[int]:
+    """Returns the processes of a control group and of those below it; 0 (a process of another namespace) isn't one. OSError
+    where a group can't be read."""
+    out: list[int] = []
     for folder in folders_below(path):
         try:
-            data = read_bytes(f"{folder}/cgroup.procs")
-        except OSError:
+            with open(os.open("cgroup.procs", os.O_RDONLY | os.O_CLOEXEC, dir_fd=folder), "rb", 0) as file:
+                data = file.read()
+        except OSError as error:
+            if error.errno not in (errno.ENOENT, errno.ENODEV, errno.EOPNOTSUPP):
+                raise
             continue  # it ended, or is threaded: its processes are in the list of the group above
         out += [int(line) for line in lines(data) if re.fullmatch(rb"[0-9]{1,10}", line)]
     return [number for number in out if number > 0]
 
 
-def group_names(mount: str, wanted: Set[int]) -> Dict[int, str]:
-    """Returns the names of some control groups below a mount by the inodes of their folders, escaped."""
-    out: Dict[int, str] = {}
-    for folder in folders_below(mount):
-        try:
-            inode = os.stat(folder).st_ino
-        except OSError:
-            continue  # it ended meanwhile
-        if inode in wanted:
-            out[inode] = escape(os.path.relpath(folder, mount)) if folder != mount else "/"
+def group_names(mount: str, wanted: Iterable[int]) -> dict[int, str]:
+    """Returns the names of control groups below a mount by the inodes of their folders, escaped. The kernel opens a folder of
+    cgroupfs by its inode (CAP_DAC_READ_SEARCH). Groups that ended, or can't be opened so, have no name."""
+    library, out = ctypes.CDLL(None), {}
+    top = os.open(mount, FOLDER)
+    try:
+        base = os.readlink(b"/proc/self/fd/%d" % top)
+        for inode in wanted:
+            folder = library.open_by_handle_at(top, struct.pack("=IiQ", 8, KERNFS_HANDLE, inode), os.O_PATH | os.O_CLOEXEC)
+            if folder >= 0:
+                with suppress(OSError):  # its path is too long
+                    out[inode] = escape(os.readlink(b"/proc/self/fd/%d" % folder)[len(base) + 1 :]) or "/"
+                os.close(folder)
+    finally:
+        os.close(top)
     return out

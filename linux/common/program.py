@@ -5,6 +5,7 @@ from __future__ import annotations
 import os
 import re
 import shutil
+import signal
 import subprocess
 from contextlib import suppress
 from dataclasses import dataclass
@@ -12,7 +13,7 @@ from functools import lru_cache
 from pathlib import Path
 from typing import IO, Sequence, Union
 
-from .errors import InputFault, RunFailed, Unavailable
+from .errors import InputFault, RunFailed, Unavailable, signals_wait
 from .files import read_input
 from .journal import NodeJournal, journal_of
 from .keeper import FOLDER, open_folder
@@ -77,18 +78,23 @@ def start(
 ) -> subprocess.Popen[bytes]:
     """Starts a program that needs no rights, in an empty folder: where this tool is root, as a user without any right. It
     inherits these descriptors. Unavailable where it can't be run."""
-    user = user_without_rights()
-    try:
-        image = [] if user.is_caller else [open_image(path)]
-        return subprocess.Popen(
-            [path, *options], executable=f"/proc/self/fd/{image[0]}" if image else path, stdin=stdin, stdout=stdout,
-            stderr=stderr, cwd=empty_folder(), pass_fds=[*image, *inherited], env=ENVIRONMENT, preexec_fn=give_up_rights,
-            **user.rights(),
-        )
-    except (OSError, ValueError) as error:
-        reason = getattr(error, "strerror", None) or str(error)
-        rights = "" if user.is_caller else " as a user without rights (CAP_SETUID, CAP_SETGID)"
-        raise Unavailable(f"{escape(path)} can't be run{rights}: {reason}") from error
+
+    def begin() -> None:
+        give_up_rights()
+        signal.pthread_sigmask(signal.SIG_SETMASK, waiting)
+
+    with signals_wait() as waiting:
+        user = user_without_rights()
+        try:
+            image = [] if user.is_caller else [open_image(path)]
+            return subprocess.Popen(
+                [path, *options], executable=f"/proc/self/fd/{image[0]}" if image else path, stdin=stdin, stdout=stdout,
+                stderr=stderr, cwd=empty_folder(), pass_fds=[*image, *inherited], env=ENVIRONMENT, preexec_fn=begin, **user.rights(),
+            )
+        except (OSError, ValueError) as error:
+            reason = getattr(error, "strerror", None) or str(error)
+            rights = "" if user.is_caller else " as a user without rights (CAP_SETUID, CAP_SETGID)"
+            raise Unavailable(f"{escape(path)} can't be run{rights}: {reason}") from error
 
 
 @lru_cache(maxsize=None)

@@ -4,7 +4,7 @@ from __future__ import annotations
 
 import re
 import sys
-from typing import Iterator, Tuple
+from typing import Iterator
 
 from .errors import InputFault
 
@@ -19,7 +19,7 @@ def bits_of(first: int, count: int) -> int:
     return ((1 << count) - 1) << first
 
 
-def runs(bits: int) -> Iterator[Tuple[int, int]]:
+def runs(bits: int) -> Iterator[tuple[int, int]]:
     """Yields the maximal runs of a set, ascending, as (first, count)."""
     for run in _ONES.finditer(bin(bits)[:1:-1]):
         yield run.start(), run.end() - run.start()

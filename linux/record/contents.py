@@ -6,12 +6,10 @@ import os
 import time
 from typing import Iterator, Sequence
 
-from ..common.direct_map import DirectMap
-from ..common.errors import Unavailable
 from ..common.files import PMD_ORDER, read_bytes
 from ..common.kernel_memory import KernelMemory
-from ..common.proc import Unreadable
 from ..common.reader import Reader
+from ..common.second_look import SecondLook
 from .records import Kind, Record, pack_record
 
 MOST_MEMORY = 64  # MiB of one look
@@ -23,11 +21,6 @@ class ContentLooks:
     def __init__(self, memory: KernelMemory, paths: Sequence[str], orders: Sequence[int], every: float) -> None:
         self._paths, self._orders, self._every = list(paths), set(orders), every
         self._memory = memory
-        self._direct: DirectMap | None = None
-        try:
-            self._direct = DirectMap(memory)
-        except Unavailable:
-            pass  # contents are read through the processes
         self._due = time.monotonic() + every
 
     def is_due(self) -> bool:
@@ -42,15 +35,13 @@ class ContentLooks:
 
     def _look_at(self, path: str) -> Iterator[Record]:
         began = time.monotonic_ns()
-        reader = Reader(min(self._orders) < PMD_ORDER, 1, direct=self._direct, memory=MOST_MEMORY)
+        reader = Reader(self._memory, min(self._orders) < PMD_ORDER, 1, memory=MOST_MEMORY)
         try:
-            for process, walk in reader.walks(processes_of(path)):
-                try:
-                    reader.add(process, walk)
-                except (OSError, Unreadable):
-                    continue  # it has ended
-            reader.read_zeros()
-            reader.check_again()
+            reader.read_processes(processes_of(path))
+            reader.read_groups(reader.folios.values())
+            reader.read_counts(reader.folios.values())
+            reader.read_contents()
+            SecondLook(reader).take()
             now = time.monotonic_ns()
             for frame, folio in reader.folios.items():
                 if folio.order in self._orders:

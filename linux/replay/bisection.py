@@ -13,11 +13,11 @@ from typing import NoReturn, Sequence
 from ..common.arguments import tool_parser
 from ..common.errors import InputFault, status_of
 from ..common.machine import kernel
-from ..common.script import Script, read_script
+from ..common.script import read_script
 from ..common.text import escape
 from ..common.tool import run_tool
 from .bench import open_session
-from .letters import Finding, LetterScript, Match, find_letter, look_on, read_letter
+from .letters import Finding, Match, find_letter, look_on, read_letter
 from .options import add_common
 from .runner import Outcome, Result, RunComparer, Runner, print_line
 
@@ -45,31 +45,25 @@ def judge_outcome(outcome: Outcome) -> int:
     return {Result.AGREES: GOOD, Result.DIFFERS: BAD}.get(outcome.result, UNDECIDED)
 
 
-def decide(options: argparse.Namespace, letter: LetterScript | None, script: Script | None) -> int:
-    """Runs a letter's script or another one on this kernel, prints what it shows, and returns the status."""
+def bisect(given: Sequence[str] | None = None) -> int:
+    """Carries out a command line: runs a letter's script or another one on this kernel, prints what it shows, and returns the
+    status."""
+    try:
+        options = parse_words(given)
+        letter = read_letter(options.letter) if options.letter is not None else None
+        script = letter.script if letter else read_script(options.script)
+    except InputFault as fault:
+        status_of(NAME, fault)
+        return ENDED
     with open_session(NAME, options.program, not options.no_memory, options.wait) as session:
         if letter:
             finding = find_letter(letter, look_on(session))
             line, status = finding.line(), judge_finding(finding)
-        elif script:
+        else:
             outcome = Runner(session.bench, session.program, RunComparer()).run(script)
             line, status = f"{escape(script.name)}: {outcome.line()}", judge_outcome(outcome)
-        else:
-            raise InputFault("no letter and no script")
     print_line(f"{kernel()}: {line}")
     return status
-
-
-def bisect(given: Sequence[str] | None = None) -> int:
-    """Carries out a command line, and returns the status."""
-    try:
-        options = parse_words(given)
-        letter = read_letter(options.letter) if options.letter is not None else None
-        script = read_script(options.script) if options.script is not None else None
-    except InputFault as fault:
-        status_of(NAME, fault)
-        return ENDED
-    return decide(options, letter, script)
 
 
 def start() -> NoReturn:

@@ -60,25 +60,15 @@ class Generator:
         self._scans = [MOST_PAGES, 64, 128] + ([1, 2, 3] if shape.scans_parts else [])
         self._length = chance.randint(8, shape.length)
         self._node = self._number = 0
-        self._kinds: dict[str, tuple[float, Callable[[Sketch], None]]] = {
-            "partly": (5, self._partial_unmap),
-            "splitpmd": (3, self._splitpmd),
-            "unmap": (5, self._unmap),
-            "unmapwhole": (1, self._unmapwhole),
-            "mapwhole": (1, self._mapwhole),
-            "map": (2, self._map),
-            "pin": (2, self._pin),
-            "unpin": (1, self._unpin),
-            "scan": (2, self._scan),
-            "batch": (0.3, self._batch),
-            "write": (1.5, lambda page: self._fill(page, "write")),
-            "zero": (0.5, lambda page: self._fill(page, "zero")),
-            "count": (0.5, lambda page: self._add("count", page=False)),
-            "odd": (0.5, self._refused_command),
-        }
+        self._kinds: list[tuple[float, Callable[[Sketch], None]]] = [
+            (5, self._partial_unmap), (3, self._splitpmd), (5, self._unmap), (1, self._unmapwhole), (1, self._mapwhole), (2, self._map),
+            (2, self._pin), (1, self._unpin), (2, self._scan), (0.3, self._batch), (1.5, lambda page: self._fill(page, "write")),
+            (0.5, lambda page: self._fill(page, "zero")), (0.5, lambda page: self._add("count", page=False)),
+            (0.5, self._refused_command),
+        ]
 
     def script(self, name: str) -> Script:
-        weights = [weight for weight, _ in self._kinds.values()]
+        weights, kinds = zip(*self._kinds)
         for _ in range(self._length):
             self._node = self._chance.randrange(self._nodes)
             pages = self._pages[self._node]
@@ -90,8 +80,7 @@ class Generator:
                     self._add("alloc", page=False)
                 continue
             self._number, page = self._chance.choice(live)
-            kind = self._chance.choices(list(self._kinds), weights)[0]
-            self._kinds[kind][1](page)
+            self._chance.choices(kinds, weights)[0](page)
             if not page.mapped and not page.pins:
                 pages[self._number] = None
         return self._finished(name)

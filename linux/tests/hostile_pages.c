@@ -6,12 +6,18 @@
  *   forks MIB FORKS SECONDS    every second subpage dropped, and so many children that map the same
  *   freed MIB SECONDS          pages given to MADV_FREE, every second one by a half
  *   named NAME FILE SECONDS    one huge page in a process of this name, which locks a page of a new file of this name
+ *   gone MIB SECONDS           as plain, in a thread, while the first thread has ended
+ *   shared MIB COUNT SECONDS   base pages, and so many processes that share the address space (CLONE_VM)
+ *   part MIB SECONDS           half of each page is zero-filled and given up, while a child maps all of it
+ *   moving MIB SECONDS         drops subpages of huge pages all the time
  *   noise SECONDS              splits huge pages of its own, a thousand times a second (MADV_COLD on a part)
  *
  * NAME and FILE are bytes in hexadecimal; FILE lies in the working folder, and is unlinked at the end.
  */
 #define _GNU_SOURCE
 #include <fcntl.h>
+#include <pthread.h>
+#include <sched.h>
 #include <signal.h>
 #include <stdint.h>
 #include <stdio.h>
@@ -62,6 +68,46 @@ static void leave_children(long forks, long seconds) {
             sleep((unsigned)seconds);
             _exit(0);
         }
+}
+
+static void *map_and_stay(void *words) {
+    long *numbers = words;
+    map_huge((size_t)numbers[0]);
+    stay(numbers[1]);
+    exit(0);
+}
+
+static int idle(void *unused) {
+    (void)unused;
+    prctl(PR_SET_PDEATHSIG, SIGKILL);
+    while (pause()) continue;
+    return 0;
+}
+
+static void share(size_t size, long count) {
+    unsigned char *at = map(size), *stacks = map((size_t)count * BASE);
+    madvise(at, size, MADV_NOHUGEPAGE);
+    memset(at, 1, size);
+    for (long i = 1; i <= count; i++)
+        if (clone(idle, stacks + i * BASE, CLONE_VM | SIGCHLD, NULL) < 0) { perror("clone"); exit(1); }
+}
+
+static void give_parts_up(size_t size, long seconds) {
+    unsigned char *at = map_huge(size);
+    for (size_t i = HUGE_PAGE / 2; i < size; i += HUGE_PAGE) memset(at + i, 0, HUGE_PAGE / 2);
+    leave_children(1, seconds);
+    for (size_t i = HUGE_PAGE / 2; i < size; i += HUGE_PAGE) madvise(at + i, HUGE_PAGE / 2, MADV_DONTNEED);
+}
+
+static void move(size_t size, long seconds) {
+    time_t until = time(NULL) + seconds;
+    unsigned char *at = map_huge(size);
+    printf("ready\n");
+    fflush(stdout);
+    for (size_t i = 0; time(NULL) < until; i += 5 * BASE) {
+        for (size_t page = 0; page < size; page += HUGE_PAGE) madvise(at + page + i % HUGE_PAGE, BASE, MADV_DONTNEED);
+        usleep(2000);
+    }
 }
 
 static char *bytes_of(const char *text) {
@@ -125,6 +171,19 @@ int main(int count, char **words) {
         stay(second);
     } else if (!strcmp(kind, "named") && count == 5) {
         be_named(bytes_of(words[2]), bytes_of(words[3]), third);
+    } else if (!strcmp(kind, "gone") && count == 4) {
+        long numbers[] = { (long)size, second };
+        pthread_t other;
+        if (pthread_create(&other, NULL, map_and_stay, numbers)) { perror("thread"); return 1; }
+        pthread_exit(NULL);
+    } else if (!strcmp(kind, "shared") && count == 5) {
+        share(size, second);
+        stay(third);
+    } else if (!strcmp(kind, "part") && count == 4) {
+        give_parts_up(size, second);
+        stay(second);
+    } else if (!strcmp(kind, "moving") && count == 4) {
+        move(size, second);
     } else if (!strcmp(kind, "noise") && count == 3) {
         make_noise(first);
     } else {

@@ -202,8 +202,6 @@ def programs_beside(words: list[str], statuses: Sequence[int], user: int) -> str
 
 def programs_are_spared(words: list[str], statuses: Sequence[int]) -> str | None:
     """Neither user nobody nor the caller of sudo reaches them."""
-    if words[0] == WHATIF and call(words).status == SKIPPED:
-        raise Missing("no libthp (make c, or THP_LIB)")
     return programs_beside(words, statuses, NOBODY) or programs_beside(words, statuses, CALLER)
 
 
@@ -333,8 +331,8 @@ def spoilt_streams() -> str | None:
 
 
 LIMITS = {
-    resource.RLIMIT_NOFILE: (3, 4, 5, 6, 8, 10, 12, 14, 16, 18, 20), resource.RLIMIT_FSIZE: (0, 100, 4096),
-    resource.RLIMIT_AS: (60 << 20, 200 << 20), resource.RLIMIT_NPROC: (0, 1), resource.RLIMIT_STACK: (1 << 20,),
+    resource.RLIMIT_NOFILE: (3, 5, 8, 11, 14, 17, 20), resource.RLIMIT_FSIZE: (0, 100),
+    resource.RLIMIT_AS: (60 << 20, 200 << 20), resource.RLIMIT_NPROC: (0,), resource.RLIMIT_STACK: (1 << 20,),
 }
 
 
@@ -398,6 +396,9 @@ def signals_at_random(words: list[str], rounds: int) -> str | None:
 def main() -> int:
     if os.geteuid() != 0:
         print("root_attacks: skipped: not root", file=sys.stderr)
+        return SKIPPED
+    if call(OWN).status == SKIPPED:
+        print("root_attacks: skipped: thpwhatif lacks what it needs (make c, make linux)", file=sys.stderr)
         return SKIPPED
     plain = [str(HERE / "plain_program.py"), str(HERE / "plain_checker.py")]
     os.environ["THPSPLIT"], os.environ["THPCHECK"] = [os.path.abspath(path) for path in [*sys.argv[1:3], *plain[len(sys.argv) - 1:]]]

@@ -31,10 +31,11 @@ from linux.common.groups import find_hierarchy  # noqa: E402
 from linux.common.guardian import hierarchies, members  # noqa: E402
 from linux.common.keeper import FOLDER, Keeper, open_shared, recover  # noqa: E402
 from linux.tests.cases import Cases, Missing  # noqa: E402
+from linux.tests.whatif_calls import Pages  # noqa: E402
 
 WHATIF = str(ROOT / "linux/whatif/thpwhatif")
 MOMENTS = [0.01 + 0.03 * number for number in range(10)]  # seconds after the tool has the lock
-STRANGER, ANOTHER = 1234567, 1234568  # users that this machine doesn't have
+STRANGER, NOBODY = 1234567, 65534  # a user that this machine doesn't have, and one of each machine
 
 SETTER = """
 import os, sys, time
@@ -230,7 +231,7 @@ def refused(words: list[str], statuses: tuple[int, ...] = (FAILED, SKIPPED)) -> 
     before = settings()
     done = subprocess.run([*words, *setter(0.1)], capture_output=True, text=True, timeout=60, check=False)
     after = settings()
-    lines = done.stderr.split("\n")[:-1]
+    lines = [line for line in done.stderr.split("\n") if line and ": waiting until " not in line]
     if after != before:
         return f"changed: {before} {after}"
     if done.returncode not in statuses or len(lines) != 1 or "Traceback" in done.stderr:
@@ -301,7 +302,7 @@ def group_of_another_is_spared() -> str | None:
 
 @contextmanager
 def verifying(command: str, *options: str) -> Iterator[subprocess.Popen[str]]:
-    """Runs `thpwhatif verify` with a shell's command, as a user that this machine doesn't have."""
+    """Runs `thpwhatif verify` with a shell's command, as nobody."""
     words = [WHATIF, "verify", "--wait", "--thresholds", "100", "--user", "nobody", *options]
     tool = subprocess.Popen([*words, "--", "/bin/sh", "-c", command], stdout=subprocess.PIPE, stderr=subprocess.PIPE, text=True)
     try:
@@ -310,6 +311,26 @@ def verifying(command: str, *options: str) -> Iterator[subprocess.Popen[str]]:
         tool.terminate()
         tool.communicate()
         settings()
+
+
+def settings_come_first() -> str | None:
+    """The command of a trial can't be killed, since it waits for a file system: settings are put back all the same."""
+    before = settings()
+    with tempfile.TemporaryDirectory() as folder:
+        pages = Pages(folder)
+        with pages.hold_locks(1, NOBODY) as holder:
+            command = f"exec dd bs=4096 skip=100 count=1 if=/proc/{holder}/root{folder}/mount/file"
+            with verifying(command, "--after", "1") as tool:
+                if not until(lambda: read(PTES_NONE) != before[0] or tool.poll() is not None, 60) or tool.poll() is not None:
+                    return f"nothing was set: {tool.communicate()}"
+                began = time.monotonic()
+                if not until(lambda: read(PTES_NONE) == before[0], 30):
+                    return "the settings stay"
+                lasted, has_ended = time.monotonic() - began, tool.poll() is not None
+    if has_ended:
+        raise Missing("the command could be killed")
+    print(f"   put back after {lasted:.1f} s, while the tool waited")
+    return None if settings() == before else f"left: {before} {settings()}"
 
 
 def reused_number_is_spared() -> str | None:
@@ -389,6 +410,7 @@ def main() -> int:
     cases.run("limits of processes", limits_of_processes)
     cases.run("a control group of somebody else", group_of_another_is_spared)
     cases.run("a process number that is used again", reused_number_is_spared)
+    cases.run("a command that can't be killed", settings_come_first)
     cases.run("a process that is looked at", looks_stop_nothing)
     cases.run("a hang-up that is ignored", ignored_hang_up)
     return cases.end()

@@ -4,49 +4,46 @@
     linux/tests/root_whatif.py [--size GIB] [CASE..]
 
 Names with any bytes, thousands of locked areas, hundreds of forks, pages given to MADV_FREE, missing capabilities, the
-capabilities of thpwhatif.service, a PID namespace, noise beside `verify`, content of a known page, and a limit of memory.
-`--size`: how many GiB of huge pages the case `memory` maps (1). The programs are those of hostile_pages.c, compiled by cc.
-The last line is `N passed, M failed`; 77 without root, cc or thpsplit. What a machine lacks is named and counted neither way.
+capabilities of thpwhatif.service, a PID namespace, noise beside `verify`, content of a known page, a limit of memory, and what
+look_cases.py has. `--size`: how many GiB of huge pages the case `memory` maps (1). The programs are those of hostile_pages.c and
+attacks/fuse_holder.c, compiled by cc. The last line is `N passed, M failed`; 77 without root or cc. What a machine lacks is named and
+counted neither way.
 """
 
 from __future__ import annotations
 
 import argparse
 import ctypes
+import itertools
 import json
 import mmap
 import os
 import re
 import shutil
-import subprocess
 import sys
 import tempfile
 import time
-from contextlib import contextmanager
 from functools import partial
 from pathlib import Path
-from typing import Any, Callable, Dict, Iterator, List, Optional, Sequence
+from typing import Callable
 
 ROOT = Path(__file__).resolve().parent.parent.parent
 sys.path.insert(0, str(ROOT))
 sys.dont_write_bytecode = True
 
-from linux.common.direct_map import DirectMap  # noqa: E402
 from linux.common.errors import DONE, INCONCLUSIVE, SKIPPED, Unavailable  # noqa: E402
 from linux.common.files import BASE, PMD_ORDER  # noqa: E402
+from linux.common.folios import full_set  # noqa: E402
 from linux.common.groups import find_hierarchy  # noqa: E402
 from linux.common.kernel_memory import KernelMemory  # noqa: E402
 from linux.common.page_files import frames_at  # noqa: E402
-from linux.common.program import find_program  # noqa: E402
-from linux.common.user import NOBODY  # noqa: E402
+from linux.common.workers import CONTENT, load_library  # noqa: E402
+from linux.tests import look_cases  # noqa: E402
 from linux.tests.cases import Cases, Missing  # noqa: E402
-from linux.common.folios import full_set  # noqa: E402
-from linux.common.reader import CONTENT, load_library  # noqa: E402
+from linux.tests.whatif_calls import SECONDS, USER, Call, Pages  # noqa: E402
 
-WHATIF = str(ROOT / "linux/whatif/thpwhatif")
-SOURCE = ROOT / "linux/tests/hostile_pages.c"
-SECONDS = 60  # that a call gets, and that a program stays
-LONGEST_HOLD = 1.5  # seconds, beside 2,000 locked areas
+ALL = (DONE, INCONCLUSIVE)  # statuses of a look at all processes: one may be unreadable even for root
+LONGEST_LOOK = 15  # seconds, beside 2,000 locked areas
 MOST_MEMORY = 150  # MiB that the tool may take, whatever is mapped
 NAMES = [
     b"a\nb", b"\nVmLck: 1 kB", b"v\x0bt\x0cff", b"\x1cfs\x1dgs\x1ers", b"nel\xc2\x85", b"ls\xe2\x80\xa8ps\xe2\x80\xa9",
@@ -58,88 +55,13 @@ FILES = [
 ]
 
 
-class Call:
-    """A call of thpwhatif that ended: its status, its texts, its seconds, and its peak of memory in MiB."""
-
-    def __init__(self, words: Sequence[str], before: Sequence[str] = ()) -> None:
-        began = time.monotonic()
-        with tempfile.TemporaryFile() as out, tempfile.TemporaryFile() as problems:
-            child = subprocess.Popen([*before, WHATIF, *words], stdin=subprocess.DEVNULL, stdout=out, stderr=problems)
-            self.peak = 0.0
-            while child.poll() is None:
-                self.peak = max(self.peak, peak_of(child.pid))
-                if time.monotonic() - began > SECONDS:
-                    child.kill()
-                time.sleep(0.005)
-            self.seconds, self.status = time.monotonic() - began, child.returncode
-            out.seek(0), problems.seek(0)
-            self.out, self.problems = out.read().decode(), problems.read().decode()
-
-    def wrong(self, *statuses: int) -> Optional[str]:
-        """What is wrong where it ended with another status, a traceback, or text that isn't printable."""
-        if "Traceback" in self.problems + self.out or "internal error" in self.problems:
-            return f"a traceback: {self.problems[-300:]}"
-        if self.status not in statuses:
-            return f"status {self.status}: {self.problems[-300:]} {self.out[-300:]}"
-        if re.search("[^\n -~]", self.out + self.problems):
-            return f"text that isn't printable: {(self.out + self.problems)[-300:]!r}"
-        return None
-
-    def json(self) -> Dict[str, Any]:
-        """Its output as a JSON object."""
-        found: Dict[str, Any] = json.loads(self.out)
-        return found
-
-
-def peak_of(process: int) -> float:
-    """The most memory that a process has had so far, in MiB."""
-    try:
-        found = re.search(rb"^VmHWM:\s+([0-9]+) kB$", Path(f"/proc/{process}/status").read_bytes(), re.MULTILINE)
-    except OSError:
-        return 0.0
-    return int(found[1]) / 1024 if found else 0.0
-
-
-class Pages:
-    """The compiled programs, in a folder that goes away."""
-
-    def __init__(self, folder: str) -> None:
-        self.folder, self.program = folder, f"{folder}/hostile_pages"
-        compiler = shutil.which(os.environ.get("CC", "cc")) or shutil.which("gcc")
-        if not compiler:
-            raise Unavailable("no C compiler")
-        subprocess.run([compiler, "-std=c11", "-O2", "-Wall", "-Wextra", "-o", self.program, str(SOURCE)], check=True)
-        os.chmod(folder, 0o755)
-        os.mkdir(f"{folder}/open", 0o777)
-        os.chmod(f"{folder}/open", 0o777)
-
-    @contextmanager
-    def run(self, *words: object, user: int = 0, group: bytes = b"") -> Iterator[int]:
-        """Runs one until the end of the `with`; gives its process number once it is ready."""
-        more: Dict[str, Any] = {"user": user, "group": user, "extra_groups": []} if user else {}
-        if group:
-            more["preexec_fn"] = lambda: Path(os.fsdecode(group), "cgroup.procs").write_text(str(os.getpid()))
-        command = [self.program, *map(str, words)]
-        child = subprocess.Popen(command, stdout=subprocess.PIPE, cwd=f"{self.folder}/open", **more)
-        try:
-            assert child.stdout
-            if child.stdout.readline() != b"ready\n":
-                raise Missing(f"{words[0]} isn't ready (huge pages, or the limit of locked memory)")
-            yield child.pid
-        finally:
-            child.kill()
-            child.wait()
-            if child.stdout:
-                child.stdout.close()
-
-
-def check_names(pages: Pages) -> Optional[str]:
+def check_names(pages: Pages) -> str | None:
     """Looks at processes of another user whose names and files have any bytes, as tables, JSON, scripts and facts."""
     running = []
     try:
         for number in range(max(len(NAMES), len(FILES))):
             name, file = NAMES[number % len(NAMES)], FILES[number % len(FILES)].replace(b"/", b"_") + b"%d" % number
-            each = pages.run("named", name.hex(), file[-250:].hex(), SECONDS, user=NOBODY)
+            each = pages.run("named", name.hex(), file[-250:].hex(), SECONDS, user=USER)
             running.append((each, each.__enter__(), name))
         return check_looks(pages, [number for _, number, _ in running])
     finally:
@@ -147,32 +69,32 @@ def check_names(pages: Pages) -> Optional[str]:
             each.__exit__(None, None, None)
 
 
-def check_looks(pages: Pages, running: List[int]) -> Optional[str]:
+def check_looks(pages: Pages, running: list[int]) -> str | None:
     """Looks in each way at these processes, which map a huge page each and lock no part of it."""
-    script, facts = f"{pages.folder}/names.script", f"{pages.folder}/names.json"
+    stored = f"{pages.folder}/names.json"
     looks = [
         Call(["now", "--all", "--by-process", "--by-cgroup"]),
         Call(["now", "--all", "--by-process", "--json"]),
-        Call(["snapshot", "--all", "-o", script, "--facts", facts]),
+        Call(["snapshot", "--all", "-o", stored]),
         Call(["watch", "0.01", "--all", "--rounds", "2"]),
         Call(["watch", "0.01", "--all", "--rounds", "2", "--json"]),
+        Call(["what-if", stored, "--by-process", "--json"]),
     ]
-    looks += [Call(["what-if", file, "--by-process", "--json"]) for file in (script, facts)]
     for look in looks:
-        if look.wrong(DONE):
-            return look.wrong(DONE)
+        if look.wrong(*ALL):
+            return look.wrong(*ALL)
     if [json.loads(line)["look"] for line in looks[4].out.split("\n")[:-1]] != [1, 2]:
         return f"no JSON object for each look: {looks[4].out[:300]}"
-    for look in (looks[1], looks[5], looks[6]):
+    for look in (looks[1], looks[5]):
         seen = {share["process"] for share in look.json()["by_process"]["off"]}
         if not set(running) <= seen:
             return f"processes {sorted(set(running) - seen)} aren't seen"
-    stored = json.loads(Path(facts).read_bytes())
-    kept = [f["kept"] for f in stored["folios"] if any(m[0] in running for m in f["mappings"])]
+    found = json.loads(Path(stored).read_bytes())
+    kept = [f["kept"] for f in found["folios"] if any(m[0] in running for m in f["mappings"])]
     return None if kept == ["0"] * len(running) else f"a name passes for a locked area: {kept}"
 
 
-def check_group(pages: Pages) -> Optional[str]:
+def check_group(pages: Pages) -> str | None:
     """Looks at a control group whose name has any bytes."""
     group = os.fsencode(find_hierarchy().top) + b"/hostile \x0b\x1c\xc2\x85\xff)# node 0 (" + b"%d" % os.getpid()
     os.mkdir(group)
@@ -192,40 +114,33 @@ def check_group(pages: Pages) -> Optional[str]:
     return wrong
 
 
-def check_locked(pages: Pages) -> Optional[str]:
-    """Looks at 64 MiB of half-dropped pages beside 2,000 locked areas, held and not."""
+def check_locked(pages: Pages) -> str | None:
+    """Looks at 64 MiB of half-dropped pages beside 2,000 locked areas."""
     with pages.run("locked", 64, 2000, SECONDS) as number:
         look = Call(["now", "--pid", str(number), "--json"])
-        held = Call(["now", "--pid", str(number), "--json", "--freeze", "--wait"])
-        every = Call(["now", "--all", "--json", "--freeze", "--wait"])
-    for each in (look, held, every):
-        if each.wrong(DONE):
-            return each.wrong(DONE)
+    if look.wrong(DONE):
+        return look.wrong(DONE)
     if look.json()["rows"][0]["pages"] < 32:
         return "not all huge pages are seen"
-    times = []
-    for each in (held, every):
-        found = re.search(r"held for ([0-9.]+) s", each.json()["hold"])
-        times.append(float(found[1]) if found else 99.0)
-    print(f"   the look took {look.seconds:.2f} s; held for {times[0]:.2f} s, all processes for {times[1]:.2f} s")
-    return None if max(times) < LONGEST_HOLD else f"processes are held for {max(times):.2f} s"
+    print(f"   the look took {look.seconds:.2f} s")
+    return None if look.seconds < LONGEST_LOOK else f"the look took {look.seconds:.1f} s"
 
 
-def check_forks(pages: Pages) -> Optional[str]:
+def check_forks(pages: Pages) -> str | None:
     """Looks at 200 processes that map every second subpage of the same pages."""
     with pages.run("forks", 64, 200, SECONDS):
         look, limited = Call(["now", "--all", "--json"]), Call(["now", "--all", "--json", "--memory", "2"])
     for each in (look, limited):
-        if each.wrong(DONE):
-            return each.wrong(DONE)
+        if each.wrong(*ALL):
+            return each.wrong(*ALL)
     print(f"   the look took {look.seconds:.2f} s and {look.peak:.0f} MiB; with --memory 2 {limited.seconds:.2f} s")
     if look.json()["rows"][0]["pages"] < 32 or look.peak > MOST_MEMORY or look.seconds > 20:
         return f"{look.json()['rows'][0]['pages']} pages, {look.peak:.0f} MiB, {look.seconds:.1f} s"
-    why = [text for text in limited.json()["left_out"] if "--memory 2" in text]
-    return None if why else "the limit of memory isn't named"
+    why = [text for text in limited.json()["unread"] if "--memory 2" in text]
+    return None if why and limited.status == INCONCLUSIVE else "the limit of memory isn't named"
 
 
-def check_freed(pages: Pages) -> Optional[str]:
+def check_freed(pages: Pages) -> str | None:
     """Leaves out pages given to MADV_FREE, and predicts the others exactly."""
     with pages.run("freed", 32, SECONDS) as number:
         look = Call(["now", "--pid", str(number), "--json"])
@@ -241,25 +156,23 @@ def check_freed(pages: Pages) -> Optional[str]:
     return tried.wrong(DONE, INCONCLUSIVE)
 
 
-def check_capabilities(pages: Pages) -> Optional[str]:
-    """Names each capability that is missing."""
+def check_capabilities(pages: Pages) -> str | None:
+    """Three capabilities are enough for a look; each of them that is missing is named."""
     if not shutil.which("setpriv"):
         raise Missing("no setpriv")
-    with pages.run("plain", 4, SECONDS) as own, pages.run("plain", 4, SECONDS, user=NOBODY) as other:
-        for name, process, words in (
-            ("sys_admin", own, ()),
-            ("sys_ptrace", own, ()),
-            ("sys_ptrace", other, ()),
-            ("kill", other, ("--freeze", "--wait")),
-        ):
-            before = ["setpriv", f"--bounding-set=-{name}", f"--inh-caps=-{name}"]
-            look = Call(["now", "--pid", str(process), *words], before)
-            if look.wrong(SKIPPED) or f"CAP_{name.upper()} is missing" not in look.problems:
-                return f"without CAP_{name.upper()}: " + (look.wrong(SKIPPED) or look.problems)
+    names = ["bpf", "perfmon", "sys_ptrace"]
+    with pages.run("plain", 4, SECONDS) as own, pages.run("plain", 4, SECONDS, user=USER) as other:
+        for missing, process in itertools.product(["", *names], (own, other)):
+            kept = ",".join(["-all", *(f"+{name}" for name in names if name != missing)])
+            call = Call(["now", "--pid", str(process), "--json"], ["setpriv", f"--bounding-set={kept}", "--inh-caps=-all"])
+            if call.status == DONE and missing in ("", "sys_ptrace") and call.json()["rows"][0]["pages"] >= 2:
+                continue  # CAP_PERFMON is enough to read page tables since Linux 6.13
+            if not missing or call.wrong(SKIPPED) or f"CAP_{missing.upper()}" not in call.problems:
+                return f"without CAP_{missing.upper()}: {call.status} {call.problems}"
     return None
 
 
-def check_service(pages: Pages) -> Optional[str]:
+def check_service(pages: Pages) -> str | None:
     """With the capabilities of thpwhatif.service alone, its command sees the pages of another user, and knows the queues."""
     if not shutil.which("setpriv"):
         raise Missing("no setpriv")
@@ -269,43 +182,43 @@ def check_service(pages: Pages) -> Optional[str]:
     bounds = ",".join(["-all", *(f"+{name.lower()}" for name in names)])
     path = Path(pages.folder) / "thp.prom"
     words[-1:] = [str(path)]
-    with pages.run("plain", 16, SECONDS, user=NOBODY):
+    with pages.run("plain", 16, SECONDS, user=USER):
         look = Call(words, ["setpriv", f"--bounding-set={bounds}", "--inh-caps=-all", "--no-new-privs"])
-    if look.wrong(DONE):
-        return look.wrong(DONE)
+    if look.wrong(*ALL):
+        return look.wrong(*ALL)
     values = dict(re.findall(r"^(thpwhatif_[a-z_]+) ([0-9.]+)$", path.read_text(), re.MULTILINE))
     seen, queues = int(values["thpwhatif_huge_pages"]), values["thpwhatif_queues_read"]
     return None if seen >= 8 and queues == "1" else f"{seen} huge pages are seen, queues read: {queues}"
 
 
-def check_namespace(pages: Pages) -> Optional[str]:
+def check_namespace(pages: Pages) -> str | None:
     """In a PID namespace the look reports that it sees only these processes, and compares no sum of the machine."""
     if not shutil.which("unshare"):
         raise Missing("no unshare")
     look = Call(["now", "--all"], ["unshare", "--pid", "--fork", "--mount-proc"])
     if look.status == 1 and "unshare" in look.problems:
         raise Missing("PID namespaces can't be made here")
-    if look.wrong(DONE):
-        return look.wrong(DONE)
+    if look.wrong(*ALL):
+        return look.wrong(*ALL)
     if "PID namespace" not in look.out or "whole machine" in look.out:
         return f"it passes for the whole machine: {look.out[:300]}"
     return None
 
 
-def check_noise(pages: Pages) -> Optional[str]:
+def check_noise(pages: Pages) -> str | None:
     """Tries predictions 20 times while another user splits pages: none differs."""
     words = ["verify", "--rounds", "5", "--pages", "6", "--thresholds", "off,0,64,256", "--seed", "3", "--wait"]
-    with pages.run("noise", SECONDS, user=NOBODY):
+    with pages.run("noise", SECONDS, user=USER):
         tried = Call(words)
     found = re.findall(r"^ *([0-9]+) (trials(?: exact| that differ)?|trials inconclusive.*)$", tried.out, re.MULTILINE)
     print("   " + ", ".join(f"{count} {what.partition(':')[0]}" for count, what in found))
     return tried.wrong(DONE, INCONCLUSIVE)
 
 
-def check_content(pages: Pages) -> Optional[str]:
+def check_content(pages: Pages) -> str | None:
     """Finds the zero-filled subpages of a huge page of our own by the kernel's map of memory, in two threads."""
     try:
-        direct = DirectMap(KernelMemory())
+        kernel = KernelMemory()
     except Unavailable as lacking:
         raise Missing(str(lacking)) from lacking
     size = 1 << PMD_ORDER
@@ -320,16 +233,16 @@ def check_content(pages: Pages) -> Optional[str]:
     head = frames[0]
     if head is None or frames != list(range(head, head + size)):
         raise Missing("the kernel gave no huge page: memory is in pieces")
-    raw = bytearray().join(CONTENT.pack(at, size, 0, b"") for at in (direct.address_of(head), 0))
-    load_library().scan_frames(direct.program, ctypes.addressof(ctypes.c_char.from_buffer(raw)), 2, 2)
-    (_, _, failed, zero), (_, _, has_failed, _) = CONTENT.iter_unpack(raw)
+    raw = bytearray().join(CONTENT.pack(at, size, b"", b"") for at in (kernel.content_of(head), 0))
+    load_library().scan_frames(kernel.program("find_zeros"), ctypes.addressof(ctypes.c_char.from_buffer(raw)), 2, 2)
+    (_, _, read, zero), (_, _, nothing, _) = CONTENT.iter_unpack(raw)
     wanted = full_set(PMD_ORDER) & ~sum(1 << 33 * number for number in range(len(places)))
-    if failed or int.from_bytes(zero, "little") != wanted:
+    if read != b"\xff" * 64 or int.from_bytes(zero, "little") != wanted:
         return f"zero-filled {int.from_bytes(zero, 'little'):x}, not {wanted:x}"
-    return None if has_failed else "an address that can't be read isn't reported"
+    return "an address that can't be read isn't reported" if any(nothing) else None
 
 
-def check_memory(pages: Pages, gibibytes: int) -> Optional[str]:
+def check_memory(pages: Pages, gibibytes: int) -> str | None:
     """Looks at so many GiB of huge pages within a limit of memory."""
     found = re.search(rb"^MemAvailable: +([0-9]+) kB$", Path("/proc/meminfo").read_bytes(), re.MULTILINE)
     room = int(found[1]) >> 20 if found else 0
@@ -337,9 +250,9 @@ def check_memory(pages: Pages, gibibytes: int) -> Optional[str]:
         raise Missing(f"{room} GiB are available, not {gibibytes + 1}")
     with pages.run("plain", gibibytes << 10, SECONDS):
         look = Call(["now", "--all", "--by-process", "--json"])
-    if look.wrong(DONE):
-        return look.wrong(DONE)
-    seen, counted = look.json()["rows"][0]["pages"], look.json()["sums"]["kernel"] >> 21
+    if look.wrong(*ALL):
+        return look.wrong(*ALL)
+    seen, counted = look.json()["rows"][0]["pages"], look.json()["sums"]["machine"] >> 21
     print(f"   {gibibytes} GiB: {seen} huge pages, {look.seconds:.1f} s, {look.peak:.0f} MiB")
     if seen < counted * 0.95:
         return f"{seen} huge pages are seen, {counted} are mapped by the kernel's own count"
@@ -348,7 +261,7 @@ def check_memory(pages: Pages, gibibytes: int) -> Optional[str]:
     return None if look.peak <= MOST_MEMORY else f"{look.peak:.0f} MiB"
 
 
-CASES: Dict[str, Callable[[Pages], Optional[str]]] = {
+CASES: dict[str, Callable[[Pages], str | None]] = {
     "names": check_names,
     "group": check_group,
     "locked": check_locked,
@@ -359,6 +272,7 @@ CASES: Dict[str, Callable[[Pages], Optional[str]]] = {
     "namespace": check_namespace,
     "noise": check_noise,
     "content": check_content,
+    **look_cases.CASES,
 }
 
 
@@ -372,11 +286,10 @@ def main() -> int:
         print("skipped: not root")
         return SKIPPED
     cases = Cases("whatif")
-    todo: Dict[str, Callable[[Pages], Optional[str]]] = dict(CASES)
+    todo: dict[str, Callable[[Pages], str | None]] = dict(CASES)
     todo["memory"] = partial(check_memory, gibibytes=asked.size)
     with tempfile.TemporaryDirectory(prefix="leversorrel-") as folder:
         try:
-            find_program()
             pages = Pages(folder)
         except Unavailable as lacking:
             print(f"skipped: {lacking}")

@@ -61,13 +61,13 @@ class MapperTest(unittest.TestCase):
 
     def setUp(self) -> None:
         self.end, its = socket_pair()
-        self.end.settimeout(10)
+        self.end.settimeout(600)
         with its:
             self.process = subprocess.Popen([self.path], stdin=its.fileno())
 
     def tearDown(self) -> None:
         self.end.close()
-        self.assertIn(self.process.wait(10), (0, 1))
+        self.assertIn(self.process.wait(600), (0, 1))
 
     def send(self, message: bytes) -> int:
         self.end.send(message)
@@ -137,10 +137,10 @@ class MapperTest(unittest.TestCase):
         self.assertEqual(mine.recv(100), REPLY.pack(-errno.ENOENT))
         line.close()
         self.end.close()
-        self.process.wait(10)
+        self.process.wait(600)
         self.assertFalse(has_ended(pidfd))
         mine.close()
-        for _ in range(100):
+        for _ in range(60000):
             if has_ended(pidfd):
                 break
             time.sleep(0.01)
@@ -150,7 +150,7 @@ class MapperTest(unittest.TestCase):
     def test_anything_but_a_socket_as_standard_input_ends_it(self) -> None:
         for kind in (subprocess.DEVNULL, subprocess.PIPE):
             with subprocess.Popen([self.path], stdin=kind) as process:
-                self.assertEqual(process.wait(10), 1)
+                self.assertEqual(process.wait(600), 1)
 
 
 class RequestTest(unittest.TestCase):

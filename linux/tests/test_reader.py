@@ -1,78 +1,164 @@
-"""The C helper on memory of our own: what is zero-filled, what is skipped, what can't be read. Work without threads."""
+"""Readings of memory of our own: what is zero-filled, what can't be read, what changed. Workers that wait or die. Work without
+threads."""
 
 from __future__ import annotations
 
 import ctypes
 import mmap
 import os
-import shutil
+import signal
+import subprocess
+import sys
+import time
 import unittest
+from array import array
+from collections import Counter, deque
 from concurrent.futures import ThreadPoolExecutor
-from typing import Any, Tuple
+from typing import Any
 from unittest import mock
 
+from ..common import proc, spaces
+from ..common.contents import begin
+from ..common.errors import Unavailable
 from ..common.files import BASE
-from ..common.reader import PIECE, Reader, begin, load_library
+from ..common.folios import Folio
+from ..common.kernel_memory import KernelMemory
+from ..common.reader import Reader, Spans
+from ..common.second_look import SecondLook
+from ..common.workers import WALK, Answer, Request, Workers
+
+HUGE = 1 << 21
 
 
-@unittest.skipUnless(shutil.which(os.environ.get("CC", "cc")) or shutil.which("gcc"), "no C compiler")
-class Zeros(unittest.TestCase):
-    def setUp(self) -> None:
-        self.memory = mmap.mmap(-1, 80 * BASE, flags=mmap.MAP_PRIVATE | mmap.MAP_ANONYMOUS)
-        self.at = ctypes.addressof(ctypes.c_char.from_buffer(self.memory))
-        self.library = load_library()
-
-    def found(self, count: int, skipped: int = 0) -> Tuple[int, int]:
-        """The zero-filled subpages, and those that couldn't be read."""
-        zero, unread = ctypes.create_string_buffer(64), ctypes.create_string_buffer(64)
-        file = os.open("/proc/self/mem", os.O_RDONLY)
-        try:
-            self.library.find_zeros(file, self.at, count, skipped.to_bytes(64, "little"), zero, unread)
-        finally:
-            os.close(file)
-        return int.from_bytes(zero.raw, "little"), int.from_bytes(unread.raw, "little")
-
-    def test_data_at_each_end_of_a_subpage(self) -> None:
-        for number, place in ((1, 0), (3, BASE - 1), (70, 2048)):
-            self.memory[number * BASE + place] = 1
-        self.assertEqual(self.found(80), ((1 << 80) - 1 & ~(1 << 1 | 1 << 3 | 1 << 70), 0))
-
-    def test_what_is_skipped_is_not_zero(self) -> None:
-        self.assertEqual(self.found(10, 0b1100000110), (0b0011111001, 0))
-
-    def test_what_is_not_mapped_is_not_known(self) -> None:
-        self.at = 0
-        self.assertEqual(self.found(3), (0, 7))
+def kernel() -> KernelMemory:
+    """What reads kernel memory; a test that needs it is skipped where that isn't possible."""
+    try:
+        return KernelMemory()
+    except Unavailable as lacking:
+        raise unittest.SkipTest(str(lacking)) from lacking
 
 
 @unittest.skipUnless(os.geteuid() == 0, "not root")
 class Changes(unittest.TestCase):
-    def changed(self, process: int, pieces: bytes) -> bytes:
-        """A byte of each piece of a process: whether it has changed."""
-        out = ctypes.create_string_buffer(len(pieces) // PIECE.size)
-        with open("/proc/kpageflags", "rb") as flags:
-            load_library().find_changed(process, flags.fileno(), pieces, len(out), out)
-        return out.raw
-
-    def test_pages_that_are_freed_or_moved_have_changed(self) -> None:
-        memory = mmap.mmap(-1, 5 << 21, flags=mmap.MAP_PRIVATE | mmap.MAP_ANONYMOUS)
-        first = -ctypes.addressof(ctypes.c_char.from_buffer(memory)) % (1 << 21)
-        memory.madvise(14)  # MADV_HUGEPAGE
+    def setUp(self) -> None:
+        self.memory = mmap.mmap(-1, 5 * HUGE, flags=mmap.MAP_PRIVATE | mmap.MAP_ANONYMOUS)
+        at = ctypes.addressof(ctypes.c_char.from_buffer(self.memory))
+        self.first = -at % HUGE
+        self.memory.madvise(14)  # MADV_HUGEPAGE
+        self.memory.madvise(10)  # MADV_DONTFORK: workers map none of it
         for number in range(4):
-            memory[first + (number << 21)] = 1
-        reader = Reader(threads=1)
-        self.addCleanup(reader.close)
-        walk = reader.walk(os.getpid(), 64)
-        places = [piece[0] for piece in PIECE.iter_unpack(walk.pieces)]
-        at = ctypes.addressof(ctypes.c_char.from_buffer(memory)) + first
-        own = [places.index(at + (number << 21)) for number in range(4) if at + (number << 21) in places]
-        if len(own) < 4:
+            self.memory[self.first + number * HUGE] = 1
+        self.reader = Reader(kernel(), threads=1)
+        self.addCleanup(self.reader.close)
+        self.reader.read_processes([os.getpid()])
+        self.reader.read_groups(self.reader.folios.values())
+        self.reader.read_counts(self.reader.folios.values())
+        self.reader.read_contents()
+        places = {mapping.address: folio for folio in self.reader.folios.values() for mapping in folio.mappings}
+        self.own = [places.get(at + self.first + number * HUGE) for number in range(4)]
+        if None in self.own:
             self.skipTest("there are no huge pages here")
-        self.assertEqual([self.changed(os.getpid(), walk.pieces)[i] for i in own], [0, 0, 0, 0])
-        memory.madvise(mmap.MADV_DONTNEED, first, 1 << 21)
-        memory.madvise(mmap.MADV_DONTNEED, first + (2 << 21), BASE)
-        self.assertEqual([self.changed(os.getpid(), walk.pieces)[i] for i in own], [1, 0, 1, 0])
-        self.assertEqual(set(self.changed(1 << 22, walk.pieces)), {1})
+
+    def changes(self) -> dict[int, Folio | None]:
+        """The second readings of the pages that changed, by their place in the memory."""
+        pairs = SecondLook(self.reader).take().pairs
+        return {self.own.index(before): now for before, now in pairs if before in self.own}
+
+    def test_nothing_changed(self) -> None:
+        self.assertEqual(self.changes(), {})
+
+    def test_pages_that_are_dropped_written_or_freed(self) -> None:
+        self.memory[self.first + HUGE + 7 * BASE] = 1
+        self.memory.madvise(mmap.MADV_DONTNEED, self.first + 2 * HUGE + 5 * BASE, 2 * BASE)
+        self.memory.madvise(mmap.MADV_DONTNEED, self.first + 3 * HUGE, HUGE)
+        found = self.changes()
+        self.assertEqual(sorted(found), [1, 2, 3])
+        written, dropped = found[1], found[2]
+        assert written and dropped
+        self.assertEqual((written.zero >> 7 & 1, written.totals[7]), (0, 1))
+        self.assertEqual(([dropped.totals[i] for i in (4, 5, 6, 7)], dropped.mappings[0].subset >> 4 & 15), ([1, 0, 0, 1], 0b1001))
+        self.assertIsNone(found[3])
+        self.assertNotIn(self.own[3], self.reader.folios.values())
+        self.assertFalse(self.reader.unread or self.reader.left_out)
+
+
+class Locked(unittest.TestCase):
+    def test_a_page_whose_first_subpages_are_not_mapped_may_begin_below_all_addresses(self) -> None:
+        spans = Spans(array("Q", [16 * BASE, 18 * BASE]).tobytes())
+        self.assertEqual(spans.subpages((16 - 300) * BASE % (1 << 64), 512), 3 << 300)
+
+
+@unittest.skipUnless(os.geteuid() == 0, "not root")
+class Waiting(unittest.TestCase):
+    def setUp(self) -> None:
+        flags = os.open("/proc/kpageflags", os.O_RDONLY | os.O_CLOEXEC)
+        self.addCleanup(os.close, flags)
+        self.workers = Workers(flags, kernel().tables(), 2, 1000)
+        self.addCleanup(self.workers.close)
+
+    def answered(self, count: int) -> Counter[bool]:
+        """How many of some requests are answered, and how many aren't."""
+        todo = deque(Request(os.getpid(), WALK, tag=tag, thread=os.getpid()) for tag in range(count))
+        return Counter(answer is not None for _, answer in self.workers.ask(todo))
+
+    def test_workers_that_are_stopped_are_replaced(self) -> None:
+        self.assertEqual(self.answered(5), {True: 5})
+        for process in children():
+            signal.pidfd_send_signal(os.pidfd_open(process), signal.SIGSTOP)
+        found = self.answered(6)
+        self.assertEqual((found[False] in (1, 2), found[False] + found[True]), (True, 6))
+        self.assertEqual(self.answered(3), {True: 3})
+
+    def test_workers_that_are_killed_are_replaced(self) -> None:
+        self.answered(2)
+        for process in children():
+            signal.pidfd_send_signal(os.pidfd_open(process), signal.SIGKILL)
+        self.answered(4)
+        self.assertEqual(self.answered(3), {True: 3})
+        self.workers.close()
+        self.assertEqual(children(), [])
+
+    def test_workers_end_with_the_tool(self) -> None:
+        code = "import os,time; from linux.common.reader import Reader; r=Reader(threads=2); r.read_processes([os.getpid()]);" \
+               "print(*open(f'/proc/self/task/{os.getpid()}/children').read().split(), flush=True); time.sleep(60)"
+        tool = subprocess.Popen([sys.executable, "-c", code], stdout=subprocess.PIPE, text=True)
+        assert tool.stdout
+        found = tool.stdout.readline().split()
+        tool.kill()
+        tool.wait()
+        tool.stdout.close()
+        until = time.monotonic() + 30
+        while any(os.path.exists(f"/proc/{each}") for each in found) and time.monotonic() < until:
+            time.sleep(0.01)
+        self.assertTrue(found and not any(os.path.exists(f"/proc/{each}") for each in found))
+
+
+def children() -> list[int]:
+    """Our own children."""
+    with open(f"/proc/self/task/{os.getpid()}/children", encoding="ascii") as file:
+        return [int(number) for number in file.read().split()]
+
+
+class Errors(unittest.TestCase):
+    def test_an_error_is_never_no_memory(self) -> None:
+        for error in (FileNotFoundError(2, "gone"), ProcessLookupError(3, "gone")):
+            with mock.patch.object(proc, "read_file", side_effect=error):
+                self.assertIsNone(spaces.live_thread(7))
+        unread: Counter[str] = Counter()
+        pool: Any = mock.Mock(ask=lambda todo: iter(()))
+        with mock.patch.object(proc, "read_file", side_effect=PermissionError(13, "Permission denied")):
+            self.assertEqual(spaces.find_spaces([7], pool, unread), ([], []))
+        self.assertEqual(list(unread), ["process 7 (?): Permission denied"])
+        with mock.patch.object(proc, "read_file", side_effect=OSError(24, "Too many open files")):
+            self.assertRaises(OSError, spaces.find_spaces, [7], pool, unread)
+
+    def test_processes_are_counted_each_where_there_is_no_kcmp(self) -> None:
+        fields = [b"S", *[b"1"] * 48]
+        pool: Any = mock.Mock(ask=lambda todo: ((request, Answer(-38)) for request in todo))
+        with mock.patch.object(spaces, "stat_fields", return_value=fields):
+            found, notes = spaces.find_spaces([7, 8], pool, Counter())
+        self.assertEqual([space.process for space in found], [7, 8])
+        self.assertRegex(notes[0], "^processes that share an address space are counted each: ")
 
 
 class Work(unittest.TestCase):

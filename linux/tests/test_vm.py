@@ -272,7 +272,7 @@ class RunTests(unittest.TestCase):
         with subprocess.Popen([*words[:-3], "--append", "stand-in=sleeps", *words[-3:]], stderr=subprocess.DEVNULL) as tool:
             child = wait_for_child(tool.pid)
             tool.kill()
-        until = time.monotonic() + 10
+        until = time.monotonic() + 600
         while os.path.exists(f"/proc/{child}/cmdline") and Path(f"/proc/{child}/cmdline").read_bytes():
             self.assertLess(time.monotonic(), until)
             time.sleep(0.05)
@@ -298,7 +298,7 @@ class Streams:
 
 def wait_for_child(process: int) -> int:
     """Returns the stand-in that a tool has started."""
-    until = time.monotonic() + 30
+    until = time.monotonic() + 600
     while time.monotonic() < until:
         for number in Path(f"/proc/{process}/task/{process}/children").read_text().split():
             with suppress(FileNotFoundError):

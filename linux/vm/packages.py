@@ -34,14 +34,12 @@ UNPACK = Path(__file__).with_name("unpack.py")
 _URI = re.compile(r"^'[^']+' ([A-Za-z0-9.+~_%-]+)\.deb ", re.MULTILINE)
 
 
-def call(words: Sequence[str], folder: str | None = None) -> subprocess.CompletedProcess[bytes]:
-    """Runs a program of apt. Unavailable where it isn't there or takes too long."""
+def call(
+    words: Sequence[str], folder: str | None = None, limit: Callable[[], None] | None = None
+) -> subprocess.CompletedProcess[bytes]:
+    """Runs a program of apt, or one that reads a package. Unavailable where it isn't there or takes too long."""
     if not shutil.which(words[0]):
         raise Unavailable(f"no {words[0]}: packages can't be used here")
-    return _run(words, folder)
-
-
-def _run(words: Sequence[str], folder: str | None = None, limit: Callable[[], None] | None = None) -> subprocess.CompletedProcess[bytes]:
     environment = {"PATH": "/usr/sbin:/usr/bin:/sbin:/bin", "LC_ALL": "C.UTF-8", "DPKG_DEB_THREADS_MAX": "1"}
     try:
         return subprocess.run(words, cwd=folder, env=environment, stdin=subprocess.DEVNULL, capture_output=True, check=False,
@@ -155,7 +153,7 @@ def unpack(package: str, option: str, pattern: str, most: int) -> bytes:
     within the limits."""
     if not shutil.which("dpkg-deb"):
         raise Unavailable("no dpkg-deb: packages can't be used here")
-    done = _run([sys.executable, "-IBS", str(UNPACK), option, os.path.abspath(package), pattern, str(most)], limit=_limit)
+    done = call([sys.executable, "-IBS", str(UNPACK), option, os.path.abspath(package), pattern, str(most)], limit=_limit)
     if done.returncode:
         reason = done.stderr.strip().split(b"\n")[-1] or f"status {done.returncode}".encode()
         raise RunFailed(f"{escape(package)} can't be read as a package: {escape(reason)[:200]}")

@@ -9,9 +9,8 @@ from typing import Callable, List, Sequence, Tuple
 
 from ..common.errors import Unavailable
 from ..common.files import PMD_ORDER
-from ..common.folios import runs
 from ..common.helpers import helper
-from ..common.subpages import bits_of
+from ..common.subpages import bits_of, runs
 
 # numbers of zero-filled subpages, round the thresholds
 EDGES = (0, 1, 2, 15, 16, 17, 31, 32, 33, 63, 64, 65, 127, 128, 129, 200, 255, 256, 257, 300, 408, 409, 410, 450)

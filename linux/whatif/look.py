@@ -6,23 +6,24 @@ import os
 import sys
 import time
 from dataclasses import dataclass
-from typing import Any, Dict, List, Optional, Set, Tuple
+from functools import partial
+from typing import Any
 
-from ..common.direct_map import DirectMap
+from ..common.contents import Progress
 from ..common.errors import Unavailable
 from ..common.files import BASE, PMD_ORDER, PTES_NONE, SWITCH, read
+from ..common.folios import Folio
 from ..common.groups import find_hierarchy
 from ..common.kernel_memory import KernelMemory
 from ..common.machine import namespace_note
-from ..common.proc import Unreadable, anonymous_huge, group_names, machine_huge, name_of
-from ..common.reader import MEMORY, MOVED, Progress, Reader
+from ..common.proc import group_names, machine_huge, name_of
+from ..common.reader import FREED, HIDDEN, MEMORY, Reader
+from ..common.second_look import Changes, SecondLook
 from ..common.text import escape
 from .processes import ProcessChoice
 from .queues import Queues, keep_lasting_pins
-from .rights import demand_frames, demand_reading
+from .rights import demand_reading
 from .snapshot import Snapshot, Sums
-
-FREED = "huge pages that were freed while they were read"
 
 
 @dataclass(frozen=True)
@@ -36,119 +37,101 @@ class LookOptions:
     memory: int = MEMORY  # MiB that the look keeps at most
 
 
-def read_settings() -> Dict[str, Any]:
+def read_settings() -> dict[str, Any]:
     """Returns today's threshold and switch; None where this kernel lacks them."""
-    try:
-        switch = bool(int(read(SWITCH)))
-    except (OSError, ValueError):
-        switch = None
-    try:
-        return {"today": int(read(PTES_NONE)), "switch": switch}
-    except (OSError, ValueError):
-        return {"today": None, "switch": switch}
+    switch, today = (int(read(path)) if os.path.exists(path) else None for path in (SWITCH, PTES_NONE))
+    return {"today": today, "switch": None if switch is None else bool(switch)}
 
 
 class SnapshotTaker:
     """Takes snapshots; the kernel's types are read once for all of them."""
 
-    def __init__(self, how: LookOptions, progress: Optional[Progress] = None) -> None:
+    def __init__(self, how: LookOptions, progress: Progress | None = None) -> None:
         self.how = how
         self._progress = progress or (lambda what, done, of: None)
-        self._queues: Optional[Queues] = None
+        self._kernel = KernelMemory()
+        self._queues: Queues | None = None
         self.lacking = "not asked for"
-        self._direct: Optional[DirectMap] = None
-        demand_frames()
         if how.with_kernel:
             try:
-                memory = KernelMemory()
-                self._queues, self.lacking = Queues(memory), ""
-                self._direct = DirectMap(memory)
-            except (Unavailable, OSError) as error:
-                self.lacking = "" if self._queues else escape(str(error).partition("\n")[0])
+                self._queues, self.lacking = Queues(self._kernel), ""
+            except Unavailable as error:
+                self.lacking = escape(str(error).partition("\n")[0])
 
     def take(self, choice: ProcessChoice) -> Snapshot:
-        """Looks once. A process that can't be read, or ends meanwhile, is counted in what was left out."""
+        """Looks once. What can't be read is counted; a process that ends meanwhile isn't."""
         began = time.monotonic()
         choice.check()
-        reader = Reader(self.how.with_small, self.how.threads, self._progress, self._direct, self.how.memory)
+        reader = Reader(self._kernel, self.how.with_small, self.how.threads, self._progress, self.how.memory)
         try:
-            reading, wanted = time.monotonic(), choice.find()
-            sums, places = self._read(reader, wanted)
-            machine = machine_huge() if choice.everything else None
-            reader.spent["reading"] = time.monotonic() - reading
-            sampled, changed = reader.finish()
+            reader.read_processes(choice.find(reader.unread))
+            for process in sorted(reader.denied):
+                demand_reading(process)
+            page = BASE << PMD_ORDER
+            sums = Sums(by_pmd=reader.by_pmd * page)
+            changes, places = self._read_pages(reader)
+            sums.machine = machine_huge() if choice.everything and not namespace_note() else None
         finally:
             reader.close()
         snapshot = self._gather(reader, choice, sums, places)
-        snapshot.note = namespace_note()
-        snapshot.sums.machine = None if snapshot.note else machine
-        snapshot.looked_at = len(wanted)
-        snapshot.sampled, snapshot.changed = sampled, changed
+        snapshot.changed_pages, snapshot.sampled, snapshot.changed = changes.pairs, changes.sampled, changes.changed
+        for folio in (folio for folio, _ in changes.pairs if folio):
+            self._place(folio, places)
         snapshot.seconds = time.monotonic() - began
         return snapshot
 
-    def _read(self, reader: Reader, wanted: List[int]) -> Tuple[Sums, Dict[int, int]]:
-        """Reads all that is read; returns sums, and the places of pages in their queues."""
-        sums = self._walk(reader, wanted)
-        reader.begin_zeros()
-        reader.read_groups()
-        places = self._look(reader)
-        reader.read_counts()
-        reader.read_zeros()
-        for process in sorted(reader.denied):
-            demand_reading(process)
-            reader.left_out[f"content of process {process} ({name_of(process)}): it may not be read"] += 1
-        reader.check_again()
-        reader.read_sample()
+    def _read_pages(self, reader: Reader) -> tuple[Changes, dict[int, int]]:
+        """Reads what else there is of the pages that processes map; returns what has changed meanwhile, and the places of pages
+        in their queues."""
+        reader.contents.begin(list(reader.folios.values()))
+        folios = list(reader.folios.values())
+        gone = reader.read_groups(folios) + self._look(reader, folios) + reader.read_counts(folios)
+        reader.read_contents()
+        for folio in {folio.frame: folio for folio in gone}.values():
+            reader.leave_out(folio, FREED)
+        look = partial(self._look, reader)
+        changes = SecondLook(reader, look).take()
         if self._queues:
-            keep_lasting_pins(reader.folios.values(), self._queues.look)
-        return sums, places
+            keep_lasting_pins(reader.folios.values(), look)
+        places: dict[int, int] = {}
+        if self._queues:
+            began = time.monotonic()
+            places, notes = self._queues.places(reader.folios.values())
+            reader.notes += notes
+            reader.spent["queues"] += time.monotonic() - began
+        return changes, places
 
-    def _walk(self, reader: Reader, wanted: List[int]) -> Sums:
-        """Reads page tables of all processes."""
-        sums, began = Sums(), time.monotonic()
-        for done, (process, walk) in enumerate(reader.walks(wanted), 1):
-            try:
-                reader.add(process, walk)
-                if reader.by_pmd[process]:
-                    sums.kernel += anonymous_huge(process)
-            except (OSError, Unreadable) as error:
-                if isinstance(error, PermissionError):
-                    demand_reading(process)
-                reader.left_out[f"process {process} ({name_of(process)}): {reason_of(error)}"] += 1
-            self._progress("walking page tables", done, len(wanted))
-        reader.spent["walk"] = time.monotonic() - began
-        return sums
-
-    def _look(self, reader: Reader) -> Dict[int, int]:
-        """Reads what the kernel's own structures contain; returns the places of pages in their queues, by frame."""
-        if not self._queues:
-            return {}
+    def _look(self, reader: Reader, folios: list[Folio]) -> list[Folio]:
+        """Reads what the kernel's own structures contain of pages; returns those that are no longer in use."""
         began = time.monotonic()
-        gone = self._queues.look(list(reader.folios.values()))
-        for folio in gone:
-            del reader.folios[folio.frame]
-        if gone:
-            reader.left_out[FREED] += len(gone)
-        places = self._queues.places(sorted({folio.cgroup for folio in reader.folios.values()}), set(reader.folios))
+        gone = self._queues.look(folios) if self._queues else []
         reader.spent["queues"] += time.monotonic() - began
-        return places
+        return gone
 
-    def _gather(self, reader: Reader, choice: ProcessChoice, sums: Sums, places: Dict[int, int]) -> Snapshot:
+    def _place(self, folio: Folio, places: dict[int, int]) -> None:
+        """Fills in a page's place in its queue."""
+        folio.place = places.get(folio.frame)
+        if self.how.all_queued and folio.order == PMD_ORDER:
+            folio.is_queued = True
+
+    def _gather(self, reader: Reader, choice: ProcessChoice, sums: Sums, places: dict[int, int]) -> Snapshot:
         folios = [reader.folios[frame] for frame in sorted(reader.folios)]
         for folio in folios:
-            folio.place = places.get(folio.frame)
-            if self.how.all_queued and folio.order == PMD_ORDER:
-                folio.is_queued = True
+            self._place(folio, places)
+            folio.mappings.sort()
+            if folio.known != folio.full:
+                reader.unread[HIDDEN] += 1
         numbers = sorted({mapping.process for folio in folios for mapping in folio.mappings})
         page = BASE << PMD_ORDER
-        sums.by_pmd = sum(reader.by_pmd.values()) * page
         sums.distinct = sum(page for folio in folios if folio.order == PMD_ORDER and folio.known_pmd_mappings)
         sums.by_parts = sum(page for folio in folios if folio.order == PMD_ORDER and not folio.known_pmd_mappings)
         return Snapshot(
             folios=folios,
             processes={number: name_of(number) for number in numbers},
             left_out=reader.left_out,
+            unread=reader.unread,
+            note="; ".join(filter(None, [namespace_note(), *reader.notes])),
+            looked_at=reader.looked_at,
             names=names_of_groups({folio.cgroup for folio in folios}),
             chosen=choice.describe(),
             lacking=self.lacking,
@@ -161,24 +144,12 @@ class SnapshotTaker:
         )
 
 
-def reason_of(error: Exception) -> str:
-    """Returns in words why a process can't be read."""
-    if isinstance(error, (FileNotFoundError, ProcessLookupError)):
-        return "it ended"
-    return (error.strerror or "it can't be read") if isinstance(error, OSError) else str(error)
-
-
-def names_of_groups(wanted: Set[int]) -> Dict[int, str]:
+def names_of_groups(wanted: set[int]) -> dict[int, str]:
     """Returns the names of memory control groups by the inodes of their folders; none where there is no hierarchy."""
     try:
         return group_names(find_hierarchy().mount, wanted)
     except Unavailable:
         return {}
-
-
-def count_moved(snapshot: Snapshot) -> int:
-    """Returns how many huge pages changed while they were read."""
-    return snapshot.left_out[MOVED] + snapshot.left_out[FREED]
 
 
 def show_progress(what: str, done: int, of: int) -> None:

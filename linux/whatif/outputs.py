@@ -6,7 +6,7 @@ import os
 from contextlib import contextmanager, suppress
 from typing import Iterator
 
-from ..common.errors import InputFault
+from ..common.errors import InputFault, signals_wait
 from ..common.files import NewFile
 from ..common.text import escape
 
@@ -41,12 +41,15 @@ def open_output(path: str | None) -> Iterator[Output | None]:
     if path is None or path == "-":
         yield None
         return
-    out, is_done = Output(path), False
+    out, is_done = None, False
     try:
+        with signals_wait():
+            out = Output(path)
         yield out
         is_done = out.has_text()
     finally:
-        if not is_done:
+        if out and not is_done:
             out.remove()
         with suppress(OSError):
-            out.close()
+            if out:
+                out.close()

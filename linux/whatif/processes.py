@@ -3,13 +3,13 @@
 from __future__ import annotations
 
 import os
+from collections import Counter
 from dataclasses import dataclass, field
-from typing import List, Set
 
 from ..common import proc
 from ..common.errors import InputFault
 from ..common.groups import checked_group
-from ..common.proc import has_memory, members
+from ..common.proc import is_own, members
 from ..common.text import escape
 
 
@@ -17,8 +17,8 @@ from ..common.text import escape
 class ProcessChoice:
     """The processes that a user selects: by number, by control groups with those below, or all."""
 
-    processes: List[int] = field(default_factory=list)
-    groups: List[str] = field(default_factory=list)
+    processes: list[int] = field(default_factory=list)
+    groups: list[str] = field(default_factory=list)
     everything: bool = False
 
     def describe(self) -> str:
@@ -34,12 +34,17 @@ class ProcessChoice:
                 raise InputFault(f"no process {number}")
         self.groups = [checked_group(path) for path in self.groups]
 
-    def find(self) -> List[int]:
-        """Returns the processes now, except this one where all are asked for, and threads of the kernel."""
-        out: Set[int] = set(self.processes)
+    def find(self, unread: Counter[str]) -> set[int]:
+        """Returns the processes now, except this one where all are asked for. Control groups that can't be read are counted."""
+        out = set(self.processes)
         for path in self.groups:
-            out |= set(members(path))
+            try:
+                out |= set(members(path))
+            except OSError as error:
+                if is_own(error):
+                    raise
+                unread[f"control group {escape(path)}: {error.strerror}"] += 1
         if self.everything:
             out |= set(proc.processes())
             out.discard(os.getpid())
-        return sorted(number for number in out if has_memory(number))
+        return out

@@ -8,14 +8,14 @@ mm/huge_memory.c (folio_expected_ref_count: a reference for each mapping; any mo
 from __future__ import annotations
 
 from dataclasses import replace
-from typing import Callable, Dict, Iterable, List, Set
+from typing import Callable, Iterable
 
 from ..common.errors import Unavailable
 from ..common.folios import Folio, even_counts
 from ..common.kernel_memory import STATES, KernelMemory, PageState
 
 
-def keep_lasting_pins(folios: Iterable[Folio], look: Callable[[List[Folio]], object]) -> None:
+def keep_lasting_pins(folios: Iterable[Folio], look: Callable[[list[Folio]], object]) -> None:
     """Reads pinned pages again by `look`, and keeps the pins that are still there: DAMON and compaction hold a reference to a
     page for a moment."""
     pinned = [folio for folio in folios if folio.pins]
@@ -30,7 +30,7 @@ class Queues:
 
     def __init__(self, memory: KernelMemory) -> None:
         self._memory = memory
-        self._groups: Dict[int, int] = {}  # addresses of control groups by their inodes, of pages that were looked at
+        self._groups: dict[int, int] = {}  # addresses of control groups by their inodes, of pages that were looked at
         memory.page_states([])
         try:
             memory.locate_queues()
@@ -38,9 +38,9 @@ class Queues:
         except Unavailable:  # queues of another form: that a page is in one is in the page
             self._ordered = False
 
-    def look(self, folios: List[Folio]) -> List[Folio]:
+    def look(self, folios: list[Folio]) -> list[Folio]:
         """Fills in what the structures contain of pages; returns those that are no longer in use."""
-        gone: List[Folio] = []
+        gone: list[Folio] = []
         for first in range(0, len(folios), STATES):
             some = folios[first : first + STATES]
             for folio, state in zip(some, self._memory.page_states([folio.frame for folio in some])):
@@ -50,19 +50,20 @@ class Queues:
                     gone.append(folio)
         return gone
 
-    def places(self, groups: List[int], wanted: Set[int]) -> Dict[int, int]:
-        """Returns the place in its queue of each selected page (by frame) of these control groups (inodes). A queue that
-        changes all the time, and a group that ended, are left out: their pages then have no order, which changes no
-        row. So are all queues where this kernel has them in another form."""
-        out: Dict[int, int] = {}
-        for inode in groups if self._ordered else ():
-            if inode in self._groups:
-                try:
-                    frames = self._memory.queue_frames(self._groups[inode])
-                except Unavailable:
-                    continue
+    def places(self, folios: Iterable[Folio]) -> tuple[dict[int, int], list[str]]:
+        """Returns the place in its queue of each page, by frame, and a note where places aren't known: they change no row, only
+        which pages come first."""
+        wanted = {folio.frame for folio in folios}
+        groups = {self._groups[folio.cgroup] for folio in folios if folio.cgroup in self._groups}
+        out: dict[int, int] = {}
+        notes: list[str] = []
+        for group in groups if self._ordered else ():
+            try:
+                frames = self._memory.queue_frames(group)
                 out.update({frame: place for place, frame in enumerate(frames) if frame in wanted})
-        return out
+            except Unavailable as error:
+                notes = [f"the order of pages isn't known in each queue: {error}"]
+        return out, notes
 
 
 def fill(folio: Folio, state: PageState) -> bool:

@@ -20,7 +20,6 @@ class Sums:
     """Huge pages of PMD size, in bytes: ours beside the kernel's own."""
 
     by_pmd: int = 0  # what the processes map by PMD entries, by our walk
-    kernel: int = 0  # the same by AnonHugePages of smaps_rollup
     by_parts: int = 0  # pages that no process looked at maps by a PMD entry
     machine: int | None = None  # AnonHugePages of /proc/meminfo, where all processes were looked at
     distinct: int = 0  # pages that are mapped by a PMD entry, each once
@@ -81,8 +80,7 @@ def list_notes(snapshot: Snapshot, moved: Mapping[int, Moved] | None = None) -> 
         f"of {len(snapshot.processes)} processes; {mebibytes(snapshot.others * BASE)} MiB of other anonymous pages"
     )
     lines.append(
-        f"mapped by PMD entries: {mebibytes(sums.by_pmd)} MiB, by the kernel's own count (AnonHugePages) "
-        f"{mebibytes(sums.kernel)} MiB; mapped by parts alone: {mebibytes(sums.by_parts)} MiB"
+        f"mapped by PMD entries: {mebibytes(sums.by_pmd)} MiB; mapped by parts alone: {mebibytes(sums.by_parts)} MiB"
     )
     if sums.machine is not None:
         lines.append(

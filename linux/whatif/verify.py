@@ -26,14 +26,13 @@ from typing import Dict, Iterator, List, Optional, Sequence, Set, Tuple
 
 from ..common.counters import Counter as Statistic
 from ..common.counters import CounterWatch, counts
-from ..common.errors import DIFFERS, DONE, INCONCLUSIVE, InputFault, RunFailed
-from ..common.files import BASE, COLLAPSE_SLEEP, PMD_ORDER, PTES_NONE, SWITCH, THP, OwnFolder, size_folder
+from ..common.errors import DIFFERS, DONE, INCONCLUSIVE, InputFault, RunFailed, Unavailable
+from ..common.files import COLLAPSE_SLEEP, PMD_ORDER, PTES_NONE, SWITCH, THP, OwnFolder, size_folder
 from ..common.folios import Folio
 from ..common.groups import END_TIME, Freeze, Groups
 from ..common.keeper import Keeper
-from ..common.page_files import Frames, PageFlag, frame_of_entry
+from ..common.page_files import Frames, PageFlag, TooShort, frames_at
 from ..common.proc import members
-from ..common.reader import OpenFiles
 from ..common.subpages import size
 from ..common.text import escape
 from ..common.user import User
@@ -54,7 +53,6 @@ CHANGE_TIME = 0.5  # seconds that pages change before the look
 WINDOW = 0.05  # seconds before and after a reclaim in which nobody else may move the counters
 LONG_WINDOW = 1.0  # seconds for which the counters are watched where they don't fit
 COMPARED = (Statistic.SPLIT, Statistic.UNDERUSED)
-FILES = 400  # open pagemaps
 
 
 class Outcome(enum.Enum):
@@ -288,22 +286,23 @@ def find_returned(snapshot: Snapshot, frames: Frames) -> Tuple[Dict[int, int], S
     in use again. Also the pages that were moved: a subpage with data is mapped where it was, from another frame."""
     out: Dict[int, int] = {}
     moved: Set[int] = set()
-    with OpenFiles("pagemap", FILES) as maps:
-        for folio in snapshot.folios:
-            flags = frames.flags(folio.frame, folio.size)
-            is_whole = flags[0] & PageFlag.COMPOUND_HEAD and all(flag & PageFlag.COMPOUND_TAIL for flag in flags[1:])
-            is_held: Set[int] = set()
-            for mapping in folio.mappings:
-                entries = maps.numbers(mapping.process, mapping.address // BASE, folio.size)
-                now = [frame_of_entry(entry) for entry in entries]
-                is_held |= {i for i, frame in enumerate(now) if frame == folio.frame + i}
-                others = sum(1 << i for i, frame in enumerate(now) if frame and frame != folio.frame + i)
-                if others & mapping.subset & ~folio.zeros:
-                    moved.add(folio.frame)
-                if is_whole and is_held:
-                    break
-            if not (is_whole and is_held):
-                out[folio.frame] = folio.full & ~sum(1 << i for i in is_held)
+    for folio in snapshot.folios:
+        flags = frames.flags(folio.frame, folio.size)
+        is_whole = flags[0] & PageFlag.COMPOUND_HEAD and all(flag & PageFlag.COMPOUND_TAIL for flag in flags[1:])
+        is_held: Set[int] = set()
+        for mapping in folio.mappings:
+            try:
+                now = frames_at(mapping.process, mapping.address, folio.size)
+            except (TooShort, ProcessLookupError, Unavailable):
+                continue  # it ended
+            is_held |= {i for i, frame in enumerate(now) if frame == folio.frame + i}
+            others = sum(1 << i for i, frame in enumerate(now) if frame and frame != folio.frame + i)
+            if others & mapping.subset & ~folio.zeros:
+                moved.add(folio.frame)
+            if is_whole and is_held:
+                break
+        if not (is_whole and is_held):
+            out[folio.frame] = folio.full & ~sum(1 << i for i in is_held)
     return out, moved
 
 

@@ -21,7 +21,9 @@ from ...common import proc
 from ...common.errors import InputFault, RunFailed, Unavailable
 from ...common.files import BASE
 from ...common.folios import compact_counts, even_counts
-from ...common.reader import Spans, load_library
+from ...common.reader import Spans
+from ...common.spaces import live_thread
+from ...common.workers import load_library
 from .. import program
 from ..outputs import open_output
 from ..page_plan import NotPredictable, plan_page
@@ -69,44 +71,34 @@ class Proc(unittest.TestCase):
         chance = random.Random(5)
         for _ in range(300):
             self.fill(chance)
-            for read in (proc.locked_bytes, proc.anonymous_huge):
-                with contextlib.suppress(proc.Unreadable):
-                    self.assertGreaterEqual(read(7), 0)
-            with contextlib.suppress(proc.Unreadable):
-                proc.machine_huge()
+            self.assertGreaterEqual(proc.machine_huge(), 0)
             self.assertRegex(proc.name_of(7), "^[ -~]+$")
-            self.assertIn(proc.has_memory(7), (True, False))
-            proc.state_of(7)
+            with contextlib.suppress(proc.Unreadable):
+                live_thread(7)
             self.assertTrue(all(number > 0 for number in proc.members(str(self.root))))
 
     def test_lines_count_by_their_begin(self) -> None:
         (self.root / "7").mkdir()
-        status = b"Name:\ta\\nVmLck: 8 kB\x0bVmLck:\t 9 kB\nVmLck:\t      40 kB\nVmPin: 1 kB\n"
-        (self.root / "7" / "status").write_bytes(status)
-        self.assertEqual(proc.locked_bytes(7), 40 << 10)
         (self.root / "7" / "comm").write_bytes(b"a\n\xc2\x85\n")
         self.assertEqual(proc.name_of(7), "a\\x0a\\xc2\\x85")
+        (self.root / "7" / "stat").write_bytes(b"7 (a) R 1 1) T" + b" 1" * 48)
+        self.assertEqual(proc.stat_fields(7)[0], b"T")
         (self.root / "7" / "stat").write_bytes(b"7 (a) R 1 1) T 1 7 7")
-        self.assertEqual(proc.state_of(7), "T")
+        self.assertRaises(proc.Unreadable, proc.stat_fields, 7)
 
     def test_what_ended(self) -> None:
-        self.assertEqual((proc.name_of(8), proc.state_of(8), proc.has_memory(8)), ("ended", "X", False))
-
-    def test_names_of_groups(self) -> None:
-        group = os.fsencode(self.root) + b"/a \x0b\xff\x1b)"
-        os.mkdir(group)
-        inode = os.stat(group).st_ino
-        self.assertEqual(proc.group_names(str(self.root), {inode}), {inode: "a \\x0b\\xff\\x1b)"})
+        self.assertEqual((proc.name_of(8), proc.stat_fields(8), live_thread(8)), ("ended", [], None))
 
     def test_groups_of_any_depth(self) -> None:
         here = os.open(self.root, os.O_RDONLY)
-        for _ in range(1500):
+        os.mkdir("b", dir_fd=here)
+        for _ in range(2501):
             os.mkdir("a", dir_fd=here)
             deeper = os.open("a", os.O_RDONLY, dir_fd=here)
             os.close(here)
             here = deeper
         os.close(here)
-        self.assertGreater(sum(1 for _ in proc.folders_below(str(self.root))), 1000)
+        self.assertEqual(sum(1 for _ in proc.folders_below(str(self.root))), 2503)
         subprocess.run(["rm", "-rf", str(self.root / "a")], check=True)  # shutil.rmtree doesn't go that deep
 
 

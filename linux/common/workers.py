@@ -1,0 +1,226 @@
+"""Worker processes that read others, since that may wait for another process's mmap_lock: a user can hold his own for ever.
+
+A worker is a fork of the tool that runs pages.c alone. One that doesn't answer in time is killed and replaced. Readings that
+wait do so side by side, and a user whose processes make the tool wait is waited for ever more shortly.
+"""
+
+from __future__ import annotations
+
+import ctypes
+import mmap
+import os
+import select
+import signal
+import struct
+import time
+from collections import Counter
+from contextlib import suppress
+from functools import lru_cache
+from typing import Deque, Iterator, NamedTuple
+
+from .helpers import helper
+from .kernel_library import TABLES
+from .kernel_memory import Tables
+from .proc import ROOT
+
+SECONDS = 2.0  # that an answer may take
+LEAST = 0.1  # seconds, for a user who made the tool wait often
+SLOW = 0.1  # seconds after which a reading counts as waiting: another worker then goes on beside it
+MOST_WORKERS = TABLES
+MOST_SPANS = 1 << 18  # locked areas of a process
+MAP_NORESERVE = 0x4000
+LEAST_ROOM = 1 << 24  # bytes for pieces and what else is read
+KNOWN = 8 << 18  # bytes that pages.c has for blocks of frames
+WALK, COMPARE = range(2)  # what a request asks for
+
+PIECE = struct.Struct("<QQQIIII64s")  # struct piece of pages.c
+CONTENT = struct.Struct("<QQ64s64s")  # struct content
+REQUEST, REPLY = struct.Struct("<iiiiqq"), struct.Struct("<6q")
+UNITS = {WALK: PIECE.size, COMPARE: 4}  # bytes of what an answer has `found` of
+
+
+@lru_cache(maxsize=None)
+def load_library() -> ctypes.CDLL:
+    """Loads the C helper. Unavailable where it isn't built."""
+    library = ctypes.CDLL(helper("pages.so"))
+    number, long, pointer = ctypes.c_int, ctypes.c_long, ctypes.c_void_p
+    library.start_worker.argtypes = [pointer, number, pointer]
+    library.find_locked.argtypes = [number, pointer, long]
+    library.find_locked.restype = long
+    library.scan_frames.argtypes = [number, pointer, long, number]
+    return library
+
+
+class Room:
+    """Memory that is shared with workers, and takes none until it is filled."""
+
+    def __init__(self, size: int) -> None:
+        self.memory = mmap.mmap(-1, size, flags=mmap.MAP_SHARED | mmap.MAP_ANONYMOUS | MAP_NORESERVE)
+        self.address = ctypes.addressof(ctypes.c_char.from_buffer(self.memory))
+
+
+class Request(NamedTuple):
+    """What a worker is to read of a process."""
+
+    process: int
+    what: int
+    seconds: float = SECONDS
+    entries: int = 0  # of `data`
+    data: bytes = b""
+    tag: int = 0  # the caller's own
+    thread: int = 0  # by which its memory is read: one that lives
+
+
+class Answer(NamedTuple):
+    """What a worker has read; see `walk` of pages.c."""
+
+    found: int  # or an error's number below 0
+    lost: int = 0
+    small: int = 0
+    others: int = 0
+    changed: int = 0
+    spans: int = 0  # or an error's number below 0
+    data: bytes = b""
+    locked: bytes = b""
+
+
+class Worker:
+    """One worker process. OSError where none can be started."""
+
+    def __init__(self, flags: int, known: Room, most: int, tables: Tables, place: int) -> None:
+        self._most, self._size = most, max(most * PIECE.size, LEAST_ROOM)
+        self._room = Room(self._size + 16 * MOST_SPANS)
+        at = self._room.address
+        words = struct.pack("<QQQqqiiQQqq", at, at + self._size, known.address, most, MOST_SPANS, *tables, place)
+        ends = (ctypes.c_int * 2)()
+        error = load_library().start_worker(words, flags, ends)
+        if error:
+            raise OSError(-error, os.strerror(-error))
+        self.socket, self._handle = ends
+        self.request, self.place = Request(0, WALK), place
+        self.wake = self.until = 0.0  # from when on it counts as waiting, and when it is killed
+        self.is_suspect = False  # another process of this user made the tool wait
+
+    def begin(self, request: Request, with_small: bool, most: int) -> None:
+        """Begins a request."""
+        place = (self._most - request.entries) * PIECE.size if request.what == WALK else 0
+        self._room.memory[place : place + len(request.data)] = request.data
+        words = (request.what, request.thread, request.process, with_small, min(most, self._most), request.entries)
+        self.request = request
+        with suppress(OSError):  # it was killed: `end` then finds no answer
+            os.write(self.socket, REQUEST.pack(*words))
+
+    def end(self) -> Answer | None:
+        """Returns the answer; None where the worker was killed."""
+        try:
+            numbers = REPLY.unpack(os.read(self.socket, REPLY.size))
+        except (OSError, struct.error):
+            return None
+        found, spans, memory = numbers[0], min(numbers[5], MOST_SPANS), self._room.memory
+        data = memory[: max(0, found) * UNITS[self.request.what]]
+        locked = memory[self._size : self._size + 16 * max(0, spans)]
+        return Answer(*numbers)._replace(data=data, locked=locked)
+
+    def kill(self) -> None:
+        """Kills it, without waiting for that."""
+        os.close(self.socket)
+        with suppress(ProcessLookupError):
+            signal.pidfd_send_signal(self._handle, signal.SIGKILL)
+
+    def is_gone(self) -> bool:
+        """Returns whether it was killed and has ended; closes what is left of it then."""
+        try:
+            if not os.waitid(os.P_PIDFD, self._handle, os.WEXITED | os.WNOHANG):
+                return False
+        except ChildProcessError:
+            pass
+        os.close(self._handle)
+        return True
+
+
+class Workers:
+    """Worker processes: `count` that read, and more beside those that wait. `most`: pieces of a process."""
+
+    def __init__(self, flags: int, tables: Tables, count: int, most: int, with_small: bool = False) -> None:
+        self._flags, self._tables, self._count, self._with_small = flags, tables, count, with_small
+        self._known, self._poll = Room(KNOWN), select.poll()
+        self._idle: list[Worker] = []
+        self._busy: dict[int, Worker] = {}  # by socket
+        self._killed: list[Worker] = []
+        self._room = self.most = most  # what a worker has room for, and what may still be kept
+        self._limit = MOST_WORKERS
+        self._waited: Counter[int] = Counter()  # readings that weren't done in time, by user
+
+    def ask(self, todo: Deque[Request]) -> Iterator[tuple[Request, Answer | None]]:
+        """Yields each request with its answer, or None where it wasn't done in time, in any order. What is appended to `todo`
+        meanwhile is done, too."""
+        while todo or self._busy:
+            while todo and self._begin(todo[0]):
+                todo.popleft()
+            now = time.monotonic()
+            wake = min(each.wake if todo and each.wake > now else each.until for each in self._busy.values())
+            ready = [number for number, _ in self._poll.poll(max(0.0, wake - now) * 1000 + 1)]
+            now = time.monotonic()
+            for worker in self._busy.values() if now > wake + SLOW else ():
+                worker.until += now - wake  # the machine didn't let the tool run, and workers neither
+            late = [each for number, each in self._busy.items() if each.until < now and number not in ready]
+            for worker in late + [self._busy[number] for number in ready]:
+                request, answer = worker.request, None if worker in late else worker.end()
+                self._busy.pop(worker.socket)
+                if answer:
+                    self._idle.append(worker)
+                else:
+                    self._replace(worker)
+                if todo and self._begin(todo[0]):
+                    todo.popleft()
+                yield request, answer
+
+    def _begin(self, request: Request) -> bool:
+        """Begins a request, if a worker is free or may be started beside those that wait."""
+        now = time.monotonic()
+        if not self._idle:
+            are_reading = sum(each.wake > now and not each.is_suspect for each in self._busy.values())
+            if are_reading >= self._count or len(self._busy) >= self._limit:
+                return False
+            place = next(iter(set(range(TABLES)) - {each.place for each in self._busy.values()}))
+            try:
+                self._idle.append(Worker(self._flags, self._known, self._room, self._tables, place))
+            except OSError:
+                if not self._busy:
+                    raise
+                self._limit = len(self._busy)  # as many as the machine allows
+                return False
+            self._poll.register(self._idle[0].socket, select.POLLIN)
+        worker, waited = self._idle.pop(), self._waited[owner_of(request.process)] if self._waited else 0
+        worker.is_suspect, worker.wake = waited > 0, now + SLOW
+        worker.until = now + max(LEAST, request.seconds / 2 ** (waited // MOST_WORKERS))
+        worker.begin(request, self._with_small, self.most)
+        self._busy[worker.socket] = worker
+        return True
+
+    def _replace(self, worker: Worker) -> None:
+        """Kills a worker whose request isn't done; another one is started at need."""
+        self._waited[owner_of(worker.request.process)] += 1
+        self._poll.unregister(worker.socket)
+        worker.kill()
+        self._killed = [each for each in [*self._killed, worker] if not each.is_gone()]
+
+    def close(self) -> None:
+        """Kills all workers."""
+        for worker in [*self._idle, *self._busy.values()]:
+            self._poll.unregister(worker.socket)
+            worker.kill()
+            self._killed.append(worker)
+        self._idle, self._busy = [], {}
+        until = time.monotonic() + LEAST
+        while self._killed and time.monotonic() < until:
+            self._killed = [worker for worker in self._killed if not worker.is_gone()]
+            time.sleep(0.0005 if self._killed else 0)
+
+
+def owner_of(process: int) -> int:
+    """Returns the user of a process; -1 where it has ended."""
+    try:
+        return os.stat(f"{ROOT}/{process}").st_uid
+    except OSError:
+        return -1
