@@ -64,7 +64,8 @@ def event_of(line: str) -> Event:
     outcome = words[-2] if word in _OUTCOMES else ""
     given = _set(words[-1]) if outcome or word == "split" else 0
     event = Event(caller, word, page, first, count, outcome, given)
-    if word not in _WORDS or outcome not in ("", "stays", "queued", "freed") or event.text() != line:
+    is_known = word in _WORDS and outcome in ("", "stays", "queued", "freed") and (page is None) == (word == "close")
+    if not is_known or event.text() != line:
         raise ValueError(line)
     return event
 

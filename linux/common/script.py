@@ -65,10 +65,11 @@ def options_of(words: Sequence[str]) -> Options:
 
 @dataclass(frozen=True)
 class Command:
-    """One command: the section (0: setup) and the words."""
+    """One command: the section (0: setup), the words, and the place among a script's commands, from 1."""
 
     section: int
     words: Sequence[str]
+    place: int = 0
 
 
 @dataclass(frozen=True)
@@ -82,13 +83,14 @@ class Script:
     def commands(self) -> list[Command]:
         """Returns the commands in order. InputFault where a section has no number; `thpsplit` finds all other faults
         of a text."""
-        out, section = [], 0
+        out: list[Command] = []
+        section = 0
         for place, line in enumerate(text_lines(self.text), 1):
             words = line.split(" ")
             if not line or line.startswith("#"):
                 continue
             if words[0] not in ("setup", "worker"):
-                out.append(Command(section, words))
+                out.append(Command(section, words, len(out) + 1))
                 continue
             section = 0
             if words[0] == "worker":
@@ -96,6 +98,17 @@ class Script:
                     raise InputFault(f"line {place}: a worker's number is missing")
                 section = int(words[1])
         return out
+
+
+def text_of(commands: Sequence[Command]) -> str:
+    """Returns the text of commands, with their sections."""
+    lines, section = [], -1
+    for command in commands:
+        if command.section != section:
+            section = command.section
+            lines.append(f"worker {section}" if section else "setup")
+        lines.append(" ".join(command.words))
+    return "".join(f"{line}\n" for line in lines)
 
 
 def script_of(name: str, text: str, given: Sequence[str] = ()) -> Script:

@@ -14,7 +14,7 @@ import re
 from collections import Counter as Tallies
 from typing import Sequence
 
-from ..common.counters import Counter, SizeCounter
+from ..common.counters import Counter, Counts, SizeCounter
 from ..common.files import PMD_ORDER
 from ..common.subpages import set_text
 from .expected_answers import NEVER, ExpectedAnswer
@@ -52,10 +52,10 @@ def require_equal(what: str, kernel: object, model: object) -> None:
 
 
 class Comparison:
-    """Follows a script on all nodes. `known` gathers the known differences that it met, beginning with the run's;
-    `counters` holds the first difference of a counter. `small`: nodes whose pages aren't queued at their fault (C); at
-    their splits zero-filled subpages go back, as in the script. `scans_exactly`: a scan makes one pass over the pages that it
-    takes, the oldest."""
+    """Follows a script on all nodes. `known` gathers the known differences that it met, beginning with the run's; `counters`
+    holds the first difference of a counter. `small`: nodes whose pages aren't queued at their fault (C); at their splits
+    zero-filled subpages go back, as in the script. `scans_exactly`: a scan makes one pass over the pages that it takes, the
+    oldest. `command`: the one that is compared, None before all."""
 
     def __init__(
         self, states: Sequence[NodeState], known: set[KnownDifference], small: set[int], scans_exactly: bool = False
@@ -66,10 +66,22 @@ class Comparison:
         self._failed: dict[int, int] = Tallies()  # failed splits by order, as they should be
         self.known = set(known)
         self.counters: CounterDifference | None = None
-        self.sums: dict[str, int] = Tallies()
-        self._where, self._word, self._number = "", "", 0
+        self.sums: Tallies[str] = Tallies()
+        self.command: ExpectedAnswer | None = None
 
-    def update(self, expected: ExpectedAnswer, observed: Observation) -> None:
+    @property
+    def where(self) -> str:
+        """The command that is compared, as reports name it."""
+        return f"command {self.command.place}: {' '.join(self.command.words)}" if self.command else "before all"
+
+    def placed(self, difference: Difference) -> Difference:
+        """Returns a difference with its place, and with the difference of a counter before it."""
+        earlier = f"; before it {self.counters}" if self.counters else ""
+        word, place = (self.command.words[0], self.command.place) if self.command else ("", 0)
+        kind = kind_of(difference.kind or str(difference), word)
+        return Difference(f"{difference} ({self.where}){earlier}", kind, place)
+
+    def _update(self, expected: ExpectedAnswer, observed: Observation) -> None:
         """Computes the kernel's queue and failed splits. The node's state is that after the command."""
         for (node, page), numa_node in observed.numa_nodes.items():
             self._numa_nodes[node][page] = numa_node
@@ -161,21 +173,17 @@ class Comparison:
         return passes
 
     def _counter_differs(self, what: str, kernel: object, model: object) -> None:
-        """Keeps the first difference of a counter; no other is compared afterwards."""
-        if not self.counters and kernel != model:
-            text = f"{what}, kernel {kernel}, thpsplit {model}"
-            kind = kind_of(what, self._word)
-            self.counters = CounterDifference(f"{text} ({self._where})", f"{what} {self._where}", kind, self._number)
-
-    def set_place(self, where: str, word: str = "", number: int = 0) -> None:
-        """Names the command that is compared next."""
-        self._where, self._word, self._number = where, word, number
+        """Keeps the first difference of a counter that the kernel has; no other is compared afterwards."""
+        if not self.counters and kernel is not None and kernel != model:
+            found = self.placed(Difference(f"{what}, kernel {kernel}, thpsplit {model}", what))
+            self.counters = CounterDifference(str(found), f"{what} {self.where}", found.kind, found.command)
 
     def compare(self, observed: Observation) -> None:
         """Raises Difference where the script's own state differs. A counter that differs is kept in `counters`."""
-        self._compare_machine(observed)
-        for order in sorted({state.order for state in self._states}):
-            self._compare_size(order, observed)
+        if self.command:
+            self._update(self.command, observed)
+        self._note_known()
+        self._compare_counters(observed.counts)
         for node, state in enumerate(self._states):
             for number, page in enumerate(state.pages):
                 if page.live:
@@ -185,13 +193,15 @@ class Comparison:
     def _sum(self, name: str, order: int | None = None) -> int:
         return sum(getattr(state.event_counts, name) for state in self._states if order in (None, state.order))
 
-    def _deferred(self, kernel: int | None) -> int:
-        """Returns how many pages of PMD size the kernel should have counted as deferred (A, G)."""
-        least = self._sum("first_partly", PMD_ORDER) + self._sum("partly_by_split", PMD_ORDER)
-        return min(max(least, kernel or 0), least + self._sum("perhaps_partly", PMD_ORDER))
+    def _deferred(self, order: int, shown: int | None) -> int:
+        """Returns how many pages the kernel should have counted as deferred (A, G)."""
+        least = self._sum("first_partly", order)
+        if order < PMD_ORDER:
+            return least
+        least += self._sum("partly_by_split", order)
+        return min(max(least, shown or 0), least + self._sum("perhaps_partly", order))
 
-    def _compare_machine(self, observed: Observation) -> None:
-        machine = observed.counts.machine
+    def _note_known(self) -> None:
         if self._sum("queued", PMD_ORDER) != self._sum("first_partly", PMD_ORDER):
             self.known.add(KnownDifference.A)
         if self._sum("partly_by_split") + self._sum("perhaps_partly"):
@@ -200,35 +210,30 @@ class Comparison:
             tally = state.event_counts
             if state.order < PMD_ORDER and (tally.split or tally.failed or tally.queued or tally.split_pmd):
                 self.known.add(KnownDifference.W)
-        model = {
+
+    def _compare_counters(self, counts: Counts) -> None:
+        machine = {
             Counter.SPLIT: self._sum("split", PMD_ORDER),
-            Counter.DEFERRED: self._deferred(machine[Counter.DEFERRED]),
+            Counter.DEFERRED: self._deferred(PMD_ORDER, counts.machine[Counter.DEFERRED]),
             Counter.SPLIT_PMD: self._sum("split_pmd", PMD_ORDER),
             Counter.UNDERUSED: self._sum("underused"),
             Counter.SPLIT_FAILED: self._failed[PMD_ORDER],
         }
-        for counter, value in model.items():
-            if machine[counter] is not None:
-                self._counter_differs(counter.value, machine[counter], value)
-
-    def _compare_size(self, order: int, observed: Observation) -> None:
-        sizes = observed.counts.sizes
-        deferred = self._sum("first_partly", order)
-        if order == PMD_ORDER:
-            deferred = self._deferred(sizes[SizeCounter.DEFERRED, order])
-        model = {
-            SizeCounter.SPLIT: self._sum("split", order),
-            SizeCounter.DEFERRED: deferred,
-            SizeCounter.SPLIT_FAILED: self._failed[order],
-        }
-        for counter, value in model.items():
-            if sizes[counter, order] is not None:
-                self._counter_differs(f"{counter.value} of order {order}", sizes[counter, order], value)
+        for counter, value in machine.items():
+            self._counter_differs(counter.value, counts.machine[counter], value)
+        for order in sorted({state.order for state in self._states}):
+            sizes = {
+                SizeCounter.SPLIT: self._sum("split", order),
+                SizeCounter.DEFERRED: self._deferred(order, counts.sizes[SizeCounter.DEFERRED, order]),
+                SizeCounter.SPLIT_FAILED: self._failed[order],
+            }
+            for key, value in sizes.items():
+                self._counter_differs(f"{key.value} of order {order}", counts.sizes[key, order], value)
 
     def _compare_page(self, node: int, name: str, page: PageState, observed: PageObservation) -> None:
         totals = page.totals()
         if not page.split:
-            require_equal(f"frames of {name}", observed.whole, page.subpages)
+            require_equal(f"frames of {name}", observed.whole, len(page.own))
             self._compare_counts(name, observed.counts, totals, page.every)
             return
         held = page.held & ~page.dropped_zero
@@ -237,11 +242,10 @@ class Comparison:
         require_equal(f"frames of {name}", set_text(observed.mapped), set_text(held))
         self._compare_counts(name, observed.counts, totals, observed.mapped)
 
-    def _compare_counts(self, name: str, kernel: Sequence[int], model: Sequence[int], of: int) -> None:
-        if tuple(kernel) == tuple(model):
-            return
+    @staticmethod
+    def _compare_counts(name: str, kernel: Sequence[int], model: Sequence[int], of: int) -> None:
         for i, (count, wanted) in enumerate(zip(kernel, model)):
-            if of >> i & 1:
+            if count != wanted and of >> i & 1:
                 require_equal(f"map count of {name}, subpage {i}", count, wanted)
 
     def _compare_queue(self, node: int, state: NodeState, queue: list[int] | None) -> None:
