@@ -12,7 +12,8 @@ from __future__ import annotations
 
 import re
 from collections import Counter as Tallies
-from typing import Sequence
+from collections.abc import Sequence
+from itertools import groupby
 
 from ..common.counters import Counter, Counts, SizeCounter
 from ..common.files import PMD_ORDER
@@ -88,9 +89,9 @@ class Comparison:
         state, queue = self._states[expected.node], self._queues[expected.node]
         if expected.words[0] == "scan" and not expected.is_refused:
             self._scan(expected, state, observed)
-            return
-        stays = [page for page in queue if page in state.queue]
-        self._queues[expected.node] = stays + [page for page in state.queue if page not in stays]
+        else:
+            stays = [page for page in queue if page in state.queue]
+            self._queues[expected.node] = stays + [page for page in state.queue if page not in stays]
 
     def _scan(self, expected: ExpectedAnswer, state: NodeState, observed: Observation) -> None:
         pinned = sum(event.word == "pinned" for event in expected.events)
@@ -131,12 +132,12 @@ class Comparison:
             if can_fail(failed - once, [(len(pages), turned[numa_node]) for numa_node, pages in lists.items()]):
                 self._failed[order] = total
             else:
-                each = ", ".join(f"{len(pages)} for each pass of NUMA node {numa_node}" for numa_node, pages in lists.items())
+                each = ", ".join(f"{len(pages)} for each pass of NUMA node {number}" for number, pages in lists.items())
                 self._counter_differs("split_failed of a scan", failed, f"{once} + {each}")
             if failed > once + len(queue):
                 self.known.add(KnownDifference.F)
         self.sums["scans of several NUMA nodes with pinned pages"] += 1
-        return join_lists({numa_node: pages if turned[numa_node] is False else pages[::-1] for numa_node, pages in lists.items()})
+        return join_lists({number: pages if turned[number] is False else pages[::-1] for number, pages in lists.items()})
 
     @staticmethod
     def _failed_total(order: int, observed: Observation) -> int | None:
@@ -187,7 +188,7 @@ class Comparison:
         for node, state in enumerate(self._states):
             for number, page in enumerate(state.pages):
                 if page.live:
-                    self._compare_page(node, f"page {number} of node {node}", page, observed.pages[node, number])
+                    self._compare_page(node, number, page, observed.pages[node, number])
             self._compare_queue(node, state, observed.queues[node])
 
     def _sum(self, name: str, order: int | None = None) -> int:
@@ -230,22 +231,17 @@ class Comparison:
             for key, value in sizes.items():
                 self._counter_differs(f"{key.value} of order {order}", counts.sizes[key, order], value)
 
-    def _compare_page(self, node: int, name: str, page: PageState, observed: PageObservation) -> None:
-        totals = page.totals()
-        if not page.split:
+    def _compare_page(self, node: int, number: int, page: PageState, observed: PageObservation) -> None:
+        name, compared = f"page {number} of node {node}", page.every
+        if page.split:
+            held, compared = page.held & ~page.dropped_zero, observed.mapped
+            if held != page.held:
+                self.known.add(KnownDifference.C if node in self._small else KnownDifference.B)
+            require_equal(f"frames of {name}", set_text(observed.mapped), set_text(held))
+        else:
             require_equal(f"frames of {name}", observed.whole, len(page.own))
-            self._compare_counts(name, observed.counts, totals, page.every)
-            return
-        held = page.held & ~page.dropped_zero
-        if held != page.held:
-            self.known.add(KnownDifference.C if node in self._small else KnownDifference.B)
-        require_equal(f"frames of {name}", set_text(observed.mapped), set_text(held))
-        self._compare_counts(name, observed.counts, totals, observed.mapped)
-
-    @staticmethod
-    def _compare_counts(name: str, kernel: Sequence[int], model: Sequence[int], of: int) -> None:
-        for i, (count, wanted) in enumerate(zip(kernel, model)):
-            if count != wanted and of >> i & 1:
+        for i, (count, wanted) in enumerate(zip(observed.counts, page.totals())):
+            if count != wanted and compared >> i & 1:
                 require_equal(f"map count of {name}, subpage {i}", count, wanted)
 
     def _compare_queue(self, node: int, state: NodeState, queue: list[int] | None) -> None:
@@ -264,15 +260,16 @@ class Comparison:
 
 def lists_of(queue: Sequence[int], numa_nodes: dict[int, int]) -> Lists:
     """Returns the pages of a queue by NUMA node, in their order; a page whose node isn't known is on node 0."""
-    out: Lists = {}
-    for page in queue:
-        out.setdefault(numa_nodes.get(page, 0), []).append(page)
-    return {numa_node: out[numa_node] for numa_node in sorted(out)}
+
+    def node_of(page: int) -> int:
+        return numa_nodes.get(page, 0)
+
+    return {numa_node: [*pages] for numa_node, pages in groupby(sorted(queue, key=node_of), node_of)}
 
 
 def join_lists(lists: Lists) -> list[int]:
     """Returns the lists in the order of their NUMA nodes as one."""
-    return [page for numa_node in sorted(lists) for page in lists[numa_node]]
+    return [page for pages in lists.values() for page in pages]
 
 
 def can_fail(failed: int, lists: Sequence[tuple[int, bool | None]]) -> bool:
