@@ -9,9 +9,10 @@ from __future__ import annotations
 import os
 import re
 import stat
+from collections.abc import Callable, Sequence
 from dataclasses import dataclass
 from pathlib import Path
-from typing import Any, Callable, Sequence
+from typing import Any
 
 from .arguments import parse_pairs, whole, wholes
 from .errors import InputFault
@@ -118,15 +119,6 @@ def script_of(name: str, text: str, given: Sequence[str] = ()) -> Script:
     return Script(name, text, options_of([*own, *given]))
 
 
-def _text_of(path: str) -> str:
-    """Returns the text of a file that a user named. InputFault where it can't be read or isn't ASCII."""
-    try:
-        return read_input(path).decode("ascii")
-    except UnicodeDecodeError as error:
-        byte = error.object[error.start]
-        raise InputFault(f"{escape(path)} is no script: byte {byte:#04x} at offset {error.start} isn't ASCII") from error
-
-
 def _settings_beside(path: str) -> list[str]:
     """Returns the words of `NAME.args`. InputFault where it is no regular file of the script's owner: a link may refer to a
     file that only the caller can read."""
@@ -145,7 +137,13 @@ def _settings_beside(path: str) -> list[str]:
 
 
 def read_script(path: str, given: Sequence[str] = ()) -> Script:
-    """Reads a script from a file, with the settings beside it, or from standard input (`-`)."""
+    """Reads a script from a file, with the settings beside it, or from standard input (`-`). InputFault where it can't be read or
+    isn't ASCII."""
+    try:
+        text = read_input(path).decode("ascii")
+    except UnicodeDecodeError as error:
+        byte = error.object[error.start]
+        raise InputFault(f"{escape(path)} is no script: byte {byte:#04x} at offset {error.start} isn't ASCII") from error
     if path == "-":
-        return script_of("standard-input", _text_of(path), given)
-    return script_of(Path(path).name, _text_of(path), [*_settings_beside(path), *given])
+        return script_of("standard-input", text, given)
+    return script_of(Path(path).name, text, [*_settings_beside(path), *given])

@@ -18,7 +18,7 @@ from ..common.kernel_memory import KernelMemory
 from ..common.page_files import Frames
 from ..common.program import Program
 from ..common.script import Options
-from ..common.shrinker_debug import ShrinkerFile, find_shrinker
+from ..common.shrinker_debug import ShrinkerFile
 from .expected_answers import Unsupported
 from .mappers import Mapper, Mappers
 
@@ -121,7 +121,7 @@ def open_session(name: str, options: argparse.Namespace, scans_exactly: bool = F
         memory = memory if all(part.here for part in more) else None
         parts += more
     machine.demand(parts, NEEDED)
-    shrinker = find_shrinker(find_hierarchy().version) if scans_exactly else None
+    shrinker = ShrinkerFile(find_hierarchy().version) if scans_exactly else None
     if shrinker and not memory:
         raise Unavailable("exact scans need queues, which are in kernel memory")
     program = Program(options.program)
